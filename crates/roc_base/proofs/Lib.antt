@@ -1,0 +1,5 @@
+pub mod Rising
+pub mod Union
+pub mod Joined
+pub mod Members
+pub mod Place

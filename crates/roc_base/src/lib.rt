@@ -1,0 +1,28 @@
+//! The words that every layer speaks: transaction ids, shards and nodes, lists of numbers, and the
+//! lists of predecessors that servers and coordinators exchange. Contracts see a transaction id as
+//! `specs/TxnId.antt` orders it, `Nums` as a list of integers, and `Edges` as a list of `Dependency`
+//! that rises strictly by id (`specs/Edges.antt`).
+//!
+//! The layers above may rely on this: `Edges::unite` is the union by id, tags joined and the least
+//! shard kept, whatever the order and the repetitions of what is added; and two values of `Edges`
+//! or of `Nums` are equal exactly where their lists are. What fails for want of memory leaves the
+//! value as it was.
+#![tactic(auto)]
+
+mod edge;
+mod edges;
+mod id;
+pub mod laws;
+mod memory;
+mod node;
+mod nums;
+
+pub use edge::Edge;
+pub use edges::Edges;
+pub use id::TxnId;
+pub use memory::NoMemory;
+pub use node::{Node, Shard};
+pub use nums::Nums;
+
+#[cfg(test)]
+mod tests;

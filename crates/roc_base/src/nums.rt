@@ -1,0 +1,115 @@
+//! Lists of numbers.
+ghost use Rattle.std.specs.Prelude.{◌≡◌, ◌++◌, ◌∷◌, ◌↔◌, ◌==◌, [], length, IsTrue, IfOk, OnOk, OnErr};
+
+use crate::NoMemory;
+use std::alloc::{AllocError, Global};
+use std::marker::Model;
+
+/// A list of numbers, as arguments, bound values and outs of a transaction travel.
+#[derive(Debug, Drop)]
+pub struct Nums {
+    items: Vec<i64>,
+}
+
+impl Model for Nums {
+    ghost use Rattle.std.specs.Prelude.{List, ℤ};
+
+    ghost Value = { List ℤ };
+
+    ghost view = { λ n. n.items.items };
+}
+
+impl Nums {
+    /// No numbers. Takes no memory.
+    pub fn new(alloc: Global) -> Nums
+        ensures { result ≡ [] }
+    {
+        Nums {
+            items: Vec::new(alloc),
+        }
+    }
+
+    /// A copy of the numbers of a slice.
+    pub fn from_slice(alloc: Global, items: &[i64]) -> Result<Nums, NoMemory>
+        ensures { IfOk result (λ nums. nums ≡ items.now) }
+    {
+        Ok(Nums {
+            items: Vec::from_slice(alloc, items)?,
+        })
+    }
+
+    /// Adds a number at the end. `NoMemory` leaves the list as it was.
+    pub fn push(&mut self, number: i64) -> Result<(), NoMemory>
+        ensures ok { OnOk result (self.new ≡ self.old ++ number ∷ []) }
+        ensures err { OnErr result (self.new ≡ self.old) }
+    {
+        self.items.push(number)?;
+        Ok(())
+    }
+
+    /// Adds the numbers of a slice at the end. `NoMemory` leaves the list as it was.
+    pub fn extend_from_slice(&mut self, added: &[i64]) -> Result<(), NoMemory>
+        ensures ok { OnOk result (self.new ≡ self.old ++ added.now) }
+        ensures err { OnErr result (self.new ≡ self.old) }
+    {
+        self.items.extend_from_slice(added)?;
+        Ok(())
+    }
+
+    /// How many numbers there are.
+    pub fn len(&self) -> usize
+        ensures { result ≡ length self.now }
+    {
+        self.items.len()
+    }
+
+    /// Whether there are none.
+    pub fn is_empty(&self) -> bool
+        ensures { result ≡ (length self.now == 0) }
+    {
+        self.items.is_empty()
+    }
+
+    /// The numbers, first to last.
+    pub fn as_slice(&self) -> &[i64]
+        ensures { result.now ≡ self.now }
+    {
+        self.items.as_slice()
+    }
+}
+
+/// A copy is on the same allocator, and is the same list.
+impl Clone for Nums {
+    ghost use Rattle.std.specs.Prelude.{◌≡◌};
+
+    ghost is_clone = { λ from copy. copy ≡ from };
+
+    fn clone(&self) -> Result<Nums, AllocError> {
+        Ok(Nums {
+            items: self.items.clone()?,
+        })
+    }
+}
+
+impl PartialEq for Nums {
+    ghost use Rattle.std.specs.Prelude.{◌≡◌, ◌↔◌, IsTrue};
+    ghost use Rattle.roc_base.specs.Equality.{is_nums, nums_per};
+
+    ghost eq = { is_nums };
+
+    ghost laws = { nums_per };
+
+    /// Equal exactly where the lists are.
+    fn eq(&self, other: &Nums) -> bool
+        ensures test { result ≡ is_nums self.now other.now }
+        ensures equal { IsTrue result ↔ (self.now ≡ other.now) }
+    {
+        self.items == other.items
+    }
+}
+
+impl Eq for Nums {
+    ghost use Rattle.roc_base.specs.Equality.{nums_equivalence};
+
+    ghost laws = { nums_equivalence };
+}
