@@ -1,0 +1,127 @@
+//! The list type.
+ghost use Rattle.std.specs.Prelude.{◌≡◌, ◌+◌, ◌<◌, ◌==◌, [], ◌∷◌, ◌++◌, length, slice_set, OnOk, OnErr, IfOk};
+
+use std::alloc::{AllocError, Global};
+use std::marker::Model;
+
+/// A list of values, in order. It grows at its end, and its elements can be replaced one by one.
+#[derive(Debug, Drop)]
+pub struct Sequence<T> {
+    items: Vec<T>,
+}
+
+impl<T> Model for Sequence<T> {
+    ghost use Rattle.std.specs.Prelude.{List};
+
+    ghost Value = { List T };
+
+    ghost view = { λ s. s.items.items };
+}
+
+impl<T> Sequence<T> {
+    /// No elements. Takes no memory.
+    pub fn new(alloc: Global) -> Sequence<T>
+        ensures { result ≡ [] }
+    {
+        Sequence {
+            items: Vec::new(alloc),
+        }
+    }
+
+    /// The elements of a vector. Takes no memory.
+    pub fn from_vec(items: Vec<T>) -> Sequence<T>
+        ensures { result ≡ items.items }
+    {
+        Sequence { items }
+    }
+
+    /// How many elements there are.
+    pub fn len(&self) -> usize
+        ensures { result ≡ length self.now }
+    {
+        self.items.len()
+    }
+
+    /// Whether there are none.
+    pub fn is_empty(&self) -> bool
+        ensures { result ≡ (length self.now == 0) }
+    {
+        self.items.is_empty()
+    }
+
+    /// The elements.
+    pub fn as_slice(&self) -> &[T]
+        ensures { result.now ≡ self.now }
+    {
+        self.items.as_slice()
+    }
+}
+
+impl<T: Drop> Sequence<T> {
+    /// Adds an element at the end. Without memory the list stays as it was, and the element is
+    /// dropped.
+    pub fn push(&mut self, item: T) -> Result<(), AllocError>
+        ensures ok { OnOk result (self.new ≡ self.old ++ item ∷ []) }
+        ensures err { OnErr result (self.new ≡ self.old) }
+    {
+        self.items.push(item)?;
+        Ok(())
+    }
+
+    /// Replaces the element at an index.
+    pub fn set(&mut self, index: usize, item: T)
+        requires { index < length self.old }
+        ensures { self.new ≡ slice_set self.old index item }
+    {
+        self.items[index] = item;
+    }
+
+    /// Removes all elements.
+    pub fn clear(&mut self)
+        ensures { self.new ≡ [] }
+    {
+        self.items.clear();
+    }
+}
+
+impl<T: Copy> Sequence<T> {
+    /// The elements of a slice.
+    pub fn from_slice(alloc: Global, items: &[T]) -> Result<Sequence<T>, AllocError>
+        ensures { IfOk result (λ s. s ≡ items.now) }
+    {
+        let items = Vec::from_slice(alloc, items)?;
+        Ok(Sequence { items })
+    }
+
+    /// Adds elements at the end. Without memory the list stays as it was.
+    pub fn extend_from_slice(&mut self, items: &[T]) -> Result<(), AllocError>
+        ensures ok { OnOk result (self.new ≡ self.old ++ items.now) }
+        ensures err { OnErr result (self.new ≡ self.old) }
+    {
+        self.items.extend_from_slice(items)
+    }
+}
+
+#[cfg(test)]
+mod tests {
+    use super::*;
+    use std::test::Fail;
+
+    #[test]
+    fn holds_what_was_put_in(rt: HostRuntime) -> Result<(), Fail> {
+        let mut all = Sequence::from_slice(rt.alloc(), &[3u64, 1])?;
+        all.push(4)?;
+        all.extend_from_slice(&[1, 5])?;
+        assert_eq!(rt; all.as_slice(), [3, 1, 4, 1, 5].as_slice());
+        assert!(rt; all.len() == 5);
+        all.set(1, 9);
+        assert_eq!(rt; all.as_slice(), [3, 9, 4, 1, 5].as_slice());
+        all.clear();
+        assert!(rt; all.is_empty());
+        let none: Sequence<u64> = Sequence::new(rt.alloc());
+        assert!(rt; none.is_empty());
+        let two = Sequence::from_vec(vec![in rt.alloc(); 7u8, 8]?);
+        assert_eq!(rt; two.as_slice(), [7, 8].as_slice());
+        Ok(())
+    }
+}
