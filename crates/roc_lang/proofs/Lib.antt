@@ -1,0 +1,16 @@
+pub mod Loops
+pub mod Names
+pub mod Bytes
+pub mod Spelt
+pub mod Lexed
+pub mod Terminals
+pub mod ReadExpressions
+pub mod ReadStatements
+pub mod ScopeTest
+pub mod ReadTexts
+pub mod Openings
+pub mod AgainExpressions
+pub mod AgainStatements
+pub mod AgainTexts
+pub mod Answers
+pub mod Worked

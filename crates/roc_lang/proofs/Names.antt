@@ -1,0 +1,76 @@
+-- Names that stand in a list, and the statements before a place.
+use Rattle.std.proofs.Common.{◌≡◌, ℕ, zero, suc, ◌+◌, ◌<◌, Bool, true, false, ◌||◌, ◌&&◌, List, [], ◌∷◌, ◌++◌, length, get_or, take, drop, map, refl, sym, ap, ◌∙◌, arith, add-one}
+use Rattle.std.specs.List.{list_any, flat_map}
+use Rattle.std.specs.Str.{bytes_eq}
+use Rattle.std.proofs.Math.Seq.{drop-cons, take-suc}
+use Rattle.std.proofs.lemmas.List.{append-nil}
+use Rattle.std.proofs.lemmas.List.Folds.{list_any-append}
+use Rattle.std.proofs.lemmas.List.Concat.{flat_map-cons, flat_map-append}
+use Rattle.roc_lang.specs.Syntax.{Name, Statement, Table}
+use Rattle.roc_lang.specs.Scope.{is_among, bound_by, repeats, Bound, statement_faults, statements_faults}
+use Rattle.roc_lang.specs.Reading.{bound_in, is_nil}
+
+or_true : (b : Bool) → (b || true) ≡ true
+or_true true = refl
+or_true false = refl
+
+-- what passes at one place passes somewhere
+pub any_at : {A B : Type 0} (view : A → B) (p : B → Bool) (xs : List A) (i : ℕ) (x : A) → i < length xs → x ≡ get_or xs i x → p (view x) ≡ true → list_any p (map view xs) ≡ true
+any_at view p [] i x below is passes = absurd (omega arith)
+any_at view p (y ∷ ys) zero x below is passes = rw (← is, passes) refl
+any_at view p (y ∷ ys) (suc i) x below is passes = ap (λ b. p (view y) || b) (any_at view p ys i x (omega arith) is passes) ∙ or_true (p (view y))
+
+pub among-append : (xs ys : List Name) (name : Name) → is_among (xs ++ ys) name ≡ (is_among xs name || is_among ys name)
+among-append xs ys name = list_any-append (λ n. bytes_eq n.text name.text) xs ys
+
+-- what one of the statements binds
+pub bound_at : {A : Type 0} (view : A → Statement) (name : Name) (xs : List A) (i : ℕ) (x : A) → i < length xs → x ≡ get_or xs i x → is_among (bound_by (view x)) name ≡ true
+    → is_among (flat_map bound_by (map view xs)) name ≡ true
+bound_at view name [] i x below is binds = absurd (omega arith)
+bound_at view name (y ∷ ys) zero x below is binds =
+    ap (λ zs. is_among zs name) (flat_map-cons bound_by (view y) (map view ys)) ∙ among-append (bound_by (view y)) (flat_map bound_by (map view ys)) name
+    ∙ ap (λ b. b || is_among (flat_map bound_by (map view ys)) name) (ap (λ z. is_among (bound_by (view z)) name) (sym is) ∙ binds)
+bound_at view name (y ∷ ys) (suc i) x below is binds =
+    ap (λ zs. is_among zs name) (flat_map-cons bound_by (view y) (map view ys)) ∙ among-append (bound_by (view y)) (flat_map bound_by (map view ys)) name
+    ∙ ap (λ b. is_among (bound_by (view y)) name || b) (bound_at view name ys i x (omega arith) is binds) ∙ or_true (is_among (bound_by (view y)) name)
+
+-- the element at a place, and the lists before and behind it
+pub item_splits : {A : Type 0} (xs : List A) (i : ℕ) (x : A) → i < length xs → x ≡ get_or xs i x → (drop i xs ≡ x ∷ drop (i + 1) xs) × (take (i + 1) xs ≡ take i xs ++ x ∷ [])
+item_splits xs i x below is = (rw (add-one, drop-cons xs i x below, ← is) refl, rw (add-one, take-suc xs i x below, ← is) refl)
+
+pub nil_from_is_nil : {A : Type 0} (xs : List A) → is_nil xs ≡ true → xs ≡ []
+nil_from_is_nil [] e = refl
+nil_from_is_nil (x ∷ xs) e = absurd cc
+
+pub is_nil-append : {A : Type 0} (xs ys : List A) → is_nil (xs ++ ys) ≡ (is_nil xs && is_nil ys)
+is_nil-append [] ys = refl
+is_nil-append (x ∷ xs) ys = refl
+
+pub is_nil-flat_map : {A B : Type 0} (f : A → List B) (xs ys : List A) → is_nil (flat_map f (xs ++ ys)) ≡ (is_nil (flat_map f xs) && is_nil (flat_map f ys))
+is_nil-flat_map f xs ys = rw (flat_map-append f xs ys) (is_nil-append (flat_map f xs) (flat_map f ys))
+
+-- ---- names that stand twice
+
+pub repeats_found : (earlier rest : List Name) (n : Name) → is_among earlier n ≡ true → is_nil (repeats earlier (n ∷ rest)) ≡ false
+repeats_found earlier rest n e = rw e refl
+
+pub repeats_on : (earlier rest : List Name) (n : Name) → is_among earlier n ≡ false → repeats earlier (n ∷ rest) ≡ repeats (earlier ++ n ∷ []) rest
+repeats_on earlier rest n e = rw e refl
+
+-- ---- statements one after the other
+
+pub bound_in-append : (arguments : List Name) (before : List Statement) (s : Statement) → bound_in arguments (before ++ s ∷ []) ≡ record (bound_in arguments before) { own = flat_map bound_by before ++ bound_by s }
+bound_in-append arguments before s =
+    let own : flat_map bound_by (before ++ s ∷ []) ≡ flat_map bound_by before ++ bound_by s = flat_map-append bound_by before (s ∷ []) ∙ ap (λ zs. flat_map bound_by before ++ zs) (append-nil (bound_by s)) in
+    ap (λ (zs : List Name). let b : Bound = record { known = arguments; own = zs; past = [] } in b) own
+
+pub stand_found : (tables : List Table) (arguments : List Name) (before rest : List Statement) (s : Statement)
+    → is_nil (statement_faults tables (bound_in arguments before) s) ≡ false → is_nil (statements_faults tables (bound_in arguments before) (s ∷ rest)) ≡ false
+stand_found tables arguments before rest s e =
+    let others = statements_faults tables (record (bound_in arguments before) { own = flat_map bound_by before ++ bound_by s }) rest in
+    is_nil-append (statement_faults tables (bound_in arguments before) s) others ∙ ap (λ b. b && is_nil others) e
+
+pub stand_on : (tables : List Table) (arguments : List Name) (before rest : List Statement) (s : Statement)
+    → is_nil (statement_faults tables (bound_in arguments before) s) ≡ true → statements_faults tables (bound_in arguments before) (s ∷ rest) ≡ statements_faults tables (bound_in arguments (before ++ s ∷ [])) rest
+stand_on tables arguments before rest s e =
+    rw (bound_in-append arguments before s) (ap (λ fs. fs ++ statements_faults tables (record (bound_in arguments before) { own = flat_map bound_by before ++ bound_by s }) rest) (nil_from_is_nil _ e))

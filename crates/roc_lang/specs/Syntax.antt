@@ -1,0 +1,56 @@
+-- The syntax tree of a workload text, as definitions see it: names with their lines, and no memory.
+use Rattle.std.specs.Prelude.{ℕ, ℤ, Bool, List}
+
+-- a name where it stands: its letters, and the line of its token
+pub record Name : Type 0 where
+  pub text : List ℕ
+  pub line : ℕ
+
+pub data Expression : Type 0 where
+  Number : (value : ℤ) → Expression
+  Variable : (name : Name) → Expression
+  Sum Difference Product Minimum Maximum Less : (first second : Expression) → Expression
+  Pick : (chooser first second : Expression) → Expression
+
+-- one column of a row of the piece's place
+pub record Access : Type 0 where
+  pub table : Name
+  pub id : Expression
+  pub column : Name
+
+pub data Statement : Type 0 where
+  Get : (name : Name) (from : Access) → Statement
+  Set : (to : Access) (value : Expression) → Statement
+  Out : (value : Expression) → Statement
+
+-- a piece, declared `now` or `later`
+pub record Piece : Type 0 where
+  pub is_now : Bool
+  pub name : Name
+  pub place : Expression
+  pub body : List Statement
+
+pub record Procedure : Type 0 where
+  pub name : Name
+  pub arguments : List Name
+  pub pieces : List Piece
+
+pub record Table : Type 0 where
+  pub name : Name
+  pub columns : List Name
+
+-- the value of a cell at the start
+pub record Init : Type 0 where
+  pub table : Name
+  pub place : ℤ
+  pub id : ℤ
+  pub column : Name
+  pub value : ℤ
+
+-- a whole workload text
+pub record Text : Type 0 where
+  pub shards : ℕ
+  pub shards_line : ℕ
+  pub tables : List Table
+  pub inits : List Init
+  pub procedures : List Procedure

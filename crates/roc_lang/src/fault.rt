@@ -1,0 +1,91 @@
+//! Why a text has no tree.
+
+ghost use Rattle.std.specs.Prelude.{◌≡◌, Some};
+ghost use Rattle.roc_lang.specs.FaultText.{what_text};
+ghost use Rattle.roc_lang.specs.declared.fault.LangError.TheVariants.{NoMemory};
+
+use std::alloc::{AllocError, AllocFailed};
+use std::error::Error;
+use std::fmt;
+
+/// What is wrong at a place of a text.
+#[derive(Clone, Copy, Debug, PartialEq, Eq)]
+pub enum What {
+    /// Bytes that are no token.
+    Word,
+    /// A token with which no text goes on.
+    Token,
+    /// A token with which only texts past the limits go on.
+    Limit,
+    /// The text stops where more must come.
+    End,
+}
+
+impl What {
+    /// The word that is printed for it: `word`, `token`, `limit` or `end`.
+    pub fn as_str(self) -> &'static str
+        ensures { result.now ≡ what_text self }
+    {
+        match self {
+            What::Word => "word",
+            What::Token => "token",
+            What::Limit => "limit",
+            What::End => "end",
+        }
+    }
+}
+
+impl fmt::Display for What {
+    ghost output = { λ what. Some (what_text what) };
+
+    fn fmt<W: fmt::Write>(&self, f: &mut fmt::Formatter<W>) -> fmt::Result {
+        f.write_str(self.as_str())
+    }
+}
+
+/// Why `parse` gives no tree.
+#[derive(Debug, Drop)]
+pub enum LangError {
+    /// The first fault of a text, with its line, counted from 1.
+    At { line: u32, what: What },
+    NoMemory,
+}
+
+impl LangError {
+    /// What every text is answered that is not thin, until all of the language is taken.
+    pub(crate) fn not_thin() -> Self
+        ensures { result ≡ LangError.At 1 What.Limit }
+    {
+        LangError::At {
+            line: 1,
+            what: What::Limit,
+        }
+    }
+}
+
+impl fmt::Display for LangError {
+    fn fmt<W: fmt::Write>(&self, f: &mut fmt::Formatter<W>) -> fmt::Result {
+        match self {
+            LangError::At { line, what } => write!(f, "line {line}: {what}"),
+            LangError::NoMemory => write!(f, "out of memory"),
+        }
+    }
+}
+
+impl Error for LangError {}
+
+impl From<AllocError> for LangError {
+    ghost from_gives = { λ _ e. e ≡ NoMemory };
+
+    fn from(_e: AllocError) -> LangError {
+        LangError::NoMemory
+    }
+}
+
+impl<T: Drop> From<AllocFailed<T>> for LangError {
+    ghost from_gives = { λ _ e. e ≡ NoMemory };
+
+    fn from(_e: AllocFailed<T>) -> LangError {
+        LangError::NoMemory
+    }
+}
