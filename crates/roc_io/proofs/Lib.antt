@@ -1,0 +1,4 @@
+pub mod Causes
+pub mod Links
+pub mod Spawners
+pub mod Told

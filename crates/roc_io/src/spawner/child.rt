@@ -1,0 +1,75 @@
+// A child, and the words that it was started with.
+ghost use Rattle.std.specs.Prelude.{◌≡◌, map, string_bytes};
+
+use std::marker::Model;
+
+/// A child, by a number that its spawner gave it. Seen as that number.
+#[derive(Clone, Copy, Debug, PartialEq, Eq)]
+pub struct Child {
+    number: u64,
+}
+
+impl Model for Child {
+    ghost use Rattle.std.specs.Prelude.{ℕ};
+
+    ghost Value = { ℕ };
+
+    ghost view = { λ c. c.number };
+
+    ghost inverse = { λ n. record { number = n } };
+}
+
+impl Child {
+    /// The child with this number.
+    pub fn new(number: u64) -> Self
+        ensures { result ≡ number }
+    {
+        Child { number }
+    }
+
+    /// Its number.
+    pub fn number(self) -> u64
+        ensures { result ≡ self }
+    {
+        self.number
+    }
+}
+
+/// A child that was started, with the words of its start.
+#[derive(Debug, Drop)]
+pub struct ChildStart {
+    child: Child,
+    words: Vec<String>,
+}
+
+impl Model for ChildStart {
+    ghost use Rattle.std.specs.Prelude.{map, string_bytes};
+    ghost use Rattle.roc_io.specs.Start.{Start};
+
+    ghost Value = { Start };
+
+    ghost view = { λ s. record { child = s.child; words = map string_bytes s.words.items } };
+}
+
+impl ChildStart {
+    /// A start of this child with these words.
+    pub fn new(child: Child, words: Vec<String>) -> Self
+        ensures { result ≡ record { child = child; words = map string_bytes words.items } }
+    {
+        ChildStart { child, words }
+    }
+
+    /// The child.
+    pub fn child(&self) -> Child
+        ensures { result ≡ self.now.child }
+    {
+        self.child
+    }
+
+    /// The words.
+    pub fn words(&self) -> &[String]
+        ensures { map string_bytes result.now ≡ self.now.words }
+    {
+        &self.words
+    }
+}
