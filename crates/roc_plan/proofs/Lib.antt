@@ -1,0 +1,9 @@
+pub mod Rows
+pub mod Firsts
+pub mod Single
+pub mod Bindings
+pub mod Counts
+pub mod Limited
+pub mod Scoped
+pub mod ThinTexts
+pub mod Outlined

@@ -1,0 +1,77 @@
+-- Procedures of one piece, which is their one group
+use Rattle.std.proofs.Common.{◌≡◌, ◌∙◌, ℕ, zero, suc, ◌-◌, ◌<◌, Bool, true, false, not, ◌&&◌, ◌||◌, ◌==◌, ℤ, pos, List, [], ◌∷◌, ◌++◌, length, filter, get_or, replicate, cond, refl, sym, subst, arith, append_assoc}
+use Rattle.std.proofs.lemmas.Bool.{eq-eqb}
+use Rattle.std.specs.List.{list_any}
+use Rattle.roc_plan.specs.Program.{Procedure, Piece}
+use Rattle.roc_plan.specs.Names.{piece_uses, bindings, is_among}
+use Rattle.roc_plan.specs.Values.{Environment, value_of_name, value}
+use Rattle.roc_plan.specs.ValueLaws.{value_same}
+use Rattle.roc_plan.specs.Groups.{Group, Plan, no_piece, no_group, no_procedure, inputs_in, with_arguments, place_in, procedure_of, groups_of, group_of, place_of}
+use Rattle.roc_plan.specs.WellFormed.{thin_group, IsDeferred, IsThin}
+use Rattle.roc_plan.proofs.Rows.{row_there, each_same, at_place}
+
+-- ---- no inputs
+
+or_true : (b : Bool) → (b || true) ≡ true
+or_true true = refl
+or_true false = refl
+
+among_later : (front xs : List ℕ) (x : ℕ) → is_among (front ++ x ∷ xs) x ≡ true
+among_later [] xs x = rw (eq-eqb x x refl)
+among_later (y ∷ ys) xs x = rw (among_later ys xs x) (or_true (y == x))
+
+skipped : (used : Bool) (known : Bool) (x : ℕ) (rest : List ℕ) → known ≡ true → rest ≡ [] → cond (used && not known) (x ∷ rest) rest ≡ []
+skipped true true x rest e f = f
+skipped false true x rest e f = f
+skipped used false x rest e f = cc
+
+-- none of these is missing among them
+none_missing : (used : ℕ → Bool) (all front xs : List ℕ) → all ≡ front ++ xs → filter (λ n. used n && not (is_among all n)) xs ≡ []
+none_missing used all front [] e = refl
+none_missing used all front (x ∷ xs) e =
+    let here : is_among all x ≡ true = rw e (among_later front xs x) in
+    skipped (used x) (is_among all x) x (filter (λ n. used n && not (is_among all n)) xs) here
+    (none_missing used all (front ++ x ∷ []) xs (e ∙ sym (append_assoc front (x ∷ []) xs)))
+
+pub inputs_in-one : (procedure : Procedure) → length procedure.pieces ≡ 1 → inputs_in procedure (0 ∷ []) ≡ []
+inputs_in-one procedure one = go procedure.pieces one
+  where
+    go : (pieces : List Piece) → length pieces ≡ 1 → inputs_in (record procedure { pieces = pieces }) (0 ∷ []) ≡ []
+    go [] e = absurd (omega arith)
+    go (p ∷ []) e = none_missing (λ n. list_any (λ piece. piece_uses piece n) (p ∷ [])) (bindings (p ∷ [])) [] (bindings (p ∷ [])) refl
+    go (p ∷ q ∷ ps) e = absurd (omega arith)
+
+-- ---- the place
+
+-- zeros behind the values change none
+zeros_behind : (xs : Environment) (k n : ℕ) → value_of_name (xs ++ replicate k (pos 0)) n ≡ value_of_name xs n
+zeros_behind [] zero n = refl
+zeros_behind [] (suc k) zero = refl
+zeros_behind [] (suc k) (suc n) = zeros_behind [] k n
+zeros_behind (x ∷ xs) k zero = refl
+zeros_behind (x ∷ xs) k (suc n) = zeros_behind xs k n
+
+pub place_in-one : (procedure : Procedure) (arguments inputs : List ℤ) → length procedure.pieces ≡ 1 → place_in procedure (0 ∷ []) arguments inputs ≡ value (get_or procedure.pieces 0 no_piece).place arguments
+place_in-one procedure arguments inputs one =
+    rw (inputs_in-one procedure one)
+    (value_same (get_or procedure.pieces 0 no_piece).place (with_arguments procedure arguments) arguments (λ n used. zeros_behind arguments (procedure.names - length arguments) n))
+
+-- ---- thin plans
+
+pub group_of-thin : (plan : Plan) (proc group : ℕ) → IsThin plan → group < length (groups_of plan proc) → group_of plan proc group ≡ thin_group
+group_of-thin plan proc group thin within =
+    let P : List (List Group) → Type 0 = λ groups. group < length (get_or groups proc []) → get_or (get_or groups proc []) group no_group ≡ thin_group in
+    subst P (sym thin.groups) (each_same thin_group plan.program.procedures proc group no_group) within
+
+pub procedure_within : (plan : Plan) (proc group : ℕ) → IsThin plan → group < length (groups_of plan proc) → proc < length plan.program.procedures
+procedure_within plan proc group thin within =
+    let P : List (List Group) → Type 0 = λ groups. group < length (get_or groups proc []) → proc < length plan.program.procedures in
+    subst P (sym thin.groups) (row_there thin_group plan.program.procedures proc group) within
+
+pub one_piece : (plan : Plan) (proc : ℕ) → IsThin plan → proc < length plan.program.procedures → length (procedure_of plan proc).pieces ≡ 1
+one_piece plan proc thin within = (at_place IsDeferred plan.program.procedures proc no_procedure thin.program.deferred within).one_piece
+
+pub place_of-thin : (plan : Plan) (proc group : ℕ) (arguments inputs : List ℤ) → IsThin plan → group < length (groups_of plan proc) → place_of plan proc group arguments inputs ≡ value (get_or (procedure_of plan proc).pieces 0 no_piece).place arguments
+place_of-thin plan proc group arguments inputs thin within =
+    rw (group_of-thin plan proc group thin within)
+    (place_in-one (procedure_of plan proc) arguments inputs (one_piece plan proc thin (procedure_within plan proc group thin within)))

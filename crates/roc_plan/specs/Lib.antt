@@ -1,0 +1,12 @@
+pub mod Program
+pub mod Values
+pub mod Names
+pub mod Groups
+pub mod LookUps
+pub mod Resolve
+pub mod Limits
+pub mod Codes
+pub mod WellFormed
+pub mod ValueLaws
+pub mod Workload
+pub mod Outlines

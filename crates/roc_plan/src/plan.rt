@@ -1,0 +1,168 @@
+//! Plans: a workload with its pieces in groups, and what is read of them.
+ghost use Rattle.std.specs.Prelude.{◌≡◌, ℕ, ◌<◌, List, length, map, position, slice_get, IfOk};
+ghost use Rattle.std.specs.Str.{bytes_eq};
+ghost use Rattle.std.specs.String.{string_bytes};
+ghost use Rattle.roc_lang.specs.Tree.{tree};
+ghost use Rattle.roc_lang.specs.Thin.{IsThinText};
+ghost use Rattle.roc_plan.specs.Resolve as resolve;
+ghost use Rattle.roc_plan.specs.WellFormed.{IsThin};
+ghost use Rattle.roc_plan.specs.Workload.{program};
+ghost use Rattle.roc_plan.specs.Groups.{procedure_of, groups_of, class_of, bound_of, inputs_of, outs_of, place_of, shard_of};
+ghost use Rattle.roc_plan.specs.LookUps.{procedure_named};
+ghost use Rattle.roc_plan.specs.Outlines.{row_of};
+
+use crate::outline::{Outline, singles};
+use crate::resolve::resolved;
+use crate::{Class, Input, Known, Procedure, Workload};
+use roc_base::{NoMemory, Shard};
+use roc_lang::Source;
+use std::alloc::Global;
+use std::marker::Model;
+
+/// A workload with its pieces in groups.
+#[derive(Debug, Drop)]
+pub struct Plan {
+    workload: Workload,
+    /// Of each procedure, its groups.
+    outlines: Vec<Vec<Outline>>,
+}
+
+impl Model for Plan {
+    ghost use Rattle.roc_plan.specs.Groups.{Plan as Grouped};
+    ghost use Rattle.roc_plan.specs.Codes.{plan_code};
+
+    ghost Value = { Grouped };
+
+    ghost coded = { plan_code };
+
+    ghost use Rattle.roc_plan.specs.Outlines.{plan, IsOutlined};
+
+    ghost view = { plan };
+
+    ghost invariant = { IsOutlined };
+}
+
+impl Plan {
+    /// The plan of a thin text: one shard, and one procedure of one `later` piece, which is its one
+    /// group.
+    pub fn thin(alloc: Global, source: Source) -> Result<Plan, NoMemory>
+        requires { (bytes : List ℕ) × IsThinText bytes (tree source) }
+        ensures program { IfOk result (λ plan. plan.program ≡ resolve.resolved (tree source)) }
+        ensures thin { IfOk result IsThin }
+    {
+        let workload = resolved(alloc, &source)?;
+        let outlines = singles(alloc, &workload.procedures)?;
+        Ok(Plan { workload, outlines })
+    }
+
+    /// The workload that the plan is of.
+    pub fn workload(&self) -> &Workload
+        ensures program { program result.now ≡ self.now.program }
+        ensures thin { IsThin self.now }
+    {
+        &self.workload
+    }
+
+    /// How many procedures there are.
+    pub fn procedures(&self) -> u16
+        ensures { result ≡ length self.now.program.procedures }
+    {
+        self.workload.procedures.len() as u16
+    }
+
+    /// The number of the procedure of a name, letter by letter.
+    pub fn procedure_named(&self, name: &[u8]) -> Option<u16>
+        ensures { result ≡ procedure_named self.now.program name.now }
+    {
+        match place_named(&self.workload.procedures, name) {
+            Some(number) => Some(number as u16),
+            None => None,
+        }
+    }
+
+    /// How many arguments a procedure takes.
+    pub fn args(&self, proc: u16) -> u16
+        requires { proc < length self.now.program.procedures }
+        ensures { result ≡ (procedure_of self.now proc).arguments }
+    {
+        self.workload.procedures[proc as usize].arguments
+    }
+
+    /// How many groups a procedure has.
+    pub fn groups(&self, proc: u16) -> u16
+        requires { proc < length self.now.program.procedures }
+        ensures { result ≡ length (groups_of self.now proc) }
+    {
+        self.outlines[proc as usize].len() as u16
+    }
+
+    /// When a group runs.
+    pub fn class(&self, proc: u16, group: u16) -> Class
+        requires { group < length (groups_of self.now proc) }
+        ensures { result ≡ class_of self.now proc group }
+    {
+        outline_at(&self.outlines, proc, group).class
+    }
+
+    /// How many values a group binds.
+    pub fn bound(&self, proc: u16, group: u16) -> u16
+        requires { group < length (groups_of self.now proc) }
+        ensures { result ≡ length (bound_of self.now proc group) }
+    {
+        outline_at(&self.outlines, proc, group).bound
+    }
+
+    /// The values of other groups that a group takes, in the order in which they are bound.
+    pub fn inputs(&self, proc: u16, group: u16) -> &[Input]
+        requires { group < length (groups_of self.now proc) }
+        ensures { result.now ≡ inputs_of self.now proc group }
+    {
+        outline_at(&self.outlines, proc, group).inputs.as_slice()
+    }
+
+    /// The places in the reply of what a group adds to it, in program order.
+    pub fn outs(&self, proc: u16, group: u16) -> &[u16]
+        requires { group < length (groups_of self.now proc) }
+        ensures { result.now ≡ outs_of self.now proc group }
+    {
+        outline_at(&self.outlines, proc, group).outs.as_slice()
+    }
+
+    /// The place of a group, where it is known what the group runs with.
+    pub fn place(&self, proc: u16, group: u16, known: &Known) -> i64
+        requires exists { group < length (groups_of self.now proc) }
+        requires args { length known.now.args ≡ (procedure_of self.now proc).arguments }
+        requires inputs { length known.now.inputs ≡ length (inputs_of self.now proc group) }
+        ensures { result ≡ place_of self.now proc group known.now.args known.now.inputs }
+    {
+        // A group is the one piece of its procedure, and takes no inputs.
+        let place = &self.workload.procedures[proc as usize].pieces[0].place;
+        place.value(known.args.as_slice())
+    }
+
+    /// The shard that keeps the rows of a place: the place modulo the number of shards.
+    pub fn shard_of(&self, place: i64) -> Shard
+        ensures number { result.0 ≡ shard_of self.now place }
+        ensures exists { result.0 < self.now.program.shards }
+    {
+        Shard(place.rem_euclid(i64::from(self.workload.shards)) as u8)
+    }
+}
+
+// What is kept of a group.
+fn outline_at(outlines: &Vec<Vec<Outline>>, proc: u16, group: u16) -> &Outline
+    requires { group < length (row_of (map (λ row. row.items) outlines.now.items) proc) }
+    ensures { slice_get (row_of (map (λ row. row.items) outlines.now.items) proc) group
+        ≡ Some result.now }
+{
+    &outlines[proc as usize][group as usize]
+}
+
+// The place of the first procedure of a name.
+fn place_named(procedures: &[Procedure], name: &[u8]) -> Option<usize>
+    ensures { result
+        ≡ position (λ procedure. bytes_eq
+        (string_bytes procedure.name) name.now) procedures.now }
+{
+    procedures.iter().position(|p| p.name.as_bytes() == name)
+}
