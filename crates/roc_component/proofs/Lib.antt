@@ -1,0 +1,9 @@
+pub mod Relations
+pub mod OneOrder
+pub mod Earlier
+pub mod Tests
+pub mod ListsWithin
+pub mod MembersOf
+pub mod Least
+pub mod NextMember
+pub mod Front

@@ -1,0 +1,199 @@
+-- What the lists of a set say of chains, once what leads out of it is left out
+use Rattle.std.proofs.Common.{◌≡◌, ℕ, zero, suc, ◌+◌, ◌<◌, ◌&&◌, ◌++◌, Bool, true, false, cond, List, [], ◌∷◌, filter, take, get_or, length, Option, Some, None, is_some, unwrap_or, refl, sym, ◌∙◌, ap, subst, ◌⊎◌, inl, inr, arith}
+use Rattle.std.proofs.lemmas.Bool.{false≢true, cond-true, cond-false, and_parts}
+use Rattle.std.proofs.lemmas.List.{take_more}
+use Rattle.std.specs.List.{list_any, AllByRecursion}
+use Rattle.std.specs.List.Sorted.{IsStrictlySortedBy}
+use Rattle.std.specs.Ordering.{is_eq, is_lt}
+use Rattle.std.specs.declared.cmp.Ordering.TheVariants.{Less}
+use Rattle.std.proofs.lemmas.Map.Keys.{sorted_head, sorted_tail}
+use Rattle.roc_base.specs.Lists.{Has}
+use Rattle.roc_sequence.specs.Places.{IsListed, NoneTwice}
+use Rattle.roc_sequence.proofs.Places.{listed_or_not, listed_head, listed_tail, listed_cases}
+use Rattle.roc_sequence.proofs.Appended.{listed_front, listed_behind, listed_either}
+use Rattle.roc_base.specs.declared.id.TxnId.{TxnId}
+use Rattle.roc_base.specs.TxnId.{is_txn, is_txn-true, is_txn-same, is_txn-ne, txn_cmp, txn_lt, is_lt-txn_cmp, txn_lt-itself}
+use Rattle.roc_base.specs.Edge.{Dependency}
+use Rattle.roc_base.specs.Edges.{IsRising, IsBelowAll, united}
+use Rattle.roc_base.proofs.Union.{united-rising}
+use Rattle.roc_depgraph.specs.declared.known.KnownList.{KnownList}
+use Rattle.roc_depgraph.specs.declared.learnt.Learnt.{Learnt}
+use Rattle.roc_depgraph.specs.declared.learnt.Learnt.TheVariants.{New, Repeat, Differs}
+use Rattle.roc_depgraph.specs.Closure.{IsRisingListOf}
+use Rattle.roc_depgraph.specs.Deps.{list_of, entries_of, IsKnown, Precedes, PrecedesNow, IsDecided, learnt}
+use Rattle.roc_depgraph.specs.Learnt.{Learns}
+use Rattle.roc_depgraph.specs.Reach.{Reaches, direct, through}
+use Rattle.roc_depgraph.proofs.Listed.{has, has_from_listed, listed_from_has, is_eq-same, is_eq-true, listed_one, in_one}
+use Rattle.roc_component.specs.Components.{among}
+use Rattle.roc_component.specs.Within.{holds, within}
+use Rattle.roc_component.proofs.Tests.{holds_listed, listed_holds, any_has, has_any, has_filter, filter_has}
+
+-- a rising list stays one where entries are left out
+below_filter : (p : Dependency → Bool) (id : TxnId) (es : List Dependency) → IsBelowAll id es → IsBelowAll id (filter p es)
+below_filter p id [] h = tt
+below_filter p id (e ∷ es) h = elim (p e) as (λ b. IsBelowAll id (cond b (e ∷ filter p es) (filter p es))) [ true ↦ (h.0, below_filter p id es h.1) | false ↦ below_filter p id es h.1 ]
+
+rising_filter : (p : Dependency → Bool) (es : List Dependency) → IsRising es → IsRising (filter p es)
+rising_filter p [] h = tt
+rising_filter p (e ∷ es) h = elim (p e) as (λ b. IsRising (cond b (e ∷ filter p es) (filter p es))) [ true ↦ (below_filter p e.from es h.0, rising_filter p es h.1) | false ↦ rising_filter p es h.1 ]
+
+pub united_within : (p : Dependency → Bool) (es among edges : List Dependency) → IsRising es → among ≡ filter p es → edges ≡ united ([] ++ among) → edges ≡ filter p es
+united_within p es among edges r e f = f ∙ (ap united e ∙ united-rising (filter p es) (rising_filter p es r))
+
+-- ids that are put into a set one by one
+module _ (ids : List TxnId) (i : ℕ) (id none : TxnId) (below : i < length ids) (is : id ≡ get_or ids i none) (keys more : List TxnId) where
+  upto : take (i + 1) ids ≡ take i ids ++ id ∷ []
+  upto = take_more ids i none below ∙ ap (λ x. take i ids ++ x ∷ []) (sym is)
+
+  pub rising_more : IsRisingListOf (IsListed is_txn (take i ids)) keys → ((q : TxnId) → has more q ≡ cond (is_eq (txn_cmp id q)) true (has keys q)) → IsStrictlySortedBy txn_cmp more → IsRisingListOf (IsListed is_txn (take (i + 1) ids)) more
+  rising_more k at r =
+      record {
+        rising = r;
+        sound = λ u h. subst (λ l. IsListed is_txn l u) (sym upto) (sound u h);
+        complete = λ u h. complete u (listed_either is_txn (take i ids) (id ∷ []) u (subst (λ l. IsListed is_txn l u) upto h));
+      }
+    where
+      sound : (u : TxnId) → IsListed is_txn more u → IsListed is_txn (take i ids ++ id ∷ []) u
+      sound u h = go (is_eq (txn_cmp id u)) refl
+        where
+          go : (b : Bool) → is_eq (txn_cmp id u) ≡ b → IsListed is_txn (take i ids ++ id ∷ []) u
+          go true e = subst (IsListed is_txn (take i ids ++ id ∷ [])) (is_eq-true id u e) (listed_behind is_txn (take i ids) (id ∷ []) id (in_one id))
+          go false e = listed_front is_txn (take i ids) (id ∷ []) u (k.sound u (listed_from_has keys u (sym (cond-false (is_eq (txn_cmp id u)) true (has keys u) e) ∙ (sym (at u) ∙ has_from_listed more u h))))
+
+      complete : (u : TxnId) → IsListed is_txn (take i ids) u ⊎ ((¬ IsListed is_txn (take i ids) u) × IsListed is_txn (id ∷ []) u) → IsListed is_txn more u
+      complete u (inl h) = listed_from_has more u (at u ∙ elim (is_eq (txn_cmp id u)) as (λ b. cond b true (has keys u) ≡ true) [ true ↦ refl | false ↦ has_from_listed keys u (k.complete u h) ])
+      complete u (inr h) = subst (IsListed is_txn more) (sym (listed_one id u h.1)) (listed_from_has more id (at id ∙ cond-true (is_eq (txn_cmp id id)) true (has keys id) (is_eq-same id)))
+
+pub rising_none : (keys : List TxnId) → IsStrictlySortedBy txn_cmp keys → keys ≡ [] → IsRisingListOf (IsListed is_txn []) keys
+rising_none keys r e = record { rising = r; sound = λ u h. subst (λ l. IsListed is_txn l u) e h; complete = λ u h. absurd (omega arith) }
+
+-- in a list that rises strictly no id stands twice
+pub not_behind : (x : TxnId) (xs : List TxnId) → AllByRecursion (λ y. txn_cmp x y ≡ Less) xs → ¬ IsListed is_txn xs x
+not_behind x [] h l = omega arith
+not_behind x (y ∷ xs) h l =
+    elim (listed_cases is_txn y xs x l) [
+      | inl e ↦ false≢true (sym (txn_lt-itself x) ∙ subst (λ v. txn_lt x v ≡ true) (sym (is_txn-true x y e)) (sym (is_lt-txn_cmp x y) ∙ ap is_lt h.0))
+      | inr k ↦ not_behind x xs h.1 k.1
+    ]
+
+pub once_from_rising : (xs : List TxnId) → IsStrictlySortedBy txn_cmp xs → NoneTwice is_txn xs
+once_from_rising [] h = tt
+once_from_rising (x ∷ xs) h = (not_behind x xs (sorted_head txn_cmp x xs h), once_from_rising xs (sorted_tail txn_cmp x xs h))
+
+-- what stands at a place is in the list
+pub listed_at : (xs : List TxnId) (i : ℕ) (x none : TxnId) → i < length xs → x ≡ get_or xs i none → IsListed is_txn xs x
+listed_at [] i x none h e = absurd (omega arith)
+listed_at (y ∷ xs) zero x none h e = subst (λ v. IsListed is_txn (v ∷ xs) x) e (listed_head is_txn x xs (is_txn-same x))
+listed_at (y ∷ xs) (suc i) x none h e = listed_tail is_txn y xs x (listed_at xs i x none (omega arith) e)
+
+-- and is not among what is before it
+pub new_at : (xs : List TxnId) (i : ℕ) (x none : TxnId) → NoneTwice is_txn xs → i < length xs → x ≡ get_or xs i none → ¬ IsListed is_txn (take i xs) x
+new_at [] i x none n h e l = absurd (omega arith)
+new_at (y ∷ xs) zero x none n h e l = omega arith
+new_at (y ∷ xs) (suc i) x none n h e l =
+    elim (listed_cases is_txn y (take i xs) x l) [
+      | inl f ↦ n.0 (subst (IsListed is_txn xs) (is_txn-true x y f) (listed_at xs i x none (omega arith) e))
+      | inr k ↦ new_at xs i x none n.1 (omega arith) e k.1
+    ]
+
+module _ (known : List KnownList) (M : List TxnId) where
+  abbrev kept : TxnId → List Dependency
+  kept t = filter (λ d. holds M d.from) (entries_of known t)
+
+  list_of-listed : (ids : List TxnId) (t : TxnId) → IsListed is_txn ids t → list_of t (within known M ids) ≡ Some (kept t)
+  list_of-listed [] t h = absurd (omega arith)
+  list_of-listed (x ∷ ids) t h = go (is_txn x t) refl (list_of-listed ids t)
+    where
+      go : (b : Bool) → is_txn x t ≡ b → (IsListed is_txn ids t → list_of t (within known M ids) ≡ Some (kept t)) → cond b (Some (kept x)) (list_of t (within known M ids)) ≡ Some (kept t)
+      go true e ih = ap (λ v. Some (kept v)) (is_txn-true x t e)
+      go false e ih =
+          ih (elim (listed_cases is_txn x ids t h) [
+            | inl f ↦ absurd (false≢true (sym e ∙ subst (λ v. is_txn v t ≡ true) (is_txn-true t x f) (is_txn-same t)))
+            | inr k ↦ k.1
+          ])
+
+  list_of-unlisted : (ids : List TxnId) (t : TxnId) → ¬ IsListed is_txn ids t → list_of t (within known M ids) ≡ None
+  list_of-unlisted [] t n = refl
+  list_of-unlisted (x ∷ ids) t n =
+      cond-false (is_txn x t) (Some (kept x)) (list_of t (within known M ids)) (is_txn-ne x t (λ e. n (subst (λ v. IsListed is_txn (v ∷ ids) t) (sym e) (listed_head is_txn t ids (is_txn-same t)))))
+      ∙ list_of-unlisted ids t (λ h. n (listed_tail is_txn x ids t h))
+
+  within-append : (xs ys : List TxnId) → within known M (xs ++ ys) ≡ within known M xs ++ within known M ys
+  within-append [] ys = refl
+  within-append (x ∷ xs) ys = ap (λ l. record { of = x; edges = kept x } ∷ l) (within-append xs ys)
+
+  -- one more list is taught
+  pub learns_within : (ids : List TxnId) (i : ℕ) (id none : TxnId) (lists more : List KnownList) (answer : Learnt) (edges : List Dependency) → NoneTwice is_txn ids → i < length ids → id ≡ get_or ids i none → lists ≡ within known M (take i ids) → edges ≡ kept id → Learns id edges lists answer more → more ≡ within known M (take (i + 1) ids)
+  learns_within ids i id none lists more answer edges n h e l k a = go answer a
+    where
+      unknown : list_of id lists ≡ None
+      unknown = ap (list_of id) l ∙ list_of-unlisted (take i ids) id (new_at ids i id none n h e)
+
+      go : (answer : Learnt) → Learns id edges lists answer more → more ≡ within known M (take (i + 1) ids)
+      go New a =
+          a.1
+          ∙ (ap (λ v. learnt v id edges) l
+          ∙ (ap (λ es. learnt (within known M (take i ids)) id es) k
+          ∙ sym (ap (within known M) (take_more ids i none h ∙ ap (λ x. take i ids ++ x ∷ []) (sym e)) ∙ within-append (take i ids) (id ∷ []))))
+      go Repeat a = absurd (let f : Some edges ≡ None = sym a.0 ∙ unknown in cc)
+      go Differs a = absurd (let f : Some a.0.0 ≡ None = sym a.0.1 ∙ unknown in cc)
+
+  -- what is left of a list, by its entries
+  kept_any : (p : Dependency → Bool) (t : TxnId) → list_any p (kept t) ≡ true → (d : Dependency) × Has d (entries_of known t) × (holds M d.from ≡ true) × (p d ≡ true)
+  kept_any p t h =
+      let r = any_has p (kept t) h in
+      let f = has_filter (λ d. holds M d.from) (entries_of known t) r.0 r.1 in
+      (r.0, f.0, f.1, r.2)
+
+  any_kept : (p : Dependency → Bool) (t : TxnId) (d : Dependency) → Has d (entries_of known t) → holds M d.from ≡ true → p d ≡ true → list_any p (kept t) ≡ true
+  any_kept p t d h k e = has_any p (kept t) d (filter_has (λ d. holds M d.from) (entries_of known t) d h k) e
+
+-- S are the members of M
+module _ (known : List KnownList) (M S : List TxnId) (all : IsRisingListOf (IsListed is_txn M) S) where
+  abbrev L : List KnownList
+  L = within known S S
+
+  abbrev A : TxnId → TxnId → Type 0
+  A = among M (Precedes known)
+
+  -- an entry of the lists that are left is one among the members
+  from_entry : (p : Dependency → Bool) (u t : TxnId) → ((d : Dependency) → p d ≡ true → d.from ≡ u) → list_any p (entries_of L t) ≡ true → IsListed is_txn M u × IsListed is_txn M t × (list_any p (entries_of known t) ≡ true)
+  from_entry p u t key h =
+      elim (listed_or_not is_txn S t) [
+        | inr n ↦ absurd (false≢true (subst (λ (o : Option (List Dependency)). list_any p (unwrap_or o []) ≡ true) (list_of-unlisted known S S t n) h))
+        | inl l ↦
+            (let r = kept_any known S p t (subst (λ (o : Option (List Dependency)). list_any p (unwrap_or o []) ≡ true) (list_of-listed known S S t l) h) in
+            (all.sound u (subst (IsListed is_txn S) (key r.0 r.3) (holds_listed S r.0.from r.2)), all.sound t l, has_any p (entries_of known t) r.0 r.1 r.3))
+      ]
+
+  to_entry : (p : Dependency → Bool) (u t : TxnId) → ((d : Dependency) → p d ≡ true → d.from ≡ u) → IsListed is_txn M u → IsListed is_txn M t → list_any p (entries_of known t) ≡ true → list_any p (entries_of L t) ≡ true
+  to_entry p u t key hu ht h =
+      let r = any_has p (entries_of known t) h in
+      subst (λ (o : Option (List Dependency)). list_any p (unwrap_or o []) ≡ true) (sym (list_of-listed known S S t (all.complete t ht)))
+      (any_kept known S p t r.0 r.1 (subst (λ v. holds S v ≡ true) (sym (key r.0 r.2)) (listed_holds S u (all.complete u hu))) r.2)
+
+  now_key : (u : TxnId) (d : Dependency) → (is_txn d.from u && d.imm) ≡ true → d.from ≡ u
+  now_key u d h = is_txn-true d.from u (and_parts (is_txn d.from u) d.imm h).0
+
+  pub among_from : (u t : TxnId) → Precedes L u t → A u t
+  among_from u t = from_entry (λ d. is_txn d.from u) u t (λ d. is_txn-true d.from u)
+
+  pub among_to : (u t : TxnId) → A u t → Precedes L u t
+  among_to u t e = to_entry (λ d. is_txn d.from u) u t (λ d. is_txn-true d.from u) e.0 e.1 e.2
+
+  pub among_now_from : (u t : TxnId) → PrecedesNow L u t → among M (PrecedesNow known) u t
+  among_now_from u t = from_entry (λ d. is_txn d.from u && d.imm) u t (now_key u)
+
+  pub among_now_to : (u t : TxnId) → among M (PrecedesNow known) u t → PrecedesNow L u t
+  among_now_to u t e = to_entry (λ d. is_txn d.from u && d.imm) u t (now_key u) e.0 e.1 e.2
+
+  -- all lists that are reached are known
+  known_within : (t : TxnId) → IsListed is_txn M t → IsKnown L t
+  known_within t h = ap is_some (list_of-listed known S S t (all.complete t h))
+
+  starts : (u t : TxnId) → Reaches (Precedes L) u t → IsListed is_txn M u
+  starts u t (direct e) = (among_from u t e).0
+  starts u t (through p e) = starts u _ p
+
+  pub decided_within : (t : TxnId) → IsListed is_txn S t → IsDecided L t
+  decided_within t h = record { own = known_within t (all.sound t h); ancestors = λ u p. known_within u (starts u t p) }

@@ -1,0 +1,6 @@
+use Rattle.std.proofs.Common.{take}
+use Rattle.roc_component.specs.Ancestry.{AreAncestries}
+use Rattle.roc_component.proofs.ancestry.ancestries.Given as goal
+
+abbrev pub invariant-loop-id : goal.invariant-loop-id
+invariant-loop-id l = AreAncestries l.lists (take l.id-index l.ids) l.rows.items

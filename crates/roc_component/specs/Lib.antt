@@ -1,0 +1,4 @@
+pub mod Components
+pub mod Within
+pub mod Ancestry
+pub mod Member

@@ -1,0 +1,15 @@
+-- The known lists of a set of transactions, without what leads out of it
+use Rattle.std.specs.Prelude.{Bool, List, map, filter}
+use Rattle.std.specs.List.{list_any}
+use Rattle.roc_base.specs.declared.id.TxnId.{TxnId}
+use Rattle.roc_base.specs.TxnId.{is_txn}
+use Rattle.roc_depgraph.specs.declared.known.KnownList.{KnownList}
+use Rattle.roc_depgraph.specs.Deps.{entries_of}
+
+-- the id is in the list
+abbrev pub holds : List TxnId → TxnId → Bool
+holds ids u = list_any (λ x. is_txn x u) ids
+
+-- the lists of ids, each without the entries that lead out of M
+abbrev pub within : List KnownList → (M ids : List TxnId) → List KnownList
+within known M ids = map (λ t. record { of = t; edges = filter (λ d. holds M d.from) (entries_of known t) }) ids

@@ -1,0 +1,5 @@
+pub mod Reach
+pub mod Deps
+pub mod Learnt
+pub mod Closure
+pub mod Visits

@@ -1,0 +1,252 @@
+//! The known lists, and what follows from them.
+ghost use Rattle.std.specs.Prelude.{◌≡◌, ◌↔◌, ◌==◌, [], length, None, not, IsTrue, IfOk, OnOk, OnErr, filter};
+ghost use Rattle.std.specs.Option.{option_copied};
+ghost use Rattle.roc_base.specs.declared.id.TxnId.{TxnId};
+ghost use Rattle.roc_depgraph.specs.Closure.{IsClosure, IsRisingListOf};
+ghost use Rattle.roc_depgraph.specs.Deps.{list_of, is_known, Precedes, IsDecided};
+ghost use Rattle.roc_depgraph.specs.Learnt.{Learns};
+ghost use Rattle.roc_depgraph.specs.Reach.{ReachesOrIs};
+ghost use Rattle.roc_depgraph.specs.Visits.{Visits};
+
+use crate::{Closure, KnownList, Learnt};
+use roc_base::{Edge, Edges, NoMemory, TxnId};
+use roc_sequence::Sequence;
+use std::alloc::Global;
+use std::collections::BTreeSet;
+use std::marker::Model;
+
+/// The dependency lists that one server knows, in the order in which it learnt them.
+#[derive(Drop)]
+pub struct Deps {
+    alloc: Global,
+    lists: Sequence<KnownList>,
+}
+
+impl Model for Deps {
+    ghost use Rattle.std.specs.Prelude.{List};
+    ghost use Rattle.roc_depgraph.specs.declared.known.KnownList.{KnownList};
+
+    ghost Value = { List KnownList };
+
+    ghost view = { λ d. d.lists };
+}
+
+impl Deps {
+    /// No list is known. Takes no memory.
+    pub fn new(alloc: Global) -> Deps
+        ensures { result ≡ [] }
+    {
+        Deps {
+            alloc,
+            lists: Sequence::new(alloc),
+        }
+    }
+
+    /// How many lists are known.
+    pub fn len(&self) -> usize
+        ensures { result ≡ length self.now }
+    {
+        self.lists.len()
+    }
+
+    /// Whether none is known.
+    pub fn is_empty(&self) -> bool
+        ensures { result ≡ (length self.now == 0) }
+    {
+        self.lists.is_empty()
+    }
+
+    /// The known lists, in the order in which they were learnt.
+    pub fn as_slice(&self) -> &[KnownList]
+        ensures { result.now ≡ self.now }
+    {
+        self.lists.as_slice()
+    }
+
+    /// The list that is known of a transaction, where one is. Takes no memory.
+    pub fn list(&self, id: TxnId) -> Option<&Edges>
+        ensures { option_copied result ≡ list_of id self.now }
+    {
+        for known in self.lists.as_slice() {
+            if known.of == id {
+                return Some(&known.edges);
+            }
+        }
+        None
+    }
+
+    /// Learns a list, where none is known of its transaction. `NoMemory` comes only then, and
+    /// leaves the lists as they were.
+    pub fn learn(&mut self, id: TxnId, edges: &Edges) -> Result<Learnt, NoMemory>
+        ensures ok { IfOk result (λ answer. Learns id edges.now self.old answer self.new) }
+        ensures err { OnErr result ((list_of id self.old ≡ None) × (self.new ≡ self.old)) }
+    {
+        if let Some(kept) = self.list(id) {
+            if *kept == *edges {
+                return Ok(Learnt::Repeat);
+            }
+            return Ok(Learnt::Differs);
+        }
+        let edges = edges.clone()?;
+        self.lists.push(KnownList { of: id, edges })?;
+        Ok(Learnt::New)
+    }
+
+    /// The transaction and its ancestors, where all their lists are known; else what is missing.
+    /// `NoMemory` comes where there is none for what was found, and for no other reason.
+    pub fn closure(&self, id: TxnId) -> Result<Closure, NoMemory>
+        ensures { IfOk result (IsClosure self.now id) }
+    {
+        let reached = self.reached(id)?;
+        let missing = self.unknown(&reached)?;
+        if missing.is_empty() {
+            Ok(Closure::Whole(reached))
+        } else {
+            Ok(Closure::Missing(missing))
+        }
+    }
+
+    /// Whether the lists of the transaction and of all its ancestors are known. `NoMemory` comes as
+    /// from [`Deps::closure`].
+    pub fn is_decided(&self, id: TxnId) -> Result<bool, NoMemory>
+        ensures { IfOk result (λ decided. IsTrue decided ↔ IsDecided self.now id) }
+    {
+        match self.closure(id)? {
+            Closure::Whole(_) => Ok(true),
+            Closure::Missing(_) => Ok(false),
+        }
+    }
+
+    // The id and all from which a chain of edges leads to it, rising.
+    fn reached(&self, id: TxnId) -> Result<Vec<TxnId>, NoMemory>
+        ensures { IfOk result (λ ids. IsRisingListOf (λ u. ReachesOrIs (Precedes self.now) u id) ids.items) }
+    {
+        let mut found = BTreeSet::new(self.alloc);
+        let mut todo = Vec::new(self.alloc);
+        found.insert(id)?;
+        todo.push(id)?;
+        'walk: while let Some(next) = todo.pop() {
+            if let Some(list) = self.list(next) {
+                visit(list.as_slice(), &mut found, &mut todo)?;
+            }
+        }
+        Ok(found.into_iter().collect(self.alloc)?)
+    }
+
+    // Those of the ids whose lists are not known.
+    fn unknown(&self, ids: &[TxnId]) -> Result<Vec<TxnId>, NoMemory>
+        ensures { IfOk result (λ missing. missing.items ≡ filter (λ u. not (is_known self.now u)) ids.now) }
+    {
+        let mut missing = Vec::new(self.alloc);
+        for id in ids {
+            if self.list(*id).is_none() {
+                missing.push(*id)?;
+            }
+        }
+        Ok(missing)
+    }
+}
+
+// Puts the ids of entries among those that were found, and the new ones on the list of what is
+// still to be done.
+fn visit(edges: &[Edge], found: &mut BTreeSet<TxnId>, todo: &mut Vec<TxnId>) -> Result<(), NoMemory>
+    ensures { OnOk result (Visits edges.now found.old.keys todo.old.items found.new.keys todo.new.items) }
+{
+    for edge in edges {
+        let id = edge.from();
+        if found.insert(id)? {
+            todo.push(id)?;
+        }
+    }
+    Ok(())
+}
+
+#[cfg(test)]
+mod tests {
+    use super::*;
+    use roc_base::Shard;
+    use std::test::Fail;
+
+    fn txn(seq: u32) -> TxnId {
+        TxnId { coord: 0, seq }
+    }
+
+    // A list that names the transactions of some sequence numbers.
+    fn list_of(alloc: Global, from: &[u32]) -> Result<Edges, NoMemory> {
+        let mut edges = Edges::new(alloc);
+        for seq in from {
+            let edge = Edge::new(txn(*seq), false, true, Shard(0));
+            edges.unite(&[edge])?;
+        }
+        Ok(edges)
+    }
+
+    // Whether an answer is whole, and the sequence numbers that it lists.
+    fn shown(alloc: Global, closure: &Closure) -> Result<(bool, Vec<u32>), NoMemory> {
+        let (whole, ids) = match closure {
+            Closure::Whole(ids) => (true, ids),
+            Closure::Missing(ids) => (false, ids),
+        };
+        let mut seqs = Vec::new(alloc);
+        for id in ids {
+            seqs.push(id.seq)?;
+        }
+        Ok((whole, seqs))
+    }
+
+    // A diamond 1 <- 2, 3 <- 4, a chain 5 <- 6 whose end is unknown, and a cycle 7 <-> 8.
+    const TAUGHT: [(u32, &[u32]); 7] = [
+        (4, &[2, 3]),
+        (3, &[1]),
+        (6, &[5, 4]),
+        (1, &[]),
+        (2, &[1]),
+        (7, &[8]),
+        (8, &[7]),
+    ];
+
+    const CLOSURES: [(u32, bool, &[u32]); 6] = [
+        (1, true, &[1]),
+        (2, true, &[1, 2]),
+        (4, true, &[1, 2, 3, 4]),
+        (6, false, &[5]),
+        (9, false, &[9]),
+        (7, true, &[7, 8]),
+    ];
+
+    #[test]
+    fn follows_known_lists(rt: HostRuntime) -> Result<(), Fail> {
+        let alloc = rt.alloc();
+        let mut deps = Deps::new(alloc);
+        assert!(rt; deps.is_empty());
+        for (of, from) in TAUGHT {
+            let edges = list_of(alloc, from)?;
+            assert_eq!(rt; deps.learn(txn(of), &edges)?, Learnt::New);
+        }
+        assert!(rt; deps.len() == 7);
+        for (of, whole, ids) in CLOSURES {
+            let (is_whole, seqs) = shown(alloc, &deps.closure(txn(of))?)?;
+            assert_eq!(rt; is_whole, whole, "at {of}");
+            assert_eq!(rt; seqs.as_slice(), ids, "at {of}");
+            assert_eq!(rt; deps.is_decided(txn(of))?, whole, "at {of}");
+        }
+        Ok(())
+    }
+
+    #[test]
+    fn keeps_what_it_learnt(rt: HostRuntime) -> Result<(), Fail> {
+        let alloc = rt.alloc();
+        let mut deps = Deps::new(alloc);
+        let (first, other) = (list_of(alloc, &[1, 2])?, list_of(alloc, &[1])?);
+        assert_eq!(rt; deps.learn(txn(3), &first)?, Learnt::New);
+        assert_eq!(rt; deps.learn(txn(3), &first)?, Learnt::Repeat);
+        assert_eq!(rt; deps.learn(txn(3), &other)?, Learnt::Differs);
+        assert!(rt; deps.list(txn(1)).is_none());
+        let kept = deps.list(txn(3)).ok_or("no list")?;
+        assert!(rt; *kept == first);
+        let all = deps.as_slice();
+        assert!(rt; all.len() == 1);
+        assert!(rt; all[0].of == txn(3));
+        Ok(())
+    }
+}

@@ -1,0 +1,18 @@
+//! What one server knows of dependencies: the lists of predecessors that it was taught, and which
+//! transactions are decided by them. Contracts see a [`Deps`] as the list of known lists
+//! (`specs/Deps.antt`); chains of edges are the least relation of `specs/Reach.antt`.
+//!
+//! The layers above may rely on this: a list once known never changes; [`Deps::closure`] answers
+//! `Whole` exactly where a transaction is decided, with it and all its ancestors, and else exactly
+//! what is reached and unknown; an unlike list is told apart from an equal one.
+#![tactic(auto)]
+
+mod closure;
+mod deps;
+mod known;
+mod learnt;
+
+pub use closure::Closure;
+pub use deps::Deps;
+pub use known::KnownList;
+pub use learnt::Learnt;

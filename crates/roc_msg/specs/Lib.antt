@@ -1,0 +1,2 @@
+pub mod Msg
+pub mod Reason
