@@ -1,0 +1,19 @@
+-- What a history tells: docs/PROTOCOL.md, "Serial witness"
+use Rattle.std.specs.Prelude.{◌≡◌, ℕ, ℤ, List, [], ◌∷◌, ◌⊎◌}
+use Rattle.roc_base.specs.Lists.{Has}
+use Rattle.roc_base.specs.declared.id.TxnId.{TxnId}
+use Rattle.roc_audit.specs.declared.entry.Entry.{Entry}
+use Rattle.roc_audit.specs.declared.entry.Entry.TheVariants.{Submitted, Answered}
+
+-- t was submitted
+abbrev pub WasSubmitted : List Entry → TxnId → Type 0
+WasSubmitted history t = (proc : ℕ) × (args : List ℤ) × Has (Submitted t proc args) history
+
+-- t was answered with this reply
+abbrev pub WasAnswered : List Entry → TxnId → List ℤ → Type 0
+WasAnswered history t reply = Has (Answered t reply) history
+
+-- t's answer stands before u's submission
+abbrev pub IsAnsweredBefore : List Entry → TxnId → TxnId → Type 0
+IsAnsweredBefore [] t u = ⊥
+IsAnsweredBefore (e ∷ es) t u = ((reply : List ℤ) × (e ≡ Answered t reply) × WasSubmitted es u) ⊎ IsAnsweredBefore es t u

@@ -1,0 +1,38 @@
+-- A group's part of a procedure's run: docs/PROTOCOL.md, "Groups"
+use Rattle.std.specs.Prelude.{ℕ, ℤ, List, [], map}
+use Rattle.roc_rows.specs.Store.{Store}
+use Rattle.roc_plan.specs.Program.{Piece}
+use Rattle.roc_plan.specs.Groups.{Plan, procedure_of, group_of, pieces_at, environment_in, bound_of}
+use Rattle.roc_plan.specs.Values.{value_of_name}
+use Rattle.roc_whole.specs.Run.{Progress, progress, after_pieces}
+use Rattle.roc_group.specs.declared.access.Access.{Access}
+use Rattle.roc_group.specs.Accesses.{uses_of_pieces}
+
+-- a group of a procedure with what it is given: the procedure's arguments, and the values of names of other groups
+pub record Call : Type 0 where
+  pub proc : ℕ
+  pub group : ℕ
+  pub args : List ℤ
+  pub inputs : List ℤ
+
+abbrev pub call : (proc group : ℕ) → (args inputs : List ℤ) → Call
+call proc group args inputs = record { proc = proc; group = group; args = args; inputs = inputs }
+
+abbrev pub pieces_of : Plan → Call → List Piece
+pieces_of plan c = pieces_at (procedure_of plan c.proc) (group_of plan c.proc c.group).pieces
+
+-- where a group begins
+abbrev pub begin : Plan → Call → Store → Progress
+begin plan c store = progress store (environment_in (procedure_of plan c.proc) (group_of plan c.proc c.group).pieces c.args c.inputs) []
+
+-- its pieces run in program order
+abbrev pub group_run : Plan → Call → Store → Progress
+group_run plan c store = after_pieces (begin plan c store) (pieces_of plan c)
+
+-- the cells that it uses, in the order in which it uses them
+abbrev pub group_uses : Plan → Call → Store → List Access
+group_uses plan c store = uses_of_pieces (begin plan c store) (pieces_of plan c)
+
+-- the values of the names that it binds, in the order in which they are bound
+abbrev pub bound_by_run : Plan → Call → Store → List ℤ
+bound_by_run plan c store = map (value_of_name (group_run plan c store).environment) (bound_of plan c.proc c.group)
