@@ -1,0 +1,8 @@
+use Rattle.std.proofs.Common.{sym}
+use Rattle.roc_base.specs.TxnId.{is_txn}
+use Rattle.roc_server.specs.Fits.{IsGroupOf}
+use Rattle.roc_server.proofs.Found.{found_holds}
+use Rattle.roc_server.proofs.groups.count_of_groups.Goals as goal
+
+pub groups-requires : goal.groups-requires
+groups-requires c = (found_holds (IsGroupOf c.args.plan.now) (λ e. is_txn e.id c.args.id) c.args.started.now c.in-Some.e.now c.requires (sym c.in-Some.ensures)).procedure

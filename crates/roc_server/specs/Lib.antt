@@ -1,0 +1,11 @@
+pub mod State
+pub mod First
+pub mod Fits
+pub mod Start
+pub mod Commit
+pub mod Step
+pub mod Kept
+pub mod Codes
+pub mod Runs
+pub mod Decided
+pub mod Taken

@@ -1,0 +1,151 @@
+//! The server.
+ghost use Rattle.std.specs.Prelude.{◌≡◌, ◌↔◌, true, false, IsTrue, IfOk, OnOk};
+ghost use Rattle.std.specs.List.{AllByRecursion};
+ghost use Rattle.roc_depgraph.specs.Deps.{IsDecided};
+ghost use Rattle.roc_rows.specs.Store.{entries};
+ghost use Rattle.roc_server.specs.First.{first_server};
+ghost use Rattle.roc_server.specs.Fits.{IsGroupOf, FitsPlan};
+ghost use Rattle.roc_server.specs.Kept.{state_of, IsSound};
+ghost use Rattle.roc_server.specs.State.{Step};
+ghost use Rattle.roc_server.specs.Step.{Handles, Shows};
+
+use crate::Handled;
+use crate::commits::take_commit;
+use crate::decided::is_among;
+use crate::first::first_rows;
+use crate::kept::Kept;
+use crate::starts::{Request, take_start};
+use roc_base::{NoMemory, Shard, TxnId};
+use roc_msg::{Msg, NodeFault, Outbox, Reason};
+use roc_plan::{Known, Plan};
+use roc_rows::{Cell, Rows};
+use std::alloc::Global;
+use std::marker::Model;
+
+/// The server of a shard, as ROCOCO (OSDI 2014, section 3) has it: it buffers a deferrable group
+/// until its transaction is decided, and runs what is decided in component order.
+#[derive(Drop)]
+pub struct Server {
+    alloc: Global,
+    shard: Shard,
+    kept: Kept,
+    stopped: bool,
+}
+
+impl Model for Server {
+    ghost use Rattle.roc_server.specs.Codes.{coded_state};
+    ghost use Rattle.roc_server.specs.State.{State};
+
+    ghost Value = { State };
+
+    ghost coded = { coded_state };
+
+    ghost use Rattle.roc_server.specs.Kept.{state_of, IsSound};
+
+    ghost view = { λ s. state_of s.shard s.kept s.stopped };
+
+    ghost invariant = { λ s. IsSound s.kept };
+}
+
+impl Server {
+    /// A server of a shard with the start cells of its places, before any message. It keeps its
+    /// allocator.
+    pub fn new(alloc: Global, plan: &Plan, shard: Shard) -> Result<Server, NoMemory>
+        ensures first { IfOk result (λ server. server ≡ first_server plan.now shard) }
+        ensures fits { IfOk result (FitsPlan plan.now) }
+    {
+        let rows = first_rows(alloc, plan, shard)?;
+        Ok(Server {
+            alloc,
+            shard,
+            kept: Kept::new(alloc, rows),
+            stopped: false,
+        })
+    }
+
+    /// Takes a message, or ignores it for the first reason that holds. What it sends and what it
+    /// newly decides is added to `out`. `NoMemory` promises nothing of the server's groups, lists
+    /// and cells, nor of `out`, but that each later call answers `Stopped`.
+    pub fn handle(&mut self, plan: &Plan, msg: &Msg, out: &mut Outbox) -> Result<Handled, NodeFault>
+        requires { FitsPlan plan.now self.old }
+
+        // The step that the definitions fix.
+        ensures step { IfOk result (λ answer. (r : Step) × Handles plan.now self.old msg.now r × Shows r answer self.new out.old out.new) }
+        ensures fits { FitsPlan plan.now self.new }
+        ensures shard { self.new.shard ≡ self.old.shard }
+
+        // A server that found no memory answers so from then on, and exactly then.
+        ensures going { OnOk result (self.new.stopped ≡ false) }
+        ensures stopped { (result ≡ Err NodeFault.Stopped) ↔ (self.old.stopped ≡ true) }
+        ensures unchanged { result ≡ Err NodeFault.Stopped → (self.new ≡ self.old) × (out.new ≡ out.old) }
+        ensures no_memory { result ≡ Err NodeFault.NoMemory → self.new.stopped ≡ true }
+    {
+        if self.stopped {
+            return Err(NodeFault::Stopped);
+        }
+        match take(self.alloc, plan, self.shard, &mut self.kept, msg, out) {
+            Ok(handled) => Ok(handled),
+            Err(NoMemory) => {
+                // A part may be done and another not, so nothing is kept.
+                self.kept = Kept::new(self.alloc, Rows::new(self.alloc));
+                self.stopped = true;
+                Err(NodeFault::NoMemory)
+            }
+        }
+    }
+
+    /// Whether a transaction is decided here: its dependency list and those of all its ancestors
+    /// are known. Takes no memory.
+    pub fn decided(&self, id: TxnId) -> bool
+        ensures { IsTrue result ↔ IsDecided self.now.known id }
+    {
+        is_among(self.kept.decided.as_slice(), id)
+    }
+
+    /// The cells that are not 0, each with its number, by cell rising.
+    pub fn cells(&self) -> Result<Vec<(Cell, i64)>, NoMemory>
+        ensures { IfOk result (λ cells. cells.items ≡ entries self.now.store) }
+    {
+        self.kept.rows.nonzero()
+    }
+}
+
+// Takes a message, or ignores it.
+fn take(
+    alloc: Global,
+    plan: &Plan,
+    shard: Shard,
+    kept: &mut Kept,
+    msg: &Msg,
+    out: &mut Outbox,
+) -> Result<Handled, NoMemory>
+    requires fits { AllByRecursion (IsGroupOf plan.now) kept.old.started.items }
+    requires sound { IsSound kept.old }
+    ensures step { IfOk result (λ answer. (r : Step) × Handles plan.now (state_of shard kept.old false) msg.now r × Shows r answer (state_of shard kept.new false) out.old out.new) }
+    ensures fits { OnOk result (AllByRecursion (IsGroupOf plan.now) kept.new.started.items) }
+    ensures sound { OnOk result (IsSound kept.new) }
+{
+    match msg {
+        Msg::Start {
+            id,
+            proc,
+            group,
+            args,
+            inputs,
+        } => {
+            let known = Known {
+                args: args.clone()?,
+                inputs: inputs.clone()?,
+            };
+            let request = Request {
+                id: *id,
+                proc: *proc,
+                group: *group,
+                known,
+            };
+            take_start(alloc, plan, shard, kept, request, out)
+        }
+        Msg::Commit { id, edges } => take_commit(alloc, plan, shard, kept, *id, edges, out),
+        Msg::StartOk { .. } | Msg::CommitOk { .. } => Ok(Handled::Ignored(Reason::Foreign)),
+    }
+}

@@ -1,0 +1,15 @@
+pub mod Invariants
+pub mod Grows
+pub mod Thin
+pub mod Runs
+pub mod Takes
+pub mod Serves
+pub mod Learns
+pub mod Rounds
+pub mod Coordinates
+pub mod Changes
+pub mod Worlds
+pub mod Reached
+pub mod Refusals
+pub mod Staleness
+pub mod Ends

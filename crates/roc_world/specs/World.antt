@@ -1,0 +1,50 @@
+-- All nodes, and what was sent, seen and decided: docs/PROTOCOL.md, "World"
+use Rattle.std.specs.Prelude.{ℕ, ◌+◌, ◌==◌, not, List, [], ◌++◌, length, map, filter}
+use Rattle.std.specs.List.{range_with_len}
+use Rattle.roc_base.specs.declared.id.TxnId.{TxnId}
+use Rattle.roc_base.specs.declared.node.Node.{Node}
+use Rattle.roc_msg.specs.declared.msg.Sent.{Sent}
+use Rattle.roc_msg.specs.declared.outbox.Outgoing.{Outgoing}
+use Rattle.roc_plan.specs.Groups.{Plan}
+use Rattle.roc_server.specs.State.{State as ServerState}
+use Rattle.roc_server.specs.First.{first_server}
+use Rattle.roc_coord.specs.State.{State as CoordState, first_coord}
+use Rattle.roc_audit.specs.declared.entry.Entry.{Entry}
+
+pub record World : Type 0 where
+  -- the server of each shard, and each coordinator, by number
+  pub servers : List ServerState
+  pub coords : List CoordState
+  -- every message ever sent; the first has number 1
+  pub sent : List Sent
+  -- the numbers of those that were never delivered, rising
+  pub undelivered : List ℕ
+  pub history : List Entry
+  -- the transactions in the order of their first decision on any server
+  pub order : List TxnId
+
+abbrev pub first_world : Plan → ℕ → World
+first_world plan coords =
+    record {
+      servers = map (λ n. first_server plan (record { 0 = n })) (range_with_len 0 plan.program.shards);
+      coords = map first_coord (range_with_len 0 coords);
+      sent = [];
+      undelivered = [];
+      history = [];
+      order = [];
+    }
+
+abbrev pub sent_by : Node → Outgoing → Sent
+sent_by from out = record { from = from; to = out.to; msg = out.msg }
+
+-- a node sends messages
+abbrev pub sends : World → Node → List Outgoing → World
+sends w from outs =
+    record w {
+      sent = w.sent ++ map (sent_by from) outs;
+      undelivered = w.undelivered ++ range_with_len (length w.sent + 1) (length outs);
+    }
+
+-- message k comes to its receiver
+abbrev pub comes : World → ℕ → World
+comes w k = record w { undelivered = filter (λ n. not (n == k)) w.undelivered }

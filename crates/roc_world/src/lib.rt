@@ -1,0 +1,14 @@
+//! All nodes and the network, and what holds in every run. `specs/World.antt` has the world,
+//! `specs/Happens.antt` what comes of an event (one event changes one node, by that node's step), and
+//! [`laws`] what holds in every world of every run, whatever is lost, repeated or reordered: the
+//! serial order explains the history, no message is refused, and a submission is refused only as busy
+//! or spent.
+//!
+//! The layers above may rely on the laws for each run of nodes whose steps are those that the
+//! contracts of the server and the coordinator name.
+#![tactic(auto)]
+
+mod event;
+pub mod laws;
+
+pub use event::{Event, Seen};
