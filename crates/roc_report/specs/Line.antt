@@ -1,0 +1,19 @@
+-- The lines of a report, as plain data: docs/FORMATS.md, "Report"
+use Rattle.std.specs.Prelude.{ℕ, ℤ, List}
+use Rattle.roc_base.specs.declared.id.TxnId.{TxnId}
+use Rattle.roc_msg.specs.declared.reason.Reason.{Reason}
+use Rattle.roc_msg.specs.declared.msg.Sent.{Sent}
+use Rattle.roc_rows.specs.declared.cell.Cell.{Cell}
+
+pub data Line : Type 0 where
+  Submit : (id : TxnId) (proc : ℕ) (args : List ℤ) → Line
+  Busy : (coord : ℕ) → Line
+  Spent : (coord : ℕ) → Line
+  Deliver : (number : ℕ) → Line
+  Ignored : (reason : Reason) → Line
+  Send : (number : ℕ) (sent : Sent) → Line
+  Answer : (id : TxnId) (reply : List ℤ) → Line
+  Order : (ids : List TxnId) → Line
+  Row : (cell : Cell) (value : ℤ) → Line
+  Pending : (id : TxnId) → Line
+  End : (answered pending messages : ℕ) → Line

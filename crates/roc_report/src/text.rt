@@ -1,0 +1,188 @@
+//! The text of a line.
+ghost use Rattle.std.specs.Prelude.{◌≡◌, ◌∷◌, ◌++◌, OnOk, OnErr, codes};
+ghost use Rattle.std.specs.String.{string_bytes};
+ghost use Rattle.roc_plan.specs.LookUps.{procedure_name, table_name, column_name};
+ghost use Rattle.roc_plan.specs.Workload.{program};
+ghost use Rattle.roc_report.specs.Shown.{shown};
+ghost use Rattle.roc_report.specs.Text.{numbers_text, ids_text, tags_text, edges_text, edges_of, sent_text, cell_text, words_of, line_text};
+
+use crate::ReportLine;
+use roc_base::{Edge, NoMemory, Shard, TxnId};
+use roc_msg::{Msg, Sent};
+use roc_plan::Workload;
+use roc_rows::Cell;
+use std::alloc::{AllocError, Global};
+
+/// Adds a line of a report, with a line feed at its end. Numbers of procedures, tables and columns
+/// that the workload does not have are shown as no name. `NoMemory` leaves the text as it was.
+pub fn append(
+    alloc: Global,
+    into: &mut Vec<u8>,
+    workload: &Workload,
+    line: &ReportLine,
+) -> Result<(), NoMemory>
+    ensures ok { OnOk result (into.new.items ≡ into.old.items ++ line_text (program workload.now) (shown line.now)) }
+    ensures err { OnErr result (into.new.items ≡ into.old.items) }
+{
+    let mut text = String::new(alloc);
+    push_words(&mut text, workload, line)?;
+    text.push('\n')?;
+    into.extend_from_slice(text.as_bytes())?;
+    Ok(())
+}
+
+// Adds a line without its end.
+fn push_words(text: &mut String, workload: &Workload, line: &ReportLine) -> Result<(), AllocError>
+    ensures { OnOk result (string_bytes text.new ≡ string_bytes text.old ++ words_of (program workload.now) (shown line.now)) }
+{
+    match line {
+        ReportLine::Submit { id, proc, args } => {
+            let name = procedure_name(workload, *proc);
+            write!(text, "submit {id} {name}")?;
+            push_numbers(text, args.as_slice())
+        }
+        ReportLine::Busy(coord) => write!(text, "busy {coord}"),
+        ReportLine::Spent(coord) => write!(text, "spent {coord}"),
+        ReportLine::Deliver(number) => write!(text, "deliver {number}"),
+        ReportLine::Ignored(reason) => write!(text, "ignored {reason}"),
+        ReportLine::Send { number, sent } => {
+            write!(text, "send {number} ")?;
+            push_sent(text, sent)
+        }
+        ReportLine::Answer { id, reply } => {
+            write!(text, "answer {id}")?;
+            push_numbers(text, reply.as_slice())
+        }
+        ReportLine::Order(ids) => {
+            text.push_str("order")?;
+            push_ids(text, ids)
+        }
+        ReportLine::Row { cell, value } => {
+            text.push_str("row ")?;
+            push_cell(text, workload, *cell)?;
+            write!(text, " {value}")
+        }
+        ReportLine::Pending(id) => write!(text, "pending {id}"),
+        ReportLine::End {
+            answered,
+            pending,
+            messages,
+        } => write!(
+            text,
+            "end {answered} answered {pending} pending {messages} messages"
+        ),
+    }
+}
+
+// Adds numbers, a space before each.
+fn push_numbers(text: &mut String, numbers: &[i64]) -> Result<(), AllocError>
+    ensures { OnOk result (string_bytes text.new ≡ string_bytes text.old ++ numbers_text numbers.now) }
+{
+    for number in numbers {
+        write!(text, " {number}")?;
+    }
+    Ok(())
+}
+
+// Adds ids, a space before each.
+fn push_ids(text: &mut String, ids: &[TxnId]) -> Result<(), AllocError>
+    ensures { OnOk result (string_bytes text.new ≡ string_bytes text.old ++ ids_text ids.now) }
+{
+    for id in ids {
+        write!(text, " {id}")?;
+    }
+    Ok(())
+}
+
+// Adds predecessors, a space before each.
+fn push_edges(text: &mut String, edges: &[Edge]) -> Result<(), AllocError>
+    ensures { OnOk result (string_bytes text.new ≡ string_bytes text.old ++ edges_text edges.now) }
+{
+    for edge in edges {
+        let (id, tags, Shard(at)) = (edge.from(), tags(*edge), edge.at());
+        write!(text, " {id}/{tags}@{at}")?;
+    }
+    Ok(())
+}
+
+// The tags of a predecessor: i, d or id.
+fn tags(edge: Edge) -> &'static str
+    ensures { result.now ≡ tags_text edge.imm edge.def }
+{
+    match (edge.imm(), edge.def()) {
+        (true, true) => "id",
+        (true, false) => "i",
+        (false, true) => "d",
+        (false, false) => "",
+    }
+}
+
+// The predecessors that a message tells.
+fn edges_of(msg: &Msg) -> &[Edge]
+    ensures { result.now ≡ edges_of msg.now }
+{
+    match msg {
+        Msg::StartOk { edges, .. } => edges.as_slice(),
+        Msg::Commit { edges, .. } => edges.as_slice(),
+        Msg::Start { .. } => &[],
+        Msg::CommitOk { .. } => &[],
+    }
+}
+
+// Adds what a message is, its id, sender and receiver, and its predecessors.
+fn push_sent(text: &mut String, sent: &Sent) -> Result<(), AllocError>
+    ensures { OnOk result (string_bytes text.new ≡ string_bytes text.old ++ sent_text sent.now) }
+{
+    let (from, to) = (sent.from, sent.to);
+    text.push_str(sent.msg.word())?;
+    if let Some(id) = sent.msg.id() {
+        write!(text, " {id}")?;
+    }
+    write!(text, " {from} {to}")?;
+    push_edges(text, edges_of(&sent.msg))
+}
+
+// Adds where a cell is.
+fn push_cell(text: &mut String, workload: &Workload, cell: Cell) -> Result<(), AllocError>
+    ensures { OnOk result (string_bytes text.new ≡ string_bytes text.old ++ cell_text (program workload.now) cell) }
+{
+    let (place, id) = (cell.place, cell.id);
+    let table = table_name(workload, cell.table);
+    let column = column_name(workload, cell.table, cell.column);
+    write!(text, "{table}[{place},{id}].{column}")
+}
+
+// The name of a procedure, if it exists.
+fn procedure_name(workload: &Workload, proc: u16) -> &str
+    ensures { result.now ≡ procedure_name (program workload.now) proc }
+{
+    if usize::from(proc) < workload.procedures.len() {
+        workload.procedure_name(proc)
+    } else {
+        ""
+    }
+}
+
+// The name of a table, if it exists.
+fn table_name(workload: &Workload, table: u8) -> &str
+    ensures { result.now ≡ table_name (program workload.now) table }
+{
+    if usize::from(table) < workload.tables.len() {
+        workload.table_name(table)
+    } else {
+        ""
+    }
+}
+
+// The name of a column, if it exists.
+fn column_name(workload: &Workload, table: u8, column: u8) -> &str
+    ensures { result.now ≡ column_name (program workload.now) table column }
+{
+    if usize::from(table) < workload.tables.len()
+        && usize::from(column) < workload.tables[usize::from(table)].columns.len()
+    {
+        workload.column_name(table, column)
+    } else {
+        ""
+    }
+}
