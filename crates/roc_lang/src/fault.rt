@@ -1,7 +1,7 @@
 //! Why a text has no tree.
 
 ghost use Rattle.std.specs.Prelude.{◌≡◌, Some};
-ghost use Rattle.roc_lang.specs.FaultText.{what_text};
+ghost use Rattle.roc_lang.specs.FaultText.{error_text, what_text};
 ghost use Rattle.roc_lang.specs.declared.fault.LangError.TheVariants.{NoMemory};
 
 use std::alloc::{AllocError, AllocFailed};
@@ -64,6 +64,8 @@ impl LangError {
 }
 
 impl fmt::Display for LangError {
+    ghost output = { λ error. Some (error_text error) };
+
     fn fmt<W: fmt::Write>(&self, f: &mut fmt::Formatter<W>) -> fmt::Result {
         match self {
             LangError::At { line, what } => write!(f, "line {line}: {what}"),
