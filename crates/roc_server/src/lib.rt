@@ -22,3 +22,6 @@ mod starts;
 pub use handled::Handled;
 pub use server::Server;
 pub use started::StartedGroup;
+
+#[cfg(test)]
+mod tests;
