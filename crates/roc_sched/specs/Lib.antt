@@ -1,0 +1,10 @@
+pub mod Each
+pub mod Lines
+pub mod Words
+pub mod Numbers
+pub mod Acts
+pub mod Schedule
+pub mod Thin
+pub mod Answer
+pub mod Reading
+pub mod FaultText
