@@ -13,3 +13,8 @@ pub mod Reached
 pub mod Refusals
 pub mod Staleness
 pub mod Ends
+pub mod Steps
+pub mod Firsts
+pub mod Messages
+pub mod Submissions
+pub mod Receivers

@@ -1,2 +1,7 @@
 pub mod World
 pub mod Happens
+pub mod Fits
+pub mod Reached
+pub mod Reads
+pub mod Parts
+pub mod Nodes

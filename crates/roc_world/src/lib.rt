@@ -9,6 +9,16 @@
 #![tactic(auto)]
 
 mod event;
+mod happen;
 pub mod laws;
+mod network;
+mod nodes;
+mod parts;
+mod reads;
+mod world;
 
 pub use event::{Event, Seen};
+pub use world::World;
+
+#[cfg(test)]
+mod tests;

@@ -1,0 +1,11 @@
+use Rattle.std.proofs.Common.{◌≡◌, map}
+use Rattle.std.specs.List.{AllByRecursion, range_with_len}
+use Rattle.roc_server.specs.First.{first_server}
+use Rattle.roc_server.specs.Fits.{FitsPlan as ServerFits}
+use Rattle.roc_world.proofs.nodes.first_servers.Given as goal
+
+abbrev pub invariant-loop-number : goal.invariant-loop-number
+invariant-loop-number l = record {
+  first : l.servers.items ≡ map (λ n. first_server l.plan (record { 0 = n })) (range_with_len 0 l.number);
+  fits : AllByRecursion (ServerFits l.plan) l.servers.items;
+}

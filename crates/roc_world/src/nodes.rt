@@ -1,0 +1,91 @@
+//! The servers and the coordinators, of which one takes what comes.
+ghost use Rattle.std.specs.Prelude.{◌≡◌, ◌<◌, length, map, IfOk, OnOk};
+ghost use Rattle.std.specs.List.{AllByRecursion, range_with_len};
+ghost use Rattle.roc_server.specs.First.{first_server};
+ghost use Rattle.roc_server.specs.Fits.{FitsPlan as ServerFits};
+ghost use Rattle.roc_coord.specs.State.{first_coord};
+ghost use Rattle.roc_coord.specs.Fits.{FitsPlan as CoordFits};
+ghost use Rattle.roc_coord.specs.Submit.{UnlessStopped};
+ghost use Rattle.roc_world.specs.Nodes.{ServerTakes, CoordTakes, CoordSubmits};
+
+use roc_base::{NoMemory, Shard, TxnId};
+use roc_coord::{Coord, Handled as CoordHandled, SubmitFault};
+use roc_msg::{Msg, NodeFault, Outbox};
+use roc_plan::Plan;
+use roc_server::{Handled as ServerHandled, Server};
+use std::alloc::{AllocError, Global};
+
+/// The servers of the first shards, before any message.
+pub(crate) fn first_servers(alloc: Global, plan: &Plan, count: u8) -> Result<Vec<Server>, NoMemory>
+    ensures first { IfOk result (λ servers. servers.items ≡ map (λ n. first_server plan.now (record { 0 = n })) (range_with_len 0 count)) }
+    ensures fits { IfOk result (λ servers. AllByRecursion (ServerFits plan.now) servers.items) }
+{
+    let mut servers = Vec::new(alloc);
+    for number in 0..count {
+        servers.push(Server::new(alloc, plan, Shard(number))?)?;
+    }
+    Ok(servers)
+}
+
+/// The first coordinators, before any submission.
+pub(crate) fn first_coords(alloc: Global, count: u16) -> Result<Vec<Coord>, AllocError>
+    ensures { IfOk result (λ coords. coords.items ≡ map first_coord (range_with_len 0 count)) }
+{
+    let mut coords = Vec::new(alloc);
+    for number in 0..count {
+        coords.push(Coord::new(alloc, number))?;
+    }
+    Ok(coords)
+}
+
+/// A message comes to the server of a shard. `NoMemory` promises nothing of the servers.
+pub(crate) fn handle_at_server(
+    plan: &Plan,
+    servers: &mut Vec<Server>,
+    shard: Shard,
+    msg: &Msg,
+    out: &mut Outbox,
+) -> Result<ServerHandled, NodeFault>
+    requires exists { shard.0 < length servers.old.items }
+    requires fits { AllByRecursion (ServerFits plan.now) servers.old.items }
+    ensures step { IfOk result (λ answer. ServerTakes plan.now shard.0 msg.now answer servers.old.items servers.new.items out.old out.new) }
+    ensures fits { AllByRecursion (ServerFits plan.now) servers.new.items }
+    ensures count { length servers.new.items ≡ length servers.old.items }
+{
+    servers[shard.0 as usize].handle(plan, msg, out)
+}
+
+/// A message comes to a coordinator. `NoMemory` promises nothing of the coordinators.
+pub(crate) fn handle_at_coord(
+    plan: &Plan,
+    coords: &mut Vec<Coord>,
+    number: u16,
+    msg: &Msg,
+    out: &mut Outbox,
+) -> Result<CoordHandled, NodeFault>
+    requires exists { number < length coords.old.items }
+    requires fits { AllByRecursion (CoordFits plan.now) coords.old.items }
+    ensures step { IfOk result (λ answer. CoordTakes plan.now number msg.now answer coords.old.items coords.new.items out.old out.new) }
+    ensures fits { AllByRecursion (CoordFits plan.now) coords.new.items }
+    ensures count { length coords.new.items ≡ length coords.old.items }
+{
+    coords[number as usize].handle(plan, msg, out)
+}
+
+/// A transaction is submitted at a coordinator.
+pub(crate) fn submit_at(
+    plan: &Plan,
+    coords: &mut Vec<Coord>,
+    number: u16,
+    proc: u16,
+    args: &[i64],
+    out: &mut Outbox,
+) -> Result<TxnId, SubmitFault>
+    requires exists { number < length coords.old.items }
+    requires fits { AllByRecursion (CoordFits plan.now) coords.old.items }
+    ensures step { UnlessStopped result (CoordSubmits plan.now number proc args.now result coords.old.items coords.new.items out.old out.new) }
+    ensures fits { AllByRecursion (CoordFits plan.now) coords.new.items }
+    ensures count { length coords.new.items ≡ length coords.old.items }
+{
+    coords[number as usize].submit(plan, proc, args, out)
+}

@@ -1,0 +1,33 @@
+//! What is read of the nodes for a report.
+ghost use Rattle.std.specs.Prelude.{◌≡◌, IfOk};
+ghost use Rattle.std.specs.List.{flat_map};
+ghost use Rattle.roc_rows.specs.Store.{entries};
+ghost use Rattle.roc_coord.specs.Ids.{ids_of};
+
+use roc_base::{NoMemory, TxnId};
+use roc_coord::Coord;
+use roc_rows::Cell;
+use roc_server::Server;
+use std::alloc::Global;
+
+/// The cells that are not 0, server by server.
+pub(crate) fn cells_of(alloc: Global, servers: &[Server]) -> Result<Vec<(Cell, i64)>, NoMemory>
+    ensures { IfOk result (λ cells. cells.items ≡ flat_map (λ s. entries s.store) servers.now) }
+{
+    let mut cells = Vec::new(alloc);
+    for server in servers {
+        cells.extend_from_slice(&server.cells()?)?;
+    }
+    Ok(cells)
+}
+
+/// The transactions without a reply, coordinator by coordinator.
+pub(crate) fn unanswered_of(alloc: Global, coords: &[Coord]) -> Result<Vec<TxnId>, NoMemory>
+    ensures { IfOk result (λ ids. ids.items ≡ flat_map (λ c. ids_of c.pending) coords.now) }
+{
+    let mut ids = Vec::new(alloc);
+    for coord in coords {
+        ids.extend_from_slice(coord.unanswered())?;
+    }
+    Ok(ids)
+}

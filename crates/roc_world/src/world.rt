@@ -1,0 +1,142 @@
+//! The world.
+ghost use Rattle.std.specs.Prelude.{◌≡◌, ◌≤◌, [], length, IfOk, OnOk};
+ghost use Rattle.roc_world.specs.Fits.{FitsWorld};
+ghost use Rattle.roc_world.specs.Happens.{Happens};
+ghost use Rattle.roc_world.specs.Reached.{IsReached, IsEventOf};
+ghost use Rattle.roc_world.specs.Reads.{cells_of, unanswered_of};
+ghost use Rattle.roc_world.specs.World.{first_world};
+
+use crate::happen::happen;
+use crate::network::empty_network;
+use crate::nodes::{first_coords, first_servers};
+use crate::parts::Parts;
+use crate::reads::{cells_of, unanswered_of};
+use crate::{Event, Seen};
+use roc_audit::{Entry, Order};
+use roc_base::{NoMemory, TxnId};
+use roc_msg::{NodeFault, Sent};
+use roc_plan::Plan;
+use roc_rows::Cell;
+use roc_sequence::Sequence;
+use std::alloc::Global;
+use std::marker::Model;
+
+/// All nodes and the network, and what was seen and decided. It keeps its allocator.
+#[derive(Drop)]
+pub struct World {
+    alloc: Global,
+    parts: Parts,
+}
+
+impl Model for World {
+    ghost use Rattle.std.specs.Coded.{codes};
+    ghost use Rattle.roc_server.specs.Codes.{coded_state};
+    ghost use Rattle.roc_world.specs.World.{World};
+
+    ghost Value = { World };
+
+    ghost coded = { Prim.hlevel (codes, coded_state) };
+
+    ghost use Rattle.roc_world.specs.Parts.{world_of};
+
+    ghost view = { λ w. world_of w.parts };
+}
+
+impl World {
+    /// The first world of a plan with coordinators of the first numbers: each server holds the
+    /// start cells of its places, and nothing was sent.
+    pub fn new(alloc: Global, plan: &Plan, coords: u16) -> Result<World, NoMemory>
+        requires { coords ≤ 16 }
+        ensures first { IfOk result (λ world. world ≡ first_world plan.now coords) }
+        ensures reached { IfOk result (IsReached plan.now) }
+        ensures fits { IfOk result (FitsWorld plan.now) }
+    {
+        let servers = first_servers(alloc, plan, plan.workload().shards)?;
+        let coords = first_coords(alloc, coords)?;
+        Ok(World {
+            alloc,
+            parts: Parts {
+                servers,
+                coords,
+                network: empty_network(alloc),
+                history: Sequence::new(alloc),
+                order: Order::new(alloc),
+            },
+        })
+    }
+
+    /// An event happens. Takes a world of a run: one that a call left without a fault. `NoMemory`
+    /// leaves a world that is to be thrown away: nothing is promised of it but that it has no
+    /// servers, so that it is of no run, and each later call answers `Stopped`.
+    pub fn step(&mut self, plan: &Plan, event: &Event) -> Result<Seen, NodeFault>
+        requires reached { IsReached plan.now self.old }
+        requires fits { FitsWorld plan.now self.old }
+        requires event { IsEventOf plan.now self.old event.now }
+
+        // The step that the definitions fix.
+        ensures step { IfOk result (λ seen. Happens plan.now self.old event.now (record { seen = seen; world = self.new })) }
+        ensures reached { OnOk result (IsReached plan.now self.new) }
+        ensures fits { OnOk result (FitsWorld plan.now self.new) }
+        ensures coords { OnOk result (length self.new.coords ≡ length self.old.coords) }
+
+        // A world of a run is not stopped.
+        ensures going { result ≡ Err NodeFault.Stopped → ⊥ }
+        ensures no_memory { result ≡ Err NodeFault.NoMemory → self.new.servers ≡ [] }
+    {
+        if self.parts.servers.is_empty() {
+            return Err(NodeFault::Stopped);
+        }
+        // A plan is thin, so that each message's receiver exists.
+        let _ = plan.workload();
+        match happen(self.alloc, plan, &mut self.parts, event) {
+            Ok(seen) => Ok(seen),
+            Err(NoMemory) => {
+                // A part may be done and another not, so nothing is kept.
+                self.parts.servers.clear();
+                Err(NodeFault::NoMemory)
+            }
+        }
+    }
+
+    /// Every message ever sent; the first has number 1. Takes no memory.
+    pub fn sent(&self) -> &[Sent]
+        ensures { result.now ≡ self.now.sent }
+    {
+        self.parts.network.sent.as_slice()
+    }
+
+    /// The numbers of the messages that were never delivered, rising. Takes no memory.
+    pub fn undelivered(&self) -> &[u64]
+        ensures { result.now ≡ self.now.undelivered }
+    {
+        self.parts.network.undelivered.as_slice()
+    }
+
+    /// The accepted submissions and the answers, in the order in which they came. Takes no memory.
+    pub fn history(&self) -> &[Entry]
+        ensures { result.now ≡ self.now.history }
+    {
+        self.parts.history.as_slice()
+    }
+
+    /// The transactions in the order of their first decision on any server. Takes no memory.
+    pub fn order(&self) -> &[TxnId]
+        ensures { result.now ≡ self.now.order }
+    {
+        self.parts.order.as_slice()
+    }
+
+    /// The cells that are not 0, each with its number, shard by shard and by cell rising.
+    pub fn cells(&self) -> Result<Vec<(Cell, i64)>, NoMemory>
+        ensures { IfOk result (λ cells. cells.items ≡ cells_of self.now) }
+    {
+        cells_of(self.alloc, &self.parts.servers)
+    }
+
+    /// The transactions without a reply, coordinator by coordinator and by id rising.
+    pub fn unanswered(&self) -> Result<Vec<TxnId>, NoMemory>
+        ensures { IfOk result (λ ids. ids.items ≡ unanswered_of self.now) }
+    {
+        unanswered_of(self.alloc, &self.parts.coords)
+    }
+}
