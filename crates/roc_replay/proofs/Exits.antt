@@ -1,0 +1,126 @@
+-- What the sink took at each end of a replay
+use Rattle.std.proofs.Common.{◌≡◌, ℕ, zero, suc, ◌+◌, ◌<◌, ◌≤◌, List, [], ◌∷◌, ◌++◌, length, map, take, drop, get_or, Bool, true, false, cond, refl, sym, ap, subst, ◌∙◌, arith, take-append-drop, append_assoc}
+use Rattle.std.proofs.Math.Seq.{drop-cons, take-suc}
+use Rattle.std.proofs.lemmas.Bool.{ltb-true, false≢true}
+use Rattle.std.proofs.lemmas.Grind.{flat_map-append}
+use Rattle.std.proofs.lemmas.List.{append-nil}
+use Rattle.std.specs.Prelude.{Option, count_by, fold}
+use Rattle.roc_io.specs.Told.{Adds, AddsFront}
+use Rattle.roc_io.proofs.Told.{Adds-nil, Adds-trans, AddsFront-behind, AddsFront-longer}
+use Rattle.roc_plan.specs.Groups.{Plan}
+use Rattle.roc_plan.specs.WellFormed.{IsThin}
+use Rattle.roc_world.specs.World.{World}
+use Rattle.roc_world.specs.Reads.{cells_of, unanswered_of}
+use Rattle.roc_sched.specs.declared.line.Act.{Act}
+use Rattle.roc_sched.specs.declared.line.Act.TheVariants as act
+use Rattle.roc_sched.specs.declared.line.Line.{Line}
+use Rattle.roc_sched.specs.Thin.{IsThinSchedule}
+use Rattle.roc_report.specs.Line.{Row, Pending}
+use Rattle.roc_report.specs.Text.{line_text, lines_text}
+use Rattle.roc_replay.specs.declared.ended.Ended.{Ended}
+use Rattle.roc_replay.specs.declared.ended.Ended.TheVariants.{Done, Text, SinkFault, NoMemory}
+use Rattle.roc_replay.specs.Cells.{by_cell}
+use Rattle.roc_replay.specs.Closed.{IsClosed, asks_unsent}
+use Rattle.roc_replay.specs.Ended.{IsUnsent, IsFront, of_events, of_report, IsEnd}
+use Rattle.roc_replay.specs.Played.{coordinators, IsPlayedLine}
+use Rattle.roc_replay.specs.Report.{is_busy, busy_in, end_line, closing_lines, steps_lines}
+use Rattle.roc_replay.proofs.Shows.{explained}
+use Rattle.roc_replay.proofs.SoFar.{IsSoFar, count_by-append, step, played_more, text_more}
+
+-- ---- lists
+
+-- the first ones, one, and those behind it
+pub parts_at : {A : Type 0} (xs : List A) (i : ℕ) (x : A) → i < length xs → x ≡ get_or xs i x → take i xs ++ x ∷ drop (suc i) xs ≡ xs
+parts_at {A} xs i x within is =
+    ap (λ (y : A). take i xs ++ y ∷ drop (suc i) xs) is
+    ∙ ap (λ (rest : List A). take i xs ++ rest) (sym (drop-cons xs i x within))
+    ∙ take-append-drop i xs
+
+pub front_more : {A : Type 0} (xs : List A) (i : ℕ) (x : A) → i < length xs → x ≡ get_or xs i x → take i xs ++ x ∷ [] ≡ take (i + 1) xs
+front_more {A} xs i x within is =
+    let next : suc i ≡ i + 1 = omega arith in
+    ap (λ (y : A). take i xs ++ y ∷ []) is ∙ sym (take-suc xs i x within) ∙ ap (λ (n : ℕ). take n xs) next
+
+pub take_all : {A : Type 0} (xs : List A) (i : ℕ) → length xs ≤ i → take i xs ≡ xs
+take_all [] zero within = refl
+take_all [] (suc i) within = refl
+take_all (x ∷ xs) zero within = absurd (omega arith)
+take_all {A} (x ∷ xs) (suc i) within = let less : length xs ≤ i = omega arith in ap (λ (rest : List A). x ∷ rest) (take_all xs i less)
+
+front_of_all : {A : Type 0} (old new : Option (List A)) (xs : List A) → Adds old new xs → AddsFront old new xs
+front_of_all {A} old new xs adds = subst (AddsFront old new) (append-nil xs) (AddsFront-behind old new new xs [] adds (0, Adds-nil new))
+
+none_counted : {A B : Type 0} (p : B → Bool) (f : A → B) → ((a : A) → p (f a) ≡ false) → (xs : List A) → count_by p (map f xs) ≡ 0
+none_counted p f none [] = refl
+none_counted p f none (x ∷ xs) = ap (λ b. fold (λ n y. n + cond (p y) 1 0) (0 + cond b 1 0) (map f xs)) (none x) ∙ none_counted p f none xs
+
+-- ---- the ends
+
+module _ (plan : Plan) (schedule : List ℕ) (lines : List Line) (of : IsThinSchedule plan.program schedule lines) where
+  -- the next line asks for a message that was not sent
+  pub unsent_end : (i : ℕ) (line : Line) (w : World) (busy : ℕ) (old now : Option (List ℕ)) → i < length lines → line ≡ get_or lines i line
+      → IsSoFar plan (take i lines) w busy old now → asks_unsent line.act (length w.sent) ≡ true → IsUnsent plan schedule line.number old now
+  unsent_end i line w busy old now within is so asks = go line.act refl asks
+    where
+      go : (a : Act) → line.act ≡ a → asks_unsent a (length w.sent) ≡ true → IsUnsent plan schedule line.number old now
+      go (act.Submit coord proc args) e t = absurd (false≢true t)
+      go (act.Deliver k) e t = record {
+        before = take i lines;
+        line = line;
+        behind = drop (suc i) lines;
+        of_schedule = subst (IsThinSchedule plan.program schedule) (sym (parts_at lines i line within is)) of;
+        numbered = refl;
+        message = k;
+        asks = e;
+        steps = so.steps;
+        world = w;
+        played = so.played;
+        unsent = ltb-true (length w.sent) k t;
+        taken = so.taken;
+      }
+
+  -- no memory for the next line
+  pub stopped_end : (i : ℕ) (w : World) (busy : ℕ) (old now : Option (List ℕ)) → IsSoFar plan (take i lines) w busy old now → IsFront plan schedule old now
+  stopped_end i w busy old now so =
+      of_events (take i lines) (drop i lines) so.steps w (subst (IsThinSchedule plan.program schedule) (sym (take-append-drop i lines)) of) so.played (front_of_all old now _ so.taken)
+
+  -- the sink failed at the text of a line
+  pub failed_end : (i : ℕ) (line : Line) (w after : World) (text : List ℕ) (busy more : ℕ) (old now then : Option (List ℕ)) → i < length lines → line ≡ get_or lines i line
+      → IsSoFar plan (take i lines) w busy old now → IsPlayedLine plan line.act w after text more → AddsFront now then text → IsFront plan schedule old then
+  failed_end i line w after text busy more old now then within is so next front =
+      of_events (take i lines ++ line ∷ []) (drop (suc i) lines) (so.steps ++ step plan (take i lines) line so.steps w after text more so.played next ∷ []) after
+      (subst (IsThinSchedule plan.program schedule) (sym (append_assoc (take i lines) (line ∷ []) (drop (suc i) lines) ∙ parts_at lines i line within is)) of)
+      (played_more plan (take i lines) line so.steps w after text more so.played next)
+      (subst (AddsFront old then) (sym (text_more plan (take i lines) line so.steps w after text more so.played next)) (AddsFront-behind old now then _ text so.taken front))
+
+  -- ---- the closing lines
+
+  busy_in-closing : (w : World) → busy_in (closing_lines w) ≡ 0
+  busy_in-closing w =
+      let rows = map (λ e. Row e.0 e.1) (by_cell (cells_of w)) in
+      let one = count_by-append is_busy rows (map Pending (unanswered_of w) ++ end_line w ∷ []) in
+      let two = count_by-append is_busy (map Pending (unanswered_of w)) (end_line w ∷ []) in
+      let three = none_counted is_busy (λ e. Row e.0 e.1) (λ e. refl) (by_cell (cells_of w)) in
+      let four = none_counted is_busy Pending (λ id. refl) (unanswered_of w) in
+      omega arith
+
+  pub closed_end : (thin : IsThin plan) (w : World) (busy : ℕ) (old now then : Option (List ℕ)) → IsSoFar plan lines w busy old now → (e : Ended) → IsClosed plan.program w busy e now then → IsEnd plan schedule e old then
+  closed_end thin w busy old now then so (Done summary) (adds, end, refused) = record {
+    lines = lines;
+    of_schedule = of;
+    steps = so.steps;
+    world = w;
+    played = so.played;
+    taken = subst (Adds old then) (sym (flat_map-append (line_text plan.program) (steps_lines [] so.steps) (closing_lines w))) (Adds-trans old now then _ _ so.taken adds);
+    explained = explained plan coordinators so.steps w thin so.played.run;
+    end = end;
+    busy = (let all = count_by-append is_busy (steps_lines [] so.steps) (closing_lines w) in let none = busy_in-closing w in let before = so.refused in omega arith);
+  }
+  closed_end thin w busy old now then so SinkFault front =
+      of_report lines so.steps w of so.played
+      (subst (AddsFront old then) (sym (flat_map-append (line_text plan.program) (steps_lines [] so.steps) (closing_lines w))) (AddsFront-behind old now then _ _ so.taken front))
+  closed_end thin w busy old now then so NoMemory same =
+      of_report lines so.steps w of so.played
+      (subst (AddsFront old then) (sym (flat_map-append (line_text plan.program) (steps_lines [] so.steps) (closing_lines w)))
+      (AddsFront-longer old then (lines_text plan.program (steps_lines [] so.steps)) (lines_text plan.program (closing_lines w)) (front_of_all old then _ (subst (λ (x : Option (List ℕ)). Adds old x (lines_text plan.program (steps_lines [] so.steps))) (sym same) so.taken))))
+  closed_end thin w busy old now then so (Text line what) never = absurd never

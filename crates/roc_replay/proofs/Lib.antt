@@ -1,0 +1,5 @@
+pub mod Exits
+pub mod Growing
+pub mod Rising
+pub mod Shows
+pub mod SoFar

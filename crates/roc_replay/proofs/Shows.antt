@@ -1,0 +1,180 @@
+-- What the lines of a run show is the history and the order of its world
+use Rattle.std.proofs.Common.{◌≡◌, ℕ, ℤ, ◌+◌, List, [], ◌∷◌, ◌++◌, Result, Ok, Err, map, refl, sym, ap, subst, ◌∙◌}
+use Rattle.std.proofs.lemmas.Grind.{flat_map-append}
+use Rattle.std.proofs.lemmas.List.{append-nil}
+use Rattle.std.specs.List.{flat_map}
+use Rattle.std.specs.Prelude.{length, drop}
+use Rattle.roc_base.specs.declared.id.TxnId.{TxnId}
+use Rattle.roc_base.specs.declared.node.Node.{Node}
+use Rattle.roc_base.specs.declared.node.Node.TheVariants.{Server, Coord}
+use Rattle.roc_msg.specs.declared.msg.Msg.{Msg}
+use Rattle.roc_msg.specs.declared.msg.Sent.{Sent}
+use Rattle.roc_msg.specs.declared.outbox.Outgoing.{Outgoing}
+use Rattle.roc_plan.specs.Groups.{Plan}
+use Rattle.roc_plan.specs.WellFormed.{IsThin}
+use Rattle.roc_server.specs.declared.handled.Handled.{Handled as ServerHandled}
+use Rattle.roc_server.specs.declared.handled.Handled.TheVariants as server_answer
+use Rattle.roc_coord.specs.declared.handled.Handled.{Handled as CoordHandled}
+use Rattle.roc_coord.specs.declared.handled.Handled.TheVariants as coord_answer
+use Rattle.roc_coord.specs.declared.handled.SubmitFault.{SubmitFault}
+use Rattle.roc_coord.specs.declared.handled.SubmitFault.TheVariants as fault
+use Rattle.roc_coord.specs.State.{State as CoordState}
+use Rattle.roc_coord.specs.Step.{after_message}
+use Rattle.roc_audit.specs.declared.entry.Entry.{Entry}
+use Rattle.roc_audit.specs.Witness.{IsSerialWitness}
+use Rattle.roc_world.specs.declared.event.Event.{Event}
+use Rattle.roc_world.specs.declared.event.Event.TheVariants as event
+use Rattle.roc_world.specs.declared.event.Seen.{Seen}
+use Rattle.roc_world.specs.declared.event.Seen.TheVariants as seen
+use Rattle.roc_world.specs.World.{World}
+use Rattle.roc_world.specs.Happens.{Outcome, Submits, Comes, Happens, server_seen, coord_seen, answer_entries, Stepped, IsRun, begun, goes_on}
+use Rattle.roc_world.specs.Reads.{cells_of, unanswered_of}
+use Rattle.roc_world.proofs.Reached.{run_sound, witness}
+use Rattle.roc_report.specs.Line.{Deliver, Row, Pending}
+use Rattle.roc_replay.specs.Cells.{by_cell}
+use Rattle.roc_replay.specs.Report.{ignored_lines, first_lines, send_lines, answer_lines, step_lines, steps_lines, end_line, closing_lines, report}
+use Rattle.roc_replay.specs.Told.{entries_in, history_in, orders_of, orders_in, IsExplained}
+use Rattle.roc_replay.proofs.Growing.{run_lines}
+
+-- what shows nothing in each place shows nothing
+none_in_map : {A B C : Type 0} (f : B → List C) (g : A → B) → ((a : A) → f (g a) ≡ []) → (xs : List A) → flat_map f (map g xs) ≡ []
+none_in_map f g none [] = refl
+none_in_map f g none (x ∷ xs) = ap (λ (l : List _). l ++ flat_map f (map g xs)) (none x) ∙ none_in_map f g none xs
+
+none_in_both : {B C : Type 0} (f : B → List C) (xs ys : List B) → flat_map f xs ≡ [] → flat_map f ys ≡ [] → flat_map f (xs ++ ys) ≡ []
+none_in_both {B} {C} f xs ys e d = flat_map-append f xs ys ∙ ap (λ (l : List C). l ++ flat_map f ys) e ∙ d
+
+history_in-sends : (number : ℕ) (sent : List Sent) → history_in (send_lines number sent) ≡ []
+history_in-sends number [] = refl
+history_in-sends number (s ∷ rest) = history_in-sends (number + 1) rest
+
+orders_in-sends : (number : ℕ) (sent : List Sent) → orders_in (send_lines number sent) ≡ []
+orders_in-sends number [] = refl
+orders_in-sends number (s ∷ rest) = orders_in-sends (number + 1) rest
+
+-- ---- a step shows what it adds to the history
+
+history_in-step : (before : List Sent) (step : Stepped)
+    → history_in (step_lines before step) ≡ history_in (first_lines step.event step.outcome.seen) ++ history_in (answer_lines step.outcome.seen)
+history_in-step before step =
+    let sends = send_lines (length before + 1) (drop (length before) step.outcome.world.sent) in
+    flat_map-append entries_in (first_lines step.event step.outcome.seen) (sends ++ answer_lines step.outcome.seen)
+    ∙ ap (λ (l : List Entry). history_in (first_lines step.event step.outcome.seen) ++ l)
+    (flat_map-append entries_in sends (answer_lines step.outcome.seen)
+    ∙ ap (λ (l : List Entry). l ++ history_in (answer_lines step.outcome.seen)) (history_in-sends (length before + 1) (drop (length before) step.outcome.world.sent)))
+
+-- o adds to the history of w what these lines show
+Gains : World → Event → Outcome → Type 0
+Gains w e o = o.world.history ≡ w.history ++ (history_in (first_lines e o.seen) ++ history_in (answer_lines o.seen))
+
+submit_gains : (w : World) (coord proc : ℕ) (args : List ℤ) (after : CoordState) (outs : List Outgoing) (r : Result TxnId SubmitFault) (o : Outcome)
+    → Submits w coord proc args after outs r o → Gains w (event.Submit coord proc args) o
+unfolding Gains
+submit_gains w coord proc args after outs (Ok id) o e = subst (λ (x : Outcome). Gains w (event.Submit coord proc args) x) (sym e) refl
+submit_gains w coord proc args after outs (Err fault.Spent) o e = subst (λ (x : Outcome). Gains w (event.Submit coord proc args) x) (sym e) (sym (append-nil w.history))
+submit_gains w coord proc args after outs (Err fault.Busy) o e = subst (λ (x : Outcome). Gains w (event.Submit coord proc args) x) (sym e) (sym (append-nil w.history))
+submit_gains w coord proc args after outs (Err fault.Stopped) o e = absurd e
+submit_gains w coord proc args after outs (Err fault.NoProc) o e = absurd e
+submit_gains w coord proc args after outs (Err fault.Args) o e = absurd e
+submit_gains w coord proc args after outs (Err fault.NoMemory) o e = absurd e
+
+server_shows : (k : ℕ) (a : ServerHandled) → history_in (Deliver k ∷ ignored_lines (server_seen a)) ++ history_in (answer_lines (server_seen a)) ≡ []
+server_shows k server_answer.Done = refl
+server_shows k (server_answer.Ignored reason) = refl
+
+coord_shows : (k : ℕ) (a : CoordHandled) → history_in (Deliver k ∷ ignored_lines (coord_seen a)) ++ history_in (answer_lines (coord_seen a)) ≡ answer_entries a
+coord_shows k coord_answer.Done = refl
+coord_shows k (coord_answer.Answered id reply) = refl
+coord_shows k (coord_answer.Ignored reason) = refl
+
+comes_gains : (plan : Plan) (w : World) (k : ℕ) (msg : Msg) (to : Node) (o : Outcome) → Comes plan w k msg to o → Gains w (event.Deliver k) o
+unfolding Gains
+comes_gains plan w k msg (Server shard) o (s, r, there, step, e) =
+    subst (λ (x : Outcome). Gains w (event.Deliver k) x) (sym e)
+    (sym (append-nil w.history) ∙ ap (λ (l : List Entry). w.history ++ l) (sym (server_shows k r.answer)))
+comes_gains plan w k msg (Coord number) o (s, there, e) =
+    subst (λ (x : Outcome). Gains w (event.Deliver k) x) (sym e)
+    (ap (λ (l : List Entry). w.history ++ l) (sym (coord_shows k (after_message plan s msg).answer)))
+
+happens_gains : (plan : Plan) (w : World) (e : Event) (o : Outcome) → Happens plan w e o → Gains w e o
+happens_gains plan w (event.Submit coord proc args) o (s, there, h) = submit_gains w coord proc args _ _ _ o h
+happens_gains plan w (event.Deliver k) o (m, some, there, h) = comes_gains plan w k m.msg m.to o h
+
+-- the lines of a run show its history
+pub run_history : (plan : Plan) (coords : ℕ) (steps : List Stepped) (w : World) → IsRun plan coords steps w → history_in (steps_lines [] steps) ≡ w.history
+unfolding Gains
+run_history plan coords steps w begun = refl
+run_history plan coords steps w (goes_on {steps = before} {w = old} e o r h) =
+    let step : Stepped = record { event = e; outcome = o } in
+    ap history_in (run_lines plan coords before old r step)
+    ∙ flat_map-append entries_in (steps_lines [] before) (step_lines old.sent step)
+    ∙ ap (λ (l : List Entry). l ++ history_in (step_lines old.sent step)) (run_history plan coords before old r)
+    ∙ ap (λ (l : List Entry). old.history ++ l) (history_in-step old.sent step)
+    ∙ sym (happens_gains plan old e o h)
+
+-- ---- and no order
+
+orders_in-first : (e : Event) (s : Seen) → orders_in (first_lines e s) ≡ []
+orders_in-first (event.Submit coord proc args) (seen.Submitted id) = refl
+orders_in-first (event.Submit coord proc args) seen.Spent = refl
+orders_in-first (event.Submit coord proc args) seen.Busy = refl
+orders_in-first (event.Submit coord proc args) seen.Done = refl
+orders_in-first (event.Submit coord proc args) (seen.Answered id reply) = refl
+orders_in-first (event.Submit coord proc args) (seen.Ignored reason) = refl
+orders_in-first (event.Deliver k) (seen.Submitted id) = refl
+orders_in-first (event.Deliver k) seen.Spent = refl
+orders_in-first (event.Deliver k) seen.Busy = refl
+orders_in-first (event.Deliver k) seen.Done = refl
+orders_in-first (event.Deliver k) (seen.Answered id reply) = refl
+orders_in-first (event.Deliver k) (seen.Ignored reason) = refl
+
+orders_in-answer : (s : Seen) → orders_in (answer_lines s) ≡ []
+orders_in-answer (seen.Answered id reply) = refl
+orders_in-answer (seen.Submitted id) = refl
+orders_in-answer seen.Spent = refl
+orders_in-answer seen.Busy = refl
+orders_in-answer seen.Done = refl
+orders_in-answer (seen.Ignored reason) = refl
+
+orders_in-steps : (before : List Sent) (steps : List Stepped) → orders_in (steps_lines before steps) ≡ []
+orders_in-steps before [] = refl
+orders_in-steps before (step ∷ rest) =
+    none_in_both orders_of (step_lines before step) (steps_lines step.outcome.world.sent rest)
+    (none_in_both orders_of (first_lines step.event step.outcome.seen) _ (orders_in-first step.event step.outcome.seen)
+    (none_in_both orders_of (send_lines (length before + 1) (drop (length before) step.outcome.world.sent)) _ (orders_in-sends (length before + 1) (drop (length before) step.outcome.world.sent)) (orders_in-answer step.outcome.seen)))
+    (orders_in-steps step.outcome.world.sent rest)
+
+-- ---- the closing lines show the order, and nothing of the history
+
+closing_history : (w : World) → history_in (closing_lines w) ≡ []
+closing_history w =
+    none_in_both entries_in (map (λ e. Row e.0 e.1) (by_cell (cells_of w))) _ (none_in_map entries_in (λ e. Row e.0 e.1) (λ e. refl) (by_cell (cells_of w)))
+    (none_in_both entries_in (map Pending (unanswered_of w)) (end_line w ∷ []) (none_in_map entries_in Pending (λ id. refl) (unanswered_of w)) refl)
+
+closing_orders : (w : World) → orders_in (closing_lines w) ≡ w.order ∷ []
+closing_orders w =
+    ap (λ (l : List (List TxnId)). w.order ∷ l)
+    (none_in_both orders_of (map (λ e. Row e.0 e.1) (by_cell (cells_of w))) _ (none_in_map orders_of (λ e. Row e.0 e.1) (λ e. refl) (by_cell (cells_of w)))
+    (none_in_both orders_of (map Pending (unanswered_of w)) (end_line w ∷ []) (none_in_map orders_of Pending (λ id. refl) (unanswered_of w)) refl))
+
+-- ---- a report
+
+pub report_history : (plan : Plan) (coords : ℕ) (steps : List Stepped) (w : World) → IsRun plan coords steps w → history_in (report steps w) ≡ w.history
+report_history plan coords steps w r =
+    flat_map-append entries_in (steps_lines [] steps) (closing_lines w)
+    ∙ ap (λ (l : List Entry). history_in (steps_lines [] steps) ++ l) (closing_history w)
+    ∙ append-nil (history_in (steps_lines [] steps))
+    ∙ run_history plan coords steps w r
+
+pub report_orders : (steps : List Stepped) (w : World) → orders_in (report steps w) ≡ w.order ∷ []
+report_orders steps w =
+    flat_map-append orders_of (steps_lines [] steps) (closing_lines w)
+    ∙ ap (λ (l : List (List TxnId)). l ++ orders_in (closing_lines w)) (orders_in-steps [] steps)
+    ∙ closing_orders w
+
+pub explained : (plan : Plan) (coords : ℕ) (steps : List Stepped) (w : World) → IsThin plan → IsRun plan coords steps w → IsExplained plan.program (report steps w)
+explained plan coords steps w thin r = record {
+  order = w.order;
+  shown = report_orders steps w;
+  serial = subst (λ (h : List Entry). IsSerialWitness plan.program h w.order) (sym (report_history plan coords steps w r)) (witness plan thin w (run_sound plan thin coords steps w r));
+}

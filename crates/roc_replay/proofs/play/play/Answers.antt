@@ -1,0 +1,46 @@
+-- What is so far, goes on with each line, and what it comes to at each end.
+use Rattle.std.proofs.Common.{◌≡◌, ◌+◌, List, length, take, true, refl, subst, ◌∙◌}
+use Rattle.roc_io.specs.Told.{Adds, AddsFront}
+use Rattle.roc_sched.specs.declared.line.Line.{Line}
+use Rattle.roc_replay.specs.Closed.{asks_unsent}
+use Rattle.roc_replay.proofs.Exits.{unsent_end, stopped_end, failed_end, closed_end, front_more, take_all}
+use Rattle.roc_replay.proofs.Rising.{cells_rise}
+use Rattle.roc_replay.proofs.SoFar.{IsSoFar, nothing_so_far, one_more}
+use Rattle.roc_replay.proofs.play.play.Goals as goal
+
+pub loop-line-init : goal.loop-line-init
+loop-line-init g c = (refl, nothing_so_far c.args.plan.now c.in-Ok.world _ c.in-Ok.ensures.first c.in-Ok.ensures.fits)
+
+pub returns-then-is_unsent-clause-ends : goal.returns-then-is_unsent-clause-ends
+returns-then-is_unsent-clause-ends g c schedule of =
+    let asks : asks_unsent c.line-item.result.act (length c.loop-line.world.sent) ≡ true = cc in
+    unsent_end c.args.plan.now schedule c.args.lines.now of c.loop-line.line-index c.line-item.result c.loop-line.world c.loop-line.busy _ _ c.loop-line-test.true c.line-item.is c.loop-line.invariant.1 asks
+
+pub returns-in_default-play_line-clause-ends : goal.returns-in_default-play_line-clause-ends
+returns-in_default-play_line-clause-ends g c schedule of =
+    stopped_end c.args.plan.now schedule c.args.lines.now of c.loop-line.line-index c.loop-line.world c.loop-line.busy _ _ c.loop-line.invariant.1
+
+pub returns-in-Failed-clause-ends : goal.returns-in-Failed-clause-ends
+returns-in-Failed-clause-ends g c schedule of =
+    failed_end c.args.plan.now schedule c.args.lines.now of c.loop-line.line-index c.line-item.result c.loop-line.world c.play_line.new.world _ c.loop-line.busy c.in-Ok-play_line.played.busy _ _ _
+    c.loop-line-test.true c.line-item.is c.loop-line.invariant.1 c.in-Ok-play_line.ensures.played
+    (subst (AddsFront (g.S.Sink.taken c.loop-line.sink) (g.S.Sink.taken c.write.new.self)) c.deref.ensures.value c.in-Failed.ensures.taken)
+
+pub loop-line-preserved : goal.loop-line-preserved
+loop-line-preserved g c = (
+  c.in_default-write.ensures.cause ∙ c.loop-line.invariant.0,
+  subst (λ (lines : List Line). IsSoFar c.args.plan.now lines c.play_line.new.world (c.loop-line.busy + c.in-Ok-play_line.played.busy) (g.S.Sink.taken c.args.sink.now) (g.S.Sink.taken c.write.new.self))
+      (front_more c.args.lines.now c.loop-line.line-index c.line-item.result c.loop-line-test.true c.line-item.is)
+      (one_more c.args.plan.now (take c.loop-line.line-index c.args.lines.now) c.line-item.result c.loop-line.world c.play_line.new.world _ c.loop-line.busy c.in-Ok-play_line.played.busy _ _ _
+      c.loop-line.invariant.1 c.in-Ok-play_line.ensures.played c.in-Ok-play_line.ensures.fits c.in-Ok-play_line.ensures.coords c.in-Ok-play_line.ensures.few
+      (subst (Adds (g.S.Sink.taken c.loop-line.sink) (g.S.Sink.taken c.write.new.self)) c.deref.ensures.value c.in_default-write.ensures.taken)),
+)
+
+pub close-requires : goal.close-requires
+close-requires g c = let so = c.loop-line.invariant.1 in cells_rise c.args.plan.now _ so.steps c.loop-line.world c.requires.thin so.played.run
+
+pub returns-clause-ends : goal.returns-clause-ends
+returns-clause-ends g c schedule of =
+    closed_end c.args.plan.now schedule c.args.lines.now of c.requires.thin c.loop-line.world c.loop-line.busy _ _ _
+    (subst (λ (lines : List Line). IsSoFar c.args.plan.now lines c.loop-line.world c.loop-line.busy (g.S.Sink.taken c.args.sink.now) (g.S.Sink.taken c.loop-line.sink)) (take_all c.args.lines.now c.loop-line.line-index c.loop-line-test.false) c.loop-line.invariant.1)
+    c.close.result c.close.ensures.closed

@@ -1,0 +1,96 @@
+-- The report of a run, as lines: docs/FORMATS.md, "Report"
+use Rattle.std.specs.Prelude.{ℕ, ℤ, ◌+◌, List, [], ◌∷◌, ◌++◌, drop, length, map, Bool, true, false, count_by}
+use Rattle.roc_msg.specs.declared.msg.Sent.{Sent}
+use Rattle.roc_audit.specs.declared.entry.Entry.{Entry}
+use Rattle.roc_audit.specs.declared.entry.Entry.TheVariants as entry
+use Rattle.roc_world.specs.declared.event.Event.{Event}
+use Rattle.roc_world.specs.declared.event.Event.TheVariants as event
+use Rattle.roc_world.specs.declared.event.Seen.{Seen}
+use Rattle.roc_world.specs.declared.event.Seen.TheVariants as seen
+use Rattle.roc_world.specs.World.{World}
+use Rattle.roc_world.specs.Happens.{Stepped}
+use Rattle.roc_world.specs.Reads.{cells_of, unanswered_of}
+use Rattle.roc_report.specs.Line.{Line, Submit, Busy, Spent, Deliver, Ignored, Send, Answer, Order, Row, Pending, End}
+use Rattle.roc_replay.specs.Cells.{by_cell}
+
+-- ---- an event
+
+-- the first line of a submission. Nothing else is seen of one
+abbrev pub submission_lines : (coord proc : ℕ) → List ℤ → Seen → List Line
+submission_lines coord proc args (seen.Submitted id) = Submit id proc args ∷ []
+submission_lines coord proc args seen.Spent = Spent coord ∷ []
+submission_lines coord proc args seen.Busy = Busy coord ∷ []
+submission_lines coord proc args seen.Done = []
+submission_lines coord proc args (seen.Answered id reply) = []
+submission_lines coord proc args (seen.Ignored reason) = []
+
+-- why a message was ignored, if it was
+abbrev pub ignored_lines : Seen → List Line
+ignored_lines (seen.Ignored reason) = Ignored reason ∷ []
+ignored_lines (seen.Submitted id) = []
+ignored_lines seen.Spent = []
+ignored_lines seen.Busy = []
+ignored_lines seen.Done = []
+ignored_lines (seen.Answered id reply) = []
+
+-- what happened, and what became of it
+abbrev pub first_lines : Event → Seen → List Line
+first_lines (event.Submit coord proc args) seen = submission_lines coord proc args seen
+first_lines (event.Deliver number) seen = Deliver number ∷ ignored_lines seen
+
+-- the messages that were sent, the first of them with this number
+abbrev pub send_lines : ℕ → List Sent → List Line
+send_lines number [] = []
+send_lines number (sent ∷ rest) = Send number sent ∷ send_lines (number + 1) rest
+
+-- the reply, if a transaction has it now
+abbrev pub answer_lines : Seen → List Line
+answer_lines (seen.Answered id reply) = Answer id reply ∷ []
+answer_lines (seen.Submitted id) = []
+answer_lines seen.Spent = []
+answer_lines seen.Busy = []
+answer_lines seen.Done = []
+answer_lines (seen.Ignored reason) = []
+
+-- the lines of a step before which these messages were sent
+abbrev pub step_lines : List Sent → Stepped → List Line
+step_lines before step =
+    first_lines step.event step.outcome.seen
+    ++ (send_lines (length before + 1) (drop (length before) step.outcome.world.sent) ++ answer_lines step.outcome.seen)
+
+-- the lines of steps, one after another, before the first of which these messages were sent
+abbrev pub steps_lines : List Sent → List Stepped → List Line
+steps_lines before [] = []
+steps_lines before (step ∷ rest) = step_lines before step ++ steps_lines step.outcome.world.sent rest
+
+-- ---- the end
+
+abbrev pub is_answer : Entry → Bool
+is_answer (entry.Answered id reply) = true
+is_answer (entry.Submitted id proc args) = false
+
+-- how many transactions were answered
+abbrev pub answered_in : List Entry → ℕ
+answered_in history = count_by is_answer history
+
+abbrev pub end_line : World → Line
+end_line w = End (answered_in w.history) (length (unanswered_of w)) (length w.sent)
+
+-- the serial order, the cells that are not 0, the transactions without a reply, and the counts
+abbrev pub closing_lines : World → List Line
+closing_lines w =
+    Order w.order ∷ (map (λ e. Row e.0 e.1) (by_cell (cells_of w)) ++ (map Pending (unanswered_of w) ++ end_line w ∷ []))
+
+abbrev pub is_busy : Line → Bool
+is_busy (Busy coord) = true
+is_busy _ = false
+
+-- how many submissions were refused as busy
+abbrev pub busy_in : List Line → ℕ
+busy_in lines = count_by is_busy lines
+
+-- ---- a run
+
+-- the report of a run that these steps lead to w
+abbrev pub report : List Stepped → World → List Line
+report steps w = steps_lines [] steps ++ closing_lines w

@@ -1,0 +1,128 @@
+//! The text of an event's lines.
+ghost use Rattle.std.specs.Prelude.{◌≡◌, ◌+◌, ◌^◌, ◌<◌, ◌≤◌, ◌++◌, drop, length, IfOk, OnOk};
+ghost use Rattle.roc_plan.specs.Workload.{program};
+ghost use Rattle.roc_report.specs.Text.{lines_text};
+ghost use Rattle.roc_replay.specs.Events.{event_of};
+ghost use Rattle.roc_replay.specs.Report.{first_lines, ignored_lines, send_lines, answer_lines};
+
+use roc_base::NoMemory;
+use roc_msg::Sent;
+use roc_plan::Workload;
+use roc_report::{ReportLine, append};
+use roc_sched::Act;
+use roc_world::Seen;
+use std::alloc::Global;
+
+/// The text of the lines of an event: what happened, the messages that were sent, which are those
+/// behind the first `before`, and the reply, where a transaction has it now.
+pub fn event_text(
+    alloc: Global,
+    workload: &Workload,
+    act: &Act,
+    seen: &Seen,
+    sent: &[Sent],
+    before: usize,
+) -> Result<Vec<u8>, NoMemory>
+    requires { before ≤ length sent.now }
+    ensures { IfOk result (λ text. text.items
+        ≡ lines_text (program workload.now) (first_lines (event_of act.now) seen.now ++ (send_lines (before + 1) (drop before sent.now) ++ answer_lines seen.now))) }
+{
+    let mut text = Vec::new(alloc);
+    push_first(alloc, &mut text, workload, act, seen)?;
+    push_sends(
+        alloc,
+        &mut text,
+        workload,
+        before as u64 + 1,
+        &sent[before..],
+    )?;
+    push_answer(alloc, &mut text, workload, seen)?;
+    Ok(text)
+}
+
+// Adds what happened, and what became of it. Nothing else is seen of a submission than that it was
+// accepted or refused.
+fn push_first(
+    alloc: Global,
+    text: &mut Vec<u8>,
+    workload: &Workload,
+    act: &Act,
+    seen: &Seen,
+) -> Result<(), NoMemory>
+    ensures { OnOk result (text.new.items ≡ text.old.items ++ lines_text (program workload.now) (first_lines (event_of act.now) seen.now)) }
+{
+    match act {
+        Act::Submit { coord, proc, args } => {
+            let line = match seen {
+                Seen::Submitted(id) => ReportLine::Submit {
+                    id: *id,
+                    proc: *proc,
+                    args,
+                },
+                Seen::Spent => ReportLine::Spent(*coord),
+                Seen::Busy => ReportLine::Busy(*coord),
+                Seen::Done | Seen::Answered { .. } | Seen::Ignored(_) => return Ok(()),
+            };
+            append(alloc, text, workload, &line)
+        }
+        Act::Deliver(number) => {
+            append(alloc, text, workload, &ReportLine::Deliver(*number))?;
+            push_ignored(alloc, text, workload, seen)
+        }
+    }
+}
+
+// Adds why a message was ignored, if it was.
+fn push_ignored(
+    alloc: Global,
+    text: &mut Vec<u8>,
+    workload: &Workload,
+    seen: &Seen,
+) -> Result<(), NoMemory>
+    ensures { OnOk result (text.new.items ≡ text.old.items ++ lines_text (program workload.now) (ignored_lines seen.now)) }
+{
+    match seen {
+        Seen::Ignored(reason) => append(alloc, text, workload, &ReportLine::Ignored(*reason)),
+        Seen::Submitted(_) | Seen::Spent | Seen::Busy | Seen::Done | Seen::Answered { .. } => Ok(
+            (),
+        ),
+    }
+}
+
+// Adds the messages that were sent, the first of them with this number.
+fn push_sends(
+    alloc: Global,
+    text: &mut Vec<u8>,
+    workload: &Workload,
+    first: u64,
+    sent: &[Sent],
+) -> Result<(), NoMemory>
+    requires { first + length sent.now < 2 ^ 64 }
+    ensures { OnOk result (text.new.items ≡ text.old.items ++ lines_text (program workload.now) (send_lines first sent.now)) }
+{
+    for (index, sent) in sent.iter().enumerate() {
+        let number = first + index as u64;
+        append(alloc, text, workload, &ReportLine::Send { number, sent })?;
+    }
+    Ok(())
+}
+
+// Adds the reply, if a transaction has it now.
+fn push_answer(
+    alloc: Global,
+    text: &mut Vec<u8>,
+    workload: &Workload,
+    seen: &Seen,
+) -> Result<(), NoMemory>
+    ensures { OnOk result (text.new.items ≡ text.old.items ++ lines_text (program workload.now) (answer_lines seen.now)) }
+{
+    match seen {
+        Seen::Answered { id, reply } => append(
+            alloc,
+            text,
+            workload,
+            &ReportLine::Answer { id: *id, reply },
+        ),
+        Seen::Submitted(_) | Seen::Spent | Seen::Busy | Seen::Done | Seen::Ignored(_) => Ok(()),
+    }
+}

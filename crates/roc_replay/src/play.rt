@@ -1,0 +1,141 @@
+//! The lines of a schedule, one after another.
+ghost use Rattle.std.specs.Prelude.{◌≡◌, ℕ, ◌≤◌, List, length, IfOk, OnOk};
+ghost use Rattle.std.specs.List.{AllByRecursion};
+ghost use Rattle.roc_io.specs.Cause.{HasCause};
+ghost use Rattle.roc_plan.specs.WellFormed.{IsThin};
+ghost use Rattle.roc_world.specs.Fits.{FitsWorld};
+ghost use Rattle.roc_world.specs.Reached.{IsReached, IsEventOf};
+ghost use Rattle.roc_world.specs.Reads.{cells_of};
+ghost use Rattle.roc_sched.specs.Thin.{IsThinSchedule, FitsProgram};
+ghost use Rattle.roc_replay.specs.Cells.{by_cell};
+ghost use Rattle.roc_replay.specs.Closed.{IsClosed, asks_unsent};
+ghost use Rattle.roc_replay.specs.Ended.{IsEnd, sink_failed};
+ghost use Rattle.roc_replay.specs.Events.{event_of};
+ghost use Rattle.roc_replay.specs.Played.{IsPlayedLine};
+ghost use Rattle.roc_replay.specs.Report.{first_lines, busy_in};
+
+use crate::Ended;
+use crate::closing::last_lines;
+use crate::lines::event_text;
+use roc_base::NoMemory;
+use roc_io::{Sink, Written};
+use roc_plan::Plan;
+use roc_sched::{Act, Line, What};
+use roc_world::{Event, Seen, World};
+use std::alloc::Global;
+
+/// How many coordinators there are.
+const COORDINATORS: u16 = 16;
+
+/// Plays the lines of a schedule, one after another, from the first world on. The sink takes the
+/// lines of each event in one piece, and the closing lines in one piece at the end.
+pub fn play<S: Sink>(alloc: Global, plan: &Plan, lines: &[Line], sink: &mut S) -> Ended
+    requires thin { IsThin plan.now }
+    requires fits { AllByRecursion (λ line. FitsProgram plan.now.program line.act) lines.now }
+    ensures ends { (schedule : List ℕ) → IsThinSchedule plan.now.program schedule lines.now → IsEnd plan.now schedule result (S.taken sink.old) (S.taken sink.new) }
+    ensures sink { HasCause (sink_failed result) (S.faults sink.old) (S.faults sink.new) }
+{
+    let Ok(mut world) = World::new(alloc, plan, COORDINATORS) else {
+        return Ended::NoMemory;
+    };
+    let mut busy = 0;
+    for line in lines {
+        if is_unsent(&line.act, world.sent().len()) {
+            return Ended::Text {
+                line: line.number,
+                what: What::Message,
+            };
+        }
+        let Ok(played) = play_line(alloc, plan, &mut world, &line.act) else {
+            return Ended::NoMemory;
+        };
+        busy += played.busy;
+        if let Written::Failed = sink.write(&played.text) {
+            return Ended::SinkFault;
+        }
+    }
+    close(alloc, plan, &world, busy, sink)
+}
+
+// Writes the closing lines.
+fn close<S: Sink>(alloc: Global, plan: &Plan, world: &World, busy: u64, sink: &mut S) -> Ended
+    requires { by_cell (cells_of world.now) ≡ cells_of world.now }
+    ensures closed { IsClosed plan.now.program world.now busy result (S.taken sink.old) (S.taken sink.new) }
+    ensures sink { HasCause (sink_failed result) (S.faults sink.old) (S.faults sink.new) }
+{
+    let Ok(closing) = last_lines(alloc, plan, world, busy) else {
+        return Ended::NoMemory;
+    };
+    match sink.write(&closing.text) {
+        Written::Ok => Ended::Done(closing.summary),
+        Written::Failed => Ended::SinkFault,
+    }
+}
+
+// Whether a line asks for a message that was not sent, where so many were.
+fn is_unsent(act: &Act, sent: usize) -> bool
+    ensures { result ≡ asks_unsent act.now sent }
+{
+    match act {
+        Act::Deliver(number) => *number > sent as u64,
+        Act::Submit { .. } => false,
+    }
+}
+
+// What one line of a schedule adds to a report.
+#[derive(Debug, Drop)]
+struct Played {
+    text: Vec<u8>,
+    busy: u64,
+}
+
+// Plays one line: its event happens, and the lines that tell it are given as text.
+fn play_line(alloc: Global, plan: &Plan, world: &mut World, act: &Act) -> Result<Played, NoMemory>
+    requires reached { IsReached plan.now world.old }
+    requires fits { FitsWorld plan.now world.old }
+    requires event { IsEventOf plan.now world.old (event_of act.now) }
+    ensures played { IfOk result (λ played. IsPlayedLine plan.now act.now world.old world.new played.text.items played.busy) }
+    ensures fits { OnOk result (FitsWorld plan.now world.new) }
+    ensures coords { OnOk result (length world.new.coords ≡ length world.old.coords) }
+    ensures few { IfOk result (λ played. played.busy ≤ 1) }
+{
+    let before = world.sent().len();
+    let event = event_of(act)?;
+    // A world that is of a run is not stopped, so that the one fault is want of memory.
+    let Ok(seen) = world.step(plan, &event) else {
+        return Err(NoMemory);
+    };
+    let text = event_text(alloc, plan.workload(), act, &seen, world.sent(), before)?;
+    Ok(Played {
+        text,
+        busy: busy_lines(act, &seen),
+    })
+}
+
+// The event that a line asks for.
+fn event_of(act: &Act) -> Result<Event, NoMemory>
+    ensures { IfOk result (λ event. event ≡ event_of act.now) }
+{
+    Ok(match act {
+        Act::Submit { coord, proc, args } => Event::Submit {
+            coord: *coord,
+            proc: *proc,
+            args: args.clone()?,
+        },
+        Act::Deliver(number) => Event::Deliver(*number),
+    })
+}
+
+// How many lines say that a submission was refused as busy.
+fn busy_lines(act: &Act, seen: &Seen) -> u64
+    ensures lines { result ≡ busy_in (first_lines (event_of act.now) seen.now) }
+    ensures few { result ≤ 1 }
+{
+    match act {
+        Act::Submit { .. } => match seen {
+            Seen::Busy => 1,
+            _ => 0,
+        },
+        Act::Deliver(_) => 0,
+    }
+}

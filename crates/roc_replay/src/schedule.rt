@@ -1,0 +1,45 @@
+//! A whole replay.
+ghost use Rattle.std.specs.Prelude.{◌≡◌, List};
+ghost use Rattle.roc_io.specs.Cause.{HasCause};
+ghost use Rattle.roc_io.specs.Told.{Adds};
+ghost use Rattle.roc_report.specs.Line.{Line};
+ghost use Rattle.roc_report.specs.Text.{lines_text};
+ghost use Rattle.roc_replay.specs.Ended.{IfDone, IfMessage, IfRefused, OnStopped, sink_failed, IsReplayed, IsUnsent, IsRefused, IsFront};
+ghost use Rattle.roc_replay.specs.Told.{IsExplained};
+
+use crate::Ended;
+use crate::play::play;
+use roc_io::Sink;
+use roc_plan::Plan;
+use roc_sched::laws::lines_fit;
+use roc_sched::{TextFault, parse_thin};
+use std::alloc::Global;
+
+/// Replays a schedule of a plan on the real nodes, from the first world with 16 coordinators on,
+/// and writes the report. The lines of an event go out in one piece after it, the closing lines in
+/// one piece at the end.
+pub fn replay<S: Sink>(alloc: Global, plan: &Plan, schedule: &[u8], sink: &mut S) -> Ended
+    // Done: the sink took the report of the run of exactly this schedule, and the summary is that of its end line.
+    ensures done { IfDone result (λ summary. IsReplayed plan.now schedule.now summary (S.taken sink.old) (S.taken sink.new)) }
+    // ..and what the sink took explains itself: its one `order` line is a serial witness of the history that its own
+    // `submit` and `answer` lines show.
+    ensures explained { IfDone result (λ _. (lines : List Line) × Adds (S.taken sink.old) (S.taken sink.new) (lines_text plan.now.program lines) × IsExplained plan.now.program lines) }
+    // A message that was not sent is found at the first line that asks for one; the lines before it are written.
+    ensures message { IfMessage result (λ line. IsUnsent plan.now schedule.now line (S.taken sink.old) (S.taken sink.new)) }
+    // Any other fault of the text comes exactly where the bytes are no thin schedule; nothing is written.
+    ensures refused { IfRefused result (λ line what. IsRefused plan.now.program schedule.now line what (S.taken sink.old) (S.taken sink.new)) }
+    // The sink is blamed only where its count of failures rose, and no other end leaves that count risen.
+    ensures sink { HasCause (sink_failed result) (S.faults sink.old) (S.faults sink.new) }
+    // What the sink took of a replay that stopped is a front of the report so far.
+    ensures front { OnStopped result (IsFront plan.now schedule.now (S.taken sink.old) (S.taken sink.new)) }
+{
+    let lines = match parse_thin(alloc, plan, schedule) {
+        Ok(lines) => lines,
+        Err(TextFault::At { line, what }) => return Ended::Text { line, what },
+        Err(TextFault::NoMemory) => return Ended::NoMemory,
+    };
+    // The lines fit the plan, and a plan is thin.
+    lines_fit();
+    let _ = plan.workload();
+    play(alloc, plan, lines.as_slice(), sink)
+}
