@@ -1,0 +1,106 @@
+-- What the status says, where a fault was told
+use Rattle.std.proofs.Common.{◌≡◌, inl, inr, ◌↔◌, ℕ, ◌==◌, Bool, true, false, List, length, Option, codes, refl, sym, ap, subst, ◌∙◌, arith, ◌∷◌}
+use Rattle.std.proofs.lemmas.List.{take_all}
+use Rattle.roc_io.specs.Cause.{HasCause}
+use Rattle.roc_io.specs.Told.{Adds, AddsFront}
+use Rattle.roc_plan.specs.Groups.{Plan}
+use Rattle.roc_replay.specs.Ended.{IsUnsent, IsFront, of_events}
+use Rattle.roc_cli.specs.declared.fault.Fault.{Fault}
+use Rattle.roc_cli.specs.declared.fault.Fault.TheVariants.{Words, TooLong, At, Memory, File, Sink}
+use Rattle.roc_cli.specs.Words.{AreReplayWords}
+use Rattle.roc_cli.specs.Says.{Says, word_line}
+use Rattle.roc_cli.specs.Fault.{IsTold}
+use Rattle.roc_cli.specs.Replayed.{TakesFront, nothing, something}
+use Rattle.roc_cli.specs.Refused.{IsRefused, long_workload, no_workload, long_schedule, no_schedule, not_sent}
+use Rattle.roc_cli.specs.Ends.{Fails, file_failed, sink_failed}
+
+-- a file is refused only where the words name it
+pub refused_words : (content : List ℕ → Option (List ℕ)) (words : List (List ℕ)) (old new : Option (List ℕ)) (line : List ℕ)
+    → IsRefused content words old new line → AreReplayWords words
+refused_words content words old new _ (long_workload workload schedule given more same) = (workload, schedule, given)
+refused_words content words old new _ (no_workload workload schedule given none same) = (workload, schedule, given)
+refused_words content words old new _ (long_schedule workload schedule plan given planned more same) = (workload, schedule, given)
+refused_words content words old new _ (no_schedule plan bytes read none same) = (read.workload, read.schedule, read.given)
+refused_words content words old new _ (not_sent plan bytes read number h) = (read.workload, read.schedule, read.given)
+
+-- a status that is another number
+pub other : (words : List (List ℕ)) (status n : ℕ) → status ≡ n → AreReplayWords words → (n ≡ 2 → ⊥) → (status ≡ 2) ↔ (AreReplayWords words → ⊥)
+other words status n e are differs = (λ f. absurd (differs (sym e ∙ f)), λ none. absurd (none are))
+
+-- status 2 is that of the words alone
+pub status_of_words : (content : List ℕ → Option (List ℕ)) (words : List (List ℕ)) (old new : Option (List ℕ)) (fault : Fault) (status : ℕ) (taken_old taken_new : Option (List ℕ)) (faults_old faults_new : ℕ)
+    → Fails content words old new fault → IsTold fault status taken_old taken_new faults_old faults_new
+    → (status ≡ 2) ↔ (AreReplayWords words → ⊥)
+status_of_words content words old new Words status to tn fo fn h (e, says) = (λ _. h.0, λ _. e)
+status_of_words content words old new (TooLong file) status to tn fo fn h (e, says) = other words status 3 e (refused_words content words old new _ h) (λ f. omega arith)
+status_of_words content words old new (At file line what) status to tn fo fn h (inl (e, says)) = other words status 3 e (refused_words content words old new _ h) (λ f. omega arith)
+status_of_words content words old new (At file line what) status to tn fo fn h (inr (e, says)) = other words status 4 e (refused_words content words old new _ h) (λ f. omega arith)
+status_of_words content words old new Memory status to tn fo fn h (e, says) = other words status 4 e h.0 (λ f. omega arith)
+status_of_words content words old new (File file) status to tn fo fn h (e, says) = other words status 6 e (h.0.workload, h.0.schedule, h.0.given) (λ f. omega arith)
+status_of_words content words old new Sink status to tn fo fn h (e, says) = other words status 7 e h.0 (λ f. omega arith)
+
+-- all that was taken is a front of it
+pub whole_front : (old new : Option (List ℕ)) (text : List ℕ) → Adds old new text → AddsFront old new text
+whole_front old new text h = (length text, subst (Adds old new) (sym (take_all (length text) text (omega arith))) h)
+
+-- before a message that was not sent, standard output took a front of the report
+pub unsent_front : (plan : Plan) (bytes : List ℕ) (number : ℕ) (old new : Option (List ℕ)) → IsUnsent plan bytes number old new → IsFront plan bytes old new
+unsent_front plan bytes number old new h =
+    of_events h.before (h.line ∷ h.behind) h.steps h.world h.of_schedule h.played (whole_front old new _ h.taken)
+
+-- whatever is refused, standard output took a front of the report
+pub refused_front : (content : List ℕ → Option (List ℕ)) (words : List (List ℕ)) (old new : Option (List ℕ)) (line : List ℕ)
+    → IsRefused content words old new line → TakesFront content words old new
+refused_front content words old new _ (long_workload workload schedule given more same) = nothing same
+refused_front content words old new _ (no_workload workload schedule given none same) = nothing same
+refused_front content words old new _ (long_schedule workload schedule plan given planned more same) = nothing same
+refused_front content words old new _ (no_schedule plan bytes read none same) = nothing same
+refused_front content words old new _ (not_sent plan bytes read number h) = something plan bytes read (unsent_front plan bytes number old new h)
+
+-- status 4: memory ran out, and standard output took a front of the report
+pub status_of_memory : (content : List ℕ → Option (List ℕ)) (words : List (List ℕ)) (old new : Option (List ℕ)) (fault : Fault) (status : ℕ) (taken_old taken_new : Option (List ℕ)) (faults_old faults_new : ℕ)
+    → Fails content words old new fault → IsTold fault status taken_old taken_new faults_old faults_new
+    → status ≡ 4 → TakesFront content words old new × Says taken_old taken_new faults_old faults_new (word_line (codes "memory"))
+status_of_memory content words old new Words status to tn fo fn h (e, says) f = absurd (omega arith)
+status_of_memory content words old new (TooLong file) status to tn fo fn h (e, says) f = absurd (omega arith)
+status_of_memory content words old new (At file line what) status to tn fo fn h (inl (e, says)) f = absurd (omega arith)
+status_of_memory content words old new (At file line what) status to tn fo fn h (inr (e, says)) f = (refused_front content words old new _ h, says)
+status_of_memory content words old new Memory status to tn fo fn h (e, says) f = (h.1, says)
+status_of_memory content words old new (File file) status to tn fo fn h (e, says) f = absurd (omega arith)
+status_of_memory content words old new Sink status to tn fo fn h (e, says) f = absurd (omega arith)
+
+-- status 7: standard output failed, and took a front of the report
+pub status_of_sink : (content : List ℕ → Option (List ℕ)) (words : List (List ℕ)) (old new : Option (List ℕ)) (fault : Fault) (status : ℕ) (taken_old taken_new : Option (List ℕ)) (faults_old faults_new : ℕ)
+    → Fails content words old new fault → IsTold fault status taken_old taken_new faults_old faults_new
+    → status ≡ 7 → TakesFront content words old new × Says taken_old taken_new faults_old faults_new (word_line (codes "sink"))
+status_of_sink content words old new Words status to tn fo fn h (e, says) f = absurd (omega arith)
+status_of_sink content words old new (TooLong file) status to tn fo fn h (e, says) f = absurd (omega arith)
+status_of_sink content words old new (At file line what) status to tn fo fn h (inl (e, says)) f = absurd (omega arith)
+status_of_sink content words old new (At file line what) status to tn fo fn h (inr (e, says)) f = absurd (omega arith)
+status_of_sink content words old new Memory status to tn fo fn h (e, says) f = absurd (omega arith)
+status_of_sink content words old new (File file) status to tn fo fn h (e, says) f = absurd (omega arith)
+status_of_sink content words old new Sink status to tn fo fn h (e, says) f = (h.1, says)
+
+-- the count of a fault rises exactly where the status is its own
+pub counted_at : (status n wanted : ℕ) (test : Bool) (old new : ℕ) → status ≡ n → (n == wanted) ≡ test → HasCause test old new → HasCause (status == wanted) old new
+counted_at status n wanted test old new e f h = subst (λ b. HasCause b old new) (sym (ap (λ m. m == wanted) e ∙ f)) h
+
+pub file_counted : (fault : Fault) (status : ℕ) (taken_old taken_new : Option (List ℕ)) (faults_old faults_new : ℕ) (old new : ℕ)
+    → IsTold fault status taken_old taken_new faults_old faults_new → HasCause (file_failed fault) old new → HasCause (status == 6) old new
+file_counted Words status to tn fo fn old new (e, says) h = counted_at status 2 6 false old new e refl h
+file_counted (TooLong file) status to tn fo fn old new (e, says) h = counted_at status 3 6 false old new e refl h
+file_counted (At file line what) status to tn fo fn old new (inl (e, says)) h = counted_at status 3 6 false old new e refl h
+file_counted (At file line what) status to tn fo fn old new (inr (e, says)) h = counted_at status 4 6 false old new e refl h
+file_counted Memory status to tn fo fn old new (e, says) h = counted_at status 4 6 false old new e refl h
+file_counted (File file) status to tn fo fn old new (e, says) h = counted_at status 6 6 true old new e refl h
+file_counted Sink status to tn fo fn old new (e, says) h = counted_at status 7 6 false old new e refl h
+
+pub sink_counted : (fault : Fault) (status : ℕ) (taken_old taken_new : Option (List ℕ)) (faults_old faults_new : ℕ) (old new : ℕ)
+    → IsTold fault status taken_old taken_new faults_old faults_new → HasCause (sink_failed fault) old new → HasCause (status == 7) old new
+sink_counted Words status to tn fo fn old new (e, says) h = counted_at status 2 7 false old new e refl h
+sink_counted (TooLong file) status to tn fo fn old new (e, says) h = counted_at status 3 7 false old new e refl h
+sink_counted (At file line what) status to tn fo fn old new (inl (e, says)) h = counted_at status 3 7 false old new e refl h
+sink_counted (At file line what) status to tn fo fn old new (inr (e, says)) h = counted_at status 4 7 false old new e refl h
+sink_counted Memory status to tn fo fn old new (e, says) h = counted_at status 4 7 false old new e refl h
+sink_counted (File file) status to tn fo fn old new (e, says) h = counted_at status 6 7 false old new e refl h
+sink_counted Sink status to tn fo fn old new (e, says) h = counted_at status 7 7 true old new e refl h

@@ -1,0 +1,67 @@
+-- How the work for some words ends, before it is told
+use Rattle.std.specs.Prelude.{◌≡◌, ◌⊎◌, ℕ, Bool, true, false, List, Option, Result, Ok, Err, codes}
+use Rattle.roc_plan.specs.Groups.{Plan}
+use Rattle.roc_sched.specs.declared.line.Line.{Line}
+use Rattle.roc_sched.specs.Thin.{IsThinSchedule}
+use Rattle.roc_replay.specs.declared.ended.Summary.{Summary}
+use Rattle.roc_replay.specs.Ended.{IsReplayed, IsUnsent, IsFront}
+use Rattle.roc_cli.specs.declared.fault.Fault.{Fault}
+use Rattle.roc_cli.specs.declared.fault.Fault.TheVariants.{Words, TooLong, At, Memory, File, Sink}
+use Rattle.roc_cli.specs.Words.{IsReplay, AreReplayWords}
+use Rattle.roc_cli.specs.Says.{long_line, fault_line}
+use Rattle.roc_cli.specs.Replayed.{Replays, TakesFront}
+use Rattle.roc_cli.specs.Refused.{IsRefused}
+
+-- the name is one of the two that the words give
+pub record IsNamed (words : List (List ℕ)) (name : List ℕ) : Type 0 where
+  pub workload : List ℕ
+  pub schedule : List ℕ
+  pub given : IsReplay words workload schedule
+  pub one : (name ≡ workload) ⊎ (name ≡ schedule)
+
+-- how the replay of a schedule's bytes ends
+abbrev pub ReplayEnds : Plan → (bytes name : List ℕ) → (old new : Option (List ℕ)) → Result Unit Fault → Type 0
+ReplayEnds plan bytes name old new (Ok done) = (summary : Summary) × IsReplayed plan bytes summary old new
+ReplayEnds plan bytes name old new (Err (At file line what)) =
+    (file.now ≡ name) × (((line ≡ 1) × (what.now ≡ codes "limit") × ((lines : List Line) → IsThinSchedule plan.program bytes lines → ⊥) × (new ≡ old)) ⊎ ((what.now ≡ codes "message") × IsUnsent plan bytes line old new))
+ReplayEnds plan bytes name old new (Err Memory) = IsFront plan bytes old new
+ReplayEnds plan bytes name old new (Err Sink) = IsFront plan bytes old new
+ReplayEnds plan bytes name old new (Err Words) = ⊥
+ReplayEnds plan bytes name old new (Err (TooLong file)) = ⊥
+ReplayEnds plan bytes name old new (Err (File file)) = ⊥
+
+-- what each fault means, and what standard output took before it
+abbrev pub Fails : (List ℕ → Option (List ℕ)) → List (List ℕ) → (old new : Option (List ℕ)) → Fault → Type 0
+Fails content words old new Words = (AreReplayWords words → ⊥) × (new ≡ old)
+Fails content words old new (TooLong file) = IsRefused content words old new (long_line file.now)
+Fails content words old new (At file line what) = IsRefused content words old new (fault_line file.now line what.now)
+Fails content words old new Memory = AreReplayWords words × TakesFront content words old new
+Fails content words old new (File file) = IsNamed words file.now × (new ≡ old)
+Fails content words old new Sink = AreReplayWords words × TakesFront content words old new
+
+abbrev pub Ends : (List ℕ → Option (List ℕ)) → List (List ℕ) → (old new : Option (List ℕ)) → Result Unit Fault → Type 0
+Ends content words old new (Ok done) = Replays content words old new
+Ends content words old new (Err fault) = Fails content words old new fault
+
+-- a file could not be read
+abbrev pub file_failed : Fault → Bool
+file_failed (File file) = true
+file_failed Words = false
+file_failed (TooLong file) = false
+file_failed (At file line what) = false
+file_failed Memory = false
+file_failed Sink = false
+
+-- standard output could not be written
+abbrev pub sink_failed : Fault → Bool
+sink_failed Sink = true
+sink_failed Words = false
+sink_failed (TooLong file) = false
+sink_failed (At file line what) = false
+sink_failed Memory = false
+sink_failed (File file) = false
+
+-- the same of an answer
+abbrev pub fails_by : {A : Type 0} → (Fault → Bool) → Result A Fault → Bool
+fails_by test (Ok value) = false
+fails_by test (Err fault) = test fault

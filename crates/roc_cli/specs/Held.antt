@@ -1,0 +1,31 @@
+-- What a named file holds, as far as that is told: docs/FORMATS.md, "The program"
+use Rattle.std.specs.Prelude.{◌≡◌, ℕ, ◌<◌, ◌≤◌, List, length, Option, IfSome}
+use Rattle.roc_lang.specs.Syntax.{Text}
+use Rattle.roc_lang.specs.Thin.{IsThinText, text_limit}
+use Rattle.roc_plan.specs.Groups.{Plan}
+use Rattle.roc_plan.specs.Resolve.{resolved}
+use Rattle.roc_plan.specs.WellFormed.{IsThin}
+
+-- these are the bytes that the name holds, where they are told
+abbrev pub Holds : (List ℕ → Option (List ℕ)) → List ℕ → List ℕ → Type 0
+Holds content name bytes = IfSome (content name) (λ held. held ≡ bytes)
+
+-- the name holds more bytes than these, where they are told
+abbrev pub HoldsMore : (List ℕ → Option (List ℕ)) → List ℕ → ℕ → Type 0
+HoldsMore content name most = IfSome (content name) (λ held. most < length held)
+
+-- the name holds a thin text, which has this plan
+pub record HoldsPlan (content : List ℕ → Option (List ℕ)) (name : List ℕ) (plan : Plan) : Type 0 where
+  pub bytes : List ℕ
+  pub held : Holds content name bytes
+  pub text : Text
+  pub thin : IsThinText bytes text
+  pub program : plan.program ≡ resolved text
+  pub groups : IsThin plan
+
+-- the name holds no thin text, and not too many bytes
+pub record HoldsNoPlan (content : List ℕ → Option (List ℕ)) (name : List ℕ) : Type 0 where
+  pub bytes : List ℕ
+  pub held : Holds content name bytes
+  pub size : length bytes ≤ text_limit
+  pub none : (text : Text) → IsThinText bytes text → ⊥

@@ -1,0 +1,69 @@
+//! Why the program ends without having done what it was asked: its status, and its line on standard error.
+ghost use Rattle.roc_cli.specs.Fault.{IsTold};
+
+use roc_io::{Sink, Written, write_all};
+use std::alloc::Global;
+
+/// Why the program ends without having done what it was asked.
+#[derive(Clone, Copy, Debug)]
+pub(crate) enum Fault<'a> {
+    /// The words are not those of a command.
+    Words,
+    /// A file is longer than it may be.
+    TooLong(&'a str),
+    /// A file is no text of its grammar, or does not fit the plan or the run: the line, and what is wrong there.
+    At {
+        file: &'a str,
+        line: u32,
+        what: &'static str,
+    },
+    /// There is no memory.
+    Memory,
+    /// A file could not be read.
+    File(&'a str),
+    /// Standard output could not be written.
+    Sink,
+}
+
+impl Fault<'_> {
+    /// Writes the fault's line, and answers the status with which the program ends.
+    pub fn tell<E: Sink>(self, alloc: Global, err: &mut E) -> u8
+        ensures { IsTold self.entry result (E.taken err.old) (E.taken err.new) (E.faults err.old) (E.faults err.new) }
+    {
+        match self {
+            Fault::Words => {
+                err.write(b"words\n");
+                2
+            }
+            Fault::TooLong(file) => {
+                write_all(err, &[file.as_bytes(), b": limit\n"]);
+                3
+            }
+            Fault::At { file, line, what } => tell_line(alloc, err, file, line, what),
+            Fault::Memory => {
+                err.write(b"memory\n");
+                4
+            }
+            Fault::File(file) => {
+                write_all(err, &[b"file ", file.as_bytes(), b"\n"]);
+                6
+            }
+            Fault::Sink => {
+                err.write(b"sink\n");
+                7
+            }
+        }
+    }
+}
+
+// The same of a fault at a line, for whose text there may be no memory.
+fn tell_line<E: Sink>(alloc: Global, err: &mut E, file: &str, line: u32, what: &'static str) -> u8
+    ensures { IsTold (Fault.At file.entry line what.entry) result (E.taken err.old) (E.taken err.new) (E.faults err.old) (E.faults err.new) }
+{
+    let Ok(text) = format!(in alloc; "{file}:{line}: {what}\n") else {
+        err.write(b"memory\n");
+        return 4;
+    };
+    err.write(text.as_bytes());
+    3
+}

@@ -1,0 +1,15 @@
+//! The words of the command line.
+ghost use Rattle.std.specs.Prelude.{map, string_bytes, MatchOption};
+ghost use Rattle.roc_cli.specs.Words.{IsReplay, AreReplayWords};
+
+/// The names of the workload and of the schedule, where the words are those of a replay.
+pub(crate) fn replay_names(words: &[String]) -> Option<(&str, &str)>
+    ensures { MatchOption result (AreReplayWords (map string_bytes words.now) → ⊥) (λ names. IsReplay (map string_bytes words.now) names.0.now names.1.now) }
+{
+    match words {
+        [command, workload, schedule] if command.as_str() == "replay" => {
+            Some((workload.as_str(), schedule.as_str()))
+        }
+        _ => None,
+    }
+}
