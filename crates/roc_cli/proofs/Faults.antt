@@ -9,13 +9,13 @@ use Rattle.roc_plan.specs.Groups.{Plan}
 use Rattle.roc_sched.specs.Schedule.{most_bytes}
 use Rattle.roc_cli.specs.declared.fault.Fault.{Fault}
 use Rattle.roc_cli.specs.declared.fault.Fault.TheVariants.{Words, TooLong, At, Memory, File, Sink}
-use Rattle.roc_cli.specs.Words.{IsReplay}
+use Rattle.roc_cli.specs.Words.{IsReplay, IsPrint, AreReplayWords, ArePrintWords, AreCommandWords}
 use Rattle.roc_cli.specs.Held.{Holds, HoldsMore, HoldsPlan}
 use Rattle.roc_cli.specs.Says.{long_line, fault_line}
-use Rattle.roc_cli.specs.Replayed.{Reads, nothing, something}
-use Rattle.roc_cli.specs.Refused.{IsRefused, long_workload, no_workload, long_schedule, no_schedule, not_sent}
+use Rattle.roc_cli.specs.Replayed.{Reads, nothing, something, some_text}
+use Rattle.roc_cli.specs.Refused.{IsRefused, long_workload, no_workload, long_schedule, no_schedule, long_text, no_text, not_sent}
 use Rattle.roc_cli.specs.Input.{HoldsWithin, IsReadFault, IsPlanFault, TellsError}
-use Rattle.roc_cli.specs.Ends.{Fails, Ends, ReplayEnds}
+use Rattle.roc_cli.specs.Ends.{Fails, Ends, ReplayEnds, PrintEnds, to_replay, to_print}
 
 -- where a file's name, a line and what is wrong there are known, so is the line of standard error
 pub line_known : (content : List ℕ → Option (List ℕ)) (words : List (List ℕ)) (old new : Option (List ℕ)) (file name : List ℕ) (line number : ℕ) (what word : List ℕ)
@@ -33,8 +33,8 @@ plan_fails content words workload schedule old (TooLong file) given (e, more) =
     subst (λ n. IsRefused content words old old (long_line n)) (sym e) (long_workload workload schedule given more refl)
 plan_fails content words workload schedule old (At file line what) given (e, f, g, none) =
     line_known content words old old file.now workload line 1 what.now (codes "limit") e f g (no_workload workload schedule given none refl)
-plan_fails content words workload schedule old Memory given h = ((workload, schedule, given), nothing refl)
-plan_fails content words workload schedule old (File file) given e = (record { workload = workload; schedule = schedule; given = given; one = inl e }, refl)
+plan_fails content words workload schedule old Memory given h = (inl (workload, schedule, given), nothing refl)
+plan_fails content words workload schedule old (File file) given e = (to_replay workload schedule given (inl e), refl)
 plan_fails content words workload schedule old Words given h = absurd h
 plan_fails content words workload schedule old Sink given h = absurd h
 
@@ -45,8 +45,8 @@ pub bytes_fail : (content later : List ℕ → Option (List ℕ)) (words : List 
 bytes_fail content later words workload schedule plan old (TooLong file) same given planned (e, more) =
     let here : HoldsMore content schedule most_bytes = subst (λ o. IfSome o (λ held. most_bytes < length held)) (same schedule) more in
     subst (λ n. IsRefused content words old old (long_line n)) (sym e) (long_schedule workload schedule plan given planned here refl)
-bytes_fail content later words workload schedule plan old Memory same given planned h = ((workload, schedule, given), nothing refl)
-bytes_fail content later words workload schedule plan old (File file) same given planned e = (record { workload = workload; schedule = schedule; given = given; one = inr e }, refl)
+bytes_fail content later words workload schedule plan old Memory same given planned h = (inl (workload, schedule, given), nothing refl)
+bytes_fail content later words workload schedule plan old (File file) same given planned e = (to_replay workload schedule given (inr e), refl)
 bytes_fail content later words workload schedule plan old (At file line what) same given planned h = absurd h
 bytes_fail content later words workload schedule plan old Words same given planned h = absurd h
 bytes_fail content later words workload schedule plan old Sink same given planned h = absurd h
@@ -54,13 +54,13 @@ bytes_fail content later words workload schedule plan old Sink same given planne
 -- the replay ended
 pub replay_ends : (content : List ℕ → Option (List ℕ)) (words : List (List ℕ)) (plan : Plan) (bytes : List ℕ) (old new : Option (List ℕ)) (result : Result Unit Fault)
     → (read : Reads content words plan bytes) → ReplayEnds plan bytes read.schedule old new result → Ends content words old new result
-replay_ends content words plan bytes old new (Ok done) read (summary, h) = record { plan = plan; bytes = bytes; read = read; summary = summary; replayed = h }
+replay_ends content words plan bytes old new (Ok done) read (summary, h) = inl (record { plan = plan; bytes = bytes; read = read; summary = summary; replayed = h })
 replay_ends content words plan bytes old new (Err (At file line what)) read (e, inl (f, g, none, same)) =
     line_known content words old new file.now read.schedule line 1 what.now (codes "limit") e f g (no_schedule plan bytes read none same)
 replay_ends content words plan bytes old new (Err (At file line what)) read (e, inr (g, h)) =
     line_known content words old new file.now read.schedule line line what.now (codes "message") e refl g (not_sent plan bytes read line h)
-replay_ends content words plan bytes old new (Err Memory) read h = ((read.workload, read.schedule, read.given), something plan bytes read h)
-replay_ends content words plan bytes old new (Err Sink) read h = ((read.workload, read.schedule, read.given), something plan bytes read h)
+replay_ends content words plan bytes old new (Err Memory) read h = (inl (read.workload, read.schedule, read.given), something plan bytes read h)
+replay_ends content words plan bytes old new (Err Sink) read h = (inl (read.workload, read.schedule, read.given), something plan bytes read h)
 replay_ends content words plan bytes old new (Err Words) read h = absurd h
 replay_ends content words plan bytes old new (Err (TooLong file)) read h = absurd h
 replay_ends content words plan bytes old new (Err (File file)) read h = absurd h
@@ -85,3 +85,33 @@ text_fails content name bytes taken (error.At line what) (TooLong file) held s h
 text_fails content name bytes taken (error.At line what) Memory held s h told = absurd told
 text_fails content name bytes taken (error.At line what) (File file) held s h told = absurd told
 text_fails content name bytes taken (error.At line what) Sink held s h told = absurd told
+
+-- words that are neither of the two commands
+pub no_command : (words : List (List ℕ)) → (AreReplayWords words → ⊥) → (ArePrintWords words → ⊥) → AreCommandWords words → ⊥
+no_command words a b (inl h) = a h
+no_command words a b (inr h) = b h
+
+-- the workload that was to be printed gave no bytes
+pub text_unread : (content : List ℕ → Option (List ℕ)) (words : List (List ℕ)) (workload : List ℕ) (old : Option (List ℕ)) (fault : Fault)
+    → IsPrint words workload → IsReadFault content workload text_limit fault → Fails content words old old fault
+text_unread content words workload old (TooLong file) given (e, more) = subst (λ n. IsRefused content words old old (long_line n)) (sym e) (long_text workload given more refl)
+text_unread content words workload old Memory given h = (inr (workload, given), nothing refl)
+text_unread content words workload old (File file) given e = (to_print (subst (IsPrint words) (sym e) given), refl)
+text_unread content words workload old (At file line what) given h = absurd h
+text_unread content words workload old Words given h = absurd h
+text_unread content words workload old Sink given h = absurd h
+
+-- the workload was read, and its print ended
+pub print_ends : (content : List ℕ → Option (List ℕ)) (words : List (List ℕ)) (workload bytes taken : List ℕ) (old new : Option (List ℕ)) (result : Result Unit Fault)
+    → IsPrint words workload → HoldsWithin content workload text_limit bytes → taken ≡ bytes → PrintEnds taken workload old new result → Ends content words old new result
+print_ends content words workload bytes taken old new (Ok done) given held e (text, is, adds) =
+    inr (record { workload = workload; given = given; text = text; held = record { bytes = taken; held = subst (Holds content workload) (sym e) held.held; is = is }; taken = adds })
+print_ends content words workload bytes taken old new (Err (At file line what)) given held e (w, first, named, said, same) =
+    line_known content words old new file.now workload line line what.now (what_text w) named refl said
+    (no_text workload line w given (record { bytes = taken; held = subst (Holds content workload) (sym e) held.held; size = subst (λ n. n ≤ text_limit) (sym (ap length e)) held.few; fault = first }) same)
+print_ends content words workload bytes taken old new (Err Memory) given held e same = (inr (workload, given), nothing same)
+print_ends content words workload bytes taken old new (Err Sink) given held e (text, is, front) =
+    (inr (workload, given), some_text workload text given (record { bytes = taken; held = subst (Holds content workload) (sym e) held.held; is = is }) front)
+print_ends content words workload bytes taken old new (Err Words) given held e h = absurd h
+print_ends content words workload bytes taken old new (Err (TooLong file)) given held e h = absurd h
+print_ends content words workload bytes taken old new (Err (File file)) given held e h = absurd h

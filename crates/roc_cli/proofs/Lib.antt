@@ -1,3 +1,3 @@
+pub mod Counted
 pub mod Faults
-pub mod Three
 pub mod Told

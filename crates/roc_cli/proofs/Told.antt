@@ -1,42 +1,50 @@
 -- What the status says, where a fault was told
-use Rattle.std.proofs.Common.{◌≡◌, inl, inr, ◌↔◌, ℕ, ◌==◌, Bool, true, false, List, length, Option, codes, refl, sym, ap, subst, ◌∙◌, arith, ◌∷◌}
+use Rattle.std.proofs.Common.{◌≡◌, ◌⊎◌, inl, inr, ◌↔◌, ℕ, ◌==◌, Bool, true, false, List, length, Option, codes, refl, sym, ap, subst, ◌∙◌, arith, ◌∷◌}
 use Rattle.std.proofs.lemmas.List.{take_all}
 use Rattle.roc_io.specs.Cause.{HasCause}
 use Rattle.roc_io.specs.Told.{Adds, AddsFront}
 use Rattle.roc_plan.specs.Groups.{Plan}
 use Rattle.roc_replay.specs.Ended.{IsUnsent, IsFront, of_events}
+use Rattle.roc_replay.specs.Report.{report}
 use Rattle.roc_cli.specs.declared.fault.Fault.{Fault}
 use Rattle.roc_cli.specs.declared.fault.Fault.TheVariants.{Words, TooLong, At, Memory, File, Sink}
-use Rattle.roc_cli.specs.Words.{AreReplayWords}
-use Rattle.roc_cli.specs.Says.{Says, word_line}
+use Rattle.roc_cli.specs.Words.{IsReplay, IsPrint, AreReplayWords, ArePrintWords, AreCommandWords}
+use Rattle.roc_cli.specs.Says.{Says, word_line, file_line}
 use Rattle.roc_cli.specs.Fault.{IsTold}
-use Rattle.roc_cli.specs.Replayed.{TakesFront, nothing, something}
-use Rattle.roc_cli.specs.Refused.{IsRefused, long_workload, no_workload, long_schedule, no_schedule, not_sent}
-use Rattle.roc_cli.specs.Ends.{Fails, file_failed, sink_failed}
+use Rattle.roc_cli.specs.Replayed.{TakesFront, nothing, something, Replays, Explains, Prints}
+use Rattle.roc_cli.specs.Refused.{IsRefused, long_workload, no_workload, long_schedule, no_schedule, long_text, no_text, not_sent}
+use Rattle.roc_cli.specs.Ends.{Fails, IsNamed, to_replay, to_print, file_failed, sink_failed}
 
 -- a file is refused only where the words name it
 pub refused_words : (content : List ℕ → Option (List ℕ)) (words : List (List ℕ)) (old new : Option (List ℕ)) (line : List ℕ)
-    → IsRefused content words old new line → AreReplayWords words
-refused_words content words old new _ (long_workload workload schedule given more same) = (workload, schedule, given)
-refused_words content words old new _ (no_workload workload schedule given none same) = (workload, schedule, given)
-refused_words content words old new _ (long_schedule workload schedule plan given planned more same) = (workload, schedule, given)
-refused_words content words old new _ (no_schedule plan bytes read none same) = (read.workload, read.schedule, read.given)
-refused_words content words old new _ (not_sent plan bytes read number h) = (read.workload, read.schedule, read.given)
+    → IsRefused content words old new line → AreCommandWords words
+refused_words content words old new _ (long_workload workload schedule given more same) = inl (workload, schedule, given)
+refused_words content words old new _ (no_workload workload schedule given none same) = inl (workload, schedule, given)
+refused_words content words old new _ (long_schedule workload schedule plan given planned more same) = inl (workload, schedule, given)
+refused_words content words old new _ (no_schedule plan bytes read none same) = inl (read.workload, read.schedule, read.given)
+refused_words content words old new _ (not_sent plan bytes read number h) = inl (read.workload, read.schedule, read.given)
+refused_words content words old new _ (long_text workload given more same) = inr (workload, given)
+refused_words content words old new _ (no_text workload line what given held same) = inr (workload, given)
+
+-- a file is named only by the words of a command
+pub named_words : (words : List (List ℕ)) (name : List ℕ) → IsNamed words name → AreCommandWords words
+named_words words name (to_replay workload schedule given one) = inl (workload, schedule, given)
+named_words words name (to_print given) = inr (name, given)
 
 -- a status that is another number
-pub other : (words : List (List ℕ)) (status n : ℕ) → status ≡ n → AreReplayWords words → (n ≡ 2 → ⊥) → (status ≡ 2) ↔ (AreReplayWords words → ⊥)
+pub other : (words : List (List ℕ)) (status n : ℕ) → status ≡ n → AreCommandWords words → (n ≡ 2 → ⊥) → (status ≡ 2) ↔ (AreCommandWords words → ⊥)
 other words status n e are differs = (λ f. absurd (differs (sym e ∙ f)), λ none. absurd (none are))
 
 -- status 2 is that of the words alone
 pub status_of_words : (content : List ℕ → Option (List ℕ)) (words : List (List ℕ)) (old new : Option (List ℕ)) (fault : Fault) (status : ℕ) (taken_old taken_new : Option (List ℕ)) (faults_old faults_new : ℕ)
     → Fails content words old new fault → IsTold fault status taken_old taken_new faults_old faults_new
-    → (status ≡ 2) ↔ (AreReplayWords words → ⊥)
+    → (status ≡ 2) ↔ (AreCommandWords words → ⊥)
 status_of_words content words old new Words status to tn fo fn h (e, says) = (λ _. h.0, λ _. e)
 status_of_words content words old new (TooLong file) status to tn fo fn h (e, says) = other words status 3 e (refused_words content words old new _ h) (λ f. omega arith)
 status_of_words content words old new (At file line what) status to tn fo fn h (inl (e, says)) = other words status 3 e (refused_words content words old new _ h) (λ f. omega arith)
 status_of_words content words old new (At file line what) status to tn fo fn h (inr (e, says)) = other words status 4 e (refused_words content words old new _ h) (λ f. omega arith)
 status_of_words content words old new Memory status to tn fo fn h (e, says) = other words status 4 e h.0 (λ f. omega arith)
-status_of_words content words old new (File file) status to tn fo fn h (e, says) = other words status 6 e (h.0.workload, h.0.schedule, h.0.given) (λ f. omega arith)
+status_of_words content words old new (File file) status to tn fo fn h (e, says) = other words status 6 e (named_words words _ h.0) (λ f. omega arith)
 status_of_words content words old new Sink status to tn fo fn h (e, says) = other words status 7 e h.0 (λ f. omega arith)
 
 -- all that was taken is a front of it
@@ -55,6 +63,8 @@ refused_front content words old new _ (long_workload workload schedule given mor
 refused_front content words old new _ (no_workload workload schedule given none same) = nothing same
 refused_front content words old new _ (long_schedule workload schedule plan given planned more same) = nothing same
 refused_front content words old new _ (no_schedule plan bytes read none same) = nothing same
+refused_front content words old new _ (long_text workload given more same) = nothing same
+refused_front content words old new _ (no_text workload line what given held same) = nothing same
 refused_front content words old new _ (not_sent plan bytes read number h) = something plan bytes read (unsent_front plan bytes number old new h)
 
 -- status 4: memory ran out, and standard output took a front of the report
@@ -104,3 +114,38 @@ sink_counted (At file line what) status to tn fo fn old new (inr (e, says)) h = 
 sink_counted Memory status to tn fo fn old new (e, says) h = counted_at status 4 7 false old new e refl h
 sink_counted (File file) status to tn fo fn old new (e, says) h = counted_at status 6 7 false old new e refl h
 sink_counted Sink status to tn fo fn old new (e, says) h = counted_at status 7 7 true old new e refl h
+
+-- the words of one command are not those of the other
+pub apart : (words : List (List ℕ)) (A : Type 0) (workload schedule name : List ℕ) → IsReplay words workload schedule → IsPrint words name → A
+apart words A workload schedule name e f =
+    let g : length words ≡ 3 = ap length e in
+    let h : length words ≡ 2 = ap length f in
+    absurd (omega arith)
+
+-- of the two commands, the one that the words ask for ended well
+pub replay_done : (content : List ℕ → Option (List ℕ)) (words : List (List ℕ)) (old new : Option (List ℕ)) → Replays content words old new ⊎ Prints content words old new
+    → AreReplayWords words → Replays content words old new
+replay_done content words old new (inl done) are = done
+replay_done content words old new (inr done) (workload, schedule, given) = apart words (Replays content words old new) workload schedule done.workload given done.given
+
+pub print_done : (content : List ℕ → Option (List ℕ)) (words : List (List ℕ)) (old new : Option (List ℕ)) → Replays content words old new ⊎ Prints content words old new
+    → ArePrintWords words → Prints content words old new
+print_done content words old new (inr done) are = done
+print_done content words old new (inl done) (workload, given) = apart words (Prints content words old new) done.read.workload done.read.schedule workload done.read.given given
+
+-- what was replayed explains itself
+pub replay_explains : (content : List ℕ → Option (List ℕ)) (words : List (List ℕ)) (old new : Option (List ℕ)) → Replays content words old new → Explains content words old new
+replay_explains content words old new done =
+    record { plan = done.plan; bytes = done.bytes; read = done.read; lines = report done.replayed.steps done.replayed.world; taken = done.replayed.taken; explained = done.replayed.explained }
+
+-- status 6: a file that the words name could not be read
+pub status_of_file : (content : List ℕ → Option (List ℕ)) (words : List (List ℕ)) (old new : Option (List ℕ)) (fault : Fault) (status : ℕ) (taken_old taken_new : Option (List ℕ)) (faults_old faults_new : ℕ)
+    → Fails content words old new fault → IsTold fault status taken_old taken_new faults_old faults_new
+    → status ≡ 6 → (new ≡ old) × ((name : List ℕ) × IsNamed words name × Says taken_old taken_new faults_old faults_new (file_line name))
+status_of_file content words old new Words status to tn fo fn h (e, says) f = absurd (omega arith)
+status_of_file content words old new (TooLong file) status to tn fo fn h (e, says) f = absurd (omega arith)
+status_of_file content words old new (At file line what) status to tn fo fn h (inl (e, says)) f = absurd (omega arith)
+status_of_file content words old new (At file line what) status to tn fo fn h (inr (e, says)) f = absurd (omega arith)
+status_of_file content words old new Memory status to tn fo fn h (e, says) f = absurd (omega arith)
+status_of_file content words old new (File file) status to tn fo fn h (e, says) f = (h.1, (file.now, h.0, says))
+status_of_file content words old new Sink status to tn fo fn h (e, says) f = absurd (omega arith)

@@ -1,5 +1,11 @@
 -- How the work for some words ends, before it is told
 use Rattle.std.specs.Prelude.{◌≡◌, ◌⊎◌, ℕ, Bool, true, false, List, Option, Result, Ok, Err, codes}
+use Rattle.roc_io.specs.Told.{Adds, AddsFront}
+use Rattle.roc_lang.specs.Syntax.{Text}
+use Rattle.roc_lang.specs.FaultText.{what_text}
+use Rattle.roc_lang.specs.declared.fault.What.{What}
+use Rattle.roc_parse.specs.Fault.{IsWorkloadText, IsFirstFault}
+use Rattle.roc_print.specs.Canonical.{canonical}
 use Rattle.roc_plan.specs.Groups.{Plan}
 use Rattle.roc_sched.specs.declared.line.Line.{Line}
 use Rattle.roc_sched.specs.Thin.{IsThinSchedule}
@@ -7,17 +13,25 @@ use Rattle.roc_replay.specs.declared.ended.Summary.{Summary}
 use Rattle.roc_replay.specs.Ended.{IsReplayed, IsUnsent, IsFront}
 use Rattle.roc_cli.specs.declared.fault.Fault.{Fault}
 use Rattle.roc_cli.specs.declared.fault.Fault.TheVariants.{Words, TooLong, At, Memory, File, Sink}
-use Rattle.roc_cli.specs.Words.{IsReplay, AreReplayWords}
+use Rattle.roc_cli.specs.Words.{IsReplay, IsPrint, AreCommandWords}
 use Rattle.roc_cli.specs.Says.{long_line, fault_line}
-use Rattle.roc_cli.specs.Replayed.{Replays, TakesFront}
+use Rattle.roc_cli.specs.Replayed.{Replays, Prints, TakesFront}
 use Rattle.roc_cli.specs.Refused.{IsRefused}
 
--- the name is one of the two that the words give
-pub record IsNamed (words : List (List ℕ)) (name : List ℕ) : Type 0 where
-  pub workload : List ℕ
-  pub schedule : List ℕ
-  pub given : IsReplay words workload schedule
-  pub one : (name ≡ workload) ⊎ (name ≡ schedule)
+-- the name is one that the words give
+pub data IsNamed (words : List (List ℕ)) (name : List ℕ) : Type 0 where
+  to_replay : (workload schedule : List ℕ) → IsReplay words workload schedule → (name ≡ workload) ⊎ (name ≡ schedule) → IsNamed words name
+  to_print : IsPrint words name → IsNamed words name
+
+-- how the print of a workload's bytes ends
+abbrev pub PrintEnds : (bytes name : List ℕ) → (old new : Option (List ℕ)) → Result Unit Fault → Type 0
+PrintEnds bytes name old new (Ok done) = (text : Text) × IsWorkloadText bytes text × Adds old new (canonical text)
+PrintEnds bytes name old new (Err (At file line what)) = (w : What) × IsFirstFault bytes line w × (file.now ≡ name) × (what.now ≡ what_text w) × (new ≡ old)
+PrintEnds bytes name old new (Err Memory) = new ≡ old
+PrintEnds bytes name old new (Err Sink) = (text : Text) × IsWorkloadText bytes text × AddsFront old new (canonical text)
+PrintEnds bytes name old new (Err Words) = ⊥
+PrintEnds bytes name old new (Err (TooLong file)) = ⊥
+PrintEnds bytes name old new (Err (File file)) = ⊥
 
 -- how the replay of a schedule's bytes ends
 abbrev pub ReplayEnds : Plan → (bytes name : List ℕ) → (old new : Option (List ℕ)) → Result Unit Fault → Type 0
@@ -32,15 +46,15 @@ ReplayEnds plan bytes name old new (Err (File file)) = ⊥
 
 -- what each fault means, and what standard output took before it
 abbrev pub Fails : (List ℕ → Option (List ℕ)) → List (List ℕ) → (old new : Option (List ℕ)) → Fault → Type 0
-Fails content words old new Words = (AreReplayWords words → ⊥) × (new ≡ old)
+Fails content words old new Words = (AreCommandWords words → ⊥) × (new ≡ old)
 Fails content words old new (TooLong file) = IsRefused content words old new (long_line file.now)
 Fails content words old new (At file line what) = IsRefused content words old new (fault_line file.now line what.now)
-Fails content words old new Memory = AreReplayWords words × TakesFront content words old new
+Fails content words old new Memory = AreCommandWords words × TakesFront content words old new
 Fails content words old new (File file) = IsNamed words file.now × (new ≡ old)
-Fails content words old new Sink = AreReplayWords words × TakesFront content words old new
+Fails content words old new Sink = AreCommandWords words × TakesFront content words old new
 
 abbrev pub Ends : (List ℕ → Option (List ℕ)) → List (List ℕ) → (old new : Option (List ℕ)) → Result Unit Fault → Type 0
-Ends content words old new (Ok done) = Replays content words old new
+Ends content words old new (Ok done) = Replays content words old new ⊎ Prints content words old new
 Ends content words old new (Err fault) = Fails content words old new fault
 
 -- a file could not be read

@@ -2,6 +2,8 @@
 use Rattle.std.specs.Prelude.{◌≡◌, ℕ, ◌<◌, ◌≤◌, List, length, Option, IfSome}
 use Rattle.roc_lang.specs.Syntax.{Text}
 use Rattle.roc_lang.specs.Thin.{IsThinText, text_limit}
+use Rattle.roc_lang.specs.declared.fault.What.{What}
+use Rattle.roc_parse.specs.Fault.{IsWorkloadText, IsFirstFault}
 use Rattle.roc_plan.specs.Groups.{Plan}
 use Rattle.roc_plan.specs.Resolve.{resolved}
 use Rattle.roc_plan.specs.WellFormed.{IsThin}
@@ -29,3 +31,16 @@ pub record HoldsNoPlan (content : List ℕ → Option (List ℕ)) (name : List �
   pub held : Holds content name bytes
   pub size : length bytes ≤ text_limit
   pub none : (text : Text) → IsThinText bytes text → ⊥
+
+-- the name holds a workload text of this tree, in scope or not
+pub record HoldsText (content : List ℕ → Option (List ℕ)) (name : List ℕ) (text : Text) : Type 0 where
+  pub bytes : List ℕ
+  pub held : Holds content name bytes
+  pub is : IsWorkloadText bytes text
+
+-- the name holds bytes with this first fault of grammar, and not too many
+pub record HoldsFault (content : List ℕ → Option (List ℕ)) (name : List ℕ) (line : ℕ) (what : What) : Type 0 where
+  pub bytes : List ℕ
+  pub held : Holds content name bytes
+  pub size : length bytes ≤ text_limit
+  pub fault : IsFirstFault bytes line what

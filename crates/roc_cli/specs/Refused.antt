@@ -1,13 +1,15 @@
 -- Which files are refused, and what is said of them: docs/FORMATS.md, "The program"
 use Rattle.std.specs.Prelude.{◌≡◌, ℕ, List, Option, codes}
+use Rattle.roc_lang.specs.FaultText.{what_text}
 use Rattle.roc_lang.specs.Thin.{text_limit}
+use Rattle.roc_lang.specs.declared.fault.What.{What}
 use Rattle.roc_plan.specs.Groups.{Plan}
 use Rattle.roc_sched.specs.Schedule.{most_bytes}
 use Rattle.roc_sched.specs.declared.line.Line.{Line}
 use Rattle.roc_sched.specs.Thin.{IsThinSchedule}
 use Rattle.roc_replay.specs.Ended.{IsUnsent}
-use Rattle.roc_cli.specs.Words.{IsReplay}
-use Rattle.roc_cli.specs.Held.{HoldsMore, HoldsPlan, HoldsNoPlan}
+use Rattle.roc_cli.specs.Words.{IsReplay, IsPrint}
+use Rattle.roc_cli.specs.Held.{HoldsMore, HoldsPlan, HoldsNoPlan, HoldsFault}
 use Rattle.roc_cli.specs.Replayed.{Reads}
 use Rattle.roc_cli.specs.Says.{long_line, fault_line}
 
@@ -21,5 +23,9 @@ pub data IsRefused (content : List ℕ → Option (List ℕ)) (words : List (Lis
       → IsRefused content words old new (long_line schedule)
   no_schedule : (plan : Plan) (bytes : List ℕ) (read : Reads content words plan bytes) → ((lines : List Line) → IsThinSchedule plan.program bytes lines → ⊥) → new ≡ old
       → IsRefused content words old new (fault_line read.schedule 1 (codes "limit"))
+  long_text : (workload : List ℕ) → IsPrint words workload → HoldsMore content workload text_limit → new ≡ old
+      → IsRefused content words old new (long_line workload)
+  no_text : (workload : List ℕ) (line : ℕ) (what : What) → IsPrint words workload → HoldsFault content workload line what → new ≡ old
+      → IsRefused content words old new (fault_line workload line (what_text what))
   not_sent : (plan : Plan) (bytes : List ℕ) (read : Reads content words plan bytes) (number : ℕ) → IsUnsent plan bytes number old new
       → IsRefused content words old new (fault_line read.schedule number (codes "message"))

@@ -1,6 +1,8 @@
 -- What was replayed, and what standard output took: docs/FORMATS.md, "Report"
 use Rattle.std.specs.Prelude.{◌≡◌, ℕ, ◌≤◌, List, length, Option}
-use Rattle.roc_io.specs.Told.{Adds}
+use Rattle.roc_io.specs.Told.{Adds, AddsFront}
+use Rattle.roc_lang.specs.Syntax.{Text}
+use Rattle.roc_print.specs.Canonical.{canonical}
 use Rattle.roc_plan.specs.Groups.{Plan}
 use Rattle.roc_report.specs.Line.{Line}
 use Rattle.roc_report.specs.Text.{lines_text}
@@ -8,8 +10,8 @@ use Rattle.roc_sched.specs.Schedule.{most_bytes}
 use Rattle.roc_replay.specs.declared.ended.Summary.{Summary}
 use Rattle.roc_replay.specs.Told.{IsExplained}
 use Rattle.roc_replay.specs.Ended.{IsReplayed, IsFront}
-use Rattle.roc_cli.specs.Words.{IsReplay}
-use Rattle.roc_cli.specs.Held.{Holds, HoldsPlan}
+use Rattle.roc_cli.specs.Words.{IsReplay, IsPrint}
+use Rattle.roc_cli.specs.Held.{Holds, HoldsPlan, HoldsText}
 
 -- the words name a workload that has this plan, and a schedule of these bytes, which are not too many
 pub record Reads (content : List ℕ → Option (List ℕ)) (words : List (List ℕ)) (plan : Plan) (bytes : List ℕ) : Type 0 where
@@ -37,7 +39,16 @@ pub record Explains (content : List ℕ → Option (List ℕ)) (words : List (Li
   pub taken : Adds old new (lines_text plan.program lines)
   pub explained : IsExplained plan.program lines
 
--- standard output took a front of the report so far
+-- standard output took a front of the report so far, or of the text that was to be printed
 pub data TakesFront (content : List ℕ → Option (List ℕ)) (words : List (List ℕ)) (old new : Option (List ℕ)) : Type 0 where
   nothing : new ≡ old → TakesFront content words old new
   something : (plan : Plan) (bytes : List ℕ) → Reads content words plan bytes → IsFront plan bytes old new → TakesFront content words old new
+  some_text : (workload : List ℕ) (text : Text) → IsPrint words workload → HoldsText content workload text → AddsFront old new (canonical text) → TakesFront content words old new
+
+-- standard output took the canonical text of the named workload
+pub record Prints (content : List ℕ → Option (List ℕ)) (words : List (List ℕ)) (old new : Option (List ℕ)) : Type 0 where
+  pub workload : List ℕ
+  pub given : IsPrint words workload
+  pub text : Text
+  pub held : HoldsText content workload text
+  pub taken : Adds old new (canonical text)

@@ -1,15 +1,16 @@
 //! What the program does for its words.
 ghost use Rattle.std.specs.Prelude.{◌≡◌, ◌↔◌, ◌⊎◌, ℕ, ◌==◌, List, map, string_bytes, codes};
 ghost use Rattle.roc_io.specs.Cause.{HasCause};
-ghost use Rattle.roc_cli.specs.Words.{AreReplayWords};
+ghost use Rattle.roc_cli.specs.Words.{IsReplay, IsPrint, AreReplayWords, ArePrintWords, AreCommandWords};
 ghost use Rattle.roc_cli.specs.Says.{Says, word_line, file_line};
-ghost use Rattle.roc_cli.specs.Replayed.{Replays, Explains, TakesFront};
+ghost use Rattle.roc_cli.specs.Replayed.{Replays, Explains, Prints, TakesFront};
 ghost use Rattle.roc_cli.specs.Refused.{IsRefused};
 ghost use Rattle.roc_cli.specs.Ends.{Ends, ReplayEnds, IsNamed, fails_by, file_failed, sink_failed};
 
 use crate::fault::Fault;
-use crate::input::{bytes_of, plan_of};
-use crate::words::replay_names;
+use crate::input::{MOST_WORKLOAD_BYTES, bytes_of, plan_of};
+use crate::text::print_text;
+use crate::words::{print_name, replay_names};
 use roc_io::{Files, Link, Sink, Spawner};
 use roc_plan::Plan;
 use roc_replay::{Ended, replay};
@@ -18,10 +19,10 @@ use std::alloc::Global;
 /// How many bytes a schedule may have.
 const MOST_SCHEDULE_BYTES: usize = 8_388_608;
 
-/// Does what the words behind the program's name ask for, and answers the status with which the program is to end. The one
-/// command is `replay WORKLOAD SCHEDULE`, which reads both files, in this order, and writes the report of the schedule's run
-/// to `out`. Nothing but `err` is told of what went wrong, in one line; whether `err` takes it changes no status. The link and
-/// the children are for commands to come.
+/// Does what the words behind the program's name ask for, and answers the status with which the program is to end. The commands
+/// are `replay WORKLOAD SCHEDULE`, which reads both files, in this order, and writes the report of the schedule's run to `out`,
+/// and `print WORKLOAD`, which writes the workload's canonical text. Nothing but `err` is told of what went wrong, in one line;
+/// whether `err` takes it changes no status. The link and the children are for commands to come.
 ///
 /// The status is 4 where memory runs out, which no clause gives a cause.
 pub fn run<F: Files, S: Sink, E: Sink, L: Link, P: Spawner>(
@@ -37,12 +38,14 @@ pub fn run<F: Files, S: Sink, E: Sink, L: Link, P: Spawner>(
 
     // 0: the schedule was replayed, and its report was written. The report explains itself: every reply that it shows is the
     // one that the serial order which it shows gives, in real-time order.
-    ensures replayed { result ≡ 0 → Replays (F.content files.old) (map string_bytes words.now) (S.taken out.old) (S.taken out.new) }
-    ensures explained { result ≡ 0 → Explains (F.content files.old) (map string_bytes words.now) (S.taken out.old) (S.taken out.new) }
+    ensures replayed { result ≡ 0 → AreReplayWords (map string_bytes words.now) → Replays (F.content files.old) (map string_bytes words.now) (S.taken out.old) (S.taken out.new) }
+    ensures explained { result ≡ 0 → AreReplayWords (map string_bytes words.now) → Explains (F.content files.old) (map string_bytes words.now) (S.taken out.old) (S.taken out.new) }
+    // ..or the workload's canonical text was written.
+    ensures printed { result ≡ 0 → ArePrintWords (map string_bytes words.now) → Prints (F.content files.old) (map string_bytes words.now) (S.taken out.old) (S.taken out.new) }
     ensures silent { result ≡ 0 → err.new ≡ err.old }
 
     // 2: exactly where the words are not those of a command.
-    ensures words { (result ≡ 2) ↔ (AreReplayWords (map string_bytes words.now) → ⊥) }
+    ensures words { (result ≡ 2) ↔ (AreCommandWords (map string_bytes words.now) → ⊥) }
     ensures no_words { result ≡ 2 → (S.taken out.new ≡ S.taken out.old) × Says (E.taken err.old) (E.taken err.new) (E.faults err.old) (E.faults err.new) (word_line (codes "words")) }
 
     // 3: a file is too long, no text of its grammar, or does not fit the plan or the run.
@@ -53,7 +56,7 @@ pub fn run<F: Files, S: Sink, E: Sink, L: Link, P: Spawner>(
     ensures memory { result ≡ 4 → TakesFront (F.content files.old) (map string_bytes words.now) (S.taken out.old) (S.taken out.new)
         × Says (E.taken err.old) (E.taken err.new) (E.faults err.old) (E.faults err.new) (word_line (codes "memory")) }
 
-    // 6: a file could not be read. 7: the report could not be written. Each count of faults rises exactly there.
+    // 6: a file could not be read. 7: the report or the text could not be written. Each count of faults rises exactly there.
     ensures file { result ≡ 6 → (S.taken out.new ≡ S.taken out.old) × ((name : List ℕ) × IsNamed (map string_bytes words.now) name
         × Says (E.taken err.old) (E.taken err.new) (E.faults err.old) (E.faults err.new) (file_line name)) }
     ensures sink { result ≡ 7 → TakesFront (F.content files.old) (map string_bytes words.now) (S.taken out.old) (S.taken out.new)
@@ -64,14 +67,14 @@ pub fn run<F: Files, S: Sink, E: Sink, L: Link, P: Spawner>(
     ensures content { (name : List ℕ) → F.content files.new name ≡ F.content files.old name }
     ensures others { (link.new ≡ link.old) × (children.new ≡ children.old) }
 {
-    match replay_words(alloc, words, files, out) {
+    match perform(alloc, words, files, out) {
         Ok(()) => 0,
         Err(fault) => fault.tell(alloc, err),
     }
 }
 
-// Replays the schedule that the words name, under the plan of the workload that they name.
-fn replay_words<'a, F: Files, S: Sink>(
+// Does what the words ask for.
+fn perform<'a, F: Files, S: Sink>(
     alloc: Global,
     words: &'a [String],
     files: &mut F,
@@ -82,15 +85,52 @@ fn replay_words<'a, F: Files, S: Sink>(
     ensures sink_faults { HasCause (fails_by sink_failed result) (S.faults out.old) (S.faults out.new) }
     ensures content { (name : List ℕ) → F.content files.new name ≡ F.content files.old name }
 {
-    let Some((workload, schedule)) = replay_names(words) else {
-        return Err(Fault::Words);
-    };
+    match replay_names(words) {
+        Some((workload, schedule)) => replay_files(alloc, workload, schedule, files, out),
+        None => match print_name(words) {
+            Some(workload) => print_file(alloc, workload, files, out),
+            None => Err(Fault::Words),
+        },
+    }
+}
+
+// Replays a schedule under the plan of a workload.
+fn replay_files<'a, F: Files, S: Sink>(
+    alloc: Global,
+    workload: &'a str,
+    schedule: &'a str,
+    files: &mut F,
+    out: &mut S,
+) -> Result<(), Fault<'a>>
+    ensures ends { (words : List (List ℕ)) → IsReplay words workload.entry.now schedule.entry.now → Ends (F.content files.old) words (S.taken out.old) (S.taken out.new) result }
+    ensures file_faults { HasCause (fails_by file_failed result) (F.faults files.old) (F.faults files.new) }
+    ensures sink_faults { HasCause (fails_by sink_failed result) (S.faults out.old) (S.faults out.new) }
+    ensures content { (name : List ℕ) → F.content files.new name ≡ F.content files.old name }
+{
     let plan = match plan_of(alloc, files, workload) {
         Ok(plan) => plan,
         Err(fault) => return Err(fault),
     };
     match bytes_of(alloc, files, schedule, MOST_SCHEDULE_BYTES) {
         Ok(bytes) => replay_file(alloc, &plan, schedule, &bytes, out),
+        Err(fault) => Err(fault),
+    }
+}
+
+// Prints a workload.
+fn print_file<'a, F: Files, S: Sink>(
+    alloc: Global,
+    workload: &'a str,
+    files: &mut F,
+    out: &mut S,
+) -> Result<(), Fault<'a>>
+    ensures ends { (words : List (List ℕ)) → IsPrint words workload.entry.now → Ends (F.content files.old) words (S.taken out.old) (S.taken out.new) result }
+    ensures file_faults { HasCause (fails_by file_failed result) (F.faults files.old) (F.faults files.new) }
+    ensures sink_faults { HasCause (fails_by sink_failed result) (S.faults out.old) (S.faults out.new) }
+    ensures content { (name : List ℕ) → F.content files.new name ≡ F.content files.old name }
+{
+    match bytes_of(alloc, files, workload, MOST_WORKLOAD_BYTES) {
+        Ok(bytes) => print_text(alloc, workload, &bytes, out),
         Err(fault) => Err(fault),
     }
 }

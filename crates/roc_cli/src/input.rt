@@ -12,7 +12,7 @@ use roc_plan::Plan;
 use std::alloc::Global;
 
 /// How many bytes a workload may have.
-const MOST_WORKLOAD_BYTES: usize = 1_048_576;
+pub(crate) const MOST_WORKLOAD_BYTES: usize = 1_048_576;
 
 /// The bytes that a file holds, of which there may be so many.
 pub(crate) fn bytes_of<'a, F: Files>(
@@ -56,8 +56,8 @@ pub(crate) fn plan_of<'a, F: Files>(
     }
 }
 
-// A fault of a workload's text, with the file's name.
-fn fault_of(name: &str, error: LangError) -> Fault<'_>
+/// A fault of a workload's text, with the file's name.
+pub(crate) fn fault_of(name: &str, error: LangError) -> Fault<'_>
     ensures { TellsError name.entry.now error result }
 {
     match error {

@@ -9,6 +9,7 @@
 mod command;
 mod fault;
 mod input;
+mod text;
 mod words;
 
 pub use command::run;

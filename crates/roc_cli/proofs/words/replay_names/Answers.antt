@@ -1,6 +1,6 @@
 use Rattle.std.proofs.Common.{sym, ◌∙◌}
 use Rattle.std.proofs.lemmas.Slice.Eq.{bytes_eq-Decides}
-use Rattle.roc_cli.proofs.Three.{three_words}
+use Rattle.roc_cli.proofs.Counted.{three_words}
 use Rattle.roc_cli.proofs.words.replay_names.Goals as goal
 
 -- the command's word, and the two names
