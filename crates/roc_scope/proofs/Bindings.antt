@@ -1,0 +1,33 @@
+-- Names that pieces bind, one piece behind another.
+use Rattle.std.proofs.Common.{◌≡◌, ℕ, zero, suc, ◌<◌, Bool, true, false, ◌||◌, List, [], ◌∷◌, ◌++◌, length, get_or, map, cond, refl, sym, ap, ◌∙◌, arith, append-nil}
+use Rattle.std.specs.List.{flat_map}
+use Rattle.std.proofs.lemmas.List.Concat.{flat_map-cons, flat_map-append}
+use Rattle.roc_lang.specs.Syntax.{Name, Piece, Table}
+use Rattle.roc_lang.specs.Scope.{Bound, is_among, bound_by, bound_after, pieces_faults}
+use Rattle.roc_lang.proofs.Names.{among-append}
+use Rattle.roc_scope.specs.Before.{now_by, later_by, now_names, later_names, bound_first, bound_behind}
+
+or_true : (b : Bool) → (b || true) ≡ true
+or_true true = refl
+or_true false = refl
+
+-- what is among the names of one element is among those of all
+pub among_at : {A B : Type 0} (view : A → B) (f : B → List Name) (name : Name) (xs : List A) (i : ℕ) (x : A) → i < length xs → x ≡ get_or xs i x → is_among (f (view x)) name ≡ true
+    → is_among (flat_map f (map view xs)) name ≡ true
+among_at view f name [] i x below is among = absurd (omega arith)
+among_at view f name (y ∷ ys) zero x below is among =
+    ap (λ zs. is_among zs name) (flat_map-cons f (view y) (map view ys)) ∙ among-append (f (view y)) (flat_map f (map view ys)) name
+    ∙ ap (λ b. b || is_among (flat_map f (map view ys)) name) (ap (λ z. is_among (f (view z)) name) (sym is) ∙ among)
+among_at view f name (y ∷ ys) (suc i) x below is among =
+    ap (λ zs. is_among zs name) (flat_map-cons f (view y) (map view ys)) ∙ among-append (f (view y)) (flat_map f (map view ys)) name
+    ∙ ap (λ b. is_among (f (view y)) name || b) (among_at view f name ys i x (omega arith) is among) ∙ or_true (is_among (f (view y)) name)
+
+pub among_now : (p : Piece) (name : Name) → p.is_now ≡ true → is_among (flat_map bound_by p.body) name ≡ true → is_among (now_by p) name ≡ true
+among_now p name e among = ap (λ b. is_among (cond b (flat_map bound_by p.body) []) name) e ∙ among
+
+pub among_later : (p : Piece) (name : Name) → p.is_now ≡ false → is_among (flat_map bound_by p.body) name ≡ true → is_among (later_by p) name ≡ true
+among_later p name e among = ap (λ b. is_among (cond b [] (flat_map bound_by p.body)) name) e ∙ among
+
+-- before the first piece the arguments are known
+pub behind_nothing : (arguments : List Name) → bound_behind arguments [] [] ≡ bound_first arguments
+behind_nothing arguments = ap (λ (names : List Name). bound_first names) (append-nil arguments)
