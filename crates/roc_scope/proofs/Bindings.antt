@@ -1,11 +1,11 @@
 -- Names that pieces bind, one piece behind another.
-use Rattle.std.proofs.Common.{◌≡◌, ℕ, zero, suc, ◌<◌, Bool, true, false, ◌||◌, List, [], ◌∷◌, ◌++◌, length, get_or, map, cond, refl, sym, ap, ◌∙◌, arith, append-nil}
+use Rattle.std.proofs.Common.{◌≡◌, ℕ, zero, suc, ◌<◌, Bool, true, false, ◌||◌, List, [], ◌∷◌, length, get_or, map, cond, refl, sym, ap, ◌∙◌, arith, append-nil}
 use Rattle.std.specs.List.{flat_map}
-use Rattle.std.proofs.lemmas.List.Concat.{flat_map-cons, flat_map-append}
-use Rattle.roc_lang.specs.Syntax.{Name, Piece, Table}
-use Rattle.roc_lang.specs.Scope.{Bound, is_among, bound_by, bound_after, pieces_faults}
+use Rattle.std.proofs.lemmas.List.Concat.{flat_map-cons}
+use Rattle.roc_lang.specs.Syntax.{Name, Piece}
+use Rattle.roc_lang.specs.Scope.{is_among, bound_by}
 use Rattle.roc_lang.proofs.Names.{among-append}
-use Rattle.roc_scope.specs.Before.{now_by, later_by, now_names, later_names, bound_first, bound_behind}
+use Rattle.roc_scope.specs.Before.{now_by, later_by, bound_first, bound_behind}
 
 or_true : (b : Bool) → (b || true) ≡ true
 or_true true = refl

@@ -1,5 +1,5 @@
 -- What the test of scope answers: that there is no fault, or the first one. docs/LANGUAGE.md, "Scope"
-use Rattle.std.specs.Prelude.{◌≡◌, List, [], ◌∷◌, Option, Some, None, Result, Ok, Err}
+use Rattle.std.specs.Prelude.{◌≡◌, List, [], ◌∷◌, Option, Some, None}
 use Rattle.std.specs.String.{string_bytes}
 use Rattle.roc_lang.specs.Scope.{FaultKind, Fault}
 use Rattle.roc_lang.specs.Scope as scope

@@ -2,9 +2,9 @@
 
 ghost use Rattle.std.specs.Prelude.{◌≡◌, Some};
 ghost use Rattle.roc_scope.specs.FaultText.{fault_text, what_text};
-ghost use Rattle.roc_scope.specs.declared.fault.ScopeFault.TheVariants.{NoMemory};
+ghost use Rattle.roc_scope.specs.declared.fault.ScopeFault.TheVariants.{NoMemory as no_memory};
 
-use std::alloc::AllocError;
+use roc_base::NoMemory;
 use std::error::Error;
 use std::fmt;
 
@@ -40,12 +40,12 @@ impl fmt::Display for ScopeWhat {
     }
 }
 
-/// Why `check_scope` finds a tree out of scope.
+/// Why a tree is refused.
 #[derive(Debug, Drop)]
 pub enum ScopeFault {
     /// The first fault of a text, with its line, counted from 1.
     At { line: u32, what: ScopeWhat },
-    /// There is a fault, but no memory for its name.
+    /// No memory was left: for the name in a fault, or for what is made of a tree in scope.
     NoMemory,
 }
 
@@ -62,10 +62,10 @@ impl fmt::Display for ScopeFault {
 
 impl Error for ScopeFault {}
 
-impl From<AllocError> for ScopeFault {
-    ghost from_gives = { λ _ e. e ≡ NoMemory };
+impl From<NoMemory> for ScopeFault {
+    ghost from_gives = { λ _ fault. fault ≡ no_memory };
 
-    fn from(_e: AllocError) -> ScopeFault {
+    fn from(_error: NoMemory) -> ScopeFault {
         ScopeFault::NoMemory
     }
 }
