@@ -10,3 +10,4 @@ pub mod WellFormed
 pub mod ValueLaws
 pub mod Workload
 pub mod Outlines
+pub mod FaultText

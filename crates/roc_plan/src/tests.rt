@@ -1,7 +1,11 @@
 //! Worked values of expressions, and the readers of two plans.
-use crate::{Class, Expression, Known, Plan, Statement, Workload};
+ghost use Rattle.roc_lang.specs.Tree.{tree};
+ghost use Rattle.roc_plan.specs.Limits.{IsWithinLimits};
+
+use crate::laws::texts_are_within_limits;
+use crate::{Class, Expression, Known, Plan, PlanFault, Statement, Workload, resolve};
 use roc_base::{Nums, Shard};
-use roc_lang::parse;
+use roc_lang::{Source, parse};
 use std::alloc::{AllocError, Global};
 use std::process::Abort;
 use std::test::Fail;
@@ -77,10 +81,17 @@ proc move(from, to, amount) {
   }
 }";
 
+fn plan_of(alloc: Global, text: &[u8]) -> Result<Plan, Fail> {
+    let source = parse(alloc, text)?;
+    texts_are_within_limits();
+    let workload = resolve(alloc, source)?;
+    Ok(Plan::thin(alloc, workload)?)
+}
+
 #[test]
 fn a_counter_is_planned(rt: HostRuntime) -> Result<(), Fail> {
     let alloc = rt.alloc();
-    let plan = Plan::thin(alloc, parse(alloc, COUNTER)?)?;
+    let plan = plan_of(alloc, COUNTER)?;
     let workload = plan.workload();
     assert_eq!(rt; workload.shards, 1);
     assert_eq!(rt; plan.procedures(), 1);
@@ -93,6 +104,34 @@ fn a_counter_is_planned(rt: HostRuntime) -> Result<(), Fail> {
     assert_eq!(rt; plan.inputs(0, 0).len(), 0);
     assert_eq!(rt; plan.outs(0, 0), [0].as_slice());
     assert_eq!(rt; plan.shard_of(-5), Shard(0));
+    Ok(())
+}
+
+// A workload without tables and procedures.
+fn empty(alloc: Global, shards: u64) -> Source
+    ensures { IsWithinLimits (tree result) }
+{
+    Source {
+        shards,
+        shards_line: 1,
+        tables: Vec::new(alloc),
+        inits: Vec::new(alloc),
+        procedures: Vec::new(alloc),
+    }
+}
+
+#[test]
+fn two_shards_have_no_plan(rt: HostRuntime) -> Result<(), Fail> {
+    let alloc = rt.alloc();
+    let workload = resolve(alloc, empty(alloc, 2))?;
+    match Plan::thin(alloc, workload) {
+        Err(fault) => assert_eq!(rt; fault, PlanFault::Unfit),
+        Ok(_) => panic!(rt; "a plan"),
+    }
+    match resolve(alloc, empty(alloc, 0)) {
+        Err(fault) => assert_eq!(rt; format!(in alloc; "{fault}")?.as_str(), "line 1: shards"),
+        Ok(_) => panic!(rt; "a workload"),
+    }
     Ok(())
 }
 
@@ -127,7 +166,7 @@ fn check_names(rt: &impl Abort, workload: &Workload) {
 #[test]
 fn names_have_the_numbers_of_their_declarations(rt: HostRuntime) -> Result<(), Fail> {
     let alloc = rt.alloc();
-    let plan = Plan::thin(alloc, parse(alloc, TRANSFER)?)?;
+    let plan = plan_of(alloc, TRANSFER)?;
     check_names(&rt, plan.workload());
     assert_eq!(rt; plan.procedures(), 1);
     assert_eq!(rt; plan.args(0), 3);

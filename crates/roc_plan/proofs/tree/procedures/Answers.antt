@@ -1,7 +1,7 @@
 use Rattle.roc_lang.specs.Tree.{procedure_tree}
 use Rattle.roc_plan.specs.Limits.{IsSmallProcedure}
 use Rattle.roc_plan.proofs.Rows.{all_read}
-use Rattle.roc_plan.proofs.resolve.procedures.Goals as goal
+use Rattle.roc_plan.proofs.tree.procedures.Goals as goal
 
 pub procedure-requires-clause-small : goal.procedure-requires-clause-small
 procedure-requires-clause-small c =

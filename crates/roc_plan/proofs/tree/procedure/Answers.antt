@@ -2,7 +2,7 @@ use Rattle.std.proofs.Common.{length, ap, arith}
 use Rattle.std.proofs.lemmas.List.{length-map}
 use Rattle.roc_lang.specs.Tree.{procedure_tree}
 use Rattle.roc_plan.proofs.Counts.{names_few}
-use Rattle.roc_plan.proofs.resolve.procedure.Goals as goal
+use Rattle.roc_plan.proofs.tree.procedure.Goals as goal
 
 pub overflow_cast-result-2 : goal.overflow_cast-result-2
 overflow_cast-result-2 c =

@@ -1,16 +1,20 @@
 //! From the names of a workload text to numbers.
-ghost use Rattle.std.specs.Prelude.{◌≡◌, ◌<◌, ◌≤◌, ◌^◌, length, map, IfOk};
+ghost use Rattle.std.specs.Prelude.{◌≡◌, ◌<◌, ◌≤◌, ◌^◌, [], length, map, IfOk, IfErr};
 ghost use Rattle.std.specs.List.{AllByRecursion};
 ghost use Rattle.std.specs.String.{string_bytes};
 ghost use Rattle.roc_lang.specs.Tree.{name_tree, expression_tree, access_tree, statement_tree, piece_tree, procedure_tree, table_tree, init_tree, tree};
-ghost use Rattle.roc_plan.specs.Limits.{AreFewTables, IsSmallProcedure, IsSmallText};
+ghost use Rattle.roc_lang.specs.Scope.{faults};
+ghost use Rattle.roc_scope.specs.Fault.{IsFirst};
+ghost use Rattle.roc_plan.specs.Limits.{AreFewTables, IsSmallProcedure, IsSmallText, IsWithinLimits};
 ghost use Rattle.roc_plan.specs.Resolve as resolve;
+ghost use Rattle.roc_plan.specs.WellFormed.{IsProgram};
 ghost use Rattle.roc_plan.specs.Workload as view;
 
 use crate::names::{column_number, names_of, number_in, table_number};
 use crate::{Access, Expression, Init, Piece, Procedure, Statement, Table, Workload};
 use roc_base::NoMemory;
 use roc_lang::Source;
+use roc_scope::{ScopeFault, check_scope};
 use std::alloc::Global;
 
 #[cycle(expression)]
@@ -274,8 +278,8 @@ fn inits(
     Ok(resolved)
 }
 
-/// The workload of a text within the limits, with a number for each name.
-pub fn resolved(alloc: Global, source: &Source) -> Result<Workload, NoMemory>
+// The workload of a tree within the limits, whether in scope or not.
+fn resolved(alloc: Global, source: &Source) -> Result<Workload, NoMemory>
     requires shards { source.now.shards ≤ 64 }
     requires small { IsSmallText (tree source.now) }
     ensures { IfOk result (λ w. view.program w ≡ resolve.resolved (tree source.now)) }
@@ -286,4 +290,20 @@ pub fn resolved(alloc: Global, source: &Source) -> Result<Workload, NoMemory>
         inits: inits(alloc, &source.tables, &source.inits)?,
         procedures: procedures(alloc, &source.tables, &source.procedures)?,
     })
+}
+
+/// The workload of a tree within the limits of the language, which the tree of each parsed text is. A fault is the first fault of
+/// scope of the tree: `docs/LANGUAGE.md` lists them.
+pub fn resolve(alloc: Global, source: Source) -> Result<Workload, ScopeFault>
+    requires { IsWithinLimits (tree source) }
+    // A workload comes only of a tree in scope.
+    ensures in_scope { IfOk result (λ _. faults (tree source) ≡ []) }
+    // It is the program of the tree.
+    ensures program { IfOk result (λ w. view.program w ≡ resolve.resolved (tree source)) }
+    ensures well_formed { IfOk result (λ w. IsProgram (view.program w)) }
+    // A fault is the first of the tree.
+    ensures fault { IfErr result (IsFirst (faults (tree source))) }
+{
+    check_scope(alloc, &source)?;
+    Ok(resolved(alloc, &source)?)
 }
