@@ -1,0 +1,10 @@
+use Rattle.std.proofs.Common.{◌≡◌, ◌-◌, map}
+use lib.Chars.{codes}
+use Rattle.roc_lang.specs.Grammar.{standard}
+use Rattle.roc_lang.specs.Tree.{procedure_tree}
+use Rattle.roc_parse.specs.Views.{views}
+use Rattle.roc_parse.specs.Reading.{is_word, with_front, many_at, procedure_at, procedures_at}
+use Rattle.roc_parse.proofs.procedure.procedures_of.Given as goal
+
+abbrev pub invariant-loop : goal.invariant-loop
+invariant-loop l = with_front (map procedure_tree l.procedures.items) (many_at (is_word (codes "proc")) (procedure_at standard) (64 - l.counter) (views l.rest)) ≡ procedures_at standard (views l.tokens)

@@ -1,0 +1,7 @@
+pub mod Stuck
+pub mod Reading
+pub mod Views
+pub mod Lexed
+pub mod Scanning
+pub mod Fault
+pub mod Answer

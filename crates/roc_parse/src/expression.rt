@@ -1,0 +1,437 @@
+//! Expressions: each is read within a room, the depth that is left to it.
+
+ghost use Rattle.std.specs.Prelude.{◌≡◌, ◌+◌, ◌-◌, ◌<◌, ◌≤◌, IfOk};
+ghost use Rattle.roc_lang.specs.Syntax.{Pick};
+ghost use Rattle.roc_lang.specs.Tree.{expression_tree};
+ghost use Rattle.roc_parse.specs.Views.{Gives, views, deep_view, function_word, function_of};
+ghost use Rattle.roc_parse.specs.Reading.{number_at, variable_at, enclosed_at, next_at, pair_at, function_at, pick_at, atom_at, factor_at, factors_at, times, term_at, signed_term_at, sums_at, plus_or_minus, sum_at, deep_at, expression_at};
+
+use crate::refusal::{Refusal, limit_fault};
+use crate::terminal::{
+    begins_integer, begins_mark, begins_sign, begins_word, integer_of, mark, name_of, sign_at, word,
+};
+use crate::token::Token;
+use roc_lang::Expression;
+use std::alloc::{AllocError, Global};
+
+/// How deep an expression may be.
+const DEPTH_LIMIT: u32 = 32;
+
+/// An expression and its depth.
+#[derive(Debug, Drop)]
+pub(crate) struct Deep {
+    pub expression: Expression,
+    pub depth: u32,
+}
+
+/// A function of two operands.
+#[derive(Clone, Copy, Debug, Drop)]
+pub(crate) enum Function {
+    Minimum,
+    Maximum,
+    Less,
+}
+
+fn word_of(function: Function) -> &'static str
+    ensures { result.now ≡ function_word function }
+{
+    match function {
+        Function::Minimum => "min",
+        Function::Maximum => "max",
+        Function::Less => "less",
+    }
+}
+
+fn applied(
+    alloc: Global,
+    function: Function,
+    first: Expression,
+    second: Expression,
+) -> Result<Expression, AllocError>
+    ensures { IfOk result (λ e. expression_tree e ≡ function_of function (expression_tree first) (expression_tree second)) }
+{
+    let first = Box::new(alloc, first)?;
+    let second = Box::new(alloc, second)?;
+    match function {
+        Function::Minimum => Ok(Expression::Minimum(first, second)),
+        Function::Maximum => Ok(Expression::Maximum(first, second)),
+        Function::Less => Ok(Expression::Less(first, second)),
+    }
+}
+
+#[tactic(auto, unfolding(crate::specs::Reading::number_at))]
+fn number_of(tokens: &[Token]) -> Result<(Deep, &[Token]), Refusal<'_>>
+    ensures read { Gives (λ x. (deep_view x.0, views x.1.now)) result (number_at (views tokens.now)) }
+    ensures depth { IfOk result (λ x. x.0.depth ≡ 1) }
+{
+    let (value, rest) = integer_of(tokens)?;
+    let expression = Expression::Number(value);
+    Ok((
+        Deep {
+            expression,
+            depth: 1,
+        },
+        rest,
+    ))
+}
+
+#[tactic(auto, unfolding(crate::specs::Reading::variable_at))]
+fn variable_of(alloc: Global, tokens: &[Token]) -> Result<(Deep, &[Token]), Refusal<'_>>
+    ensures read { Gives (λ x. (deep_view x.0, views x.1.now)) result (variable_at (views tokens.now)) }
+    ensures depth { IfOk result (λ x. x.0.depth ≡ 1) }
+{
+    let (name, rest) = name_of(alloc, tokens)?;
+    let expression = Expression::Variable(name);
+    Ok((
+        Deep {
+            expression,
+            depth: 1,
+        },
+        rest,
+    ))
+}
+
+/// An expression in parentheses.
+#[cycle(expression)]
+#[tactic(auto, unfolding(crate::specs::Reading::enclosed_at))]
+fn enclosed_of(alloc: Global, room: u32, tokens: &[Token]) -> Result<(Deep, &[Token]), Refusal<'_>>
+    requires above { 0 < room }
+    requires below { room < 32 }
+    ensures read { Gives (λ x. (deep_view x.0, views x.1.now)) result (enclosed_at (deep_at room) (views tokens.now)) }
+    ensures deep { IfOk result (λ x. 0 < x.0.depth) }
+    ensures fits { IfOk result (λ x. x.0.depth ≤ room + 1) }
+{
+    let rest = mark(tokens, b'(')?;
+    let (inner, rest) = deep_of(alloc, room, rest)?;
+    let rest = mark(rest, b')')?;
+    let depth = inner.depth + 1;
+    let expression = inner.expression;
+    Ok((Deep { expression, depth }, rest))
+}
+
+/// A comma and an expression behind it.
+#[cycle(expression)]
+#[tactic(auto, unfolding(crate::specs::Reading::next_at))]
+fn next_of(alloc: Global, room: u32, tokens: &[Token]) -> Result<(Deep, &[Token]), Refusal<'_>>
+    requires above { 0 < room }
+    requires below { room < 32 }
+    ensures read { Gives (λ x. (deep_view x.0, views x.1.now)) result (next_at (deep_at room) (views tokens.now)) }
+    ensures deep { IfOk result (λ x. 0 < x.0.depth) }
+    ensures fits { IfOk result (λ x. x.0.depth ≤ room) }
+{
+    let rest = mark(tokens, b',')?;
+    deep_of(alloc, room, rest)
+}
+
+/// Two operands in parentheses, and the greater of their depths.
+#[cycle(expression)]
+#[tactic(auto, unfolding(crate::specs::Reading::pair_at))]
+fn pair_of(
+    alloc: Global,
+    room: u32,
+    tokens: &[Token],
+) -> Result<((Expression, Expression, u32), &[Token]), Refusal<'_>>
+    requires above { 0 < room }
+    requires below { room < 32 }
+    ensures read { Gives (λ x. ((expression_tree x.0.0, expression_tree x.0.1, x.0.2), views x.1.now)) result (pair_at (deep_at room) (views tokens.now)) }
+    ensures fits { IfOk result (λ x. x.0.2 ≤ room) }
+{
+    let rest = mark(tokens, b'(')?;
+    let (first, rest) = deep_of(alloc, room, rest)?;
+    let (second, rest) = next_of(alloc, room, rest)?;
+    let rest = mark(rest, b')')?;
+    let depth = first.depth.max(second.depth);
+    Ok(((first.expression, second.expression, depth), rest))
+}
+
+/// `min`, `max` or `less`, and its operands.
+#[cycle(expression)]
+#[tactic(auto, unfolding(crate::specs::Reading::function_at))]
+fn call_of(
+    alloc: Global,
+    function: Function,
+    room: u32,
+    tokens: &[Token],
+) -> Result<(Deep, &[Token]), Refusal<'_>>
+    requires above { 0 < room }
+    requires below { room < 32 }
+    ensures read { Gives (λ x. (deep_view x.0, views x.1.now)) result (function_at (function_word function) (function_of function) (deep_at room) (views tokens.now)) }
+    ensures deep { IfOk result (λ x. 0 < x.0.depth) }
+    ensures fits { IfOk result (λ x. x.0.depth ≤ room + 1) }
+{
+    let rest = word(tokens, word_of(function))?;
+    let ((first, second, greater), rest) = pair_of(alloc, room, rest)?;
+    let depth = greater + 1;
+    let expression = applied(alloc, function, first, second)?;
+    Ok((Deep { expression, depth }, rest))
+}
+
+fn picked(
+    alloc: Global,
+    chooser: Expression,
+    first: Expression,
+    second: Expression,
+) -> Result<Expression, AllocError>
+    ensures { IfOk result (λ e. expression_tree e ≡ Pick (expression_tree chooser) (expression_tree first) (expression_tree second)) }
+{
+    let chooser = Box::new(alloc, chooser)?;
+    let first = Box::new(alloc, first)?;
+    let second = Box::new(alloc, second)?;
+    Ok(Expression::Pick(chooser, first, second))
+}
+
+/// `pick` and its operands.
+#[cycle(expression)]
+#[tactic(auto, unfolding(crate::specs::Reading::pick_at))]
+fn pick_of(alloc: Global, room: u32, tokens: &[Token]) -> Result<(Deep, &[Token]), Refusal<'_>>
+    requires above { 0 < room }
+    requires below { room < 32 }
+    ensures read { Gives (λ x. (deep_view x.0, views x.1.now)) result (pick_at (deep_at room) (views tokens.now)) }
+    ensures deep { IfOk result (λ x. 0 < x.0.depth) }
+    ensures fits { IfOk result (λ x. x.0.depth ≤ room + 1) }
+{
+    let rest = word(tokens, "pick")?;
+    let rest = mark(rest, b'(')?;
+    let (chooser, rest) = deep_of(alloc, room, rest)?;
+    let (first, rest) = next_of(alloc, room, rest)?;
+    let (second, rest) = next_of(alloc, room, rest)?;
+    let rest = mark(rest, b')')?;
+    let depth = chooser.depth.max(first.depth.max(second.depth)) + 1;
+    let expression = picked(
+        alloc,
+        chooser.expression,
+        first.expression,
+        second.expression,
+    )?;
+    Ok((Deep { expression, depth }, rest))
+}
+
+/// An integer, a name, an expression in parentheses, or a function and its operands.
+#[cycle(expression)]
+#[tactic(auto, unfolding(crate::specs::Reading::atom_with))]
+fn atom_of(alloc: Global, room: u32, tokens: &[Token]) -> Result<(Deep, &[Token]), Refusal<'_>>
+    requires above { 0 < room }
+    requires below { room ≤ 32 }
+    ensures read { Gives (λ x. (deep_view x.0, views x.1.now)) result (atom_at room (views tokens.now)) }
+    ensures deep { IfOk result (λ x. 0 < x.0.depth) }
+    ensures fits { IfOk result (λ x. x.0.depth ≤ room) }
+{
+    if begins_integer(tokens) {
+        number_of(tokens)
+    } else if begins_mark(tokens, b'(') {
+        if 1 < room {
+            enclosed_of(alloc, room - 1, tokens)
+        } else {
+            Err(limit_fault(tokens))
+        }
+    } else if begins_word(tokens, "min") {
+        if 1 < room {
+            call_of(alloc, Function::Minimum, room - 1, tokens)
+        } else {
+            Err(limit_fault(tokens))
+        }
+    } else if begins_word(tokens, "max") {
+        if 1 < room {
+            call_of(alloc, Function::Maximum, room - 1, tokens)
+        } else {
+            Err(limit_fault(tokens))
+        }
+    } else if begins_word(tokens, "less") {
+        if 1 < room {
+            call_of(alloc, Function::Less, room - 1, tokens)
+        } else {
+            Err(limit_fault(tokens))
+        }
+    } else if begins_word(tokens, "pick") {
+        if 1 < room {
+            pick_of(alloc, room - 1, tokens)
+        } else {
+            Err(limit_fault(tokens))
+        }
+    } else {
+        variable_of(alloc, tokens)
+    }
+}
+
+/// The product of two expressions.
+fn times(alloc: Global, first: Deep, second: Deep) -> Result<Deep, AllocError>
+    requires first { first.depth < 32 }
+    requires second { second.depth < 32 }
+    ensures { IfOk result (λ d. deep_view d ≡ times (deep_view first) (deep_view second)) }
+{
+    let depth = first.depth.max(second.depth) + 1;
+    let first = Box::new(alloc, first.expression)?;
+    let second = Box::new(alloc, second.expression)?;
+    let expression = Expression::Product(first, second);
+    Ok(Deep { expression, depth })
+}
+
+/// A `*` and the atom behind it.
+#[cycle(expression)]
+#[tactic(auto, unfolding(crate::specs::Reading::factor_at))]
+fn factor_of(alloc: Global, room: u32, tokens: &[Token]) -> Result<(Deep, &[Token]), Refusal<'_>>
+    requires above { 0 < room }
+    requires below { room ≤ 32 }
+    ensures read { Gives (λ x. (deep_view x.0, views x.1.now)) result (factor_at (atom_at room) (views tokens.now)) }
+    ensures deep { IfOk result (λ x. 0 < x.0.depth) }
+    ensures fits { IfOk result (λ x. x.0.depth ≤ room) }
+{
+    let rest = mark(tokens, b'*')?;
+    atom_of(alloc, room, rest)
+}
+
+/// All of a product that has begun.
+#[cycle(expression)]
+fn factors_of(
+    alloc: Global,
+    room: u32,
+    first: Deep,
+    tokens: &[Token],
+) -> Result<(Deep, &[Token]), Refusal<'_>>
+    requires above { 0 < first.depth }
+    requires within { first.depth ≤ room }
+    requires below { room ≤ 32 }
+    ensures read { Gives (λ x. (deep_view x.0, views x.1.now)) result (factors_at (atom_at (room - 1)) room room (deep_view first) (views tokens.now)) }
+    ensures deep { IfOk result (λ x. 0 < x.0.depth) }
+    ensures fits { IfOk result (λ x. x.0.depth ≤ room) }
+{
+    let mut product = first;
+    let mut rest = tokens;
+    for _ in 0..room {
+        if !begins_mark(rest, b'*') {
+            return Ok((product, rest));
+        }
+        if product.depth >= room {
+            return Err(limit_fault(rest));
+        }
+        let (factor, after) = factor_of(alloc, room - 1, rest)?;
+        product = times(alloc, product, factor)?;
+        rest = after;
+    }
+    if begins_mark(rest, b'*') {
+        return Err(limit_fault(rest));
+    }
+    Ok((product, rest))
+}
+
+/// Atoms with `*` between.
+#[cycle(expression)]
+#[tactic(auto, unfolding(crate::specs::Reading::term_with))]
+fn term_of(alloc: Global, room: u32, tokens: &[Token]) -> Result<(Deep, &[Token]), Refusal<'_>>
+    requires above { 0 < room }
+    requires below { room ≤ 32 }
+    ensures read { Gives (λ x. (deep_view x.0, views x.1.now)) result (term_at room (views tokens.now)) }
+    ensures deep { IfOk result (λ x. 0 < x.0.depth) }
+    ensures fits { IfOk result (λ x. x.0.depth ≤ room) }
+{
+    let (first, rest) = atom_of(alloc, room, tokens)?;
+    factors_of(alloc, room, first, rest)
+}
+
+/// The sum or the difference of two expressions.
+fn plus_or_minus(alloc: Global, first: Deep, is_sum: bool, second: Deep) -> Result<Deep, AllocError>
+    requires first { first.depth < 32 }
+    requires second { second.depth < 32 }
+    ensures { IfOk result (λ d. deep_view d ≡ plus_or_minus (deep_view first) (is_sum, deep_view second)) }
+{
+    let depth = first.depth.max(second.depth) + 1;
+    let first = Box::new(alloc, first.expression)?;
+    let second = Box::new(alloc, second.expression)?;
+    let expression = if is_sum {
+        Expression::Sum(first, second)
+    } else {
+        Expression::Difference(first, second)
+    };
+    Ok(Deep { expression, depth })
+}
+
+/// A `+` or `-`, true for `+`, and the term behind it.
+#[cycle(expression)]
+#[tactic(auto, unfolding(crate::specs::Reading::signed_term_at))]
+fn signed_term_of(
+    alloc: Global,
+    room: u32,
+    tokens: &[Token],
+) -> Result<((bool, Deep), &[Token]), Refusal<'_>>
+    requires above { 0 < room }
+    requires below { room ≤ 32 }
+    ensures read { Gives (λ x. ((x.0.0, deep_view x.0.1), views x.1.now)) result (signed_term_at (term_at room) (views tokens.now)) }
+    ensures deep { IfOk result (λ x. 0 < x.0.1.depth) }
+    ensures fits { IfOk result (λ x. x.0.1.depth ≤ room) }
+{
+    let (is_sum, rest) = sign_at(tokens)?;
+    let (term, rest) = term_of(alloc, room, rest)?;
+    Ok(((is_sum, term), rest))
+}
+
+/// All of a sum that has begun.
+#[cycle(expression)]
+fn sums_of(
+    alloc: Global,
+    room: u32,
+    first: Deep,
+    tokens: &[Token],
+) -> Result<(Deep, &[Token]), Refusal<'_>>
+    requires above { 0 < first.depth }
+    requires within { first.depth ≤ room }
+    requires below { room ≤ 32 }
+    ensures read { Gives (λ x. (deep_view x.0, views x.1.now)) result (sums_at (term_at (room - 1)) room room (deep_view first) (views tokens.now)) }
+    ensures deep { IfOk result (λ x. 0 < x.0.depth) }
+    ensures fits { IfOk result (λ x. x.0.depth ≤ room) }
+{
+    let mut sum = first;
+    let mut rest = tokens;
+    for _ in 0..room {
+        if !begins_sign(rest) {
+            return Ok((sum, rest));
+        }
+        if sum.depth >= room {
+            return Err(limit_fault(rest));
+        }
+        let ((is_sum, term), after) = signed_term_of(alloc, room - 1, rest)?;
+        sum = plus_or_minus(alloc, sum, is_sum, term)?;
+        rest = after;
+    }
+    if begins_sign(rest) {
+        return Err(limit_fault(rest));
+    }
+    Ok((sum, rest))
+}
+
+/// Terms with `+` and `-` between.
+#[cycle(expression)]
+#[tactic(auto, unfolding(crate::specs::Reading::sum_with))]
+fn sum_of(alloc: Global, room: u32, tokens: &[Token]) -> Result<(Deep, &[Token]), Refusal<'_>>
+    requires above { 0 < room }
+    requires below { room ≤ 32 }
+    ensures read { Gives (λ x. (deep_view x.0, views x.1.now)) result (sum_at room (views tokens.now)) }
+    ensures deep { IfOk result (λ x. 0 < x.0.depth) }
+    ensures fits { IfOk result (λ x. x.0.depth ≤ room) }
+{
+    let (first, rest) = term_of(alloc, room, tokens)?;
+    sums_of(alloc, room, first, rest)
+}
+
+/// An expression that is no deeper than the room.
+#[cycle(expression)]
+fn deep_of(alloc: Global, room: u32, tokens: &[Token]) -> Result<(Deep, &[Token]), Refusal<'_>>
+    requires above { 0 < room }
+    requires below { room ≤ 32 }
+    ensures read { Gives (λ x. (deep_view x.0, views x.1.now)) result (deep_at room (views tokens.now)) }
+    ensures deep { IfOk result (λ x. 0 < x.0.depth) }
+    ensures fits { IfOk result (λ x. x.0.depth ≤ room) }
+{
+    sum_of(alloc, room, tokens)
+}
+
+/// An expression, as deep as any may be.
+#[tactic(auto, unfolding(crate::specs::Reading::expression_at))]
+pub(crate) fn expression_of(
+    alloc: Global,
+    tokens: &[Token],
+) -> Result<(Expression, &[Token]), Refusal<'_>>
+    ensures { Gives (λ x. (expression_tree x.0, views x.1.now)) result (expression_at 32 (views tokens.now)) }
+{
+    let (deep, rest) = deep_of(alloc, DEPTH_LIMIT, tokens)?;
+    Ok((deep.expression, rest))
+}

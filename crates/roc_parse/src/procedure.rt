@@ -1,0 +1,218 @@
+//! Names, pieces and procedures, and lists of them.
+
+ghost use Rattle.std.specs.Prelude.{◌≡◌, map};
+ghost use Rattle.roc_lang.specs.Grammar.{standard};
+ghost use Rattle.roc_lang.specs.Tree.{name_tree, expression_tree, piece_tree, procedure_tree};
+ghost use Rattle.roc_parse.specs.Views.{Gives, views};
+ghost use Rattle.roc_parse.specs.Reading.{next_name_at, names_behind, names_at, some_at, names_closed_at, listed_at, arguments_at, head_at, piece_at, pieces_behind, pieces_at, procedure_at, procedures_at};
+
+use crate::expression::expression_of;
+use crate::refusal::{Refusal, limit_fault};
+use crate::statement::body_of;
+use crate::terminal::{begins_mark, begins_piece, begins_word, class_at, mark, name_of, word};
+use crate::token::Token;
+use roc_lang::{Expression, Name, Piece, Procedure};
+use std::alloc::Global;
+
+/// How many arguments a procedure may have behind the first.
+const MORE_ARGUMENTS: u32 = 7;
+
+/// How many pieces a procedure may have behind the first.
+const MORE_PIECES: u32 = 15;
+
+/// How many procedures a text may have.
+const PROCEDURE_LIMIT: u32 = 64;
+
+/// A comma and a name behind it.
+#[tactic(auto, unfolding(crate::specs::Reading::next_name_at))]
+fn next_name_of(alloc: Global, tokens: &[Token]) -> Result<(Name, &[Token]), Refusal<'_>>
+    ensures { Gives (λ x. (name_tree x.0, views x.1.now)) result (next_name_at (views tokens.now)) }
+{
+    let rest = mark(tokens, b',')?;
+    name_of(alloc, rest)
+}
+
+/// A name that was read, and the names behind it.
+fn names_behind(
+    alloc: Global,
+    first: Name,
+    more: u32,
+    tokens: &[Token],
+) -> Result<(Vec<Name>, &[Token]), Refusal<'_>>
+    ensures { Gives (λ x. (map name_tree x.0.items, views x.1.now)) result (names_behind (name_tree first) more (views tokens.now)) }
+{
+    let mut names = vec![in alloc; first]?;
+    let mut rest = tokens;
+    for _ in 0..more {
+        if !begins_mark(rest, b',') {
+            return Ok((names, rest));
+        }
+        let (name, after) = next_name_of(alloc, rest)?;
+        names.push(name)?;
+        rest = after;
+    }
+    if begins_mark(rest, b',') {
+        return Err(limit_fault(rest));
+    }
+    Ok((names, rest))
+}
+
+/// Names with commas between: one, and so many more.
+#[tactic(auto, unfolding(crate::specs::Reading::some_at))]
+pub(crate) fn names_of(
+    alloc: Global,
+    more: u32,
+    tokens: &[Token],
+) -> Result<(Vec<Name>, &[Token]), Refusal<'_>>
+    ensures { Gives (λ x. (map name_tree x.0.items, views x.1.now)) result (names_at more (views tokens.now)) }
+{
+    let (first, rest) = name_of(alloc, tokens)?;
+    names_behind(alloc, first, more, rest)
+}
+
+/// Names and the closing parenthesis behind them.
+#[tactic(auto, unfolding(crate::specs::Reading::names_closed_at))]
+fn names_closed_of(alloc: Global, tokens: &[Token]) -> Result<(Vec<Name>, &[Token]), Refusal<'_>>
+    ensures { Gives (λ x. (map name_tree x.0.items, views x.1.now)) result (names_closed_at 7 (views tokens.now)) }
+{
+    let (names, rest) = names_of(alloc, MORE_ARGUMENTS, tokens)?;
+    let rest = mark(rest, b')')?;
+    Ok((names, rest))
+}
+
+/// Names, or none, and the closing parenthesis.
+#[tactic(auto, unfolding(crate::specs::Reading::listed_at))]
+fn listed_of(alloc: Global, tokens: &[Token]) -> Result<(Vec<Name>, &[Token]), Refusal<'_>>
+    ensures { Gives (λ x. (map name_tree x.0.items, views x.1.now)) result (listed_at 7 (views tokens.now)) }
+{
+    if begins_mark(tokens, b')') {
+        let rest = mark(tokens, b')')?;
+        return Ok((Vec::new(alloc), rest));
+    }
+    names_closed_of(alloc, tokens)
+}
+
+#[tactic(auto, unfolding(crate::specs::Reading::arguments_at))]
+fn arguments_of(alloc: Global, tokens: &[Token]) -> Result<(Vec<Name>, &[Token]), Refusal<'_>>
+    ensures { Gives (λ x. (map name_tree x.0.items, views x.1.now)) result (arguments_at 7 (views tokens.now)) }
+{
+    let rest = mark(tokens, b'(')?;
+    listed_of(alloc, rest)
+}
+
+/// What stands before the opening brace of a piece.
+#[derive(Debug, Drop)]
+struct Head {
+    is_now: bool,
+    name: Name,
+    place: Expression,
+}
+
+#[tactic(auto, unfolding(crate::specs::Reading::head_at))]
+fn head_of(alloc: Global, tokens: &[Token]) -> Result<(Head, &[Token]), Refusal<'_>>
+    ensures { Gives (λ x. ((x.0.is_now, name_tree x.0.name, expression_tree x.0.place), views x.1.now)) result (head_at 32 (views tokens.now)) }
+{
+    let (is_now, rest) = class_at(tokens)?;
+    let (name, rest) = name_of(alloc, rest)?;
+    let rest = word(rest, "at")?;
+    let (place, rest) = expression_of(alloc, rest)?;
+    Ok((
+        Head {
+            is_now,
+            name,
+            place,
+        },
+        rest,
+    ))
+}
+
+#[tactic(auto, unfolding(crate::specs::Reading::piece_at))]
+fn piece_of(alloc: Global, tokens: &[Token]) -> Result<(Piece, &[Token]), Refusal<'_>>
+    ensures { Gives (λ x. (piece_tree x.0, views x.1.now)) result (piece_at standard (views tokens.now)) }
+{
+    let (head, rest) = head_of(alloc, tokens)?;
+    let rest = mark(rest, b'{')?;
+    let (body, rest) = body_of(alloc, rest)?;
+    let rest = mark(rest, b'}')?;
+    let piece = Piece {
+        is_now: head.is_now,
+        name: head.name,
+        place: head.place,
+        body,
+    };
+    Ok((piece, rest))
+}
+
+/// A piece that was read, and the pieces behind it.
+fn pieces_behind(
+    alloc: Global,
+    first: Piece,
+    tokens: &[Token],
+) -> Result<(Vec<Piece>, &[Token]), Refusal<'_>>
+    ensures { Gives (λ x. (map piece_tree x.0.items, views x.1.now)) result (pieces_behind standard (piece_tree first) 15 (views tokens.now)) }
+{
+    let mut pieces = vec![in alloc; first]?;
+    let mut rest = tokens;
+    for _ in 0..MORE_PIECES {
+        if !begins_piece(rest) {
+            return Ok((pieces, rest));
+        }
+        let (piece, after) = piece_of(alloc, rest)?;
+        pieces.push(piece)?;
+        rest = after;
+    }
+    if begins_piece(rest) {
+        return Err(limit_fault(rest));
+    }
+    Ok((pieces, rest))
+}
+
+/// One piece or more.
+#[tactic(auto, unfolding(crate::specs::Reading::some_at))]
+fn pieces_of(alloc: Global, tokens: &[Token]) -> Result<(Vec<Piece>, &[Token]), Refusal<'_>>
+    ensures { Gives (λ x. (map piece_tree x.0.items, views x.1.now)) result (pieces_at standard 15 (views tokens.now)) }
+{
+    let (first, rest) = piece_of(alloc, tokens)?;
+    pieces_behind(alloc, first, rest)
+}
+
+#[tactic(auto, unfolding(crate::specs::Reading::procedure_at))]
+fn procedure_of(alloc: Global, tokens: &[Token]) -> Result<(Procedure, &[Token]), Refusal<'_>>
+    ensures { Gives (λ x. (procedure_tree x.0, views x.1.now)) result (procedure_at standard (views tokens.now)) }
+{
+    let rest = word(tokens, "proc")?;
+    let (name, rest) = name_of(alloc, rest)?;
+    let (arguments, rest) = arguments_of(alloc, rest)?;
+    let rest = mark(rest, b'{')?;
+    let (pieces, rest) = pieces_of(alloc, rest)?;
+    let rest = mark(rest, b'}')?;
+    let procedure = Procedure {
+        name,
+        arguments,
+        pieces,
+    };
+    Ok((procedure, rest))
+}
+
+/// As many procedures as come.
+pub(crate) fn procedures_of(
+    alloc: Global,
+    tokens: &[Token],
+) -> Result<(Vec<Procedure>, &[Token]), Refusal<'_>>
+    ensures { Gives (λ x. (map procedure_tree x.0.items, views x.1.now)) result (procedures_at standard (views tokens.now)) }
+{
+    let mut procedures = Vec::new(alloc);
+    let mut rest = tokens;
+    for _ in 0..PROCEDURE_LIMIT {
+        if !begins_word(rest, "proc") {
+            return Ok((procedures, rest));
+        }
+        let (procedure, after) = procedure_of(alloc, rest)?;
+        procedures.push(procedure)?;
+        rest = after;
+    }
+    if begins_word(rest, "proc") {
+        return Err(limit_fault(rest));
+    }
+    Ok((procedures, rest))
+}

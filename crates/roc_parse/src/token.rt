@@ -1,0 +1,17 @@
+//! The tokens of a text.
+
+#[derive(Debug, Drop)]
+pub(crate) enum Kind {
+    /// A letter, then letters, digits and `_`: a name or a word of the grammar.
+    Word(String),
+    Integer(u64),
+    /// One of `{ } ( ) [ ] , ; . = + - *`.
+    Mark(u8),
+}
+
+/// A token where it stands: `line` counts from 1.
+#[derive(Debug, Drop)]
+pub(crate) struct Token {
+    pub kind: Kind,
+    pub line: u32,
+}
