@@ -47,7 +47,7 @@ text_exact : (l : Limits) → Exact (Whole standard) (Whole (past l)) at_end (te
 text_exact l = exact_text standard (past l) (past_standard l)
 
 -- what was read is a text, and what is one is read
-read_is : (ts : List Token) (t : Text) → whole_at standard ts ≡ Ok t → IsText standard ts t
+pub read_is : (ts : List Token) (t : Text) → whole_at standard ts ≡ Ok t → IsText standard ts t
 read_is ts t e =
     let w = whole_ok standard ts t e in
     let c = (text_exact standard).reads ts w.0 t w.1 in
@@ -55,13 +55,13 @@ read_is ts t e =
     let i = c.is [] refl in
     subst (λ z. IsText standard z t) (sym (c.split ∙ ap (λ z. c.taken ++ z) nothing)) i.is
 
-is_read : (ts : List Token) (t : Text) → IsText standard ts t → whole_at standard ts ≡ Ok t
+pub is_read : (ts : List Token) (t : Text) → IsText standard ts t → whole_at standard ts ≡ Ok t
 unfolding whole_at
 is_read ts t i = ap (λ r. r >>= λ x. Ok x.0) ((text_exact standard).all ts [] t (record { is = i; nothing_left = refl }) refl)
 
 -- ---- where reading stops
 
-stops_at : (ts : List Token) (s : Stuck) → whole_at standard ts ≡ Err s → (l : Limits) → Refused (Whole standard) (Whole (past l)) at_end ts s
+pub stops_at : (ts : List Token) (s : Stuck) → whole_at standard ts ≡ Err s → (l : Limits) → Refused (Whole standard) (Whole (past l)) at_end ts s
 stops_at ts s e l = (text_exact l).stuck ts s (whole_err standard ts s e)
 
 take_front : (xs zs : List Token) → take (length (xs ++ zs) - length zs) (xs ++ zs) ≡ xs
@@ -73,20 +73,20 @@ take_front xs zs =
     whole [] = refl
     whole (y ∷ ys) = ap (λ k. y ∷ k) (whole ys)
 
-same_front : (xs ys zs : List Token) → xs ++ zs ≡ ys ++ zs → xs ≡ ys
+pub same_front : (xs ys zs : List Token) → xs ++ zs ≡ ys ++ zs → xs ≡ ys
 same_front xs ys zs e = sym (take_front xs zs) ∙ ap (λ z. take (length z - length zs) z) e ∙ take_front ys zs
 
-front_goes_on : (l : Limits) (before : List Token) → Front (Whole l) at_end before → GoesOn l before
+pub front_goes_on : (l : Limits) (before : List Token) → Front (Whole l) at_end before → GoesOn l before
 front_goes_on l before f = record { more = f.more ++ []; tree = f.value; is = (f.is [] refl).is }
 
 -- no text goes on, for a further limit
-none_further : (m : Limits) (before : List Token) (t : Token) → NoneThrough (Whole m) at_end before t → GoesOn m (before ++ t ∷ []) → ⊥
+pub none_further : (m : Limits) (before : List Token) (t : Token) → NoneThrough (Whole m) at_end before t → GoesOn m (before ++ t ∷ []) → ⊥
 none_further m before t never g =
     let moved : (before ++ t ∷ []) ++ g.more ≡ before ++ t ∷ g.more = append_assoc before (t ∷ []) g.more in
     never g.more [] g.tree refl (record { is = subst (λ z. IsText m z g.tree) moved g.is; nothing_left = refl })
 
 -- the same token stops in all limits
-none_at_all : (ts : List Token) (us : List Token) (t : Token) → whole_at standard ts ≡ Err (record { past = false; rest = t ∷ us }) → (before : List Token) → ts ≡ before ++ t ∷ us → (l : Limits) → GoesOn l (before ++ t ∷ []) → ⊥
+pub none_at_all : (ts : List Token) (us : List Token) (t : Token) → whole_at standard ts ≡ Err (record { past = false; rest = t ∷ us }) → (before : List Token) → ts ≡ before ++ t ∷ us → (l : Limits) → GoesOn l (before ++ t ∷ []) → ⊥
 none_at_all ts us t e before split l g =
     let r = stops_at ts (record { past = false; rest = t ∷ us }) e l in
     let same = same_front r.taken before (t ∷ us) (sym r.split ∙ split) in
@@ -142,13 +142,13 @@ stuck_fault bytes ts (Some line) size s true (t ∷ us) e = limit_fault bytes ts
 
 -- ---- answers
 
-answer_fault : (bytes : List ℕ) (ts : List Token) (o : Option ℕ) (r : Result Text Stuck) (e : LangError) → length bytes ≤ text_limit → IsScanned bytes ts o → whole_at standard ts ≡ r → answer_of bytes o r ≡ Err e → IsFaultOf bytes e
+pub answer_fault : (bytes : List ℕ) (ts : List Token) (o : Option ℕ) (r : Result Text Stuck) (e : LangError) → length bytes ≤ text_limit → IsScanned bytes ts o → whole_at standard ts ≡ r → answer_of bytes o r ≡ Err e → IsFaultOf bytes e
 answer_fault bytes ts None (Ok t) e size s read a = absurd (ok-err t e a)
 answer_fault bytes ts (Some line) (Ok t) e size s read a = subst (λ z. IsFaultOf bytes z) (err_same (errors.At line whats.Word) e a) (broken size s.1 s.2 (whole_goes_on ts t (read_is ts t read)))
 answer_fault bytes ts None (Err b) e size s read a = subst (λ z. IsFaultOf bytes z) (err_same (fault_of bytes None b.past b.rest) e a) (stuck_fault bytes ts None size s b.past b.rest read)
 answer_fault bytes ts (Some line) (Err b) e size s read a = subst (λ z. IsFaultOf bytes z) (err_same (fault_of bytes (Some line) b.past b.rest) e a) (stuck_fault bytes ts (Some line) size s b.past b.rest read)
 
-answer_text : (bytes : List ℕ) (ts : List Token) (o : Option ℕ) (r : Result Text Stuck) (t : Text) → length bytes ≤ text_limit → IsScanned bytes ts o → whole_at standard ts ≡ r → answer_of bytes o r ≡ Ok t → IsWorkloadText bytes t
+pub answer_text : (bytes : List ℕ) (ts : List Token) (o : Option ℕ) (r : Result Text Stuck) (t : Text) → length bytes ≤ text_limit → IsScanned bytes ts o → whole_at standard ts ≡ r → answer_of bytes o r ≡ Ok t → IsWorkloadText bytes t
 answer_text bytes ts None (Ok u) t size s read a = record { size = size; tokens = ts; spelt = all_tokens s.1; text = read_is ts t (read ∙ ap (λ z. Ok z) (ok_same u t a)) }
 answer_text bytes ts (Some line) (Ok u) t size s read a = absurd (ok-err t (errors.At line whats.Word) (sym a))
 answer_text bytes ts None (Err b) t size s read a = absurd (ok-err t (fault_of bytes None b.past b.rest) (sym a))
@@ -170,13 +170,13 @@ no_more (tokens.word {rest = rest} letters e is end t) = absurd (letters_none le
 no_more (tokens.integer {rest = rest} digits e is end t) = absurd (digits_none digits rest e is)
 
 -- a workload text has these tokens, and no broken place
-text_tokens : (bytes : List ℕ) (ts : List Token) (o : Option ℕ) → IsScanned bytes ts o → (all : List Token) → IsTokens 1 bytes all → (o ≡ None) × (all ≡ ts)
+pub text_tokens : (bytes : List ℕ) (ts : List Token) (o : Option ℕ) → IsScanned bytes ts o → (all : List Token) → IsTokens 1 bytes all → (o ≡ None) × (all ≡ ts)
 text_tokens bytes ts None s all i =
     let l = lexed_left s.1 all i in
     (refl, l.parts ∙ ap (λ z. ts ++ z) (no_more l.is) ∙ append-nil ts)
 text_tokens bytes ts (Some line) s all i = let l = lexed_left s.1 all i in absurd (broken_tokens l.is s.2)
 
-answer_only : (bytes : List ℕ) (ts : List Token) (o : Option ℕ) (t : Text) → IsScanned bytes ts o → IsWorkloadText bytes t → answer_of bytes o (whole_at standard ts) ≡ Ok t
+pub answer_only : (bytes : List ℕ) (ts : List Token) (o : Option ℕ) (t : Text) → IsScanned bytes ts o → IsWorkloadText bytes t → answer_of bytes o (whole_at standard ts) ≡ Ok t
 answer_only bytes ts o t s w =
     let p = text_tokens bytes ts o s w.tokens w.spelt in
     let read = is_read ts t (subst (λ z. IsText standard z t) p.1 w.text) in

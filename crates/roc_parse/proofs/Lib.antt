@@ -17,3 +17,5 @@ pub mod Places
 pub mod Further
 pub mod Answers
 pub mod Runs
+pub mod Scans
+pub mod Unique

@@ -32,11 +32,11 @@ pub record Left (ts : List Token) (after : ℕ) (rest : List ℕ) (all : List To
   pub parts : all ≡ ts ++ left
   pub is : IsTokens after rest left
 
-abbrev Place : Type 0
+abbrev pub Place : Type 0
 Place = List Token × ℕ × List ℕ
 
 -- there is one step
-one_step : {line : ℕ} {bytes : List ℕ} {ts us : List Token} {after after' : ℕ} {rest rest' : List ℕ} → IsNext line bytes ts after rest → IsNext line bytes us after' rest' → ◌≡◌ {A = Place} (ts, after, rest) (us, after', rest')
+pub one_step : {line : ℕ} {bytes : List ℕ} {ts us : List Token} {after after' : ℕ} {rest rest' : List ℕ} → IsNext line bytes ts after rest → IsNext line bytes us after' rest' → ◌≡◌ {A = Place} (ts, after, rest) (us, after', rest')
 one_step {ts = ts} {us = us} {after = after} {after' = after'} {rest = rest} {rest' = rest'} n m = some_is (ts, after, rest) (us, after', rest') (sym (next_found n) ∙ next_found m)
 
 left_by : {line : ℕ} {bytes : List ℕ} {ts us : List Token} {after after' : ℕ} {rest rest' : List ℕ} → IsNext line bytes ts after rest → IsNext line bytes us after' rest' → (vs : List Token) → IsTokens after' rest' vs → Left ts after rest (us ++ vs)
@@ -44,7 +44,7 @@ left_by {us = us} {after' = after'} {rest' = rest'} n m vs t =
     let made : Left us after' rest' (us ++ vs) = record { left = vs; parts = refl; is = t } in
     subst (λ (z : Place). Left z.0 z.1 z.2 (us ++ vs)) (sym (one_step n m)) made
 
-no_step : {line : ℕ} {ts : List Token} {after : ℕ} {rest : List ℕ} → IsNext line [] ts after rest → ⊥
+pub no_step : {line : ℕ} {ts : List Token} {after : ℕ} {rest : List ℕ} → IsNext line [] ts after rest → ⊥
 unfolding next_of
 no_step {ts = ts} {after = after} {rest = rest} n = none-some (ts, after, rest) (next_found n)
 

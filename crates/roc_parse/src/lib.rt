@@ -9,6 +9,7 @@
 
 mod declaration;
 mod expression;
+pub mod laws;
 mod lexer;
 mod parser;
 mod procedure;
