@@ -1,5 +1,5 @@
 -- What `parse` answers: the tree of a workload text, or the first fault of what is none; and how it comes from what was read.
-use Rattle.std.specs.Prelude.{◌≡◌, ℕ, Bool, true, false, if◌then◌else◌, List, [], ◌∷◌, Option, Some, None, Result, Ok, Err}
+use Rattle.std.specs.Prelude.{◌≡◌, ℕ, Bool, if◌then◌else◌, List, [], ◌∷◌, Option, Some, None, Result, Ok, Err}
 use Rattle.roc_lang.specs.Syntax.{Text}
 use Rattle.roc_lang.specs.Tokens as tokens
 use Rattle.roc_lang.specs.Tree.{tree}

@@ -1,5 +1,5 @@
 -- Which bytes are a workload text within the limits, and the first fault of those that are none: docs/LANGUAGE.md, "Faults".
-use Rattle.std.specs.Prelude.{◌≡◌, ℕ, ◌-◌, ◌^◌, ◌<◌, ◌≤◌, Bool, false, ◌==◌, IsTrue, IsFalse, List, [], ◌∷◌, ◌++◌, length, take}
+use Rattle.std.specs.Prelude.{ℕ, ◌-◌, ◌^◌, ◌<◌, ◌≤◌, Bool, false, ◌==◌, IsTrue, IsFalse, List, [], ◌∷◌, ◌++◌, length, take}
 use Rattle.std.specs.List.{fold}
 use Rattle.roc_lang.specs.Syntax.{Text}
 use Rattle.roc_lang.specs.Tokens as tokens
