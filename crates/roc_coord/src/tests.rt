@@ -3,9 +3,10 @@ ghost use Rattle.roc_coord.specs.Fits.{FitsPlan};
 
 use super::*;
 use roc_base::{Edges, Node, Nums, Shard, TxnId};
-use roc_lang::parse;
 use roc_msg::{Msg, Outbox, Reason};
-use roc_plan::Plan;
+use roc_parse::parse;
+use roc_plan::laws::texts_are_within_limits;
+use roc_plan::{Plan, resolve};
 use std::alloc::Global;
 use std::process::Abort;
 use std::test::Fail;
@@ -16,7 +17,10 @@ proc add(n) { later a at 0 { get v = t[0].x; set t[0].x = v + n; out v; } }
 ";
 
 fn counter(alloc: Global) -> Result<Plan, Fail> {
-    Ok(Plan::thin(alloc, parse(alloc, COUNTER)?)?)
+    let source = parse(alloc, COUNTER)?;
+    texts_are_within_limits();
+    let workload = resolve(alloc, source)?;
+    Ok(Plan::thin(alloc, workload)?)
 }
 
 fn startok(alloc: Global, id: TxnId, shard: u8) -> Msg {

@@ -1,8 +1,9 @@
 //! A counter's group: its cells and its run.
 use crate::{Access, cells, conflict, run_group};
 use roc_base::Nums;
-use roc_lang::parse;
-use roc_plan::{Known, Plan};
+use roc_parse::parse;
+use roc_plan::laws::texts_are_within_limits;
+use roc_plan::{Known, Plan, resolve};
 use roc_rows::{Cell, Rows};
 use std::test::Fail;
 
@@ -21,7 +22,10 @@ const CELL: Cell = Cell {
 #[test]
 fn a_counter_uses_its_cell_and_counts(rt: HostRuntime) -> Result<(), Fail> {
     let alloc = rt.alloc();
-    let plan = Plan::thin(alloc, parse(alloc, COUNTER)?)?;
+    let source = parse(alloc, COUNTER)?;
+    texts_are_within_limits();
+    let workload = resolve(alloc, source)?;
+    let plan = Plan::thin(alloc, workload)?;
     assert_eq!(rt; plan.procedures(), 1);
     assert_eq!(rt; plan.groups(0), 1);
     assert_eq!(rt; plan.args(0), 1);

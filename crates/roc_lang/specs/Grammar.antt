@@ -22,6 +22,10 @@ pub record Limits : Type 0 where
 abbrev pub standard : Limits
 standard = record { tables = 64; columns = 16; inits = 4096; procedures = 64; arguments = 8; pieces = 16; statements = 64; depth = 32 }
 
+-- how many bytes a text may have
+abbrev pub text_limit : ℕ
+text_limit = 1048576
+
 -- ---- tokens
 
 -- the first token is of this kind, and the others are left

@@ -2,9 +2,5 @@ pub mod Syntax
 pub mod Tokens
 pub mod Grammar
 pub mod Scope
-pub mod Thin
 pub mod Tree
-pub mod Lexing
-pub mod Reading
-pub mod Answer
 pub mod FaultText

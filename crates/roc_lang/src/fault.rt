@@ -43,24 +43,12 @@ impl fmt::Display for What {
     }
 }
 
-/// Why `parse` gives no tree.
+/// Why a text has no tree.
 #[derive(Debug, Drop)]
 pub enum LangError {
     /// The first fault of a text, with its line, counted from 1.
     At { line: u32, what: What },
     NoMemory,
-}
-
-impl LangError {
-    /// What every text is answered that is not thin, until all of the language is taken.
-    pub(crate) fn not_thin() -> Self
-        ensures { result ≡ LangError.At 1 What.Limit }
-    {
-        LangError::At {
-            line: 1,
-            what: What::Limit,
-        }
-    }
 }
 
 impl fmt::Display for LangError {

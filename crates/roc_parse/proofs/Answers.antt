@@ -1,26 +1,23 @@
 -- What is read is a workload text, what is one is read, and where reading stops is the first fault.
-use Rattle.std.proofs.Common.{◌≡◌, ℕ, ◌+◌, ◌-◌, ◌^◌, ◌<◌, ◌≤◌, Bool, true, false, cond, ◌==◌, List, [], ◌∷◌, ◌++◌, length, take, append_assoc, length-append, Option, Some, None, refl, sym, ap, subst, ◌∙◌, arith}
+use Rattle.std.proofs.Common.{◌≡◌, ℕ, ◌-◌, ◌≤◌, Bool, true, false, cond, List, [], ◌∷◌, ◌++◌, length, take, append_assoc, length-append, Option, Some, None, refl, sym, ap, subst, ◌∙◌, arith}
 use Rattle.std.specs.Prelude.{Result, Ok, Err, IfOk, IfErr}
 use Rattle.std.proofs.lemmas.List.{append-nil}
 use Rattle.roc_lang.specs.Syntax.{Text}
 use Rattle.roc_lang.specs.Tokens as tokens
 use Rattle.roc_lang.specs.Tokens.{Kind, Token, IsTokens}
-use Rattle.roc_lang.specs.Grammar.{Limits, standard, IsText}
-use Rattle.roc_lang.specs.Thin.{text_limit}
+use Rattle.roc_lang.specs.Grammar.{Limits, standard, IsText, text_limit}
 use Rattle.roc_lang.specs.Tree.{tree}
-use Rattle.roc_lang.specs.Answer.{IsSourceOf}
 use Rattle.roc_lang.specs.declared.source.Source.{Source}
 use Rattle.roc_lang.specs.declared.fault.LangError.{LangError}
 use Rattle.roc_lang.specs.declared.fault.LangError.TheVariants as errors
-use Rattle.roc_lang.specs.declared.fault.What.{What}
 use Rattle.roc_lang.specs.declared.fault.What.TheVariants as whats
-use Rattle.roc_parse.specs.Stuck.{Stuck, Reading, and_then, ◌>>=◌}
-use Rattle.roc_parse.specs.Reading.{text_at, end_at, whole_at}
-use Rattle.roc_parse.specs.Lexed.{IsLexed, IsBroken}
+use Rattle.roc_parse.specs.Stuck.{Stuck, Reading, ◌>>=◌}
+use Rattle.roc_parse.specs.Reading.{text_at, whole_at}
+use Rattle.roc_parse.specs.Lexed.{IsLexed}
 use Rattle.roc_parse.specs.Scanning.{IsScanned}
-use Rattle.roc_parse.specs.Fault.{IsWorkloadText, GoesOn, is_above, last_line, IsFirstFault, too_long, broken, misplaced, wrong, beyond, stops}
-use Rattle.roc_parse.specs.Answer.{IsFaultOf, what_of, fault_of, answer_of, Tells}
-use Rattle.roc_parse.proofs.Exact.{IsEnd, Front, NoneThrough, Why, Refused, Exact, ok_same, err_same, ok-err, when_ok, when_err}
+use Rattle.roc_parse.specs.Fault.{IsWorkloadText, GoesOn, is_above, IsFirstFault, broken, misplaced, wrong, beyond, stops}
+use Rattle.roc_parse.specs.Answer.{IsSourceOf, IsFaultOf, what_of, fault_of, answer_of, Tells}
+use Rattle.roc_parse.proofs.Exact.{Front, NoneThrough, Refused, Exact, ok_same, err_same, ok-err}
 use Rattle.roc_parse.proofs.Texts.{Whole, at_end, exact_text, text_ends}
 use Rattle.roc_parse.proofs.Further.{past, past_all, past_standard, further_text}
 use Rattle.roc_parse.proofs.Places.{all_tokens, lexed_left, broken_tokens}

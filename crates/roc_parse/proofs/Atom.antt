@@ -1,21 +1,21 @@
 -- Which atom comes is told by its first token.
-use Rattle.std.proofs.Common.{◌≡◌, ℕ, suc, ◌+◌, ◌-◌, ◌<◌, ◌≤◌, max, Bool, true, false, cond, List, [], ◌∷◌, ◌++◌, refl, sym, ap, subst, ◌∙◌, inl, inr, arith}
-use Rattle.std.specs.Prelude.{Result, Ok, Err, nat_lt, IsFalse}
+use Rattle.std.proofs.Common.{◌≡◌, ℕ, ◌-◌, ◌<◌, ◌≤◌, Bool, true, false, List, [], ◌∷◌, refl, ap, ◌∙◌, inl, inr, arith}
+use Rattle.std.specs.Prelude.{Ok, nat_lt, IsFalse}
 use Rattle.std.specs.Str.{bytes_eq}
 use Rattle.std.proofs.lemmas.Bool.{ltb-true, lt-ltb}
-use Rattle.std.proofs.lemmas.Bool.Decides.{nat_tests}
 use Rattle.std.proofs.lemmas.Slice.Eq.{bytes_eq-Decides}
 use lib.Chars.{codes}
 use Rattle.roc_lang.specs.Syntax.{Name, Expression, Variable, Minimum, Maximum, Less, Pick}
 use Rattle.roc_lang.specs.Tokens.{Kind, Word, Integer, Mark, Token}
 use Rattle.roc_lang.specs.Grammar.{IsToken, IsMark, IsName, is_reserved, open_parenthesis, close_parenthesis, comma}
-use Rattle.roc_parse.specs.Stuck.{Stuck, Reading, begins}
-use Rattle.roc_parse.specs.Reading.{Deep, is_word, is_mark, is_integer, number_at, variable_at, enclosed_at, function_at, pick_at, atom_with}
-use Rattle.roc_parse.proofs.Exact.{Rule, IsEnd, any, Front, Exact}
+use Rattle.roc_parse.specs.Stuck.{Reading, begins}
+use Rattle.roc_parse.specs.Parts.{is_word, is_mark, is_integer}
+use Rattle.roc_parse.specs.Reading.{Deep, number_at, variable_at, enclosed_at, function_at, pick_at, atom_with}
+use Rattle.roc_parse.proofs.Exact.{any, Front, Exact}
 use Rattle.roc_parse.proofs.Choices.{Either, Chooses, exact_either, exact_same, chosen_by, all_left, all_right}
-use Rattle.roc_parse.proofs.Terminals.{Tokens, word_kind, kind_word, mark_kind, token_begins, a_name, exact_plain}
+use Rattle.roc_parse.proofs.Terminals.{word_kind, mark_kind, token_begins, a_name}
 use Rattle.roc_parse.proofs.Depths.{atom, term, variable, summed_deep}
-use Rattle.roc_parse.proofs.Loops.{Within, depth_of, IsRead}
+use Rattle.roc_parse.proofs.Loops.{depth_of, IsRead}
 use Rattle.roc_parse.proofs.Atoms.{SumRule, AtomRule, Sums, Atoms, sum_stop, Enclosed, Pairs, Function, Picks, Numbers, Variables, Words, AnyAtom, complete_enclosed, complete_function, complete_pick, Inner, exact_enclosed, exact_function, exact_pick, exact_number, exact_variable, atom_to, atom_from}
 
 -- ---- first tokens

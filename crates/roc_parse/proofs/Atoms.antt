@@ -1,23 +1,18 @@
 -- The reader of atoms is exact where that of the expressions in them is.
-use Rattle.std.proofs.Common.{◌≡◌, ℕ, suc, ◌+◌, ◌-◌, ◌<◌, ◌≤◌, max, Bool, true, false, cond, ◌||◌, List, [], ◌∷◌, ◌++◌, Option, Some, None, refl, sym, ap, subst, ◌∙◌, ◌⊎◌, inl, inr, arith}
-use Rattle.std.specs.Prelude.{Result, Ok, Err, nat_lt, pos, IsFalse}
-use Rattle.std.specs.Option.{option_map}
-use Rattle.std.specs.Str.{bytes_eq}
-use Rattle.std.proofs.lemmas.Bool.{ltb-true, lt-ltb}
-use Rattle.std.proofs.lemmas.Bool.Decides.{nat_tests}
-use Rattle.std.proofs.lemmas.Slice.Eq.{bytes_eq-Decides}
+use Rattle.std.proofs.Common.{◌≡◌, ℕ, ◌+◌, ◌-◌, ◌≤◌, max, Bool, false, ◌||◌, List, refl, sym, ap, subst, ◌∙◌, inl, inr, arith}
+use Rattle.std.specs.Prelude.{Ok, pos}
 use lib.Chars.{codes}
-use Rattle.roc_lang.specs.Syntax.{Name, Expression, Number, Variable, Minimum, Maximum, Less, Pick}
-use Rattle.roc_lang.specs.Tokens.{Kind, Word, Integer, Mark, Token}
-use Rattle.roc_lang.specs.Grammar.{IsToken, IsMark, IsName, is_reserved, open_parenthesis, close_parenthesis, comma, plus, minus, star}
-use Rattle.roc_parse.specs.Stuck.{Stuck, Reading, ◌>>=◌, refuse, exceed, begins}
-use Rattle.roc_parse.specs.Reading.{Deep, deeper, is_word, is_mark, is_integer, name_of, number_at, variable_at, enclosed_at, next_at, pair_at, function_at, pick_at, atom_with, roomy}
-use Rattle.roc_parse.proofs.Exact.{Rule, Stop, head, IsEnd, any, Front, Exact, when_ok, Then, Followed, exact_then, exact_next}
-use Rattle.roc_parse.proofs.Choices.{Mapped, exact_mapped, Either, Chooses, exact_either, exact_same, chosen_by}
+use Rattle.roc_lang.specs.Syntax.{Expression, Number, Variable, Minimum, Maximum, Less, Pick}
+use Rattle.roc_lang.specs.Tokens.{Kind, Word, Mark, Token}
+use Rattle.roc_lang.specs.Grammar.{IsToken, IsName, open_parenthesis, close_parenthesis, comma, plus, minus, star}
+use Rattle.roc_parse.specs.Stuck.{Reading}
+use Rattle.roc_parse.specs.Parts.{is_mark}
+use Rattle.roc_parse.specs.Reading.{Deep, number_at, variable_at, enclosed_at, next_at, pair_at, function_at, pick_at}
+use Rattle.roc_parse.proofs.Exact.{Rule, Stop, IsEnd, any, Exact, when_ok, Then, Followed, exact_then, exact_next}
+use Rattle.roc_parse.proofs.Choices.{Mapped, exact_mapped, Either}
 use Rattle.roc_parse.proofs.Several.{other_than}
-use Rattle.roc_parse.proofs.Terminals.{Tokens, exact_word, exact_mark, exact_name, word_kind, kind_word, mark_kind, token_begins, map_parts, name_made, name_first, a_name, Plain, exact_plain, same_first}
-use Rattle.roc_parse.proofs.Depths as depths
-use Rattle.roc_parse.proofs.Depths.{Summed, Multiplied, Single, Paired, number, variable, parentheses, minimum, maximum, less, pick, pair, summed_deep}
+use Rattle.roc_parse.proofs.Terminals.{Tokens, exact_word, exact_mark, exact_name, Plain, exact_plain}
+use Rattle.roc_parse.proofs.Depths.{Summed, Single, Paired, number, variable, parentheses, minimum, maximum, less, pick, pair}
 use Rattle.roc_parse.proofs.Loops.{Within, depth_of, IsRead}
 
 abbrev pub SumRule : Rule Deep

@@ -1,12 +1,11 @@
 -- Exact readers of single tokens, of values that are made of others, of one of two rules, and of several.
-use Rattle.std.proofs.Common.{◌≡◌, ℕ, zero, suc, ◌<◌, ◌≤◌, Bool, true, false, cond, List, [], ◌∷◌, ◌++◌, length, append_assoc, Option, Some, None, refl, sym, ap, subst, ◌∙◌, ◌⊎◌, inl, inr, arith}
-use Rattle.std.specs.Prelude.{Result, Ok, Err}
+use Rattle.std.proofs.Common.{◌≡◌, Bool, true, false, cond, List, [], ◌∷◌, ◌++◌, Option, Some, None, refl, sym, ap, subst, ◌∙◌, ◌⊎◌, inl, inr}
+use Rattle.std.specs.Prelude.{Ok, Err}
 use Rattle.std.specs.Option.{option_map_or}
 use Rattle.roc_lang.specs.Tokens.{Kind, Token}
-use Rattle.roc_lang.specs.Grammar.{Each, none, first}
-use Rattle.roc_parse.specs.Stuck.{Stuck, Reading, and_then, ◌>>=◌, refuse, exceed, begins}
-use Rattle.roc_parse.specs.Reading.{first_at, many_at, some_at}
-use Rattle.roc_parse.proofs.Exact.{Rule, Stop, head, IsEnd, any, Consumed, Front, NoneThrough, Why, Refused, Exact, ok_same, err_same, ok-err, when_ok, when_err, same_start, Then, bind, Followed}
+use Rattle.roc_parse.specs.Stuck.{Stuck, Reading, ◌>>=◌, refuse, exceed, begins}
+use Rattle.roc_parse.specs.Parts.{first_at}
+use Rattle.roc_parse.proofs.Exact.{Rule, Stop, IsEnd, any, Consumed, Front, NoneThrough, Why, Refused, Exact, ok_same, err_same, ok-err, when_ok, when_err, same_start}
 
 -- ---- the same rule, said otherwise
 

@@ -1,9 +1,9 @@
 -- The grammar of expressions with the depth of each, instead of a bound of it.
-use Rattle.std.proofs.Common.{◌≡◌, ℕ, suc, ◌+◌, ◌<◌, ◌≤◌, max, Bool, true, false, List, [], ◌∷◌, refl, arith}
+use Rattle.std.proofs.Common.{ℕ, ◌+◌, ◌<◌, ◌≤◌, max, List, arith}
 use Rattle.std.specs.Prelude.{pos}
 use lib.Chars.{codes}
 use Rattle.roc_lang.specs.Syntax.{Name, Expression, Number, Variable, Sum, Difference, Product, Minimum, Maximum, Less, Pick}
-use Rattle.roc_lang.specs.Tokens.{Kind, Word, Integer, Mark, Token}
+use Rattle.roc_lang.specs.Tokens.{Word, Token}
 use Rattle.roc_lang.specs.Grammar as grammar
 use Rattle.roc_lang.specs.Grammar.{IsToken, IsMark, IsName, IsInteger, IsExpression, IsTerm, IsAtom, IsPair, open_parenthesis, close_parenthesis, comma, plus, minus, star}
 use Rattle.roc_parse.specs.Reading.{deeper}

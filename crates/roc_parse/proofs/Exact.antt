@@ -1,12 +1,9 @@
 -- When a reader is exact for a rule of the grammar. A rule is a relation, In within the limits and Any within further ones. Of what
 -- follows it is asked that it does not go on (stop). Readers of rules one behind the other, and of one of two, are exact where theirs are.
-use Rattle.std.proofs.Common.{◌≡◌, ℕ, Bool, true, false, cond, List, [], ◌∷◌, ◌++◌, append_assoc, Option, Some, None, refl, sym, ap, subst, ◌∙◌}
+use Rattle.std.proofs.Common.{◌≡◌, Bool, true, false, List, [], ◌∷◌, ◌++◌, append_assoc, Option, Some, None, refl, sym, ap, subst, ◌∙◌}
 use Rattle.std.specs.Prelude.{Result, Ok, Err}
-use Rattle.std.specs.Option.{option_map_or}
-use Rattle.std.proofs.lemmas.List.{append-nil}
 use Rattle.roc_lang.specs.Tokens.{Kind, Token}
-use Rattle.roc_parse.specs.Stuck.{Stuck, Reading, and_then, ◌>>=◌, refuse, exceed, begins}
-use Rattle.roc_parse.specs.Reading.{first_at}
+use Rattle.roc_parse.specs.Stuck.{Stuck, Reading, and_then, ◌>>=◌, begins}
 
 abbrev pub Rule : Type 0 → Type 1
 Rule A = List Token → List Token → A → Type 0

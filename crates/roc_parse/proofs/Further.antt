@@ -1,12 +1,11 @@
 -- What is a text within limits is one within further limits; and limits that are further than any.
-use Rattle.std.proofs.Common.{◌≡◌, ℕ, ◌+◌, ◌<◌, ◌≤◌, max, List, [], ◌∷◌, ◌++◌, length, arith}
-use Rattle.roc_lang.specs.Syntax.{Name, Expression, Access, Statement, Piece, Procedure, Table, Init, Text}
+use Rattle.std.proofs.Common.{ℕ, ◌+◌, ◌≤◌, max, List, arith}
+use Rattle.roc_lang.specs.Syntax.{Name, Expression, Access, Statement, Piece, Procedure, Table, Text}
 use Rattle.roc_lang.specs.Tokens.{Token}
 use Rattle.roc_lang.specs.Grammar as grammar
 use Rattle.roc_lang.specs.Grammar.{Limits, standard, IsExpression, IsAccess, access, IsStatement, Each, none, first, IsPiece, piece, IsArguments, no_arguments, arguments, IsProcedure, procedure, IsTable, table, IsText, text}
 use Rattle.roc_parse.proofs.Depths.{bounded_sum, deep_sum}
 use Rattle.roc_parse.proofs.Exact.{Rule}
-use Rattle.roc_parse.proofs.Statements.{Deeper}
 use Rattle.roc_parse.proofs.Procedures.{Further}
 
 -- no limit is further

@@ -1,3 +1,4 @@
+pub mod Bytes
 pub mod Exact
 pub mod Choices
 pub mod Several

@@ -1,12 +1,12 @@
 -- Exact readers of operators in a row: each makes what has begun deeper, up to the room.
-use Rattle.std.proofs.Common.{◌≡◌, ℕ, zero, suc, ◌+◌, ◌-◌, ◌<◌, ◌≤◌, max, Bool, true, false, cond, List, [], ◌∷◌, ◌++◌, Option, Some, None, refl, sym, ap, subst, ◌∙◌, ◌⊎◌, inl, inr, arith}
-use Rattle.std.specs.Prelude.{Result, Ok, Err, nat_lt}
+use Rattle.std.proofs.Common.{◌≡◌, ℕ, zero, suc, ◌+◌, ◌-◌, ◌<◌, ◌≤◌, Bool, true, false, List, [], ◌∷◌, refl, ap, subst, ◌∙◌, inl, inr, arith}
+use Rattle.std.specs.Prelude.{Ok, nat_lt}
 use Rattle.std.proofs.lemmas.Bool.{ltb-true, lt-ltb}
 use Rattle.std.proofs.lemmas.Bool.Decides.{nat_tests}
 use Rattle.roc_lang.specs.Tokens.{Kind, Token}
-use Rattle.roc_parse.specs.Stuck.{Stuck, Reading, and_then, ◌>>=◌, refuse, exceed, begins}
+use Rattle.roc_parse.specs.Stuck.{Reading, refuse, exceed, begins}
 use Rattle.roc_parse.specs.Reading.{Deep, deeper, loop_at}
-use Rattle.roc_parse.proofs.Exact.{Rule, Stop, head, IsEnd, any, Consumed, Front, Refused, Exact, ok_same, ok-err, when_ok, Then, bind, Followed, Second, exact_bind}
+use Rattle.roc_parse.proofs.Exact.{Rule, Stop, IsEnd, Front, Exact, ok_same, when_ok, Then, bind, exact_bind}
 use Rattle.roc_parse.proofs.Choices.{when_chosen, Given, exact_given, Either, Chooses, exact_either, exact_same}
 
 -- a rule's sentences that are no deeper

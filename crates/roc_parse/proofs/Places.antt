@@ -1,13 +1,13 @@
 -- Tokens up to a place, and tokens of the whole.
-use Rattle.std.proofs.Common.{◌≡◌, ℕ, ◌+◌, ◌<◌, ◌==◌, cond, Bool, true, false, List, [], ◌∷◌, ◌++◌, length, Option, Some, None, refl, sym, ap, subst, ◌∙◌, append_assoc, length-append, arith}
+use Rattle.std.proofs.Common.{◌≡◌, ℕ, ◌+◌, ◌<◌, ◌==◌, cond, Bool, true, false, List, [], ◌∷◌, ◌++◌, length, None, refl, sym, ap, subst, ◌∙◌, append_assoc, length-append, arith}
 use Rattle.std.proofs.lemmas.List.{append-nil}
 use Rattle.std.proofs.lemmas.Option.{none-some, same_Some as some_is}
 use Rattle.roc_lang.specs.Tokens as tokens
 use Rattle.roc_lang.specs.Tokens.{Token, IsTokens, nothing, blank, comment, word, integer, mark}
 use Rattle.roc_parse.specs.Lexed as lexed
 use Rattle.roc_parse.specs.Lexed.{IsNext, IsLexed, here, further, IsBroken}
-use Rattle.roc_parse.specs.Scanning.{next_of, Scanned}
-use Rattle.roc_parse.proofs.Steps.{next_found, next_is}
+use Rattle.roc_parse.specs.Scanning.{next_of}
+use Rattle.roc_parse.proofs.Steps.{next_found}
 
 -- a step in front of tokens
 step_before : {line : ℕ} {bytes : List ℕ} {ts : List Token} {after : ℕ} {rest : List ℕ} → IsNext line bytes ts after rest → (us : List Token) → IsTokens after rest us → IsTokens line bytes (ts ++ us)

@@ -1,13 +1,14 @@
 -- The readers of names, pieces and procedures are exact.
-use Rattle.std.proofs.Common.{◌≡◌, ℕ, zero, suc, ◌+◌, ◌-◌, ◌<◌, ◌≤◌, Bool, true, false, cond, List, [], ◌∷◌, ◌++◌, length, append_assoc, refl, sym, ap, subst, ◌∙◌, inl, inr, arith}
-use Rattle.std.specs.Prelude.{Result, Ok, Err}
+use Rattle.std.proofs.Common.{◌≡◌, ℕ, ◌+◌, ◌-◌, ◌<◌, ◌≤◌, Bool, true, false, List, [], ◌∷◌, ◌++◌, length, append_assoc, refl, sym, ap, subst, ◌∙◌, inl, inr, arith}
+use Rattle.std.specs.Prelude.{Ok}
 use lib.Chars.{codes}
 use Rattle.roc_lang.specs.Syntax.{Name, Expression, Statement, Piece, Procedure}
-use Rattle.roc_lang.specs.Tokens.{Kind, Word, Integer, Mark, Token}
-use Rattle.roc_lang.specs.Grammar.{Limits, IsToken, IsMark, IsName, IsExpression, IsStatement, Each, none, first, Separated, last, more, IsPiece, piece, IsArguments, no_arguments, arguments, IsProcedure, procedure, class_word, open_brace, close_brace, open_parenthesis, close_parenthesis, comma}
-use Rattle.roc_parse.specs.Stuck.{Stuck, Reading, ◌>>=◌, begins}
-use Rattle.roc_parse.specs.Reading.{is_word, is_mark, word_at, mark_at, name_at, next_name_at, names_at, class_at, expression_at, statement_at, starts_statement, body_at, head_at, piece_at, starts_piece, pieces_at, names_closed_at, listed_at, arguments_at, procedure_at}
-use Rattle.roc_parse.proofs.Exact.{Rule, Stop, IsEnd, any, Front, Exact, ok_same, when_ok, Then, bind, Followed, exact_then, exact_next, bind_ends}
+use Rattle.roc_lang.specs.Tokens.{Kind, Word, Mark, Token}
+use Rattle.roc_lang.specs.Grammar.{Limits, IsToken, IsName, IsExpression, IsStatement, Each, none, first, Separated, last, more, IsPiece, piece, IsArguments, no_arguments, arguments, IsProcedure, procedure, class_word, open_brace, close_brace, open_parenthesis, close_parenthesis, comma}
+use Rattle.roc_parse.specs.Stuck.{Reading, begins}
+use Rattle.roc_parse.specs.Parts.{is_word, is_mark, word_at, mark_at, name_at, next_name_at, names_at, class_at}
+use Rattle.roc_parse.specs.Reading.{expression_at, statement_at, starts_statement, head_at, piece_at, starts_piece, names_closed_at, listed_at, arguments_at, procedure_at}
+use Rattle.roc_parse.proofs.Exact.{Rule, Stop, IsEnd, any, Front, Exact, Then, bind, exact_then, exact_next, bind_ends}
 use Rattle.roc_parse.proofs.Choices.{Mapped, mapped, exact_mapped, Either, Chooses, exact_either, exact_same, mapped_ends}
 use Rattle.roc_parse.proofs.Several.{Upto, other_than, ended, unended, Repeats, many_ends, exact_many, Some', exact_some, some_ends}
 use Rattle.roc_parse.proofs.Terminals.{Tokens, exact_word, exact_mark, exact_name, exact_class, Classes, word_kind, mark_kind, token_begins}

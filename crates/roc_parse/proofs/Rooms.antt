@@ -1,14 +1,11 @@
 -- The reader of expressions is exact in every room.
-use Rattle.std.proofs.Common.{◌≡◌, ℕ, zero, suc, ◌+◌, ◌-◌, ◌<◌, ◌≤◌, List, refl, sym, subst, arith}
-use Rattle.std.specs.Prelude.{Result, Ok, Err}
+use Rattle.std.proofs.Common.{◌≡◌, ℕ, zero, suc, ◌-◌, ◌<◌, ◌≤◌, List, refl, subst, arith}
 use Rattle.roc_lang.specs.Tokens.{Token}
 use Rattle.roc_parse.specs.Stuck.{Reading}
-use Rattle.roc_parse.specs.Reading.{Deep, deep_at, sum_with, Rooms, rooms}
-use Rattle.roc_parse.proofs.Exact.{IsEnd, Exact}
+use Rattle.roc_parse.specs.Reading.{Deep, deep_at, rooms}
 use Rattle.roc_parse.proofs.Depths.{summed_deep}
-use Rattle.roc_parse.proofs.Loops.{Within, depth_of, IsRead}
-use Rattle.roc_parse.proofs.Atoms.{SumRule, Sums, sum_stop, Inner}
-use Rattle.roc_parse.proofs.Atom.{Roomy}
+use Rattle.roc_parse.proofs.Loops.{depth_of, IsRead}
+use Rattle.roc_parse.proofs.Atoms.{SumRule, sum_stop, Inner}
 use Rattle.roc_parse.proofs.Sums.{exact_sum, complete_sum, sum_ends}
 
 abbrev Reads : (room : ℕ) → (List Token → Reading Deep) → Type 0

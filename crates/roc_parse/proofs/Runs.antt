@@ -1,15 +1,18 @@
 -- How the loops over bytes go on, and how they end.
-use Rattle.std.proofs.Common.{◌≡◌, ℕ, zero, suc, ◌+◌, ◌-◌, ◌<◌, ◌≤◌, Bool, true, false, cond, ◌==◌, List, [], ◌∷◌, ◌++◌, length, take, drop, get_or, Option, Some, None, refl, sym, ap, subst, ◌∙◌, arith, add-one}
+use Rattle.std.proofs.Common.{◌≡◌, ℕ, zero, suc, ◌+◌, ◌<◌, ◌≤◌, Bool, true, false, cond, ◌==◌, List, [], ◌∷◌, ◌++◌, length, take, drop, get_or, Option, Some, None, refl, sym, ap, subst, ◌∙◌, arith, add-one}
 use Rattle.std.specs.List.{AllByRecursion, fold}
 use Rattle.std.proofs.Math.ListN.{drop_of_length-le}
-use Rattle.std.proofs.Math.Seq.{take-suc}
+use Rattle.std.proofs.Math.Seq.{drop-cons, take-suc}
 use Rattle.std.proofs.lemmas.Bool.{eqb-true, eq-eqb}
-use Rattle.roc_lang.proofs.Loops.{at_place}
 use Rattle.roc_lang.specs.Tokens.{Token, is_word_byte, line_after}
 use Rattle.roc_parse.specs.Lexed.{IsNext, IsLexed, here, further, IsBroken}
-use Rattle.roc_parse.specs.Scanning.{word_run, line_run, value_and, value_on, value_from, Scanned, next_of}
+use Rattle.roc_parse.specs.Scanning.{word_run, line_run, value_and, value_on, value_from, next_of}
 use Rattle.roc_parse.proofs.Steps.{next_is}
 use Rattle.roc_parse.proofs.Places.{broken_at, step_shorter, step_line}
+
+-- the byte at a place, and what follows
+at_place : (bytes : List ℕ) (i : ℕ) → i < length bytes → drop i bytes ≡ get_or bytes i 0 ∷ drop (i + 1) bytes
+at_place bytes i h = rw (add-one, drop-cons bytes i 0) refl
 
 pub run_goes : (bs : List ℕ) (i w : ℕ) → i < length bs → is_word_byte (get_or bs i 0) ≡ true → i + word_run (drop i bs) ≡ w → (i + 1) + word_run (drop (i + 1) bs) ≡ w
 unfolding word_run

@@ -1,11 +1,11 @@
 -- Exact readers of several, one behind the other.
-use Rattle.std.proofs.Common.{◌≡◌, ℕ, zero, suc, ◌<◌, ◌≤◌, Bool, true, false, cond, List, [], ◌∷◌, ◌++◌, length, Option, Some, None, refl, sym, ap, subst, ◌∙◌, ◌⊎◌, inl, inr, arith}
-use Rattle.std.specs.Prelude.{Result, Ok, Err}
+use Rattle.std.proofs.Common.{◌≡◌, ℕ, zero, suc, ◌<◌, ◌≤◌, Bool, true, false, cond, List, [], ◌∷◌, length, Some, None, refl, sym, ap, subst, ◌∙◌, inl, inr, arith}
+use Rattle.std.specs.Prelude.{Ok}
 use Rattle.roc_lang.specs.Tokens.{Kind, Token}
 use Rattle.roc_lang.specs.Grammar.{Each, none, first}
-use Rattle.roc_parse.specs.Stuck.{Stuck, Reading, and_then, ◌>>=◌, refuse, exceed, begins}
-use Rattle.roc_parse.specs.Reading.{many_at, some_at}
-use Rattle.roc_parse.proofs.Exact.{Rule, Stop, head, IsEnd, any, Consumed, Front, NoneThrough, Why, Refused, Exact, ok_same, err_same, ok-err, when_ok, Then, bind, Followed, exact_next, front_then}
+use Rattle.roc_parse.specs.Stuck.{Reading, refuse, exceed, begins}
+use Rattle.roc_parse.specs.Parts.{many_at, some_at}
+use Rattle.roc_parse.proofs.Exact.{Rule, Stop, IsEnd, any, Front, Exact, ok_same, when_ok, Then, bind, exact_next, front_then}
 use Rattle.roc_parse.proofs.Choices.{when_chosen, Mapped, mapped, exact_mapped, Given, exact_given, Either, Chooses, exact_either, exact_same}
 
 -- so many at most

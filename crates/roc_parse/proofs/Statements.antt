@@ -1,19 +1,19 @@
 -- The readers of expressions within a depth, of rows, and of statements, are exact.
-use Rattle.std.proofs.Common.{◌≡◌, ℕ, zero, suc, ◌+◌, ◌-◌, ◌<◌, ◌≤◌, Bool, true, false, cond, List, [], ◌∷◌, ◌++◌, length, refl, sym, ap, subst, ◌∙◌, inl, inr, arith}
-use Rattle.std.specs.Prelude.{ℤ, pos, Result, Ok, Err}
+use Rattle.std.proofs.Common.{◌≡◌, ℕ, ◌<◌, ◌≤◌, Bool, true, false, List, [], ◌∷◌, refl, sym, ap, subst, ◌∙◌, inl, inr, arith}
+use Rattle.std.specs.Prelude.{ℤ, pos, Ok}
 use lib.Chars.{codes}
-use Rattle.roc_lang.specs.Syntax.{Name, Expression, Variable, Access, Statement, Get, Set, Out}
+use Rattle.roc_lang.specs.Syntax.{Expression, Access, Statement, Get, Set, Out}
 use Rattle.roc_lang.specs.Tokens.{Kind, Word, Integer, Mark, Token}
 use Rattle.roc_lang.specs.Grammar as grammar
 use Rattle.roc_lang.specs.Grammar.{IsToken, IsMark, IsName, IsInteger, IsSigned, plain, negated, IsExpression, IsAccess, access, IsStatement, open_bracket, close_bracket, comma, semicolon, dot, equals, minus, plus, star}
-use Rattle.roc_parse.specs.Stuck.{Stuck, Reading, ◌>>=◌, begins}
-use Rattle.roc_parse.specs.Reading.{Deep, is_word, is_mark, integer_at, negated_at, mark_at, signed_at, deep_at, expression_at, access_at, get_at, set_at, out_at, statement_at, starts_statement, row_at}
+use Rattle.roc_parse.specs.Stuck.{begins}
+use Rattle.roc_parse.specs.Parts.{is_word, is_mark, integer_at, negated_at, mark_at, signed_at}
+use Rattle.roc_parse.specs.Reading.{Deep, deep_at, expression_at, access_at, get_at, set_at, out_at, statement_at, starts_statement, row_at}
 use Rattle.roc_parse.proofs.Exact.{Rule, Stop, IsEnd, any, Front, Exact, ok_same, when_ok, Then, bind, Followed, exact_then, exact_next}
-use Rattle.roc_parse.proofs.Choices.{Mapped, mapped, exact_mapped, Either, Chooses, exact_either, exact_same}
-use Rattle.roc_parse.proofs.Several.{other_than, ended, unended, Repeats}
+use Rattle.roc_parse.proofs.Choices.{Mapped, exact_mapped, Either, Chooses, exact_either, exact_same}
+use Rattle.roc_parse.proofs.Several.{other_than, unended, Repeats}
 use Rattle.roc_parse.proofs.Terminals.{Tokens, exact_word, exact_mark, exact_name, word_kind, token_begins, Plain, exact_plain, Negated, exact_negated}
 use Rattle.roc_parse.proofs.Depths.{bounded_sum, deep_sum}
-use Rattle.roc_parse.proofs.Loops.{Within, depth_of}
 use Rattle.roc_parse.proofs.Atoms.{Sums, is_operator, sum_stop, stops_at}
 use Rattle.roc_parse.proofs.Atom.{a, mark, a_mark, named, token_of_kind}
 use Rattle.roc_parse.proofs.Rooms.{exact_deep}

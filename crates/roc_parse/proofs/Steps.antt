@@ -1,15 +1,15 @@
 -- A step that is found is one, and what is a step is found.
-use Rattle.std.proofs.Common.{◌≡◌, ℕ, zero, suc, ◌+◌, ◌-◌, ◌*◌, ◌^◌, ◌<◌, ◌≤◌, Bool, true, false, cond, ◌==◌, List, [], ◌∷◌, ◌++◌, length, take, drop, Option, Some, None, refl, sym, ap, subst, ◌∙◌, append_assoc, arith}
+use Rattle.std.proofs.Common.{◌≡◌, ℕ, zero, suc, ◌+◌, ◌-◌, ◌*◌, ◌^◌, ◌<◌, ◌≤◌, Bool, true, false, cond, ◌==◌, List, [], ◌∷◌, ◌++◌, length, take, drop, Option, Some, None, refl, sym, ap, subst, ◌∙◌, arith}
 use Rattle.std.specs.Prelude.{nat_le}
 use Rattle.std.specs.Option.{option_map}
 use Rattle.std.specs.List.{AllByRecursion, fold}
 use Rattle.std.specs.Char.{is_ascii_alphabetic, is_ascii_digit}
-use Rattle.std.proofs.lemmas.Bool.{eqb-true, eqb-false, le-leb, leb-true}
+use Rattle.std.proofs.lemmas.Bool.{eqb-true, le-leb, leb-true}
 use Rattle.std.proofs.lemmas.Bool.Decides.{nat_tests}
 use Rattle.std.proofs.lemmas.Option.{none-some, same_Some as some_is}
 use lib.Chars.{codes}
-use Rattle.roc_lang.specs.Tokens.{Kind, Word, Integer, Mark, Token, is_word_byte, is_mark, is_blank, line_after, IsWord, decimal, IsDecimal, IsTokenEnd, IsLineEnd}
-use Rattle.roc_lang.proofs.Bytes.{one_of, letter-blank, digit-blank, digit-letter, digit-word_byte, letter-word_byte, digit_above, digit_below}
+use Rattle.roc_lang.specs.Tokens.{Word, Integer, Mark, Token, is_word_byte, is_mark, is_blank, line_after, IsWord, decimal, IsDecimal, IsTokenEnd, IsLineEnd}
+use Rattle.roc_parse.proofs.Bytes.{one_of, letter-blank, digit-blank, digit-letter, digit-word_byte, letter-word_byte, digit_above, digit_below}
 use Rattle.roc_parse.specs.Lexed.{IsNext, blank, comment, word, integer, mark}
 use Rattle.roc_parse.specs.Scanning.{word_run, line_run, token_at, value_and, value_on, value_from, value_of, Scanned, word_next, integer_next, comment_next, next_of}
 

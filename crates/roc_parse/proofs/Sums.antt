@@ -1,21 +1,20 @@
 -- The readers of products and sums are exact, in each room.
-use Rattle.std.proofs.Common.{◌≡◌, ℕ, zero, suc, ◌+◌, ◌-◌, ◌<◌, ◌≤◌, max, Bool, true, false, cond, ◌||◌, ◌==◌, List, [], ◌∷◌, ◌++◌, refl, sym, ap, subst, ◌∙◌, arith}
-use Rattle.std.specs.Prelude.{Result, Ok, Err}
-use Rattle.std.proofs.lemmas.Bool.{eqb-true, eq-eqb}
+use Rattle.std.proofs.Common.{◌≡◌, ℕ, ◌-◌, ◌≤◌, Bool, true, false, ◌||◌, List, [], ◌∷◌, refl, sym, ap, subst, ◌∙◌, arith}
+use Rattle.std.specs.Prelude.{Ok}
 use Rattle.std.proofs.lemmas.Bool.Decides.{nat_tests}
-use Rattle.roc_lang.specs.Syntax.{Expression, Sum, Difference, Product}
+use Rattle.roc_lang.specs.Syntax.{Expression}
 use Rattle.roc_lang.specs.Tokens.{Kind, Word, Integer, Mark, Token}
-use Rattle.roc_lang.specs.Grammar.{IsToken, IsMark, plus, minus, star}
-use Rattle.roc_parse.specs.Stuck.{Stuck, Reading, ◌>>=◌, begins}
-use Rattle.roc_parse.specs.Reading.{Deep, deeper, is_mark, is_sign, joined, times, plus_or_minus, factor_at, signed_term_at, loop_at, atom_with, term_with, sum_with, Rooms, rooms}
-use Rattle.roc_parse.proofs.Exact.{Rule, Stop, IsEnd, any, Front, Exact, ok_same, when_ok, Then, Followed, Second, exact_bind, exact_next}
+use Rattle.roc_lang.specs.Grammar.{plus, minus, star}
+use Rattle.roc_parse.specs.Stuck.{Reading, begins}
+use Rattle.roc_parse.specs.Parts.{is_mark}
+use Rattle.roc_parse.specs.Reading.{Deep, is_sign, times, plus_or_minus, factor_at, signed_term_at, loop_at, atom_with, term_with, sum_with}
+use Rattle.roc_parse.proofs.Exact.{Rule, Stop, IsEnd, any, Front, Exact, ok_same, when_ok, Then, exact_bind, exact_next}
 use Rattle.roc_parse.proofs.Choices.{Mapped, exact_mapped, exact_same}
 use Rattle.roc_parse.proofs.Several.{other_than, ended, unended}
 use Rattle.roc_parse.proofs.Terminals.{Tokens, exact_mark, mark_kind, token_begins, sign_mark, Signs, exact_sign}
-use Rattle.roc_parse.proofs.Depths as depths
-use Rattle.roc_parse.proofs.Depths.{Summed, Multiplied, Single, term, sum, difference, atom, product, single_deep, multiplied_deep, summed_deep, variable}
+use Rattle.roc_parse.proofs.Depths.{Summed, Multiplied, term, sum, difference, atom, product, single_deep, multiplied_deep, variable}
 use Rattle.roc_parse.proofs.Loops.{Within, depth_of, IsRead, Tail, stays, goes, Looping, Loop, tail_deep, tail_snoc, stay_front, complete_loop, exact_loop, loop_ends}
-use Rattle.roc_parse.proofs.Atoms.{SumRule, AtomRule, Sums, Atoms, is_operator, sum_stop, Inner}
+use Rattle.roc_parse.proofs.Atoms.{SumRule, AtomRule, Sums, Atoms, is_operator, sum_stop}
 use Rattle.roc_parse.proofs.Atom.{a, named, token_of_kind, Roomy, exact_atom, complete_atom}
 
 abbrev pub TermRule : Rule Deep

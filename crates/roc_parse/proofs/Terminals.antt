@@ -1,18 +1,17 @@
 -- Exact readers of the single tokens of the grammar.
-use Rattle.std.proofs.Common.{◌≡◌, ℕ, suc, ◌^◌, ◌<◌, ◌≤◌, Bool, true, false, cond, ◌||◌, ◌==◌, List, [], ◌∷◌, Option, Some, None, refl, sym, ap, subst, ◌∙◌, lit<, arith}
-use Rattle.std.specs.Prelude.{ℤ, pos, neg_ℤ, nat_lt, nat_le, Result, Ok, Err, IsFalse}
+use Rattle.std.proofs.Common.{◌≡◌, ℕ, ◌^◌, ◌<◌, ◌≤◌, Bool, true, false, cond, List, ◌∷◌, Option, Some, None, refl, sym, ap, subst, ◌∙◌}
+use Rattle.std.specs.Prelude.{ℤ, pos, neg_ℤ, nat_lt, nat_le, IsFalse}
 use Rattle.std.specs.Option.{option_map}
-use Rattle.std.specs.Str.{bytes_eq}
 use Rattle.std.proofs.lemmas.Bool.{eqb-true, eq-eqb, ltb-true, lt-ltb, leb-true, le-leb}
 use Rattle.std.proofs.lemmas.Slice.Eq.{bytes_eq-Decides}
 use Rattle.std.proofs.lemmas.Option.{none-some, same_Some as some_is}
 use lib.Chars.{codes}
-use Rattle.roc_lang.specs.Syntax.{Name, Expression, Number, Variable}
+use Rattle.roc_lang.specs.Syntax.{Name}
 use Rattle.roc_lang.specs.Tokens.{Kind, Word, Integer, Mark, Token}
-use Rattle.roc_lang.specs.Grammar.{IsToken, IsMark, IsName, IsInteger, IsShards, is_reserved, class_word, plus, minus}
-use Rattle.roc_parse.specs.Stuck.{Stuck, Reading, begins}
-use Rattle.roc_parse.specs.Reading.{first_at, is_word, is_mark, is_integer, passes, word_at, mark_at, free_word, name_of, name_at, small_integer, integer_at, negated, negated_at, shards_at, class_of, class_at, sign_of, sign_at, number_at, variable_at, Deep}
-use Rattle.roc_parse.proofs.Exact.{Rule, Stop, any, Exact}
+use Rattle.roc_lang.specs.Grammar.{IsToken, IsMark, IsName, IsInteger, is_reserved, class_word, plus, minus}
+use Rattle.roc_parse.specs.Stuck.{begins}
+use Rattle.roc_parse.specs.Parts.{first_at, is_word, is_mark, passes, word_at, mark_at, free_word, name_of, name_at, small_integer, negated, negated_at, class_of, class_at, sign_of, sign_at}
+use Rattle.roc_parse.proofs.Exact.{Rule, any, Exact}
 use Rattle.roc_parse.proofs.Choices.{First, exact_first, exact_same}
 
 -- the same rule within all limits

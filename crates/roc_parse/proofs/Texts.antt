@@ -1,21 +1,22 @@
 -- The reader of texts is exact.
-use Rattle.std.proofs.Common.{◌≡◌, ℕ, zero, suc, ◌+◌, ◌-◌, ◌^◌, ◌<◌, ◌≤◌, Bool, true, false, cond, List, [], ◌∷◌, ◌++◌, length, append_assoc, Option, Some, None, refl, sym, ap, subst, ◌∙◌, inl, inr, arith, lit<}
-use Rattle.std.specs.Prelude.{ℤ, pos, Result, Ok, Err}
+use Rattle.std.proofs.Common.{◌≡◌, ℕ, ◌-◌, ◌≤◌, Bool, true, false, List, [], ◌∷◌, length, Some, None, refl, sym, ap, subst, ◌∙◌, arith, lit<}
+use Rattle.std.specs.Prelude.{pos, Ok, Err}
 use Rattle.std.specs.Option.{option_map}
 use lib.Chars.{codes}
-use Rattle.roc_lang.specs.Syntax.{Name, Table, Init, Procedure, Text}
+use Rattle.roc_lang.specs.Syntax.{Table, Init, Procedure, Text}
 use Rattle.roc_lang.specs.Tokens.{Kind, Word, Integer, Mark, Token}
-use Rattle.roc_lang.specs.Grammar.{Limits, IsToken, IsMark, IsName, IsInteger, IsSigned, plain, IsShards, Each, none, first, Separated, last, IsTable, table, IsInit, init, IsProcedure, procedure, IsText, text, open_brace, close_brace, open_bracket, close_bracket, comma, semicolon, dot, equals}
-use Rattle.roc_parse.specs.Stuck.{Stuck, Reading, ◌>>=◌, refuse, begins}
-use Rattle.roc_parse.specs.Reading.{is_word, is_mark, word_at, mark_at, names_at, small_integer, shards_at, table_at, row_at, init_at, front_at, end_at, procedure_at, tables_at, inits_at, procedures_at, text_at}
-use Rattle.roc_parse.proofs.Exact.{Rule, Stop, head, IsEnd, any, Consumed, Front, Refused, Exact, ok_same, err_same, ok-err, when_ok, Then, bind, Followed, exact_then, exact_next, bind_ends}
+use Rattle.roc_lang.specs.Grammar.{Limits, IsName, IsSigned, plain, IsShards, Each, none, first, last, IsTable, table, IsInit, init, IsProcedure, procedure, IsText, text, open_brace, close_brace, open_bracket, close_bracket, comma, semicolon, dot, equals}
+use Rattle.roc_parse.specs.Stuck.{Stuck, Reading, begins}
+use Rattle.roc_parse.specs.Parts.{is_word, is_mark, small_integer, shards_at}
+use Rattle.roc_parse.specs.Reading.{table_at, init_at, front_at, end_at, procedure_at, tables_at, inits_at, procedures_at, text_at}
+use Rattle.roc_parse.proofs.Exact.{Rule, Stop, head, IsEnd, any, Consumed, Front, Refused, Exact, ok_same, err_same, ok-err, Then, bind, exact_then, exact_next, bind_ends}
 use Rattle.roc_parse.proofs.Choices.{Mapped, mapped, exact_mapped, exact_same, mapped_ends}
 use Rattle.roc_parse.proofs.Several.{Upto, other_than, ended, unended, Repeats, many_ends, exact_many}
 use Rattle.roc_parse.proofs.Terminals.{Tokens, exact_word, exact_mark, exact_name, word_kind, token_begins, same_first, map_parts, small_parts, small_taken}
 use Rattle.roc_parse.proofs.Atoms.{stops_at}
 use Rattle.roc_parse.proofs.Atom.{a, mark, a_mark, token_of_kind}
-use Rattle.roc_parse.proofs.Statements.{Deeper, exact_signed, Rows, exact_row, one_name}
-use Rattle.roc_parse.proofs.Procedures.{Names, exact_names, names_end, name_stop, Further, fewer, higher, exact_procedure, procedure_front}
+use Rattle.roc_parse.proofs.Statements.{exact_signed, Rows, exact_row, one_name}
+use Rattle.roc_parse.proofs.Procedures.{Names, exact_names, names_end, Further, fewer, higher, exact_procedure, procedure_front}
 
 -- ---- tables
 

@@ -1,15 +1,16 @@
 -- Reading one after the other, as the loops of the code do.
-use Rattle.std.proofs.Common.{◌≡◌, ℕ, zero, suc, ◌+◌, ◌-◌, ◌<◌, ◌≤◌, Bool, true, false, cond, List, [], ◌∷◌, ◌++◌, append_assoc, refl, sym, ap, ◌∙◌, arith}
-use Rattle.std.specs.Prelude.{Result, Ok, Err, nat_lt}
+use Rattle.std.proofs.Common.{◌≡◌, ℕ, zero, suc, ◌+◌, ◌-◌, ◌<◌, ◌≤◌, Bool, true, false, List, [], ◌∷◌, ◌++◌, append_assoc, refl, sym, ap, ◌∙◌, arith}
+use Rattle.std.specs.Prelude.{Ok, Err, nat_lt}
 use Rattle.std.proofs.lemmas.Bool.{lt-ltb}
 use Rattle.std.proofs.lemmas.Bool.Decides.{nat_tests}
 use Rattle.std.proofs.lemmas.List.{append-nil}
 use Rattle.roc_lang.specs.Tokens.{Kind, Token}
-use Rattle.roc_parse.specs.Stuck.{Stuck, Reading, and_then, ◌>>=◌, begins}
+use Rattle.roc_parse.specs.Stuck.{Stuck, Reading, ◌>>=◌, begins}
 use Rattle.roc_parse.specs.declared.refusal.Refusal.{Refusal}
 use Rattle.roc_parse.specs.declared.refusal.Refusal.TheVariants as refusals
 use Rattle.roc_parse.specs.Views.{Fails}
-use Rattle.roc_parse.specs.Reading.{Deep, loop_at, with_front, many_at, rooms, deep_at, sum_with, sum_at}
+use Rattle.roc_parse.specs.Parts.{with_front, many_at}
+use Rattle.roc_parse.specs.Reading.{Deep, loop_at, rooms, deep_at, sum_with, sum_at}
 
 -- ---- expressions by those with less room
 

@@ -1,27 +1,25 @@
 -- Bytes have at most one first fault, and a workload text has none.
-use Rattle.std.proofs.Common.{◌≡◌, ℕ, zero, suc, ◌+◌, ◌-◌, ◌<◌, ◌≤◌, Bool, true, false, cond, List, [], ◌∷◌, ◌++◌, length, Option, Some, None, refl, sym, ap, subst, ◌∙◌, append_assoc, ◌⊎◌, inl, inr, arith}
+use Rattle.std.proofs.Common.{◌≡◌, ℕ, ◌<◌, ◌≤◌, Bool, true, false, cond, List, [], ◌∷◌, ◌++◌, length, Option, Some, None, refl, sym, ap, subst, ◌∙◌, append_assoc, ◌⊎◌, inl, inr, arith}
 use Rattle.std.specs.Prelude.{Result, Ok, Err, nat_le}
 use Rattle.std.proofs.lemmas.Bool.{leb-true}
 use Rattle.std.proofs.lemmas.Bool.Decides.{nat_tests}
 use Rattle.std.proofs.lemmas.List.{append-nil}
 use Rattle.roc_lang.specs.Syntax.{Text}
-use Rattle.roc_lang.specs.Tokens.{Kind, Token, IsTokens}
-use Rattle.roc_lang.specs.Grammar.{Limits, standard, IsText}
-use Rattle.roc_lang.specs.Thin.{text_limit}
+use Rattle.roc_lang.specs.Tokens.{Token, IsTokens}
+use Rattle.roc_lang.specs.Grammar.{Limits, standard, IsText, text_limit}
 use Rattle.roc_lang.specs.declared.fault.LangError.{LangError}
 use Rattle.roc_lang.specs.declared.fault.LangError.TheVariants as errors
 use Rattle.roc_lang.specs.declared.fault.What.{What}
 use Rattle.roc_lang.specs.declared.fault.What.TheVariants as whats
 use Rattle.roc_parse.specs.Stuck.{Stuck}
 use Rattle.roc_parse.specs.Reading.{whole_at}
-use Rattle.roc_parse.specs.Lexed.{IsLexed, IsBroken}
 use Rattle.roc_parse.specs.Scanning.{IsScanned}
-use Rattle.roc_parse.specs.Fault.{IsWorkloadText, GoesOn, is_above, last_line, IsFirstFault, too_long, broken, misplaced, wrong, beyond, stops}
+use Rattle.roc_parse.specs.Fault.{IsWorkloadText, GoesOn, last_line, IsFirstFault, too_long, broken, misplaced, wrong, beyond, stops}
 use Rattle.roc_parse.specs.Answer.{IsFaultOf, fault_of, what_of, answer_of}
-use Rattle.roc_parse.proofs.Exact.{NoneThrough, Why, Refused, ok_same, err_same, ok-err}
+use Rattle.roc_parse.proofs.Exact.{Why, Refused, ok_same, err_same, ok-err}
 use Rattle.roc_parse.proofs.Texts.{Whole, at_end}
 use Rattle.roc_parse.proofs.Further.{past, past_all, further_text}
-use Rattle.roc_parse.proofs.Answers.{read_is, is_read, stops_at, front_goes_on, none_further, none_at_all, same_front, text_tokens, answer_only, answer_text, answer_fault}
+use Rattle.roc_parse.proofs.Answers.{read_is, stops_at, front_goes_on, none_further, none_at_all, same_front, text_tokens, answer_only, answer_text, answer_fault}
 use Rattle.roc_parse.proofs.Scans.{Scan, scan, scanned_before, scanned_broken}
 
 -- ---- lists that are equal, cut at two places
@@ -218,6 +216,11 @@ pub text_has_none : (bytes : List ℕ) (t : Text) (line : ℕ) (what : What) →
 text_has_none bytes t line what w f =
     let s = scan bytes in
     ok-err t (errors.At line what) (sym (answer_only bytes s.tokens s.broken t s.is w) ∙ fault_answered bytes s.tokens s.broken s.is w.size f)
+
+pub one_spelling : (bytes : List ℕ) (some others : List Token) → IsTokens 1 bytes some → IsTokens 1 bytes others → some ≡ others
+one_spelling bytes some others p q =
+    let s = scan bytes in
+    (text_tokens bytes s.tokens s.broken s.is some p).1 ∙ sym (text_tokens bytes s.tokens s.broken s.is others q).1
 
 pub one_tree : (bytes : List ℕ) (t u : Text) → IsWorkloadText bytes t → IsWorkloadText bytes u → t ≡ u
 one_tree bytes t u w v =

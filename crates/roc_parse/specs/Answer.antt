@@ -1,5 +1,5 @@
 -- What `parse` answers: the tree of a workload text, or the first fault of what is none; and how it comes from what was read.
-use Rattle.std.specs.Prelude.{◌≡◌, ℕ, Bool, true, false, if◌then◌else◌, List, [], ◌∷◌, Option, Some, None, Result, Ok, Err}
+use Rattle.std.specs.Prelude.{◌≡◌, ℕ, Bool, if◌then◌else◌, List, [], ◌∷◌, Option, Some, None, Result, Ok, Err}
 use Rattle.roc_lang.specs.Syntax.{Text}
 use Rattle.roc_lang.specs.Tokens as tokens
 use Rattle.roc_lang.specs.Tree.{tree}
@@ -10,6 +10,12 @@ use Rattle.roc_lang.specs.declared.fault.What.{What}
 use Rattle.roc_lang.specs.declared.fault.What.TheVariants.{Word, Token, Limit, End}
 use Rattle.roc_parse.specs.Stuck.{Stuck}
 use Rattle.roc_parse.specs.Fault.{IsFirstFault, is_above, last_line}
+
+-- a source of this tree, unless memory ran out
+abbrev pub IsSourceOf : Text → Result Source LangError → Type 0
+IsSourceOf t (Ok source) = tree source ≡ t
+IsSourceOf t (Err NoMemory) = Unit {0}
+IsSourceOf t (Err (At line what)) = ⊥
 
 -- an error that is no want of memory is the first fault
 abbrev pub IsFaultOf : List ℕ → LangError → Type 0

@@ -1,11 +1,10 @@
 -- Which bytes are a workload text within the limits, and the first fault of those that are none: docs/LANGUAGE.md, "Faults".
-use Rattle.std.specs.Prelude.{◌≡◌, ℕ, ◌-◌, ◌^◌, ◌<◌, ◌≤◌, Bool, false, ◌==◌, IsTrue, IsFalse, List, [], ◌∷◌, ◌++◌, length, take}
+use Rattle.std.specs.Prelude.{ℕ, ◌-◌, ◌^◌, ◌<◌, ◌≤◌, Bool, false, ◌==◌, IsTrue, IsFalse, List, [], ◌∷◌, ◌++◌, length, take}
 use Rattle.std.specs.List.{fold}
 use Rattle.roc_lang.specs.Syntax.{Text}
 use Rattle.roc_lang.specs.Tokens as tokens
 use Rattle.roc_lang.specs.Tokens.{Kind, IsTokens, line_after}
-use Rattle.roc_lang.specs.Grammar.{Limits, standard, IsText}
-use Rattle.roc_lang.specs.Thin.{text_limit}
+use Rattle.roc_lang.specs.Grammar.{Limits, standard, IsText, text_limit}
 use Rattle.roc_lang.specs.declared.fault.What.{What}
 use Rattle.roc_lang.specs.declared.fault.What.TheVariants.{Word, Token, Limit, End}
 use Rattle.roc_parse.specs.Lexed.{IsLexed, IsBroken}

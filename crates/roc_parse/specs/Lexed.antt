@@ -1,8 +1,8 @@
 -- The tokens of a text from its front up to a place: docs/LANGUAGE.md, "Tokens" and "Faults".
-use Rattle.std.specs.Prelude.{◌≡◌, ℕ, ◌<◌, IsTrue, IsFalse, ◌==◌, List, [], ◌∷◌, ◌++◌, length, Option, Some, None}
+use Rattle.std.specs.Prelude.{◌≡◌, ℕ, ◌<◌, IsTrue, IsFalse, ◌==◌, List, [], ◌∷◌, ◌++◌, length}
 use Rattle.std.specs.List.{AllByRecursion}
 use lib.Chars.{codes}
-use Rattle.roc_lang.specs.Tokens.{Kind, Word, Integer, Mark, Token, is_mark, is_blank, line_after, IsWord, decimal, IsDecimal, IsTokenEnd, IsLineEnd}
+use Rattle.roc_lang.specs.Tokens.{Word, Integer, Mark, Token, is_mark, is_blank, line_after, IsWord, decimal, IsDecimal, IsTokenEnd, IsLineEnd}
 
 -- one step from bytes that begin on a line: a blank, a comment, or a token; and the line and the bytes behind it
 pub data IsNext : (line : ℕ) (bytes : List ℕ) (tokens : List Token) (after : ℕ) (rest : List ℕ) → Type 0 where

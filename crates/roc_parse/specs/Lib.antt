@@ -1,4 +1,5 @@
 pub mod Stuck
+pub mod Parts
 pub mod Reading
 pub mod Views
 pub mod Lexed

@@ -1,5 +1,5 @@
 -- What reading a rule of the grammar gives: a value and the tokens behind it, or where it stops.
-use Rattle.std.specs.Prelude.{ℕ, Bool, true, false, List, [], ◌∷◌, Result, Ok, Err}
+use Rattle.std.specs.Prelude.{Bool, true, false, List, [], ◌∷◌, Result, Ok, Err}
 use Rattle.roc_lang.specs.Tokens.{Kind, Token}
 
 -- no text goes on with the first of these tokens; or, where it is past, none within the limits

@@ -11,9 +11,9 @@ use Rattle.roc_parse.specs.declared.token.Kind.{Kind}
 use Rattle.roc_parse.specs.declared.token.Kind.TheVariants as kinds
 use Rattle.roc_parse.specs.declared.refusal.Refusal.{Refusal}
 use Rattle.roc_parse.specs.declared.refusal.Refusal.TheVariants as refusals
-use Rattle.roc_parse.specs.declared.expression.Deep.{Deep}
-use Rattle.roc_parse.specs.declared.expression.Function.{Function}
-use Rattle.roc_parse.specs.declared.expression.Function.TheVariants as functions
+use Rattle.roc_parse.specs.declared.deep.Deep.{Deep}
+use Rattle.roc_parse.specs.declared.deep.Function.{Function}
+use Rattle.roc_parse.specs.declared.deep.Function.TheVariants as functions
 use Rattle.roc_parse.specs.Stuck.{Stuck}
 use Rattle.roc_parse.specs.Reading as reading
 

@@ -6,6 +6,7 @@ ghost use Rattle.roc_lang.specs.Tree.{expression_tree};
 ghost use Rattle.roc_parse.specs.Views.{Gives, views, deep_view, function_word, function_of};
 ghost use Rattle.roc_parse.specs.Reading.{number_at, variable_at, enclosed_at, next_at, pair_at, function_at, pick_at, atom_at, factor_at, factors_at, times, term_at, signed_term_at, sums_at, plus_or_minus, sum_at, deep_at, expression_at};
 
+use crate::deep::{Deep, Function, applied, picked, plus_or_minus, times, word_of};
 use crate::refusal::{Refusal, limit_fault};
 use crate::terminal::{
     begins_integer, begins_mark, begins_sign, begins_word, integer_of, mark, name_of, sign_at, word,
@@ -16,48 +17,6 @@ use std::alloc::{AllocError, Global};
 
 /// How deep an expression may be.
 const DEPTH_LIMIT: u32 = 32;
-
-/// An expression and its depth.
-#[derive(Debug, Drop)]
-pub(crate) struct Deep {
-    pub expression: Expression,
-    pub depth: u32,
-}
-
-/// A function of two operands.
-#[derive(Clone, Copy, Debug, Drop)]
-pub(crate) enum Function {
-    Minimum,
-    Maximum,
-    Less,
-}
-
-fn word_of(function: Function) -> &'static str
-    ensures { result.now ≡ function_word function }
-{
-    match function {
-        Function::Minimum => "min",
-        Function::Maximum => "max",
-        Function::Less => "less",
-    }
-}
-
-fn applied(
-    alloc: Global,
-    function: Function,
-    first: Expression,
-    second: Expression,
-) -> Result<Expression, AllocError>
-    ensures { IfOk result (λ e. expression_tree e ≡ function_of function (expression_tree first) (expression_tree second)) }
-{
-    let first = Box::new(alloc, first)?;
-    let second = Box::new(alloc, second)?;
-    match function {
-        Function::Minimum => Ok(Expression::Minimum(first, second)),
-        Function::Maximum => Ok(Expression::Maximum(first, second)),
-        Function::Less => Ok(Expression::Less(first, second)),
-    }
-}
 
 #[tactic(auto, unfolding(crate::specs::Reading::number_at))]
 fn number_of(tokens: &[Token]) -> Result<(Deep, &[Token]), Refusal<'_>>
@@ -166,20 +125,6 @@ fn call_of(
     Ok((Deep { expression, depth }, rest))
 }
 
-fn picked(
-    alloc: Global,
-    chooser: Expression,
-    first: Expression,
-    second: Expression,
-) -> Result<Expression, AllocError>
-    ensures { IfOk result (λ e. expression_tree e ≡ Pick (expression_tree chooser) (expression_tree first) (expression_tree second)) }
-{
-    let chooser = Box::new(alloc, chooser)?;
-    let first = Box::new(alloc, first)?;
-    let second = Box::new(alloc, second)?;
-    Ok(Expression::Pick(chooser, first, second))
-}
-
 /// `pick` and its operands.
 #[cycle(expression)]
 #[tactic(auto, unfolding(crate::specs::Reading::pick_at))]
@@ -253,19 +198,6 @@ fn atom_of(alloc: Global, room: u32, tokens: &[Token]) -> Result<(Deep, &[Token]
     }
 }
 
-/// The product of two expressions.
-fn times(alloc: Global, first: Deep, second: Deep) -> Result<Deep, AllocError>
-    requires first { first.depth < 32 }
-    requires second { second.depth < 32 }
-    ensures { IfOk result (λ d. deep_view d ≡ times (deep_view first) (deep_view second)) }
-{
-    let depth = first.depth.max(second.depth) + 1;
-    let first = Box::new(alloc, first.expression)?;
-    let second = Box::new(alloc, second.expression)?;
-    let expression = Expression::Product(first, second);
-    Ok(Deep { expression, depth })
-}
-
 /// A `*` and the atom behind it.
 #[cycle(expression)]
 #[tactic(auto, unfolding(crate::specs::Reading::factor_at))]
@@ -326,23 +258,6 @@ fn term_of(alloc: Global, room: u32, tokens: &[Token]) -> Result<(Deep, &[Token]
 {
     let (first, rest) = atom_of(alloc, room, tokens)?;
     factors_of(alloc, room, first, rest)
-}
-
-/// The sum or the difference of two expressions.
-fn plus_or_minus(alloc: Global, first: Deep, is_sum: bool, second: Deep) -> Result<Deep, AllocError>
-    requires first { first.depth < 32 }
-    requires second { second.depth < 32 }
-    ensures { IfOk result (λ d. deep_view d ≡ plus_or_minus (deep_view first) (is_sum, deep_view second)) }
-{
-    let depth = first.depth.max(second.depth) + 1;
-    let first = Box::new(alloc, first.expression)?;
-    let second = Box::new(alloc, second.expression)?;
-    let expression = if is_sum {
-        Expression::Sum(first, second)
-    } else {
-        Expression::Difference(first, second)
-    };
-    Ok(Deep { expression, depth })
 }
 
 /// A `+` or `-`, true for `+`, and the term behind it.

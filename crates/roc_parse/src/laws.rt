@@ -2,8 +2,14 @@
 
 ghost use Rattle.std.specs.Prelude.{◌≡◌, ◌⊎◌, ℕ, List};
 ghost use Rattle.roc_lang.specs.Syntax.{Text};
+ghost use Rattle.roc_lang.specs.Tokens.{Token, IsTokens};
 ghost use Rattle.roc_lang.specs.declared.fault.What.{What};
 ghost use Rattle.roc_parse.specs.Fault.{IsWorkloadText, IsFirstFault};
+
+/// Bytes spell at most one list of tokens: each is as long as it can be.
+pub fn tokens_are_unique()
+    ensures { (bytes : List ℕ) (some others : List Token) → IsTokens 1 bytes some → IsTokens 1 bytes others → some ≡ others }
+{}
 
 /// Bytes are a workload text of at most one tree.
 pub fn tree_is_unique()

@@ -4,10 +4,11 @@
 //! of `roc_lang` (`Tokens`, `Grammar`) and on `specs/Lexed.antt`, which says how far a text has tokens. The layers above
 //! may rely on this: a tree is given exactly where the bytes are a workload text of it within the limits, unless memory
 //! runs out, and a fault is the first one from the left, with its kind and its line. Scope is not asked here.
-//! `Stuck`, `Reading`, `Scanning`, `Views` and most of `Answer` are of this crate alone.
+//! `Stuck`, `Parts`, `Reading`, `Scanning`, `Views` and most of `Answer` are of this crate alone.
 #![tactic(auto)]
 
 mod declaration;
+mod deep;
 mod expression;
 pub mod laws;
 mod lexer;

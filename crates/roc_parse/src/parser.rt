@@ -4,11 +4,10 @@ ghost use Rattle.std.specs.Prelude.{◌≡◌, ◌≤◌, length, IfOk, IfErr};
 ghost use Rattle.roc_lang.specs.Syntax.{Text};
 ghost use Rattle.roc_lang.specs.Grammar.{standard};
 ghost use Rattle.roc_lang.specs.Tree.{tree};
-ghost use Rattle.roc_lang.specs.Answer.{IsSourceOf};
 ghost use Rattle.roc_parse.specs.Views.{kind_view, views};
 ghost use Rattle.roc_parse.specs.Reading.{whole_at};
 ghost use Rattle.roc_parse.specs.Fault.{IsWorkloadText, is_above, last_line};
-ghost use Rattle.roc_parse.specs.Answer.{IsFaultOf, what_of, fault_of, answer_of, Tells};
+ghost use Rattle.roc_parse.specs.Answer.{IsSourceOf, IsFaultOf, what_of, fault_of, answer_of, Tells};
 
 use crate::declaration::whole_of;
 use crate::lexer::{Lexed, line_after, tokens_of};

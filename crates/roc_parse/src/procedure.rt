@@ -4,7 +4,8 @@ ghost use Rattle.std.specs.Prelude.{◌≡◌, map};
 ghost use Rattle.roc_lang.specs.Grammar.{standard};
 ghost use Rattle.roc_lang.specs.Tree.{name_tree, expression_tree, piece_tree, procedure_tree};
 ghost use Rattle.roc_parse.specs.Views.{Gives, views};
-ghost use Rattle.roc_parse.specs.Reading.{next_name_at, names_behind, names_at, some_at, names_closed_at, listed_at, arguments_at, head_at, piece_at, pieces_behind, pieces_at, procedure_at, procedures_at};
+ghost use Rattle.roc_parse.specs.Parts.{next_name_at, names_behind, names_at, some_at};
+ghost use Rattle.roc_parse.specs.Reading.{names_closed_at, listed_at, arguments_at, head_at, piece_at, pieces_behind, pieces_at, procedure_at, procedures_at};
 
 use crate::expression::expression_of;
 use crate::refusal::{Refusal, limit_fault};
@@ -24,7 +25,7 @@ const MORE_PIECES: u32 = 15;
 const PROCEDURE_LIMIT: u32 = 64;
 
 /// A comma and a name behind it.
-#[tactic(auto, unfolding(crate::specs::Reading::next_name_at))]
+#[tactic(auto, unfolding(crate::specs::Parts::next_name_at))]
 fn next_name_of(alloc: Global, tokens: &[Token]) -> Result<(Name, &[Token]), Refusal<'_>>
     ensures { Gives (λ x. (name_tree x.0, views x.1.now)) result (next_name_at (views tokens.now)) }
 {
@@ -58,7 +59,7 @@ fn names_behind(
 }
 
 /// Names with commas between: one, and so many more.
-#[tactic(auto, unfolding(crate::specs::Reading::some_at))]
+#[tactic(auto, unfolding(crate::specs::Parts::some_at))]
 pub(crate) fn names_of(
     alloc: Global,
     more: u32,
@@ -168,7 +169,7 @@ fn pieces_behind(
 }
 
 /// One piece or more.
-#[tactic(auto, unfolding(crate::specs::Reading::some_at))]
+#[tactic(auto, unfolding(crate::specs::Parts::some_at))]
 fn pieces_of(alloc: Global, tokens: &[Token]) -> Result<(Vec<Piece>, &[Token]), Refusal<'_>>
     ensures { Gives (λ x. (map piece_tree x.0.items, views x.1.now)) result (pieces_at standard 15 (views tokens.now)) }
 {

@@ -6,7 +6,8 @@ ghost use Rattle.roc_lang.specs.Grammar.{is_reserved};
 ghost use Rattle.roc_lang.specs.Tree.{name_tree};
 ghost use Rattle.roc_parse.specs.Stuck.{begins};
 ghost use Rattle.roc_parse.specs.Views.{Gives, kind_view, views};
-ghost use Rattle.roc_parse.specs.Reading.{is_word, is_mark, is_integer, word_at, mark_at, free_word, name_at, small_integer, integer_at, negated, negated_at, signed_at, shards_at, class_of, class_at, starts_statement, starts_piece, is_sign, sign_of, sign_at};
+ghost use Rattle.roc_parse.specs.Parts.{is_word, is_mark, is_integer, word_at, mark_at, free_word, name_at, small_integer, integer_at, negated, negated_at, signed_at, shards_at, class_of, class_at, sign_of, sign_at};
+ghost use Rattle.roc_parse.specs.Reading.{starts_statement, starts_piece, is_sign};
 
 use crate::refusal::{Refusal, token_fault};
 use crate::token::{Kind, Token};
@@ -78,7 +79,7 @@ pub(crate) fn begins_piece(tokens: &[Token]) -> bool
 }
 
 /// What follows a word of the grammar.
-#[tactic(auto, unfolding(crate::specs::Reading::first_at))]
+#[tactic(auto, unfolding(crate::specs::Parts::first_at))]
 pub(crate) fn word<'a>(tokens: &'a [Token], word: &str) -> Result<&'a [Token], Refusal<'a>>
     ensures { Gives (λ x. (tt, views x.now)) result (word_at word.now (views tokens.now)) }
 {
@@ -95,7 +96,7 @@ pub(crate) fn word<'a>(tokens: &'a [Token], word: &str) -> Result<&'a [Token], R
 }
 
 /// What follows a mark.
-#[tactic(auto, unfolding(crate::specs::Reading::first_at))]
+#[tactic(auto, unfolding(crate::specs::Parts::first_at))]
 pub(crate) fn mark(tokens: &[Token], mark: u8) -> Result<&[Token], Refusal<'_>>
     ensures { Gives (λ x. (tt, views x.now)) result (mark_at mark (views tokens.now)) }
 {
@@ -150,7 +151,7 @@ fn free_word(kind: &Kind) -> Option<&str>
     }
 }
 
-#[tactic(auto, unfolding(crate::specs::Reading::first_at))]
+#[tactic(auto, unfolding(crate::specs::Parts::first_at))]
 pub(crate) fn name_of(alloc: Global, tokens: &[Token]) -> Result<(Name, &[Token]), Refusal<'_>>
     ensures { Gives (λ x. (name_tree x.0, views x.1.now)) result (name_at (views tokens.now)) }
 {
@@ -192,7 +193,7 @@ fn small_integer(kind: &Kind) -> Option<i64>
     }
 }
 
-#[tactic(auto, unfolding(crate::specs::Reading::first_at))]
+#[tactic(auto, unfolding(crate::specs::Parts::first_at))]
 pub(crate) fn integer_of(tokens: &[Token]) -> Result<(i64, &[Token]), Refusal<'_>>
     ensures { Gives (λ x. (x.0, views x.1.now)) result (integer_at (views tokens.now)) }
 {
@@ -216,7 +217,7 @@ fn negated(kind: &Kind) -> Option<i64>
     }
 }
 
-#[tactic(auto, unfolding(crate::specs::Reading::first_at))]
+#[tactic(auto, unfolding(crate::specs::Parts::first_at))]
 fn negated_of(tokens: &[Token]) -> Result<(i64, &[Token]), Refusal<'_>>
     ensures { Gives (λ x. (x.0, views x.1.now)) result (negated_at (views tokens.now)) }
 {
@@ -230,7 +231,7 @@ fn negated_of(tokens: &[Token]) -> Result<(i64, &[Token]), Refusal<'_>>
 }
 
 /// An integer, or a `-` and an integer.
-#[tactic(auto, unfolding(crate::specs::Reading::signed_at))]
+#[tactic(auto, unfolding(crate::specs::Parts::signed_at))]
 pub(crate) fn signed_of(tokens: &[Token]) -> Result<(i64, &[Token]), Refusal<'_>>
     ensures { Gives (λ x. (x.0, views x.1.now)) result (signed_at (views tokens.now)) }
 {
@@ -253,7 +254,7 @@ fn small_value(kind: &Kind) -> Option<u64>
 }
 
 /// The number of shards, and its line.
-#[tactic(auto, unfolding(crate::specs::Reading::first_at))]
+#[tactic(auto, unfolding(crate::specs::Parts::first_at))]
 pub(crate) fn shards_of(tokens: &[Token]) -> Result<((u64, u32), &[Token]), Refusal<'_>>
     ensures { Gives (λ x. (x.0, views x.1.now)) result (shards_at (views tokens.now)) }
 {
@@ -279,7 +280,7 @@ fn class_of(kind: &Kind) -> Option<bool>
     }
 }
 
-#[tactic(auto, unfolding(crate::specs::Reading::first_at))]
+#[tactic(auto, unfolding(crate::specs::Parts::first_at))]
 pub(crate) fn class_at(tokens: &[Token]) -> Result<(bool, &[Token]), Refusal<'_>>
     ensures { Gives (λ x. (x.0, views x.1.now)) result (class_at (views tokens.now)) }
 {
@@ -315,7 +316,7 @@ pub(crate) fn begins_sign(tokens: &[Token]) -> bool
     }
 }
 
-#[tactic(auto, unfolding(crate::specs::Reading::first_at))]
+#[tactic(auto, unfolding(crate::specs::Parts::first_at))]
 pub(crate) fn sign_at(tokens: &[Token]) -> Result<(bool, &[Token]), Refusal<'_>>
     ensures { Gives (λ x. (x.0, views x.1.now)) result (sign_at (views tokens.now)) }
 {

@@ -5,5 +5,7 @@ pub mod Bindings
 pub mod Counts
 pub mod Limited
 pub mod Scoped
-pub mod ThinTexts
+pub mod Formed
 pub mod Outlined
+pub mod Deferred
+pub mod Collisions

@@ -1,11 +1,12 @@
--- A text of the grammar is within its limits, and its integers fit 64 bits
-use Rattle.std.proofs.Common.{ℕ, pos, ◌<◌, ◌≤◌, ◌^◌, List, length, FitsSigned, w64, arith, rules}
+-- A text of the grammar is within the limits, and its integers fit 64 bits
+use Rattle.std.proofs.Common.{◌≡◌, ℕ, zero, suc, ℤ, pos, ◌<◌, ◌≤◌, ◌^◌, List, length, FitsSigned, w64, sym, subst, arith, rules}
+use Rattle.std.specs.Prelude.{neg_ℤ}
 use Rattle.std.specs.List.{AllByRecursion}
 use Rattle.roc_lang.specs.Tokens.{Token}
-use Rattle.roc_lang.specs.Syntax.{Expression, Number, Variable, Sum, Difference, Product, Minimum, Maximum, Less, Pick, Access, Statement, Get, Set, Out, Piece, Procedure, Table, Name, Text}
+use Rattle.roc_lang.specs.Syntax.{Expression, Access, Statement, Piece, Procedure, Table, Init, Name, Text}
 use Rattle.roc_lang.specs.Grammar as grammar
 use Rattle.roc_lang.specs.Grammar.{Limits, standard, Each, none, first, IsExpression, IsTerm, IsAtom, IsPair, IsAccess, access, IsStatement, IsPiece, piece, IsArguments, no_arguments, arguments, IsProcedure, procedure, IsTable, table, IsText, text}
-use Rattle.roc_plan.specs.Limits.{IsSmallProcedure, IsSmallText}
+use Rattle.roc_plan.specs.Limits.{IsSmallProcedure, IsSmallText, AreWords, AreStatementWords, ArePieceWords, AreInitWords, IsWithinLimits}
 
 -- what holds of each that a rule takes holds of all
 pub each_all : {A : Type 0} {Is : List Token → List Token → A → Type 0} (P : A → Type 0) → ((a b : List Token) (x : A) → Is a b x → P x) → {a b : List Token} {xs : List A} → Each Is a b xs → AllByRecursion P xs
@@ -26,7 +27,7 @@ small_procedure : (a b : List Token) (p : Procedure) → IsProcedure standard a 
 small_procedure a b p (procedure h1 h2 h3 h4 h5 h6 some few) =
     record { arguments = few_arguments _ _ p.arguments h3; some_piece = some; pieces = few; statements = each_all (λ p. length p.body ≤ 64) few_statements h5 }
 
-pub small_text : (tokens : List Token) (t : Text) → IsText standard tokens t → IsSmallText t
+small_text : (tokens : List Token) (t : Text) → IsText standard tokens t → IsSmallText t
 small_text tokens t (text h1 h2 h3 tables inits procedures few_tables few_inits few_procedures) =
     record {
       tables = record { few = few_tables; columns = each_all (λ t. length t.columns ≤ 16) few_columns tables };
@@ -36,27 +37,6 @@ small_text tokens t (text h1 h2 h3 tables inits procedures few_tables few_inits 
     }
 
 -- ---- integers
-
--- the integers of an expression fit 64 bits
-abbrev pub AreWords : Expression → Type 0
-AreWords (Number n) = FitsSigned w64 n
-AreWords (Variable name) = Unit {0}
-AreWords (Sum e f) = AreWords e × AreWords f
-AreWords (Difference e f) = AreWords e × AreWords f
-AreWords (Product e f) = AreWords e × AreWords f
-AreWords (Minimum e f) = AreWords e × AreWords f
-AreWords (Maximum e f) = AreWords e × AreWords f
-AreWords (Less e f) = AreWords e × AreWords f
-AreWords (Pick c e f) = AreWords c × AreWords e × AreWords f
-
-abbrev pub AreStatementWords : Statement → Type 0
-AreStatementWords (Get name from) = AreWords from.id
-AreStatementWords (Set to value) = AreWords to.id × AreWords value
-AreStatementWords (Out value) = AreWords value
-
-pub record ArePieceWords (p : Piece) : Type 0 where
-  pub place : AreWords p.place
-  pub body : AllByRecursion AreStatementWords p.body
 
 integer_fits : (n : ℕ) → n < 2 ^ 63 → FitsSigned w64 (pos n)
 integer_fits n h = search rules
@@ -97,5 +77,29 @@ piece_words a b p (piece h1 h2 h3 h4 h5 h6 h7 few) = record { place = expression
 procedure_words : (a b : List Token) (p : Procedure) → IsProcedure standard a b p → AllByRecursion ArePieceWords p.pieces
 procedure_words a b p (procedure h1 h2 h3 h4 h5 h6 some few) = each_all ArePieceWords piece_words h5
 
-pub words_text : (tokens : List Token) (t : Text) → IsText standard tokens t → AllByRecursion (λ p. AllByRecursion ArePieceWords p.pieces) t.procedures
+words_text : (tokens : List Token) (t : Text) → IsText standard tokens t → AllByRecursion (λ p. AllByRecursion ArePieceWords p.pieces) t.procedures
 words_text tokens t (text h1 h2 h3 tables inits procedures few_tables few_inits few_procedures) = each_all (λ p. AllByRecursion ArePieceWords p.pieces) procedure_words procedures
+
+-- ---- init lines
+
+signed_fits : (value : ℤ) (n : ℕ) → n ≤ 2 ^ 63 → value ≡ neg_ℤ (pos n) → FitsSigned w64 value
+signed_fits value n h e = let P : ℤ → Type 0 = FitsSigned w64 in subst P (sym e) (negated_fits n h)
+  where
+    negated_fits : (n : ℕ) → n ≤ 2 ^ 63 → FitsSigned w64 (neg_ℤ (pos n))
+    negated_fits zero h = search rules
+    negated_fits (suc n) h = search rules
+
+signed_words : {a b : List Token} {value : ℤ} → grammar.IsSigned a b value → FitsSigned w64 value
+signed_words (grammar.plain {n = n} h) = integer_fits n h.fits
+signed_words (grammar.negated {n = n} {value = value} h1 h2 h3 e) = signed_fits value n h3 e
+
+init_words : (a b : List Token) (i : Init) → grammar.IsInit a b i → AreInitWords i
+init_words a b i (grammar.init h1 h2 h3 h4 h5 h6 h7 h8 h9 h10 h11 h12) = record { place = signed_words h4; id = signed_words h6; value = signed_words h11 }
+
+inits_text : (tokens : List Token) (t : Text) → IsText standard tokens t → AllByRecursion AreInitWords t.inits
+inits_text tokens t (text h1 h2 h3 tables inits procedures few_tables few_inits few_procedures) = each_all AreInitWords init_words inits
+
+-- ---- texts
+
+pub within_limits : (tokens : List Token) (t : Text) → IsText standard tokens t → IsWithinLimits t
+within_limits tokens t is = record { counts = small_text tokens t is; inits = inits_text tokens t is; pieces = words_text tokens t is }

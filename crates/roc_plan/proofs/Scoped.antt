@@ -10,7 +10,7 @@ use Rattle.roc_lang.specs.Scope.{Twice, Unknown, LaterUsed, SamePieceKey, Unboun
 use Rattle.roc_plan.specs.Resolve as resolve
 use Rattle.roc_plan.specs.Resolve.{texts, number_in}
 use Rattle.roc_plan.specs.WellFormed.{IsOver, HasColumn, IsAccess, IsBody}
-use Rattle.roc_plan.proofs.Limited.{AreWords, AreStatementWords}
+use Rattle.roc_plan.specs.Limits.{AreWords, AreStatementWords}
 
 -- ---- lists of faults
 
@@ -22,7 +22,7 @@ pub back_none : {X : Type 0} (xs ys : List X) → xs ++ ys ≡ [] → ys ≡ []
 back_none [] ys e = e
 back_none (x ∷ xs) ys e = cc
 
-each_none : {X Y : Type 0} (f : X → List Y) (xs : List X) → flat_map f xs ≡ [] → AllByRecursion (λ x. f x ≡ []) xs
+pub each_none : {X Y : Type 0} (f : X → List Y) (xs : List X) → flat_map f xs ≡ [] → AllByRecursion (λ x. f x ≡ []) xs
 each_none f [] e = tt
 each_none f (x ∷ xs) e = (front_none (f x) (flat_map f xs) e, each_none f xs (back_none (f x) (flat_map f xs) e))
 
@@ -35,7 +35,7 @@ or_rest : (x y : Bool) → (x || y) ≡ true → x ≡ false → y ≡ true
 or_rest true y e f = cc
 or_rest false y e f = e
 
-neither : (x y : Bool) → (x || y) ≡ false → (x ≡ false) × (y ≡ false)
+pub neither : (x y : Bool) → (x || y) ≡ false → (x ≡ false) × (y ≡ false)
 neither true y e = cc
 neither false y e = (refl, e)
 
@@ -71,7 +71,7 @@ number_new (n ∷ ns) later name e =
 pub number_next : (all earlier later : List Name) (name : Name) → all ≡ earlier ++ name ∷ later → is_among earlier name ≡ false → number_in (texts all) name.text ≡ length earlier
 number_next all earlier later name e new = rw e (number_new earlier later name new)
 
-among_append : (xs ys : List Name) (name : Name) → is_among (xs ++ ys) name ≡ (is_among xs name || is_among ys name)
+pub among_append : (xs ys : List Name) (name : Name) → is_among (xs ++ ys) name ≡ (is_among xs name || is_among ys name)
 among_append [] ys name = refl
 among_append (x ∷ xs) ys name = either (bytes_eq x.text name.text) (is_among (xs ++ ys) name) (is_among xs name) (is_among ys name) (among_append xs ys name)
   where
@@ -80,6 +80,12 @@ among_append (x ∷ xs) ys name = either (bytes_eq x.text name.text) (is_among (
     either false r p q e = e
 
 -- ---- names that are used
+
+-- The names before a piece, in program order: each that the piece may use is among them, and none that is neither known nor bound
+-- in an earlier later piece.
+pub record IsBefore (known past before : List Name) : Type 0 where
+  pub all_known : (name : Name) → is_among known name ≡ true → is_among before name ≡ true
+  pub no_other : (name : Name) → is_among known name ≡ false → is_among past name ≡ false → is_among before name ≡ false
 
 -- a key is an argument, or bound in an earlier now piece
 use_key : (bound : Bound) (name : Name) → use_faults bound true name ≡ [] → is_among bound.known name ≡ true
@@ -91,9 +97,17 @@ use_key bound name e = go (is_among bound.known name) (is_among bound.own name) 
     go false false true e = cc
     go false false false e = cc
 
+pub known_or : (a b d : Bool) → (a ≡ true → d ≡ true) → (a || b) ≡ true → (d || b) ≡ true
+known_or true b d so e = ap (λ x. x || b) (so refl)
+known_or false true true so e = refl
+known_or false true false so e = refl
+known_or false false d so e = cc
+
 -- a value may be bound in this piece too
-use_value : (bound : Bound) (name : Name) → use_faults bound false name ≡ [] → is_among (bound.known ++ bound.own) name ≡ true
-use_value bound name e = among_append bound.known bound.own name ∙ go (is_among bound.known name) (is_among bound.own name) (is_among bound.past name) e
+use_value : (bound : Bound) (before : List Name) (name : Name) → IsBefore bound.known bound.past before → use_faults bound false name ≡ [] → is_among (before ++ bound.own) name ≡ true
+use_value bound before name so e =
+    among_append before bound.own name
+    ∙ known_or (is_among bound.known name) (is_among bound.own name) (is_among before name) (so.all_known name) (go (is_among bound.known name) (is_among bound.own name) (is_among bound.past name) e)
   where
     go : (a b c : Bool) → cond a [] (cond b (cond false (fault_at name SamePieceKey) []) (cond c (fault_at name LaterUsed) (fault_at name Unbound))) ≡ [] → (a || b) ≡ true
     go true b c e = refl
@@ -148,22 +162,22 @@ expression_over names k (syntax.Pick c a b) words all =
       expression_over names k b words.2 (all_back (Below names k) (names_of c ++ names_of a) (names_of b) all),
     )
 
--- an id or a place is over the names that were known before its piece
-pub key_over : (bound : Bound) (all later : List Name) (e : syntax.Expression) → all ≡ bound.known ++ later → AreWords e → key_faults bound e ≡ [] → IsOver (length bound.known) (resolve.expression (texts all) e)
-key_over bound all later e is words none =
-    expression_over (texts all) (length bound.known) e words
-    (all_so (λ n. use_faults bound true n ≡ []) (Below (texts all) (length bound.known)) (names_of e)
-    (λ n h. number_within all bound.known later n is (use_key bound n h))
+-- an id or a place is over the names before its piece
+pub key_over : (bound : Bound) (before all later : List Name) (e : syntax.Expression) → IsBefore bound.known bound.past before → all ≡ before ++ later → AreWords e → key_faults bound e ≡ [] → IsOver (length before) (resolve.expression (texts all) e)
+key_over bound before all later e so is words none =
+    expression_over (texts all) (length before) e words
+    (all_so (λ n. use_faults bound true n ≡ []) (Below (texts all) (length before)) (names_of e)
+    (λ n h. number_within all before later n is (so.all_known n (use_key bound n h)))
     (each_none (use_faults bound true) (names_of e) none))
 
 -- a value is over those and the names that its piece bound so far
-pub value_over : (bound : Bound) (all later : List Name) (e : syntax.Expression) → all ≡ (bound.known ++ bound.own) ++ later → AreWords e → value_faults bound e ≡ [] → IsOver (length bound.known + length bound.own) (resolve.expression (texts all) e)
-value_over bound all later e is words none =
+pub value_over : (bound : Bound) (before all later : List Name) (e : syntax.Expression) → IsBefore bound.known bound.past before → all ≡ (before ++ bound.own) ++ later → AreWords e → value_faults bound e ≡ [] → IsOver (length before + length bound.own) (resolve.expression (texts all) e)
+value_over bound before all later e so is words none =
     let P : ℕ → Type 0 = λ k. IsOver k (resolve.expression (texts all) e) in
-    subst P (length-append bound.known bound.own)
-    (expression_over (texts all) (length (bound.known ++ bound.own)) e words
-    (all_so (λ n. use_faults bound false n ≡ []) (Below (texts all) (length (bound.known ++ bound.own))) (names_of e)
-    (λ n h. number_within all (bound.known ++ bound.own) later n is (use_value bound n h))
+    subst P (length-append before bound.own)
+    (expression_over (texts all) (length (before ++ bound.own)) e words
+    (all_so (λ n. use_faults bound false n ≡ []) (Below (texts all) (length (before ++ bound.own))) (names_of e)
+    (λ n h. number_within all (before ++ bound.own) later n is (use_value bound before n so h))
     (each_none (use_faults bound false) (names_of e) none)))
 
 -- ---- columns
@@ -192,15 +206,15 @@ has_column (x ∷ xs) t c e f = step (bytes_eq x.name.text t.text) e f (has_colu
         let P : ℕ → Type 0 = λ m. HasColumn (resolve.table x ∷ map resolve.table xs) m (number_in (get_or (texts x.columns ∷ map (λ t. texts t.columns) xs) m []) c.text) in
         subst P next (record { has_table = omega (arith, has.has_table); has_column = has.has_column })
 
-access_over : (tables : List Table) (bound : Bound) (all later : List Name) (a : Access) → all ≡ bound.known ++ later → AreWords a.id → access_faults tables bound a ≡ [] → IsAccess (map resolve.table tables) (length bound.known) (resolve.access tables (texts all) a)
-access_over tables bound all later a is words none =
+access_over : (tables : List Table) (bound : Bound) (before all later : List Name) (a : Access) → IsBefore bound.known bound.past before → all ≡ before ++ later → AreWords a.id → access_faults tables bound a ≡ [] → IsAccess (map resolve.table tables) (length before) (resolve.access tables (texts all) a)
+access_over tables bound before all later a so is words none =
     let front = front_none (table_faults (table_named tables a.table) a.table ++ key_faults bound a.id) (column_faults (table_named tables a.table) a.column) none in
     record {
       column =
           has_column tables a.table a.column
           (front_none (table_faults (table_named tables a.table) a.table) (key_faults bound a.id) front)
           (back_none (table_faults (table_named tables a.table) a.table ++ key_faults bound a.id) (column_faults (table_named tables a.table) a.column) none);
-      id = key_over bound all later a.id is words (back_none (table_faults (table_named tables a.table) a.table) (key_faults bound a.id) front);
+      id = key_over bound before all later a.id so is words (back_none (table_faults (table_named tables a.table) a.table) (key_faults bound a.id) front);
     }
 
 -- ---- statements
@@ -208,56 +222,64 @@ access_over tables bound all later a is words none =
 regrouped : (k o b f : List Name) → (k ++ o) ++ (b ++ f) ≡ (k ++ (o ++ b)) ++ f
 regrouped k o b f = simp append_assoc
 
+pub both_false : (x y : Bool) → x ≡ false → y ≡ false → (x || y) ≡ false
+both_false true y e f = cc
+both_false false y e f = f
+
 -- what is new is in none of the parts
-is_new_here : (bound : Bound) (name : Name) → repeated (bound.known ++ bound.own ++ bound.past) name ≡ [] → is_among (bound.known ++ bound.own) name ≡ false
-is_new_here bound name e =
+is_new_here : (bound : Bound) (before : List Name) (name : Name) → IsBefore bound.known bound.past before → repeated (bound.known ++ bound.own ++ bound.past) name ≡ [] → is_among (before ++ bound.own) name ≡ false
+is_new_here bound before name so e =
     let none : (is_among (bound.known ++ bound.own) name || is_among bound.past name) ≡ false =
     sym (among_append (bound.known ++ bound.own) bound.past name) ∙ is_new (bound.known ++ bound.own ++ bound.past) name e in
-    (neither (is_among (bound.known ++ bound.own) name) (is_among bound.past name) none).0
+    let parts = neither (is_among (bound.known ++ bound.own) name) (is_among bound.past name) none in
+    let front : (is_among bound.known name || is_among bound.own name) ≡ false = sym (among_append bound.known bound.own name) ∙ parts.0 in
+    let each = neither (is_among bound.known name) (is_among bound.own name) front in
+    among_append before bound.own name ∙ both_false (is_among before name) (is_among bound.own name) (so.no_other name each.0 parts.1) each.1
 
 -- the statements of a piece without faults
 pub body_over :
-    (tables : List Table) (bound : Bound) (all later : List Name) (body : List Statement)
-    → all ≡ (bound.known ++ bound.own) ++ (flat_map bound_by body ++ later)
+    (tables : List Table) (bound : Bound) (before all later : List Name) (body : List Statement)
+    → IsBefore bound.known bound.past before
+    → all ≡ (before ++ bound.own) ++ (flat_map bound_by body ++ later)
     → AllByRecursion AreStatementWords body
     → statements_faults tables bound body ≡ []
-    → IsBody (map resolve.table tables) (length bound.known) (length bound.known + length bound.own) (map (resolve.statement tables (texts all)) body)
-body_over tables bound all later [] is words none = tt
-body_over tables bound all later (s ∷ rest) is words none =
+    → IsBody (map resolve.table tables) (length before) (length before + length bound.own) (map (resolve.statement tables (texts all)) body)
+body_over tables bound before all later [] so is words none = tt
+body_over tables bound before all later (s ∷ rest) so is words none =
     with_first s
-    (is ∙ ap (λ xs. (bound.known ++ bound.own) ++ xs) (append_assoc (bound_by s) (flat_map bound_by rest) later))
+    (is ∙ ap (λ xs. (before ++ bound.own) ++ xs) (append_assoc (bound_by s) (flat_map bound_by rest) later))
     words.0
     (front_none (statement_faults tables bound s) (statements_faults tables (after s) rest) none)
-    (λ e. body_over tables (after s) all later rest e words.1 (back_none (statement_faults tables bound s) (statements_faults tables (after s) rest) none))
+    (λ e. body_over tables (after s) before all later rest so e words.1 (back_none (statement_faults tables bound s) (statements_faults tables (after s) rest) none))
   where
     after : Statement → Bound
     after s = record bound { own = bound.own ++ bound_by s }
 
     Rest : ℕ → Type 0
-    Rest n = IsBody (map resolve.table tables) (length bound.known) n (map (resolve.statement tables (texts all)) rest)
+    Rest n = IsBody (map resolve.table tables) (length before) n (map (resolve.statement tables (texts all)) rest)
 
     with_first : (s : Statement)
-        → all ≡ (bound.known ++ bound.own) ++ (bound_by s ++ (flat_map bound_by rest ++ later))
+        → all ≡ (before ++ bound.own) ++ (bound_by s ++ (flat_map bound_by rest ++ later))
         → AreStatementWords s
         → statement_faults tables bound s ≡ []
-        → (all ≡ (bound.known ++ (bound.own ++ bound_by s)) ++ (flat_map bound_by rest ++ later) → Rest (length bound.known + length (bound.own ++ bound_by s)))
-        → IsBody (map resolve.table tables) (length bound.known) (length bound.known + length bound.own) (map (resolve.statement tables (texts all)) (s ∷ rest))
+        → (all ≡ (before ++ (bound.own ++ bound_by s)) ++ (flat_map bound_by rest ++ later) → Rest (length before + length (bound.own ++ bound_by s)))
+        → IsBody (map resolve.table tables) (length before) (length before + length bound.own) (map (resolve.statement tables (texts all)) (s ∷ rest))
     with_first (syntax.Get name from) is words none go =
         let tail = flat_map bound_by rest ++ later in
-        let new = is_new_here bound name (front_none (repeated (bound.known ++ bound.own ++ bound.past) name) (access_faults tables bound from) none) in
-        let count : length bound.known + length (bound.own ++ name ∷ []) ≡ length bound.known + length bound.own + 1 = omega (arith, length-append bound.own (name ∷ [])) in (
-          number_next all (bound.known ++ bound.own) tail name is new ∙ length-append bound.known bound.own,
-          access_over tables bound all (bound.own ++ name ∷ tail) from (is ∙ append_assoc bound.known bound.own (name ∷ tail)) words (back_none (repeated (bound.known ++ bound.own ++ bound.past) name) (access_faults tables bound from) none),
-          subst Rest count (go (is ∙ regrouped bound.known bound.own (name ∷ []) tail)),
+        let new = is_new_here bound before name so (front_none (repeated (bound.known ++ bound.own ++ bound.past) name) (access_faults tables bound from) none) in
+        let count : length before + length (bound.own ++ name ∷ []) ≡ length before + length bound.own + 1 = omega (arith, length-append bound.own (name ∷ [])) in (
+          number_next all (before ++ bound.own) tail name is new ∙ length-append before bound.own,
+          access_over tables bound before all (bound.own ++ name ∷ tail) from so (is ∙ append_assoc before bound.own (name ∷ tail)) words (back_none (repeated (bound.known ++ bound.own ++ bound.past) name) (access_faults tables bound from) none),
+          subst Rest count (go (is ∙ regrouped before bound.own (name ∷ []) tail)),
         )
     with_first (syntax.Set to value) is words none go =
         let tail = flat_map bound_by rest ++ later in
-        let count : length bound.known + length (bound.own ++ []) ≡ length bound.known + length bound.own = omega (arith, length-append {A = Name} bound.own []) in (
-          access_over tables bound all (bound.own ++ tail) to (is ∙ append_assoc bound.known bound.own tail) words.0 (front_none (access_faults tables bound to) (value_faults bound value) none),
-          value_over bound all tail value is words.1 (back_none (access_faults tables bound to) (value_faults bound value) none),
-          subst Rest count (go (is ∙ regrouped bound.known bound.own [] tail)),
+        let count : length before + length (bound.own ++ []) ≡ length before + length bound.own = omega (arith, length-append {A = Name} bound.own []) in (
+          access_over tables bound before all (bound.own ++ tail) to so (is ∙ append_assoc before bound.own tail) words.0 (front_none (access_faults tables bound to) (value_faults bound value) none),
+          value_over bound before all tail value so is words.1 (back_none (access_faults tables bound to) (value_faults bound value) none),
+          subst Rest count (go (is ∙ regrouped before bound.own [] tail)),
         )
     with_first (syntax.Out value) is words none go =
         let tail = flat_map bound_by rest ++ later in
-        let count : length bound.known + length (bound.own ++ []) ≡ length bound.known + length bound.own = omega (arith, length-append {A = Name} bound.own []) in
-        (value_over bound all tail value is words none, subst Rest count (go (is ∙ regrouped bound.known bound.own [] tail)))
+        let count : length before + length (bound.own ++ []) ≡ length before + length bound.own = omega (arith, length-append {A = Name} bound.own []) in
+        (value_over bound before all tail value so is words none, subst Rest count (go (is ∙ regrouped before bound.own [] tail)))

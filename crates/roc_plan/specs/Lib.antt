@@ -9,4 +9,7 @@ pub mod Codes
 pub mod WellFormed
 pub mod ValueLaws
 pub mod Workload
+pub mod Pieces
+pub mod Conflict
 pub mod Outlines
+pub mod FaultText

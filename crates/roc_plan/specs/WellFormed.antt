@@ -1,5 +1,5 @@
 -- What holds of each program that a workload text in grammar and scope gives: its numbers are within the limits, and each name is bound before it is used
-use Rattle.std.specs.Prelude.{◌≡◌, ℕ, ◌+◌, ◌<◌, ◌≤◌, List, [], ◌∷◌, length, FitsSigned, map, slice_index_or, false}
+use Rattle.std.specs.Prelude.{◌≡◌, ℕ, ◌+◌, ◌<◌, ◌≤◌, Bool, false, not, List, [], ◌∷◌, length, FitsSigned, map, slice_index_or}
 use Rattle.std.specs.List.{AllByRecursion}
 use Rattle.std.specs.Int.{w64}
 use Rattle.roc_plan.specs.Program.{Expression, Number, Value, Sum, Difference, Product, Minimum, Maximum, Less, Pick, Access, Statement, Get, Set, Out, Piece, Procedure, Table, Init, Workload}
@@ -73,6 +73,17 @@ pub record IsProgram (program : Workload) : Type 0 where
 pub record IsDeferred (procedure : Procedure) : Type 0 where
   pub one_piece : length procedure.pieces ≡ 1
   pub is_later : AllByRecursion (λ piece. piece.is_now ≡ false) procedure.pieces
+
+-- one shard, and each procedure is one deferrable piece
+pub record IsThinShaped (program : Workload) : Type 0 where
+  pub one_shard : program.shards ≡ 1
+  pub deferred : AllByRecursion IsDeferred program.procedures
+
+-- the same as a test: one piece, declared `later`
+abbrev pub is_later_alone : List Piece → Bool
+is_later_alone [] = false
+is_later_alone (piece ∷ []) = not piece.is_now
+is_later_alone (piece ∷ other ∷ rest) = false
 
 -- the one piece is within the limits
 pub record IsSinglePiece (procedure : Procedure) : Type 0 where

@@ -1,21 +1,18 @@
 //! Plans: a workload with its pieces in groups, and what is read of them.
-ghost use Rattle.std.specs.Prelude.{◌≡◌, ℕ, ◌<◌, List, length, map, position, slice_get, IfOk};
+ghost use Rattle.std.specs.Prelude.{◌≡◌, ◌↔◌, ◌<◌, length, map, position, slice_get, IfOk, IsErrOf, IsTrue};
+ghost use Rattle.std.specs.List.{list_all};
 ghost use Rattle.std.specs.Str.{bytes_eq};
 ghost use Rattle.std.specs.String.{string_bytes};
-ghost use Rattle.roc_lang.specs.Tree.{tree};
-ghost use Rattle.roc_lang.specs.Thin.{IsThinText};
-ghost use Rattle.roc_plan.specs.Resolve as resolve;
-ghost use Rattle.roc_plan.specs.WellFormed.{IsThin};
+ghost use Rattle.roc_plan.specs.WellFormed.{IsProgram, IsThinShaped, is_later_alone, IsThin};
+ghost use Rattle.roc_plan.specs.Workload as view;
 ghost use Rattle.roc_plan.specs.Workload.{program};
 ghost use Rattle.roc_plan.specs.Groups.{procedure_of, groups_of, class_of, bound_of, inputs_of, outs_of, place_of, shard_of};
 ghost use Rattle.roc_plan.specs.LookUps.{procedure_named};
 ghost use Rattle.roc_plan.specs.Outlines.{row_of};
 
 use crate::outline::{Outline, singles};
-use crate::resolve::resolved;
-use crate::{Class, Input, Known, Procedure, Workload};
-use roc_base::{NoMemory, Shard};
-use roc_lang::Source;
+use crate::{Class, Input, Known, PlanFault, Procedure, Workload};
+use roc_base::Shard;
 use std::alloc::Global;
 use std::marker::Model;
 
@@ -43,14 +40,17 @@ impl Model for Plan {
 }
 
 impl Plan {
-    /// The plan of a thin text: one shard, and one procedure of one `later` piece, which is its one
-    /// group.
-    pub fn thin(alloc: Global, source: Source) -> Result<Plan, NoMemory>
-        requires { (bytes : List ℕ) × IsThinText bytes (tree source) }
-        ensures program { IfOk result (λ plan. plan.program ≡ resolve.resolved (tree source)) }
+    /// The plan of a workload of one shard, each of whose procedures is one `later` piece, which is its one group. `Unfit`
+    /// comes exactly where the workload is another.
+    pub fn thin(alloc: Global, workload: Workload) -> Result<Plan, PlanFault>
+        requires { IsProgram (program workload) }
+        ensures program { IfOk result (λ plan. plan.program ≡ program workload) }
         ensures thin { IfOk result IsThin }
+        ensures unfit { IsErrOf result PlanFault.Unfit ↔ ¬ IsThinShaped (program workload) }
     {
-        let workload = resolved(alloc, &source)?;
+        if !is_thin(&workload) {
+            return Err(PlanFault::Unfit);
+        }
         let outlines = singles(alloc, &workload.procedures)?;
         Ok(Plan { workload, outlines })
     }
@@ -147,6 +147,33 @@ impl Plan {
     {
         Shard(place.rem_euclid(i64::from(self.workload.shards)) as u8)
     }
+}
+
+// The procedure is one piece, declared later.
+fn is_deferred(procedure: &Procedure) -> bool
+    ensures { result ≡ is_later_alone (view.procedure procedure.now).pieces }
+{
+    match procedure.pieces.as_slice() {
+        [piece] => !piece.is_now,
+        _ => false,
+    }
+}
+
+fn are_deferred(procedures: &[Procedure]) -> bool
+    ensures { result ≡ list_all (λ p. is_later_alone p.pieces) (map view.procedure procedures.now) }
+{
+    for procedure in procedures {
+        if !is_deferred(procedure) {
+            return false;
+        }
+    }
+    true
+}
+
+fn is_thin(workload: &Workload) -> bool
+    ensures { IsTrue result ↔ IsThinShaped (program workload.now) }
+{
+    workload.shards == 1 && are_deferred(&workload.procedures)
 }
 
 // What is kept of a group.

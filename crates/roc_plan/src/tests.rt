@@ -1,7 +1,17 @@
 //! Worked values of expressions, and the readers of two plans.
-use crate::{Class, Expression, Known, Plan, Statement, Workload};
+ghost use Rattle.std.specs.Prelude.{IfOk};
+ghost use Rattle.roc_lang.specs.Tree.{tree};
+ghost use Rattle.roc_plan.specs.Limits.{IsWithinLimits};
+ghost use Rattle.roc_plan.specs.WellFormed.{IsProgram};
+ghost use Rattle.roc_plan.specs.Workload.{program};
+
+use crate::laws::texts_are_within_limits;
+use crate::{
+    Class, Expression, Known, PieceId, Plan, PlanFault, Statement, Workload, conflict, resolve,
+};
 use roc_base::{Nums, Shard};
-use roc_lang::parse;
+use roc_lang::Source;
+use roc_parse::parse;
 use std::alloc::{AllocError, Global};
 use std::process::Abort;
 use std::test::Fail;
@@ -77,10 +87,65 @@ proc move(from, to, amount) {
   }
 }";
 
+/// One procedure reads and writes the first column, one reads it and writes the second, and one reads the second.
+const CHAIN: &[u8] = b"shards 1;
+table t { x, y }
+table u { x }
+proc f(p) { now a at p { get u = t[0].x; set t[0].x = u + 1; out u; } }
+proc g(p) { later b at p { get v = t[0].x; set t[0].y = v; } }
+proc h(p) { later c at p { get w = t[0].y; out w; } }
+proc k(p) { later d at p { set u[0].x = p; } }
+";
+
+fn workload_of(alloc: Global, text: &[u8]) -> Result<Workload, Fail>
+    ensures { IfOk result (λ workload. IsProgram (program workload)) }
+{
+    let source = parse(alloc, text)?;
+    texts_are_within_limits();
+    Ok(resolve(alloc, source)?)
+}
+
+fn plan_of(alloc: Global, text: &[u8]) -> Result<Plan, Fail> {
+    let workload = workload_of(alloc, text)?;
+    Ok(Plan::thin(alloc, workload)?)
+}
+
+#[test]
+fn pieces_conflict_where_one_of_them_writes(rt: HostRuntime) -> Result<(), Fail> {
+    let workload = workload_of(rt.alloc(), CHAIN)?;
+    let pairs = [
+        (0, 0, true),
+        (0, 1, true),
+        (1, 0, true),
+        (0, 2, false),
+        (1, 1, true),
+        (1, 2, true),
+        (2, 2, false),
+        (0, 3, false),
+        (3, 3, true),
+        (0, 4, false),
+    ];
+    for (one, other, wanted) in pairs {
+        let found = conflict(
+            &workload,
+            PieceId {
+                proc: one,
+                piece: 0,
+            },
+            PieceId {
+                proc: other,
+                piece: 0,
+            },
+        );
+        assert_eq!(rt; found, wanted, "of {one} and {other}");
+    }
+    Ok(())
+}
+
 #[test]
 fn a_counter_is_planned(rt: HostRuntime) -> Result<(), Fail> {
     let alloc = rt.alloc();
-    let plan = Plan::thin(alloc, parse(alloc, COUNTER)?)?;
+    let plan = plan_of(alloc, COUNTER)?;
     let workload = plan.workload();
     assert_eq!(rt; workload.shards, 1);
     assert_eq!(rt; plan.procedures(), 1);
@@ -93,6 +158,34 @@ fn a_counter_is_planned(rt: HostRuntime) -> Result<(), Fail> {
     assert_eq!(rt; plan.inputs(0, 0).len(), 0);
     assert_eq!(rt; plan.outs(0, 0), [0].as_slice());
     assert_eq!(rt; plan.shard_of(-5), Shard(0));
+    Ok(())
+}
+
+// A workload without tables and procedures.
+fn empty(alloc: Global, shards: u64) -> Source
+    ensures { IsWithinLimits (tree result) }
+{
+    Source {
+        shards,
+        shards_line: 1,
+        tables: Vec::new(alloc),
+        inits: Vec::new(alloc),
+        procedures: Vec::new(alloc),
+    }
+}
+
+#[test]
+fn two_shards_have_no_plan(rt: HostRuntime) -> Result<(), Fail> {
+    let alloc = rt.alloc();
+    let workload = resolve(alloc, empty(alloc, 2))?;
+    match Plan::thin(alloc, workload) {
+        Err(fault) => assert_eq!(rt; fault, PlanFault::Unfit),
+        Ok(_) => panic!(rt; "a plan"),
+    }
+    match resolve(alloc, empty(alloc, 0)) {
+        Err(fault) => assert_eq!(rt; format!(in alloc; "{fault}")?.as_str(), "line 1: shards"),
+        Ok(_) => panic!(rt; "a workload"),
+    }
     Ok(())
 }
 
@@ -127,7 +220,7 @@ fn check_names(rt: &impl Abort, workload: &Workload) {
 #[test]
 fn names_have_the_numbers_of_their_declarations(rt: HostRuntime) -> Result<(), Fail> {
     let alloc = rt.alloc();
-    let plan = Plan::thin(alloc, parse(alloc, TRANSFER)?)?;
+    let plan = plan_of(alloc, TRANSFER)?;
     check_names(&rt, plan.workload());
     assert_eq!(rt; plan.procedures(), 1);
     assert_eq!(rt; plan.args(0), 3);

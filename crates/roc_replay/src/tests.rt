@@ -1,8 +1,9 @@
 //! Whole replays over a counter on one shard.
 use crate::{Ended, Summary, replay};
 use roc_io::MemSink;
-use roc_lang::parse;
-use roc_plan::Plan;
+use roc_parse::parse;
+use roc_plan::laws::texts_are_within_limits;
+use roc_plan::{Plan, resolve};
 use roc_sched::What;
 use std::alloc::Global;
 use std::process::Abort;
@@ -44,7 +45,10 @@ fn replays(
     ended: Ended,
     text: &[u8],
 ) -> Result<(), Fail> {
-    let plan = Plan::thin(alloc, parse(alloc, COUNTER)?)?;
+    let source = parse(alloc, COUNTER)?;
+    texts_are_within_limits();
+    let workload = resolve(alloc, source)?;
+    let plan = Plan::thin(alloc, workload)?;
     let mut sink = MemSink::new(alloc, failing);
     let found = replay(alloc, &plan, schedule, &mut sink);
     assert_eq!(rt; sink.bytes().ok_or("told")?, text);

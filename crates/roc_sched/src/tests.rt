@@ -1,8 +1,9 @@
 //! Schedules of the counter, and texts that are none.
 
 use super::*;
-use roc_lang::parse;
-use roc_plan::Plan;
+use roc_parse::parse;
+use roc_plan::laws::texts_are_within_limits;
+use roc_plan::{Plan, resolve};
 use std::alloc::{AllocError, Global};
 use std::test::*;
 
@@ -64,7 +65,10 @@ tick s0
 0";
 
 fn counter(alloc: Global) -> Result<Plan, Fail> {
-    Ok(Plan::thin(alloc, parse(alloc, COUNTER)?)?)
+    let source = parse(alloc, COUNTER)?;
+    texts_are_within_limits();
+    let workload = resolve(alloc, source)?;
+    Ok(Plan::thin(alloc, workload)?)
 }
 
 /// What a text is answered, in a word.

@@ -1,11 +1,11 @@
 -- Names that pieces bind, one piece behind another.
-use Rattle.std.proofs.Common.{◌≡◌, ℕ, zero, suc, ◌<◌, Bool, true, false, ◌||◌, List, [], ◌∷◌, length, get_or, map, cond, refl, sym, ap, ◌∙◌, arith, append-nil}
+use Rattle.std.proofs.Common.{◌≡◌, ℕ, zero, suc, ◌<◌, Bool, true, false, ◌||◌, List, [], ◌∷◌, length, get_or, map, cond, refl, sym, ap, ◌∙◌, arith}
 use Rattle.std.specs.List.{flat_map}
 use Rattle.std.proofs.lemmas.List.Concat.{flat_map-cons}
 use Rattle.roc_lang.specs.Syntax.{Name, Piece}
 use Rattle.roc_lang.specs.Scope.{is_among, bound_by}
-use Rattle.roc_lang.proofs.Names.{among-append}
-use Rattle.roc_scope.specs.Before.{now_by, later_by, bound_first, bound_behind}
+use Rattle.roc_scope.proofs.Names.{among-append}
+use Rattle.roc_scope.specs.Before.{now_by, later_by}
 
 or_true : (b : Bool) → (b || true) ≡ true
 or_true true = refl
@@ -27,7 +27,3 @@ among_now p name e among = ap (λ b. is_among (cond b (flat_map bound_by p.body)
 
 pub among_later : (p : Piece) (name : Name) → p.is_now ≡ false → is_among (flat_map bound_by p.body) name ≡ true → is_among (later_by p) name ≡ true
 among_later p name e among = ap (λ b. is_among (cond b [] (flat_map bound_by p.body)) name) e ∙ among
-
--- before the first piece the arguments are known
-pub behind_nothing : (arguments : List Name) → bound_behind arguments [] [] ≡ bound_first arguments
-behind_nothing arguments = ap (λ (names : List Name). bound_first names) (append-nil arguments)

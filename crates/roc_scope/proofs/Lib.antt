@@ -1,3 +1,4 @@
+pub mod Names
 pub mod Firsts
 pub mod Bindings
 pub mod Stops

@@ -3,9 +3,10 @@ ghost use Rattle.roc_server.specs.Fits.{FitsPlan};
 
 use super::*;
 use roc_base::{Edge, Edges, Nums, Shard, TxnId};
-use roc_lang::parse;
 use roc_msg::{Msg, Outbox, Reason};
-use roc_plan::Plan;
+use roc_parse::parse;
+use roc_plan::laws::texts_are_within_limits;
+use roc_plan::{Plan, resolve};
 use roc_rows::Cell;
 use std::alloc::Global;
 use std::process::Abort;
@@ -25,7 +26,10 @@ const STARTOK: u8 = 2;
 const COMMITOK: u8 = 4;
 
 fn counter(alloc: Global) -> Result<Plan, Fail> {
-    Ok(Plan::thin(alloc, parse(alloc, COUNTER)?)?)
+    let source = parse(alloc, COUNTER)?;
+    texts_are_within_limits();
+    let workload = resolve(alloc, source)?;
+    Ok(Plan::thin(alloc, workload)?)
 }
 
 fn start(alloc: Global, id: TxnId, args: &[i64]) -> Result<Msg, Fail> {

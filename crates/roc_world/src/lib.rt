@@ -4,8 +4,8 @@
 //! serial order explains the history, no message is refused, and a submission is refused only as busy
 //! or spent.
 //!
-//! The layers above may rely on the laws for each run of nodes whose steps are those that the
-//! contracts of the server and the coordinator name.
+//! `World::step` is exactly one event, so that a world that it steps through is one of a run, and the
+//! laws hold of it.
 #![tactic(auto)]
 
 mod event;

@@ -6,9 +6,10 @@ ghost use Rattle.roc_world.specs.Reached.{IsReached, IsEventOf};
 
 use super::*;
 use roc_base::{Edge, Nums, Shard, TxnId};
-use roc_lang::parse;
 use roc_msg::{Msg, Sent};
-use roc_plan::Plan;
+use roc_parse::parse;
+use roc_plan::laws::texts_are_within_limits;
+use roc_plan::{Plan, resolve};
 use roc_rows::Cell;
 use std::alloc::{AllocError, Global};
 use std::process::Abort;
@@ -41,7 +42,10 @@ enum Line {
 }
 
 fn counter(alloc: Global) -> Result<Plan, Fail> {
-    Ok(Plan::thin(alloc, parse(alloc, COUNTER)?)?)
+    let source = parse(alloc, COUNTER)?;
+    texts_are_within_limits();
+    let workload = resolve(alloc, source)?;
+    Ok(Plan::thin(alloc, workload)?)
 }
 
 fn event_of(alloc: Global, line: Line) -> Result<Event, Fail> {

@@ -5,7 +5,8 @@ use lib.Chars.{codes}
 use Rattle.roc_lang.specs.Tree.{init_tree}
 use Rattle.roc_parse.specs.Stuck.{begins}
 use Rattle.roc_parse.specs.Views.{views}
-use Rattle.roc_parse.specs.Reading.{is_word, init_at}
+use Rattle.roc_parse.specs.Parts.{is_word}
+use Rattle.roc_parse.specs.Reading.{init_at}
 use Rattle.roc_parse.proofs.Turns.{many_starts, many_stops, many_is_full, many_refuses, many_goes_on}
 use Rattle.roc_parse.proofs.declaration.inits_of.Goals as goal
 

@@ -6,7 +6,8 @@ use Rattle.roc_lang.specs.Grammar.{standard}
 use Rattle.roc_lang.specs.Tree.{table_tree}
 use Rattle.roc_parse.specs.Stuck.{begins}
 use Rattle.roc_parse.specs.Views.{views}
-use Rattle.roc_parse.specs.Reading.{is_word, table_at}
+use Rattle.roc_parse.specs.Parts.{is_word}
+use Rattle.roc_parse.specs.Reading.{table_at}
 use Rattle.roc_parse.proofs.Turns.{many_starts, many_stops, many_is_full, many_refuses, many_goes_on}
 use Rattle.roc_parse.proofs.declaration.tables_of.Goals as goal
 

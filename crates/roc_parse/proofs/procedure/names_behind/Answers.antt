@@ -5,8 +5,8 @@ use Rattle.roc_lang.specs.Grammar.{comma}
 use Rattle.roc_lang.specs.Tree.{name_tree}
 use Rattle.roc_parse.specs.Stuck.{begins}
 use Rattle.roc_parse.specs.Views.{views}
-use Rattle.roc_parse.specs.Reading.{is_mark, next_name_at}
-use Rattle.roc_parse.proofs.Turns.{many_starts, many_stops, many_is_full, many_refuses, many_goes_on}
+use Rattle.roc_parse.specs.Parts.{is_mark, next_name_at}
+use Rattle.roc_parse.proofs.Turns.{many_stops, many_is_full, many_refuses, many_goes_on}
 use Rattle.roc_parse.proofs.procedure.names_behind.Goals as goal
 
 pub returns-then-not-begins_mark : goal.returns-then-not-begins_mark

@@ -6,7 +6,7 @@ use Rattle.roc_lang.specs.Tree.{piece_tree}
 use Rattle.roc_parse.specs.Stuck.{begins}
 use Rattle.roc_parse.specs.Views.{views}
 use Rattle.roc_parse.specs.Reading.{starts_piece, piece_at}
-use Rattle.roc_parse.proofs.Turns.{many_starts, many_stops, many_is_full, many_refuses, many_goes_on}
+use Rattle.roc_parse.proofs.Turns.{many_stops, many_is_full, many_refuses, many_goes_on}
 use Rattle.roc_parse.proofs.procedure.pieces_behind.Goals as goal
 
 pub returns-then-not-begins_piece : goal.returns-then-not-begins_piece

@@ -6,7 +6,8 @@ use Rattle.roc_lang.specs.Grammar.{standard}
 use Rattle.roc_lang.specs.Tree.{procedure_tree}
 use Rattle.roc_parse.specs.Stuck.{begins}
 use Rattle.roc_parse.specs.Views.{views}
-use Rattle.roc_parse.specs.Reading.{is_word, procedure_at}
+use Rattle.roc_parse.specs.Parts.{is_word}
+use Rattle.roc_parse.specs.Reading.{procedure_at}
 use Rattle.roc_parse.proofs.Turns.{many_starts, many_stops, many_is_full, many_refuses, many_goes_on}
 use Rattle.roc_parse.proofs.procedure.procedures_of.Goals as goal
 

@@ -1,6 +1,6 @@
 use Rattle.std.proofs.Common.{sym, ◌∙◌}
 use Rattle.roc_lang.specs.Tree.{name_tree, statement_tree}
-use Rattle.roc_lang.proofs.Names.{bound_at}
+use Rattle.roc_scope.proofs.Names.{bound_at}
 use Rattle.roc_scope.proofs.before.is_bound.Goals as goal
 
 pub returns-then-binds : goal.returns-then-binds

@@ -3,7 +3,7 @@ use Rattle.std.proofs.lemmas.Result.{err_from_is_err_and}
 use Rattle.roc_lang.specs.declared.source.Piece.{Piece}
 use Rattle.roc_lang.specs.Tree.{name_tree, piece_tree, table_tree}
 use Rattle.roc_lang.specs.Scope.{pieces_faults}
-use Rattle.roc_lang.proofs.Names.{item_splits}
+use Rattle.roc_scope.proofs.Names.{item_splits}
 use Rattle.roc_scope.specs.Before.{bound_behind}
 use Rattle.roc_scope.specs.Misuse.{fault_of}
 use Rattle.roc_scope.proofs.Stops.{pieces_stop}

@@ -3,7 +3,7 @@ use Rattle.std.specs.Str.{bytes_eq}
 use Rattle.std.specs.String.{string_bytes}
 use Rattle.roc_lang.specs.Syntax.{Name}
 use Rattle.roc_lang.specs.Tree.{name_tree}
-use Rattle.roc_lang.proofs.Names.{any_at}
+use Rattle.roc_scope.proofs.Names.{any_at}
 use Rattle.roc_scope.proofs.pieces.is_piece.Goals as goal
 
 pub returns-then-eq : goal.returns-then-eq

@@ -1,34 +1,21 @@
-use Rattle.std.proofs.Common.{◌≡◌, ℕ, List, map, sym, subst, ap}
+use Rattle.std.proofs.Common.{◌≡◌, List, map, refl, sym, subst, ap}
 use Rattle.std.proofs.lemmas.Simd.{map-map}
 use Rattle.std.specs.List.{AllByRecursion}
-use Rattle.roc_lang.specs.declared.source.Source.{Source}
-use Rattle.roc_lang.specs.Thin.{IsThinText}
-use Rattle.roc_lang.specs.Tree.{tree}
 use Rattle.roc_plan.specs.declared.plan.Plan.TheInside.{Inside}
-use Rattle.roc_plan.specs.declared.workload.Workload.{Workload}
 use Rattle.roc_plan.specs.declared.workload.Procedure.{Procedure}
-use Rattle.roc_plan.specs.Program as pure
 use Rattle.roc_plan.specs.Groups.{Group, Plan}
-use Rattle.roc_plan.specs.Resolve.{resolved}
 use Rattle.roc_plan.specs.Outlines.{group, plan, IsOutline, AreSingles, IsOutlined}
 use Rattle.roc_plan.specs.WellFormed.{IsSinglePiece, IsThinProgram, IsThin}
 use Rattle.roc_plan.specs.Workload as view
-use Rattle.roc_plan.proofs.Limited.{small_text}
+use Rattle.roc_plan.proofs.Deferred.{thin_program}
 use Rattle.roc_plan.proofs.Outlined.{single_pieces, rows_plan, rows_thin, rows_outlined}
-use Rattle.roc_plan.proofs.ThinTexts.{thin_program}
 use Rattle.roc_plan.proofs.plan.Plan.thin.Goals as goal
-
-pub resolved-requires-clause-small : goal.resolved-requires-clause-small
-resolved-requires-clause-small c = small_text c.requires.1.tokens (tree c.args.source) c.requires.1.text
-
-thin_workload : (w : Workload) (program : pure.Workload) → IsThinProgram program → view.program w ≡ program → IsThinProgram (view.program w)
-thin_workload w program thin e = let P : pure.Workload → Type 0 = IsThinProgram in subst P (sym e) thin
 
 pub singles-requires : goal.singles-requires
 singles-requires c =
-    let thin = thin_workload c.in_ok-workload.workload (resolved (tree c.args.source)) (thin_program c.requires.0 (tree c.args.source) c.requires.1) c.in_ok-workload.ensures in
+    let thin = thin_program (view.program c.args.workload) c.requires (c.if-not-is_thin.ensures.0 refl) in
     let P : List Procedure → Type 0 = λ all. AllByRecursion IsSinglePiece (map view.procedure all) in
-    subst P (sym c.deref.ensures.value) (single_pieces (view.program c.in_ok-workload.workload) thin)
+    subst P (sym c.deref.ensures.value) (single_pieces (view.program c.args.workload) thin)
 
 -- the fields say what they have to where there is a row for each procedure
 outlined : (p : Inside) → IsThinProgram (view.program p.workload) → AreSingles (view.program p.workload).procedures (map (λ row. row.items) p.outlines.items) → IsOutlined p
@@ -43,15 +30,17 @@ outlined p thin singles =
       each = λ proc g o at. let P : Plan → Type 0 = λ grouped. IsOutline grouped proc g o in subst P same (rows_outlined program rows thin singles proc g o at);
     }
 
-made : (p : Inside) (lent : List Procedure) (source : Source) (bytes : List ℕ) → IsThinText bytes (tree source) → view.program p.workload ≡ resolved (tree source) → lent ≡ p.workload.procedures.items → AreSingles (map view.procedure lent) (map (λ row. row.items) p.outlines.items) → IsOutlined p
-made p lent source bytes text is same singles =
+made : (p : Inside) (lent : List Procedure) → IsThinProgram (view.program p.workload) → lent ≡ p.workload.procedures.items → AreSingles (map view.procedure lent) (map (λ row. row.items) p.outlines.items) → IsOutlined p
+made p lent thin same singles =
     let P : List Procedure → Type 0 = λ all. AreSingles (map view.procedure all) (map (λ row. row.items) p.outlines.items) in
-    outlined p (thin_workload p.workload (resolved (tree source)) (thin_program bytes (tree source) text) is) (subst P same singles)
+    outlined p thin (subst P same singles)
 
 pub invariant_of-result : goal.invariant_of-result
 invariant_of-result c =
-    made (record { workload = c.in_ok-workload.workload; outlines = c.in_ok-outlines.outlines }) c.deref.result.now c.args.source c.requires.0 c.requires.1 c.in_ok-workload.ensures c.deref.ensures.value c.in_ok-outlines.ensures
+    let thin = thin_program (view.program c.args.workload) c.requires (c.if-not-is_thin.ensures.0 refl) in
+    made (record { workload = c.args.workload; outlines = c.in_ok-outlines.outlines }) c.deref.result.now thin c.deref.ensures.value c.in_ok-outlines.ensures
 
 pub returns-clause-thin : goal.returns-clause-thin
 returns-clause-thin c =
-    (made (record { workload = c.in_ok-workload.workload; outlines = c.in_ok-outlines.outlines }) c.deref.result.now c.args.source c.requires.0 c.requires.1 c.in_ok-workload.ensures c.deref.ensures.value c.in_ok-outlines.ensures).thin
+    let thin = thin_program (view.program c.args.workload) c.requires (c.if-not-is_thin.ensures.0 refl) in
+    (made (record { workload = c.args.workload; outlines = c.in_ok-outlines.outlines }) c.deref.result.now thin c.deref.ensures.value c.in_ok-outlines.ensures).thin

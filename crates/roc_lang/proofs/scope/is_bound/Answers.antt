@@ -1,7 +1,0 @@
-use Rattle.std.proofs.Common.{sym, ◌∙◌}
-use Rattle.roc_lang.specs.Tree.{name_tree, statement_tree}
-use Rattle.roc_lang.proofs.Names.{bound_at}
-use Rattle.roc_lang.proofs.scope.is_bound.Goals as goal
-
-pub returns-then-binds : goal.returns-then-binds
-returns-then-binds c = sym (bound_at statement_tree (name_tree c.args.name.now) c.args.before.now c.loop-statement.statement-index c.statement-item.result c.loop-statement-test.true c.statement-item.is (sym c.binds.ensures ∙ c.if-binds.true))

@@ -1,0 +1,23 @@
+-- The pieces of a program, by number
+use Rattle.std.specs.Prelude.{ℕ, ◌<◌, List, length, map, slice_index_or}
+use Rattle.std.specs.List.{flat_map, range_with_len}
+use Rattle.roc_plan.specs.Program.{Workload, Piece}
+use Rattle.roc_plan.specs.Groups.{no_procedure}
+use Rattle.roc_plan.specs.declared.static_conflict.PieceId.{PieceId}
+
+-- the pieces of the procedure of a number; none where there is no such procedure
+abbrev pub pieces_in : Workload → ℕ → List Piece
+pieces_in program proc = (slice_index_or program.procedures proc no_procedure).pieces
+
+-- the program has a piece of this number
+pub record HasPiece (program : Workload) (id : PieceId) : Type 0 where
+  pub procedure : id.proc < length program.procedures
+  pub piece : id.piece < length (pieces_in program id.proc)
+
+-- the pieces of a procedure, in the order of the text
+abbrev pub pieces_of : Workload → ℕ → List PieceId
+pieces_of program proc = map (λ k. record { proc = proc; piece = k }) (range_with_len 0 (length (pieces_in program proc)))
+
+-- all pieces of a program, in the order of the text
+abbrev pub all_pieces : Workload → List PieceId
+all_pieces program = flat_map (pieces_of program) (range_with_len 0 (length program.procedures))
