@@ -1,0 +1,10 @@
+pub mod Numerals
+pub mod Fit
+pub mod Keywords
+pub mod Spelling
+pub mod Operands
+pub mod Expressions
+pub mod Trees
+pub mod Sequences
+pub mod Lines
+pub mod Whole
