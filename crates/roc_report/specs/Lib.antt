@@ -1,3 +1,5 @@
+pub mod Standing
 pub mod Line
 pub mod Shown
 pub mod Text
+pub mod Check

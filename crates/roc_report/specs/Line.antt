@@ -1,9 +1,11 @@
--- The lines of a report, as plain data: docs/FORMATS.md, "Report"
+-- The lines of reports, as plain data: docs/FORMATS.md, "Report" and "Text of check"
 use Rattle.std.specs.Prelude.{ℕ, ℤ, List}
 use Rattle.roc_base.specs.declared.id.TxnId.{TxnId}
 use Rattle.roc_msg.specs.declared.reason.Reason.{Reason}
 use Rattle.roc_msg.specs.declared.msg.Sent.{Sent}
+use Rattle.roc_plan.specs.declared.static_conflict.PieceId.{PieceId}
 use Rattle.roc_rows.specs.declared.cell.Cell.{Cell}
+use Rattle.roc_report.specs.declared.line.Standing.{Standing}
 
 pub data Line : Type 0 where
   Submit : (id : TxnId) (proc : ℕ) (args : List ℤ) → Line
@@ -17,3 +19,7 @@ pub data Line : Type 0 where
   Row : (cell : Cell) (value : ℤ) → Line
   Pending : (id : TxnId) → Line
   End : (answered pending messages : ℕ) → Line
+  Shards : (count : ℕ) → Line
+  Proc : (proc : ℕ) → Line
+  Piece : (id : PieceId) (standing : Standing) → Line
+  Conflict : (first second : PieceId) → Line

@@ -1,6 +1,6 @@
 -- The line that the code's line shows, without what it borrows from
 use Rattle.roc_report.specs.declared.line.ReportLine.{ReportLine}
-use Rattle.roc_report.specs.declared.line.ReportLine.TheVariants.{Submit, Busy, Spent, Deliver, Ignored, Send, Answer, Order, Row, Pending, End}
+use Rattle.roc_report.specs.declared.line.ReportLine.TheVariants.{Submit, Busy, Spent, Deliver, Ignored, Send, Answer, Order, Row, Pending, End, Shards, Proc, Piece, Conflict}
 use Rattle.roc_report.specs.Line as pure
 
 abbrev pub shown : ReportLine → pure.Line
@@ -15,3 +15,7 @@ shown (Order ids) = pure.Order ids.now
 shown (Row cell value) = pure.Row cell value
 shown (Pending id) = pure.Pending id
 shown (End answered pending messages) = pure.End answered pending messages
+shown (Shards count) = pure.Shards count
+shown (Proc proc) = pure.Proc proc
+shown (Piece id standing) = pure.Piece id standing
+shown (Conflict first second) = pure.Conflict first second

@@ -1,4 +1,4 @@
--- The text of each line: docs/FORMATS.md, "Report"
+-- The text of each line: docs/FORMATS.md, "Report" and "Text of check"
 use Rattle.std.specs.Prelude.{ℕ, ℤ, Bool, List, [], ◌∷◌, ◌++◌, codes, if◌then◌else◌}
 use Rattle.std.specs.List.{flat_map}
 use Rattle.std.specs.Option.{option_to_list}
@@ -14,8 +14,11 @@ use Rattle.roc_msg.specs.Msg.{id_of, word_of}
 use Rattle.roc_msg.specs.Reason.{reason_text}
 use Rattle.roc_plan.specs.Program.{Workload}
 use Rattle.roc_plan.specs.LookUps.{procedure_name, table_name, column_name}
+use Rattle.roc_plan.specs.Conflict.{piece_of}
+use Rattle.roc_plan.specs.declared.static_conflict.PieceId.{PieceId}
 use Rattle.roc_rows.specs.declared.cell.Cell.{Cell}
-use Rattle.roc_report.specs.Line.{Line, Submit, Busy, Spent, Deliver, Ignored, Send, Answer, Order, Row, Pending, End}
+use Rattle.roc_report.specs.Line.{Line, Submit, Busy, Spent, Deliver, Ignored, Send, Answer, Order, Row, Pending, End, Shards, Proc, Piece, Conflict}
+use Rattle.roc_report.specs.Standing.{standing_text}
 
 -- a space, and a word behind it
 abbrev pub spaced : List ℕ → List ℕ
@@ -53,6 +56,10 @@ sent_text s = word_of s.msg ++ ids_text (option_to_list (id_of s.msg)) ++ spaced
 abbrev pub cell_text : Workload → Cell → List ℕ
 cell_text program c = table_name program c.table ++ codes "[" ++ signed_decimal c.place ++ codes "," ++ signed_decimal c.id ++ codes "]." ++ column_name program c.table c.column
 
+-- PROCEDURE.PIECE
+abbrev pub piece_text : Workload → PieceId → List ℕ
+piece_text program id = procedure_name program id.proc ++ codes "." ++ (piece_of program id).name
+
 -- a line without its end. What the program does not have has no name.
 abbrev pub words_of : Workload → Line → List ℕ
 words_of program (Submit id proc args) = codes "submit " ++ txn_text id ++ spaced (procedure_name program proc) ++ numbers_text args
@@ -67,6 +74,10 @@ words_of program (Row cell value) = codes "row " ++ cell_text program cell ++ sp
 words_of program (Pending id) = codes "pending " ++ txn_text id
 words_of program (End answered pending messages) =
     codes "end " ++ decimal answered ++ codes " answered " ++ decimal pending ++ codes " pending " ++ decimal messages ++ codes " messages"
+words_of program (Shards count) = codes "shards " ++ decimal count
+words_of program (Proc proc) = codes "proc " ++ procedure_name program proc
+words_of program (Piece id standing) = codes "piece " ++ (piece_of program id).name ++ spaced (standing_text standing)
+words_of program (Conflict first second) = codes "conflict " ++ piece_text program first ++ spaced (piece_text program second)
 
 -- a line, which ends with a line feed
 abbrev pub line_text : Workload → Line → List ℕ

@@ -2,7 +2,36 @@
 
 use roc_base::{Nums, TxnId};
 use roc_msg::{Reason, Sent};
+use roc_plan::PieceId;
 use roc_rows::Cell;
+use std::fmt;
+
+/// When the pieces of a transaction may run, once pieces in conflict with immediate ones were
+/// promoted.
+#[derive(Clone, Copy, Debug, PartialEq, Eq)]
+pub enum Standing {
+    /// Declared `now`.
+    Immediate,
+    /// Declared `later`, and immediate all the same.
+    Promoted,
+    /// Declared `later`, and left so.
+    Deferrable,
+}
+
+impl fmt::Display for Standing {
+    ghost use Rattle.std.specs.Prelude.{Some};
+    ghost use Rattle.roc_report.specs.Standing.{standing_text};
+
+    ghost output = { λ standing. Some (standing_text standing) };
+
+    fn fmt<W: fmt::Write>(&self, f: &mut fmt::Formatter<W>) -> fmt::Result {
+        f.write_str(match self {
+            Standing::Immediate => "immediate",
+            Standing::Promoted => "promoted",
+            Standing::Deferrable => "deferrable",
+        })
+    }
+}
 
 /// One line of a report. It lends its lists and messages from where they are kept.
 #[derive(Clone, Copy, Debug)]
@@ -47,4 +76,15 @@ pub enum ReportLine<'a> {
         pending: u64,
         messages: u64,
     },
+    /// How many shards the workload has.
+    Shards(u8),
+    /// A procedure, by its number.
+    Proc(u16),
+    /// A piece of a procedure.
+    Piece {
+        id: PieceId,
+        standing: Standing,
+    },
+    /// Two pieces in static conflict.
+    Conflict(PieceId, PieceId),
 }

@@ -1,7 +1,7 @@
 use super::*;
 use roc_base::{Edge, Edges, Node, Nums, Shard, TxnId};
 use roc_msg::{Msg, Reason, Sent};
-use roc_plan::{Procedure, Table, Workload};
+use roc_plan::{Expression, Piece, PieceId, Procedure, Table, Workload};
 use roc_rows::Cell;
 use std::alloc::Global;
 use std::process::Abort;
@@ -15,11 +15,17 @@ fn accounts(alloc: Global) -> Result<Workload, Fail> {
     let columns = vec![in alloc; String::from_str(alloc, "bal")?]?;
     let name = String::from_str(alloc, "acct")?;
     let tables = vec![in alloc; Table { name, columns }]?;
+    let take = Piece {
+        name: String::from_str(alloc, "take")?,
+        is_now: false,
+        place: Expression::Value(0),
+        body: Vec::new(alloc),
+    };
     let pay = Procedure {
         name: String::from_str(alloc, "pay")?,
         arguments: 3,
         names: 5,
-        pieces: Vec::new(alloc),
+        pieces: vec![in alloc; take]?,
     };
     Ok(Workload {
         shards: 2,
@@ -124,6 +130,43 @@ fn lines_have_their_text(rt: HostRuntime) -> Result<(), Fail> {
             },
             "end 2 answered 0 pending 16 messages",
         ),
+    ];
+    for (line, text) in lines {
+        shows(&rt, alloc, &line, text)?;
+    }
+    Ok(())
+}
+
+#[test]
+fn lines_of_a_check_have_their_text(rt: HostRuntime) -> Result<(), Fail> {
+    let alloc = rt.alloc();
+    let id = PieceId { proc: 0, piece: 0 };
+    let none = PieceId { proc: 0, piece: 1 };
+    let lines = [
+        (ReportLine::Shards(64), "shards 64"),
+        (ReportLine::Proc(0), "proc pay"),
+        (
+            ReportLine::Piece {
+                id,
+                standing: Standing::Immediate,
+            },
+            "piece take immediate",
+        ),
+        (
+            ReportLine::Piece {
+                id,
+                standing: Standing::Promoted,
+            },
+            "piece take promoted",
+        ),
+        (
+            ReportLine::Piece {
+                id,
+                standing: Standing::Deferrable,
+            },
+            "piece take deferrable",
+        ),
+        (ReportLine::Conflict(id, none), "conflict pay.take pay."),
     ];
     for (line, text) in lines {
         shows(&rt, alloc, &line, text)?;

@@ -1,15 +1,18 @@
 //! The text of a line.
 ghost use Rattle.std.specs.Prelude.{◌≡◌, ◌∷◌, ◌++◌, OnOk, OnErr, codes};
+ghost use Rattle.std.specs.Fmt.{decimal};
 ghost use Rattle.std.specs.String.{string_bytes};
+ghost use Rattle.roc_plan.specs.Conflict.{piece_of};
 ghost use Rattle.roc_plan.specs.LookUps.{procedure_name, table_name, column_name};
 ghost use Rattle.roc_plan.specs.Workload.{program};
+ghost use Rattle.roc_report.specs.Line.{Row, Conflict};
 ghost use Rattle.roc_report.specs.Shown.{shown};
-ghost use Rattle.roc_report.specs.Text.{numbers_text, ids_text, tags_text, edges_text, edges_of, sent_text, cell_text, words_of, line_text};
+ghost use Rattle.roc_report.specs.Text.{numbers_text, ids_text, tags_text, edges_text, edges_of, spaced, sent_text, cell_text, words_of, line_text};
 
 use crate::ReportLine;
 use roc_base::{Edge, NoMemory, Shard, TxnId};
 use roc_msg::{Msg, Sent};
-use roc_plan::Workload;
+use roc_plan::{PieceId, Workload};
 use roc_rows::Cell;
 use std::alloc::{AllocError, Global};
 
@@ -37,18 +40,14 @@ fn push_words(text: &mut String, workload: &Workload, line: &ReportLine) -> Resu
 {
     match line {
         ReportLine::Submit { id, proc, args } => {
-            let name = procedure_name(workload, *proc);
-            write!(text, "submit {id} {name}")?;
+            write!(text, "submit {id} {}", procedure_name(workload, *proc))?;
             push_numbers(text, args.as_slice())
         }
         ReportLine::Busy(coord) => write!(text, "busy {coord}"),
         ReportLine::Spent(coord) => write!(text, "spent {coord}"),
         ReportLine::Deliver(number) => write!(text, "deliver {number}"),
         ReportLine::Ignored(reason) => write!(text, "ignored {reason}"),
-        ReportLine::Send { number, sent } => {
-            write!(text, "send {number} ")?;
-            push_sent(text, sent)
-        }
+        ReportLine::Send { number, sent } => push_sent(text, *number, sent),
         ReportLine::Answer { id, reply } => {
             write!(text, "answer {id}")?;
             push_numbers(text, reply.as_slice())
@@ -57,11 +56,7 @@ fn push_words(text: &mut String, workload: &Workload, line: &ReportLine) -> Resu
             text.push_str("order")?;
             push_ids(text, ids)
         }
-        ReportLine::Row { cell, value } => {
-            text.push_str("row ")?;
-            push_cell(text, workload, *cell)?;
-            write!(text, " {value}")
-        }
+        ReportLine::Row { cell, value } => push_row(text, workload, *cell, *value),
         ReportLine::Pending(id) => write!(text, "pending {id}"),
         ReportLine::End {
             answered,
@@ -71,6 +66,12 @@ fn push_words(text: &mut String, workload: &Workload, line: &ReportLine) -> Resu
             text,
             "end {answered} answered {pending} pending {messages} messages"
         ),
+        ReportLine::Shards(count) => write!(text, "shards {count}"),
+        ReportLine::Proc(proc) => write!(text, "proc {}", procedure_name(workload, *proc)),
+        ReportLine::Piece { id, standing } => {
+            write!(text, "piece {} {standing}", piece_name(workload, *id))
+        }
+        ReportLine::Conflict(first, second) => push_conflict(text, workload, *first, *second),
     }
 }
 
@@ -129,17 +130,31 @@ fn edges_of(msg: &Msg) -> &[Edge]
     }
 }
 
-// Adds what a message is, its id, sender and receiver, and its predecessors.
-fn push_sent(text: &mut String, sent: &Sent) -> Result<(), AllocError>
-    ensures { OnOk result (string_bytes text.new ≡ string_bytes text.old ++ sent_text sent.now) }
+// Adds a message: its number, what it is, its id, sender and receiver, and its predecessors.
+fn push_sent(text: &mut String, number: u64, sent: &Sent) -> Result<(), AllocError>
+    ensures { OnOk result (string_bytes text.new ≡ string_bytes text.old ++ codes "send " ++ decimal number ++ spaced (sent_text sent.now)) }
 {
     let (from, to) = (sent.from, sent.to);
-    text.push_str(sent.msg.word())?;
+    write!(text, "send {number} {}", sent.msg.word())?;
     if let Some(id) = sent.msg.id() {
         write!(text, " {id}")?;
     }
     write!(text, " {from} {to}")?;
     push_edges(text, edges_of(&sent.msg))
+}
+
+// Adds a cell and its value.
+fn push_row(
+    text: &mut String,
+    workload: &Workload,
+    cell: Cell,
+    value: i64,
+) -> Result<(), AllocError>
+    ensures { OnOk result (string_bytes text.new ≡ string_bytes text.old ++ words_of (program workload.now) (Row cell value)) }
+{
+    text.push_str("row ")?;
+    push_cell(text, workload, cell)?;
+    write!(text, " {value}")
 }
 
 // Adds where a cell is.
@@ -150,6 +165,42 @@ fn push_cell(text: &mut String, workload: &Workload, cell: Cell) -> Result<(), A
     let table = table_name(workload, cell.table);
     let column = column_name(workload, cell.table, cell.column);
     write!(text, "{table}[{place},{id}].{column}")
+}
+
+// Adds a conflict of two pieces.
+fn push_conflict(
+    text: &mut String,
+    workload: &Workload,
+    first: PieceId,
+    second: PieceId,
+) -> Result<(), AllocError>
+    ensures { OnOk result (string_bytes text.new ≡ string_bytes text.old ++ words_of (program workload.now) (Conflict first second)) }
+{
+    let (proc, piece) = (
+        procedure_name(workload, first.proc),
+        piece_name(workload, first),
+    );
+    let (other_proc, other_piece) = (
+        procedure_name(workload, second.proc),
+        piece_name(workload, second),
+    );
+    write!(text, "conflict {proc}.{piece} {other_proc}.{other_piece}")
+}
+
+// The name of a piece, if it exists.
+fn piece_name(workload: &Workload, id: PieceId) -> &str
+    ensures { result.now ≡ (piece_of (program workload.now) id).name }
+{
+    let PieceId { proc, piece } = id;
+    if usize::from(proc) < workload.procedures.len()
+        && usize::from(piece) < workload.procedures[usize::from(proc)].pieces.len()
+    {
+        workload.procedures[usize::from(proc)].pieces[usize::from(piece)]
+            .name
+            .as_str()
+    } else {
+        ""
+    }
 }
 
 // The name of a procedure, if it exists.

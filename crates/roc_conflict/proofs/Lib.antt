@@ -1,0 +1,8 @@
+pub mod Counts
+pub mod Ranges
+pub mod Members
+pub mod Present
+pub mod Mirrored
+pub mod Least
+pub mod Walk
+pub mod Rows

@@ -1,0 +1,22 @@
+//! Which pieces run at the start, and which of these are contended: the promotion of ROCOCO (OSDI 2014), over the
+//! conflicts that transaction chopping (TODS 1995) sees by table and column.
+//!
+//! The immediate pieces are the least set of `specs/Immediate.antt`: those declared `now`, and each piece in conflict with
+//! an immediate one. Contracts see [`Classes`] as a list for each procedure, of which `specs/Classes.antt` reads whether a
+//! piece is immediate. The layers above may rely on this: [`promote`] finds exactly that set, and after it each conflict
+//! joins two immediate pieces or two deferrable ones ([`laws`]).
+#![tactic(auto)]
+
+mod classes;
+mod contention;
+pub mod laws;
+mod pieces;
+mod promotion;
+
+pub use classes::Classes;
+pub use contention::contended;
+pub use pieces::{all_pieces, is_declared_now, piece_count, procedure_count};
+pub use promotion::promote;
+
+#[cfg(test)]
+mod tests;
