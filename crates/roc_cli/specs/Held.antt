@@ -1,12 +1,15 @@
 -- What a named file holds, as far as that is told: docs/FORMATS.md, "The program"
-use Rattle.std.specs.Prelude.{◌≡◌, ℕ, ◌<◌, ◌≤◌, List, length, Option, IfSome}
+use Rattle.std.specs.Prelude.{◌≡◌, ℕ, ◌<◌, ◌≤◌, List, [], length, Option, Some, IfSome}
 use Rattle.roc_lang.specs.Syntax.{Text}
-use Rattle.roc_lang.specs.Thin.{IsThinText, text_limit}
+use Rattle.roc_lang.specs.Grammar.{text_limit}
+use Rattle.roc_lang.specs.Scope.{Fault, faults}
 use Rattle.roc_lang.specs.declared.fault.What.{What}
+use Rattle.roc_scope.specs.Fault.{first}
 use Rattle.roc_parse.specs.Fault.{IsWorkloadText, IsFirstFault}
+use Rattle.roc_plan.specs.Program.{Workload}
 use Rattle.roc_plan.specs.Groups.{Plan}
 use Rattle.roc_plan.specs.Resolve.{resolved}
-use Rattle.roc_plan.specs.WellFormed.{IsThin}
+use Rattle.roc_plan.specs.WellFormed.{IsThin, IsThinShaped}
 
 -- these are the bytes that the name holds, where they are told
 abbrev pub Holds : (List ℕ → Option (List ℕ)) → List ℕ → List ℕ → Type 0
@@ -15,22 +18,6 @@ Holds content name bytes = IfSome (content name) (λ held. held ≡ bytes)
 -- the name holds more bytes than these, where they are told
 abbrev pub HoldsMore : (List ℕ → Option (List ℕ)) → List ℕ → ℕ → Type 0
 HoldsMore content name most = IfSome (content name) (λ held. most < length held)
-
--- the name holds a thin text, which has this plan
-pub record HoldsPlan (content : List ℕ → Option (List ℕ)) (name : List ℕ) (plan : Plan) : Type 0 where
-  pub bytes : List ℕ
-  pub held : Holds content name bytes
-  pub text : Text
-  pub thin : IsThinText bytes text
-  pub program : plan.program ≡ resolved text
-  pub groups : IsThin plan
-
--- the name holds no thin text, and not too many bytes
-pub record HoldsNoPlan (content : List ℕ → Option (List ℕ)) (name : List ℕ) : Type 0 where
-  pub bytes : List ℕ
-  pub held : Holds content name bytes
-  pub size : length bytes ≤ text_limit
-  pub none : (text : Text) → IsThinText bytes text → ⊥
 
 -- the name holds a workload text of this tree, in scope or not
 pub record HoldsText (content : List ℕ → Option (List ℕ)) (name : List ℕ) (text : Text) : Type 0 where
@@ -44,3 +31,27 @@ pub record HoldsFault (content : List ℕ → Option (List ℕ)) (name : List �
   pub held : Holds content name bytes
   pub size : length bytes ≤ text_limit
   pub fault : IsFirstFault bytes line what
+
+-- the name holds a workload text whose first fault of scope is this one
+pub record HoldsMisuse (content : List ℕ → Option (List ℕ)) (name : List ℕ) (fault : Fault) : Type 0 where
+  pub text : Text
+  pub of : HoldsText content name text
+  pub is : first (faults text) ≡ Some fault
+
+-- the name holds a workload text in scope, of this program
+pub record HoldsProgram (content : List ℕ → Option (List ℕ)) (name : List ℕ) (program : Workload) : Type 0 where
+  pub text : Text
+  pub of : HoldsText content name text
+  pub in_scope : faults text ≡ []
+  pub is : program ≡ resolved text
+
+-- the name holds a program that has this plan
+pub record HoldsPlan (content : List ℕ → Option (List ℕ)) (name : List ℕ) (plan : Plan) : Type 0 where
+  pub program : HoldsProgram content name plan.program
+  pub groups : IsThin plan
+
+-- the name holds a program that has no plan
+pub record HoldsUnfit (content : List ℕ → Option (List ℕ)) (name : List ℕ) : Type 0 where
+  pub program : Workload
+  pub of : HoldsProgram content name program
+  pub unfit : IsThinShaped program → ⊥

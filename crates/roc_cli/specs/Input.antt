@@ -1,12 +1,17 @@
 -- What comes of reading one file: the bytes, or a fault, with what it tells of the file
-use Rattle.std.specs.Prelude.{◌≡◌, ℕ, ◌≤◌, List, length, Option, codes}
-use Rattle.roc_lang.specs.Thin.{text_limit}
+use Rattle.std.specs.Prelude.{◌≡◌, ℕ, ◌≤◌, List, length, Option}
+use Rattle.roc_lang.specs.Grammar.{text_limit}
+use Rattle.roc_lang.specs.declared.fault.What.{What}
 use Rattle.roc_lang.specs.declared.fault.LangError.{LangError}
 use Rattle.roc_lang.specs.declared.fault.LangError.TheVariants as error
 use Rattle.roc_lang.specs.FaultText.{what_text}
+use Rattle.roc_scope.specs.declared.fault.ScopeWhat.{ScopeWhat}
+use Rattle.roc_scope.specs.declared.fault.ScopeFault.{ScopeFault}
+use Rattle.roc_scope.specs.declared.fault.ScopeFault.TheVariants as misuse
+use Rattle.roc_scope.specs.Fault.{kind}
 use Rattle.roc_cli.specs.declared.fault.Fault.{Fault}
-use Rattle.roc_cli.specs.declared.fault.Fault.TheVariants.{Words, TooLong, At, Memory, File, Sink}
-use Rattle.roc_cli.specs.Held.{Holds, HoldsMore, HoldsNoPlan}
+use Rattle.roc_cli.specs.declared.fault.Fault.TheVariants.{Words, TooLong, At, Scope, Unfit, Memory, File, Sink}
+use Rattle.roc_cli.specs.Held.{Holds, HoldsMore, HoldsFault, HoldsMisuse, HoldsUnfit}
 
 -- the name holds these bytes, which are not too many
 pub record HoldsWithin (content : List ℕ → Option (List ℕ)) (name : List ℕ) (most : ℕ) (bytes : List ℕ) : Type 0 where
@@ -20,22 +25,43 @@ IsReadFault content name most (File file) = file.now ≡ name
 IsReadFault content name most Memory = Unit {0}
 IsReadFault content name most Words = ⊥
 IsReadFault content name most (At file line what) = ⊥
+IsReadFault content name most (Scope file line what) = ⊥
+IsReadFault content name most (Unfit file) = ⊥
 IsReadFault content name most Sink = ⊥
+
+-- this is the name, and it holds bytes with this first fault of grammar
+abbrev pub IsGrammarFault : (List ℕ → Option (List ℕ)) → (name file : List ℕ) → (line : ℕ) → (what : List ℕ) → Type 0
+IsGrammarFault content name file line what = (file ≡ name) × ((w : What) × HoldsFault content name line w × (what ≡ what_text w))
+
+-- why there is no program
+abbrev pub IsProgramFault : (List ℕ → Option (List ℕ)) → List ℕ → Fault → Type 0
+IsProgramFault content name (TooLong file) = (file.now ≡ name) × HoldsMore content name text_limit
+IsProgramFault content name (At file line what) = IsGrammarFault content name file.now line what.now
+IsProgramFault content name (Scope file line what) = (file.now ≡ name) × HoldsMisuse content name (record { kind = kind what; line = line })
+IsProgramFault content name (File file) = file.now ≡ name
+IsProgramFault content name Memory = Unit {0}
+IsProgramFault content name (Unfit file) = ⊥
+IsProgramFault content name Words = ⊥
+IsProgramFault content name Sink = ⊥
 
 -- why there is no plan
 abbrev pub IsPlanFault : (List ℕ → Option (List ℕ)) → List ℕ → Fault → Type 0
-IsPlanFault content name (TooLong file) = (file.now ≡ name) × HoldsMore content name text_limit
-IsPlanFault content name (At file line what) = (file.now ≡ name) × (line ≡ 1) × (what.now ≡ codes "limit") × HoldsNoPlan content name
-IsPlanFault content name (File file) = file.now ≡ name
-IsPlanFault content name Memory = Unit {0}
-IsPlanFault content name Words = ⊥
-IsPlanFault content name Sink = ⊥
+IsPlanFault content name (Unfit file) = (file.now ≡ name) × HoldsUnfit content name
+IsPlanFault content name (TooLong file) = IsProgramFault content name (TooLong file)
+IsPlanFault content name (At file line what) = IsProgramFault content name (At file line what)
+IsPlanFault content name (Scope file line what) = IsProgramFault content name (Scope file line what)
+IsPlanFault content name (File file) = IsProgramFault content name (File file)
+IsPlanFault content name Memory = IsProgramFault content name Memory
+IsPlanFault content name Words = IsProgramFault content name Words
+IsPlanFault content name Sink = IsProgramFault content name Sink
 
--- the fault is this error of a workload's text, in the file of this name
+-- the fault is this one of a workload's text, in the file of this name
 abbrev pub IsTextFault : List ℕ → ℕ → List ℕ → Fault → Type 0
-IsTextFault name number word (At file line what) = (file.now ≡ name) × (line ≡ number) × (what.now ≡ word)
 IsTextFault name number word Words = ⊥
 IsTextFault name number word (TooLong file) = ⊥
+IsTextFault name number word (At file line what) = (file.now ≡ name) × (line ≡ number) × (what.now ≡ word)
+IsTextFault name number word (Scope file line what) = ⊥
+IsTextFault name number word (Unfit file) = ⊥
 IsTextFault name number word Memory = ⊥
 IsTextFault name number word (File file) = ⊥
 IsTextFault name number word Sink = ⊥
@@ -43,3 +69,18 @@ IsTextFault name number word Sink = ⊥
 abbrev pub TellsError : List ℕ → LangError → Fault → Type 0
 TellsError name (error.At line what) fault = IsTextFault name line (what_text what) fault
 TellsError name error.NoMemory fault = fault ≡ Memory
+
+-- the fault is this one of scope, in the file of this name
+abbrev pub IsMisuse : List ℕ → ℕ → ScopeWhat → Fault → Type 0
+IsMisuse name number found Words = ⊥
+IsMisuse name number found (TooLong file) = ⊥
+IsMisuse name number found (At file line what) = ⊥
+IsMisuse name number found (Scope file line what) = (file.now ≡ name) × (line ≡ number) × (what ≡ found)
+IsMisuse name number found (Unfit file) = ⊥
+IsMisuse name number found Memory = ⊥
+IsMisuse name number found (File file) = ⊥
+IsMisuse name number found Sink = ⊥
+
+abbrev pub TellsMisuse : List ℕ → ScopeFault → Fault → Type 0
+TellsMisuse name (misuse.At line what) fault = IsMisuse name line what fault
+TellsMisuse name misuse.NoMemory fault = fault ≡ Memory

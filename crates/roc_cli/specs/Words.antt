@@ -9,6 +9,10 @@ IsReplay words workload schedule = words ≡ codes "replay" ∷ workload ∷ sch
 abbrev pub IsPrint : List (List ℕ) → (workload : List ℕ) → Type 0
 IsPrint words workload = words ≡ codes "print" ∷ workload ∷ []
 
+-- `check`, and the name of a workload
+abbrev pub IsCheck : List (List ℕ) → (workload : List ℕ) → Type 0
+IsCheck words workload = words ≡ codes "check" ∷ workload ∷ []
+
 -- the words are those of a replay
 abbrev pub AreReplayWords : List (List ℕ) → Type 0
 AreReplayWords words = (workload schedule : List ℕ) × IsReplay words workload schedule
@@ -17,6 +21,18 @@ AreReplayWords words = (workload schedule : List ℕ) × IsReplay words workload
 abbrev pub ArePrintWords : List (List ℕ) → Type 0
 ArePrintWords words = (workload : List ℕ) × IsPrint words workload
 
+-- the words are those of a check
+abbrev pub AreCheckWords : List (List ℕ) → Type 0
+AreCheckWords words = (workload : List ℕ) × IsCheck words workload
+
 -- the words are those of a command
 abbrev pub AreCommandWords : List (List ℕ) → Type 0
-AreCommandWords words = AreReplayWords words ⊎ ArePrintWords words
+AreCommandWords words = AreReplayWords words ⊎ (ArePrintWords words ⊎ AreCheckWords words)
+
+-- the words name a workload whose names have to be in scope
+abbrev pub NamesProgram : List (List ℕ) → (workload : List ℕ) → Type 0
+NamesProgram words workload = ((schedule : List ℕ) × IsReplay words workload schedule) ⊎ IsCheck words workload
+
+-- the words name a workload
+abbrev pub NamesWorkload : List (List ℕ) → (workload : List ℕ) → Type 0
+NamesWorkload words workload = NamesProgram words workload ⊎ IsPrint words workload

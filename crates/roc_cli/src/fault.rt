@@ -2,10 +2,11 @@
 ghost use Rattle.roc_cli.specs.Fault.{IsTold};
 
 use roc_io::{Sink, Written, write_all};
+use roc_scope::ScopeWhat;
 use std::alloc::Global;
 
 /// Why the program ends without having done what it was asked.
-#[derive(Clone, Copy, Debug)]
+#[derive(Debug, Drop)]
 pub(crate) enum Fault<'a> {
     /// The words are not those of a command.
     Words,
@@ -17,6 +18,14 @@ pub(crate) enum Fault<'a> {
         line: u32,
         what: &'static str,
     },
+    /// The names of a workload are not in scope: the line, and what is wrong there.
+    Scope {
+        file: &'a str,
+        line: u32,
+        what: ScopeWhat,
+    },
+    /// A workload has no plan.
+    Unfit(&'a str),
     /// There is no memory.
     Memory,
     /// A file could not be read.
@@ -40,6 +49,8 @@ impl Fault<'_> {
                 3
             }
             Fault::At { file, line, what } => tell_line(alloc, err, file, line, what),
+            Fault::Scope { file, line, what } => tell_misuse(alloc, err, file, line, what),
+            Fault::Unfit(file) => tell_line(alloc, err, file, 1, "limit"),
             Fault::Memory => {
                 err.write(b"memory\n");
                 4
@@ -59,6 +70,18 @@ impl Fault<'_> {
 // The same of a fault at a line, for whose text there may be no memory.
 fn tell_line<E: Sink>(alloc: Global, err: &mut E, file: &str, line: u32, what: &'static str) -> u8
     ensures { IsTold (Fault.At file.entry line what.entry) result (E.taken err.old) (E.taken err.new) (E.faults err.old) (E.faults err.new) }
+{
+    let Ok(text) = format!(in alloc; "{file}:{line}: {what}\n") else {
+        err.write(b"memory\n");
+        return 4;
+    };
+    err.write(text.as_bytes());
+    3
+}
+
+// The same of a fault of scope.
+fn tell_misuse<E: Sink>(alloc: Global, err: &mut E, file: &str, line: u32, what: ScopeWhat) -> u8
+    ensures { IsTold (Fault.Scope file.entry line what) result (E.taken err.old) (E.taken err.new) (E.faults err.old) (E.faults err.new) }
 {
     let Ok(text) = format!(in alloc; "{file}:{line}: {what}\n") else {
         err.write(b"memory\n");

@@ -1,14 +1,19 @@
 //! The files that the words name.
 ghost use Rattle.std.specs.Prelude.{◌≡◌, ℕ, List, IfOk, IfErr};
 ghost use Rattle.roc_io.specs.Cause.{HasCause};
-ghost use Rattle.roc_cli.specs.Held.{HoldsPlan};
-ghost use Rattle.roc_cli.specs.Input.{HoldsWithin, IsReadFault, IsPlanFault, TellsError};
+ghost use Rattle.roc_plan.specs.Workload.{program};
+ghost use Rattle.roc_plan.specs.WellFormed.{IsProgram};
+ghost use Rattle.roc_cli.specs.Held.{HoldsProgram, HoldsPlan};
+ghost use Rattle.roc_cli.specs.Input.{HoldsWithin, IsReadFault, IsProgramFault, IsPlanFault, TellsError, TellsMisuse};
 ghost use Rattle.roc_cli.specs.Ends.{file_failed, sink_failed, fails_by};
 
 use crate::fault::Fault;
 use roc_io::{Files, Read};
-use roc_lang::{LangError, parse};
-use roc_plan::Plan;
+use roc_lang::LangError;
+use roc_parse::parse;
+use roc_plan::laws::texts_are_within_limits;
+use roc_plan::{Plan, PlanFault, Workload, resolve};
+use roc_scope::ScopeFault;
 use std::alloc::Global;
 
 /// How many bytes a workload may have.
@@ -35,6 +40,31 @@ pub(crate) fn bytes_of<'a, F: Files>(
     }
 }
 
+/// The workload that a file holds, whose names are in scope.
+pub(crate) fn workload_of<'a, F: Files>(
+    alloc: Global,
+    files: &mut F,
+    name: &'a str,
+) -> Result<Workload, Fault<'a>>
+    ensures held { IfOk result (λ workload. HoldsProgram (F.content files.old) name.entry.now (program workload)) }
+    ensures well_formed { IfOk result (λ workload. IsProgram (program workload)) }
+    ensures fault { IfErr result (IsProgramFault (F.content files.old) name.entry.now) }
+    ensures cause { HasCause (fails_by file_failed result) (F.faults files.old) (F.faults files.new) }
+    ensures unchanged { (other : List ℕ) → F.content files.new other ≡ F.content files.old other }
+{
+    let bytes = bytes_of(alloc, files, name, MOST_WORKLOAD_BYTES)?;
+    match parse(alloc, &bytes) {
+        Ok(source) => {
+            texts_are_within_limits();
+            match resolve(alloc, source) {
+                Ok(workload) => Ok(workload),
+                Err(fault) => Err(misuse_of(name, fault)),
+            }
+        }
+        Err(error) => Err(fault_of(name, error)),
+    }
+}
+
 /// The plan of the workload that a file holds.
 pub(crate) fn plan_of<'a, F: Files>(
     alloc: Global,
@@ -46,13 +76,14 @@ pub(crate) fn plan_of<'a, F: Files>(
     ensures cause { HasCause (fails_by file_failed result) (F.faults files.old) (F.faults files.new) }
     ensures unchanged { (other : List ℕ) → F.content files.new other ≡ F.content files.old other }
 {
-    let bytes = bytes_of(alloc, files, name, MOST_WORKLOAD_BYTES)?;
-    match parse(alloc, &bytes) {
-        Ok(source) => match Plan::thin(alloc, source) {
-            Ok(plan) => Ok(plan),
-            Err(_) => Err(Fault::Memory),
-        },
-        Err(error) => Err(fault_of(name, error)),
+    let workload = match workload_of(alloc, files, name) {
+        Ok(workload) => workload,
+        Err(fault) => return Err(fault),
+    };
+    match Plan::thin(alloc, workload) {
+        Ok(plan) => Ok(plan),
+        Err(PlanFault::Unfit) => Err(Fault::Unfit(name)),
+        Err(PlanFault::NoMemory) => Err(Fault::Memory),
     }
 }
 
@@ -67,5 +98,19 @@ pub(crate) fn fault_of(name: &str, error: LangError) -> Fault<'_>
             what: what.as_str(),
         },
         LangError::NoMemory => Fault::Memory,
+    }
+}
+
+/// A fault of a workload's scope, with the file's name.
+pub(crate) fn misuse_of(name: &str, fault: ScopeFault) -> Fault<'_>
+    ensures { TellsMisuse name.entry.now fault result }
+{
+    match fault {
+        ScopeFault::At { line, what } => Fault::Scope {
+            file: name,
+            line,
+            what,
+        },
+        ScopeFault::NoMemory => Fault::Memory,
     }
 }

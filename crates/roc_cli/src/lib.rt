@@ -6,6 +6,7 @@
 //! error), `Replayed.antt` and `Refused.antt` (what comes of a replay).
 #![tactic(auto)]
 
+mod check;
 mod command;
 mod fault;
 mod input;

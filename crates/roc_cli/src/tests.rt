@@ -9,6 +9,11 @@ table t { x }
 proc add(n) { later a at 0 { get v = t[0].x; set t[0].x = v + n; out v; } }
 ";
 
+const MISUSE: &[u8] = b"shards 1;
+table t { x }
+proc add(n) { later a at 0 { get v = t[0].x; set t[v].x = v + n; out v; } }
+";
+
 const SCHEDULE: &[u8] = b"submit 0 add 5
 deliver 1
 deliver 2
@@ -51,20 +56,32 @@ fn stored(alloc: Global, name: &str, bytes: &[u8]) -> Result<StoredFile, AllocEr
     Ok(StoredFile::new(String::from_str(alloc, name)?, bytes.to_vec(alloc)?))
 }
 
-// The workload and the schedule of the counter.
+// The workload and the schedule of the counter, and a workload that is out of scope.
 fn counter(alloc: Global, reads: &[u64]) -> Result<MemFiles, AllocError> {
     let workload = stored(alloc, "add.rcw", WORKLOAD)?;
     let schedule = stored(alloc, "add.rcs", SCHEDULE)?;
-    let files = vec![in alloc; workload, schedule]?;
+    let misuse = stored(alloc, "key.rcw", MISUSE)?;
+    let files = vec![in alloc; workload, schedule, misuse]?;
     Ok(MemFiles::new(files, reads.to_vec(alloc)?))
 }
 
-// Replays the counter. These reads, writes of the report and writes of the error's line are to fail, by number.
-fn outcome(alloc: Global, reads: &[u64], out: &[u64], err: &[u64]) -> Result<Ran, AllocError> {
+fn given(alloc: Global, words: &[&str]) -> Result<Vec<String>, AllocError> {
     let mut given = Vec::new(alloc);
-    for word in REPLAY {
+    for word in words {
         given.push(String::from_str(alloc, word)?)?;
     }
+    Ok(given)
+}
+
+// Runs these words. These reads, writes of standard output and writes of the error's line are to fail, by number.
+fn outcome(
+    alloc: Global,
+    words: &[&str],
+    reads: &[u64],
+    out: &[u64],
+    err: &[u64],
+) -> Result<Ran, AllocError> {
+    let given = given(alloc, words)?;
     let mut files = counter(alloc, reads)?;
     let mut out = MemSink::new(alloc, out.to_vec(alloc)?);
     let mut err = MemSink::new(alloc, err.to_vec(alloc)?);
@@ -149,10 +166,174 @@ fn runs_end_as_files_and_streams_let_them(rt: HostRuntime) -> Result<(), Fail> {
         },
     ];
     for case in &cases {
-        let ran = outcome(alloc, case.reads, case.writes, case.lines)?;
+        let ran = outcome(alloc, &REPLAY, case.reads, case.writes, case.lines)?;
         assert_eq!(rt; ran.status, case.status);
         assert_eq!(rt; ran.out.bytes(), Some(case.out));
         assert_eq!(rt; ran.err.bytes(), Some(case.err));
+    }
+    Ok(())
+}
+
+const CHECK: [&str; 2] = ["check", "add.rcw"];
+
+const CHECK_MISUSE: [&str; 2] = ["check", "key.rcw"];
+
+const CHECKED: &[u8] = b"shards 1
+proc add
+piece a deferrable
+conflict add.a add.a
+";
+
+#[test]
+fn checks_end_as_files_and_streams_let_them(rt: HostRuntime) -> Result<(), Fail> {
+    let alloc = rt.alloc();
+    let ran = outcome(alloc, &CHECK, &[], &[], &[])?;
+    assert_eq!(rt; ran.status, 0);
+    assert_eq!(rt; ran.out.bytes(), Some(CHECKED));
+    let ran = outcome(alloc, &CHECK, &[1], &[], &[])?;
+    assert_eq!(rt; ran.status, 6);
+    let ran = outcome(alloc, &CHECK, &[], &[1], &[])?;
+    assert_eq!(rt; ran.status, 7);
+    assert_eq!(rt; ran.err.bytes(), Some(b"sink\n".as_slice()));
+    Ok(())
+}
+
+#[test]
+fn faults_of_scope_are_told(rt: HostRuntime) -> Result<(), Fail> {
+    let alloc = rt.alloc();
+    let ran = outcome(alloc, &CHECK_MISUSE, &[], &[], &[])?;
+    assert_eq!(rt; ran.status, 3);
+    let taken: (&[u8], &[u8]) = (b"", b"key.rcw:3: key v\n");
+    assert_eq!(rt; ran.out.bytes(), Some(taken.0));
+    assert_eq!(rt; ran.err.bytes(), Some(taken.1));
+    Ok(())
+}
+
+// A small workload, token by token, and where the tokens so far are a whole one.
+const TOKENS: [(&str, bool); 85] = [
+    ("shards", false),
+    ("2", false),
+    (";", true),
+    ("table", false),
+    ("t", false),
+    ("{", false),
+    ("c", false),
+    (",", false),
+    ("d", false),
+    ("}", true),
+    ("init", false),
+    ("t", false),
+    ("[", false),
+    ("-", false),
+    ("1", false),
+    (",", false),
+    ("0", false),
+    ("]", false),
+    (".", false),
+    ("c", false),
+    ("=", false),
+    ("5", false),
+    (";", true),
+    ("proc", false),
+    ("f", false),
+    ("(", false),
+    ("a", false),
+    (",", false),
+    ("b", false),
+    (")", false),
+    ("{", false),
+    ("now", false),
+    ("p", false),
+    ("at", false),
+    ("min", false),
+    ("(", false),
+    ("a", false),
+    (",", false),
+    ("b", false),
+    (")", false),
+    ("{", false),
+    ("get", false),
+    ("v", false),
+    ("=", false),
+    ("t", false),
+    ("[", false),
+    ("a", false),
+    ("*", false),
+    ("2", false),
+    ("]", false),
+    (".", false),
+    ("c", false),
+    (";", false),
+    ("}", false),
+    ("later", false),
+    ("q", false),
+    ("at", false),
+    ("pick", false),
+    ("(", false),
+    ("v", false),
+    (",", false),
+    ("1", false),
+    (",", false),
+    ("(", false),
+    ("b", false),
+    (")", false),
+    (")", false),
+    ("{", false),
+    ("set", false),
+    ("t", false),
+    ("[", false),
+    ("0", false),
+    ("]", false),
+    (".", false),
+    ("d", false),
+    ("=", false),
+    ("v", false),
+    ("-", false),
+    ("a", false),
+    (";", false),
+    ("out", false),
+    ("v", false),
+    (";", false),
+    ("}", false),
+    ("}", true),
+];
+
+// Prints the workload of this text.
+fn printed(alloc: Global, text: &str) -> Result<Ran, AllocError> {
+    let given = given(alloc, &["print", "w.rcw"])?;
+    let files = vec![in alloc; stored(alloc, "w.rcw", text.as_bytes())?]?;
+    let mut files = MemFiles::new(files, Vec::new(alloc));
+    let mut out = MemSink::new(alloc, Vec::new(alloc));
+    let mut err = MemSink::new(alloc, Vec::new(alloc));
+    let mut link = CalmLink::new(alloc, Vec::new(alloc));
+    let mut children = CalmSpawner::new(alloc, Vec::new(alloc));
+    let status = run(
+        alloc,
+        &given,
+        &mut files,
+        &mut out,
+        &mut err,
+        &mut link,
+        &mut children,
+    );
+    Ok(Ran { status, out, err })
+}
+
+#[test]
+fn a_text_may_stop_behind_each_token(rt: HostRuntime) -> Result<(), Fail> {
+    let alloc = rt.alloc();
+    let mut text = String::new(alloc);
+    for (token, is_whole) in TOKENS {
+        text.push_str(token)?;
+        text.push_str(" ")?;
+        let ran = printed(alloc, text.as_str())?;
+        let wanted: (u8, &[u8]) = if is_whole {
+            (0, b"")
+        } else {
+            (3, b"w.rcw:1: end\n")
+        };
+        assert_eq!(rt; ran.status, wanted.0, "{text}");
+        assert_eq!(rt; ran.err.bytes(), Some(wanted.1), "{text}");
     }
     Ok(())
 }

@@ -1,6 +1,6 @@
 //! The words of the command line.
 ghost use Rattle.std.specs.Prelude.{map, string_bytes, MatchOption};
-ghost use Rattle.roc_cli.specs.Words.{IsReplay, AreReplayWords, IsPrint, ArePrintWords};
+ghost use Rattle.roc_cli.specs.Words.{IsReplay, AreReplayWords, IsPrint, ArePrintWords, IsCheck, AreCheckWords};
 
 /// The names of the workload and of the schedule, where the words are those of a replay.
 pub(crate) fn replay_names(words: &[String]) -> Option<(&str, &str)>
@@ -20,6 +20,16 @@ pub(crate) fn print_name(words: &[String]) -> Option<&str>
 {
     match words {
         [command, workload] if command.as_str() == "print" => Some(workload.as_str()),
+        _ => None,
+    }
+}
+
+/// The name of the workload, where the words are those of a check.
+pub(crate) fn check_name(words: &[String]) -> Option<&str>
+    ensures { MatchOption result (AreCheckWords (map string_bytes words.now) → ⊥) (λ name. IsCheck (map string_bytes words.now) name.now) }
+{
+    match words {
+        [command, workload] if command.as_str() == "check" => Some(workload.as_str()),
         _ => None,
     }
 }
