@@ -9,8 +9,6 @@
 
 mod entry;
 mod order;
-#[cfg(test)]
-mod tests;
 
 pub use entry::Entry;
 pub use order::Order;

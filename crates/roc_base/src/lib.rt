@@ -23,6 +23,3 @@ pub use id::TxnId;
 pub use memory::NoMemory;
 pub use node::{Node, Shard};
 pub use nums::Nums;
-
-#[cfg(test)]
-mod tests;

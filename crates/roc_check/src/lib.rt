@@ -9,6 +9,3 @@ pub mod laws;
 mod text;
 
 pub use text::check_text;
-
-#[cfg(test)]
-mod tests;

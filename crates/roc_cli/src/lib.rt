@@ -14,6 +14,3 @@ mod text;
 mod words;
 
 pub use command::run;
-
-#[cfg(test)]
-mod tests;

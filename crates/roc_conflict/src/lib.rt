@@ -17,6 +17,3 @@ pub use classes::Classes;
 pub use contention::contended;
 pub use pieces::{all_pieces, is_declared_now, piece_count, procedure_count};
 pub use promotion::promote;
-
-#[cfg(test)]
-mod tests;

@@ -20,6 +20,3 @@ mod transaction;
 pub use coord::Coord;
 pub use handled::{Handled, SubmitFault};
 pub use transaction::{SentStart, TakenCommit, TakenStart, Transaction};
-
-#[cfg(test)]
-mod tests;

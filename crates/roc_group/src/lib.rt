@@ -12,8 +12,6 @@ mod access;
 pub mod laws;
 mod names;
 mod run;
-#[cfg(test)]
-mod tests;
 mod uses;
 
 pub use access::{Access, conflict};

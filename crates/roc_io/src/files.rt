@@ -79,6 +79,3 @@ pub fn read_two<F: Files>(
         answer => TwoRead::First(answer),
     }
 }
-
-#[cfg(test)]
-mod tests;

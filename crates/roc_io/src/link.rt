@@ -156,6 +156,3 @@ pub fn drain<L: Link>(alloc: Global, link: &mut L, turns: u32, into: &mut Vec<Da
     }
     Drained::Turns
 }
-
-#[cfg(test)]
-mod tests;

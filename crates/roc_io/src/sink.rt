@@ -45,6 +45,3 @@ pub fn write_all<S: Sink>(sink: &mut S, pieces: &[&[u8]]) -> Written
     }
     Written::Ok
 }
-
-#[cfg(test)]
-mod tests;

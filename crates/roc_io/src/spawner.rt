@@ -132,6 +132,3 @@ pub fn wait_all<P: Spawner>(spawner: &mut P, children: &[Child]) -> Option<Child
     }
     first
 }
-
-#[cfg(test)]
-mod tests;

@@ -11,6 +11,3 @@ mod source;
 
 pub use fault::{LangError, What};
 pub use source::{Access, Expression, Init, Name, Piece, Procedure, Source, Statement, Table};
-
-#[cfg(test)]
-mod tests;

@@ -13,6 +13,3 @@ mod reason;
 pub use msg::{Msg, Sent};
 pub use outbox::{Outbox, Outgoing};
 pub use reason::{NodeFault, Reason};
-
-#[cfg(test)]
-mod tests;

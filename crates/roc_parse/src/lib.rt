@@ -20,6 +20,3 @@ mod terminal;
 mod token;
 
 pub use parser::parse;
-
-#[cfg(test)]
-mod tests;

@@ -29,6 +29,3 @@ pub use plan::Plan;
 pub use static_conflict::{PieceId, conflict};
 pub use tree::resolve;
 pub use workload::{Access, Expression, Init, Piece, Procedure, Statement, Table, Workload};
-
-#[cfg(test)]
-mod tests;

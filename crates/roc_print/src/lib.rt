@@ -13,6 +13,3 @@ pub mod laws;
 mod line;
 
 pub use canonical::print;
-
-#[cfg(test)]
-mod tests;

@@ -17,6 +17,3 @@ mod schedule;
 
 pub use ended::{Ended, Summary};
 pub use schedule::replay;
-
-#[cfg(test)]
-mod tests;

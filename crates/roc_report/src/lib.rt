@@ -11,6 +11,3 @@ mod text;
 
 pub use line::{ReportLine, Standing};
 pub use text::append;
-
-#[cfg(test)]
-mod tests;

@@ -12,8 +12,6 @@
 mod cell;
 pub mod laws;
 mod rows;
-#[cfg(test)]
-mod tests;
 
 pub use cell::Cell;
 pub use rows::Rows;

@@ -18,6 +18,3 @@ mod thin;
 pub use fault::{TextFault, What};
 pub use line::{Act, Line};
 pub use thin::parse_thin;
-
-#[cfg(test)]
-mod tests;

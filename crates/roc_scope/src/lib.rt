@@ -13,6 +13,3 @@ mod tree;
 
 pub use fault::{ScopeFault, ScopeWhat};
 pub use tree::check_scope;
-
-#[cfg(test)]
-mod tests;

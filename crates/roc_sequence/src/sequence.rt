@@ -101,27 +101,3 @@ impl<T: Copy> Sequence<T> {
         self.items.extend_from_slice(items)
     }
 }
-
-#[cfg(test)]
-mod tests {
-    use super::*;
-    use std::test::Fail;
-
-    #[test]
-    fn holds_what_was_put_in(rt: HostRuntime) -> Result<(), Fail> {
-        let mut all = Sequence::from_slice(rt.alloc(), &[3u64, 1])?;
-        all.push(4)?;
-        all.extend_from_slice(&[1, 5])?;
-        assert_eq!(rt; all.as_slice(), [3, 1, 4, 1, 5].as_slice());
-        assert!(rt; all.len() == 5);
-        all.set(1, 9);
-        assert_eq!(rt; all.as_slice(), [3, 9, 4, 1, 5].as_slice());
-        all.clear();
-        assert!(rt; all.is_empty());
-        let none: Sequence<u64> = Sequence::new(rt.alloc());
-        assert!(rt; none.is_empty());
-        let two = Sequence::from_vec(vec![in rt.alloc(); 7u8, 8]?);
-        assert_eq!(rt; two.as_slice(), [7, 8].as_slice());
-        Ok(())
-    }
-}

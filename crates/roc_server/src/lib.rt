@@ -22,6 +22,3 @@ mod starts;
 pub use handled::Handled;
 pub use server::Server;
 pub use started::StartedGroup;
-
-#[cfg(test)]
-mod tests;

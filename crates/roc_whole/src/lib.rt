@@ -8,8 +8,6 @@
 
 pub mod laws;
 mod piece;
-#[cfg(test)]
-mod tests;
 mod whole;
 
 pub use piece::run_piece;

@@ -19,6 +19,3 @@ mod world;
 
 pub use event::{Event, Seen};
 pub use world::World;
-
-#[cfg(test)]
-mod tests;
