@@ -6,7 +6,8 @@ use Rattle.std.specs.List.{list_any}
 use Rattle.std.specs.Prelude.{nat_lt}
 use Rattle.roc_sequence.specs.Places.{place_of, is_listed}
 use Rattle.roc_base.specs.declared.id.TxnId.{TxnId}
-use Rattle.roc_base.specs.TxnId.{is_txn, is_txn-swap}
+use Rattle.roc_base.specs.TxnId.{is_txn}
+use Rattle.roc_base.proofs.Ids.{is_txn-swap}
 use Rattle.roc_audit.specs.Order.{noted, noted_one}
 
 -- an id is found where it is listed

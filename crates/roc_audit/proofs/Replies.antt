@@ -1,10 +1,10 @@
 -- The replies of serial runs
 use Rattle.std.proofs.Common.{◌≡◌, ℕ, ℤ, Bool, true, false, cond, List, [], ◌∷◌, ◌++◌, Option, Some, None, refl, sym, ap, ◌∙◌, ◌⊎◌, inl, inr}
-use Rattle.roc_base.specs.Lists.{Has}
+use Rattle.roc_sequence.specs.Lists.{Has}
 use Rattle.roc_base.specs.declared.id.TxnId.{TxnId}
 use Rattle.roc_base.specs.TxnId.{is_txn}
 use Rattle.roc_rows.specs.Store.{Store}
-use Rattle.roc_plan.specs.Program.{Workload}
+use Rattle.roc_program.specs.Program.{Workload}
 use Rattle.roc_whole.specs.Serial.{Call, Answer, run_of, serial_answers}
 use Rattle.roc_audit.specs.Witness.{reply_in}
 

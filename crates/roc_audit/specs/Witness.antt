@@ -4,21 +4,21 @@ use Rattle.std.specs.List.{filter_map}
 use Rattle.roc_sequence.specs.Places.{IsListed, IsListedBefore, NoneTwice}
 use Rattle.roc_base.specs.declared.id.TxnId.{TxnId}
 use Rattle.roc_base.specs.TxnId.{is_txn}
-use Rattle.roc_plan.specs.Program.{Workload}
+use Rattle.roc_program.specs.Program.{Workload}
 use Rattle.roc_whole.specs.Serial.{Call, Answer, serial_run}
 use Rattle.roc_audit.specs.declared.entry.Entry.{Entry}
 use Rattle.roc_audit.specs.declared.entry.Entry.TheVariants.{Submitted, Answered}
 use Rattle.roc_audit.specs.History.{WasSubmitted, WasAnswered, IsAnsweredBefore}
 
 -- what a transaction called, by its first submission
-abbrev pub call_of : TxnId → List Entry → Option Call
-call_of t [] = None
-call_of t (Submitted u proc args ∷ es) = if is_txn u t then Some (record { id = t; procedure = proc; arguments = args }) else call_of t es
-call_of t (Answered u reply ∷ es) = call_of t es
+abbrev pub submitted_call : TxnId → List Entry → Option Call
+submitted_call t [] = None
+submitted_call t (Submitted u proc args ∷ es) = if is_txn u t then Some (record { id = t; procedure = proc; arguments = args }) else submitted_call t es
+submitted_call t (Answered u reply ∷ es) = submitted_call t es
 
 -- what the transactions of an order called, in that order
-abbrev pub calls_of : List Entry → List TxnId → List Call
-calls_of history order = filter_map (λ t. call_of t history) order
+abbrev pub submitted_calls : List Entry → List TxnId → List Call
+submitted_calls history order = filter_map (λ t. submitted_call t history) order
 
 -- the reply that t has among these
 abbrev pub reply_in : TxnId → List Answer → Option (List ℤ)
@@ -27,7 +27,7 @@ reply_in t (a ∷ answers) = if is_txn a.id t then Some a.reply else reply_in t 
 
 -- the reply of t where the transactions of the order run whole, one after another, from the start
 abbrev pub serial_reply : Workload → List Entry → List TxnId → TxnId → Option (List ℤ)
-serial_reply program history order t = reply_in t (serial_run program (calls_of history order))
+serial_reply program history order t = reply_in t (serial_run program (submitted_calls history order))
 
 -- the order explains the history
 pub record IsSerialWitness (program : Workload) (history : List Entry) (order : List TxnId) : Type 0 where

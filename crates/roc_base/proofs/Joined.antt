@@ -2,12 +2,13 @@
 use Rattle.std.proofs.Common.{◌≡◌, ℕ, ◌+◌, ◌<◌, length, get_or, take, append_assoc, append-nil, Bool, true, false, cond, ◌||◌, List, [], ◌∷◌, ◌++◌, Option, Some, None, refl, sym, ap, ◌∙◌, arith}
 use Rattle.std.proofs.lemmas.List.{take_more}
 use Rattle.roc_base.specs.declared.id.TxnId.{TxnId}
-use Rattle.roc_base.specs.TxnId.{is_txn, is_txn-true}
+use Rattle.roc_base.specs.TxnId.{is_txn}
+use Rattle.roc_base.specs.Inner.Equalities.{is_txn-true, same_fields}
 use Rattle.roc_base.specs.Edge.{Dependency, joined}
-use Rattle.roc_base.specs.Edges.{IsRising, all_of, joined_with, unite_one, united}
-use Rattle.roc_base.specs.Equality.{same_fields}
+use Rattle.roc_base.specs.Edges.{comes_before, all_of, joined_with, unite_one, united}
 use Rattle.roc_base.proofs.Rising.{Some≢None, same_Some}
 use Rattle.roc_base.proofs.Union.{united-same, united-rising, all_of-united}
+use Rattle.roc_sequence.specs.Rising.{IsRising}
 
 or-assoc : (a b c : Bool) → (a || (b || c)) ≡ ((a || b) || c)
 or-assoc true b c = refl
@@ -102,7 +103,7 @@ pub united-push : (es : List Dependency) (e : Dependency) → united (es ++ e �
 united-push es e = united-swap es (e ∷ [])
 
 -- the union with what was added so far, at the start and one entry on
-pub united-first : (es : List Dependency) → IsRising es → es ≡ united (es ++ [])
+pub united-first : (es : List Dependency) → IsRising comes_before es → es ≡ united (es ++ [])
 united-first es r = sym (united-rising es r) ∙ ap united (sym (append-nil es))
 
 pub united-more : (base added : List Dependency) (i : ℕ) (e : Dependency) → i < length added → e ≡ get_or added i e → united (base ++ take (i + 1) added) ≡ unite_one e (united (base ++ take i added))

@@ -1,3 +1,5 @@
+pub mod Ids
+pub mod Nodes
 pub mod Rising
 pub mod Union
 pub mod Joined

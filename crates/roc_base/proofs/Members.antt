@@ -1,40 +1,19 @@
 -- The entries of a list, and of a union
-use Rattle.std.proofs.Common.{◌≡◌, ◌≢◌, ℕ, ◌≤◌, ◌<◌, Bool, true, false, cond, List, [], ◌∷◌, ◌++◌, Option, Some, None, refl, sym, ap, subst, ◌∙◌, ◌⊎◌, inl, inr, arith}
+use Rattle.std.proofs.Common.{◌≡◌, ◌≢◌, ℕ, ◌≤◌, ◌<◌, Bool, true, false, cond, List, [], ◌∷◌, Option, Some, None, refl, sym, ap, subst, ◌∙◌, inl, inr, arith}
 use Rattle.std.proofs.lemmas.Bool.{or_cases, or_left, or_right, cases_lt}
 use Rattle.std.specs.List.{AllByRecursion}
 use Rattle.roc_base.specs.declared.id.TxnId.{TxnId}
 use Rattle.roc_base.specs.declared.node.Shard.{Shard}
-use Rattle.roc_base.specs.TxnId.{is_txn, is_txn-true, is_txn-false, txn_lt-ne}
+use Rattle.roc_base.specs.TxnId.{is_txn}
+use Rattle.roc_base.proofs.Ids.{is_txn-false, txn_lt-ne}
+use Rattle.roc_base.specs.Inner.Equalities.{is_txn-true}
 use Rattle.roc_base.specs.Edge.{Dependency, joined, least_shard}
-use Rattle.roc_base.specs.Edges.{IsBelowAll, IsRising, entry_at, all_of, joined_with, united, Covers, IsAllOf}
-use Rattle.roc_base.specs.Lists.{Has}
-use Rattle.roc_base.proofs.Rising.{Some≢None, same_Some, entry_at-other, entry_at-first}
+use Rattle.roc_base.specs.Edges.{comes_before, entry_at, all_of, joined_with, united, Covers, IsAllOf}
+use Rattle.roc_sequence.specs.Lists.{Has}
+use Rattle.roc_sequence.proofs.Holds.{all_has}
+use Rattle.roc_base.proofs.Rising.{Some≢None, same_Some, entry_at-other, entry_at-first, IsBelowAll}
 use Rattle.roc_base.proofs.Union.{IsRising-united, entry_at-united}
-
--- of two lists
-pub has_left : {A : Type 0} (a : A) (xs ys : List A) → Has a xs → Has a (xs ++ ys)
-has_left a [] ys h = absurd h
-has_left a (x ∷ xs) ys (inl e) = inl e
-has_left a (x ∷ xs) ys (inr h) = inr (has_left a xs ys h)
-
-pub has_right : {A : Type 0} (a : A) (xs ys : List A) → Has a ys → Has a (xs ++ ys)
-has_right a [] ys h = h
-has_right a (x ∷ xs) ys h = inr (has_right a xs ys h)
-
-pub has_append : {A : Type 0} (a : A) (xs ys : List A) → Has a (xs ++ ys) → Has a xs ⊎ Has a ys
-has_append a [] ys h = inr h
-has_append a (x ∷ xs) ys (inl e) = inl (inl e)
-has_append a (x ∷ xs) ys (inr h) = elim (has_append a xs ys h) [ inl k ↦ inl (inr k) | inr k ↦ inr k ]
-
--- what holds of all holds of each
-pub all_has : {A : Type 0} (P : A → Type 0) (a : A) (xs : List A) → AllByRecursion P xs → Has a xs → P a
-all_has P a [] h k = absurd k
-all_has P a (x ∷ xs) h (inl e) = subst P (sym e) h.0
-all_has P a (x ∷ xs) h (inr k) = all_has P a xs h.1 k
-
-pub has_all : {A : Type 0} (P : A → Type 0) (xs : List A) → ((a : A) → Has a xs → P a) → AllByRecursion P xs
-has_all P [] h = tt
-has_all P (x ∷ xs) h = (h x (inl refl), has_all P xs (λ a k. h a (inr k)))
+use Rattle.roc_sequence.specs.Rising.{IsRising}
 
 -- what is found is an entry of that id
 pub entry_at-has : (id : TxnId) (es : List Dependency) (d : Dependency) → entry_at id es ≡ Some d → Has d es × (d.from ≡ id)
@@ -48,7 +27,7 @@ entry_at-has id (e ∷ es) d h = go (is_txn e.from id) refl h (entry_at-has id e
     go false k m ih = let p = ih m in (inr p.0, p.1)
 
 -- in a rising list each entry is found at its id
-pub has-entry_at : (es : List Dependency) (d : Dependency) → IsRising es → Has d es → entry_at d.from es ≡ Some d
+pub has-entry_at : (es : List Dependency) (d : Dependency) → IsRising comes_before es → Has d es → entry_at d.from es ≡ Some d
 has-entry_at [] d r h = absurd h
 has-entry_at (e ∷ es) d r (inl p) = subst (λ x. entry_at x.from (e ∷ es) ≡ Some x) (sym p) (entry_at-first e es)
 has-entry_at (e ∷ es) d r (inr h) =

@@ -1,20 +1,15 @@
 -- Where an id stands in a rising list, and what is written there
-use Rattle.std.proofs.Common.{◌≡◌, ℕ, zero, suc, ◌<◌, ◌≤◌, Bool, true, false, cond, List, [], ◌∷◌, length, get_or, set, Some, None, refl, sym, ap, subst, ◌∙◌, arith}
+use Rattle.std.proofs.Common.{◌≡◌, ℕ, zero, suc, ◌<◌, ◌≤◌, Bool, true, false, cond, List, [], ◌∷◌, length, get_or, not, set, Some, None, refl, sym, ap, subst, ◌∙◌, arith}
 use Rattle.std.specs.Prelude.{insert}
 use Rattle.std.specs.List.Sorted.{IsPartitionedBy, IsPartitionPoint}
 use Rattle.roc_base.specs.declared.id.TxnId.{TxnId}
-use Rattle.roc_base.specs.TxnId.{is_txn, txn_lt, is_txn-swap, txn_lt-ne, txn_lt-asym, txn_lt-other, txn_lt-trans}
+use Rattle.roc_base.specs.TxnId.{is_txn, txn_lt}
+use Rattle.roc_base.proofs.Ids.{is_txn-swap, txn_lt-ne, txn_lt-asym, txn_lt-other, txn_lt-trans}
 use Rattle.roc_base.specs.Edge.{Dependency, joined}
-use Rattle.roc_base.specs.Edges.{IsBelowAll, IsRising, entry_at, unite_one, place_of, IsAt, IsGapFor}
-use Rattle.roc_base.proofs.Rising.{Some≢None, same_Some, below-chain, entry_at-below, entry_at-other, entry_at-first}
-
-pub place_of-within : (id : TxnId) (es : List Dependency) → place_of id es ≤ length es
-place_of-within id [] = omega arith
-place_of-within id (e ∷ es) = go (txn_lt e.from id) (place_of-within id es)
-  where
-    go : (s : Bool) → place_of id es ≤ length es → cond s (suc (place_of id es)) 0 ≤ suc (length es)
-    go true ih = omega arith
-    go false ih = omega arith
+use Rattle.roc_base.specs.Edges.{comes_before, entry_at, unite_one}
+use Rattle.roc_base.specs.Inner.Place.{entry_place, IsAt, IsGapFor}
+use Rattle.roc_base.proofs.Rising.{Some≢None, same_Some, below-chain, entry_at-below, entry_at-other, entry_at-first, IsBelowAll}
+use Rattle.roc_sequence.specs.Rising.{IsRising}
 
 unite_one-behind : (e x : Dependency) (xs : List Dependency) → is_txn e.from x.from ≡ false → txn_lt e.from x.from ≡ false → unite_one e (x ∷ xs) ≡ x ∷ unite_one e xs
 unite_one-behind e x xs f g =
@@ -30,11 +25,11 @@ unite_one-same : (e x : Dependency) (xs : List Dependency) → is_txn e.from x.f
 unite_one-same e x xs f = ap (λ s. cond s (joined e x ∷ xs) (cond (txn_lt e.from x.from) (e ∷ x ∷ xs) (x ∷ unite_one e xs))) f
 
 -- a new id goes where it stands
-pub insert-place : (e : Dependency) (es : List Dependency) → entry_at e.from es ≡ None → insert es (place_of e.from es) e ≡ unite_one e es
+pub insert-place : (e : Dependency) (es : List Dependency) → entry_at e.from es ≡ None → insert es (entry_place e.from es) e ≡ unite_one e es
 insert-place e [] h = refl
 insert-place e (x ∷ xs) h = go (txn_lt x.from e.from) (is_txn x.from e.from) refl refl (insert-place e xs)
   where
-    go : (s t : Bool) → txn_lt x.from e.from ≡ s → is_txn x.from e.from ≡ t → (entry_at e.from xs ≡ None → insert xs (place_of e.from xs) e ≡ unite_one e xs) → insert (x ∷ xs) (cond s (suc (place_of e.from xs)) 0) e ≡ unite_one e (x ∷ xs)
+    go : (s t : Bool) → txn_lt x.from e.from ≡ s → is_txn x.from e.from ≡ t → (entry_at e.from xs ≡ None → insert xs (entry_place e.from xs) e ≡ unite_one e xs) → insert (x ∷ xs) (cond (not s) 0 (suc (entry_place e.from xs))) e ≡ unite_one e (x ∷ xs)
     go true t f g ih =
         ap (λ ys. x ∷ ys) (ih (sym (entry_at-other e.from x xs (txn_lt-ne x.from e.from f)) ∙ h))
         ∙ sym (unite_one-behind e x xs (is_txn-swap e.from x.from ∙ txn_lt-ne x.from e.from f) (txn_lt-asym x.from e.from f))
@@ -42,11 +37,11 @@ insert-place e (x ∷ xs) h = go (txn_lt x.from e.from) (is_txn x.from e.from) r
     go false false f g ih = sym (unite_one-before e x xs (txn_lt-other x.from e.from g f))
 
 -- a known id is joined where it stands
-pub set-place : (e x : Dependency) (es : List Dependency) → IsRising es → entry_at e.from es ≡ Some x → set es (place_of e.from es) (joined e x) ≡ unite_one e es
+pub set-place : (e x : Dependency) (es : List Dependency) → IsRising comes_before es → entry_at e.from es ≡ Some x → set es (entry_place e.from es) (joined e x) ≡ unite_one e es
 set-place e x [] r h = absurd (Some≢None x (sym h))
 set-place e x (y ∷ ys) r h = go (txn_lt y.from e.from) (is_txn y.from e.from) refl refl (set-place e x ys r.1)
   where
-    go : (s t : Bool) → txn_lt y.from e.from ≡ s → is_txn y.from e.from ≡ t → (entry_at e.from ys ≡ Some x → set ys (place_of e.from ys) (joined e x) ≡ unite_one e ys) → set (y ∷ ys) (cond s (suc (place_of e.from ys)) 0) (joined e x) ≡ unite_one e (y ∷ ys)
+    go : (s t : Bool) → txn_lt y.from e.from ≡ s → is_txn y.from e.from ≡ t → (entry_at e.from ys ≡ Some x → set ys (entry_place e.from ys) (joined e x) ≡ unite_one e ys) → set (y ∷ ys) (cond (not s) 0 (suc (entry_place e.from ys))) (joined e x) ≡ unite_one e (y ∷ ys)
     go true t f g ih =
         ap (λ zs. y ∷ zs) (ih (sym (entry_at-other e.from y ys (txn_lt-ne y.from e.from f)) ∙ h))
         ∙ sym (unite_one-behind e y ys (is_txn-swap e.from y.from ∙ txn_lt-ne y.from e.from f) (txn_lt-asym y.from e.from f))
@@ -65,15 +60,15 @@ get_or-any (e ∷ es) zero d x h = refl
 get_or-any (e ∷ es) (suc i) d x h = get_or-any es i d x (omega arith)
 
 -- what stands at the place of an id, where it is of that id, is what is found there
-entry_at-place : (id : TxnId) (x : Dependency) (es : List Dependency) → place_of id es < length es → x ≡ get_or es (place_of id es) x → x.from ≡ id → entry_at id es ≡ Some x
+entry_at-place : (id : TxnId) (x : Dependency) (es : List Dependency) → entry_place id es < length es → x ≡ get_or es (entry_place id es) x → x.from ≡ id → entry_at id es ≡ Some x
 entry_at-place id x [] h k l = absurd (omega arith)
 entry_at-place id x (y ∷ ys) h k l = go (txn_lt y.from id) refl h k (entry_at-place id x ys)
   where
-    go : (s : Bool) → txn_lt y.from id ≡ s → cond s (suc (place_of id ys)) 0 < suc (length ys) → x ≡ get_or (y ∷ ys) (cond s (suc (place_of id ys)) 0) x → (place_of id ys < length ys → x ≡ get_or ys (place_of id ys) x → x.from ≡ id → entry_at id ys ≡ Some x) → entry_at id (y ∷ ys) ≡ Some x
+    go : (s : Bool) → txn_lt y.from id ≡ s → cond (not s) 0 (suc (entry_place id ys)) < suc (length ys) → x ≡ get_or (y ∷ ys) (cond (not s) 0 (suc (entry_place id ys))) x → (entry_place id ys < length ys → x ≡ get_or ys (entry_place id ys) x → x.from ≡ id → entry_at id ys ≡ Some x) → entry_at id (y ∷ ys) ≡ Some x
     go true f m n ih = entry_at-other id y ys (txn_lt-ne y.from id f) ∙ ih (omega arith) n l
     go false f m n ih = subst (λ z. entry_at id (z ∷ ys) ≡ Some x) n (subst (λ a. entry_at a (x ∷ ys) ≡ Some x) l (entry_at-first x ys))
 
-pub IsAt-place : (id : TxnId) (x : Dependency) (es : List Dependency) (i : ℕ) → i ≡ place_of id es → i < length es → x ≡ get_or es i x → x.from ≡ id → IsAt id es i
+pub IsAt-place : (id : TxnId) (x : Dependency) (es : List Dependency) (i : ℕ) → i ≡ entry_place id es → i < length es → x ≡ get_or es i x → x.from ≡ id → IsAt id es i
 IsAt-place id x es i e h k l = record {
   place = e;
   within = h;
@@ -81,17 +76,17 @@ IsAt-place id x es i e h k l = record {
 }
 
 -- where another id stands at the place, or nothing, none is found
-entry_at-gap : (id : TxnId) (es : List Dependency) → IsRising es → ((d : Dependency) → place_of id es < length es → is_txn (get_or es (place_of id es) d).from id ≡ false) → entry_at id es ≡ None
+entry_at-gap : (id : TxnId) (es : List Dependency) → IsRising comes_before es → ((d : Dependency) → entry_place id es < length es → is_txn (get_or es (entry_place id es) d).from id ≡ false) → entry_at id es ≡ None
 entry_at-gap id [] r h = refl
 entry_at-gap id (y ∷ ys) r h = go (txn_lt y.from id) refl h (entry_at-gap id ys r.1)
   where
-    go : (s : Bool) → txn_lt y.from id ≡ s → ((d : Dependency) → cond s (suc (place_of id ys)) 0 < suc (length ys) → is_txn (get_or (y ∷ ys) (cond s (suc (place_of id ys)) 0) d).from id ≡ false) → (((d : Dependency) → place_of id ys < length ys → is_txn (get_or ys (place_of id ys) d).from id ≡ false) → entry_at id ys ≡ None) → entry_at id (y ∷ ys) ≡ None
+    go : (s : Bool) → txn_lt y.from id ≡ s → ((d : Dependency) → cond (not s) 0 (suc (entry_place id ys)) < suc (length ys) → is_txn (get_or (y ∷ ys) (cond (not s) 0 (suc (entry_place id ys))) d).from id ≡ false) → (((d : Dependency) → entry_place id ys < length ys → is_txn (get_or ys (entry_place id ys) d).from id ≡ false) → entry_at id ys ≡ None) → entry_at id (y ∷ ys) ≡ None
     go true f k ih = entry_at-other id y ys (txn_lt-ne y.from id f) ∙ ih (λ d l. k d (omega arith))
     go false f k ih =
         let before : txn_lt id y.from ≡ true = txn_lt-other y.from id (k y (omega arith)) f in
         entry_at-below id (y ∷ ys) (before, below-chain id y.from ys before r.0)
 
-pub IsGapFor-place : (id : TxnId) (es : List Dependency) (i : ℕ) → IsRising es → i ≡ place_of id es → i ≤ length es → ((d : Dependency) → i < length es → is_txn (get_or es i d).from id ≡ false) → IsGapFor id es i
+pub IsGapFor-place : (id : TxnId) (es : List Dependency) (i : ℕ) → IsRising comes_before es → i ≡ entry_place id es → i ≤ length es → ((d : Dependency) → i < length es → is_txn (get_or es i d).from id ≡ false) → IsGapFor id es i
 IsGapFor-place id es i r e h k = record {
   place = e;
   within = h;
@@ -99,15 +94,15 @@ IsGapFor-place id es i r e h k = record {
 }
 
 -- where an entry of another id stands at the place
-pub IsGapFor-other : (id : TxnId) (x : Dependency) (es : List Dependency) (i : ℕ) → IsRising es → i ≡ place_of id es → i < length es → x ≡ get_or es i x → is_txn x.from id ≡ false → IsGapFor id es i
+pub IsGapFor-other : (id : TxnId) (x : Dependency) (es : List Dependency) (i : ℕ) → IsRising comes_before es → i ≡ entry_place id es → i < length es → x ≡ get_or es i x → is_txn x.from id ≡ false → IsGapFor id es i
 IsGapFor-other id x es i r e h k l = IsGapFor-place id es i r e (omega arith) (λ d m. subst (λ z. is_txn z.from id ≡ false) (k ∙ get_or-any es i x d h) l)
 
 -- where the place is past the end
-pub IsGapFor-end : (id : TxnId) (es : List Dependency) (i : ℕ) → IsRising es → i ≡ place_of id es → i ≤ length es → length es ≤ i → IsGapFor id es i
+pub IsGapFor-end : (id : TxnId) (es : List Dependency) (i : ℕ) → IsRising comes_before es → i ≡ entry_place id es → i ≤ length es → length es ≤ i → IsGapFor id es i
 IsGapFor-end id es i r e h k = IsGapFor-place id es i r e h (λ d m. absurd (omega arith))
 
 -- what is written at the place is the list with the entry
-pub unite_one-at : (e x : Dependency) (es : List Dependency) (i : ℕ) (z : Dependency) → IsRising es → IsAt e.from es i → x ≡ get_or es i x → z ≡ joined e x → set es i z ≡ unite_one e es
+pub unite_one-at : (e x : Dependency) (es : List Dependency) (i : ℕ) (z : Dependency) → IsRising comes_before es → IsAt e.from es i → x ≡ get_or es i x → z ≡ joined e x → set es i z ≡ unite_one e es
 unite_one-at e x es i z r p k l =
     ap (λ w. set es i w) l
     ∙ (ap (λ j. set es j (joined e x)) p.place
@@ -122,7 +117,7 @@ below_at a (e ∷ es) zero d h l = h.0
 below_at a (e ∷ es) (suc j) d h l = below_at a es j d h.1 (omega arith)
 
 -- in a rising list those before an id stand first
-pub IsPartitionedBy-rising : (id : TxnId) (es : List Dependency) → IsRising es → IsPartitionedBy (λ e. txn_lt e.from id) es
+pub IsPartitionedBy-rising : (id : TxnId) (es : List Dependency) → IsRising comes_before es → IsPartitionedBy (λ e. txn_lt e.from id) es
 IsPartitionedBy-rising id [] r i j d h l k = absurd (omega arith)
 IsPartitionedBy-rising id (e ∷ es) r zero zero d h l k = k
 IsPartitionedBy-rising id (e ∷ es) r zero (suc j) d h l k = txn_lt-trans e.from (get_or es j d).from id (below_at e.from es j d r.0 (omega arith)) k
@@ -130,9 +125,9 @@ IsPartitionedBy-rising id (e ∷ es) r (suc i) zero d h l k = absurd (omega arit
 IsPartitionedBy-rising id (e ∷ es) r (suc i) (suc j) d h l k = IsPartitionedBy-rising id es r.1 i j d (omega arith) (omega arith) k
 
 -- where the entries before an id end is its place
-pub place_of-partition : (id : TxnId) (es : List Dependency) (i : ℕ) → i ≤ length es → IsPartitionPoint (λ e. txn_lt e.from id ≡ true) (λ e. txn_lt e.from id ≡ false) es i → i ≡ place_of id es
-place_of-partition id [] i l h = omega arith
-place_of-partition id (e ∷ es) zero l h = sym (ap (λ s. cond s (suc (place_of id es)) 0) (h.1 0 e (omega arith) (omega arith)))
-place_of-partition id (e ∷ es) (suc i) l h =
-    ap suc (place_of-partition id es i (omega arith) (λ k d m n. h.0 (suc k) d (omega arith) (omega arith), λ k d m n. h.1 (suc k) d (omega arith) (omega arith)))
-    ∙ sym (ap (λ s. cond s (suc (place_of id es)) 0) (h.0 0 e (omega arith) (omega arith)))
+pub entry_place-partition : (id : TxnId) (es : List Dependency) (i : ℕ) → i ≤ length es → IsPartitionPoint (λ e. txn_lt e.from id ≡ true) (λ e. txn_lt e.from id ≡ false) es i → i ≡ entry_place id es
+entry_place-partition id [] i l h = omega arith
+entry_place-partition id (e ∷ es) zero l h = sym (ap (λ s. cond (not s) 0 (suc (entry_place id es))) (h.1 0 e (omega arith) (omega arith)))
+entry_place-partition id (e ∷ es) (suc i) l h =
+    ap suc (entry_place-partition id es i (omega arith) (λ k d m n. h.0 (suc k) d (omega arith) (omega arith), λ k d m n. h.1 (suc k) d (omega arith) (omega arith)))
+    ∙ sym (ap (λ s. cond (not s) 0 (suc (entry_place id es))) (h.0 0 e (omega arith) (omega arith)))

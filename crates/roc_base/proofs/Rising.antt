@@ -1,9 +1,17 @@
 -- Lists that rise by id: what is found at an id, and that what is found determines the list
-use Rattle.std.proofs.Common.{◌≡◌, Bool, true, false, cond, List, [], ◌∷◌, Some, None, refl, sym, ap, subst, ◌∙◌, inl, inr, ◌⊎◌}
+use Rattle.std.proofs.Common.{◌≡◌, Bool, true, false, cond, List, [], ◌∷◌, Some, None, IsTrue, refl, sym, ap, subst, ◌∙◌, inl, inr, ◌⊎◌}
+use Rattle.std.specs.List.{AllByRecursion}
 use Rattle.roc_base.specs.declared.id.TxnId.{TxnId}
-use Rattle.roc_base.specs.TxnId.{is_txn, txn_lt, is_txn-true, is_txn-same, txn_lt-trans, txn_lt-ne, is_txn-swap, txn_cases}
+use Rattle.roc_base.specs.TxnId.{is_txn, txn_lt}
+use Rattle.roc_base.proofs.Ids.{txn_lt-trans, txn_lt-ne, is_txn-swap, txn_cases}
+use Rattle.roc_base.specs.Inner.Equalities.{is_txn-true, is_txn-same}
 use Rattle.roc_base.specs.Edge.{Dependency}
-use Rattle.roc_base.specs.Edges.{IsBelowAll, IsRising, entry_at, all_of, joined_with}
+use Rattle.roc_base.specs.Edges.{comes_before, entry_at, all_of, joined_with}
+use Rattle.roc_sequence.specs.Rising.{IsRising}
+
+-- an id comes before those of all entries
+abbrev pub IsBelowAll : TxnId → List Dependency → Type 0
+IsBelowAll id es = AllByRecursion (λ e. IsTrue (txn_lt id e.from)) es
 
 -- what comes before an id comes before all behind it
 pub below-chain : (a id : TxnId) (es : List Dependency) → txn_lt a id ≡ true → IsBelowAll id es → IsBelowAll a es
@@ -32,7 +40,7 @@ all_of-below id [] h = refl
 all_of-below id (e ∷ es) h = all_of-other id e es (ne-below id e h.0) ∙ all_of-below id es h.1
 
 -- in a rising list one entry says all of its id
-pub all_of-rising : (id : TxnId) (es : List Dependency) → IsRising es → all_of id es ≡ entry_at id es
+pub all_of-rising : (id : TxnId) (es : List Dependency) → IsRising comes_before es → all_of id es ≡ entry_at id es
 all_of-rising id [] r = refl
 all_of-rising id (e ∷ es) r = go (is_txn e.from id) refl (all_of-rising id es r.1)
   where
@@ -49,7 +57,7 @@ pub same_Some : (d e : Dependency) → Some d ≡ Some e → d ≡ e
 same_Some d e h = cc
 
 -- rising lists are one where the same is found at every id
-pub same_rising : (xs ys : List Dependency) → IsRising xs → IsRising ys → ((id : TxnId) → entry_at id xs ≡ entry_at id ys) → xs ≡ ys
+pub same_rising : (xs ys : List Dependency) → IsRising comes_before xs → IsRising comes_before ys → ((id : TxnId) → entry_at id xs ≡ entry_at id ys) → xs ≡ ys
 same_rising [] [] r s h = refl
 same_rising [] (y ∷ ys) r s h = absurd (Some≢None y (sym (entry_at-first y ys) ∙ sym (h y.from)))
 same_rising (x ∷ xs) [] r s h = absurd (Some≢None x (sym (entry_at-first x xs) ∙ h x.from))

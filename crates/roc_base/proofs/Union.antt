@@ -3,10 +3,13 @@ use Rattle.std.proofs.Common.{◌≡◌, ◌≤◌, suc, Bool, true, false, cond
 use Rattle.std.proofs.lemmas.Bool.{false≢true, true≢false}
 use Rattle.std.specs.List.{AllByRecursion}
 use Rattle.roc_base.specs.declared.id.TxnId.{TxnId}
-use Rattle.roc_base.specs.TxnId.{is_txn, txn_lt, is_txn-true, is_txn-eq, txn_lt-other}
+use Rattle.roc_base.specs.TxnId.{is_txn, txn_lt}
+use Rattle.roc_base.proofs.Ids.{is_txn-eq, txn_lt-other}
+use Rattle.roc_base.specs.Inner.Equalities.{is_txn-true}
 use Rattle.roc_base.specs.Edge.{Dependency, HasTag, joined}
-use Rattle.roc_base.specs.Edges.{IsBelowAll, IsRising, IsEdgeList, entry_at, all_of, joined_with, unite_one, united}
-use Rattle.roc_base.proofs.Rising.{below-chain, entry_at-below, all_of-rising, same_rising}
+use Rattle.roc_base.specs.Edges.{comes_before, IsEdgeList, entry_at, all_of, joined_with, unite_one, united}
+use Rattle.roc_base.proofs.Rising.{below-chain, entry_at-below, all_of-rising, same_rising, IsBelowAll}
+use Rattle.roc_sequence.specs.Rising.{IsRising}
 
 -- what holds of an entry and of a list, and of what is joined, holds of the list with that entry
 pub AllByRecursion-unite_one : (Q : Dependency → Type 0) → ((a b : Dependency) → a.from ≡ b.from → Q a → Q b → Q (joined a b)) → (e : Dependency) (xs : List Dependency) → Q e → AllByRecursion Q xs → AllByRecursion Q (unite_one e xs)
@@ -32,16 +35,16 @@ joined-tagged a b e h k = go a.imm b.imm a.def b.def h
     go false false false d h = absurd (false≢true h)
 
 -- the union rises
-IsRising-unite_one : (e : Dependency) (xs : List Dependency) → IsRising xs → IsRising (unite_one e xs)
+IsRising-unite_one : (e : Dependency) (xs : List Dependency) → IsRising comes_before xs → IsRising comes_before (unite_one e xs)
 IsRising-unite_one e [] r = (tt, tt)
 IsRising-unite_one e (x ∷ xs) r = go (is_txn e.from x.from) (txn_lt e.from x.from) refl refl (IsRising-unite_one e xs r.1)
   where
-    go : (s t : Bool) → is_txn e.from x.from ≡ s → txn_lt e.from x.from ≡ t → IsRising (unite_one e xs) → IsRising (cond s (joined e x ∷ xs) (cond t (e ∷ x ∷ xs) (x ∷ unite_one e xs)))
+    go : (s t : Bool) → is_txn e.from x.from ≡ s → txn_lt e.from x.from ≡ t → IsRising comes_before (unite_one e xs) → IsRising comes_before (cond s (joined e x ∷ xs) (cond t (e ∷ x ∷ xs) (x ∷ unite_one e xs)))
     go true t f g ih = (subst (λ a. IsBelowAll a xs) (sym (is_txn-true e.from x.from f)) r.0, r.1)
     go false true f g ih = ((g, below-chain e.from x.from xs g r.0), r)
     go false false f g ih = (AllByRecursion-unite_one (λ z. txn_lt x.from z.from ≡ true) (λ a b p h k. h) e xs (txn_lt-other e.from x.from f g) r.0, ih)
 
-pub IsRising-united : (es : List Dependency) → IsRising (united es)
+pub IsRising-united : (es : List Dependency) → IsRising comes_before (united es)
 IsRising-united [] = tt
 IsRising-united (e ∷ es) = IsRising-unite_one e (united es) (IsRising-united es)
 
@@ -52,7 +55,7 @@ pub IsEdgeList-united : (es : List Dependency) → AllByRecursion HasTag es → 
 IsEdgeList-united es h = record { rising = IsRising-united es; tagged = AllByRecursion-united HasTag joined-tagged es h }
 
 -- what is found at an id once an entry is added
-pub entry_at-unite_one : (id : TxnId) (e : Dependency) (xs : List Dependency) → IsRising xs → entry_at id (unite_one e xs) ≡ cond (is_txn e.from id) (Some (joined_with e (entry_at id xs))) (entry_at id xs)
+pub entry_at-unite_one : (id : TxnId) (e : Dependency) (xs : List Dependency) → IsRising comes_before xs → entry_at id (unite_one e xs) ≡ cond (is_txn e.from id) (Some (joined_with e (entry_at id xs))) (entry_at id xs)
 entry_at-unite_one id e [] r = refl
 entry_at-unite_one id e (x ∷ xs) r = go (is_txn e.from x.from) (txn_lt e.from x.from) refl refl (entry_at-unite_one id e xs r.1)
   where
@@ -86,7 +89,7 @@ entry_at-united id (e ∷ es) =
     ∙ ap (λ o. cond (is_txn e.from id) (Some (joined_with e o)) o) (entry_at-united id es)
 
 -- a rising list that has at each id what the entries say is their union
-pub same_united : (ys es : List Dependency) → IsRising ys → ((id : TxnId) → entry_at id ys ≡ all_of id es) → ys ≡ united es
+pub same_united : (ys es : List Dependency) → IsRising comes_before ys → ((id : TxnId) → entry_at id ys ≡ all_of id es) → ys ≡ united es
 same_united ys es r h = same_rising ys (united es) r (IsRising-united es) (λ id. h id ∙ sym (entry_at-united id es))
 
 -- entries that say the same at each id have one union
@@ -94,7 +97,7 @@ pub united-same : (xs ys : List Dependency) → ((id : TxnId) → all_of id xs �
 united-same xs ys h = same_united (united xs) ys (IsRising-united xs) (λ id. entry_at-united id xs ∙ h id)
 
 -- a rising list is its own union
-pub united-rising : (es : List Dependency) → IsRising es → united es ≡ es
+pub united-rising : (es : List Dependency) → IsRising comes_before es → united es ≡ es
 united-rising es r = sym (same_united es es r (λ id. sym (all_of-rising id es r)))
 
 pub all_of-united : (id : TxnId) (es : List Dependency) → all_of id (united es) ≡ all_of id es

@@ -1,23 +1,19 @@
 -- Lists of predecessors, and their union by id
-use Rattle.std.specs.Prelude.{◌≡◌, ◌<◌, ◌≤◌, ℕ, suc, length, slice_index_or, true, List, [], ◌∷◌, Option, Some, None, if◌then◌else◌, IsTrue, find}
+use Rattle.std.specs.Prelude.{◌≡◌, ◌≤◌, Bool, true, List, [], ◌∷◌, Option, Some, None, if◌then◌else◌, find}
 use Rattle.std.specs.List.{AllByRecursion}
 use Rattle.roc_base.specs.declared.id.TxnId.{TxnId}
 use Rattle.roc_base.specs.TxnId.{is_txn, txn_lt}
-use Rattle.roc_base.specs.Lists.{Has}
+use Rattle.roc_sequence.specs.Lists.{Has}
+use Rattle.roc_sequence.specs.Rising.{IsRising}
 use Rattle.roc_base.specs.Edge.{Dependency, HasTag, joined}
 
--- an id comes before those of all entries
-abbrev pub IsBelowAll : TxnId → List Dependency → Type 0
-IsBelowAll id es = AllByRecursion (λ e. IsTrue (txn_lt id e.from)) es
-
--- each entry's id comes before those of all behind it
-abbrev pub IsRising : List Dependency → Type 0
-IsRising [] = Unit {0}
-IsRising (e ∷ es) = IsBelowAll e.from es × IsRising es
+-- one entry's id comes before another's
+abbrev pub comes_before : Dependency → Dependency → Bool
+comes_before a b = txn_lt a.from b.from
 
 -- a list of predecessors as it travels: rising strictly by id, each entry with a tag
 pub record IsEdgeList (es : List Dependency) : Type 0 where
-  pub rising : IsRising es
+  pub rising : IsRising comes_before es
   pub tagged : AllByRecursion HasTag es
 
 -- the first entry of an id
@@ -58,20 +54,3 @@ unite_one e (x ∷ xs) = if is_txn e.from x.from then joined e x ∷ xs else (if
 abbrev pub united : List Dependency → List Dependency
 united [] = []
 united (e ∷ es) = unite_one e (united es)
-
--- how many entries stand before the first that does not come before an id
-abbrev pub place_of : TxnId → List Dependency → ℕ
-place_of id [] = 0
-place_of id (e ∷ es) = if txn_lt e.from id then suc (place_of id es) else 0
-
--- the entry of an id stands at a place
-pub record IsAt (id : TxnId) (es : List Dependency) (at : ℕ) : Type 0 where
-  pub place : at ≡ place_of id es
-  pub within : at < length es
-  pub entry : (d : Dependency) → entry_at id es ≡ Some (slice_index_or es at d)
-
--- no entry is of an id, and one would go to a place
-pub record IsGapFor (id : TxnId) (es : List Dependency) (at : ℕ) : Type 0 where
-  pub place : at ≡ place_of id es
-  pub within : at ≤ length es
-  pub absent : entry_at id es ≡ None

@@ -1,6 +1,7 @@
 pub mod TxnId
 pub mod Node
-pub mod Lists
 pub mod Edge
 pub mod Edges
 pub mod Equality
+pub mod Key
+pub mod Inner

@@ -2,7 +2,9 @@
 ghost use Rattle.std.specs.Prelude.{◌≡◌, ◌≤◌, ◌<◌, ◌+◌, ◌++◌, ◌↔◌, ◌==◌, [], length, vec_len, IsTrue, IfOk, IfErr, OnOk, OnErr};
 ghost use Rattle.std.specs.Vec.{vec_capacity};
 ghost use Rattle.roc_base.specs.declared.id.TxnId.{TxnId};
-ghost use Rattle.roc_base.specs.Edges.{IsEdgeList, IsRising, entry_at, all_of, unite_one, united, IsAt, IsGapFor};
+ghost use Rattle.roc_base.specs.Edges.{IsEdgeList, comes_before, entry_at, all_of, unite_one, united};
+ghost use Rattle.roc_sequence.specs.Rising.{IsRising};
+ghost use Rattle.roc_base.specs.Inner.Place.{IsAt, IsGapFor};
 
 use crate::{Edge, NoMemory, TxnId};
 use std::alloc::{AllocError, Global};
@@ -100,7 +102,8 @@ impl Clone for Edges {
 
 impl PartialEq for Edges {
     ghost use Rattle.std.specs.Prelude.{◌≡◌, ◌↔◌, IsTrue};
-    ghost use Rattle.roc_base.specs.Equality.{is_edges, edges_per};
+    ghost use Rattle.roc_base.specs.Equality.{is_edges};
+    ghost use Rattle.roc_base.specs.Inner.Equalities.{edges_per};
 
     ghost eq = { is_edges };
 
@@ -116,14 +119,14 @@ impl PartialEq for Edges {
 }
 
 impl Eq for Edges {
-    ghost use Rattle.roc_base.specs.Equality.{edges_equivalence};
+    ghost use Rattle.roc_base.specs.Inner.Equalities.{edges_equivalence};
 
     ghost laws = { edges_equivalence };
 }
 
 // Where the entry of an id stands in a rising list, or else where it would go.
 fn place(edges: &[Edge], id: TxnId) -> Result<usize, usize>
-    requires { IsRising edges.now }
+    requires { IsRising comes_before edges.now }
     ensures found { IfOk result (IsAt id edges.now) }
     ensures absent { IfErr result (IsGapFor id edges.now) }
 {

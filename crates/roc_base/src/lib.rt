@@ -9,17 +9,21 @@
 //! value as it was.
 #![tactic(auto)]
 
+mod among;
 mod edge;
 mod edges;
 mod id;
+mod key;
 pub mod laws;
 mod memory;
 mod node;
 mod nums;
 
+pub use among::is_among;
 pub use edge::Edge;
 pub use edges::Edges;
 pub use id::TxnId;
+pub use key::Key;
 pub use memory::NoMemory;
 pub use node::{Node, Shard};
 pub use nums::Nums;

@@ -1,12 +1,17 @@
 -- Lines that are added to a text
-use Rattle.std.proofs.Common.{◌≡◌, ℕ, ◌+◌, List, [], ◌∷◌, ◌++◌, map, sym, ◌∙◌, ap, append_assoc, append-nil}
-use Rattle.std.proofs.lemmas.List.{map-append}
+use Rattle.std.proofs.Common.{◌≡◌, ℕ, suc, ◌+◌, ◌-◌, ◌<◌, List, [], ◌∷◌, ◌++◌, length, map, filter, take, drop, get_or, sym, ◌∙◌, ap, arith, append_assoc, append-nil}
+use Rattle.std.proofs.Math.Seq.{drop-cons}
+use Rattle.std.proofs.lemmas.List.{map-append, take_all, length-drop}
 use Rattle.std.proofs.lemmas.List.Concat.{flat_map-append}
 use Rattle.std.specs.List.{flat_map, range_with_len}
-use Rattle.roc_plan.specs.Program.{Workload}
-use Rattle.roc_report.specs.Line.{Line}
+use Rattle.roc_program.specs.Program.{Workload}
+use Rattle.roc_program.specs.Conflict.{are_in_conflict}
+use Rattle.roc_program.specs.declared.piece_id.PieceId.{PieceId}
+use Rattle.roc_report.specs.Check.{conflict_lines}
+use Rattle.roc_report.specs.Line.{Line, Conflict}
 use Rattle.roc_report.specs.Text.{line_text, lines_text}
-use Rattle.roc_conflict.proofs.Ranges.{range_more, flat_map-range_more}
+use Rattle.roc_program.proofs.Ranges.{flat_map-range_more}
+use Rattle.roc_sequence.proofs.Ranges.{range_more}
 
 module _ (program : Workload) (start old new : List ℕ) where
   pub added : (xs ys : List Line) → old ≡ start ++ lines_text program xs → new ≡ old ++ lines_text program ys → new ≡ start ++ lines_text program (xs ++ ys)
@@ -28,4 +33,23 @@ module _ (program : Workload) (start old new : List ℕ) where
   numbered_line_added first f g n h e =
       one_added (first ∷ map f (map g (range_with_len 0 n))) (f (g n)) h e
       ∙ ap (λ ls. start ++ lines_text program (first ∷ ls))
-      (sym (ap (λ ns. map f (map g ns)) (range_more n) ∙ ap (map f) (map-append g (range_with_len 0 n) (n ∷ [])) ∙ map-append f (map g (range_with_len 0 n)) (g n ∷ [])))
+      (sym (ap (λ ns. map f (map g ns)) (range_more 0 n n (omega arith)) ∙ ap (map f) (map-append g (range_with_len 0 n) (n ∷ [])) ∙ map-append f (map g (range_with_len 0 n)) (g n ∷ [])))
+
+-- the conflicts of one more piece, where all lead to this text
+pub conflicts_added : (program : Workload) (old new end : List ℕ) (pieces : List PieceId) (at : ℕ) (d : PieceId) → at < length pieces
+    → old ++ lines_text program (conflict_lines program (drop at pieces)) ≡ end
+    → new ≡ old ++ lines_text program (map (Conflict (get_or pieces at d)) (filter (are_in_conflict program (get_or pieces at d)) (take (length pieces - at) (drop at pieces))))
+    → new ++ lines_text program (conflict_lines program (drop (at + 1) pieces)) ≡ end
+conflicts_added program old new end pieces at d within h e =
+    let next : at + 1 ≡ suc at = omega arith in
+    let p = get_or pieces at d in
+    let rest = drop (suc at) pieces in
+    let here : drop at pieces ≡ p ∷ rest = drop-cons pieces at d within in
+    let behind : take (length pieces - at) (drop at pieces) ≡ drop at pieces = take_all (length pieces - at) (drop at pieces) (omega (arith, length-drop at pieces)) in
+    let lines : List PieceId → List Line = λ ids. map (Conflict p) (filter (are_in_conflict program p) ids) in
+    ap (λ n. new ++ lines_text program (conflict_lines program (drop n pieces))) next
+    ∙ ap (λ t. t ++ lines_text program (conflict_lines program rest)) (e ∙ ap (λ ids. old ++ lines_text program (lines ids)) (behind ∙ here))
+    ∙ append_assoc old (lines_text program (lines (p ∷ rest))) (lines_text program (conflict_lines program rest))
+    ∙ ap (λ t. old ++ t) (sym (flat_map-append (line_text program) (lines (p ∷ rest)) (conflict_lines program rest)))
+    ∙ ap (λ ids. old ++ lines_text program (conflict_lines program ids)) (sym here)
+    ∙ h

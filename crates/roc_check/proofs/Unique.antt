@@ -1,9 +1,9 @@
 -- A program has one text of check.
 use Rattle.std.proofs.Common.{◌≡◌, ◌↔◌, ℕ, Bool, true, false, IsTrue, List, [], ◌∷◌, ◌++◌, map, refl, sym, ap}
 use Rattle.std.specs.List.{flat_map}
-use Rattle.roc_plan.specs.Program.{Workload}
-use Rattle.roc_plan.specs.Pieces.{pieces_of, all_pieces}
-use Rattle.roc_plan.specs.declared.static_conflict.PieceId.{PieceId}
+use Rattle.roc_program.specs.Program.{Workload}
+use Rattle.roc_program.specs.Pieces.{piece_ids, all_pieces}
+use Rattle.roc_program.specs.declared.piece_id.PieceId.{PieceId}
 use Rattle.roc_conflict.specs.Immediate.{IsImmediate}
 use Rattle.roc_report.specs.Line.{Line, Shards, Piece}
 use Rattle.roc_report.specs.Check.{procedures_of, standing_of, procedure_lines, conflict_lines, check_lines}
@@ -23,7 +23,7 @@ piece_lines program one other same (id ∷ ids) = rw (same id, piece_lines progr
 all_lines : (program : Workload) (one other : PieceId → Bool) → ((id : PieceId) → one id ≡ other id) → (procs : List ℕ)
     → flat_map (procedure_lines program one) procs ≡ flat_map (procedure_lines program other) procs
 all_lines program one other same [] = refl
-all_lines program one other same (proc ∷ procs) = rw (piece_lines program one other same (pieces_of program proc), all_lines program one other same procs) refl
+all_lines program one other same (proc ∷ procs) = rw (piece_lines program one other same (piece_ids program proc), all_lines program one other same procs) refl
 
 pub one_text : (program : Workload) (one other : PieceId → Bool)
     → ((id : PieceId) → IsTrue (one id) ↔ IsImmediate program id) → ((id : PieceId) → IsTrue (other id) ↔ IsImmediate program id)

@@ -1,7 +1,7 @@
 //! The law of the text of `check`. It is the contract of a function that does nothing.
 ghost use Rattle.std.specs.Prelude.{◌≡◌, ◌↔◌, Bool, IsTrue};
-ghost use Rattle.roc_plan.specs.Program.{Workload};
-ghost use Rattle.roc_plan.specs.declared.static_conflict.PieceId.{PieceId};
+ghost use Rattle.roc_program.specs.Program.{Workload};
+ghost use Rattle.roc_program.specs.declared.piece_id.PieceId.{PieceId};
 ghost use Rattle.roc_conflict.specs.Immediate.{IsImmediate};
 ghost use Rattle.roc_report.specs.Check.{check_lines};
 

@@ -1,148 +1,157 @@
 -- What the status says, where a fault was told
-use Rattle.std.proofs.Common.{◌≡◌, ◌⊎◌, inl, inr, ◌↔◌, ℕ, ◌==◌, Bool, true, false, List, length, Option, codes, refl, sym, ap, subst, ◌∙◌, arith, [], ◌∷◌, get_or}
-use Rattle.std.proofs.lemmas.List.{take_all}
+use Rattle.std.proofs.Common.{◌≡◌, ◌⊎◌, inl, inr, ◌↔◌, ℕ, ◌==◌, Bool, true, false, List, length, codes, refl, sym, ap, subst, ◌∙◌, arith, [], ◌∷◌, get_or, Ok}
 use Rattle.roc_io.specs.Cause.{HasCause}
-use Rattle.roc_io.specs.Told.{Adds, AddsFront}
-use Rattle.roc_plan.specs.Groups.{Plan}
-use Rattle.roc_replay.specs.Ended.{IsUnsent, IsFront, of_events}
+use Rattle.roc_replay.specs.Ended.{behind_lines}
 use Rattle.roc_replay.specs.Report.{report}
 use Rattle.roc_cli.specs.declared.fault.Fault.{Fault}
-use Rattle.roc_cli.specs.declared.fault.Fault.TheVariants.{Words, TooLong, At, Scope, Unfit, Memory, File, Sink}
-use Rattle.roc_cli.specs.Words.{IsReplay, IsPrint, IsCheck, AreReplayWords, ArePrintWords, AreCheckWords, AreCommandWords, NamesProgram, NamesWorkload}
+use Rattle.roc_cli.specs.declared.fault.Fault.TheVariants.{Words, Memory, File, Sink}
+use Rattle.roc_cli.specs.Call.{Call, Errors, TakesNothing, ReadsAll}
+use Rattle.roc_cli.specs.Words.{IsReplay, IsPrint, IsCheck, AreReplayWords, ArePrintWords, AreCheckWords, AreCommandWords}
 use Rattle.roc_cli.specs.Says.{Says, word_line, file_line}
-use Rattle.roc_cli.specs.Fault.{IsTold}
-use Rattle.roc_cli.specs.Replayed.{TakesFront, nothing, something, Replays, Explains, Prints, Checks}
+use Rattle.roc_cli.specs.Done.{Replays, Explains, Prints, Checks}
+use Rattle.roc_cli.specs.Stopped.{IsInput, the_workload, the_schedule, IsUnread, RunsOut, with_nothing, with_lines, CutsOutput, in_report, in_text, in_check}
 use Rattle.roc_cli.specs.Refused.{IsRefused, long_workload, no_text, out_of_scope, no_plan, long_schedule, no_schedule, not_sent}
-use Rattle.roc_cli.specs.Ends.{Fails, IsNamed, the_workload, the_schedule, file_failed, sink_failed}
+use Rattle.roc_cli.specs.Status.{Answers}
+use Rattle.roc_cli.specs.Inner.Fault.{IsTold, EndsWith, line_of, blames_file, blames_sink}
+use Rattle.roc_cli.specs.Inner.Ends.{Fails, Ends, Blames}
+use Rattle.roc_cli.proofs.Faults.{program_words, workload_words}
 
--- words that name a workload are those of a command
-program_words : (words : List (List ℕ)) (workload : List ℕ) → NamesProgram words workload → AreCommandWords words
-program_words words workload (inl (schedule, given)) = inl (workload, schedule, given)
-program_words words workload (inr given) = inr (inr (workload, given))
+-- ---- what a fault is of
 
-workload_words : (words : List (List ℕ)) (workload : List ℕ) → NamesWorkload words workload → AreCommandWords words
-workload_words words workload (inl names) = program_words words workload names
-workload_words words workload (inr given) = inr (inl (workload, given))
+module _ (call : Call) where
+  -- each fault of a command is of words that are a command's
+  refused_words : (line : List ℕ) → IsRefused call line → AreCommandWords call.words
+  refused_words _ (long_workload workload names more same) = workload_words call.words workload names
+  refused_words _ (no_text workload line what names held same) = workload_words call.words workload names
+  refused_words _ (out_of_scope workload fault names held same) = program_words call.words workload names
+  refused_words _ (no_plan workload schedule given held same) = inl (workload, schedule, given)
+  refused_words _ (long_schedule workload schedule plan given planned more same) = inl (workload, schedule, given)
+  refused_words _ (no_schedule plan bytes asked none same) = inl (asked.workload, asked.schedule, asked.given)
+  refused_words _ (not_sent plan bytes asked number h) = inl (asked.workload, asked.schedule, asked.given)
 
--- a file is refused only where the words name it
-pub refused_words : (content : List ℕ → Option (List ℕ)) (words : List (List ℕ)) (old new : Option (List ℕ)) (line : List ℕ)
-    → IsRefused content words old new line → AreCommandWords words
-refused_words content words old new _ (long_workload workload names more same) = workload_words words workload names
-refused_words content words old new _ (no_text workload line what names held same) = workload_words words workload names
-refused_words content words old new _ (out_of_scope workload fault names held same) = program_words words workload names
-refused_words content words old new _ (no_plan workload schedule given held same) = inl (workload, schedule, given)
-refused_words content words old new _ (long_schedule workload schedule plan given planned more same) = inl (workload, schedule, given)
-refused_words content words old new _ (no_schedule plan bytes read none same) = inl (read.workload, read.schedule, read.given)
-refused_words content words old new _ (not_sent plan bytes read number h) = inl (read.workload, read.schedule, read.given)
+  input_words : (name : List ℕ) → IsInput call name → AreCommandWords call.words
+  input_words name (the_workload names) = workload_words call.words name names
+  input_words name (the_schedule workload plan given planned) = inl (workload, name, given)
 
--- a file is named only by the words of a command
-pub named_words : (content : List ℕ → Option (List ℕ)) (words : List (List ℕ)) (name : List ℕ) → IsNamed content words name → AreCommandWords words
-named_words content words name (the_workload names) = workload_words words name names
-named_words content words name (the_schedule workload plan given planned) = inl (workload, name, given)
+  out_words : RunsOut call → AreCommandWords call.words
+  out_words (with_nothing are same) = are
+  out_words (with_lines plan bytes asked h) = inl (asked.workload, asked.schedule, asked.given)
 
--- a status that is another number
-pub other : (words : List (List ℕ)) (status n : ℕ) → status ≡ n → AreCommandWords words → (n ≡ 2 → ⊥) → (status ≡ 2) ↔ (AreCommandWords words → ⊥)
-other words status n e are differs = (λ f. absurd (differs (sym e ∙ f)), λ none. absurd (none are))
+  cut_words : CutsOutput call → AreCommandWords call.words
+  cut_words (in_report plan bytes asked h) = inl (asked.workload, asked.schedule, asked.given)
+  cut_words (in_text workload tree given held front) = inr (inl (workload, given))
+  cut_words (in_check workload program immediate given held are front) = inr (inr (workload, given))
 
--- status 2 is that of the words alone
-pub status_of_words : (content : List ℕ → Option (List ℕ)) (words : List (List ℕ)) (old new : Option (List ℕ)) (fault : Fault) (status : ℕ) (taken_old taken_new : Option (List ℕ)) (faults_old faults_new : ℕ)
-    → Fails content words old new fault → IsTold fault status taken_old taken_new faults_old faults_new
-    → (status ≡ 2) ↔ (AreCommandWords words → ⊥)
-status_of_words content words old new Words status to tn fo fn h (e, says) = (λ _. h.0, λ _. e)
-status_of_words content words old new (TooLong file) status to tn fo fn h (e, says) = other words status 3 e (refused_words content words old new _ h) (λ f. omega arith)
-status_of_words content words old new (At file line what) status to tn fo fn h (inl (e, says)) = other words status 3 e (refused_words content words old new _ h) (λ f. omega arith)
-status_of_words content words old new (At file line what) status to tn fo fn h (inr (e, says)) = other words status 4 e (refused_words content words old new _ h) (λ f. omega arith)
-status_of_words content words old new (Scope file line what) status to tn fo fn h (inl (e, says)) = other words status 3 e (refused_words content words old new _ h) (λ f. omega arith)
-status_of_words content words old new (Scope file line what) status to tn fo fn h (inr (e, says)) = other words status 4 e (refused_words content words old new _ h) (λ f. omega arith)
-status_of_words content words old new (Unfit file) status to tn fo fn h (inl (e, says)) = other words status 3 e (refused_words content words old new _ h) (λ f. omega arith)
-status_of_words content words old new (Unfit file) status to tn fo fn h (inr (e, says)) = other words status 4 e (refused_words content words old new _ h) (λ f. omega arith)
-status_of_words content words old new Memory status to tn fo fn h (e, says) = other words status 4 e h.0 (λ f. omega arith)
-status_of_words content words old new (File file) status to tn fo fn h (e, says) = other words status 6 e (named_words content words _ h.0) (λ f. omega arith)
-status_of_words content words old new Sink status to tn fo fn h (e, says) = other words status 7 e h.0 (λ f. omega arith)
+  -- where a file is refused, and there is no memory to say so, memory ran out
+  refused_out : (line : List ℕ) → IsRefused call line → RunsOut call
+  refused_out _ (long_workload workload names more same) = with_nothing (workload_words call.words workload names) same
+  refused_out _ (no_text workload line what names held same) = with_nothing (workload_words call.words workload names) same
+  refused_out _ (out_of_scope workload fault names held same) = with_nothing (program_words call.words workload names) same
+  refused_out _ (no_plan workload schedule given held same) = with_nothing (inl (workload, schedule, given)) same
+  refused_out _ (long_schedule workload schedule plan given planned more same) = with_nothing (inl (workload, schedule, given)) same
+  refused_out _ (no_schedule plan bytes asked none same) = with_nothing (inl (asked.workload, asked.schedule, asked.given)) same
+  refused_out _ (not_sent plan bytes asked number h) =
+      with_lines plan bytes asked (behind_lines h.before (h.line ∷ h.behind) h.steps h.world h.of_schedule h.played h.taken)
 
--- all that was taken is a front of it
-pub whole_front : (old new : Option (List ℕ)) (text : List ℕ) → Adds old new text → AddsFront old new text
-whole_front old new text h = (length text, subst (Adds old new) (sym (take_all (length text) text (omega arith))) h)
+-- ---- one fault, told
 
--- before a message that was not sent, standard output took a front of the report
-pub unsent_front : (plan : Plan) (bytes : List ℕ) (number : ℕ) (old new : Option (List ℕ)) → IsUnsent plan bytes number old new → IsFront plan bytes old new
-unsent_front plan bytes number old new h =
-    of_events h.before (h.line ∷ h.behind) h.steps h.world h.of_schedule h.played (whole_front old new _ h.taken)
+-- what a call failed by, with its status and the line on standard error: one rule for each status
+data IsFailure (call : Call) : (status : ℕ) → (line : List ℕ) → Type 0 where
+  no_words : (AreCommandWords call.words → ⊥) → TakesNothing call → ReadsAll call → IsFailure call 2 (word_line (codes "words"))
+  refused : (line : List ℕ) → IsRefused call line → ReadsAll call → IsFailure call 3 line
+  memory : RunsOut call → ReadsAll call → IsFailure call 4 (word_line (codes "memory"))
+  unread : (name : List ℕ) → IsUnread call name → IsFailure call 6 (file_line name)
+  cut : CutsOutput call → ReadsAll call → IsFailure call 7 (word_line (codes "sink"))
 
--- whatever is refused, standard output took a front of the report
-pub refused_front : (content : List ℕ → Option (List ℕ)) (words : List (List ℕ)) (old new : Option (List ℕ)) (line : List ℕ)
-    → IsRefused content words old new line → TakesFront content words old new
-refused_front content words old new _ (long_workload workload names more same) = nothing same
-refused_front content words old new _ (no_text workload line what names held same) = nothing same
-refused_front content words old new _ (out_of_scope workload fault names held same) = nothing same
-refused_front content words old new _ (no_plan workload schedule given held same) = nothing same
-refused_front content words old new _ (long_schedule workload schedule plan given planned more same) = nothing same
-refused_front content words old new _ (no_schedule plan bytes read none same) = nothing same
-refused_front content words old new _ (not_sent plan bytes read number h) = something plan bytes read (unsent_front plan bytes number old new h)
+-- a failure that was said
+record IsSaid (call : Call) (err : Errors) (status : ℕ) : Type 0 where
+  line : List ℕ
+  is : IsFailure call status line
+  says : Says err line
 
--- status 4: memory ran out, and standard output took a front of the report
-pub status_of_memory : (content : List ℕ → Option (List ℕ)) (words : List (List ℕ)) (old new : Option (List ℕ)) (fault : Fault) (status : ℕ) (taken_old taken_new : Option (List ℕ)) (faults_old faults_new : ℕ)
-    → Fails content words old new fault → IsTold fault status taken_old taken_new faults_old faults_new
-    → status ≡ 4 → TakesFront content words old new × Says taken_old taken_new faults_old faults_new (word_line (codes "memory"))
-status_of_memory content words old new Words status to tn fo fn h (e, says) f = absurd (omega arith)
-status_of_memory content words old new (TooLong file) status to tn fo fn h (e, says) f = absurd (omega arith)
-status_of_memory content words old new (At file line what) status to tn fo fn h (inl (e, says)) f = absurd (omega arith)
-status_of_memory content words old new (At file line what) status to tn fo fn h (inr (e, says)) f = (refused_front content words old new _ h, says)
-status_of_memory content words old new (Scope file line what) status to tn fo fn h (inl (e, says)) f = absurd (omega arith)
-status_of_memory content words old new (Scope file line what) status to tn fo fn h (inr (e, says)) f = (refused_front content words old new _ h, says)
-status_of_memory content words old new (Unfit file) status to tn fo fn h (inl (e, says)) f = absurd (omega arith)
-status_of_memory content words old new (Unfit file) status to tn fo fn h (inr (e, says)) f = (refused_front content words old new _ h, says)
-status_of_memory content words old new Memory status to tn fo fn h (e, says) f = (h.1, says)
-status_of_memory content words old new (File file) status to tn fo fn h (e, says) f = absurd (omega arith)
-status_of_memory content words old new Sink status to tn fo fn h (e, says) f = absurd (omega arith)
+module _ (call : Call) (err : Errors) where
+  ended : (status n : ℕ) (line : List ℕ) → status ≡ n → Says err line → IsFailure call n line → IsSaid call err status
+  ended status n line e says is = record { line = line; is = subst (λ (m : ℕ). IsFailure call m line) (sym e) is; says = says }
 
--- status 7: standard output failed, and took a front of the report
-pub status_of_sink : (content : List ℕ → Option (List ℕ)) (words : List (List ℕ)) (old new : Option (List ℕ)) (fault : Fault) (status : ℕ) (taken_old taken_new : Option (List ℕ)) (faults_old faults_new : ℕ)
-    → Fails content words old new fault → IsTold fault status taken_old taken_new faults_old faults_new
-    → status ≡ 7 → TakesFront content words old new × Says taken_old taken_new faults_old faults_new (word_line (codes "sink"))
-status_of_sink content words old new Words status to tn fo fn h (e, says) f = absurd (omega arith)
-status_of_sink content words old new (TooLong file) status to tn fo fn h (e, says) f = absurd (omega arith)
-status_of_sink content words old new (At file line what) status to tn fo fn h (inl (e, says)) f = absurd (omega arith)
-status_of_sink content words old new (At file line what) status to tn fo fn h (inr (e, says)) f = absurd (omega arith)
-status_of_sink content words old new (Scope file line what) status to tn fo fn h (inl (e, says)) f = absurd (omega arith)
-status_of_sink content words old new (Scope file line what) status to tn fo fn h (inr (e, says)) f = absurd (omega arith)
-status_of_sink content words old new (Unfit file) status to tn fo fn h (inl (e, says)) f = absurd (omega arith)
-status_of_sink content words old new (Unfit file) status to tn fo fn h (inr (e, says)) f = absurd (omega arith)
-status_of_sink content words old new Memory status to tn fo fn h (e, says) f = absurd (omega arith)
-status_of_sink content words old new (File file) status to tn fo fn h (e, says) f = absurd (omega arith)
-status_of_sink content words old new Sink status to tn fo fn h (e, says) f = (h.1, says)
+  -- a refused file, told, if only as want of memory
+  said_refused : (status : ℕ) (line : List ℕ) → IsRefused call line → ReadsAll call → EndsWith 3 line status err ⊎ EndsWith 4 (line_of Memory) status err → IsSaid call err status
+  said_refused status line h read (inl (e, says)) = ended status 3 line e says (refused line h read)
+  said_refused status line h read (inr (e, says)) = ended status 4 (line_of Memory) e says (memory (refused_out call line h) read)
 
--- the count of a fault rises exactly where the status is its own
-pub counted_at : (status n wanted : ℕ) (test : Bool) (old new : ℕ) → status ≡ n → (n == wanted) ≡ test → HasCause test old new → HasCause (status == wanted) old new
-counted_at status n wanted test old new e f h = subst (λ b. HasCause b old new) (sym (ap (λ m. m == wanted) e ∙ f)) h
+  -- each fault, told
+  said : (fault : Fault) (status : ℕ) → Fails call fault → Blames call.failed_before call.failed_after fault → IsTold fault status err → IsSaid call err status
+  said Words status (none, same) read (e, says) = ended status 2 (line_of Words) e says (no_words none same read)
+  said Memory status h read (e, says) = ended status 4 (line_of Memory) e says (memory h read)
+  said (File file) status h only (e, says) = ended status 6 (line_of (File file)) e says (unread file.now h)
+  said Sink status h read (e, says) = ended status 7 (line_of Sink) e says (cut h read)
+  said fault status h read told = said_refused status (line_of fault) h read told
 
-pub file_counted : (fault : Fault) (status : ℕ) (taken_old taken_new : Option (List ℕ)) (faults_old faults_new : ℕ) (old new : ℕ)
-    → IsTold fault status taken_old taken_new faults_old faults_new → HasCause (file_failed fault) old new → HasCause (status == 6) old new
-file_counted Words status to tn fo fn old new (e, says) h = counted_at status 2 6 false old new e refl h
-file_counted (TooLong file) status to tn fo fn old new (e, says) h = counted_at status 3 6 false old new e refl h
-file_counted (At file line what) status to tn fo fn old new (inl (e, says)) h = counted_at status 3 6 false old new e refl h
-file_counted (At file line what) status to tn fo fn old new (inr (e, says)) h = counted_at status 4 6 false old new e refl h
-file_counted (Scope file line what) status to tn fo fn old new (inl (e, says)) h = counted_at status 3 6 false old new e refl h
-file_counted (Scope file line what) status to tn fo fn old new (inr (e, says)) h = counted_at status 4 6 false old new e refl h
-file_counted (Unfit file) status to tn fo fn old new (inl (e, says)) h = counted_at status 3 6 false old new e refl h
-file_counted (Unfit file) status to tn fo fn old new (inr (e, says)) h = counted_at status 4 6 false old new e refl h
-file_counted Memory status to tn fo fn old new (e, says) h = counted_at status 4 6 false old new e refl h
-file_counted (File file) status to tn fo fn old new (e, says) h = counted_at status 6 6 true old new e refl h
-file_counted Sink status to tn fo fn old new (e, says) h = counted_at status 7 6 false old new e refl h
+  -- ---- what each status says of a failure
 
-pub sink_counted : (fault : Fault) (status : ℕ) (taken_old taken_new : Option (List ℕ)) (faults_old faults_new : ℕ) (old new : ℕ)
-    → IsTold fault status taken_old taken_new faults_old faults_new → HasCause (sink_failed fault) old new → HasCause (status == 7) old new
-sink_counted Words status to tn fo fn old new (e, says) h = counted_at status 2 7 false old new e refl h
-sink_counted (TooLong file) status to tn fo fn old new (e, says) h = counted_at status 3 7 false old new e refl h
-sink_counted (At file line what) status to tn fo fn old new (inl (e, says)) h = counted_at status 3 7 false old new e refl h
-sink_counted (At file line what) status to tn fo fn old new (inr (e, says)) h = counted_at status 4 7 false old new e refl h
-sink_counted (Scope file line what) status to tn fo fn old new (inl (e, says)) h = counted_at status 3 7 false old new e refl h
-sink_counted (Scope file line what) status to tn fo fn old new (inr (e, says)) h = counted_at status 4 7 false old new e refl h
-sink_counted (Unfit file) status to tn fo fn old new (inl (e, says)) h = counted_at status 3 7 false old new e refl h
-sink_counted (Unfit file) status to tn fo fn old new (inr (e, says)) h = counted_at status 4 7 false old new e refl h
-sink_counted Memory status to tn fo fn old new (e, says) h = counted_at status 4 7 false old new e refl h
-sink_counted (File file) status to tn fo fn old new (e, says) h = counted_at status 6 7 false old new e refl h
-sink_counted Sink status to tn fo fn old new (e, says) h = counted_at status 7 7 true old new e refl h
+  known : (status : ℕ) (line : List ℕ) → IsFailure call status line → (status ≡ 0) ⊎ ((status ≡ 2) ⊎ ((status ≡ 3) ⊎ ((status ≡ 4) ⊎ ((status ≡ 6) ⊎ (status ≡ 7)))))
+  known _ _ (no_words none same read) = inr (inl refl)
+  known _ _ (refused line h read) = inr (inr (inl refl))
+  known _ _ (memory h read) = inr (inr (inr (inl refl)))
+  known _ _ (unread name h) = inr (inr (inr (inr (inl refl))))
+  known _ _ (cut h read) = inr (inr (inr (inr (inr refl))))
+
+  of_words : (status : ℕ) (line : List ℕ) → IsFailure call status line → (status ≡ 2) ↔ (AreCommandWords call.words → ⊥)
+  of_words _ _ (no_words none same read) = (λ _. none, λ _. refl)
+  of_words _ _ (refused line h read) = (λ e. absurd (omega arith), λ none. absurd (none (refused_words call line h)))
+  of_words _ _ (memory h read) = (λ e. absurd (omega arith), λ none. absurd (none (out_words call h)))
+  of_words _ _ (unread name h) = (λ e. absurd (omega arith), λ none. absurd (none (input_words call name h.input)))
+  of_words _ _ (cut h read) = (λ e. absurd (omega arith), λ none. absurd (none (cut_words call h)))
+
+  not_done : (A : Type 0) (status : ℕ) (line : List ℕ) → IsFailure call status line → status ≡ 0 → A
+  not_done A _ _ (no_words none same read) e = absurd (omega arith)
+  not_done A _ _ _ e = absurd (omega arith)
+
+  at_words : (status : ℕ) (line : List ℕ) → IsFailure call status line → Says err line → status ≡ 2 → TakesNothing call × Says err (word_line (codes "words"))
+  at_words _ _ (no_words none same read) says e = (same, says)
+  at_words _ _ _ says e = absurd (omega arith)
+
+  at_refused : (status : ℕ) (line : List ℕ) → IsFailure call status line → Says err line → status ≡ 3 → (said : List ℕ) × IsRefused call said × Says err said
+  at_refused _ _ (refused line h read) says e = (line, h, says)
+  at_refused _ _ _ says e = absurd (omega arith)
+
+  at_memory : (status : ℕ) (line : List ℕ) → IsFailure call status line → Says err line → status ≡ 4 → RunsOut call × Says err (word_line (codes "memory"))
+  at_memory _ _ (memory h read) says e = (h, says)
+  at_memory _ _ _ says e = absurd (omega arith)
+
+  at_unread : (status : ℕ) (line : List ℕ) → IsFailure call status line → Says err line → status ≡ 6 → (name : List ℕ) × IsUnread call name × Says err (file_line name)
+  at_unread _ _ (unread name h) says e = (name, h, says)
+  at_unread _ _ _ says e = absurd (omega arith)
+
+  at_cut : (status : ℕ) (line : List ℕ) → IsFailure call status line → Says err line → status ≡ 7 → CutsOutput call × Says err (word_line (codes "sink"))
+  at_cut _ _ (cut h read) says e = (h, says)
+  at_cut _ _ _ says e = absurd (omega arith)
+
+  at_others : (status : ℕ) (line : List ℕ) → IsFailure call status line → (status ≡ 6 → ⊥) → ReadsAll call
+  at_others _ _ (no_words none same read) other = read
+  at_others _ _ (refused line h read) other = read
+  at_others _ _ (memory h read) other = read
+  at_others _ _ (unread name h) other = absurd (other refl)
+  at_others _ _ (cut h read) other = read
+
+  pub fault_answers : (fault : Fault) (status : ℕ) → Fails call fault → Blames call.failed_before call.failed_after fault → IsTold fault status err → Answers call err status
+  fault_answers fault status fails blames told =
+      let h : IsSaid call err status = said fault status fails blames told in
+      record {
+        statuses = known status h.line h.is;
+        replayed = not_done (AreReplayWords call.words → Replays call) status h.line h.is;
+        explained = not_done (AreReplayWords call.words → Explains call) status h.line h.is;
+        printed = not_done (ArePrintWords call.words → Prints call) status h.line h.is;
+        checked = not_done (AreCheckWords call.words → Checks call) status h.line h.is;
+        words = of_words status h.line h.is;
+        no_words = at_words status h.line h.is h.says;
+        refused = at_refused status h.line h.is h.says;
+        memory = at_memory status h.line h.is h.says;
+        unread = at_unread status h.line h.is h.says;
+        read = at_others status h.line h.is;
+        cut = at_cut status h.line h.is h.says;
+      }
+
+-- ---- what was done
 
 -- the words of one command are not those of another
 longer : (words : List (List ℕ)) (A : Type 0) (workload schedule name word : List ℕ) → IsReplay words workload schedule → words ≡ word ∷ name ∷ [] → A
@@ -163,46 +172,71 @@ unlike words A name checked e f =
     let h : third_letter words ≡ 101 = ap third_letter f in
     absurd (omega arith)
 
--- what ended well
-abbrev pub Done : (List ℕ → Option (List ℕ)) → List (List ℕ) → (old new : Option (List ℕ)) → Type 0
-Done content words old new = Replays content words old new ⊎ (Prints content words old new ⊎ Checks content words old new)
+-- of the commands, the one that the words ask for was done
+module _ (call : Call) where
+  done_words : Ends call (Ok tt) → AreCommandWords call.words
+  done_words (inl done) = inl (done.asked.workload, done.asked.schedule, done.asked.given)
+  done_words (inr (inl done)) = inr (inl (done.workload, done.given))
+  done_words (inr (inr done)) = inr (inr (done.workload, done.given))
 
--- of the commands, the one that the words ask for ended well
-pub replay_done : (content : List ℕ → Option (List ℕ)) (words : List (List ℕ)) (old new : Option (List ℕ)) → Done content words old new
-    → AreReplayWords words → Replays content words old new
-replay_done content words old new (inl done) are = done
-replay_done content words old new (inr (inl done)) (workload, schedule, given) = longer words (Replays content words old new) workload schedule done.workload (codes "print") given done.given
-replay_done content words old new (inr (inr done)) (workload, schedule, given) = longer words (Replays content words old new) workload schedule done.workload (codes "check") given done.given
+  replay_done : Ends call (Ok tt) → AreReplayWords call.words → Replays call
+  replay_done (inl done) are = done
+  replay_done (inr (inl done)) (workload, schedule, given) = longer call.words (Replays call) workload schedule done.workload (codes "print") given done.given
+  replay_done (inr (inr done)) (workload, schedule, given) = longer call.words (Replays call) workload schedule done.workload (codes "check") given done.given
 
-pub print_done : (content : List ℕ → Option (List ℕ)) (words : List (List ℕ)) (old new : Option (List ℕ)) → Done content words old new
-    → ArePrintWords words → Prints content words old new
-print_done content words old new (inl done) (workload, given) = longer words (Prints content words old new) done.read.workload done.read.schedule workload (codes "print") done.read.given given
-print_done content words old new (inr (inl done)) are = done
-print_done content words old new (inr (inr done)) (workload, given) = unlike words (Prints content words old new) workload done.workload given done.given
+  print_done : Ends call (Ok tt) → ArePrintWords call.words → Prints call
+  print_done (inl done) (workload, given) = longer call.words (Prints call) done.asked.workload done.asked.schedule workload (codes "print") done.asked.given given
+  print_done (inr (inl done)) are = done
+  print_done (inr (inr done)) (workload, given) = unlike call.words (Prints call) workload done.workload given done.given
 
-pub check_done : (content : List ℕ → Option (List ℕ)) (words : List (List ℕ)) (old new : Option (List ℕ)) → Done content words old new
-    → AreCheckWords words → Checks content words old new
-check_done content words old new (inl done) (workload, given) = longer words (Checks content words old new) done.read.workload done.read.schedule workload (codes "check") done.read.given given
-check_done content words old new (inr (inl done)) (workload, given) = unlike words (Checks content words old new) done.workload workload done.given given
-check_done content words old new (inr (inr done)) are = done
+  check_done : Ends call (Ok tt) → AreCheckWords call.words → Checks call
+  check_done (inl done) (workload, given) = longer call.words (Checks call) done.asked.workload done.asked.schedule workload (codes "check") done.asked.given given
+  check_done (inr (inl done)) (workload, given) = unlike call.words (Checks call) done.workload workload done.given given
+  check_done (inr (inr done)) are = done
 
--- what was replayed explains itself
-pub replay_explains : (content : List ℕ → Option (List ℕ)) (words : List (List ℕ)) (old new : Option (List ℕ)) → Replays content words old new → Explains content words old new
-replay_explains content words old new done =
-    record { plan = done.plan; bytes = done.bytes; read = done.read; lines = report done.replayed.steps done.replayed.world; taken = done.replayed.taken; explained = done.replayed.explained }
+  -- what was replayed explains itself
+  replay_explains : Replays call → Explains call
+  replay_explains done =
+      record { plan = done.plan; bytes = done.bytes; asked = done.asked; lines = report done.replayed.steps done.replayed.world; taken = done.replayed.taken; explained = done.replayed.explained }
 
--- status 6: a file that the words name could not be read
-pub status_of_file : (content : List ℕ → Option (List ℕ)) (words : List (List ℕ)) (old new : Option (List ℕ)) (fault : Fault) (status : ℕ) (taken_old taken_new : Option (List ℕ)) (faults_old faults_new : ℕ)
-    → Fails content words old new fault → IsTold fault status taken_old taken_new faults_old faults_new
-    → status ≡ 6 → (new ≡ old) × ((name : List ℕ) × IsNamed content words name × Says taken_old taken_new faults_old faults_new (file_line name))
-status_of_file content words old new Words status to tn fo fn h (e, says) f = absurd (omega arith)
-status_of_file content words old new (TooLong file) status to tn fo fn h (e, says) f = absurd (omega arith)
-status_of_file content words old new (At file line what) status to tn fo fn h (inl (e, says)) f = absurd (omega arith)
-status_of_file content words old new (At file line what) status to tn fo fn h (inr (e, says)) f = absurd (omega arith)
-status_of_file content words old new (Scope file line what) status to tn fo fn h (inl (e, says)) f = absurd (omega arith)
-status_of_file content words old new (Scope file line what) status to tn fo fn h (inr (e, says)) f = absurd (omega arith)
-status_of_file content words old new (Unfit file) status to tn fo fn h (inl (e, says)) f = absurd (omega arith)
-status_of_file content words old new (Unfit file) status to tn fo fn h (inr (e, says)) f = absurd (omega arith)
-status_of_file content words old new Memory status to tn fo fn h (e, says) f = absurd (omega arith)
-status_of_file content words old new (File file) status to tn fo fn h (e, says) f = (h.1, (file.now, h.0, says))
-status_of_file content words old new Sink status to tn fo fn h (e, says) f = absurd (omega arith)
+  pub done_answers : (err : Errors) → Ends call (Ok tt) → ReadsAll call → Answers call err 0
+  done_answers err done read = record {
+    statuses = inl refl;
+    replayed = λ _ are. replay_done done are;
+    explained = λ _ are. replay_explains (replay_done done are);
+    printed = λ _ are. print_done done are;
+    checked = λ _ are. check_done done are;
+    words = (λ e. absurd (omega arith), λ none. absurd (none (done_words done)));
+    no_words = λ e. absurd (omega arith);
+    refused = λ e. absurd (omega arith);
+    memory = λ e. absurd (omega arith);
+    unread = λ e. absurd (omega arith);
+    read = λ _. read;
+    cut = λ e. absurd (omega arith);
+  }
+
+-- ---- counts
+
+-- a count rises exactly where the status is its own
+counted_at : (status n wanted : ℕ) (test : Bool) (old new : ℕ) → status ≡ n → (n == wanted) ≡ test → HasCause test old new → HasCause (status == wanted) old new
+counted_at status n wanted test old new e f h = subst (λ b. HasCause b old new) (sym (ap (λ m. m == wanted) e ∙ f)) h
+
+-- where a refused file was told, neither
+refusal_counted : (line : List ℕ) (status wanted : ℕ) (err : Errors) (old new : ℕ) → (3 == wanted) ≡ false → (4 == wanted) ≡ false
+    → EndsWith 3 line status err ⊎ EndsWith 4 (line_of Memory) status err → HasCause false old new → HasCause (status == wanted) old new
+refusal_counted line status wanted err old new f g (inl (e, says)) h = counted_at status 3 wanted false old new e f h
+refusal_counted line status wanted err old new f g (inr (e, says)) h = counted_at status 4 wanted false old new e g h
+
+pub file_counted : (fault : Fault) (status : ℕ) (err : Errors) (old new : ℕ) → IsTold fault status err → HasCause (blames_file fault) old new → HasCause (status == 6) old new
+file_counted Words status err old new (e, says) h = counted_at status 2 6 false old new e refl h
+file_counted Memory status err old new (e, says) h = counted_at status 4 6 false old new e refl h
+file_counted (File file) status err old new (e, says) h = counted_at status 6 6 true old new e refl h
+file_counted Sink status err old new (e, says) h = counted_at status 7 6 false old new e refl h
+file_counted fault status err old new told h = refusal_counted (line_of fault) status 6 err old new refl refl told h
+
+pub sink_counted : (fault : Fault) (status : ℕ) (err : Errors) (old new : ℕ) → IsTold fault status err → HasCause (blames_sink fault) old new → HasCause (status == 7) old new
+sink_counted Words status err old new (e, says) h = counted_at status 2 7 false old new e refl h
+sink_counted Memory status err old new (e, says) h = counted_at status 4 7 false old new e refl h
+sink_counted (File file) status err old new (e, says) h = counted_at status 6 7 false old new e refl h
+sink_counted Sink status err old new (e, says) h = counted_at status 7 7 true old new e refl h
+sink_counted fault status err old new told h = refusal_counted (line_of fault) status 7 err old new refl refl told h

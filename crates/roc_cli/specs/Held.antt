@@ -1,15 +1,15 @@
 -- What a named file holds, as far as that is told: docs/FORMATS.md, "The program"
 use Rattle.std.specs.Prelude.{◌≡◌, ℕ, ◌<◌, ◌≤◌, List, [], length, Option, Some, IfSome}
-use Rattle.roc_lang.specs.Syntax.{Text}
+use Rattle.roc_lang.specs.Syntax.{Tree}
 use Rattle.roc_lang.specs.Grammar.{text_limit}
 use Rattle.roc_lang.specs.Scope.{Fault, faults}
 use Rattle.roc_lang.specs.declared.fault.What.{What}
 use Rattle.roc_scope.specs.Fault.{first}
 use Rattle.roc_parse.specs.Fault.{IsWorkloadText, IsFirstFault}
-use Rattle.roc_plan.specs.Program.{Workload}
+use Rattle.roc_program.specs.Program.{Workload}
 use Rattle.roc_plan.specs.Groups.{Plan}
-use Rattle.roc_plan.specs.Resolve.{resolved}
-use Rattle.roc_plan.specs.WellFormed.{IsThin, IsThinShaped}
+use Rattle.roc_program.specs.Resolve.{resolved}
+use Rattle.roc_plan.specs.Within.{IsWithin, IsThinShaped}
 
 -- these are the bytes that the name holds, where they are told
 abbrev pub Holds : (List ℕ → Option (List ℕ)) → List ℕ → List ℕ → Type 0
@@ -20,10 +20,10 @@ abbrev pub HoldsMore : (List ℕ → Option (List ℕ)) → List ℕ → ℕ →
 HoldsMore content name most = IfSome (content name) (λ held. most < length held)
 
 -- the name holds a workload text of this tree, in scope or not
-pub record HoldsText (content : List ℕ → Option (List ℕ)) (name : List ℕ) (text : Text) : Type 0 where
+pub record HoldsText (content : List ℕ → Option (List ℕ)) (name : List ℕ) (tree : Tree) : Type 0 where
   pub bytes : List ℕ
   pub held : Holds content name bytes
-  pub is : IsWorkloadText bytes text
+  pub is : IsWorkloadText bytes tree
 
 -- the name holds bytes with this first fault of grammar, and not too many
 pub record HoldsFault (content : List ℕ → Option (List ℕ)) (name : List ℕ) (line : ℕ) (what : What) : Type 0 where
@@ -34,23 +34,23 @@ pub record HoldsFault (content : List ℕ → Option (List ℕ)) (name : List �
 
 -- the name holds a workload text whose first fault of scope is this one
 pub record HoldsMisuse (content : List ℕ → Option (List ℕ)) (name : List ℕ) (fault : Fault) : Type 0 where
-  pub text : Text
-  pub of : HoldsText content name text
-  pub is : first (faults text) ≡ Some fault
+  pub tree : Tree
+  pub of : HoldsText content name tree
+  pub is : first (faults tree) ≡ Some fault
 
 -- the name holds a workload text in scope, of this program
 pub record HoldsProgram (content : List ℕ → Option (List ℕ)) (name : List ℕ) (program : Workload) : Type 0 where
-  pub text : Text
-  pub of : HoldsText content name text
-  pub in_scope : faults text ≡ []
-  pub is : program ≡ resolved text
+  pub tree : Tree
+  pub of : HoldsText content name tree
+  pub in_scope : faults tree ≡ []
+  pub is : program ≡ resolved tree
 
--- the name holds a program that has this plan
+-- the name holds a program that has this plan, which the protocol reaches
 pub record HoldsPlan (content : List ℕ → Option (List ℕ)) (name : List ℕ) (plan : Plan) : Type 0 where
   pub program : HoldsProgram content name plan.program
-  pub groups : IsThin plan
+  pub within : IsWithin plan
 
--- the name holds a program that has no plan
+-- the name holds a program that has no such plan
 pub record HoldsUnfit (content : List ℕ → Option (List ℕ)) (name : List ℕ) : Type 0 where
   pub program : Workload
   pub of : HoldsProgram content name program

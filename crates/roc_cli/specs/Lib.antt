@@ -1,8 +1,9 @@
+pub mod Call
 pub mod Words
 pub mod Held
 pub mod Says
-pub mod Fault
-pub mod Replayed
+pub mod Done
 pub mod Refused
-pub mod Ends
-pub mod Input
+pub mod Stopped
+pub mod Status
+pub mod Inner

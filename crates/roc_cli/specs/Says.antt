@@ -1,9 +1,10 @@
 -- The one line on standard error: docs/FORMATS.md, "The program"
-use Rattle.std.specs.Prelude.{ℕ, List, [], ◌∷◌, ◌++◌, Option, codes}
+use Rattle.std.specs.Prelude.{ℕ, List, [], ◌∷◌, ◌++◌, codes}
 use Rattle.std.specs.Fmt.{decimal}
 use Rattle.roc_io.specs.declared.sink.Written.{Written}
 use Rattle.roc_io.specs.Cause.{HasCause}
 use Rattle.roc_io.specs.Sink.{write_failed, Takes}
+use Rattle.roc_cli.specs.Call.{Errors}
 
 -- `words`, `memory` or `sink`
 abbrev pub word_line : List ℕ → List ℕ
@@ -22,7 +23,7 @@ abbrev pub fault_line : List ℕ → ℕ → List ℕ → List ℕ
 fault_line file number what = file ++ codes ":" ++ decimal number ++ codes ": " ++ what ++ 10 ∷ []
 
 -- standard error takes this line, or a front of it at a fault of its own, which is counted
-pub record Says (taken_old taken_new : Option (List ℕ)) (faults_old faults_new : ℕ) (line : List ℕ) : Type 0 where
+pub record Says (err : Errors) (line : List ℕ) : Type 0 where
   pub answer : Written
-  pub takes : Takes answer taken_old taken_new line
-  pub cause : HasCause (write_failed answer) faults_old faults_new
+  pub takes : Takes answer err.before err.after line
+  pub cause : HasCause (write_failed answer) err.faults_before err.faults_after

@@ -1,18 +1,19 @@
 //! What the program does for its words.
-ghost use Rattle.std.specs.Prelude.{◌≡◌, ◌↔◌, ◌⊎◌, ℕ, ◌==◌, List, map, string_bytes, codes};
+ghost use Rattle.std.specs.Prelude.{◌≡◌, ℕ, ◌==◌, List, map, string_bytes};
 ghost use Rattle.roc_io.specs.Cause.{HasCause};
-ghost use Rattle.roc_cli.specs.Words.{IsReplay, IsPrint, IsCheck, AreReplayWords, ArePrintWords, AreCheckWords, AreCommandWords};
-ghost use Rattle.roc_cli.specs.Says.{Says, word_line, file_line};
-ghost use Rattle.roc_cli.specs.Replayed.{Replays, Explains, Prints, Checks, TakesFront};
-ghost use Rattle.roc_cli.specs.Refused.{IsRefused};
-ghost use Rattle.roc_cli.specs.Ends.{Ends, ReplayEnds, IsNamed, fails_by, file_failed, sink_failed};
+ghost use Rattle.roc_plan.specs.Within.{IsWithin};
+ghost use Rattle.roc_cli.specs.Words.{IsReplay, IsPrint, IsCheck};
+ghost use Rattle.roc_cli.specs.Status.{Answers};
+ghost use Rattle.roc_cli.specs.Inner.Fault.{blames_file, blames_sink};
+ghost use Rattle.roc_cli.specs.Inner.Ends.{Ends, ReplayEnds, ReadsBut, fails_by};
 
 use crate::check::check_workload;
 use crate::fault::Fault;
-use crate::input::{MOST_WORKLOAD_BYTES, bytes_of, plan_of, workload_of};
+use crate::input::{bytes_of, plan_of, workload_of};
 use crate::text::print_text;
 use crate::words::{check_name, print_name, replay_names};
 use roc_io::{Files, Link, Sink, Spawner};
+use roc_lang::limits::TEXT_BYTES;
 use roc_plan::Plan;
 use roc_replay::{Ended, replay};
 use std::alloc::Global;
@@ -36,34 +37,21 @@ pub fn run<F: Files, S: Sink, E: Sink, L: Link, P: Spawner>(
     link: &mut L,
     children: &mut P,
 ) -> u8
-    ensures statuses { (result ≡ 0) ⊎ ((result ≡ 2) ⊎ ((result ≡ 3) ⊎ ((result ≡ 4) ⊎ ((result ≡ 6) ⊎ (result ≡ 7))))) }
-
-    // 0: the schedule was replayed, and its report was written. The report explains itself: every reply that it shows is the
-    // one that the serial order which it shows gives, in real-time order.
-    ensures replayed { result ≡ 0 → AreReplayWords (map string_bytes words.now) → Replays (F.content files.old) (map string_bytes words.now) (S.taken out.old) (S.taken out.new) }
-    ensures explained { result ≡ 0 → AreReplayWords (map string_bytes words.now) → Explains (F.content files.old) (map string_bytes words.now) (S.taken out.old) (S.taken out.new) }
-    // ..or the workload's canonical text was written, or the text of its check.
-    ensures printed { result ≡ 0 → ArePrintWords (map string_bytes words.now) → Prints (F.content files.old) (map string_bytes words.now) (S.taken out.old) (S.taken out.new) }
-    ensures checked { result ≡ 0 → AreCheckWords (map string_bytes words.now) → Checks (F.content files.old) (map string_bytes words.now) (S.taken out.old) (S.taken out.new) }
+    // What each status says of the words, of what the named files hold, and of what standard output and standard error took.
+    ensures answers { Answers
+        (record {
+          words = map string_bytes words.now;
+          content = F.content files.old;
+          failed_before = F.failed_names files.old;
+          failed_after = F.failed_names files.new;
+          out_before = S.taken out.old;
+          out_after = S.taken out.new;
+        })
+        (record { before = E.taken err.old; after = E.taken err.new; faults_before = E.faults err.old; faults_after = E.faults err.new })
+        result }
     ensures silent { result ≡ 0 → err.new ≡ err.old }
 
-    // 2: exactly where the words are not those of a command.
-    ensures words { (result ≡ 2) ↔ (AreCommandWords (map string_bytes words.now) → ⊥) }
-    ensures no_words { result ≡ 2 → (S.taken out.new ≡ S.taken out.old) × Says (E.taken err.old) (E.taken err.new) (E.faults err.old) (E.faults err.new) (word_line (codes "words")) }
-
-    // 3: a file is too long, no text of its grammar, out of scope, or does not fit the plan or the run.
-    ensures refused { result ≡ 3 → (line : List ℕ) × IsRefused (F.content files.old) (map string_bytes words.now) (S.taken out.old) (S.taken out.new) line
-        × Says (E.taken err.old) (E.taken err.new) (E.faults err.old) (E.faults err.new) line }
-
-    // 4: no memory.
-    ensures memory { result ≡ 4 → TakesFront (F.content files.old) (map string_bytes words.now) (S.taken out.old) (S.taken out.new)
-        × Says (E.taken err.old) (E.taken err.new) (E.faults err.old) (E.faults err.new) (word_line (codes "memory")) }
-
-    // 6: a file could not be read. 7: the report or the text could not be written. Each count of faults rises exactly there.
-    ensures file { result ≡ 6 → (S.taken out.new ≡ S.taken out.old) × ((name : List ℕ) × IsNamed (F.content files.old) (map string_bytes words.now) name
-        × Says (E.taken err.old) (E.taken err.new) (E.faults err.old) (E.faults err.new) (file_line name)) }
-    ensures sink { result ≡ 7 → TakesFront (F.content files.old) (map string_bytes words.now) (S.taken out.old) (S.taken out.new)
-        × Says (E.taken err.old) (E.taken err.new) (E.faults err.old) (E.faults err.new) (word_line (codes "sink")) }
+    // A count of faults rises exactly at the status that blames it.
     ensures file_faults { HasCause (result == 6) (F.faults files.old) (F.faults files.new) }
     ensures sink_faults { HasCause (result == 7) (S.faults out.old) (S.faults out.new) }
 
@@ -83,9 +71,10 @@ fn perform<'a, F: Files, S: Sink>(
     files: &mut F,
     out: &mut S,
 ) -> Result<(), Fault<'a>>
-    ensures ends { Ends (F.content files.old) (map string_bytes words.entry.now) (S.taken out.old) (S.taken out.new) result }
-    ensures file_faults { HasCause (fails_by file_failed result) (F.faults files.old) (F.faults files.new) }
-    ensures sink_faults { HasCause (fails_by sink_failed result) (S.faults out.old) (S.faults out.new) }
+    ensures ends { Ends (record { words = map string_bytes words.entry.now; content = F.content files.old; failed_before = F.failed_names files.old; failed_after = F.failed_names files.new; out_before = S.taken out.old; out_after = S.taken out.new }) result }
+    ensures failed { ReadsBut (F.failed_names files.old) (F.failed_names files.new) result }
+    ensures file_faults { HasCause (fails_by blames_file result) (F.faults files.old) (F.faults files.new) }
+    ensures sink_faults { HasCause (fails_by blames_sink result) (S.faults out.old) (S.faults out.new) }
     ensures content { (name : List ℕ) → F.content files.new name ≡ F.content files.old name }
 {
     match replay_names(words) {
@@ -108,9 +97,10 @@ fn replay_files<'a, F: Files, S: Sink>(
     files: &mut F,
     out: &mut S,
 ) -> Result<(), Fault<'a>>
-    ensures ends { (words : List (List ℕ)) → IsReplay words workload.entry.now schedule.entry.now → Ends (F.content files.old) words (S.taken out.old) (S.taken out.new) result }
-    ensures file_faults { HasCause (fails_by file_failed result) (F.faults files.old) (F.faults files.new) }
-    ensures sink_faults { HasCause (fails_by sink_failed result) (S.faults out.old) (S.faults out.new) }
+    ensures ends { (words : List (List ℕ)) → IsReplay words workload.entry.now schedule.entry.now → Ends (record { words = words; content = F.content files.old; failed_before = F.failed_names files.old; failed_after = F.failed_names files.new; out_before = S.taken out.old; out_after = S.taken out.new }) result }
+    ensures failed { ReadsBut (F.failed_names files.old) (F.failed_names files.new) result }
+    ensures file_faults { HasCause (fails_by blames_file result) (F.faults files.old) (F.faults files.new) }
+    ensures sink_faults { HasCause (fails_by blames_sink result) (S.faults out.old) (S.faults out.new) }
     ensures content { (name : List ℕ) → F.content files.new name ≡ F.content files.old name }
 {
     let plan = match plan_of(alloc, files, workload) {
@@ -130,12 +120,13 @@ fn print_file<'a, F: Files, S: Sink>(
     files: &mut F,
     out: &mut S,
 ) -> Result<(), Fault<'a>>
-    ensures ends { (words : List (List ℕ)) → IsPrint words workload.entry.now → Ends (F.content files.old) words (S.taken out.old) (S.taken out.new) result }
-    ensures file_faults { HasCause (fails_by file_failed result) (F.faults files.old) (F.faults files.new) }
-    ensures sink_faults { HasCause (fails_by sink_failed result) (S.faults out.old) (S.faults out.new) }
+    ensures ends { (words : List (List ℕ)) → IsPrint words workload.entry.now → Ends (record { words = words; content = F.content files.old; failed_before = F.failed_names files.old; failed_after = F.failed_names files.new; out_before = S.taken out.old; out_after = S.taken out.new }) result }
+    ensures failed { ReadsBut (F.failed_names files.old) (F.failed_names files.new) result }
+    ensures file_faults { HasCause (fails_by blames_file result) (F.faults files.old) (F.faults files.new) }
+    ensures sink_faults { HasCause (fails_by blames_sink result) (S.faults out.old) (S.faults out.new) }
     ensures content { (name : List ℕ) → F.content files.new name ≡ F.content files.old name }
 {
-    match bytes_of(alloc, files, workload, MOST_WORKLOAD_BYTES) {
+    match bytes_of(alloc, files, workload, TEXT_BYTES) {
         Ok(bytes) => print_text(alloc, workload, &bytes, out),
         Err(fault) => Err(fault),
     }
@@ -148,9 +139,10 @@ fn check_file<'a, F: Files, S: Sink>(
     files: &mut F,
     out: &mut S,
 ) -> Result<(), Fault<'a>>
-    ensures ends { (words : List (List ℕ)) → IsCheck words name.entry.now → Ends (F.content files.old) words (S.taken out.old) (S.taken out.new) result }
-    ensures file_faults { HasCause (fails_by file_failed result) (F.faults files.old) (F.faults files.new) }
-    ensures sink_faults { HasCause (fails_by sink_failed result) (S.faults out.old) (S.faults out.new) }
+    ensures ends { (words : List (List ℕ)) → IsCheck words name.entry.now → Ends (record { words = words; content = F.content files.old; failed_before = F.failed_names files.old; failed_after = F.failed_names files.new; out_before = S.taken out.old; out_after = S.taken out.new }) result }
+    ensures failed { ReadsBut (F.failed_names files.old) (F.failed_names files.new) result }
+    ensures file_faults { HasCause (fails_by blames_file result) (F.faults files.old) (F.faults files.new) }
+    ensures sink_faults { HasCause (fails_by blames_sink result) (S.faults out.old) (S.faults out.new) }
     ensures content { (name : List ℕ) → F.content files.new name ≡ F.content files.old name }
 {
     match workload_of(alloc, files, name) {
@@ -167,8 +159,9 @@ fn replay_file<'a, S: Sink>(
     bytes: &[u8],
     out: &mut S,
 ) -> Result<(), Fault<'a>>
+    requires { IsWithin plan.now }
     ensures ends { ReplayEnds plan.now bytes.now name.entry.now (S.taken out.old) (S.taken out.new) result }
-    ensures faults { HasCause (fails_by sink_failed result) (S.faults out.old) (S.faults out.new) }
+    ensures faults { HasCause (fails_by blames_sink result) (S.faults out.old) (S.faults out.new) }
 {
     match replay(alloc, plan, bytes, out) {
         Ended::Done(_) => Ok(()),

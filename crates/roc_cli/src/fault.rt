@@ -1,5 +1,5 @@
 //! Why the program ends without having done what it was asked: its status, and its line on standard error.
-ghost use Rattle.roc_cli.specs.Fault.{IsTold};
+ghost use Rattle.roc_cli.specs.Inner.Fault.{IsTold};
 
 use roc_io::{Sink, Written, write_all};
 use roc_scope::ScopeWhat;
@@ -37,7 +37,7 @@ pub(crate) enum Fault<'a> {
 impl Fault<'_> {
     /// Writes the fault's line, and answers the status with which the program ends.
     pub fn tell<E: Sink>(self, alloc: Global, err: &mut E) -> u8
-        ensures { IsTold self.entry result (E.taken err.old) (E.taken err.new) (E.faults err.old) (E.faults err.new) }
+        ensures { IsTold self.entry result (record { before = E.taken err.old; after = E.taken err.new; faults_before = E.faults err.old; faults_after = E.faults err.new }) }
     {
         match self {
             Fault::Words => {
@@ -69,7 +69,7 @@ impl Fault<'_> {
 
 // The same of a fault at a line, for whose text there may be no memory.
 fn tell_line<E: Sink>(alloc: Global, err: &mut E, file: &str, line: u32, what: &'static str) -> u8
-    ensures { IsTold (Fault.At file.entry line what.entry) result (E.taken err.old) (E.taken err.new) (E.faults err.old) (E.faults err.new) }
+    ensures { IsTold (Fault.At file.entry line what.entry) result (record { before = E.taken err.old; after = E.taken err.new; faults_before = E.faults err.old; faults_after = E.faults err.new }) }
 {
     let Ok(text) = format!(in alloc; "{file}:{line}: {what}\n") else {
         err.write(b"memory\n");
@@ -81,7 +81,7 @@ fn tell_line<E: Sink>(alloc: Global, err: &mut E, file: &str, line: u32, what: &
 
 // The same of a fault of scope.
 fn tell_misuse<E: Sink>(alloc: Global, err: &mut E, file: &str, line: u32, what: ScopeWhat) -> u8
-    ensures { IsTold (Fault.Scope file.entry line what) result (E.taken err.old) (E.taken err.new) (E.faults err.old) (E.faults err.new) }
+    ensures { IsTold (Fault.Scope file.entry line what) result (record { before = E.taken err.old; after = E.taken err.new; faults_before = E.faults err.old; faults_after = E.faults err.new }) }
 {
     let Ok(text) = format!(in alloc; "{file}:{line}: {what}\n") else {
         err.write(b"memory\n");

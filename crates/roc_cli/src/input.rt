@@ -1,23 +1,20 @@
 //! The files that the words name.
 ghost use Rattle.std.specs.Prelude.{◌≡◌, ℕ, List, IfOk, IfErr};
 ghost use Rattle.roc_io.specs.Cause.{HasCause};
-ghost use Rattle.roc_plan.specs.Workload.{program};
-ghost use Rattle.roc_plan.specs.WellFormed.{IsProgram};
 ghost use Rattle.roc_cli.specs.Held.{HoldsProgram, HoldsPlan};
-ghost use Rattle.roc_cli.specs.Input.{HoldsWithin, IsReadFault, IsProgramFault, IsPlanFault, TellsError, TellsMisuse};
-ghost use Rattle.roc_cli.specs.Ends.{file_failed, sink_failed, fails_by};
+ghost use Rattle.roc_cli.specs.Inner.Input.{HoldsWithin, IsReadFault, IsProgramFault, IsPlanFault, TellsError, TellsMisuse};
+ghost use Rattle.roc_cli.specs.Inner.Fault.{blames_file};
+ghost use Rattle.roc_cli.specs.Inner.Ends.{fails_by, ReadsBut};
 
 use crate::fault::Fault;
 use roc_io::{Files, Read};
 use roc_lang::LangError;
+use roc_lang::limits::TEXT_BYTES;
 use roc_parse::parse;
-use roc_plan::laws::texts_are_within_limits;
-use roc_plan::{Plan, PlanFault, Workload, resolve};
+use roc_plan::{Plan, PlanFault};
+use roc_program::{Workload, resolve};
 use roc_scope::ScopeFault;
 use std::alloc::Global;
-
-/// How many bytes a workload may have.
-pub(crate) const MOST_WORKLOAD_BYTES: usize = 1_048_576;
 
 /// The bytes that a file holds, of which there may be so many.
 pub(crate) fn bytes_of<'a, F: Files>(
@@ -28,7 +25,8 @@ pub(crate) fn bytes_of<'a, F: Files>(
 ) -> Result<Vec<u8>, Fault<'a>>
     ensures held { IfOk result (λ bytes. HoldsWithin (F.content files.old) name.entry.now most bytes.items) }
     ensures fault { IfErr result (IsReadFault (F.content files.old) name.entry.now most) }
-    ensures cause { HasCause (fails_by file_failed result) (F.faults files.old) (F.faults files.new) }
+    ensures cause { HasCause (fails_by blames_file result) (F.faults files.old) (F.faults files.new) }
+    ensures failed { ReadsBut (F.failed_names files.old) (F.failed_names files.new) result }
     ensures unchanged { (other : List ℕ) → F.content files.new other ≡ F.content files.old other }
 {
     let mut bytes = Vec::new(alloc);
@@ -46,21 +44,18 @@ pub(crate) fn workload_of<'a, F: Files>(
     files: &mut F,
     name: &'a str,
 ) -> Result<Workload, Fault<'a>>
-    ensures held { IfOk result (λ workload. HoldsProgram (F.content files.old) name.entry.now (program workload)) }
-    ensures well_formed { IfOk result (λ workload. IsProgram (program workload)) }
+    ensures held { IfOk result (λ workload. HoldsProgram (F.content files.old) name.entry.now workload) }
     ensures fault { IfErr result (IsProgramFault (F.content files.old) name.entry.now) }
-    ensures cause { HasCause (fails_by file_failed result) (F.faults files.old) (F.faults files.new) }
+    ensures cause { HasCause (fails_by blames_file result) (F.faults files.old) (F.faults files.new) }
+    ensures failed { ReadsBut (F.failed_names files.old) (F.failed_names files.new) result }
     ensures unchanged { (other : List ℕ) → F.content files.new other ≡ F.content files.old other }
 {
-    let bytes = bytes_of(alloc, files, name, MOST_WORKLOAD_BYTES)?;
+    let bytes = bytes_of(alloc, files, name, TEXT_BYTES)?;
     match parse(alloc, &bytes) {
-        Ok(source) => {
-            texts_are_within_limits();
-            match resolve(alloc, source) {
-                Ok(workload) => Ok(workload),
-                Err(fault) => Err(misuse_of(name, fault)),
-            }
-        }
+        Ok(source) => match resolve(alloc, source) {
+            Ok(workload) => Ok(workload),
+            Err(fault) => Err(misuse_of(name, fault)),
+        },
         Err(error) => Err(fault_of(name, error)),
     }
 }
@@ -73,7 +68,8 @@ pub(crate) fn plan_of<'a, F: Files>(
 ) -> Result<Plan, Fault<'a>>
     ensures held { IfOk result (HoldsPlan (F.content files.old) name.entry.now) }
     ensures fault { IfErr result (IsPlanFault (F.content files.old) name.entry.now) }
-    ensures cause { HasCause (fails_by file_failed result) (F.faults files.old) (F.faults files.new) }
+    ensures cause { HasCause (fails_by blames_file result) (F.faults files.old) (F.faults files.new) }
+    ensures failed { ReadsBut (F.failed_names files.old) (F.failed_names files.new) result }
     ensures unchanged { (other : List ℕ) → F.content files.new other ≡ F.content files.old other }
 {
     let workload = match workload_of(alloc, files, name) {

@@ -1,7 +1,8 @@
 //! The canonical text of a workload.
 ghost use Rattle.std.specs.Prelude.{◌≡◌, length, ◌≤◌};
 ghost use Rattle.roc_io.specs.Cause.{HasCause};
-ghost use Rattle.roc_cli.specs.Ends.{PrintEnds, fails_by, sink_failed};
+ghost use Rattle.roc_cli.specs.Inner.Fault.{blames_sink};
+ghost use Rattle.roc_cli.specs.Inner.Ends.{PrintEnds, fails_by};
 
 use crate::fault::Fault;
 use crate::input::fault_of;
@@ -18,7 +19,7 @@ pub(crate) fn print_text<'a, S: Sink>(
     out: &mut S,
 ) -> Result<(), Fault<'a>>
     ensures ends { PrintEnds bytes.now name.entry.now (S.taken out.old) (S.taken out.new) result }
-    ensures faults { HasCause (fails_by sink_failed result) (S.faults out.old) (S.faults out.new) }
+    ensures faults { HasCause (fails_by blames_sink result) (S.faults out.old) (S.faults out.new) }
 {
     let source = match parse(alloc, bytes) {
         Ok(source) => source,

@@ -8,22 +8,23 @@ use Rattle.roc_sequence.specs.Places.{IsListed, IsListedBefore, NoneTwice}
 use Rattle.roc_sequence.proofs.Places.{listed_or_not, listed_head, listed_tail}
 use Rattle.roc_sequence.proofs.Appended.{listed_either, before_front, from_before_front, before_new, NoneTwice-append, place_of-behind}
 use Rattle.roc_base.specs.declared.id.TxnId.{TxnId}
-use Rattle.roc_base.specs.TxnId.{is_txn, is_txn-same, txn_cmp, txn_cmp-total}
-use Rattle.roc_depgraph.proofs.Listed.{has_from_listed, listed_from_has, is_eq-true, listed_one, in_one}
+use Rattle.roc_base.specs.TxnId.{is_txn, txn_cmp}
+use Rattle.roc_base.proofs.Ids.{txn_cmp-total}
+use Rattle.roc_base.specs.Inner.Equalities.{is_txn-same}
+use Rattle.roc_depgraph.proofs.Listed.{under_has, has_from_listed, listed_from_has, is_eq-true, listed_one, in_one}
 use Rattle.roc_depgraph.specs.declared.known.KnownList.{KnownList}
 use Rattle.roc_depgraph.specs.Closure.{IsRisingListOf}
 use Rattle.roc_depgraph.specs.Deps.{Precedes, PrecedesNow, IsDecided}
 use Rattle.roc_component.specs.declared.ancestry.Ancestry.{Ancestry}
 use Rattle.roc_component.specs.declared.member.Member.{Member}
 use Rattle.roc_component.specs.Components.{IsNext, among, IsComponentOrder}
-use Rattle.roc_component.specs.Member.{next_of, member_of}
-use Rattle.roc_component.specs.Ancestry.{AreAncestries}
-use Rattle.roc_component.specs.Within.{within}
+use Rattle.roc_component.specs.Inner.Member.{next_of, member_of}
+use Rattle.roc_component.specs.Inner.Ancestry.{AreAncestries}
+use Rattle.roc_component.specs.Inner.Within.{within}
 use Rattle.roc_component.proofs.ListsWithin.{decided_within}
 use Rattle.roc_component.proofs.MembersOf.{AreMembers, are_members}
 use Rattle.roc_component.proofs.NextMember.{IsFront, next_is, none_is}
 use Rattle.roc_component.proofs.Relations.{next_by}
-use Rattle.roc_component.proofs.Tests.{under_has}
 
 -- ids of which none is listed twice are distinct keys
 apart : (x : TxnId) (xs : List TxnId) → ¬ IsListed is_txn xs x → AllByRecursion (λ y. eq_by_cmp txn_cmp x y ≡ false) xs

@@ -1,9 +1,12 @@
 pub mod Relations
 pub mod OneOrder
 pub mod Earlier
-pub mod Tests
 pub mod ListsWithin
 pub mod MembersOf
 pub mod Least
 pub mod NextMember
 pub mod Front
+pub mod Taking
+pub mod Alike
+pub mod Paths
+pub mod Exists

@@ -7,14 +7,20 @@ use Rattle.std.specs.List.Sorted.{IsStrictlySortedBy}
 use Rattle.std.specs.Ordering.{is_eq, is_lt}
 use Rattle.std.specs.declared.cmp.Ordering.TheVariants.{Less}
 use Rattle.std.proofs.lemmas.Map.Keys.{sorted_head, sorted_tail}
-use Rattle.roc_base.specs.Lists.{Has}
-use Rattle.roc_sequence.specs.Places.{IsListed, NoneTwice}
-use Rattle.roc_sequence.proofs.Places.{listed_or_not, listed_head, listed_tail, listed_cases}
+use Rattle.roc_sequence.specs.Lists.{Has}
+use Rattle.roc_sequence.specs.Places.{IsListed, NoneTwice, is_listed}
+use Rattle.roc_sequence.proofs.Holds.{any_has, has_any}
+use Rattle.roc_sequence.proofs.Members.{has_filter, from_has_filter}
+use Rattle.roc_sequence.proofs.Places.{listed_true, listed_test, listed_or_not, listed_head, listed_tail, listed_cases}
 use Rattle.roc_sequence.proofs.Appended.{listed_front, listed_behind, listed_either}
 use Rattle.roc_base.specs.declared.id.TxnId.{TxnId}
-use Rattle.roc_base.specs.TxnId.{is_txn, is_txn-true, is_txn-same, is_txn-ne, txn_cmp, txn_lt, is_lt-txn_cmp, txn_lt-itself}
+use Rattle.roc_base.specs.TxnId.{is_txn, txn_cmp, txn_lt}
+use Rattle.roc_base.proofs.Ids.{is_txn-ne, is_lt-txn_cmp, txn_lt-itself}
+use Rattle.roc_base.specs.Inner.Equalities.{is_txn-true, is_txn-same}
 use Rattle.roc_base.specs.Edge.{Dependency}
-use Rattle.roc_base.specs.Edges.{IsRising, IsBelowAll, united}
+use Rattle.roc_base.specs.Edges.{united, comes_before}
+use Rattle.roc_sequence.specs.Rising.{IsRising}
+use Rattle.roc_base.proofs.Rising.{IsBelowAll}
 use Rattle.roc_base.proofs.Union.{united-rising}
 use Rattle.roc_depgraph.specs.declared.known.KnownList.{KnownList}
 use Rattle.roc_depgraph.specs.declared.learnt.Learnt.{Learnt}
@@ -25,19 +31,18 @@ use Rattle.roc_depgraph.specs.Learnt.{Learns}
 use Rattle.roc_depgraph.specs.Reach.{Reaches, direct, through}
 use Rattle.roc_depgraph.proofs.Listed.{has, has_from_listed, listed_from_has, is_eq-same, is_eq-true, listed_one, in_one}
 use Rattle.roc_component.specs.Components.{among}
-use Rattle.roc_component.specs.Within.{holds, within}
-use Rattle.roc_component.proofs.Tests.{holds_listed, listed_holds, any_has, has_any, has_filter, filter_has}
+use Rattle.roc_component.specs.Inner.Within.{within}
 
 -- a rising list stays one where entries are left out
 below_filter : (p : Dependency → Bool) (id : TxnId) (es : List Dependency) → IsBelowAll id es → IsBelowAll id (filter p es)
 below_filter p id [] h = tt
 below_filter p id (e ∷ es) h = elim (p e) as (λ b. IsBelowAll id (cond b (e ∷ filter p es) (filter p es))) [ true ↦ (h.0, below_filter p id es h.1) | false ↦ below_filter p id es h.1 ]
 
-rising_filter : (p : Dependency → Bool) (es : List Dependency) → IsRising es → IsRising (filter p es)
+rising_filter : (p : Dependency → Bool) (es : List Dependency) → IsRising comes_before es → IsRising comes_before (filter p es)
 rising_filter p [] h = tt
-rising_filter p (e ∷ es) h = elim (p e) as (λ b. IsRising (cond b (e ∷ filter p es) (filter p es))) [ true ↦ (below_filter p e.from es h.0, rising_filter p es h.1) | false ↦ rising_filter p es h.1 ]
+rising_filter p (e ∷ es) h = elim (p e) as (λ b. IsRising comes_before (cond b (e ∷ filter p es) (filter p es))) [ true ↦ (below_filter p e.from es h.0, rising_filter p es h.1) | false ↦ rising_filter p es h.1 ]
 
-pub united_within : (p : Dependency → Bool) (es among edges : List Dependency) → IsRising es → among ≡ filter p es → edges ≡ united ([] ++ among) → edges ≡ filter p es
+pub united_within : (p : Dependency → Bool) (es among edges : List Dependency) → IsRising comes_before es → among ≡ filter p es → edges ≡ united ([] ++ among) → edges ≡ filter p es
 united_within p es among edges r e f = f ∙ (ap united e ∙ united-rising (filter p es) (rising_filter p es r))
 
 -- ids that are put into a set one by one
@@ -98,7 +103,7 @@ new_at (y ∷ xs) (suc i) x none n h e l =
 
 module _ (known : List KnownList) (M : List TxnId) where
   abbrev kept : TxnId → List Dependency
-  kept t = filter (λ d. holds M d.from) (entries_of known t)
+  kept t = filter (λ d. is_listed is_txn M d.from) (entries_of known t)
 
   list_of-listed : (ids : List TxnId) (t : TxnId) → IsListed is_txn ids t → list_of t (within known M ids) ≡ Some (kept t)
   list_of-listed [] t h = absurd (omega arith)
@@ -139,14 +144,14 @@ module _ (known : List KnownList) (M : List TxnId) where
       go Differs a = absurd (let f : Some a.0.0 ≡ None = sym a.0.1 ∙ unknown in cc)
 
   -- what is left of a list, by its entries
-  kept_any : (p : Dependency → Bool) (t : TxnId) → list_any p (kept t) ≡ true → (d : Dependency) × Has d (entries_of known t) × (holds M d.from ≡ true) × (p d ≡ true)
+  kept_any : (p : Dependency → Bool) (t : TxnId) → list_any p (kept t) ≡ true → (d : Dependency) × Has d (entries_of known t) × (is_listed is_txn M d.from ≡ true) × (p d ≡ true)
   kept_any p t h =
       let r = any_has p (kept t) h in
-      let f = has_filter (λ d. holds M d.from) (entries_of known t) r.0 r.1 in
+      let f = from_has_filter (λ d. is_listed is_txn M d.from) r.0 (entries_of known t) r.1 in
       (r.0, f.0, f.1, r.2)
 
-  any_kept : (p : Dependency → Bool) (t : TxnId) (d : Dependency) → Has d (entries_of known t) → holds M d.from ≡ true → p d ≡ true → list_any p (kept t) ≡ true
-  any_kept p t d h k e = has_any p (kept t) d (filter_has (λ d. holds M d.from) (entries_of known t) d h k) e
+  any_kept : (p : Dependency → Bool) (t : TxnId) (d : Dependency) → Has d (entries_of known t) → is_listed is_txn M d.from ≡ true → p d ≡ true → list_any p (kept t) ≡ true
+  any_kept p t d h k e = has_any p (kept t) d (has_filter (λ d. is_listed is_txn M d.from) d (entries_of known t) h k) e
 
 -- S are the members of M
 module _ (known : List KnownList) (M S : List TxnId) (all : IsRisingListOf (IsListed is_txn M) S) where
@@ -163,14 +168,14 @@ module _ (known : List KnownList) (M S : List TxnId) (all : IsRisingListOf (IsLi
         | inr n ↦ absurd (false≢true (subst (λ (o : Option (List Dependency)). list_any p (unwrap_or o []) ≡ true) (list_of-unlisted known S S t n) h))
         | inl l ↦
             (let r = kept_any known S p t (subst (λ (o : Option (List Dependency)). list_any p (unwrap_or o []) ≡ true) (list_of-listed known S S t l) h) in
-            (all.sound u (subst (IsListed is_txn S) (key r.0 r.3) (holds_listed S r.0.from r.2)), all.sound t l, has_any p (entries_of known t) r.0 r.1 r.3))
+            (all.sound u (subst (IsListed is_txn S) (key r.0 r.3) (listed_true is_txn S r.0.from r.2)), all.sound t l, has_any p (entries_of known t) r.0 r.1 r.3))
       ]
 
   to_entry : (p : Dependency → Bool) (u t : TxnId) → ((d : Dependency) → p d ≡ true → d.from ≡ u) → IsListed is_txn M u → IsListed is_txn M t → list_any p (entries_of known t) ≡ true → list_any p (entries_of L t) ≡ true
   to_entry p u t key hu ht h =
       let r = any_has p (entries_of known t) h in
       subst (λ (o : Option (List Dependency)). list_any p (unwrap_or o []) ≡ true) (sym (list_of-listed known S S t (all.complete t ht)))
-      (any_kept known S p t r.0 r.1 (subst (λ v. holds S v ≡ true) (sym (key r.0 r.2)) (listed_holds S u (all.complete u hu))) r.2)
+      (any_kept known S p t r.0 r.1 (subst (λ v. is_listed is_txn S v ≡ true) (sym (key r.0 r.2)) (listed_test is_txn S u (all.complete u hu))) r.2)
 
   now_key : (u : TxnId) (d : Dependency) → (is_txn d.from u && d.imm) ≡ true → d.from ≡ u
   now_key u d h = is_txn-true d.from u (and_parts (is_txn d.from u) d.imm h).0

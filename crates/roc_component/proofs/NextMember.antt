@@ -3,22 +3,24 @@ use Rattle.std.proofs.Common.{◌≡◌, not, true, List, filter, find, Option, 
 use Rattle.std.proofs.lemmas.Bool.{false≢true, and_parts, and_from, not-true, not_from_false, cases_order, false_from_ne_true}
 use Rattle.std.specs.List.{list_any, list_all}
 use Rattle.std.specs.Option.{option_or, option_map}
-use Rattle.roc_base.specs.Lists.{Has}
-use Rattle.roc_sequence.specs.Places.{place_of, IsListed, IsListedBefore, NoneTwice}
-use Rattle.roc_sequence.proofs.Places.{listed_or_not, listed_by_before, same_place}
+use Rattle.roc_sequence.specs.Lists.{Has}
+use Rattle.roc_sequence.specs.Places.{place_of, IsListed, IsListedBefore, NoneTwice, is_listed}
+use Rattle.roc_sequence.proofs.Found.{found_has, none_passes}
+use Rattle.roc_sequence.proofs.Holds.{any_has, has_any, every_has, has_every}
+use Rattle.roc_depgraph.proofs.Listed.{has_listed, listed_has}
+use Rattle.roc_sequence.proofs.Places.{listed_true, listed_test, listed_or_not, listed_by_before, same_place}
 use Rattle.roc_sequence.proofs.Filtered.{listed_filter, from_listed_filter}
 use Rattle.roc_base.specs.declared.id.TxnId.{TxnId}
-use Rattle.roc_base.specs.TxnId.{is_txn, is_txn-true, txn_lt}
+use Rattle.roc_base.specs.TxnId.{is_txn, txn_lt}
+use Rattle.roc_base.specs.Inner.Equalities.{is_txn-true}
 use Rattle.roc_depgraph.specs.Reach.{Reaches, direct, through, ReachesOrIs}
 use Rattle.roc_depgraph.proofs.Chains.{chain_before}
 use Rattle.roc_component.specs.declared.member.Member.{Member}
 use Rattle.roc_component.specs.Components.{Mates, IsFree, IsNextInside, IsReady, IsNext, among}
-use Rattle.roc_component.specs.Member.{is_left, is_begun, is_ready, is_left_of, is_free, next_component, next_inside, next_of}
-use Rattle.roc_component.specs.Within.{holds}
+use Rattle.roc_component.specs.Inner.Member.{is_left, is_begun, is_ready, is_left_of, is_free, next_component, next_inside, next_of}
 use Rattle.roc_component.proofs.Least.{some_low, found_least}
 use Rattle.roc_component.proofs.MembersOf.{AreMembers}
-use Rattle.roc_component.proofs.Relations.{mates_sym, mates_trans, mates_reach, mates_from, reach_trans, ready_mate}
-use Rattle.roc_component.proofs.Tests.{holds_listed, listed_holds, any_has, has_any, all_has, has_all, found_has, none_found, has_listed, listed_has}
+use Rattle.roc_component.proofs.Relations.{chain_starts, mate_in, mates_sym, mates_trans, mates_reach, mates_from, reach_trans, ready_mate}
 
 -- some members of M, each at the place at which the rule takes it
 pub record IsFront (E I : TxnId → TxnId → Type 0) (M xs : List TxnId) : Type 0 where
@@ -32,43 +34,43 @@ module _ (xs : List TxnId) where
   T = IsListed is_txn xs
 
   left_to : (m : Member) → is_left xs m ≡ true → ¬ T m.id
-  left_to m h t = false≢true (sym (not-true (holds xs m.id) h) ∙ listed_holds xs m.id t)
+  left_to m h t = false≢true (sym (not-true (is_listed is_txn xs m.id) h) ∙ listed_test is_txn xs m.id t)
 
   left_from : (m : Member) → ¬ T m.id → is_left xs m ≡ true
-  left_from m n = not_from_false (holds xs m.id) (false_from_ne_true (holds xs m.id) (λ h. n (holds_listed xs m.id h)))
+  left_from m n = not_from_false (is_listed is_txn xs m.id) (false_from_ne_true (is_listed is_txn xs m.id) (λ h. n (listed_true is_txn xs m.id h)))
 
-  all_to : (ids : List TxnId) → list_all (holds xs) ids ≡ true → (u : TxnId) → IsListed is_txn ids u → T u
-  all_to ids h u l = holds_listed xs u (all_has (holds xs) ids h u (listed_has ids u l))
+  all_to : (ids : List TxnId) → list_all (is_listed is_txn xs) ids ≡ true → (u : TxnId) → IsListed is_txn ids u → T u
+  all_to ids h u l = listed_true is_txn xs u (every_has (is_listed is_txn xs) ids h u (listed_has ids u l))
 
-  all_from : (ids : List TxnId) → ((u : TxnId) → IsListed is_txn ids u → T u) → list_all (holds xs) ids ≡ true
-  all_from ids h = has_all (holds xs) ids (λ u k. listed_holds xs u (h u (has_listed ids u k)))
+  all_from : (ids : List TxnId) → ((u : TxnId) → IsListed is_txn ids u → T u) → list_all (is_listed is_txn xs) ids ≡ true
+  all_from ids h = has_every (is_listed is_txn xs) ids (λ u k. listed_test is_txn xs u (h u (has_listed ids u k)))
 
   begun_to : (m : Member) → is_begun xs m ≡ true → (¬ T m.id) × ((u : TxnId) × IsListed is_txn m.mates u × T u)
   begun_to m h =
-      let q = and_parts (is_left xs m) (list_any (holds xs) m.mates) h in
-      let u = any_has (holds xs) m.mates q.1 in
-      (left_to m q.0, (u.0, has_listed m.mates u.0 u.1, holds_listed xs u.0 u.2))
+      let q = and_parts (is_left xs m) (list_any (is_listed is_txn xs) m.mates) h in
+      let u = any_has (is_listed is_txn xs) m.mates q.1 in
+      (left_to m q.0, (u.0, has_listed m.mates u.0 u.1, listed_true is_txn xs u.0 u.2))
 
   begun_from : (m : Member) → ¬ T m.id → (u : TxnId) → IsListed is_txn m.mates u → T u → is_begun xs m ≡ true
-  begun_from m n u l t = and_from (is_left xs m) (list_any (holds xs) m.mates) (left_from m n) (has_any (holds xs) m.mates u (listed_has m.mates u l) (listed_holds xs u t))
+  begun_from m n u l t = and_from (is_left xs m) (list_any (is_listed is_txn xs) m.mates) (left_from m n) (has_any (is_listed is_txn xs) m.mates u (listed_has m.mates u l) (listed_test is_txn xs u t))
 
   ready_to : (m : Member) → is_ready xs m ≡ true → (¬ T m.id) × ((u : TxnId) → IsListed is_txn m.before u → T u)
-  ready_to m h = let q = and_parts (is_left xs m) (list_all (holds xs) m.before) h in (left_to m q.0, all_to m.before q.1)
+  ready_to m h = let q = and_parts (is_left xs m) (list_all (is_listed is_txn xs) m.before) h in (left_to m q.0, all_to m.before q.1)
 
   ready_from : (m : Member) → ¬ T m.id → ((u : TxnId) → IsListed is_txn m.before u → T u) → is_ready xs m ≡ true
-  ready_from m n h = and_from (is_left xs m) (list_all (holds xs) m.before) (left_from m n) (all_from m.before h)
+  ready_from m n h = and_from (is_left xs m) (list_all (is_listed is_txn xs) m.before) (left_from m n) (all_from m.before h)
 
   left_of_to : (c m : Member) → is_left_of xs c m ≡ true → (¬ T m.id) × IsListed is_txn c.mates m.id
-  left_of_to c m h = let q = and_parts (is_left xs m) (holds c.mates m.id) h in (left_to m q.0, holds_listed c.mates m.id q.1)
+  left_of_to c m h = let q = and_parts (is_left xs m) (is_listed is_txn c.mates m.id) h in (left_to m q.0, listed_true is_txn c.mates m.id q.1)
 
   left_of_from : (c m : Member) → ¬ T m.id → IsListed is_txn c.mates m.id → is_left_of xs c m ≡ true
-  left_of_from c m n l = and_from (is_left xs m) (holds c.mates m.id) (left_from m n) (listed_holds c.mates m.id l)
+  left_of_from c m n l = and_from (is_left xs m) (is_listed is_txn c.mates m.id) (left_from m n) (listed_test is_txn c.mates m.id l)
 
   free_to : (c m : Member) → is_free xs c m ≡ true → (is_left_of xs c m ≡ true) × ((u : TxnId) → IsListed is_txn m.immediate u → T u)
-  free_to c m h = let q = and_parts (is_left_of xs c m) (list_all (holds xs) m.immediate) h in (q.0, all_to m.immediate q.1)
+  free_to c m h = let q = and_parts (is_left_of xs c m) (list_all (is_listed is_txn xs) m.immediate) h in (q.0, all_to m.immediate q.1)
 
   free_from : (c m : Member) → is_left_of xs c m ≡ true → ((u : TxnId) → IsListed is_txn m.immediate u → T u) → is_free xs c m ≡ true
-  free_from c m h k = and_from (is_left_of xs c m) (list_all (holds xs) m.immediate) h (all_from m.immediate k)
+  free_from c m h k = and_from (is_left_of xs c m) (list_all (is_listed is_txn xs) m.immediate) h (all_from m.immediate k)
 
 module _ (E I : TxnId → TxnId → Type 0) (M : List TxnId) (members : List Member) (ms : AreMembers E I M members) where
   abbrev A : TxnId → TxnId → Type 0
@@ -102,14 +104,6 @@ module _ (E I : TxnId → TxnId → Type 0) (M : List TxnId) (members : List Mem
             ])
       ]
 
-  starts : (u t : TxnId) → Reaches A u t → IsListed is_txn M u
-  starts u t (direct e) = e.0
-  starts u t (through p e) = starts u _ p
-
-  mate_in : (t u : TxnId) → IsListed is_txn M t → Mates A t u → IsListed is_txn M u
-  mate_in t u h (inl e) = subst (IsListed is_txn M) e h
-  mate_in t u h (inr p) = starts u t p.1
-
   module _ (xs : List TxnId) (f : IsFront E I M xs) where
     taken_ready : (y : TxnId) → T xs y → IsReady A (T xs) y
     taken_ready y h p z m e n = listed_by_before is_txn xs p y ((f.next y h).ready p z m e n)
@@ -134,7 +128,7 @@ module _ (E I : TxnId → TxnId → Type 0) (M : List TxnId) (members : List Mem
           | inl k ↦ elim (led_from ended u s e.0 p (ready_mate A (T xs) t s k r)) [ inl m ↦ inl (mates_trans A t s u k m) | inr i ↦ inr i ]
           | inr n ↦
               (let i = r s t (inl refl) e n in
-              elim (led_from ended u s e.0 p (taken_ready s i)) [ inl m ↦ inr (ended s u i m (starts u s p)) | inr j ↦ inr j ])
+              elim (led_from ended u s e.0 p (taken_ready s i)) [ inl m ↦ inr (ended s u i m (chain_starts E M u s p)) | inr j ↦ inr j ])
         ]
 
     -- a member by which the rule names a component
@@ -203,20 +197,20 @@ module _ (E I : TxnId → TxnId → Type 0) (M : List TxnId) (members : List Mem
                 let p : Reaches A u z.0 = subst (Reaches A u) m.2 b.0 in
                 elim (listed_or_not is_txn xs u) [
                   | inl t ↦ t
-                  | inr k ↦ absurd (b.1 (subst (λ v. Mates A v u) (sym m.2) (mates_from A z.0 u (z.2 u (in_left u (starts u z.0 p) k) (inr p)) (inr p))))
+                  | inr k ↦ absurd (b.1 (subst (λ v. Mates A v u) (sym m.2) (mates_from A z.0 u (z.2 u (in_left u (chain_starts E M u z.0 p) k) (inr p)) (inr p))))
                 ]),
           )
         where
           left_ids : List TxnId
-          left_ids = filter (λ u. not (holds xs u)) M
+          left_ids = filter (λ u. not (is_listed is_txn xs u)) M
 
           in_left : (u : TxnId) → IsListed is_txn M u → ¬ T xs u → IsListed is_txn left_ids u
-          in_left u h k = listed_filter is_txn is_txn-true (λ u. not (holds xs u)) M u (not_from_false (holds xs u) (false_from_ne_true (holds xs u) (λ i. k (holds_listed xs u i)))) h
+          in_left u h k = listed_filter is_txn is_txn-true (λ u. not (is_listed is_txn xs u)) M u (not_from_false (is_listed is_txn xs u) (false_from_ne_true (is_listed is_txn xs u) (λ i. k (listed_true is_txn xs u i)))) h
 
           left_in : (u : TxnId) → IsListed is_txn left_ids u → IsListed is_txn M u × (¬ T xs u)
           left_in u h =
-              let i = from_listed_filter is_txn is_txn-true (λ u. not (holds xs u)) M u h in
-              (i.1, λ t. false≢true (sym (not-true (holds xs u) i.0) ∙ listed_holds xs u t))
+              let i = from_listed_filter is_txn is_txn-true (λ u. not (is_listed is_txn xs u)) M u h in
+              (i.1, λ t. false≢true (sym (not-true (is_listed is_txn xs u) i.0) ∙ listed_test is_txn xs u t))
 
     module _ (c : Member) (k : IsChosen c) where
       mates_c : (u : TxnId) → IsListed is_txn c.mates u → Mates A c.id u
@@ -238,7 +232,7 @@ module _ (E I : TxnId → TxnId → Type 0) (M : List TxnId) (members : List Mem
       left_passes : (x : Member) → IsListed is_txn c.mates x.id → (z : TxnId) → Mates A x.id z → ¬ T xs z → (m : Member) × Has m members × (m.id ≡ z) × (is_left_of xs c m ≡ true)
       left_passes x l z n o =
           let i = mates_trans A c.id x.id z (mates_c x.id l) n in
-          let m = ms.complete z (mate_in c.id z (ms.sound c k.has) i) in
+          let m = ms.complete z (mate_in E M c.id z (ms.sound c k.has) i) in
           (m.0, m.1, m.2, left_of_from xs c m.0 (λ t. o (subst (T xs) m.2 t)) (((ms.each c k.has).mates m.0.id).1 (subst (Mates A c.id) (sym m.2) i)))
 
       free_passes : (x m : Member) → Has m members → Mates A x.id m.id → is_left_of xs c m ≡ true → IsFree A J (T xs) x.id m.id → is_free xs c m ≡ true
@@ -271,7 +265,7 @@ module _ (E I : TxnId → TxnId → Type 0) (M : List TxnId) (members : List Mem
             next_from x h.0 h.1 (inr (
               λ z n o g.
                   let m = left_passes x l.1 z n o in
-                  none_found (is_free xs c) members none m.0 m.1 (free_passes x m.0 m.1 (subst (Mates A x.id) (sym m.2) n) m.3 (subst (IsFree A J (T xs) x.id) (sym m.2) g)),
+                  none_passes (is_free xs c) members none m.0 m.1 (free_passes x m.0 m.1 (subst (Mates A x.id) (sym m.2) n) m.3 (subst (IsFree A J (T xs) x.id) (sym m.2) g)),
               λ z n o g.
                   let m = left_passes x l.1 z n o in
                   let P : TxnId → Type 0 = λ v. ¬ (txn_lt v x.id ≡ true) in
@@ -283,7 +277,7 @@ module _ (E I : TxnId → TxnId → Type 0) (M : List TxnId) (members : List Mem
 
       -- one is left in the component, the chosen member itself
       some_left : ¬ (find (is_left_of xs c) members ≡ None)
-      some_left e = none_found (is_left_of xs c) members e c k.has (left_of_from xs c c k.left (((ms.each c k.has).mates c.id).1 (inl refl)))
+      some_left e = none_passes (is_left_of xs c) members e c k.has (left_of_from xs c c k.left (((ms.each c k.has).mates c.id).1 (inl refl)))
 
     -- a component is chosen, where a member is left
     chosen : (c : Member) → next_component xs members ≡ Some c → IsChosen c
@@ -294,7 +288,7 @@ module _ (E I : TxnId → TxnId → Type 0) (M : List TxnId) (members : List Mem
             let same : b ≡ c = cc in
             let h = found_has (is_begun xs) members b i in
             subst IsChosen same (chosen_begun b h.0 h.1)
-        go None i j = chosen_ready (none_found (is_begun xs) members i) c j
+        go None i j = chosen_ready (none_passes (is_begun xs) members i) c j
 
     none_chosen : next_component xs members ≡ None → (x : TxnId) → IsListed is_txn M x → T xs x
     none_chosen e x l = go (find (is_begun xs) members) refl e
@@ -304,7 +298,7 @@ module _ (E I : TxnId → TxnId → Type 0) (M : List TxnId) (members : List Mem
         go None i j =
             elim (listed_or_not is_txn xs x) [
               | inl t ↦ t
-              | inr n ↦ (let m = some_ready (none_found (is_begun xs) members i) x l n in absurd (none_found (is_ready xs) members j m.0 m.1 m.2))
+              | inr n ↦ (let m = some_ready (none_passes (is_begun xs) members i) x l n in absurd (none_passes (is_ready xs) members j m.0 m.1 m.2))
             ]
 
     -- what is named next is what the rule names

@@ -4,7 +4,9 @@ use Rattle.std.proofs.lemmas.Bool.{cases_lt}
 use Rattle.roc_sequence.specs.Places.{place_of, IsListed, IsListedBefore, NoneTwice}
 use Rattle.roc_sequence.proofs.Places.{place_of-le, place_of-here, place_of-there, listed_head, listed_tail, listed_cases, same_place}
 use Rattle.roc_base.specs.declared.id.TxnId.{TxnId}
-use Rattle.roc_base.specs.TxnId.{is_txn, txn_lt, is_txn-true, is_txn-same, is_txn-ne, is_txn-false, txn_cases, txn_lt-trans}
+use Rattle.roc_base.specs.TxnId.{is_txn, txn_lt}
+use Rattle.roc_base.proofs.Ids.{is_txn-ne, is_txn-false, txn_cases, txn_lt-trans}
+use Rattle.roc_base.specs.Inner.Equalities.{is_txn-true, is_txn-same}
 use Rattle.roc_component.specs.Components.{Mates, IsNextInside, IsNext, among, IsComponentOrder}
 use Rattle.roc_component.proofs.Relations.{mates_sym, mates_trans, ready_mate, free_mate, next_by, no_descent}
 

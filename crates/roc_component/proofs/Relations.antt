@@ -1,11 +1,12 @@
 -- Chains and components
 use Rattle.std.proofs.Common.{◌≡◌, ℕ, zero, suc, ◌<◌, ◌==◌, ◌&&◌, nat_lt, List, true, sym, subst, inl, inr, arith}
 use Rattle.std.proofs.lemmas.Bool.{or_cases, and_parts, ltb-true, eqb-true, cases_lt}
+use Rattle.roc_sequence.specs.Places.{IsListed}
 use Rattle.roc_base.specs.declared.id.TxnId.{TxnId}
-use Rattle.roc_base.specs.TxnId.{txn_lt}
-use Rattle.roc_depgraph.specs.Reach.{Reaches, ReachesOrIs}
+use Rattle.roc_base.specs.TxnId.{is_txn, txn_lt}
+use Rattle.roc_depgraph.specs.Reach.{Reaches, direct, through, ReachesOrIs}
 use Rattle.roc_depgraph.proofs.Chains.{joined_chain}
-use Rattle.roc_component.specs.Components.{Mates, IsFree, IsNextInside, IsReady, IsNext}
+use Rattle.roc_component.specs.Components.{among, Mates, IsFree, IsNextInside, IsReady, IsNext}
 
 module _ (E : TxnId → TxnId → Type 0) where
   pub mates_sym : (a b : TxnId) → Mates E a b → Mates E b a
@@ -60,6 +61,16 @@ module _ (E : TxnId → TxnId → Type 0) where
             least = λ z no l n r. h.least z (λ y t. no y (on y t)) l (λ u. n (on z u)) (λ p y m e k. off p (r p y m e k));
             inside = inside_by x h.inside;
           }
+
+-- chains among the members of a set start in it, and components stay in it
+module _ (E : TxnId → TxnId → Type 0) (M : List TxnId) where
+  pub chain_starts : (u t : TxnId) → Reaches (among M E) u t → IsListed is_txn M u
+  chain_starts u _ (direct e) = e.0
+  chain_starts u _ (through p e) = chain_starts u _ p
+
+  pub mate_in : (t u : TxnId) → IsListed is_txn M t → Mates (among M E) t u → IsListed is_txn M u
+  mate_in t u h (inl e) = subst (IsListed is_txn M) e h
+  mate_in t u h (inr p) = chain_starts u t p.1
 
 -- ids do not fall for ever
 module _ (P : TxnId → Type 0) (lower : (z : TxnId) → P z → (w : TxnId) × P w × (txn_lt w z ≡ true)) where

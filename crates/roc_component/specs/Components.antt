@@ -1,5 +1,5 @@
 -- The order in which transactions that precede one another are taken: docs/PROTOCOL.md, "Component order"
-use Rattle.std.specs.Prelude.{◌≡◌, List, IsTrue, ◌⊎◌}
+use Rattle.std.specs.Prelude.{◌≡◌, ◌↔◌, List, IsTrue, ◌⊎◌}
 use Rattle.roc_sequence.specs.Places.{IsListed, IsListedBefore, NoneTwice}
 use Rattle.roc_base.specs.declared.id.TxnId.{TxnId}
 use Rattle.roc_base.specs.TxnId.{is_txn, txn_lt}
@@ -57,3 +57,12 @@ pub record IsComponentOrder (E I : TxnId → TxnId → Type 0) (M xs : List TxnI
 -- the component order of members of known lists
 abbrev pub IsTakingOrder : List KnownList → (M xs : List TxnId) → Type 0
 IsTakingOrder known M xs = IsComponentOrder (Precedes known) (PrecedesNow known) M xs
+
+-- two known lists have the same edges among the members of M, and the same immediate ones; what leads out of M may differ
+pub record HaveSameEdges (M : List TxnId) (known other : List KnownList) : Type 0 where
+  pub edges : (u t : TxnId) → IsListed is_txn M u → IsListed is_txn M t → Precedes known u t ↔ Precedes other u t
+  pub immediate : (u t : TxnId) → IsListed is_txn M u → IsListed is_txn M t → PrecedesNow known u t ↔ PrecedesNow other u t
+
+-- the two lists have the same members, in any order
+abbrev pub HaveSameMembers : (M N : List TxnId) → Type 0
+HaveSameMembers M N = (t : TxnId) → IsListed is_txn M t ↔ IsListed is_txn N t

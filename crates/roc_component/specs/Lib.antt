@@ -1,4 +1,2 @@
 pub mod Components
-pub mod Within
-pub mod Ancestry
-pub mod Member
+pub mod Inner

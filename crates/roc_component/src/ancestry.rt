@@ -2,11 +2,11 @@
 ghost use Rattle.std.specs.Prelude.{◌≡◌, IfOk};
 ghost use Rattle.roc_base.specs.declared.id.TxnId.{TxnId};
 ghost use Rattle.roc_base.specs.TxnId.{is_txn};
-ghost use Rattle.roc_component.specs.Ancestry.{AreAncestries, leads};
+ghost use Rattle.roc_component.specs.Inner.Ancestry.{AreAncestries, leads};
 ghost use Rattle.roc_depgraph.specs.Deps.{IsDecided};
 ghost use Rattle.roc_sequence.specs.Places.{IsListed};
 
-use roc_base::{NoMemory, TxnId};
+use roc_base::{NoMemory, TxnId, is_among};
 use roc_depgraph::{Closure, Deps};
 use roc_sequence::Sequence;
 use std::alloc::Global;
@@ -45,5 +45,5 @@ pub(crate) fn is_led(rows: &[Ancestry], from: TxnId, to: TxnId) -> bool
     ensures { result ≡ leads rows.now from to }
 {
     rows.iter()
-        .any(|row| row.of == to && row.from.as_slice().contains(&from))
+        .any(|row| row.of == to && is_among(row.from.as_slice(), from))
 }

@@ -2,7 +2,7 @@
 ghost use Rattle.std.specs.Prelude.{◌≡◌, IfOk, find};
 ghost use Rattle.std.specs.Option.{option_copied, option_or};
 ghost use Rattle.roc_component.specs.Components.{IsTakingOrder};
-ghost use Rattle.roc_component.specs.Member.{is_begun, is_ready, is_free, is_left_of, next_of};
+ghost use Rattle.roc_component.specs.Inner.Member.{is_begun, is_ready, is_free, is_left_of, next_of};
 
 use crate::ancestry::ancestries;
 use crate::member::{Member, members};
@@ -16,7 +16,6 @@ use std::alloc::Global;
 /// deterministically), by their known lists. An id that stands in `ids` more than once is taken
 /// once; one whose list is not known counts as one without predecessors. The time it takes grows
 /// with the cube of their number, and with their number times the length of their lists.
-/// `NoMemory` comes for want of memory alone.
 pub fn order(alloc: Global, deps: &Deps, ids: &[TxnId]) -> Result<Vec<TxnId>, NoMemory>
     ensures { IfOk result (λ order. IsTakingOrder deps.now ids.now order.items) }
 {

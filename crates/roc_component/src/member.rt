@@ -1,12 +1,12 @@
 //! The members of a set, with what their place in the order depends on.
 ghost use Rattle.std.specs.Prelude.{◌≡◌, IfOk, map, filter, not};
-ghost use Rattle.roc_component.specs.Ancestry.{leads};
-ghost use Rattle.roc_component.specs.Member.{member_of, immediate_of, is_left, is_begun, is_ready, is_free, is_left_of};
+ghost use Rattle.roc_component.specs.Inner.Ancestry.{leads};
+ghost use Rattle.roc_component.specs.Inner.Member.{member_of, immediate_of, is_left, is_begun, is_ready, is_free, is_left_of};
 ghost use Rattle.roc_depgraph.specs.Deps.{entries_of};
 
 use crate::ancestry::{Ancestry, is_led};
 use crate::taken::Taken;
-use roc_base::{Edge, NoMemory, TxnId};
+use roc_base::{Edge, NoMemory, TxnId, is_among};
 use roc_depgraph::Deps;
 use roc_sequence::Sequence;
 use std::alloc::Global;
@@ -49,7 +49,7 @@ impl Member {
     pub(crate) fn is_left_of(&self, component: &Member, taken: &Taken) -> bool
         ensures { result ≡ is_left_of taken.now component.now self.now }
     {
-        self.is_left(taken) && component.mates.as_slice().contains(&self.id)
+        self.is_left(taken) && is_among(component.mates.as_slice(), self.id)
     }
 
     // Whether it is left and of a component, and its immediate predecessors there were taken.

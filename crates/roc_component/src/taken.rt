@@ -1,7 +1,8 @@
 //! The members that were taken so far.
 ghost use Rattle.std.specs.Prelude.{◌≡◌, ◌++◌, ◌∷◌, [], OnOk};
 ghost use Rattle.std.specs.List.{list_any, list_all};
-ghost use Rattle.roc_component.specs.Within.{holds};
+ghost use Rattle.roc_base.specs.TxnId.{is_txn};
+ghost use Rattle.roc_sequence.specs.Places.{is_listed};
 
 use roc_base::{NoMemory, TxnId};
 use std::alloc::Global;
@@ -18,15 +19,15 @@ pub(crate) struct Taken {
 impl Model for Taken {
     ghost use Rattle.std.specs.Prelude.{◌≡◌, List};
     ghost use Rattle.roc_base.specs.declared.id.TxnId.{TxnId};
-    ghost use Rattle.roc_base.specs.TxnId.{txn_cmp};
+    ghost use Rattle.roc_base.specs.TxnId.{is_txn, txn_cmp};
+    ghost use Rattle.roc_sequence.specs.Places.{is_listed};
     ghost use Rattle.std.specs.BTreeSet.{contains};
-    ghost use Rattle.roc_component.specs.Within.{holds};
 
     ghost Value = { List TxnId };
 
     ghost view = { λ t. t.order.items };
 
-    ghost invariant = { λ t. (u : TxnId) → contains txn_cmp t.ids u ≡ holds t.order.items u };
+    ghost invariant = { λ t. (u : TxnId) → contains txn_cmp t.ids u ≡ is_listed is_txn t.order.items u };
 }
 
 impl Taken {
@@ -42,21 +43,21 @@ impl Taken {
 
     // Whether an id was taken.
     pub(crate) fn contains(&self, id: TxnId) -> bool
-        ensures { result ≡ holds self.now id }
+        ensures { result ≡ is_listed is_txn self.now id }
     {
         self.ids.contains(&id)
     }
 
     // Whether one of the ids was taken.
     pub(crate) fn contains_any(&self, ids: &[TxnId]) -> bool
-        ensures { result ≡ list_any (holds self.now) ids.now }
+        ensures { result ≡ list_any (is_listed is_txn self.now) ids.now }
     {
         ids.iter().any(|id| self.contains(*id))
     }
 
     // Whether all of the ids were taken.
     pub(crate) fn contains_all(&self, ids: &[TxnId]) -> bool
-        ensures { result ≡ list_all (holds self.now) ids.now }
+        ensures { result ≡ list_all (is_listed is_txn self.now) ids.now }
     {
         ids.iter().all(|id| self.contains(*id))
     }

@@ -1,9 +1,10 @@
 -- The immediate pieces as the least set, also among sets that no test decides
 use Rattle.std.proofs.Common.{IsTrue}
-use Rattle.roc_plan.specs.Program.{Workload}
-use Rattle.roc_plan.specs.Conflict.{piece_of, are_in_conflict}
-use Rattle.roc_plan.specs.declared.static_conflict.PieceId.{PieceId}
-use Rattle.roc_plan.specs.Pieces.{HasPiece}
+use Rattle.roc_program.specs.Program.{Workload}
+use Rattle.roc_program.specs.Conflict.{are_in_conflict}
+use Rattle.roc_program.specs.Pieces.{piece_of}
+use Rattle.roc_program.specs.declared.piece_id.PieceId.{PieceId}
+use Rattle.roc_program.specs.Pieces.{HasPiece}
 use Rattle.roc_conflict.specs.Immediate.{IsImmediate, declared, in_conflict}
 use Rattle.roc_conflict.proofs.Present.{present_from_conflict}
 

@@ -1,5 +1,3 @@
-pub mod Counts
-pub mod Ranges
 pub mod Members
 pub mod Present
 pub mod Mirrored

@@ -2,9 +2,10 @@
 use Rattle.std.proofs.Common.{◌≡◌, Bool, false, ◌||◌, List, [], ◌∷◌, refl, ◌∙◌, ap, arith}
 use Rattle.std.proofs.lemmas.Bool.Decides.{nat_tests}
 use Rattle.std.specs.List.{list_any}
-use Rattle.roc_plan.specs.Program.{Access, Statement, Get, Set, Out, Workload}
-use Rattle.roc_plan.specs.Conflict.{is_same_column, collide, piece_of, are_in_conflict}
-use Rattle.roc_plan.specs.declared.static_conflict.PieceId.{PieceId}
+use Rattle.roc_program.specs.Program.{Access, Statement, Get, Set, Out, Workload}
+use Rattle.roc_program.specs.Conflict.{is_same_column, collide, are_in_conflict}
+use Rattle.roc_program.specs.Pieces.{piece_of}
+use Rattle.roc_program.specs.declared.piece_id.PieceId.{PieceId}
 
 column_mirrored : (a b : Access) → is_same_column a b ≡ is_same_column b a
 column_mirrored a b = grind (arith, nat_tests)

@@ -3,13 +3,14 @@ use Rattle.std.proofs.Common.{◌≡◌, true, false, List, [], ◌∷◌, lengt
 use Rattle.std.proofs.lemmas.Bool.{cases_lt, false≢true}
 use Rattle.std.proofs.lemmas.List.{get_or_past}
 use Rattle.std.specs.List.{list_any}
-use Rattle.roc_plan.specs.Program.{Workload, Piece, Procedure, Statement}
-use Rattle.roc_plan.specs.Groups.{no_piece, no_procedure}
-use Rattle.roc_plan.specs.Conflict.{collide, conflict, piece_of, are_in_conflict}
-use Rattle.roc_plan.specs.declared.static_conflict.PieceId.{PieceId}
-use Rattle.roc_plan.specs.Pieces.{pieces_in, HasPiece, pieces_of, all_pieces}
-use Rattle.roc_conflict.specs.Pieces.{is_piece, is_among}
-use Rattle.roc_conflict.proofs.Ranges.{any_in_map, any_in_flat_map}
+use Rattle.roc_program.specs.Program.{Workload, Piece, Procedure, Statement}
+use Rattle.roc_program.specs.LookUps.{no_piece, no_procedure}
+use Rattle.roc_program.specs.Conflict.{collide, conflict, are_in_conflict}
+use Rattle.roc_program.specs.Pieces.{piece_of}
+use Rattle.roc_program.specs.declared.piece_id.PieceId.{PieceId}
+use Rattle.roc_program.specs.Pieces.{pieces_in, HasPiece, piece_ids, all_pieces}
+use Rattle.roc_conflict.specs.Inner.Found.{is_piece, has_id}
+use Rattle.roc_program.proofs.Ranges.{any_in_map, any_in_flat_map}
 use Rattle.roc_conflict.proofs.Members.{is_piece-same, any_from_among}
 
 -- what is not there is the piece without statements
@@ -39,9 +40,9 @@ present_from_conflict program one other h =
     ]
 
 -- all pieces that the program has are among its pieces
-pub among_all : (program : Workload) (id : PieceId) → HasPiece program id → is_among (all_pieces program) id ≡ true
+pub among_all : (program : Workload) (id : PieceId) → HasPiece program id → has_id (all_pieces program) id ≡ true
 among_all program id h =
-    any_in_flat_map (λ x. is_piece x id) (pieces_of program) (length program.procedures) id.proc h.procedure
+    any_in_flat_map (λ x. is_piece x id) (piece_ids program) (length program.procedures) id.proc h.procedure
     (any_in_map (λ x. is_piece x id) (λ k. record { proc = id.proc; piece = k }) (length (pieces_in program id.proc)) id.piece h.piece (is_piece-same id))
 
 pub some_conflict : (program : Workload) (id other : PieceId) → are_in_conflict program id other ≡ true → list_any (are_in_conflict program id) (all_pieces program) ≡ true

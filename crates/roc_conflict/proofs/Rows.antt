@@ -4,18 +4,18 @@ use Rattle.std.proofs.lemmas.Bool.{cases_lt, false≢true}
 use Rattle.std.proofs.lemmas.List.{get_or_past, get_or-map, length-map, map-append}
 use Rattle.std.proofs.lemmas.List.FromFn.{length-map-range_with_len, get_or-map-range_with_len, fill_by_all}
 use Rattle.std.specs.List.{range_with_len}
-use Rattle.roc_plan.specs.Program.{Workload, Procedure}
-use Rattle.roc_plan.specs.Groups.{no_procedure}
-use Rattle.roc_plan.specs.declared.static_conflict.PieceId.{PieceId}
+use Rattle.roc_program.specs.Program.{Workload, Procedure}
+use Rattle.roc_program.specs.LookUps.{no_procedure}
+use Rattle.roc_program.specs.declared.piece_id.PieceId.{PieceId}
 use Rattle.roc_conflict.specs.Classes.{is_immediate}
 use Rattle.roc_conflict.specs.Immediate.{IsImmediate}
-use Rattle.roc_plan.specs.Pieces.{pieces_in, HasPiece, pieces_of}
-use Rattle.roc_conflict.specs.Pieces.{is_among}
+use Rattle.roc_program.specs.Pieces.{pieces_in, HasPiece, piece_ids}
+use Rattle.roc_conflict.specs.Inner.Found.{has_id}
 use Rattle.roc_conflict.proofs.Least.{present_from_immediate}
-use Rattle.roc_conflict.proofs.Ranges.{map_map, map_pushed}
+use Rattle.roc_program.proofs.Ranges.{map_map, map_pushed}
 
 abbrev pub row_of : Workload → List PieceId → ℕ → List Bool
-row_of program ids proc = map (is_among ids) (pieces_of program proc)
+row_of program ids proc = map (has_id ids) (piece_ids program proc)
 
 abbrev pub rows_of : Workload → List PieceId → List (List Bool)
 rows_of program ids = map (row_of program ids) (range_with_len 0 (length program.procedures))
@@ -23,17 +23,17 @@ rows_of program ids = map (row_of program ids) (range_with_len 0 (length program
 module _ (program : Workload) (ids : List PieceId) where
   length-row : (proc : ℕ) → length (row_of program ids proc) ≡ length (pieces_in program proc)
   length-row proc =
-      length-map (pieces_of program proc) (is_among ids)
+      length-map (piece_ids program proc) (has_id ids)
       ∙ length-map-range_with_len (λ k. record { proc = proc; piece = k }) 0 (length (pieces_in program proc))
 
   -- one more row was pushed
   pub row_pushed : {R : Type 0} (v : R → List Bool) (xs ys : List R) (r : R) (proc count : ℕ) → ys ≡ xs ++ r ∷ [] → map v xs ≡ map (row_of program ids) (range_with_len 0 proc)
-      → v r ≡ map (λ k. is_among ids (record { proc = proc; piece = k })) (range_with_len 0 count) → count ≡ length (pieces_in program proc)
+      → v r ≡ map (λ k. has_id ids (record { proc = proc; piece = k })) (range_with_len 0 count) → count ≡ length (pieces_in program proc)
       → map v ys ≡ map (row_of program ids) (range_with_len 0 (proc + 1))
   row_pushed v xs ys r proc count e h last known =
       let at : ℕ → PieceId = λ k. record { proc = proc; piece = k } in
       let row : v r ≡ row_of program ids proc =
-      last ∙ ap (λ n. map (λ k. is_among ids (at k)) (range_with_len 0 n)) known ∙ sym (map_map (is_among ids) at (range_with_len 0 (length (pieces_in program proc)))) in
+      last ∙ ap (λ n. map (λ k. has_id ids (at k)) (range_with_len 0 n)) known ∙ sym (map_map (has_id ids) at (range_with_len 0 (length (pieces_in program proc)))) in
       map_pushed [] (map v xs) (map v ys) (row_of program ids) proc (ap (map v) e ∙ map-append v xs (r ∷ []) ∙ ap (λ l. map v xs ++ l ∷ []) row) h
 
   -- one entry for each piece
@@ -49,12 +49,12 @@ module _ (program : Workload) (ids : List PieceId) where
   row_at classes proc e below =
       ap (λ l. get_or l proc []) e ∙ get_or-map-range_with_len (row_of program ids) 0 (length program.procedures) proc proc [] below (omega arith)
 
-  read : (classes : List (List Bool)) (id : PieceId) → classes ≡ rows_of program ids → HasPiece program id → is_immediate classes id ≡ is_among ids id
+  read : (classes : List (List Bool)) (id : PieceId) → classes ≡ rows_of program ids → HasPiece program id → is_immediate classes id ≡ has_id ids id
   read classes id e h =
       let at : ℕ → PieceId = λ k. record { proc = id.proc; piece = k } in
       ap (λ row. get_or row id.piece false) (row_at classes id.proc e h.procedure)
-      ∙ ap (λ row. get_or row id.piece false) (map_map (is_among ids) at (range_with_len 0 (length (pieces_in program id.proc))))
-      ∙ get_or-map-range_with_len (λ k. is_among ids (at k)) 0 (length (pieces_in program id.proc)) id.piece id.piece false h.piece (omega arith)
+      ∙ ap (λ row. get_or row id.piece false) (map_map (has_id ids) at (range_with_len 0 (length (pieces_in program id.proc))))
+      ∙ get_or-map-range_with_len (λ k. has_id ids (at k)) 0 (length (pieces_in program id.proc)) id.piece id.piece false h.piece (omega arith)
 
   read_present : (classes : List (List Bool)) (id : PieceId) → classes ≡ rows_of program ids → is_immediate classes id ≡ true → HasPiece program id
   read_present classes id e h =
@@ -69,7 +69,7 @@ module _ (program : Workload) (ids : List PieceId) where
       ]
 
   -- exactly the immediate pieces
-  pub exact : (classes : List (List Bool)) → classes ≡ rows_of program ids → ((id : PieceId) → IsTrue (is_among ids id) ↔ IsImmediate program id) → (id : PieceId) → IsTrue (is_immediate classes id) ↔ IsImmediate program id
+  pub exact : (classes : List (List Bool)) → classes ≡ rows_of program ids → ((id : PieceId) → IsTrue (has_id ids id) ↔ IsImmediate program id) → (id : PieceId) → IsTrue (is_immediate classes id) ↔ IsImmediate program id
   exact classes e known id = (
     λ h. (known id).0 (sym (read classes id e (read_present classes id e h)) ∙ h),
     λ h. read classes id e (present_from_immediate program id h) ∙ (known id).1 h,

@@ -4,23 +4,24 @@ use Rattle.std.proofs.lemmas.Bool.{false≢true, not-true, not_from_false, cases
 use Rattle.std.proofs.lemmas.List.{take_more, take_all, take-append-le}
 use Rattle.std.proofs.lemmas.List.Folds.{list_any_at}
 use Rattle.std.proofs.lemmas.List.Filters.{length-filter_both}
-use Rattle.roc_plan.specs.Program.{Workload}
-use Rattle.roc_plan.specs.Conflict.{piece_of, are_in_conflict}
-use Rattle.roc_plan.specs.declared.static_conflict.PieceId.{PieceId}
-use Rattle.roc_plan.specs.Pieces.{HasPiece, all_pieces}
-use Rattle.roc_conflict.specs.Pieces.{is_piece, is_among}
+use Rattle.roc_program.specs.Program.{Workload}
+use Rattle.roc_program.specs.Conflict.{are_in_conflict}
+use Rattle.roc_program.specs.Pieces.{piece_of}
+use Rattle.roc_program.specs.declared.piece_id.PieceId.{PieceId}
+use Rattle.roc_program.specs.Pieces.{HasPiece, all_pieces}
+use Rattle.roc_conflict.specs.Inner.Found.{is_piece, has_id}
 use Rattle.roc_conflict.specs.Immediate.{IsImmediate, declared, in_conflict}
 use Rattle.roc_conflict.proofs.Members.{among_front, among_behind, among_either, among_one, among_filtered, among_unfiltered, is_piece-same}
 use Rattle.roc_conflict.proofs.Present.{present_from_now, present_from_conflict, among_all}
 
 -- the walk found only immediate pieces. Each piece was found or is among the others, which were not declared `now` and do not conflict with those that were taken
 pub record IsWalk (program : Workload) (found others : List PieceId) (taken : ℕ) : Type 0 where
-  pub sound : (id : PieceId) → IsTrue (is_among found id) → IsImmediate program id
-  pub whole : (id : PieceId) → HasPiece program id → IsTrue (is_among found id) ⊎ IsTrue (is_among others id)
-  pub later : (id : PieceId) → IsTrue (is_among others id) → (piece_of program id).is_now ≡ false
-  pub apart : (one other : PieceId) → IsTrue (is_among (take taken found) one) → IsTrue (is_among others other) → are_in_conflict program one other ≡ false
+  pub sound : (id : PieceId) → IsTrue (has_id found id) → IsImmediate program id
+  pub whole : (id : PieceId) → HasPiece program id → IsTrue (has_id found id) ⊎ IsTrue (has_id others id)
+  pub later : (id : PieceId) → IsTrue (has_id others id) → (piece_of program id).is_now ≡ false
+  pub apart : (one other : PieceId) → IsTrue (has_id (take taken found) one) → IsTrue (has_id others other) → are_in_conflict program one other ≡ false
 
-among_at : (ids : List PieceId) (k : ℕ) (d : PieceId) → k < length ids → is_among ids (get_or ids k d) ≡ true
+among_at : (ids : List PieceId) (k : ℕ) (d : PieceId) → k < length ids → has_id ids (get_or ids k d) ≡ true
 among_at ids k d below = list_any_at (λ x. is_piece x (get_or ids k d)) ids k d below (is_piece-same (get_or ids k d))
 
 module _ (program : Workload) where
@@ -30,13 +31,13 @@ module _ (program : Workload) where
   pub walk_start : (all found others : List PieceId) → all ≡ all_pieces program → found ≡ filter is_now all → others ≡ filter (λ id. not (is_now id)) all → IsWalk program found others 0
   walk_start all found others a f o =
       record {
-        sound = λ id h. let now = (among_unfiltered is_now all id (subst (λ l. is_among l id ≡ true) f h)).1 in declared (present_from_now program id now) now;
-        whole = λ id h. let here : is_among all id ≡ true = subst (λ l. is_among l id ≡ true) (sym a) (among_all program id h) in
+        sound = λ id h. let now = (among_unfiltered is_now all id (subst (λ l. has_id l id ≡ true) f h)).1 in declared (present_from_now program id now) now;
+        whole = λ id h. let here : has_id all id ≡ true = subst (λ l. has_id l id ≡ true) (sym a) (among_all program id h) in
             elim (cases_Bool (is_now id)) [
-              | inl now ↦ inl (subst (λ l. is_among l id ≡ true) (sym f) (among_filtered is_now all id here now))
-              | inr now ↦ inr (subst (λ l. is_among l id ≡ true) (sym o) (among_filtered (λ x. not (is_now x)) all id here (not_from_false (is_now id) now)))
+              | inl now ↦ inl (subst (λ l. has_id l id ≡ true) (sym f) (among_filtered is_now all id here now))
+              | inr now ↦ inr (subst (λ l. has_id l id ≡ true) (sym o) (among_filtered (λ x. not (is_now x)) all id here (not_from_false (is_now id) now)))
             ];
-        later = λ id h. not-true (is_now id) (among_unfiltered (λ x. not (is_now x)) all id (subst (λ l. is_among l id ≡ true) o h)).1;
+        later = λ id h. not-true (is_now id) (among_unfiltered (λ x. not (is_now x)) all id (subst (λ l. has_id l id ≡ true) o h)).1;
         apart = λ one other h k. absurd (false≢true h);
       }
 
@@ -44,11 +45,11 @@ module _ (program : Workload) where
     promoted : List PieceId
     promoted = filter (are_in_conflict program next) others
 
-    next_found : is_among found next ≡ true
-    next_found = subst (λ x. is_among found x ≡ true) (sym is) (among_at found taken next below)
+    next_found : has_id found next ≡ true
+    next_found = subst (λ x. has_id found x ≡ true) (sym is) (among_at found taken next below)
 
-    left : (id : PieceId) → is_among others2 id ≡ true → (is_among others id ≡ true) × (not (are_in_conflict program next id) ≡ true)
-    left id h = among_unfiltered (λ x. not (are_in_conflict program next x)) others id (subst (λ l. is_among l id ≡ true) o h)
+    left : (id : PieceId) → has_id others2 id ≡ true → (has_id others id ≡ true) × (not (are_in_conflict program next id) ≡ true)
+    left id h = among_unfiltered (λ x. not (are_in_conflict program next x)) others id (subst (λ l. has_id l id ≡ true) o h)
 
     front : take (taken + 1) found2 ≡ take taken found ++ next ∷ []
     front =
@@ -58,22 +59,22 @@ module _ (program : Workload) where
     pub walk_more : IsWalk program found2 others2 (taken + 1)
     walk_more =
         record {
-          sound = λ id h. elim (among_either found (filter (are_in_conflict program next) others) id (subst (λ l. is_among l id ≡ true) f h)) [
+          sound = λ id h. elim (among_either found (filter (are_in_conflict program next) others) id (subst (λ l. has_id l id ≡ true) f h)) [
             | inl k ↦ w.sound id k
             | inr k ↦ in_conflict (w.sound next next_found) (among_unfiltered (are_in_conflict program next) others id k).1
           ];
           whole = λ id h. elim (w.whole id h) [
-            | inl k ↦ inl (subst (λ l. is_among l id ≡ true) (sym f) (among_front found (filter (are_in_conflict program next) others) id k))
+            | inl k ↦ inl (subst (λ l. has_id l id ≡ true) (sym f) (among_front found (filter (are_in_conflict program next) others) id k))
             | inr k ↦ elim (cases_Bool (are_in_conflict program next id)) [
-              | inl e ↦ inl (subst (λ l. is_among l id ≡ true) (sym f)
+              | inl e ↦ inl (subst (λ l. has_id l id ≡ true) (sym f)
                   (among_behind found (filter (are_in_conflict program next) others) id (among_filtered (are_in_conflict program next) others id k e)))
-              | inr e ↦ inr (subst (λ l. is_among l id ≡ true) (sym o)
+              | inr e ↦ inr (subst (λ l. has_id l id ≡ true) (sym o)
                   (among_filtered (λ x. not (are_in_conflict program next x)) others id k (not_from_false (are_in_conflict program next id) e)))
             ]
           ];
           later = λ id h. w.later id (left id h).0;
           apart = λ one other h k.
-              elim (among_either (take taken found) (next ∷ []) one (subst (λ l. is_among l one ≡ true) front h)) [
+              elim (among_either (take taken found) (next ∷ []) one (subst (λ l. has_id l one ≡ true) front h)) [
                 | inl m ↦ w.apart one other m (left other k).0
                 | inr m ↦ ap (λ x. are_in_conflict program x other) (sym (among_one next one m)) ∙ not-true (are_in_conflict program next other) (left other k).1
               ];
@@ -93,12 +94,12 @@ module _ (program : Workload) where
     all_taken : take taken found ≡ found
     all_taken = take_all taken found done
 
-    found_from : (id : PieceId) → IsImmediate program id → is_among found id ≡ true
+    found_from : (id : PieceId) → IsImmediate program id → has_id found id ≡ true
     found_from _ (declared {id} there now) =
         elim (w.whole id there) [ inl k ↦ k | inr k ↦ absurd (false≢true (sym (w.later id k) ∙ now)) ]
     found_from _ (in_conflict {one} {other} first e) =
-        let k = subst (λ l. is_among l one ≡ true) (sym all_taken) (found_from one first) in
+        let k = subst (λ l. has_id l one ≡ true) (sym all_taken) (found_from one first) in
         elim (w.whole other (present_from_conflict program one other e)) [ inl m ↦ m | inr m ↦ absurd (false≢true (sym (w.apart one other k m) ∙ e)) ]
 
-    pub walk_done : (id : PieceId) → IsTrue (is_among found id) ↔ IsImmediate program id
+    pub walk_done : (id : PieceId) → IsTrue (has_id found id) ↔ IsImmediate program id
     walk_done id = (w.sound id, found_from id)

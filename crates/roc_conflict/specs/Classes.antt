@@ -1,6 +1,6 @@
 -- Of each piece of a program whether it is immediate: a list for each procedure, in the order of the text
 use Rattle.std.specs.Prelude.{Bool, false, List, [], slice_index_or}
-use Rattle.roc_plan.specs.declared.static_conflict.PieceId.{PieceId}
+use Rattle.roc_program.specs.declared.piece_id.PieceId.{PieceId}
 
 -- a piece that is not there is not immediate
 abbrev pub is_immediate : List (List Bool) → PieceId → Bool

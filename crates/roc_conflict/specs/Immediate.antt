@@ -1,9 +1,10 @@
 -- Which pieces may run at the start of their transaction: docs/LANGUAGE.md, "Conflicts"
 use Rattle.std.specs.Prelude.{IsTrue}
-use Rattle.roc_plan.specs.Program.{Workload}
-use Rattle.roc_plan.specs.Conflict.{piece_of, are_in_conflict}
-use Rattle.roc_plan.specs.declared.static_conflict.PieceId.{PieceId}
-use Rattle.roc_plan.specs.Pieces.{HasPiece}
+use Rattle.roc_program.specs.Program.{Workload}
+use Rattle.roc_program.specs.Conflict.{are_in_conflict}
+use Rattle.roc_program.specs.Pieces.{piece_of}
+use Rattle.roc_program.specs.declared.piece_id.PieceId.{PieceId}
+use Rattle.roc_program.specs.Pieces.{HasPiece}
 
 -- the least set of pieces that holds those declared `now`, and with each piece those that it conflicts with
 pub data IsImmediate (program : Workload) : PieceId → Type 0 where

@@ -1,4 +1,4 @@
-pub mod Pieces
 pub mod Immediate
 pub mod Classes
 pub mod Contended
+pub mod Inner

@@ -1,16 +1,13 @@
 //! The class of each piece.
 ghost use Rattle.std.specs.Prelude.{◌≡◌, length, map, IfOk};
 ghost use Rattle.std.specs.List.{range_with_len};
-ghost use Rattle.roc_plan.specs.WellFormed.{IsProgram};
-ghost use Rattle.roc_plan.specs.Workload.{program};
-ghost use Rattle.roc_plan.specs.declared.static_conflict.PieceId.{PieceId};
+ghost use Rattle.roc_program.specs.declared.piece_id.PieceId.{PieceId};
 ghost use Rattle.roc_conflict.specs.Classes.{is_immediate};
-ghost use Rattle.roc_plan.specs.Pieces.{pieces_of};
-ghost use Rattle.roc_conflict.specs.Pieces.{is_among};
+ghost use Rattle.roc_program.specs.Pieces.{piece_ids};
+ghost use Rattle.roc_conflict.specs.Inner.Found.{has_id};
 
-use crate::{piece_count, procedure_count};
 use roc_base::NoMemory;
-use roc_plan::{PieceId, Workload};
+use roc_program::{PieceId, Workload, piece_count, procedure_count};
 use std::alloc::Global;
 use std::marker::Model;
 
@@ -48,8 +45,7 @@ impl Classes {
         workload: &Workload,
         immediate: &[PieceId],
     ) -> Result<Classes, NoMemory>
-        requires { IsProgram (program workload.now) }
-        ensures { IfOk result (λ classes. classes ≡ map (λ proc. map (is_among immediate.now) (pieces_of (program workload.now) proc)) (range_with_len 0 (length (program workload.now).procedures))) }
+        ensures { IfOk result (λ classes. classes ≡ map (λ proc. map (has_id immediate.now) (piece_ids workload.now proc)) (range_with_len 0 (length workload.now.procedures))) }
     {
         let mut procedures = Vec::new(alloc);
         for proc in 0..procedure_count(workload) {
@@ -61,7 +57,7 @@ impl Classes {
 
 // Of each of the first pieces of a procedure whether it is among these.
 fn row(alloc: Global, proc: u16, count: u16, immediate: &[PieceId]) -> Result<Vec<bool>, NoMemory>
-    ensures { IfOk result (λ classes. classes.items ≡ map (λ k. is_among immediate.now (record { proc = proc; piece = k })) (range_with_len 0 count)) }
+    ensures { IfOk result (λ classes. classes.items ≡ map (λ k. has_id immediate.now (record { proc = proc; piece = k })) (range_with_len 0 count)) }
 {
     let mut classes = Vec::new(alloc);
     for piece in 0..count {

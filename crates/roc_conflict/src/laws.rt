@@ -1,11 +1,12 @@
 //! Laws of conflicts and immediate pieces. Each is the contract of a function that does nothing.
 ghost use Rattle.std.specs.Prelude.{◌≡◌, ◌↔◌, Bool, IsTrue};
-ghost use Rattle.roc_plan.specs.Conflict.{piece_of, are_in_conflict};
-ghost use Rattle.roc_plan.specs.Program.{Workload};
-ghost use Rattle.roc_plan.specs.declared.static_conflict.PieceId.{PieceId};
+ghost use Rattle.roc_program.specs.Conflict.{are_in_conflict};
+ghost use Rattle.roc_program.specs.Pieces.{piece_of};
+ghost use Rattle.roc_program.specs.Program.{Workload};
+ghost use Rattle.roc_program.specs.declared.piece_id.PieceId.{PieceId};
 ghost use Rattle.roc_conflict.specs.Contended.{has_conflict};
 ghost use Rattle.roc_conflict.specs.Immediate.{IsImmediate};
-ghost use Rattle.roc_plan.specs.Pieces.{HasPiece};
+ghost use Rattle.roc_program.specs.Pieces.{HasPiece};
 
 /// The immediate pieces are pieces of the program, hold those declared `now`, and hold with each
 /// piece those in conflict with it; and each set that has the last two of these holds them.

@@ -10,10 +10,8 @@
 mod classes;
 mod contention;
 pub mod laws;
-mod pieces;
 mod promotion;
 
 pub use classes::Classes;
 pub use contention::contended;
-pub use pieces::{all_pieces, is_declared_now, piece_count, procedure_count};
 pub use promotion::promote;

@@ -1,24 +1,22 @@
 //! Promotion: pieces in conflict with immediate ones are immediate too.
 ghost use Rattle.std.specs.Prelude.{◌≡◌, ◌↔◌, ◌++◌, length, map, not, filter, IsTrue, IfOk, OnOk};
-ghost use Rattle.roc_plan.specs.Conflict.{piece_of, are_in_conflict};
-ghost use Rattle.roc_plan.specs.WellFormed.{IsProgram};
-ghost use Rattle.roc_plan.specs.Workload.{program};
-ghost use Rattle.roc_plan.specs.declared.static_conflict.PieceId.{PieceId};
+ghost use Rattle.roc_program.specs.Conflict.{are_in_conflict};
+ghost use Rattle.roc_program.specs.Pieces.{piece_of};
+ghost use Rattle.roc_program.specs.declared.piece_id.PieceId.{PieceId};
 ghost use Rattle.roc_conflict.specs.Classes.{is_immediate};
 ghost use Rattle.roc_conflict.specs.Immediate.{IsImmediate};
-ghost use Rattle.roc_conflict.specs.Pieces.{is_among};
+ghost use Rattle.roc_conflict.specs.Inner.Found.{has_id};
 
-use crate::{Classes, all_pieces, is_declared_now};
+use crate::Classes;
 use roc_base::NoMemory;
-use roc_plan::{PieceId, Workload, conflict};
+use roc_program::{PieceId, Workload, all_pieces, conflict, is_declared_now};
 use std::alloc::Global;
 
 /// Which pieces are immediate: those declared `now`, and each piece in conflict with an immediate
-/// one. `NoMemory` comes where there is none for the answer, and for no other reason.
+/// one.
 pub fn promote(alloc: Global, workload: &Workload) -> Result<Classes, NoMemory>
-    requires { IsProgram (program workload.now) }
-    ensures shape { IfOk result (λ classes. map length classes ≡ map (λ p. length p.pieces) (program workload.now).procedures) }
-    ensures exact { IfOk result (λ classes. (id : PieceId) → IsTrue (is_immediate classes id) ↔ IsImmediate (program workload.now) id) }
+    ensures shape { IfOk result (λ classes. map length classes ≡ map (λ p. length p.pieces) workload.now.procedures) }
+    ensures exact { IfOk result (λ classes. (id : PieceId) → IsTrue (is_immediate classes id) ↔ IsImmediate workload.now id) }
 {
     let immediate = immediate_pieces(alloc, workload)?;
     Classes::where_immediate(alloc, workload, immediate.as_slice())
@@ -26,8 +24,7 @@ pub fn promote(alloc: Global, workload: &Workload) -> Result<Classes, NoMemory>
 
 // The immediate pieces, each of which is taken once to look for what it promotes.
 fn immediate_pieces(alloc: Global, workload: &Workload) -> Result<Vec<PieceId>, NoMemory>
-    requires { IsProgram (program workload.now) }
-    ensures { IfOk result (λ ids. (id : PieceId) → IsTrue (is_among ids.items id) ↔ IsImmediate (program workload.now) id) }
+    ensures { IfOk result (λ ids. (id : PieceId) → IsTrue (has_id ids.items id) ↔ IsImmediate workload.now id) }
 {
     let all = all_pieces(alloc, workload)?;
     let mut immediate = Vec::new(alloc);
@@ -48,8 +45,8 @@ fn part_declared(
     ids: &[PieceId],
     immediate: &mut Vec<PieceId>,
 ) -> Result<Vec<PieceId>, NoMemory>
-    ensures immediate { OnOk result (immediate.new.items ≡ immediate.old.items ++ filter (λ id. (piece_of (program workload.now) id).is_now) ids.now) }
-    ensures others { IfOk result (λ others. others.items ≡ filter (λ id. not (piece_of (program workload.now) id).is_now) ids.now) }
+    ensures immediate { OnOk result (immediate.new.items ≡ immediate.old.items ++ filter (λ id. (piece_of workload.now id).is_now) ids.now) }
+    ensures others { IfOk result (λ others. others.items ≡ filter (λ id. not (piece_of workload.now id).is_now) ids.now) }
 {
     let mut others = Vec::new(alloc);
     for id in ids {
@@ -70,8 +67,8 @@ fn part_promoted(
     ids: &[PieceId],
     immediate: &mut Vec<PieceId>,
 ) -> Result<Vec<PieceId>, NoMemory>
-    ensures immediate { OnOk result (immediate.new.items ≡ immediate.old.items ++ filter (are_in_conflict (program workload.now) one) ids.now) }
-    ensures others { IfOk result (λ others. others.items ≡ filter (λ id. not (are_in_conflict (program workload.now) one id)) ids.now) }
+    ensures immediate { OnOk result (immediate.new.items ≡ immediate.old.items ++ filter (are_in_conflict workload.now one) ids.now) }
+    ensures others { IfOk result (λ others. others.items ≡ filter (λ id. not (are_in_conflict workload.now one id)) ids.now) }
 {
     let mut others = Vec::new(alloc);
     for id in ids {

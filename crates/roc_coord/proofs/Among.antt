@@ -1,24 +1,19 @@
 -- One transaction among others: its place, what a change there leaves, and the others without it
-use Rattle.std.proofs.Common.{◌≡◌, ℕ, zero, suc, ◌<◌, Bool, true, false, cond, not, nat_lt, List, [], ◌∷◌, ◌++◌, length, get_or, set, map, Some, None, IsTrue, refl, sym, ap, subst, ◌∙◌, arith}
+use Rattle.std.proofs.Common.{◌≡◌, ℕ, zero, suc, ◌<◌, Bool, true, false, cond, not, nat_lt, List, [], ◌∷◌, length, get_or, set, map, Some, None, IsTrue, refl, sym, ap, subst, ◌∙◌, arith}
 use Rattle.std.proofs.lemmas.Bool.{ltb-true, ltb-false}
 use Rattle.std.proofs.Math.Seq.{map-set_same}
 use Rattle.std.proofs.lemmas.List.Folds.{find_at}
 use Rattle.std.proofs.lemmas.Option.{slice_get_past, slice_get-get_or}
 use Rattle.std.specs.List.{find, filter, position, position_or_len, remove, AllByRecursion}
 use Rattle.roc_base.specs.declared.id.TxnId.{TxnId}
-use Rattle.roc_base.specs.TxnId.{is_txn, txn_lt, is_txn-eq, is_txn-swap, txn_lt-ne}
+use Rattle.roc_base.specs.TxnId.{is_txn, txn_lt}
+use Rattle.roc_base.proofs.Ids.{is_txn-eq, is_txn-swap, txn_lt-ne}
 use Rattle.roc_coord.specs.declared.transaction.Transaction.{Transaction}
-use Rattle.roc_coord.specs.Ids.{ids_of, IsBelowAll, AreRising}
+use Rattle.roc_coord.specs.Ids.{ids_of}
+use Rattle.roc_sequence.specs.Rising.{IsRising}
+use Rattle.roc_sequence.proofs.Found.{found_passes}
 
 -- ---- the place of the first element that passes a test
-
-pub find_passes : {X : Type 0} (p : X → Bool) (xs : List X) (x : X) → find p xs ≡ Some x → p x ≡ true
-find_passes p [] x h = cc
-find_passes {X} p (y ∷ ys) x h = go (p y) refl h (find_passes p ys x)
-  where
-    go : (b : Bool) → p y ≡ b → cond b (Some y) (find p ys) ≡ Some x → (find p ys ≡ Some x → p x ≡ true) → p x ≡ true
-    go true e f ih = let same : y ≡ x = cc in subst (λ v. p v ≡ true) same e
-    go false e f ih = ih f
 
 pub record IsPlaceOf {X : Type 0} (p : X → Bool) (xs : List X) (i : ℕ) : Type 0 where
   pub within : i < length xs
@@ -31,7 +26,7 @@ place_found {X} p xs i h = go (nat_lt (position_or_len p xs) (length xs)) refl h
     at_place : position_or_len p xs < length xs → IsPlaceOf p xs (position_or_len p xs)
     at_place l =
         let found : (d : X) → find p xs ≡ Some (get_or xs (position_or_len p xs) d) = λ d. find_at p xs ∙ slice_get-get_or xs (position_or_len p xs) d l in
-        record { within = l; found = found; passes = λ d. find_passes p xs (get_or xs (position_or_len p xs) d) (found d) }
+        record { within = l; found = found; passes = λ d. found_passes p xs (get_or xs (position_or_len p xs) d) (found d) }
 
     go : (b : Bool) → nat_lt (position_or_len p xs) (length xs) ≡ b → cond b (Some (position_or_len p xs)) None ≡ Some i → IsPlaceOf p xs i
     go true e f = let same : position_or_len p xs ≡ i = cc in subst (IsPlaceOf p xs) same (at_place (ltb-true _ _ e))
@@ -44,41 +39,11 @@ place_absent p xs h = go (nat_lt (position_or_len p xs) (length xs)) refl h
     go true e f = cc
     go false e f = find_at p xs ∙ slice_get_past xs (position_or_len p xs) (ltb-false _ _ e)
 
--- ---- what holds of each
-
-pub AllByRecursion-get_or : {X : Type 0} (P : X → Type 0) (xs : List X) (i : ℕ) (d : X) → AllByRecursion P xs → i < length xs → P (get_or xs i d)
-AllByRecursion-get_or P [] i d h l = absurd (omega arith)
-AllByRecursion-get_or P (x ∷ xs) zero d h l = h.0
-AllByRecursion-get_or P (x ∷ xs) (suc i) d h l = AllByRecursion-get_or P xs i d h.1 (omega arith)
-
-pub AllByRecursion-set : {X : Type 0} (P : X → Type 0) (xs : List X) (i : ℕ) (x : X) → AllByRecursion P xs → P x → AllByRecursion P (set xs i x)
-AllByRecursion-set P [] i x h k = h
-AllByRecursion-set P (y ∷ ys) zero x h k = (k, h.1)
-AllByRecursion-set P (y ∷ ys) (suc i) x h k = (h.0, AllByRecursion-set P ys i x h.1 k)
-
-pub AllByRecursion-remove : {X : Type 0} (P : X → Type 0) (xs : List X) (i : ℕ) → AllByRecursion P xs → AllByRecursion P (remove xs i)
-AllByRecursion-remove P [] zero h = h
-AllByRecursion-remove P [] (suc i) h = h
-AllByRecursion-remove P (x ∷ xs) zero h = h.1
-AllByRecursion-remove P (x ∷ xs) (suc i) h = (h.0, AllByRecursion-remove P xs i h.1)
-
--- ---- rising ids
-
-pub AreRising-remove : (ids : List TxnId) (i : ℕ) → AreRising ids → AreRising (remove ids i)
-AreRising-remove [] zero h = h
-AreRising-remove [] (suc i) h = h
-AreRising-remove (id ∷ ids) zero h = h.1
-AreRising-remove (id ∷ ids) (suc i) h = (AllByRecursion-remove (λ later. IsTrue (txn_lt id later)) ids i h.0, AreRising-remove ids i h.1)
-
-pub AreRising-push : (ids : List TxnId) (id : TxnId) → AreRising ids → AllByRecursion (λ earlier. IsTrue (txn_lt earlier id)) ids → AreRising (ids ++ id ∷ [])
-AreRising-push [] id h k = (tt, tt)
-AreRising-push (x ∷ xs) id h k = (below xs h.0, AreRising-push xs id h.1 k.1)
-  where
-    below : (ys : List TxnId) → IsBelowAll x ys → IsBelowAll x (ys ++ id ∷ [])
-    below [] l = (k.0, tt)
-    below (y ∷ ys) l = (l.0, below ys l.1)
-
 -- ---- a change at one place, and its removal, among transactions of rising ids
+
+-- an id comes before all of these
+abbrev pub IsBelowAll : TxnId → List TxnId → Type 0
+IsBelowAll id ids = AllByRecursion (λ later. IsTrue (txn_lt id later)) ids
 
 -- of ids that come behind, none is the id
 none_is : (id : TxnId) (x : Transaction) → txn_lt id x.id ≡ true → is_txn x.id id ≡ false
@@ -102,7 +67,7 @@ not_before y [] i d id h l e = absurd (omega arith)
 not_before y (z ∷ zs) zero d id h l e = subst (λ v. is_txn y.id v ≡ false) e (txn_lt-ne y.id z.id h.0)
 not_before y (z ∷ zs) (suc i) d id h l e = not_before y zs i d id h.1 (omega arith) e
 
-pub replaced : (xs : List Transaction) (i : ℕ) (x d : Transaction) → AreRising (ids_of xs) → i < length xs → (get_or xs i d).id ≡ x.id → map (λ y. cond (is_txn y.id x.id) x y) xs ≡ set xs i x
+pub replaced : (xs : List Transaction) (i : ℕ) (x d : Transaction) → IsRising txn_lt (ids_of xs) → i < length xs → (get_or xs i d).id ≡ x.id → map (λ y. cond (is_txn y.id x.id) x y) xs ≡ set xs i x
 replaced [] i x d h l e = absurd (omega arith)
 replaced (y ∷ ys) zero x d h l e =
     let head : Bool → List Transaction = λ b. cond b x y ∷ map (λ v. cond (is_txn v.id x.id) x v) ys in
@@ -112,7 +77,7 @@ replaced (y ∷ ys) (suc i) x d h l e =
     let head : Bool → List Transaction = λ b. cond b x y ∷ map (λ v. cond (is_txn v.id x.id) x v) ys in
     ap head (not_before y ys i d x.id h.0 (omega arith) e) ∙ ap (λ vs. y ∷ vs) (replaced ys i x d h.1 (omega arith) e)
 
-pub removed : (xs : List Transaction) (i : ℕ) (d : Transaction) (id : TxnId) → AreRising (ids_of xs) → i < length xs → (get_or xs i d).id ≡ id → remove xs i ≡ filter (λ y. not (is_txn y.id id)) xs
+pub removed : (xs : List Transaction) (i : ℕ) (d : Transaction) (id : TxnId) → IsRising txn_lt (ids_of xs) → i < length xs → (get_or xs i d).id ≡ id → remove xs i ≡ filter (λ y. not (is_txn y.id id)) xs
 removed [] i d id h l e = absurd (omega arith)
 removed (y ∷ ys) zero d id h l e =
     let head : Bool → List Transaction = λ b. cond (not b) (y ∷ filter (λ v. not (is_txn v.id id)) ys) (filter (λ v. not (is_txn v.id id)) ys) in
@@ -124,12 +89,6 @@ removed (y ∷ ys) (suc i) d id h l e =
 
 pub ids_of-set : (xs : List Transaction) (i : ℕ) (x y : Transaction) → x ≡ get_or xs i x → y.id ≡ x.id → ids_of (set xs i y) ≡ ids_of xs
 ids_of-set xs i x y is e = map-set_same (λ (v : Transaction). v.id) xs i y x (e ∙ ap (λ (v : Transaction). v.id) is)
-
--- what is read at a place is one element
-pub same_element : {X : Type 0} (xs : List X) (i : ℕ) (x y : X) → i < length xs → x ≡ get_or xs i x → y ≡ get_or xs i y → x ≡ y
-same_element [] i x y l e f = absurd (omega arith)
-same_element (z ∷ zs) zero x y l e f = e ∙ sym f
-same_element (z ∷ zs) (suc i) x y l e f = same_element zs i x y (omega arith) e f
 
 pub ids_of-remove : (xs : List Transaction) (i : ℕ) → ids_of (remove xs i) ≡ remove (ids_of xs) i
 ids_of-remove [] zero = refl

@@ -4,7 +4,7 @@ use Rattle.std.proofs.lemmas.Bool.Decides.{nat_tests}
 use Rattle.std.specs.List.{AllByRecursion}
 use Rattle.roc_base.specs.declared.id.TxnId.{TxnId}
 use Rattle.roc_base.specs.TxnId.{txn_lt}
-use Rattle.roc_coord.specs.Ids.{AreGiven}
+use Rattle.roc_coord.specs.Inner.Given.{AreGiven}
 
 txn_lt-seq : (a b : TxnId) → a.coord ≡ b.coord → a.seq < b.seq → txn_lt a b ≡ true
 txn_lt-seq a b e l = grind (arith, nat_tests)

@@ -4,7 +4,8 @@ use Rattle.std.proofs.lemmas.List.{append-nil}
 use Rattle.std.specs.List.{filter, position, remove}
 use Rattle.roc_base.specs.declared.id.TxnId.{TxnId}
 use Rattle.roc_base.specs.declared.node.Shard.{Shard}
-use Rattle.roc_base.specs.TxnId.{is_txn, is_txn-true}
+use Rattle.roc_base.specs.TxnId.{is_txn, txn_lt}
+use Rattle.roc_base.specs.Inner.Equalities.{is_txn-true}
 use Rattle.roc_msg.specs.declared.outbox.Outbox.{Outbox}
 use Rattle.roc_msg.specs.declared.outbox.Outgoing.{Outgoing}
 use Rattle.roc_msg.specs.declared.reason.Reason.{Reason}
@@ -14,30 +15,31 @@ use Rattle.roc_coord.specs.declared.handled.Handled.TheVariants.{Done, Answered,
 use Rattle.roc_coord.specs.declared.transaction.TakenStart.{TakenStart}
 use Rattle.roc_coord.specs.declared.transaction.TakenCommit.{TakenCommit}
 use Rattle.roc_coord.specs.declared.transaction.Transaction.{Transaction}
-use Rattle.roc_coord.specs.Ids.{ids_of, AreRising}
-use Rattle.roc_coord.specs.State.{State, Step, ignored, find_transaction, with_transaction}
+use Rattle.roc_coord.specs.Ids.{ids_of}
+use Rattle.roc_sequence.specs.Rising.{IsRising}
+use Rattle.roc_coord.specs.State.{ignored, find_transaction, with_transaction, CoordState, CoordStep}
 use Rattle.roc_coord.specs.Starts.{with_starts}
 use Rattle.roc_coord.specs.Step.{IsOutcome, unless_refused, startok_refusal, startok_taken, with_startok, with_commits, sends_after, after_startok, commitok_refusal, commitok_taken, with_commitok, without_transaction, reply_now, after_commitok}
 use Rattle.roc_coord.proofs.Among.{place_absent, place_found, replaced, removed, remove-set}
 
-module _ (plan : Plan) (xs : List Transaction) (s : State) (same : s.pending ≡ xs) where
+module _ (plan : Plan) (xs : List Transaction) (s : CoordState) (same : s.pending ≡ xs) where
   -- an ignored message leaves the transactions, and sends nothing
-  ignored_outcome : (step : Step) (reason : Reason) (out : Outbox) → step ≡ ignored s reason → IsOutcome step (Ignored reason) (record s { pending = xs }) out out
+  ignored_outcome : (step : CoordStep) (reason : Reason) (out : Outbox) → step ≡ ignored s reason → IsOutcome step (Ignored reason) (record s { pending = xs }) out out
   ignored_outcome step reason out e =
-      let with_list : List Transaction → State = λ pending. record s { pending = pending } in
+      let with_list : List Transaction → CoordState = λ pending. record s { pending = pending } in
       let with_sends : List Outgoing → Outbox = λ sends. record out { messages = sends } in
-      let after : Step → Outbox = λ t. record out { messages = out.messages ++ t.sends } in
+      let after : CoordStep → Outbox = λ t. record out { messages = out.messages ++ t.sends } in
       record {
-        answer = sym (ap (λ (t : Step). t.answer) e);
-        state = ap with_list (sym same) ∙ sym (ap (λ (t : Step). t.state) e);
+        answer = sym (ap (λ (t : CoordStep). t.answer) e);
+        state = ap with_list (sym same) ∙ sym (ap (λ (t : CoordStep). t.state) e);
         sent = ap with_sends (sym (append-nil out.messages)) ∙ sym (ap after e);
       }
 
   -- the transaction at a place is now another one of its id
-  put_back : (at : ℕ) (x y z : Transaction) → AreRising (ids_of xs) → at < length xs → x ≡ get_or xs at x → y.id ≡ x.id → y ≡ z → record s { pending = set xs at y } ≡ with_transaction s z
+  put_back : (at : ℕ) (x y z : Transaction) → IsRising txn_lt (ids_of xs) → at < length xs → x ≡ get_or xs at x → y.id ≡ x.id → y ≡ z → record s { pending = set xs at y } ≡ with_transaction s z
   put_back at x y z rising within is own e =
-      let with_list : List Transaction → State = λ pending. record s { pending = pending } in
-      let with_put : List Transaction → State = λ pending. record s { pending = map (λ v. cond (is_txn v.id y.id) y v) pending } in
+      let with_list : List Transaction → CoordState = λ pending. record s { pending = pending } in
+      let with_put : List Transaction → CoordState = λ pending. record s { pending = map (λ v. cond (is_txn v.id y.id) y v) pending } in
       ap with_list (sym (replaced xs at y x rising within (ap (λ (v : Transaction). v.id) (sym is) ∙ sym own))) ∙ ap with_put (sym same) ∙ ap (with_transaction s) e
 
   module _ (id : TxnId) where
@@ -64,11 +66,11 @@ module _ (plan : Plan) (xs : List Transaction) (s : State) (same : s.pending ≡
           ignored_outcome (after_startok plan s (find_transaction id xs) ok shard) reason out
           (ap (λ o. after_startok plan s o ok shard) found ∙ ap (λ o. unless_refused s o (startok_taken plan s (with_startok x ok))) h)
 
-      pub startok_done : (ok : TakenStart) (shard : Shard) (before after : Outbox) (y : Transaction) → AreRising (ids_of xs) → startok_refusal plan x ok shard ≡ None → y ≡ with_commits plan (with_starts plan (with_startok x ok)) → y.id ≡ x.id
+      pub startok_done : (ok : TakenStart) (shard : Shard) (before after : Outbox) (y : Transaction) → IsRising txn_lt (ids_of xs) → startok_refusal plan x ok shard ≡ None → y ≡ with_commits plan (with_starts plan (with_startok x ok)) → y.id ≡ x.id
           → after ≡ record before { messages = before.messages ++ sends_after plan (with_startok x ok) }
           → IsOutcome (after_startok plan s (find_transaction id xs) ok shard) Done (record s { pending = set xs at y }) before after
       startok_done ok shard before after y rising h e f g =
-          let taken : Step = startok_taken plan s (with_startok x ok) in
+          let taken : CoordStep = startok_taken plan s (with_startok x ok) in
           let step : after_startok plan s (find_transaction id xs) ok shard ≡ taken = ap (λ o. after_startok plan s o ok shard) found ∙ ap (λ o. unless_refused s o taken) h in
           let outcome : IsOutcome taken Done (record s { pending = set xs at y }) before after =
           record { answer = refl; state = put_back at x y (with_commits plan (with_starts plan (with_startok x ok))) rising within is f e; sent = g }
@@ -79,11 +81,11 @@ module _ (plan : Plan) (xs : List Transaction) (s : State) (same : s.pending ≡
           ignored_outcome (after_commitok plan s (find_transaction id xs) ok) reason out
           (ap (λ o. after_commitok plan s o ok) found ∙ ap (λ o. unless_refused s o (commitok_taken s (with_commitok x ok) (reply_now plan (with_commitok x ok)))) h)
 
-      pub commitok_done : (ok : TakenCommit) (out : Outbox) → AreRising (ids_of xs) → commitok_refusal plan x ok ≡ None → reply_now plan (with_commitok x ok) ≡ None
+      pub commitok_done : (ok : TakenCommit) (out : Outbox) → IsRising txn_lt (ids_of xs) → commitok_refusal plan x ok ≡ None → reply_now plan (with_commitok x ok) ≡ None
           → IsOutcome (after_commitok plan s (find_transaction id xs) ok) Done (record s { pending = set xs at (with_commitok x ok) }) out out
       commitok_done ok out rising h k =
           let y = with_commitok x ok in
-          let taken : Option (List ℤ) → Step = commitok_taken s y in
+          let taken : Option (List ℤ) → CoordStep = commitok_taken s y in
           let step : after_commitok plan s (find_transaction id xs) ok ≡ taken None =
           ap (λ o. after_commitok plan s o ok) found ∙ ap (λ o. unless_refused s o (taken (reply_now plan y))) h ∙ ap taken k
           in
@@ -92,17 +94,17 @@ module _ (plan : Plan) (xs : List Transaction) (s : State) (same : s.pending ≡
           record { answer = refl; state = put_back at x y y rising within is refl refl; sent = ap with_sends (sym (append-nil out.messages)) }
           in subst (λ t. IsOutcome t Done (record s { pending = set xs at y }) out out) (sym step) outcome
 
-      pub commitok_answered : (ok : TakenCommit) (out : Outbox) (reply : List ℤ) → AreRising (ids_of xs) → commitok_refusal plan x ok ≡ None → reply_now plan (with_commitok x ok) ≡ Some reply
+      pub commitok_answered : (ok : TakenCommit) (out : Outbox) (reply : List ℤ) → IsRising txn_lt (ids_of xs) → commitok_refusal plan x ok ≡ None → reply_now plan (with_commitok x ok) ≡ Some reply
           → IsOutcome (after_commitok plan s (find_transaction id xs) ok) (Answered id reply) (record s { pending = remove (set xs at (with_commitok x ok)) at }) out out
       commitok_answered ok out reply rising h k =
           let y = with_commitok x ok in
-          let taken : Option (List ℤ) → Step = commitok_taken s y in
+          let taken : Option (List ℤ) → CoordStep = commitok_taken s y in
           let step : after_commitok plan s (find_transaction id xs) ok ≡ taken (Some reply) =
           ap (λ o. after_commitok plan s o ok) found ∙ ap (λ o. unless_refused s o (taken (reply_now plan y))) h ∙ ap taken k
           in
           let with_sends : List Outgoing → Outbox = λ sends. record out { messages = sends } in
-          let with_list : List Transaction → State = λ pending. record s { pending = pending } in
-          let without : List Transaction → State = λ pending. record s { pending = filter (λ v. not (is_txn v.id id)) pending } in
+          let with_list : List Transaction → CoordState = λ pending. record s { pending = pending } in
+          let without : List Transaction → CoordState = λ pending. record s { pending = filter (λ v. not (is_txn v.id id)) pending } in
           let at_id = ap (λ (v : Transaction). v.id) (sym is) ∙ own_id in
           let outcome : IsOutcome (taken (Some reply)) (Answered id reply) (record s { pending = remove (set xs at y) at }) out out =
           record {

@@ -1,22 +1,8 @@
 -- Ranges of numbers from 0 on, and what a test passes of them
-use Rattle.std.proofs.Common.{◌≡◌, ℕ, zero, suc, ◌+◌, ◌<◌, Bool, cond, [], ◌∷◌, ◌++◌, All, ap, ◌∙◌, arith, add-one}
-use Rattle.std.proofs.lemmas.List.Elements.{filter-append, All-from_recursion, All-filter}
-use Rattle.std.specs.List.{filter, range_with_len, AllByRecursion}
-
-range_suc : (a n j : ℕ) → a + n ≡ j → range_with_len a (suc n) ≡ range_with_len a n ++ j ∷ []
-range_suc a zero j e = ap (λ k. k ∷ []) (let f : a ≡ j = omega arith in f)
-range_suc a (suc n) j e = ap (λ xs. a ∷ xs) (range_suc (a + 1) n j (omega arith))
-
-pub range_more : (a n j : ℕ) → a + n ≡ j → range_with_len a (n + 1) ≡ range_with_len a n ++ j ∷ []
-range_more a n j e = rw add-one (range_suc a n j e)
-
-pub filter_range_more : (p : ℕ → Bool) (n : ℕ) → filter p (range_with_len 0 (n + 1)) ≡ filter p (range_with_len 0 n) ++ cond (p n) (n ∷ []) []
-filter_range_more p n = ap (filter p) (range_more 0 n n (omega arith)) ∙ filter-append p (range_with_len 0 n) (n ∷ [])
-
--- the numbers of a range are below its end
-range_below : (a n m : ℕ) → a + n ≡ m → AllByRecursion (λ k. k < m) (range_with_len a n)
-range_below a zero m e = tt
-range_below a (suc n) m e = (omega arith, range_below (a + 1) n m (omega arith))
+use Rattle.std.proofs.Common.{ℕ, ◌<◌, Bool, All, arith}
+use Rattle.std.proofs.lemmas.List.Elements.{All-from_recursion, All-filter}
+use Rattle.std.specs.List.{filter, range_with_len}
+use Rattle.roc_sequence.proofs.Ranges.{range_below}
 
 pub All-range : (n : ℕ) → All (λ k. k < n) (range_with_len 0 n)
 All-range n = All-from_recursion (λ k. k < n) (range_with_len 0 n) (range_below 0 n n (omega arith))

@@ -10,10 +10,7 @@ use Rattle.roc_coord.specs.declared.transaction.Transaction.{Transaction}
 use Rattle.roc_coord.specs.Fits.{IsTransactionOf}
 use Rattle.roc_coord.specs.Starts.{shard_for, start_for, sent_start}
 use Rattle.roc_coord.proofs.Sends.{gathered_more}
-
-pub AllByRecursion-append : {A : Type 0} (P : A → Type 0) (xs ys : List A) → AllByRecursion P xs → AllByRecursion P ys → AllByRecursion P (xs ++ ys)
-AllByRecursion-append P [] ys h k = k
-AllByRecursion-append P (x ∷ xs) ys h k = (h.0, AllByRecursion-append P xs ys h.1 k)
+use Rattle.roc_sequence.proofs.Holds.{all_append}
 
 module _ (plan : Plan) (x y : Transaction) (ready : List ℕ) (i g : ℕ) (within : i < length ready) (at : g ≡ get_or ready i 0) (kept : y ≡ record x { starts = x.starts ++ map (sent_start plan x) (take i ready) }) where
   -- the transaction keeps one more start
@@ -44,6 +41,6 @@ pub fits_more : (plan : Plan) (x : Transaction) (start : SentStart) (starts : Li
 fits_more plan x start starts h k e = record {
   procedure = h.procedure;
   args = h.args;
-  starts = subst (λ s. AllByRecursion (λ v. v.group < length (groups_of plan x.proc)) s) (sym e) (AllByRecursion-append _ x.starts (start ∷ []) h.starts (k, tt));
+  starts = subst (λ s. AllByRecursion (λ v. v.group < length (groups_of plan x.proc)) s) (sym e) (all_append _ x.starts (start ∷ []) h.starts (k, tt));
   startoks = h.startoks;
 }

@@ -5,3 +5,4 @@ pub mod Starts
 pub mod Commits
 pub mod Submit
 pub mod Step
+pub mod Inner

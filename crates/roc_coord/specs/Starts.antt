@@ -9,7 +9,7 @@ use Rattle.roc_base.specs.Edges.{united}
 use Rattle.roc_msg.specs.declared.msg.Msg.TheVariants.{Start, Commit}
 use Rattle.roc_msg.specs.declared.outbox.Outgoing.{Outgoing}
 use Rattle.roc_plan.specs.declared.group.Input.{Input}
-use Rattle.roc_plan.specs.Groups.{Plan, groups_of, inputs_of, place_of, shard_of, bound_of, outs_of, group_of}
+use Rattle.roc_plan.specs.Groups.{Plan, groups_of, inputs_of, shard_of, bound_of, outs_of, group_of, group_place}
 use Rattle.roc_coord.specs.declared.transaction.SentStart.{SentStart}
 use Rattle.roc_coord.specs.declared.transaction.TakenStart.{TakenStart}
 use Rattle.roc_coord.specs.declared.transaction.Transaction.{Transaction}
@@ -44,7 +44,7 @@ ready_groups plan x = filter (can_start plan x) (group_numbers plan x.proc)
 
 -- the shard of a group's place
 abbrev pub shard_for : Plan → Transaction → ℕ → Shard
-shard_for plan x group = record { 0 = shard_of plan (place_of plan x.proc group x.args (inputs_for plan x group)) }
+shard_for plan x group = record { 0 = shard_of plan (group_place plan x.proc group x.args (inputs_for plan x group)) }
 
 abbrev pub start_for : Plan → Transaction → ℕ → Outgoing
 start_for plan x group = record { to = Server (shard_for plan x group); msg = Start x.id x.proc group x.args (inputs_for plan x group) }

@@ -13,7 +13,7 @@ use Rattle.roc_coord.specs.declared.transaction.TakenStart.{TakenStart}
 use Rattle.roc_coord.specs.declared.transaction.TakenCommit.{TakenCommit}
 use Rattle.roc_coord.specs.declared.transaction.Transaction.{Transaction}
 
-pub record State : Type 0 where
+pub record CoordState : Type 0 where
   -- the coordinator's number
   pub number : ℕ
   -- the sequence number of the next transaction
@@ -24,24 +24,24 @@ pub record State : Type 0 where
   pub stopped : Bool
 
 -- before any submission
-abbrev pub first_coord : ℕ → State
+abbrev pub first_coord : ℕ → CoordState
 first_coord number = record { number = number; next = 0; pending = []; stopped = false }
 
 -- what comes of a message: the answer, the state after it, and what is sent
-pub record Step : Type 0 where
+pub record CoordStep : Type 0 where
   pub answer : Handled
-  pub state : State
+  pub state : CoordState
   pub sends : List Outgoing
 
 -- an ignored message changes nothing and sends nothing
-abbrev pub ignored : State → Reason → Step
+abbrev pub ignored : CoordState → Reason → CoordStep
 ignored s reason = record { answer = Ignored reason; state = s; sends = [] }
 
 abbrev pub find_transaction : TxnId → List Transaction → Option Transaction
 find_transaction id pending = find (λ x. is_txn x.id id) pending
 
 -- the transaction of x's id is now x
-abbrev pub with_transaction : State → Transaction → State
+abbrev pub with_transaction : CoordState → Transaction → CoordState
 with_transaction s x = record s { pending = map (λ y. if is_txn y.id x.id then x else y) s.pending }
 
 abbrev pub find_start : ℕ → List SentStart → Option SentStart

@@ -16,18 +16,18 @@ use Rattle.roc_coord.specs.declared.handled.Handled.TheVariants.{Done, Answered}
 use Rattle.roc_coord.specs.declared.transaction.TakenStart.{TakenStart}
 use Rattle.roc_coord.specs.declared.transaction.TakenCommit.{TakenCommit}
 use Rattle.roc_coord.specs.declared.transaction.Transaction.{Transaction}
-use Rattle.roc_coord.specs.State.{State, Step, ignored, find_transaction, with_transaction, find_startok, was_asked, has_commitok}
+use Rattle.roc_coord.specs.State.{ignored, find_transaction, with_transaction, find_startok, was_asked, has_commitok, CoordState, CoordStep}
 use Rattle.roc_coord.specs.Starts.{with_starts, starts_of, all_started, shards_of, commits_of, bound_count, out_count}
 use Rattle.roc_coord.specs.Commits.{places_on, all_committed, reply_of}
 
 -- this was answered, the state is now this one, and an outbox has gained what is sent
-pub record IsOutcome (step : Step) (answered : Handled) (reached : State) (before after : Outbox) : Type 0 where
+pub record IsOutcome (step : CoordStep) (answered : Handled) (reached : CoordState) (before after : Outbox) : Type 0 where
   pub answer : answered ≡ step.answer
   pub state : reached ≡ step.state
   pub sent : after ≡ record before { messages = before.messages ++ step.sends }
 
 -- where there is a reason to, a message is ignored
-abbrev pub unless_refused : State → Option Reason → Step → Step
+abbrev pub unless_refused : CoordState → Option Reason → CoordStep → CoordStep
 unless_refused s (Some reason) step = ignored s reason
 unless_refused s None step = step
 
@@ -52,7 +52,7 @@ with_startok x ok = record x { startoks = x.startoks ++ ok ∷ [] }
 abbrev pub sends_after : Plan → Transaction → List Outgoing
 sends_after plan x = starts_of plan x ++ commits_for plan (with_starts plan x)
 
-abbrev pub startok_taken : Plan → State → Transaction → Step
+abbrev pub startok_taken : Plan → CoordState → Transaction → CoordStep
 startok_taken plan s x = record { answer = Done; state = with_transaction s (with_commits plan (with_starts plan x)); sends = sends_after plan x }
 
 -- why it is not taken: the first reason that holds
@@ -62,7 +62,7 @@ startok_refusal plan x ok shard =
     else if not (is_fit_startok plan x ok shard) then Some Unfit
     else None
 
-abbrev pub after_startok : Plan → State → Option Transaction → TakenStart → Shard → Step
+abbrev pub after_startok : Plan → CoordState → Option Transaction → TakenStart → Shard → CoordStep
 after_startok plan s None ok shard = ignored s Stale
 after_startok plan s (Some x) ok shard = unless_refused s (startok_refusal plan x ok shard) (startok_taken plan s (with_startok x ok))
 
@@ -84,10 +84,10 @@ abbrev pub reply_now : Plan → Transaction → Option (List ℤ)
 reply_now plan x = if all_committed x then Some (reply_of plan x) else None
 
 -- an answered transaction is kept no longer
-abbrev pub without_transaction : State → TxnId → State
+abbrev pub without_transaction : CoordState → TxnId → CoordState
 without_transaction s id = record s { pending = filter (λ x. not (is_txn x.id id)) s.pending }
 
-abbrev pub commitok_taken : State → Transaction → Option (List ℤ) → Step
+abbrev pub commitok_taken : CoordState → Transaction → Option (List ℤ) → CoordStep
 commitok_taken s x None = record { answer = Done; state = with_transaction s x; sends = [] }
 commitok_taken s x (Some reply) = record { answer = Answered x.id reply; state = without_transaction s x.id; sends = [] }
 
@@ -98,7 +98,7 @@ commitok_refusal plan x ok =
     else if not (is_fit_commitok plan x ok) then Some Unfit
     else None
 
-abbrev pub after_commitok : Plan → State → Option Transaction → TakenCommit → Step
+abbrev pub after_commitok : Plan → CoordState → Option Transaction → TakenCommit → CoordStep
 after_commitok plan s None ok = ignored s Stale
 after_commitok plan s (Some x) ok =
     let taken = with_commitok x ok in
@@ -107,7 +107,7 @@ after_commitok plan s (Some x) ok =
 -- ---- any message
 
 -- what comes of a message
-abbrev pub after_message : Plan → State → Msg → Step
+abbrev pub after_message : Plan → CoordState → Msg → CoordStep
 after_message plan s (StartOk id group shard bound outs edges) =
     after_startok plan s (find_transaction id s.pending) (record { group = group; bound = bound; outs = outs; edges = edges }) shard
 after_message plan s (CommitOk id shard outs) = after_commitok plan s (find_transaction id s.pending) (record { shard = shard; outs = outs })

@@ -1,6 +1,6 @@
 //! The commit round: the union of what the groups were told, and what is sent to commit.
 ghost use Rattle.std.specs.Prelude.{◌≡◌, ◌++◌, ◌==◌, map, IfOk, OnOk};
-ghost use Rattle.std.specs.List.{flat_map, list_any, list_all};
+ghost use Rattle.std.specs.List.{flat_map, list_any};
 ghost use Rattle.roc_base.specs.Edges.{united};
 ghost use Rattle.roc_coord.specs.State.{has_commitok};
 ghost use Rattle.roc_coord.specs.Starts.{shards_below, shards_of, commit_to, commits_of};

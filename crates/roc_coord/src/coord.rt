@@ -1,9 +1,12 @@
 //! A coordinator: submissions and the answers to its requests.
 ghost use Rattle.std.specs.Prelude.{◌≡◌, ◌<◌, ◌++◌, ◌↔◌, length, true, IfOk, OnOk};
 ghost use Rattle.roc_plan.specs.Groups.{procedure_of};
+ghost use Rattle.roc_plan.specs.Within.{IsWithin};
 ghost use Rattle.roc_coord.specs.State.{first_coord};
-ghost use Rattle.roc_coord.specs.Ids.{ids_of, AreRising};
-ghost use Rattle.roc_coord.specs.Fits.{FitsPlan, IsTransactionOf};
+ghost use Rattle.roc_coord.specs.Ids.{ids_of};
+ghost use Rattle.roc_sequence.specs.Rising.{IsRising};
+ghost use Rattle.roc_base.specs.TxnId.{txn_lt};
+ghost use Rattle.roc_coord.specs.Fits.{IsTransactionOf, CoordFits};
 ghost use Rattle.roc_coord.specs.Starts.{with_starts, starts_of};
 ghost use Rattle.roc_coord.specs.Submit.{after_submit, refusal_of, unstarted, IsSubmitted, UnlessStopped};
 ghost use Rattle.roc_coord.specs.Step.{after_message, IsOutcome};
@@ -35,10 +38,11 @@ pub struct Coord {
 }
 
 impl Model for Coord {
-    ghost use Rattle.roc_coord.specs.State.{State};
-    ghost use Rattle.roc_coord.specs.Ids.{ids_of, AreGiven};
+    ghost use Rattle.roc_coord.specs.State.{CoordState};
+    ghost use Rattle.roc_coord.specs.Ids.{ids_of};
+    ghost use Rattle.roc_coord.specs.Inner.Given.{AreGiven};
 
-    ghost Value = { State };
+    ghost Value = { CoordState };
 
     ghost view = { λ c. record { number = c.number; next = c.next; pending = c.pending; stopped = c.stopped } };
 
@@ -69,7 +73,8 @@ impl Coord {
         args: &[i64],
         out: &mut Outbox,
     ) -> Result<TxnId, SubmitFault>
-        requires { FitsPlan plan.now self.old }
+        requires within { IsWithin plan.now }
+        requires fits { CoordFits plan.now self.old }
         ensures step { UnlessStopped result (IsSubmitted (after_submit plan.now self.old proc args.now) result self.new out.old out.new) }
 
         // Stopped comes exactly where the coordinator found no memory before, and changes nothing.
@@ -78,7 +83,7 @@ impl Coord {
 
         // Nothing else is promised where there is no memory.
         ensures no_memory { result ≡ Err SubmitFault.NoMemory → self.new.stopped ≡ true }
-        ensures fits { FitsPlan plan.now self.new }
+        ensures fits { CoordFits plan.now self.new }
     {
         if self.stopped {
             return Err(SubmitFault::Stopped);
@@ -98,7 +103,8 @@ impl Coord {
     /// Handles a message: what becomes of it, and what goes to the outbox. An ignored message
     /// leaves all as it was.
     pub fn handle(&mut self, plan: &Plan, msg: &Msg, out: &mut Outbox) -> Result<Handled, NodeFault>
-        requires { FitsPlan plan.now self.old }
+        requires within { IsWithin plan.now }
+        requires fits { CoordFits plan.now self.old }
         ensures step { IfOk result (λ answer. IsOutcome (after_message plan.now self.old msg.now) answer self.new out.old out.new) }
 
         // Stopped comes exactly where the coordinator found no memory before, and changes nothing.
@@ -107,7 +113,7 @@ impl Coord {
 
         // Nothing else is promised where there is no memory.
         ensures no_memory { result ≡ Err NodeFault.NoMemory → self.new.stopped ≡ true }
-        ensures fits { FitsPlan plan.now self.new }
+        ensures fits { CoordFits plan.now self.new }
     {
         if self.stopped {
             return Err(NodeFault::Stopped);
@@ -124,7 +130,7 @@ impl Coord {
     /// The ids of the transactions without a reply, rising. Takes no memory.
     pub fn unanswered(&self) -> &[TxnId]
         ensures ids { result.now ≡ ids_of self.now.pending }
-        ensures rising { AreRising result.now }
+        ensures rising { IsRising txn_lt result.now }
     {
         self.pending.ids()
     }
@@ -154,10 +160,11 @@ impl Coord {
         args: &[i64],
         out: &mut Outbox,
     ) -> Result<TxnId, NoMemory>
-        requires fits { FitsPlan plan.now self.old }
+        requires within { IsWithin plan.now }
+        requires fits { CoordFits plan.now self.old }
         requires accepted { refusal_of plan.now self.old proc args.now ≡ None }
         ensures step { IfOk result (λ id. IsSubmitted (after_submit plan.now self.old proc args.now) (Ok id) self.new out.old out.new) }
-        ensures fits { FitsPlan plan.now self.new }
+        ensures fits { CoordFits plan.now self.new }
     {
         let id = TxnId {
             coord: self.number,
@@ -171,9 +178,10 @@ impl Coord {
 
     // Takes a message, or ignores it.
     fn take(&mut self, plan: &Plan, msg: &Msg, out: &mut Outbox) -> Result<Handled, NoMemory>
-        requires { FitsPlan plan.now self.old }
+        requires within { IsWithin plan.now }
+        requires fits { CoordFits plan.now self.old }
         ensures step { IfOk result (λ answer. IsOutcome (after_message plan.now self.old msg.now) answer self.new out.old out.new) }
-        ensures fits { FitsPlan plan.now self.new }
+        ensures fits { CoordFits plan.now self.new }
     {
         match msg {
             Msg::StartOk {
@@ -213,6 +221,7 @@ fn started(
     args: &[i64],
     out: &mut Outbox,
 ) -> Result<Transaction, NoMemory>
+    requires within { IsWithin plan.now }
     requires proc { proc < length plan.now.program.procedures }
     requires args { length args.now ≡ (procedure_of plan.now proc).arguments }
     ensures kept { IfOk result (λ x. x ≡ with_starts plan.now (unstarted id proc args.now)) }

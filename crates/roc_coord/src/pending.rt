@@ -1,11 +1,14 @@
 //! The transactions of a coordinator that have no reply yet.
-ghost use Rattle.std.specs.Prelude.{◌≡◌, ◌<◌, ◌++◌, ◌∷◌, [], not, filter, position, length, ℕ, IsTrue, IfOk, IfSome, OnOk, OnErr};
+ghost use Rattle.std.specs.Prelude.{◌≡◌, ◌<◌, ◌++◌, ◌∷◌, [], position, length, ℕ, IsTrue, IfOk, OnOk, OnErr};
 ghost use Rattle.std.specs.List.{AllByRecursion};
 ghost use Rattle.roc_base.specs.TxnId.{is_txn, txn_lt};
+ghost use Rattle.roc_plan.specs.Within.{IsWithin};
 ghost use Rattle.roc_msg.specs.declared.outbox.Outbox.{Outbox};
-ghost use Rattle.roc_coord.specs.State.{State, find_transaction};
+ghost use Rattle.roc_coord.specs.State.{find_transaction, CoordState};
 ghost use Rattle.roc_coord.specs.Fits.{IsTransactionOf};
-ghost use Rattle.roc_coord.specs.Ids.{ids_of, AreRising, AreGiven};
+ghost use Rattle.roc_coord.specs.Ids.{ids_of};
+ghost use Rattle.roc_coord.specs.Inner.Given.{AreGiven};
+ghost use Rattle.roc_sequence.specs.Rising.{IsRising};
 ghost use Rattle.roc_coord.specs.Step.{IsOutcome, after_startok, after_commitok};
 
 use crate::take::{commitok_refusal, startok_refusal, take_commitok, take_startok};
@@ -26,13 +29,15 @@ pub(crate) struct Pending {
 impl Model for Pending {
     ghost use Rattle.std.specs.Prelude.{◌≡◌, List};
     ghost use Rattle.roc_coord.specs.declared.transaction.Transaction.{Transaction};
-    ghost use Rattle.roc_coord.specs.Ids.{ids_of, AreRising};
+    ghost use Rattle.roc_coord.specs.Ids.{ids_of};
+    ghost use Rattle.roc_sequence.specs.Rising.{IsRising};
+    ghost use Rattle.roc_base.specs.TxnId.{txn_lt};
 
     ghost Value = { List Transaction };
 
     ghost view = { λ p. p.transactions.items };
 
-    ghost invariant = { λ p. (p.ids.items ≡ ids_of p.transactions.items) × AreRising p.ids.items };
+    ghost invariant = { λ p. (p.ids.items ≡ ids_of p.transactions.items) × IsRising txn_lt p.ids.items };
 }
 
 impl Pending {
@@ -56,7 +61,7 @@ impl Pending {
     /// Their ids, rising.
     pub fn ids(&self) -> &[TxnId]
         ensures ids { result.now ≡ ids_of self.now }
-        ensures rising { AreRising result.now }
+        ensures rising { IsRising txn_lt result.now }
     {
         self.ids.as_slice()
     }
@@ -84,8 +89,9 @@ impl Pending {
         shard: Shard,
         out: &mut Outbox,
     ) -> Result<Handled, NoMemory>
-        requires { AllByRecursion (IsTransactionOf plan.now) self.old }
-        ensures step { IfOk result (λ answer. (s : State) → s.pending ≡ self.old → IsOutcome (after_startok plan.now s (find_transaction id self.old) ok shard) answer (record s { pending = self.new }) out.old out.new) }
+        requires within { IsWithin plan.now }
+        requires fits { AllByRecursion (IsTransactionOf plan.now) self.old }
+        ensures step { IfOk result (λ answer. (s : CoordState) → s.pending ≡ self.old → IsOutcome (after_startok plan.now s (find_transaction id self.old) ok shard) answer (record s { pending = self.new }) out.old out.new) }
         ensures ids { ids_of self.new ≡ ids_of self.old }
         ensures fits { AllByRecursion (IsTransactionOf plan.now) self.new }
     {
@@ -101,7 +107,7 @@ impl Pending {
         ok: TakenCommit,
     ) -> Result<Handled, NoMemory>
         requires { AllByRecursion (IsTransactionOf plan.now) self.old }
-        ensures step { IfOk result (λ answer. (s : State) (out : Outbox) → s.pending ≡ self.old → IsOutcome (after_commitok plan.now s (find_transaction id self.old) ok) answer (record s { pending = self.new }) out out) }
+        ensures step { IfOk result (λ answer. (s : CoordState) (out : Outbox) → s.pending ≡ self.old → IsOutcome (after_commitok plan.now s (find_transaction id self.old) ok) answer (record s { pending = self.new }) out out) }
         ensures given { (number next : ℕ) → AreGiven number next (ids_of self.old) → AreGiven number next (ids_of self.new) }
         ensures fits { AllByRecursion (IsTransactionOf plan.now) self.new }
     {
@@ -126,9 +132,10 @@ fn startok(
     shard: Shard,
     out: &mut Outbox,
 ) -> Result<Handled, NoMemory>
+    requires within { IsWithin plan.now }
     requires fits { AllByRecursion (IsTransactionOf plan.now) transactions.old.items }
-    requires rising { AreRising (ids_of transactions.old.items) }
-    ensures step { IfOk result (λ answer. (s : State) → s.pending ≡ transactions.old.items → IsOutcome (after_startok plan.now s (find_transaction id transactions.old.items) ok shard) answer (record s { pending = transactions.new.items }) out.old out.new) }
+    requires rising { IsRising txn_lt (ids_of transactions.old.items) }
+    ensures step { IfOk result (λ answer. (s : CoordState) → s.pending ≡ transactions.old.items → IsOutcome (after_startok plan.now s (find_transaction id transactions.old.items) ok shard) answer (record s { pending = transactions.new.items }) out.old out.new) }
     ensures ids { ids_of transactions.new.items ≡ ids_of transactions.old.items }
     ensures fits { AllByRecursion (IsTransactionOf plan.now) transactions.new.items }
 {
@@ -153,10 +160,10 @@ fn commitok(
 ) -> Result<Handled, NoMemory>
     requires fits { AllByRecursion (IsTransactionOf plan.now) transactions.old.items }
     requires ids { ids.old.items ≡ ids_of transactions.old.items }
-    requires rising { AreRising ids.old.items }
-    ensures step { IfOk result (λ answer. (s : State) (out : Outbox) → s.pending ≡ transactions.old.items → IsOutcome (after_commitok plan.now s (find_transaction id transactions.old.items) ok) answer (record s { pending = transactions.new.items }) out out) }
+    requires rising { IsRising txn_lt ids.old.items }
+    ensures step { IfOk result (λ answer. (s : CoordState) (out : Outbox) → s.pending ≡ transactions.old.items → IsOutcome (after_commitok plan.now s (find_transaction id transactions.old.items) ok) answer (record s { pending = transactions.new.items }) out out) }
     ensures ids { ids.new.items ≡ ids_of transactions.new.items }
-    ensures rising { AreRising ids.new.items }
+    ensures rising { IsRising txn_lt ids.new.items }
     ensures given { (number next : ℕ) → AreGiven number next ids.old.items → AreGiven number next ids.new.items }
     ensures fits { AllByRecursion (IsTransactionOf plan.now) transactions.new.items }
 {

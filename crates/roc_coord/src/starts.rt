@@ -1,8 +1,8 @@
 //! The start round: which groups can start, and what is sent to start them.
 ghost use Rattle.std.specs.Prelude.{◌≡◌, ◌<◌, ◌++◌, length, map, is_some, IfOk, OnOk, All};
 ghost use Rattle.std.specs.Option.{option_copied};
-ghost use Rattle.roc_msg.specs.declared.outbox.Outgoing.{Outgoing};
 ghost use Rattle.roc_plan.specs.Groups.{groups_of};
+ghost use Rattle.roc_plan.specs.Within.{IsWithin};
 ghost use Rattle.roc_coord.specs.State.{find_start, find_startok};
 ghost use Rattle.roc_coord.specs.Fits.{IsTransactionOf};
 ghost use Rattle.roc_coord.specs.Starts.{input_value, inputs_for, is_ready, can_start, ready_groups, shard_for, start_for, sent_start, with_starts, starts_of, all_started};
@@ -99,6 +99,7 @@ fn start_for(
     x: &Transaction,
     group: u16,
 ) -> Result<(Shard, Msg), NoMemory>
+    requires within { IsWithin plan.now }
     requires transaction { IsTransactionOf plan.now x.now }
     requires group { group < length (groups_of plan.now x.now.proc) }
     ensures shard { IfOk result (λ r. r.0 ≡ shard_for plan.now x.now group) }
@@ -128,6 +129,7 @@ fn send_each(
     ready: &[u16],
     out: &mut Outbox,
 ) -> Result<(), NoMemory>
+    requires within { IsWithin plan.now }
     requires transaction { IsTransactionOf plan.now x.old }
     requires groups { All (λ group. group < length (groups_of plan.now x.old.proc)) ready.now }
     ensures kept { OnOk result (x.new ≡ record x.old { starts = x.old.starts ++ map (sent_start plan.now x.old) ready.now }) }
@@ -153,7 +155,8 @@ pub(crate) fn send_starts(
     x: &mut Transaction,
     out: &mut Outbox,
 ) -> Result<(), NoMemory>
-    requires { IsTransactionOf plan.now x.old }
+    requires within { IsWithin plan.now }
+    requires transaction { IsTransactionOf plan.now x.old }
     ensures kept { OnOk result (x.new ≡ with_starts plan.now x.old) }
     ensures sent { OnOk result (out.new ≡ record out.old { messages = out.old.messages ++ starts_of plan.now x.old }) }
     ensures id { x.new.id ≡ x.old.id }

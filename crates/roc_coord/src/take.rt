@@ -1,7 +1,8 @@
 //! What an answer to one of a coordinator's requests does to its transaction.
-ghost use Rattle.std.specs.Prelude.{◌≡◌, ◌<◌, ◌++◌, ◌∷◌, [], length, IfOk, IfNone, OnOk};
+ghost use Rattle.std.specs.Prelude.{◌≡◌, ◌<◌, ◌++◌, length, IfOk, IfNone, OnOk};
 ghost use Rattle.std.specs.Bool.{OnTrue};
 ghost use Rattle.roc_plan.specs.Groups.{groups_of};
+ghost use Rattle.roc_plan.specs.Within.{IsWithin};
 ghost use Rattle.roc_coord.specs.Fits.{IsTransactionOf};
 ghost use Rattle.roc_coord.specs.Starts.{bound_count, out_count, with_starts};
 ghost use Rattle.roc_coord.specs.Step.{is_fit_startok, startok_refusal, with_startok, with_commits, sends_after, is_asked, is_fit_commitok, commitok_refusal, with_commitok, reply_now};
@@ -80,6 +81,7 @@ pub(crate) fn take_startok(
     ok: TakenStart,
     out: &mut Outbox,
 ) -> Result<(), NoMemory>
+    requires within { IsWithin plan.now }
     requires transaction { IsTransactionOf plan.now x.old }
     requires group { ok.group < length (groups_of plan.now x.old.proc) }
     ensures kept { OnOk result (x.new ≡ with_commits plan.now (with_starts plan.now (with_startok x.old ok))) }

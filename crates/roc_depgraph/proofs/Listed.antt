@@ -1,13 +1,16 @@
 -- Ids in a list, by place, by test and as the keys of a set
-use Rattle.std.proofs.Common.{◌≡◌, Bool, true, List, [], ◌∷◌, sym, ◌∙◌, subst, arith, inl, inr}
+use Rattle.std.proofs.Common.{◌≡◌, Bool, true, List, [], ◌∷◌, map, sym, ◌∙◌, subst, arith, inl, inr}
 use Rattle.std.proofs.lemmas.Bool.{false≢true, or_cases, or_left, or_right}
 use Rattle.std.proofs.lemmas.Bool.Decides.{nat_tests}
 use Rattle.std.specs.List.{list_any}
 use Rattle.std.specs.Ordering.{is_eq}
+use Rattle.roc_sequence.specs.Lists.{Has}
 use Rattle.roc_sequence.specs.Places.{IsListed}
+use Rattle.roc_sequence.proofs.Listed as listed
 use Rattle.roc_sequence.proofs.Places.{listed_head, listed_tail, listed_cases}
 use Rattle.roc_base.specs.declared.id.TxnId.{TxnId}
-use Rattle.roc_base.specs.TxnId.{is_txn, txn_cmp, is_txn-same, is_txn-true}
+use Rattle.roc_base.specs.TxnId.{is_txn, txn_cmp}
+use Rattle.roc_base.specs.Inner.Equalities.{is_txn-same, is_txn-true}
 
 -- a set's test of a key
 abbrev pub has : List TxnId → TxnId → Bool
@@ -38,13 +41,22 @@ listed_from_has (x ∷ xs) u h =
       | inr k ↦ listed_tail is_txn x xs u (listed_from_has xs u k)
     ]
 
--- a list of one
+-- ---- the lemmas on lists, for ids
+
+pub has_listed : (ids : List TxnId) (u : TxnId) → Has u ids → IsListed is_txn ids u
+has_listed = listed.has_listed is_txn is_txn-true is_txn-same
+
+pub listed_has : (ids : List TxnId) (u : TxnId) → IsListed is_txn ids u → Has u ids
+listed_has = listed.listed_has is_txn is_txn-true is_txn-same
+
 pub listed_one : (x u : TxnId) → IsListed is_txn (x ∷ []) u → u ≡ x
-listed_one x u h =
-    elim (listed_cases is_txn x [] u h) [
-      | inl e ↦ is_txn-true u x e
-      | inr k ↦ (let l = k.1 in absurd (omega arith))
-    ]
+listed_one = listed.listed_one is_txn is_txn-true is_txn-same
 
 pub in_one : (x : TxnId) → IsListed is_txn (x ∷ []) x
-in_one x = listed_head is_txn x [] (is_txn-same x)
+in_one = listed.in_one is_txn is_txn-true is_txn-same
+
+pub has_under : {B : Type 0} (key : B → TxnId) (bs : List B) (u : TxnId) → IsListed is_txn (map key bs) u → (b : B) × Has b bs × (key b ≡ u)
+has_under key = listed.has_under is_txn is_txn-true is_txn-same key
+
+pub under_has : {B : Type 0} (key : B → TxnId) (bs : List B) (b : B) → Has b bs → IsListed is_txn (map key bs) (key b)
+under_has key = listed.under_has is_txn is_txn-true is_txn-same key

@@ -6,7 +6,7 @@ ghost use Rattle.roc_depgraph.specs.Closure.{IsClosure, IsRisingListOf};
 ghost use Rattle.roc_depgraph.specs.Deps.{list_of, is_known, Precedes, IsDecided};
 ghost use Rattle.roc_depgraph.specs.Learnt.{Learns};
 ghost use Rattle.roc_depgraph.specs.Reach.{ReachesOrIs};
-ghost use Rattle.roc_depgraph.specs.Visits.{Visits};
+ghost use Rattle.roc_depgraph.specs.Inner.Visits.{Visits};
 
 use crate::{Closure, KnownList, Learnt};
 use roc_base::{Edge, Edges, NoMemory, TxnId};
@@ -93,7 +93,7 @@ impl Deps {
     }
 
     /// The transaction and its ancestors, where all their lists are known; else what is missing.
-    /// `NoMemory` comes where there is none for what was found, and for no other reason.
+    /// `NoMemory` comes where there is none for what was found.
     pub fn closure(&self, id: TxnId) -> Result<Closure, NoMemory>
         ensures { IfOk result (IsClosure self.now id) }
     {

@@ -3,10 +3,11 @@ use Rattle.std.proofs.Common.{◌≡◌, ℤ, Bool, true, false, ◌&&◌, ◌||
 use Rattle.std.proofs.lemmas.Bool.{false≢true}
 use Rattle.roc_rows.specs.declared.cell.Cell.{Cell}
 use Rattle.roc_rows.specs.Cells.{is_cell}
-use Rattle.roc_rows.specs.Store.{Store, read, write, read-write}
-use Rattle.roc_plan.specs.Program.{Statement, Get, Set, Out, Piece}
-use Rattle.roc_plan.specs.Values.{Environment, value}
-use Rattle.roc_whole.specs.Run.{Progress, progress, cell_of, after_statement, after_statements, after_piece, after_pieces}
+use Rattle.roc_rows.specs.Store.{Store, read, write}
+use Rattle.roc_rows.proofs.Stored.{read-write}
+use Rattle.roc_program.specs.Program.{Statement, Get, Set, Out, Piece}
+use Rattle.roc_program.specs.Values.{Environment, value}
+use Rattle.roc_whole.specs.Run.{Progress, progress, access_cell, after_statement, after_statements, after_piece, after_pieces}
 use Rattle.roc_group.specs.declared.access.Access.{Access}
 use Rattle.roc_group.specs.Accesses.{access, uses_of_body, uses_of_piece, uses_of_pieces, do_write, AgreeOnReads, RunAlike}
 
@@ -65,13 +66,13 @@ written_here place s t env said c w ss rest d false here e = rest.written d e
 statements_alike : (place : ℤ) (s t : Store) (env : Environment) (said : List ℤ) (ss : List Statement) → AgreeOnReads s t (uses_of_body place (progress s env said) ss) → StatementsAlike place (progress s env said) (progress t env said) ss
 statements_alike place s t env said [] h = record { uses = refl; environment = refl; reply = refl; written = λ c e. absurd (false≢true e); kept = λ c e. e }
 statements_alike place s t env said (Get number from ∷ ss) h =
-    let c = cell_of place env from in
+    let c = access_cell place env from in
     let same = h.0 refl in
     let P : ℤ → Type 0 = λ v. StatementsAlike place (progress s (slice_set env number (read s c)) said) (progress t (slice_set env number v) said) ss in
     let rest = subst P same (statements_alike place s t (slice_set env number (read s c)) said ss h.1) in
     record { uses = ap (λ us. access c false ∷ us) rest.uses; environment = rest.environment; reply = rest.reply; written = rest.written; kept = rest.kept }
 statements_alike place s t env said (Set to v ∷ ss) h =
-    let c = cell_of place env to in
+    let c = access_cell place env to in
     let w = value v env in
     let rest = statements_alike place (write s c w) (write t c w) env said ss (agree_mapped s t _ _ (write-agree s t c w) _ h.1) in
     record {
@@ -121,7 +122,7 @@ statements-others : (place : ℤ) (p : Progress) (ss : List Statement) (c : Cell
 statements-others place p [] c h = refl
 statements-others place p (Get number from ∷ ss) c h = statements-others place (after_statement place p (Get number from)) ss c h
 statements-others place p (Set to v ∷ ss) c h =
-    let d = cell_of place p.environment to in
+    let d = access_cell place p.environment to in
     let parts = or_parts (is_cell d c) _ h in
     statements-others place (after_statement place p (Set to v)) ss c parts.1
     ∙ (read-write p.store d (value v p.environment) c ∙ ap (λ b. if b then value v p.environment else read p.store c) parts.0)

@@ -4,9 +4,9 @@ use Rattle.std.specs.List.{AllByRecursion, list_any}
 use Rattle.roc_rows.specs.declared.cell.Cell.{Cell}
 use Rattle.roc_rows.specs.Cells.{is_cell}
 use Rattle.roc_rows.specs.Store.{Store, read}
-use Rattle.roc_plan.specs.Program.{Statement, Get, Set, Out, Piece}
-use Rattle.roc_plan.specs.Values.{Environment, value}
-use Rattle.roc_whole.specs.Run.{Progress, cell_of, after_statement, after_piece, after_pieces}
+use Rattle.roc_program.specs.Program.{Statement, Get, Set, Out, Piece}
+use Rattle.roc_program.specs.Values.{Environment, value}
+use Rattle.roc_whole.specs.Run.{Progress, access_cell, after_statement, after_piece, after_pieces}
 use Rattle.roc_group.specs.declared.access.Access.{Access}
 
 abbrev pub access : Cell → Bool → Access
@@ -14,8 +14,8 @@ access cell writes = record { cell = cell; writes = writes }
 
 -- what a statement of a piece at this place uses, where the names have these values
 abbrev pub uses_of : ℤ → Environment → Statement → List Access
-uses_of place env (Get number from) = access (cell_of place env from) false ∷ []
-uses_of place env (Set to v) = access (cell_of place env to) true ∷ []
+uses_of place env (Get number from) = access (access_cell place env from) false ∷ []
+uses_of place env (Set to v) = access (access_cell place env to) true ∷ []
 uses_of place env (Out v) = []
 
 -- what statements use, one after another

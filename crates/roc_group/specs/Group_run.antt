@@ -1,9 +1,9 @@
 -- A group's part of a procedure's run: docs/PROTOCOL.md, "Groups"
 use Rattle.std.specs.Prelude.{ℕ, ℤ, List, [], map}
 use Rattle.roc_rows.specs.Store.{Store}
-use Rattle.roc_plan.specs.Program.{Piece}
+use Rattle.roc_program.specs.Program.{Piece}
 use Rattle.roc_plan.specs.Groups.{Plan, procedure_of, group_of, pieces_at, environment_in, bound_of}
-use Rattle.roc_plan.specs.Values.{value_of_name}
+use Rattle.roc_program.specs.Values.{value_of_name}
 use Rattle.roc_whole.specs.Run.{Progress, progress, after_pieces}
 use Rattle.roc_group.specs.declared.access.Access.{Access}
 use Rattle.roc_group.specs.Accesses.{uses_of_pieces}
@@ -18,8 +18,8 @@ pub record Call : Type 0 where
 abbrev pub call : (proc group : ℕ) → (args inputs : List ℤ) → Call
 call proc group args inputs = record { proc = proc; group = group; args = args; inputs = inputs }
 
-abbrev pub pieces_of : Plan → Call → List Piece
-pieces_of plan c = pieces_at (procedure_of plan c.proc) (group_of plan c.proc c.group).pieces
+abbrev pub group_pieces : Plan → Call → List Piece
+group_pieces plan c = pieces_at (procedure_of plan c.proc) (group_of plan c.proc c.group).pieces
 
 -- where a group begins
 abbrev pub begin : Plan → Call → Store → Progress
@@ -27,11 +27,11 @@ begin plan c store = progress store (environment_in (procedure_of plan c.proc) (
 
 -- its pieces run in program order
 abbrev pub group_run : Plan → Call → Store → Progress
-group_run plan c store = after_pieces (begin plan c store) (pieces_of plan c)
+group_run plan c store = after_pieces (begin plan c store) (group_pieces plan c)
 
 -- the cells that it uses, in the order in which it uses them
 abbrev pub group_uses : Plan → Call → Store → List Access
-group_uses plan c store = uses_of_pieces (begin plan c store) (pieces_of plan c)
+group_uses plan c store = uses_of_pieces (begin plan c store) (group_pieces plan c)
 
 -- the values of the names that it binds, in the order in which they are bound
 abbrev pub bound_by_run : Plan → Call → Store → List ℤ

@@ -3,26 +3,26 @@ ghost use Rattle.std.specs.Prelude.{◌≡◌, ◌<◌, false, length};
 ghost use Rattle.roc_rows.specs.declared.cell.Cell.{Cell};
 ghost use Rattle.roc_rows.specs.Store.{Store, read};
 ghost use Rattle.roc_plan.specs.Groups.{Plan, procedure_of, groups_of};
-ghost use Rattle.roc_plan.specs.WellFormed.{IsThin};
+ghost use Rattle.roc_plan.specs.Within.{IsWithin};
 ghost use Rattle.roc_whole.specs.Run.{whole_run};
 ghost use Rattle.roc_group.specs.Accesses.{do_write, AgreeOnReads, RunAlike};
-ghost use Rattle.roc_group.specs.Group_run.{Call, pieces_of, begin, group_run, group_uses};
+ghost use Rattle.roc_group.specs.Group_run.{Call, group_pieces, begin, group_run, group_uses};
 
-/// The cells that a group uses follow from what it is given: they are the same on every store. So
-/// it is of the plans there are, whose groups are deferrable.
+/// The cells that a group uses follow from what it is given: they are the same on every store. So it is of the plans that
+/// the protocol reaches, whose groups are deferrable.
 pub fn cells_follow_from_what_is_given()
-    ensures { (plan : Plan) (c : Call) (s t : Store) → IsThin plan → c.group < length (groups_of plan c.proc) → group_uses plan c s ≡ group_uses plan c t }
+    ensures { (plan : Plan) (c : Call) (s t : Store) → IsWithin plan → c.group < length (groups_of plan c.proc) → group_uses plan c s ≡ group_uses plan c t }
 {}
 
 /// What a group does depends on nothing but the numbers in the cells that it reads, and it changes
 /// no cell but those that it uses as writes.
 pub fn runs_follow_from_cells()
-    ensures same { (plan : Plan) (c : Call) (s t : Store) → AgreeOnReads s t (group_uses plan c s) → RunAlike (begin plan c s) (begin plan c t) (pieces_of plan c) }
+    ensures same { (plan : Plan) (c : Call) (s t : Store) → AgreeOnReads s t (group_uses plan c s) → RunAlike (begin plan c s) (begin plan c t) (group_pieces plan c) }
     ensures others { (plan : Plan) (c : Call) (s : Store) (x : Cell) → do_write (group_uses plan c s) x ≡ false → read (group_run plan c s).store x ≡ read s x }
 {}
 
-/// Where a procedure is one group of one piece, as all are in the plans there are, the group's run
-/// from the arguments is the procedure's whole run: the cells, the names' values and the reply.
+/// Where a procedure is one group of one piece, as all are in the plans that the protocol reaches, the group's run from the
+/// arguments is the procedure's whole run: the cells, the names' values and the reply.
 pub fn only_group_is_the_whole_run()
-    ensures { (plan : Plan) (c : Call) (store : Store) → IsThin plan → c.group < length (groups_of plan c.proc) → group_run plan c store ≡ whole_run (procedure_of plan c.proc) c.args store }
+    ensures { (plan : Plan) (c : Call) (store : Store) → IsWithin plan → c.group < length (groups_of plan c.proc) → group_run plan c store ≡ whole_run (procedure_of plan c.proc) c.args store }
 {}

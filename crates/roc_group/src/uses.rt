@@ -3,24 +3,26 @@ ghost use Rattle.std.specs.Prelude.{◌≡◌, ◌++◌, ◌∷◌, [], ◌<◌,
 ghost use Rattle.std.specs.List.{flat_map};
 ghost use Rattle.roc_rows.specs.Store.{Store};
 ghost use Rattle.roc_plan.specs.Groups.{procedure_of, groups_of, inputs_of};
-ghost use Rattle.roc_plan.specs.Values.{value};
-ghost use Rattle.roc_plan.specs.Workload as pure;
-ghost use Rattle.roc_whole.specs.Run.{cell_of};
+ghost use Rattle.roc_program.specs.Values.{value};
+ghost use Rattle.roc_program.specs.Keys.{IsKey, HasKey, HasKeys};
+ghost use Rattle.roc_program.specs.Parts as pure;
+ghost use Rattle.roc_whole.specs.Run.{access_cell};
 ghost use Rattle.roc_group.specs.Accesses.{access, uses_of};
+ghost use Rattle.roc_plan.specs.Within.{IsWithin};
 ghost use Rattle.roc_group.specs.Group_run.{call, group_uses};
 
 use crate::Access;
-use crate::names::{names_before, piece_of};
+use crate::names::{names_before, only_piece};
 use roc_base::NoMemory;
-use roc_plan::{Known, Piece, Plan, Statement};
+use roc_plan::{Known, Plan};
+use roc_program::{Piece, Statement};
 use roc_rows::Cell;
 use roc_sequence::Sequence;
 use std::alloc::Global;
 
 /// The cells that a deferrable group uses, in the order in which it uses them, each with whether
 /// it is written. They are the same whatever the cells hold when it runs, so that a server can tell
-/// conflicts before it runs the group (ROCOCO, OSDI 2014, section 3). Every group is deferrable
-/// today.
+/// conflicts before it runs the group (ROCOCO, OSDI 2014, section 3).
 pub fn cells(
     alloc: Global,
     plan: &Plan,
@@ -28,18 +30,20 @@ pub fn cells(
     group: u16,
     known: &Known,
 ) -> Result<Sequence<Access>, NoMemory>
+    requires within { IsWithin plan.now }
     requires exists { group < length (groups_of plan.now proc) }
     requires args { length known.now.args ≡ (procedure_of plan.now proc).arguments }
     requires inputs { length known.now.inputs ≡ length (inputs_of plan.now proc group) }
     ensures { IfOk result (λ uses. (store : Store) → uses ≡ group_uses plan.now (call proc group known.now.args known.now.inputs) store) }
 {
-    let piece = piece_of(plan, proc, group);
+    let piece = only_piece(plan, proc, group);
     let names = names_before(alloc, plan, proc, group, known)?;
     uses_of_piece(alloc, piece, names.as_slice())
 }
 
 // What the statements of a piece use, where the names have these values.
 fn uses_of_piece(alloc: Global, piece: &Piece, names: &[i64]) -> Result<Sequence<Access>, NoMemory>
+    requires { HasKeys (pure.piece piece.now) }
     ensures { IfOk result (λ uses. uses ≡ flat_map (uses_of (value (pure.piece piece.now).place names.now) names.now) (pure.piece piece.now).body) }
 {
     let place = piece.place.value(names);
@@ -57,6 +61,7 @@ fn push_use(
     statement: &Statement,
     uses: &mut Sequence<Access>,
 ) -> Result<(), NoMemory>
+    requires { HasKey (pure.statement statement.now) }
     ensures { OnOk result (uses.new ≡ uses.old ++ uses_of place names.now (pure.statement statement.now)) }
 {
     match statement {
@@ -70,16 +75,17 @@ fn push_use(
 fn push_access(
     place: i64,
     names: &[i64],
-    row: &roc_plan::Access,
+    row: &roc_program::Access,
     writes: bool,
     uses: &mut Sequence<Access>,
 ) -> Result<(), NoMemory>
-    ensures { OnOk result (uses.new ≡ uses.old ++ access (cell_of place names.now (pure.access row.now)) writes ∷ []) }
+    requires { IsKey (pure.access row.now).id }
+    ensures { OnOk result (uses.new ≡ uses.old ++ access (access_cell place names.now (pure.access row.now)) writes ∷ []) }
 {
     let cell = Cell {
         table: row.table,
         place,
-        id: row.id.value(names),
+        id: row.key(names),
         column: row.column,
     };
     uses.push(Access { cell, writes })?;

@@ -5,7 +5,7 @@ use Rattle.std.specs.Prelude.{Option, Some, None}
 use Rattle.std.proofs.Math.Seq.{take-append-add, drop-cons}
 use Rattle.std.proofs.lemmas.Grind.{flat_map-append}
 use Rattle.std.proofs.lemmas.List.{append-nil}
-use Rattle.roc_io.specs.Told.{Adds, AddsFront}
+use Rattle.roc_io.specs.Told.{Adds, AddsFront, AddsThenFront}
 
 pub Adds-nil : {X : Type 0} (a : Option (List X)) → Adds a a []
 Adds-nil None = tt
@@ -26,7 +26,10 @@ take_longer (suc n) (x ∷ xs) ys = let rest = take_longer n xs ys in (suc rest.
 pub AddsFront-behind : {X : Type 0} (a b c : Option (List X)) (xs ys : List X) → Adds a b xs → AddsFront b c ys → AddsFront a c (xs ++ ys)
 AddsFront-behind a b c xs ys p q = (length xs + q.0, subst (Adds a c) (sym (take-append-add xs ys q.0)) (Adds-trans a b c xs (take q.0 ys) p q.1))
 
-pub AddsFront-longer : {X : Type 0} (a b : Option (List X)) (xs ys : List X) → AddsFront a b xs → AddsFront a b (xs ++ ys)
+pub AddsThenFront-behind : {X : Type 0} (a b c : Option (List X)) (xs ys : List X) → Adds a b xs → AddsFront b c ys → AddsThenFront a c xs ys
+AddsThenFront-behind a b c xs ys p q = (q.0, Adds-trans a b c xs (take q.0 ys) p q.1)
+
+AddsFront-longer : {X : Type 0} (a b : Option (List X)) (xs ys : List X) → AddsFront a b xs → AddsFront a b (xs ++ ys)
 AddsFront-longer a b xs ys p = let front = take_longer p.0 xs ys in (front.0, subst (Adds a b) (sym front.1) p.1)
 
 -- the pieces before the one at i, that piece, and the pieces behind it

@@ -36,9 +36,10 @@ abbrev pub held : List NamedBytes → List ℕ → Option (List ℕ)
 held [] name = None
 held (file ∷ files) name = if bytes_eq file.name name then Some file.bytes else held files name
 
--- files in memory, and the reads made of them
+-- files in memory, the names whose reads failed, where there was memory for them, and the reads made
 pub record FilesState : Type 0 where
   pub files : List NamedBytes
+  pub failed : Option (List (List ℕ))
   pub calls : Calls
 
 -- the answer of the first of two reads
@@ -57,6 +58,12 @@ abbrev pub two_failed : TwoRead → Bool
 two_failed Both = false
 two_failed (First answer) = read_failed answer
 two_failed (Second answer) = read_failed answer
+
+-- the name that was read last
+abbrev pub last_name : TwoRead → (first second : List ℕ) → List ℕ
+last_name Both first second = second
+last_name (First answer) first second = first
+last_name (Second answer) first second = second
 
 -- what stopped the reads is no Ok
 abbrev pub IsStopped : TwoRead → Type 0

@@ -52,8 +52,8 @@ abbrev pub status_of : List (Option ℕ) → ℕ → Option ℕ
 status_of statuses child = option_and_then (λ status. status) (slice_get statuses child)
 
 -- the words of a list of words
-abbrev pub words_of : Vec (String Global) Global → List (List ℕ)
-words_of words = map string_bytes words.items
+abbrev pub command_words : Vec (String Global) Global → List (List ℕ)
+command_words words = map string_bytes words.items
 
 abbrev pub all_start_failed : AllStarted → Bool
 all_start_failed AllFailed = true

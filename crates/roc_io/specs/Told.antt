@@ -11,6 +11,15 @@ Adds (Some old) (Some new) xs = new ≡ old ++ xs
 abbrev pub AddsFront : {X : Type 0} → Option (List X) → Option (List X) → List X → Type 0
 AddsFront old new xs = (n : ℕ) × Adds old new (take n xs)
 
+-- these, and behind them some front of those
+abbrev pub AddsThenFront : {X : Type 0} → Option (List X) → Option (List X) → (whole cut : List X) → Type 0
+AddsThenFront old new whole cut = (n : ℕ) × Adds old new (whole ++ take n cut)
+
+-- with this one more, where the call failed; the same, told or not, where it did not
+abbrev pub AddsIf : {X : Type 0} → Bool → Option (List X) → Option (List X) → X → Type 0
+AddsIf true old new x = Adds old new (x ∷ [])
+AddsIf false old new x = new ≡ old
+
 -- with this one more, where the call did not fail; the same, told or not, where it did
 abbrev pub AddsUnless : {X : Type 0} → Bool → Option (List X) → Option (List X) → X → Type 0
 AddsUnless true old new x = new ≡ old

@@ -1,9 +1,11 @@
 // Where a program reads its input files.
 ghost use Rattle.std.specs.Prelude.{◌≡◌, ℕ, Option, List, IfSome};
 ghost use Rattle.roc_io.specs.Cause.{HasCause};
-ghost use Rattle.roc_io.specs.Files.{read_failed, Reads, Fills, two_failed, first_answer, second_answer, IsStopped, FillsSecond};
+ghost use Rattle.roc_io.specs.Told.{AddsIf};
+ghost use Rattle.roc_io.specs.Files.{read_failed, Reads, Fills, two_failed, first_answer, second_answer, last_name, IsStopped, FillsSecond};
 
 pub mod memory;
+pub mod name;
 
 /// What a read answers.
 #[derive(Clone, Copy, Debug, PartialEq, Eq)]
@@ -23,6 +25,9 @@ pub trait Files {
     /// How many reads have failed.
     ghost faults: { Self → ℕ };
 
+    /// The names whose reads have failed, one for each failure, where they are told.
+    ghost failed_names: { Self → Option (List (List ℕ)) };
+
     /// The bytes that a name holds, where they are told.
     ghost content: { Self → List ℕ → Option (List ℕ) };
 
@@ -30,6 +35,7 @@ pub trait Files {
     /// Any answer but Ok leaves the buffer empty.
     fn read(&mut self, name: &str, into: &mut Vec<u8>, limit: usize) -> Read
         ensures cause { HasCause (read_failed result) (faults self.old) (faults self.new) }
+        ensures failed { AddsIf (read_failed result) (failed_names self.old) (failed_names self.new) name.now }
         ensures fills { Fills result limit into.new.items }
         ensures told { IfSome (content self.old name.now) (λ bytes. Reads result bytes limit into.new.items) }
         ensures unchanged { (other : List ℕ) → content self.new other ≡ content self.old other };
@@ -60,6 +66,7 @@ pub fn read_two<F: Files>(
     limit: usize,
 ) -> TwoRead
     ensures cause { HasCause (two_failed result) (F.faults files.old) (F.faults files.new) }
+    ensures failed { AddsIf (two_failed result) (F.failed_names files.old) (F.failed_names files.new) (last_name result names.entry.0.now names.entry.1.now) }
     ensures stopped { IsStopped result }
     ensures first_fills { Fills (first_answer result) limit first.new.items }
     ensures second_fills { FillsSecond (second_answer result) limit second.new.items }

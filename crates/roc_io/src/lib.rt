@@ -1,7 +1,7 @@
 //! The outside: input files, sinks for output, a datagram link and child processes, each as a trait.
 //!
 //! A trait counts its own failures, and a contract sees the counts and, where the object tells it, the
-//! content: the bytes that a name holds, the bytes a sink took, the datagrams that are to arrive and those
+//! content: the bytes that a name holds, the names whose reads failed, the bytes a sink took, the datagrams that are to arrive and those
 //! that were sent, the children started and awaited. `HasCause` (specs/Cause.antt) ties each answer that
 //! reports a failure to its count: a call that failed was counted, and any other left the count as it was.
 //! `Adds` and its kin (specs/Told.antt) say what a call adds to the content where it is told.
@@ -20,6 +20,7 @@ mod sink;
 mod spawner;
 
 pub use files::memory::{CalmFiles, MemFiles, StoredFile};
+pub use files::name::FileName;
 pub use files::{Files, Read, TwoRead, read_two};
 pub use link::datagram::Datagram;
 pub use link::memory::{CalmLink, MemLink};

@@ -2,7 +2,7 @@
 ghost use Rattle.std.specs.Prelude.{◌≡◌, ℕ, ◌≤◌, List, [], ◌∷◌, Option, Some, None, IsNone, IfSome, is_none, if◌then◌else◌, map, string_bytes};
 ghost use Rattle.roc_io.specs.Cause.{HasCause, Rose};
 ghost use Rattle.roc_io.specs.Told.{Adds};
-ghost use Rattle.roc_io.specs.Spawner.{start_failed, Starts, all_start_failed, words_of, StartsAll, WaitsAll};
+ghost use Rattle.roc_io.specs.Spawner.{start_failed, Starts, all_start_failed, command_words, StartsAll, WaitsAll};
 ghost use Rattle.roc_io.specs.Start.{Start};
 ghost use Rattle.roc_io.specs.declared.spawner.ChildWait.{ChildWait};
 
@@ -96,7 +96,7 @@ pub fn start_all<P: Spawner>(
 ) -> AllStarted
     ensures cause { HasCause (all_start_failed result) (P.faults spawner.old) (P.faults spawner.new) }
     ensures started { StartsAll result (P.started spawner.old) (P.started spawner.new)
-        (map words_of commands.now) children.old.items children.new.items }
+        (map command_words commands.now) children.old.items children.new.items }
     ensures awaited { P.awaited spawner.new ≡ P.awaited spawner.old }
 {
     for words in commands {

@@ -4,13 +4,18 @@ use Rattle.std.specs.Prelude.{◌≡◌, ℕ, ℤ, pos, neg_ℤ, ◌^◌, ◌<�
 use Rattle.std.specs.Str.{bytes_eq}
 use Rattle.std.specs.List.{list_any}
 use lib.Chars.{codes}
+use Rattle.roc_lang.specs.declared.limits.TheConstants as limit
 use Rattle.roc_lang.specs.Tokens.{Kind, Word, Integer, Mark, Token}
-use Rattle.roc_lang.specs.Syntax.{Name, Expression, Number, Variable, Sum, Difference, Product, Minimum, Maximum, Less, Pick, Access, Statement, Get, Set, Out, Piece, Procedure, Table, Init, Text}
+use Rattle.roc_lang.specs.Syntax.{Name, Expression, Number, Variable, Sum, Difference, Product, Minimum, Maximum, Less, Pick, Access, Statement, Get, Set, Out, Piece, Procedure, Table, Init, Tree}
 
 -- how many of each a text may have, and how deep an expression may be
 pub record Limits : Type 0 where
   pub tables : ℕ
   pub columns : ℕ
+  -- integers of an id: how few and how many a table may declare, and how many may stand in brackets
+  pub least_arity : ℕ
+  pub arity : ℕ
+  pub ids : ℕ
   pub inits : ℕ
   pub procedures : ℕ
   pub arguments : ℕ
@@ -20,11 +25,24 @@ pub record Limits : Type 0 where
 
 -- the limits of the language
 abbrev pub standard : Limits
-standard = record { tables = 64; columns = 16; inits = 4096; procedures = 64; arguments = 8; pieces = 16; statements = 64; depth = 32 }
+standard =
+    record {
+      tables = limit.TABLES;
+      columns = limit.COLUMNS;
+      least_arity = limit.LEAST_ARITY;
+      arity = limit.ARITY;
+      ids = limit.IDS;
+      inits = limit.INITS;
+      procedures = limit.PROCEDURES;
+      arguments = limit.ARGUMENTS;
+      pieces = limit.PIECES;
+      statements = limit.STATEMENTS;
+      depth = limit.DEPTH;
+    }
 
 -- how many bytes a text may have
 abbrev pub text_limit : ℕ
-text_limit = 1048576
+text_limit = limit.TEXT_BYTES
 
 -- ---- tokens
 
@@ -138,18 +156,23 @@ mutual
 
 -- ---- statements
 
--- one column of a row
-pub data IsAccess (depth : ℕ) : (tokens rest : List Token) → Access → Type 0 where
-  access : {a b c d e f g : List Token} {to : Access}
-      → IsName a b to.table → IsMark open_bracket b c → IsExpression depth c d to.id → IsMark close_bracket d e → IsMark dot e f → IsName f g to.column → IsAccess depth a g to
+-- the bracket behind an id, with its line
+pub record IsIdEnd (tokens rest : List Token) (line : ℕ) : Type 0 where
+  pub is : tokens ≡ record { kind = Mark close_bracket; line = line } ∷ rest
 
-pub data IsStatement (depth : ℕ) : (tokens rest : List Token) → Statement → Type 0 where
+-- one column of a row, whose id is at least one expression
+pub data IsAccess (limits : Limits) : (tokens rest : List Token) → Access → Type 0 where
+  access : {a b c d e f g : List Token} {to : Access}
+      → IsName a b to.table → IsMark open_bracket b c → Separated (IsExpression limits.depth) c d to.id → IsIdEnd d e to.id_line → IsMark dot e f → IsName f g to.column
+      → length to.id ≤ limits.ids → IsAccess limits a g to
+
+pub data IsStatement (limits : Limits) : (tokens rest : List Token) → Statement → Type 0 where
   get : {a b c d e f : List Token} {name : Name} {from : Access}
-      → IsToken (Word (codes "get")) a b → IsName b c name → IsMark equals c d → IsAccess depth d e from → IsMark semicolon e f → IsStatement depth a f (Get name from)
+      → IsToken (Word (codes "get")) a b → IsName b c name → IsMark equals c d → IsAccess limits d e from → IsMark semicolon e f → IsStatement limits a f (Get name from)
   set : {a b c d e f : List Token} {to : Access} {value : Expression}
-      → IsToken (Word (codes "set")) a b → IsAccess depth b c to → IsMark equals c d → IsExpression depth d e value → IsMark semicolon e f → IsStatement depth a f (Set to value)
+      → IsToken (Word (codes "set")) a b → IsAccess limits b c to → IsMark equals c d → IsExpression limits.depth d e value → IsMark semicolon e f → IsStatement limits a f (Set to value)
   out : {a b c d : List Token} {value : Expression}
-      → IsToken (Word (codes "out")) a b → IsExpression depth b c value → IsMark semicolon c d → IsStatement depth a d (Out value)
+      → IsToken (Word (codes "out")) a b → IsExpression limits.depth b c value → IsMark semicolon c d → IsStatement limits a d (Out value)
 
 -- ---- procedures
 
@@ -160,7 +183,7 @@ class_word false = codes "later"
 pub data IsPiece (limits : Limits) : (tokens rest : List Token) → Piece → Type 0 where
   piece : {a b c d e f g h : List Token} {p : Piece}
       → IsToken (Word (class_word p.is_now)) a b → IsName b c p.name → IsToken (Word (codes "at")) c d → IsExpression limits.depth d e p.place
-      → IsMark open_brace e f → Each (IsStatement limits.depth) f g p.body → IsMark close_brace g h → length p.body ≤ limits.statements → IsPiece limits a h p
+      → IsMark open_brace e f → Each (IsStatement limits) f g p.body → IsMark close_brace g h → length p.body ≤ limits.statements → IsPiece limits a h p
 
 -- names in parentheses, or none
 pub data IsArguments (limits : Limits) : (tokens rest : List Token) → List Name → Type 0 where
@@ -176,24 +199,31 @@ pub data IsProcedure (limits : Limits) : (tokens rest : List Token) → Procedur
 
 -- ---- texts
 
-pub data IsTable (limits : Limits) : (tokens rest : List Token) → Table → Type 0 where
-  table : {a b c d e f : List Token} {t : Table}
-      → IsToken (Word (codes "table")) a b → IsName b c t.name → IsMark open_brace c d → Separated IsName d e t.columns → IsMark close_brace e f → length t.columns ≤ limits.columns → IsTable limits a f t
+-- how many integers an id has: one where nothing is said
+pub data IsArity (limits : Limits) : (tokens rest : List Token) → ℕ → Type 0 where
+  one : {a : List Token} → IsArity limits a a 1
+  said : {a b c d : List Token} {n : ℕ} → IsMark open_bracket a b → IsInteger b c n → IsMark close_bracket c d → limits.least_arity ≤ n → n ≤ limits.arity → IsArity limits a d n
 
-pub data IsInit : (tokens rest : List Token) → Init → Type 0 where
+pub data IsTable (limits : Limits) : (tokens rest : List Token) → Table → Type 0 where
+  table : {a b c d e f g : List Token} {t : Table}
+      → IsToken (Word (codes "table")) a b → IsName b c t.name → IsArity limits c d t.arity → IsMark open_brace d e → Separated IsName e f t.columns → IsMark close_brace f g
+      → length t.columns ≤ limits.columns → IsTable limits a g t
+
+-- a place and an id of at least one integer
+pub data IsInit (limits : Limits) : (tokens rest : List Token) → Init → Type 0 where
   init : {a b c d e f g h i j k l m : List Token} {line : Init}
       → IsToken (Word (codes "init")) a b → IsName b c line.table
-      → IsMark open_bracket c d → IsSigned d e line.place → IsMark comma e f → IsSigned f g line.id → IsMark close_bracket g h → IsMark dot h i → IsName i j line.column
-      → IsMark equals j k → IsSigned k l line.value → IsMark semicolon l m → IsInit a m line
+      → IsMark open_bracket c d → IsSigned d e line.place → IsMark comma e f → Separated IsSigned f g line.id → IsIdEnd g h line.id_line → IsMark dot h i → IsName i j line.column
+      → IsMark equals j k → IsSigned k l line.value → IsMark semicolon l m → length line.id ≤ limits.ids → IsInit limits a m line
 
 -- the number of shards, where it stands
 pub record IsShards (tokens rest : List Token) (shards line : ℕ) : Type 0 where
   pub is : tokens ≡ record { kind = Integer shards; line = line } ∷ rest
   pub fits : shards < 2 ^ 63
 
--- all of the tokens
-pub data IsText (limits : Limits) : List Token → Text → Type 0 where
-  text : {a b c d e f : List Token} {t : Text}
+-- all of the tokens are a text of this tree
+pub data IsText (limits : Limits) : List Token → Tree → Type 0 where
+  text : {a b c d e f : List Token} {t : Tree}
       → IsToken (Word (codes "shards")) a b → IsShards b c t.shards t.shards_line → IsMark semicolon c d
-      → Each (IsTable limits) d e t.tables → Each IsInit e f t.inits → Each (IsProcedure limits) f [] t.procedures
+      → Each (IsTable limits) d e t.tables → Each (IsInit limits) e f t.inits → Each (IsProcedure limits) f [] t.procedures
       → length t.tables ≤ limits.tables → length t.inits ≤ limits.inits → length t.procedures ≤ limits.procedures → IsText limits a t

@@ -1,6 +1,9 @@
 pub mod Syntax
 pub mod Tokens
 pub mod Grammar
+pub mod Limits
 pub mod Scope
 pub mod Tree
+pub mod Source
 pub mod FaultText
+pub mod Inner

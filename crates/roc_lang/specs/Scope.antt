@@ -1,12 +1,13 @@
 -- What is wrong with the names of a text, in the order of the text: docs/LANGUAGE.md, "Scope".
-use Rattle.std.specs.Prelude.{ℕ, Bool, true, false, ◌&&◌, nat_le, List, [], ◌∷◌, ◌++◌, Option, Some, None, if◌then◌else◌}
+use Rattle.std.specs.Prelude.{ℕ, Bool, true, false, ◌&&◌, nat_le, ◌==◌, length, List, [], ◌∷◌, ◌++◌, Option, Some, None, if◌then◌else◌}
 use Rattle.std.specs.List.{list_any, flat_map, find}
 use Rattle.std.specs.Str.{bytes_eq}
-use Rattle.roc_lang.specs.Syntax.{Name, Expression, Number, Variable, Sum, Difference, Product, Minimum, Maximum, Less, Pick, Access, Statement, Get, Set, Out, Piece, Procedure, Table, Init, Text}
+use Rattle.roc_lang.specs.declared.limits.TheConstants.{SHARDS}
+use Rattle.roc_lang.specs.Syntax.{Name, Expression, Number, Variable, Sum, Difference, Product, Minimum, Maximum, Less, Pick, Access, Statement, Get, Set, Out, Piece, Procedure, Table, Init, Tree}
 
 pub data FaultKind : Type 0 where
   Shards : FaultKind
-  Twice Unknown LaterUsed SamePieceKey Unbound : (name : List ℕ) → FaultKind
+  Twice Unknown LaterUsed SamePieceKey Unbound Arity : (name : List ℕ) → FaultKind
 
 pub record Fault : Type 0 where
   pub kind : FaultKind
@@ -76,8 +77,15 @@ abbrev pub column_faults : Option Table → Name → List Fault
 column_faults None name = []
 column_faults (Some t) name = if is_among t.columns name then [] else fault_at name Unknown
 
+-- an id with another number of integers than its table's, told at the bracket behind it
+abbrev pub arity_faults : Option Table → Name → (count line : ℕ) → List Fault
+arity_faults None name count line = []
+arity_faults (Some t) name count line = if count == t.arity then [] else record { kind = Arity name.text; line = line } ∷ []
+
 abbrev pub access_faults : List Table → Bound → Access → List Fault
-access_faults tables bound a = table_faults (table_named tables a.table) a.table ++ key_faults bound a.id ++ column_faults (table_named tables a.table) a.column
+access_faults tables bound a =
+    table_faults (table_named tables a.table) a.table ++ flat_map (key_faults bound) a.id ++ arity_faults (table_named tables a.table) a.table (length a.id) a.id_line
+    ++ column_faults (table_named tables a.table) a.column
 
 -- ---- statements
 
@@ -117,17 +125,18 @@ tables_faults earlier [] = []
 tables_faults earlier (t ∷ ts) = repeated earlier t.name ++ repeats [] t.columns ++ tables_faults (earlier ++ t.name ∷ []) ts
 
 abbrev pub init_faults : List Table → Init → List Fault
-init_faults tables i = table_faults (table_named tables i.table) i.table ++ column_faults (table_named tables i.table) i.column
+init_faults tables i =
+    table_faults (table_named tables i.table) i.table ++ arity_faults (table_named tables i.table) i.table (length i.id) i.id_line ++ column_faults (table_named tables i.table) i.column
 
 abbrev pub procedures_faults : List Table → (earlier : List Name) → List Procedure → List Fault
 procedures_faults tables earlier [] = []
 procedures_faults tables earlier (p ∷ ps) =
     repeated earlier p.name ++ repeats [] p.arguments ++ pieces_faults tables [] (record { known = p.arguments; own = []; past = [] }) p.pieces ++ procedures_faults tables (earlier ++ p.name ∷ []) ps
 
--- 1 to 64 shards
-abbrev pub shards_faults : Text → List Fault
-shards_faults t = if nat_le 1 t.shards && nat_le t.shards 64 then [] else record { kind = Shards; line = t.shards_line } ∷ []
+-- there is a shard, and there are not too many
+abbrev pub shards_faults : Tree → List Fault
+shards_faults t = if nat_le 1 t.shards && nat_le t.shards SHARDS then [] else record { kind = Shards; line = t.shards_line } ∷ []
 
 -- all faults of scope, in the order of the text
-abbrev pub faults : Text → List Fault
+abbrev pub faults : Tree → List Fault
 faults t = shards_faults t ++ tables_faults [] t.tables ++ flat_map (init_faults t.tables) t.inits ++ procedures_faults t.tables [] t.procedures

@@ -12,10 +12,11 @@ pub data Expression : Type 0 where
   Sum Difference Product Minimum Maximum Less : (first second : Expression) → Expression
   Pick : (chooser first second : Expression) → Expression
 
--- one column of a row of the piece's place
+-- one column of the row with this id, at the piece's place; and the line of the bracket behind the id
 pub record Access : Type 0 where
   pub table : Name
-  pub id : Expression
+  pub id : List Expression
+  pub id_line : ℕ
   pub column : Name
 
 pub data Statement : Type 0 where
@@ -35,20 +36,23 @@ pub record Procedure : Type 0 where
   pub arguments : List Name
   pub pieces : List Piece
 
+-- a table, and how many integers its ids have
 pub record Table : Type 0 where
   pub name : Name
+  pub arity : ℕ
   pub columns : List Name
 
 -- the value of a cell at the start
 pub record Init : Type 0 where
   pub table : Name
   pub place : ℤ
-  pub id : ℤ
+  pub id : List ℤ
+  pub id_line : ℕ
   pub column : Name
   pub value : ℤ
 
--- a whole workload text
-pub record Text : Type 0 where
+-- the tree of a whole workload text
+pub record Tree : Type 0 where
   pub shards : ℕ
   pub shards_line : ℕ
   pub tables : List Table

@@ -3,6 +3,7 @@ use Rattle.std.specs.Prelude.{◌≡◌, ℕ, ◌+◌, ◌-◌, ◌*◌, ◌^◌
 use Rattle.std.specs.Char.{is_ascii_alphabetic, is_ascii_alphanumeric, is_ascii_digit}
 use Rattle.std.specs.List.{list_any, fold, AllByRecursion}
 use lib.Chars.{codes}
+use Rattle.roc_lang.specs.declared.limits.TheConstants.{WORD_BYTES}
 
 pub data Kind : Type 0 where
   Word : (letters : List ℕ) → Kind
@@ -33,7 +34,7 @@ line_after line b = if b == 10 then line + 1 else line
 -- a letter, then letters, digits and _: at most 32 bytes
 abbrev pub IsWord : List ℕ → Type 0
 IsWord [] = ⊥
-IsWord (b ∷ bs) = IsTrue (is_ascii_alphabetic b) × AllByRecursion (λ c. IsTrue (is_word_byte c)) bs × (length bs < 32)
+IsWord (b ∷ bs) = IsTrue (is_ascii_alphabetic b) × AllByRecursion (λ c. IsTrue (is_word_byte c)) bs × (length bs < WORD_BYTES)
 
 -- the number that decimal digits spell
 abbrev pub decimal : List ℕ → ℕ
@@ -53,14 +54,15 @@ abbrev pub IsLineEnd : List ℕ → Type 0
 IsLineEnd [] = Unit {0}
 IsLineEnd (b ∷ bs) = b ≡ 10
 
--- bytes that begin on a line, and their tokens
+-- one step from bytes that begin on a line: a blank, a comment, or a token; and the line and the bytes behind it
+pub data IsTokenStep : (line : ℕ) (bytes : List ℕ) (tokens : List Token) (after : ℕ) (rest : List ℕ) → Type 0 where
+  blank : {line b : ℕ} {rest : List ℕ} → IsTrue (is_blank b) → IsTokenStep line (b ∷ rest) [] (line_after line b) rest
+  comment : {line : ℕ} {bytes rest : List ℕ} (text : List ℕ) → bytes ≡ codes "//" ++ (text ++ rest) → AllByRecursion (λ b. IsFalse (b == 10)) text → IsLineEnd rest → IsTokenStep line bytes [] line rest
+  word : {line : ℕ} {bytes rest : List ℕ} (letters : List ℕ) → bytes ≡ letters ++ rest → IsWord letters → IsTokenEnd rest → IsTokenStep line bytes (record { kind = Word letters; line = line } ∷ []) line rest
+  integer : {line : ℕ} {bytes rest : List ℕ} (digits : List ℕ) → bytes ≡ digits ++ rest → IsDecimal digits → IsTokenEnd rest → IsTokenStep line bytes (record { kind = Integer (decimal digits); line = line } ∷ []) line rest
+  mark : {line b : ℕ} {rest : List ℕ} → IsTrue (is_mark b) → IsTokenStep line (b ∷ rest) (record { kind = Mark b; line = line } ∷ []) line rest
+
+-- bytes that begin on a line, and their tokens: one step behind the other
 pub data IsTokens : (line : ℕ) (bytes : List ℕ) → List Token → Type 0 where
   nothing : {line : ℕ} → IsTokens line [] []
-  blank : {line b : ℕ} {bytes : List ℕ} {tokens : List Token} → IsTrue (is_blank b) → IsTokens (line_after line b) bytes tokens → IsTokens line (b ∷ bytes) tokens
-  comment : {line : ℕ} {bytes rest : List ℕ} {tokens : List Token} (text : List ℕ)
-      → bytes ≡ codes "//" ++ (text ++ rest) → AllByRecursion (λ b. IsFalse (b == 10)) text → IsLineEnd rest → IsTokens line rest tokens → IsTokens line bytes tokens
-  word : {line : ℕ} {bytes rest : List ℕ} {tokens : List Token} (letters : List ℕ)
-      → bytes ≡ letters ++ rest → IsWord letters → IsTokenEnd rest → IsTokens line rest tokens → IsTokens line bytes (record { kind = Word letters; line = line } ∷ tokens)
-  integer : {line : ℕ} {bytes rest : List ℕ} {tokens : List Token} (digits : List ℕ)
-      → bytes ≡ digits ++ rest → IsDecimal digits → IsTokenEnd rest → IsTokens line rest tokens → IsTokens line bytes (record { kind = Integer (decimal digits); line = line } ∷ tokens)
-  mark : {line b : ℕ} {bytes : List ℕ} {tokens : List Token} → IsTrue (is_mark b) → IsTokens line bytes tokens → IsTokens line (b ∷ bytes) (record { kind = Mark b; line = line } ∷ tokens)
+  step : {line after : ℕ} {bytes rest : List ℕ} {some others : List Token} → IsTokenStep line bytes some after rest → IsTokens after rest others → IsTokens line bytes (some ++ others)

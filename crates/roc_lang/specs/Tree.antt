@@ -1,17 +1,16 @@
--- The syntax tree of the code, without where it lies in memory.
+-- The parts of the syntax tree of the code, without where they lie in memory.
 use Rattle.std.specs.Prelude.{map}
 use Rattle.std.specs.String.{string_bytes}
-use Rattle.roc_lang.specs.declared.source.Name.{Name}
-use Rattle.roc_lang.specs.declared.source.Expression.{Expression}
-use Rattle.roc_lang.specs.declared.source.Expression.TheVariants as variants
-use Rattle.roc_lang.specs.declared.source.Access.{Access}
-use Rattle.roc_lang.specs.declared.source.Statement.{Statement}
-use Rattle.roc_lang.specs.declared.source.Statement.TheVariants as statements
-use Rattle.roc_lang.specs.declared.source.Piece.{Piece}
-use Rattle.roc_lang.specs.declared.source.Procedure.{Procedure}
-use Rattle.roc_lang.specs.declared.source.Table.{Table}
-use Rattle.roc_lang.specs.declared.source.Init.{Init}
-use Rattle.roc_lang.specs.declared.source.Source.{Source}
+use Rattle.roc_lang.specs.declared.syntax.Name.{Name}
+use Rattle.roc_lang.specs.declared.syntax.Expression.{Expression}
+use Rattle.roc_lang.specs.declared.syntax.Expression.TheVariants as variants
+use Rattle.roc_lang.specs.declared.syntax.Access.{Access}
+use Rattle.roc_lang.specs.declared.syntax.Statement.{Statement}
+use Rattle.roc_lang.specs.declared.syntax.Statement.TheVariants as statements
+use Rattle.roc_lang.specs.declared.syntax.Piece.{Piece}
+use Rattle.roc_lang.specs.declared.syntax.Procedure.{Procedure}
+use Rattle.roc_lang.specs.declared.syntax.Table.{Table}
+use Rattle.roc_lang.specs.declared.syntax.Init.{Init}
 use Rattle.roc_lang.specs.Syntax as syntax
 
 abbrev pub name_tree : Name → syntax.Name
@@ -29,7 +28,7 @@ expression_tree (variants.Less' p e q f) = syntax.Less (expression_tree e) (expr
 expression_tree (variants.Pick' p c q e r f) = syntax.Pick (expression_tree c) (expression_tree e) (expression_tree f)
 
 abbrev pub access_tree : Access → syntax.Access
-access_tree a = record { table = name_tree a.table; id = expression_tree a.id; column = name_tree a.column }
+access_tree a = record { table = name_tree a.table; id = map expression_tree a.id.items; id_line = a.id_line; column = name_tree a.column }
 
 abbrev pub statement_tree : Statement → syntax.Statement
 statement_tree (statements.Get name from) = syntax.Get (name_tree name) (access_tree from)
@@ -43,17 +42,7 @@ abbrev pub procedure_tree : Procedure → syntax.Procedure
 procedure_tree p = record { name = name_tree p.name; arguments = map name_tree p.arguments.items; pieces = map piece_tree p.pieces.items }
 
 abbrev pub table_tree : Table → syntax.Table
-table_tree t = record { name = name_tree t.name; columns = map name_tree t.columns.items }
+table_tree t = record { name = name_tree t.name; arity = t.arity; columns = map name_tree t.columns.items }
 
 abbrev pub init_tree : Init → syntax.Init
-init_tree i = record { table = name_tree i.table; place = i.place; id = i.id; column = name_tree i.column; value = i.value }
-
--- the whole tree
-abbrev pub tree : Source → syntax.Text
-tree s = record {
-  shards = s.shards;
-  shards_line = s.shards_line;
-  tables = map table_tree s.tables.items;
-  inits = map init_tree s.inits.items;
-  procedures = map procedure_tree s.procedures.items;
-}
+init_tree i = record { table = name_tree i.table; place = i.place; id = i.id.items; id_line = i.id_line; column = name_tree i.column; value = i.value }

@@ -48,6 +48,7 @@ impl fmt::Display for What {
 pub enum LangError {
     /// The first fault of a text, with its line, counted from 1.
     At { line: u32, what: What },
+    /// No memory was left for the tree.
     NoMemory,
 }
 

@@ -1,13 +1,18 @@
 //! The language of workloads: what a text is, its syntax tree, and its faults.
 //!
 //! `specs/Tokens.antt` and `Grammar.antt` say which bytes are a workload text of a tree, `specs/Scope.antt` what is wrong
-//! with the names of a tree; in words both stand in `docs/LANGUAGE.md`. Contracts see a `Source` as the tree of
-//! `specs/Syntax.antt` that `specs/Tree.antt` reads out of it. `roc_parse` reads texts, `roc_print` writes them, and
-//! `roc_scope` tests their names.
+//! with the names of a tree, and `specs/Limits.antt` how large a tree may be; in words all of these stand in
+//! `docs/LANGUAGE.md`, and the numbers in the module [`limits`]. Contracts see a `Source` as the tree of
+//! `specs/Syntax.antt`, and each is within the limits. `roc_parse` reads texts, `roc_print` writes them, and `roc_scope`
+//! tests their names. `specs/Inner/` is of this crate alone.
 #![tactic(auto)]
 
 mod fault;
+pub mod laws;
+pub mod limits;
 mod source;
+mod syntax;
 
 pub use fault::{LangError, What};
-pub use source::{Access, Expression, Init, Name, Piece, Procedure, Source, Statement, Table};
+pub use source::Source;
+pub use syntax::{Access, Expression, Init, Name, Piece, Procedure, Statement, Table};

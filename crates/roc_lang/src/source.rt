@@ -1,86 +1,95 @@
-//! The syntax tree of a workload text. `specs/Tree.antt` says what it is apart from where it lies in memory.
+//! The syntax tree of a whole workload text.
+ghost use Rattle.std.specs.Prelude.{◌≡◌, map};
+ghost use Rattle.roc_lang.specs.Limits.{IsWithinLimits};
+ghost use Rattle.roc_lang.specs.Tree.{table_tree, init_tree, procedure_tree};
 
-/// A name where it stands: `line` counts from 1.
-#[derive(Debug, Drop)]
-pub struct Name {
-    pub text: String,
-    pub line: u32,
-}
+use crate::{Init, Procedure, Table};
+use std::marker::Model;
 
-/// A value of 64 bits. Parentheses leave no trace in it.
-#[derive(Debug, Drop)]
-pub enum Expression {
-    Number(i64),
-    Variable(Name),
-    Sum(Box<Expression>, Box<Expression>),
-    Difference(Box<Expression>, Box<Expression>),
-    Product(Box<Expression>, Box<Expression>),
-    Minimum(Box<Expression>, Box<Expression>),
-    Maximum(Box<Expression>, Box<Expression>),
-    /// 1 where the first is below the second, else 0.
-    Less(Box<Expression>, Box<Expression>),
-    /// The second where the first is not 0, else the third.
-    Pick(Box<Expression>, Box<Expression>, Box<Expression>),
-}
-
-/// One column of the row `id` of a table, at the place of the piece.
-#[derive(Debug, Drop)]
-pub struct Access {
-    pub table: Name,
-    pub id: Expression,
-    pub column: Name,
-}
-
-#[derive(Debug, Drop)]
-pub enum Statement {
-    /// Binds a name to the value of a cell.
-    Get { name: Name, from: Access },
-    /// Writes a value into a cell.
-    Set { to: Access, value: Expression },
-    /// Adds a value to the reply.
-    Out(Expression),
-}
-
-/// A part of a procedure that runs on one shard, that of its place.
-#[derive(Debug, Drop)]
-pub struct Piece {
-    /// Declared `now`, and not `later`.
-    pub is_now: bool,
-    pub name: Name,
-    pub place: Expression,
-    pub body: Vec<Statement>,
-}
-
-#[derive(Debug, Drop)]
-pub struct Procedure {
-    pub name: Name,
-    pub arguments: Vec<Name>,
-    pub pieces: Vec<Piece>,
-}
-
-#[derive(Debug, Drop)]
-pub struct Table {
-    pub name: Name,
-    pub columns: Vec<Name>,
-}
-
-/// The value of a cell at the start.
-#[derive(Debug, Drop)]
-pub struct Init {
-    pub table: Name,
-    pub place: i64,
-    pub id: i64,
-    pub column: Name,
-    pub value: i64,
-}
-
-/// A whole workload text.
+/// A whole workload text, within the limits of the language (`specs/Limits.antt`), in scope or not.
 #[derive(Debug, Drop)]
 pub struct Source {
-    pub shards: u64,
+    shards: u64,
+    shards_line: u32,
+    tables: Vec<Table>,
+    inits: Vec<Init>,
+    procedures: Vec<Procedure>,
+}
+
+impl Model for Source {
+    ghost use Rattle.roc_lang.specs.Syntax.{Tree};
+    ghost use Rattle.roc_lang.specs.Inner.Codes.{tree_code};
+
+    ghost Value = { Tree };
+
+    ghost coded = { tree_code };
+
+    ghost use Rattle.roc_lang.specs.Source.{tree};
+    ghost use Rattle.roc_lang.specs.Limits.{IsWithinLimits};
+
+    ghost view = { tree };
+
+    ghost invariant = { λ s. IsWithinLimits (tree s) };
+}
+
+impl Source {
+    /// The tree of these parts, which have to be within the limits. `shards_line` is the line of the number of shards.
+    pub fn new(
+        shards: u64,
+        shards_line: u32,
+        tables: Vec<Table>,
+        inits: Vec<Init>,
+        procedures: Vec<Procedure>,
+    ) -> Source
+        requires { IsWithinLimits (record { shards = shards; shards_line = shards_line; tables = map table_tree tables.items; inits = map init_tree inits.items; procedures = map procedure_tree procedures.items }) }
+        ensures { result
+            ≡ record { shards = shards; shards_line = shards_line; tables = map table_tree tables.items; inits = map init_tree inits.items; procedures = map procedure_tree procedures.items } }
+    {
+        Source {
+            shards,
+            shards_line,
+            tables,
+            inits,
+            procedures,
+        }
+    }
+
+    /// The number of shards, which scope judges.
+    pub fn shards(&self) -> u64
+        ensures value { result ≡ self.now.shards }
+        ensures limits { IsWithinLimits self.now }
+    {
+        self.shards
+    }
+
     /// The line of the number of shards.
-    pub shards_line: u32,
-    pub tables: Vec<Table>,
-    pub inits: Vec<Init>,
-    pub procedures: Vec<Procedure>,
+    pub fn shards_line(&self) -> u32
+        ensures { result ≡ self.now.shards_line }
+    {
+        self.shards_line
+    }
+
+    /// The tables, in the order of the text.
+    pub fn tables(&self) -> &[Table]
+        ensures value { map table_tree result.now ≡ self.now.tables }
+        ensures limits { IsWithinLimits self.now }
+    {
+        self.tables.as_slice()
+    }
+
+    /// The init lines, in the order of the text.
+    pub fn inits(&self) -> &[Init]
+        ensures value { map init_tree result.now ≡ self.now.inits }
+        ensures limits { IsWithinLimits self.now }
+    {
+        self.inits.as_slice()
+    }
+
+    /// The procedures, in the order of the text.
+    pub fn procedures(&self) -> &[Procedure]
+        ensures value { map procedure_tree result.now ≡ self.now.procedures }
+        ensures limits { IsWithinLimits self.now }
+    {
+        self.procedures.as_slice()
+    }
 }

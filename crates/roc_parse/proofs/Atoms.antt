@@ -5,13 +5,14 @@ use lib.Chars.{codes}
 use Rattle.roc_lang.specs.Syntax.{Expression, Number, Variable, Minimum, Maximum, Less, Pick}
 use Rattle.roc_lang.specs.Tokens.{Kind, Word, Mark, Token}
 use Rattle.roc_lang.specs.Grammar.{IsToken, IsName, open_parenthesis, close_parenthesis, comma, plus, minus, star}
-use Rattle.roc_parse.specs.Stuck.{Reading}
-use Rattle.roc_parse.specs.Parts.{is_mark}
-use Rattle.roc_parse.specs.Reading.{Deep, number_at, variable_at, enclosed_at, next_at, pair_at, function_at, pick_at}
-use Rattle.roc_parse.proofs.Exact.{Rule, Stop, IsEnd, any, Exact, when_ok, Then, Followed, exact_then, exact_next}
+use Rattle.roc_parse.specs.Inner.Stuck.{Reading}
+use Rattle.roc_parse.specs.Inner.Parts.{has_mark, behind_comma_at}
+use Rattle.roc_parse.specs.Inner.Reading.{Deep, number_at, variable_at, enclosed_at, pair_at, function_at, pick_at}
+use Rattle.roc_parse.proofs.Exact.{Rule, Stop, IsStopAt, any, Exact, Then, Followed, exact_then, exact_next}
 use Rattle.roc_parse.proofs.Choices.{Mapped, exact_mapped, Either}
 use Rattle.roc_parse.proofs.Several.{other_than}
 use Rattle.roc_parse.proofs.Terminals.{Tokens, exact_word, exact_mark, exact_name, Plain, exact_plain}
+use Rattle.roc_parse.proofs.Separated.{BehindComma, exact_behind_comma, behind_comma_ends}
 use Rattle.roc_parse.proofs.Depths.{Summed, Single, Paired, number, variable, parentheses, minimum, maximum, less, pick, pair}
 use Rattle.roc_parse.proofs.Loops.{Within, depth_of, IsRead}
 
@@ -28,13 +29,13 @@ abbrev pub Atoms : ℕ → Rule Deep
 Atoms room = Within AtomRule depth_of room
 
 abbrev pub is_operator : Kind → Bool
-is_operator kind = is_mark plus kind || is_mark minus kind || is_mark star kind
+is_operator kind = has_mark plus kind || has_mark minus kind || has_mark star kind
 
 abbrev pub sum_stop : Stop
 sum_stop = other_than is_operator
 
 -- a token stops what it does not go on with
-pub stops_at : (test : Kind → Bool) (k : Kind) (ts us : List Token) → IsToken k ts us → test k ≡ false → IsEnd (other_than test) ts
+pub stops_at : (test : Kind → Bool) (k : Kind) (ts us : List Token) → IsToken k ts us → test k ≡ false → IsStopAt (other_than test) ts
 stops_at test k ts us i e = rw (i.is, e) refl
 
 -- ---- rules
@@ -43,7 +44,7 @@ abbrev pub Enclosed : ℕ → Rule Deep
 Enclosed k = Then (Tokens (Mark open_parenthesis)) (λ o. Then (Sums k) (λ x. Mapped (λ c. (x.0, x.1 + 1)) (Tokens (Mark close_parenthesis))))
 
 abbrev pub Next : ℕ → Rule Deep
-Next k = Then (Tokens (Mark comma)) (λ c. Sums k)
+Next k = BehindComma (Sums k)
 
 abbrev pub Pairs : ℕ → Rule (Expression × Expression × ℕ)
 Pairs k = Then (Tokens (Mark open_parenthesis)) (λ o. Then (Sums k) (λ x. Then (Next k) (λ y. Mapped (λ c. (x.0, y.0, max x.1 y.1)) (Tokens (Mark close_parenthesis)))))
@@ -62,11 +63,11 @@ Variables = Mapped (λ n. (Variable n, 1)) IsName
 
 -- ---- what is a rule's is read
 
-complete_next : (inner : List Token → Reading Deep) (k : ℕ) → IsRead SumRule depth_of k sum_stop inner → (ts us : List Token) (v : Deep) → Next k ts us v → IsEnd sum_stop us → next_at inner ts ≡ Ok (v, us)
-unfolding next_at
+complete_next : (inner : List Token → Reading Deep) (k : ℕ) → IsRead SumRule depth_of k sum_stop inner → (ts us : List Token) (v : Deep) → Next k ts us v → IsStopAt sum_stop us → behind_comma_at inner ts ≡ Ok (v, us)
+unfolding behind_comma_at
 complete_next inner k read ts us v t a = rw ((exact_mark comma).all ts t.between tt t.left refl) (read t.between us v t.right.is t.right.fits a)
 
-next_stops : (k : ℕ) (ts us : List Token) (v : Deep) → Next k ts us v → IsEnd sum_stop ts
+next_stops : (k : ℕ) (ts us : List Token) (v : Deep) → Next k ts us v → IsStopAt sum_stop ts
 next_stops k ts us v t = stops_at is_operator (Mark comma) ts t.between t.left refl
 
 pub complete_enclosed : (inner : List Token → Reading Deep) (k : ℕ) → IsRead SumRule depth_of k sum_stop inner → (ts us : List Token) (v : Deep) → Enclosed k ts us v → enclosed_at inner ts ≡ Ok (v, us)
@@ -111,18 +112,10 @@ complete_pick inner k read ts us v t =
 -- what is exact of the expressions inside
 pub record Inner (k k' : ℕ) (inner inner' : List Token → Reading Deep) : Type 0 where
   pub exact : Exact (Sums k) (Sums k') sum_stop inner inner'
-  pub ends : (ts us : List Token) (v : Deep) → inner ts ≡ Ok (v, us) → IsEnd sum_stop us
+  pub ends : (ts us : List Token) (v : Deep) → inner ts ≡ Ok (v, us) → IsStopAt sum_stop us
 
 closes : {A B : Type 0} (f : A → Unit {0} → B) → Followed (λ x. Mapped (f x) (Tokens (Mark close_parenthesis))) sum_stop any
 closes f = record { is = λ x ms us y m a. stops_at is_operator (Mark close_parenthesis) ms us m.is refl; end = refl }
-
-exact_next_of : (k k' : ℕ) (inner inner' : List Token → Reading Deep) → Inner k k' inner inner' → Exact (Next k) (Next k') sum_stop (next_at inner) (next_at inner')
-unfolding next_at
-exact_next_of k k' inner inner' i = exact_next (exact_mark comma) (λ c. i.exact)
-
-next_ends : (inner : List Token → Reading Deep) → ((ts us : List Token) (v : Deep) → inner ts ≡ Ok (v, us) → IsEnd sum_stop us) → (ts us : List Token) (v : Deep) → next_at inner ts ≡ Ok (v, us) → IsEnd sum_stop us
-unfolding next_at
-next_ends inner ends ts us v read = when_ok {A = Unit {0} × List Token} _ _ (v, us) read (λ a first second. ends a.1 us v second)
 
 pub exact_enclosed : (k k' : ℕ) (inner inner' : List Token → Reading Deep) → Inner k k' inner inner' → Exact (Enclosed k) (Enclosed k') any (enclosed_at inner) (enclosed_at inner')
 unfolding enclosed_at
@@ -131,7 +124,7 @@ exact_enclosed k k' inner inner' i = exact_next (exact_mark open_parenthesis) (�
 exact_pair : (k k' : ℕ) (inner inner' : List Token → Reading Deep) → Inner k k' inner inner' → Exact (Pairs k) (Pairs k') any (pair_at inner) (pair_at inner')
 unfolding pair_at
 exact_pair k k' inner inner' i = exact_next (exact_mark open_parenthesis) (λ o. exact_then i.exact (λ x.
-    exact_then (exact_next_of k k' inner inner' i) (λ y. exact_mapped (λ c. (x.0, y.0, max x.1 y.1)) (exact_mark close_parenthesis)) (next_ends inner i.ends) (closes (λ y c. (x.0, y.0, max x.1 y.1))))
+    exact_then (exact_behind_comma i.exact) (λ y. exact_mapped (λ c. (x.0, y.0, max x.1 y.1)) (exact_mark close_parenthesis)) (behind_comma_ends inner sum_stop i.ends) (closes (λ y c. (x.0, y.0, max x.1 y.1))))
     i.ends (record { is = λ x ms us y t a. next_stops k' ms t.between t.first t.left; end = refl }))
 
 pub exact_function : (word : List ℕ) (make : Expression → Expression → Expression) (k k' : ℕ) (inner inner' : List Token → Reading Deep) → Inner k k' inner inner' → Exact (Function word make k) (Function word make k') any (function_at word make inner) (function_at word make inner')
@@ -141,9 +134,9 @@ exact_function word make k k' inner inner' i = exact_next (exact_word word) (λ 
 pub exact_pick : (k k' : ℕ) (inner inner' : List Token → Reading Deep) → Inner k k' inner inner' → Exact (Picks k) (Picks k') any (pick_at inner) (pick_at inner')
 unfolding pick_at
 exact_pick k k' inner inner' i = exact_next (exact_word (codes "pick")) (λ w. exact_next (exact_mark open_parenthesis) (λ o. exact_then i.exact (λ x.
-    exact_then (exact_next_of k k' inner inner' i) (λ y.
-    exact_then (exact_next_of k k' inner inner' i) (λ z. exact_mapped (λ c. (Pick x.0 y.0 z.0, max x.1 (max y.1 z.1) + 1)) (exact_mark close_parenthesis)) (next_ends inner i.ends) (closes (λ z c. (Pick x.0 y.0 z.0, max x.1 (max y.1 z.1) + 1))))
-    (next_ends inner i.ends) (record { is = λ y ms us v t a. next_stops k' ms t.between t.first t.left; end = refl }))
+    exact_then (exact_behind_comma i.exact) (λ y.
+    exact_then (exact_behind_comma i.exact) (λ z. exact_mapped (λ c. (Pick x.0 y.0 z.0, max x.1 (max y.1 z.1) + 1)) (exact_mark close_parenthesis)) (behind_comma_ends inner sum_stop i.ends) (closes (λ z c. (Pick x.0 y.0 z.0, max x.1 (max y.1 z.1) + 1))))
+    (behind_comma_ends inner sum_stop i.ends) (record { is = λ y ms us v t a. next_stops k' ms t.between t.first t.left; end = refl }))
     i.ends (record { is = λ x ms us v t a. next_stops k' ms t.between t.first t.left; end = refl })))
 
 pub exact_variable : Exact Variables Variables any variable_at variable_at

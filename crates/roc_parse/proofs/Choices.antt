@@ -3,9 +3,9 @@ use Rattle.std.proofs.Common.{◌≡◌, Bool, true, false, cond, List, [], ◌�
 use Rattle.std.specs.Prelude.{Ok, Err}
 use Rattle.std.specs.Option.{option_map_or}
 use Rattle.roc_lang.specs.Tokens.{Kind, Token}
-use Rattle.roc_parse.specs.Stuck.{Stuck, Reading, ◌>>=◌, refuse, exceed, begins}
-use Rattle.roc_parse.specs.Parts.{first_at}
-use Rattle.roc_parse.proofs.Exact.{Rule, Stop, IsEnd, any, Consumed, Front, NoneThrough, Why, Refused, Exact, ok_same, err_same, ok-err, when_ok, when_err, same_start}
+use Rattle.roc_parse.specs.Inner.Stuck.{Stuck, Reading, ◌>>=◌, refuse, exceed, head_is}
+use Rattle.roc_parse.specs.Inner.Parts.{first_at}
+use Rattle.roc_parse.proofs.Exact.{Rule, Stop, IsStopAt, any, Consumed, Front, NoneThrough, Why, Refused, Exact, ok_same, err_same, ok-err, when_ok, when_err, same_start}
 
 -- ---- the same rule, said otherwise
 
@@ -158,12 +158,12 @@ Either P Q ts us x = P ts us x ⊎ Q ts us x
 pub record Chooses {A : Type 0} (test : Kind → Bool) (allowed allowed' : Bool) (P P' Q Q' : Rule A) (stop : Stop) (p p' q q' : List Token → Reading A) : Type 0 where
   pub first : allowed ≡ true → Exact P P' stop p p'
   pub second : Exact Q Q' stop q q'
-  pub starts : (ts us : List Token) (x : A) → P' ts us x → begins test ts ≡ true
-  pub other : (ts us : List Token) (x : A) → Q' ts us x → IsEnd stop us → begins test ts ≡ false
+  pub starts : (ts us : List Token) (x : A) → P' ts us x → head_is test ts ≡ true
+  pub other : (ts us : List Token) (x : A) → Q' ts us x → IsStopAt stop us → head_is test ts ≡ false
   pub may : (ts us : List Token) (x : A) → P ts us x → allowed ≡ true
   pub may_any : allowed' ≡ true
   pub full : allowed ≡ false → (t : Token) → test t.kind ≡ true → Front P' stop (t ∷ [])
-  pub all_any : (ts us : List Token) (x : A) → P' ts us x → IsEnd stop us → p' ts ≡ Ok (x, us)
+  pub all_any : (ts us : List Token) (x : A) → P' ts us x → IsStopAt stop us → p' ts ≡ Ok (x, us)
 
 left_front : {A : Type 0} {P Q : Rule A} {stop : Stop} {ts : List Token} → Front P stop ts → Front (Either P Q) stop ts
 left_front f = record { more = f.more; value = f.value; is = λ rest a. inl (f.is rest a) }
@@ -176,17 +176,17 @@ both b t f = absurd cc
 
 -- no sentence of a choice, where there is none of the one that is chosen
 only_left : {A : Type 0} {test : Kind → Bool} {allowed allowed' : Bool} {P P' Q Q' : Rule A} {stop : Stop} {p p' q q' : List Token → Reading A} → Chooses test allowed allowed' P P' Q Q' stop p p' q q'
-    → (taken us : List Token) (t : Token) → begins test (taken ++ t ∷ us) ≡ true → NoneThrough P' stop taken t → NoneThrough (Either P' Q') stop taken t
+    → (taken us : List Token) (t : Token) → head_is test (taken ++ t ∷ us) ≡ true → NoneThrough P' stop taken t → NoneThrough (Either P' Q') stop taken t
 only_left c taken us t begun never ws rest x a (inl is) = never ws rest x a is
 only_left {test = test} c taken us t begun never ws rest x a (inr is) = both _ (same_start test taken t ws us ∙ begun) (c.other _ _ _ is a)
 
 only_right : {A : Type 0} {test : Kind → Bool} {allowed allowed' : Bool} {P P' Q Q' : Rule A} {stop : Stop} {p p' q q' : List Token → Reading A} → Chooses test allowed allowed' P P' Q Q' stop p p' q q'
-    → (taken us : List Token) (t : Token) → begins test (taken ++ t ∷ us) ≡ false → NoneThrough Q' stop taken t → NoneThrough (Either P' Q') stop taken t
+    → (taken us : List Token) (t : Token) → head_is test (taken ++ t ∷ us) ≡ false → NoneThrough Q' stop taken t → NoneThrough (Either P' Q') stop taken t
 only_right {test = test} c taken us t begun never ws rest x a (inl is) = both _ (c.starts _ _ _ is) (same_start test taken t ws us ∙ begun)
 only_right c taken us t begun never ws rest x a (inr is) = never ws rest x a is
 
 left_why : {A : Type 0} {test : Kind → Bool} {allowed allowed' : Bool} {P P' Q Q' : Rule A} {stop : Stop} {p p' q q' : List Token → Reading A} → Chooses test allowed allowed' P P' Q Q' stop p p' q q'
-    → (taken : List Token) (past : Bool) (rest : List Token) → begins test (taken ++ rest) ≡ true → Why P P' stop taken past rest → Why (Either P Q) (Either P' Q') stop taken past rest
+    → (taken : List Token) (past : Bool) (rest : List Token) → head_is test (taken ++ rest) ≡ true → Why P P' stop taken past rest → Why (Either P Q) (Either P' Q') stop taken past rest
 left_why c taken past [] begun why = tt
 left_why c taken false (t ∷ us) begun why = only_left c taken us t begun why
 left_why {P = P} {P' = P'} {Q = Q} {stop = stop} c taken true (t ∷ us) begun why = (λ ws rest x a is. never ws rest x a is, left_front why.1)
@@ -196,7 +196,7 @@ left_why {P = P} {P' = P'} {Q = Q} {stop = stop} c taken true (t ∷ us) begun w
     never ws rest x a (inr is) = both _ (same_start _ taken t ws us ∙ begun) (c.other _ _ _ (c.second.weaker _ _ _ is) a)
 
 right_why : {A : Type 0} {test : Kind → Bool} {allowed allowed' : Bool} {P P' Q Q' : Rule A} {stop : Stop} {p p' q q' : List Token → Reading A} → Chooses test allowed allowed' P P' Q Q' stop p p' q q'
-    → (taken : List Token) (past : Bool) (rest : List Token) → begins test (taken ++ rest) ≡ false → Why Q Q' stop taken past rest → Why (Either P Q) (Either P' Q') stop taken past rest
+    → (taken : List Token) (past : Bool) (rest : List Token) → head_is test (taken ++ rest) ≡ false → Why Q Q' stop taken past rest → Why (Either P Q) (Either P' Q') stop taken past rest
 right_why c taken past [] begun why = tt
 right_why c taken false (t ∷ us) begun why = only_right c taken us t begun why
 right_why {P = P} {P' = P'} {Q = Q} {stop = stop} c taken true (t ∷ us) begun why = (λ ws rest x a is. never ws rest x a is, right_front why.1)
@@ -206,7 +206,7 @@ right_why {P = P} {P' = P'} {Q = Q} {stop = stop} c taken true (t ∷ us) begun 
     never ws rest x a (inr is) = why.0 ws rest x a is
 
 full_refused : {A : Type 0} {test : Kind → Bool} {allowed allowed' : Bool} {P P' Q Q' : Rule A} {stop : Stop} {p p' q q' : List Token → Reading A} → Chooses test allowed allowed' P P' Q Q' stop p p' q q'
-    → (ts : List Token) → begins test ts ≡ true → allowed ≡ false → Refused (Either P Q) (Either P' Q') stop ts (record { past = true; rest = ts })
+    → (ts : List Token) → head_is test ts ≡ true → allowed ≡ false → Refused (Either P Q) (Either P' Q') stop ts (record { past = true; rest = ts })
 full_refused c [] begun full = absurd cc
 full_refused {P = P} {Q = Q} {stop = stop} c (t ∷ us) begun full = record { taken = []; split = refl; front = right_front c.second.some; why = (λ ws rest x a is. never ws rest x a is, left_front (c.full full t begun)) }
   where
@@ -215,12 +215,12 @@ full_refused {P = P} {Q = Q} {stop = stop} c (t ∷ us) begun full = record { ta
     never ws rest x a (inr is) = both _ begun (c.other _ _ _ (c.second.weaker _ _ _ is) a)
 
 abbrev pub chosen_by : {A : Type 0} → (Kind → Bool) → Bool → (p q : List Token → Reading A) → List Token → Reading A
-chosen_by test allowed p q ts = choose (begins test ts) allowed (p ts) (q ts) ts
+chosen_by test allowed p q ts = choose (head_is test ts) allowed (p ts) (q ts) ts
 
-pub all_left : {A : Type 0} (test : Kind → Bool) (allowed : Bool) (p q : List Token → Reading A) (ts : List Token) (y : A × List Token) → begins test ts ≡ true → allowed ≡ true → p ts ≡ Ok y → chosen_by test allowed p q ts ≡ Ok y
+pub all_left : {A : Type 0} (test : Kind → Bool) (allowed : Bool) (p q : List Token → Reading A) (ts : List Token) (y : A × List Token) → head_is test ts ≡ true → allowed ≡ true → p ts ≡ Ok y → chosen_by test allowed p q ts ≡ Ok y
 all_left test allowed p q ts y b a e = rw (b, a) e
 
-pub all_right : {A : Type 0} (test : Kind → Bool) (allowed : Bool) (p q : List Token → Reading A) (ts : List Token) (y : A × List Token) → begins test ts ≡ false → q ts ≡ Ok y → chosen_by test allowed p q ts ≡ Ok y
+pub all_right : {A : Type 0} (test : Kind → Bool) (allowed : Bool) (p q : List Token → Reading A) (ts : List Token) (y : A × List Token) → head_is test ts ≡ false → q ts ≡ Ok y → chosen_by test allowed p q ts ≡ Ok y
 all_right test allowed p q ts y b e = rw b e
 
 pub exact_either : {A : Type 0} {test : Kind → Bool} {allowed allowed' : Bool} {P P' Q Q' : Rule A} {stop : Stop} {p p' q q' : List Token → Reading A} → Chooses test allowed allowed' P P' Q Q' stop p p' q q'
@@ -230,27 +230,27 @@ exact_either {A = A} {test = test} {allowed = allowed} {allowed' = allowed'} {P 
   some = right_front c.second.some;
   all = all;
   all_any = all_any;
-  reads = λ ts us x read. when_chosen (begins test ts) allowed (p ts) (q ts) ts (x, us) read
+  reads = λ ts us x read. when_chosen (head_is test ts) allowed (p ts) (q ts) ts (x, us) read
       (λ begun may e. let d = (c.first may).reads ts us x e in record { taken = d.taken; split = d.split; is = λ rest a. inl (d.is rest a) })
       (λ begun e. let d = c.second.reads ts us x e in record { taken = d.taken; split = d.split; is = λ rest a. inr (d.is rest a) });
-  stuck = λ ts b read. when_stuck (begins test ts) allowed (p ts) (q ts) ts b read
-      (λ begun may e. let d = (c.first may).stuck ts b e in record { taken = d.taken; split = d.split; front = left_front d.front; why = left_why c d.taken b.past b.rest (subst (λ z. begins test z ≡ true) d.split begun) d.why })
+  stuck = λ ts b read. when_stuck (head_is test ts) allowed (p ts) (q ts) ts b read
+      (λ begun may e. let d = (c.first may).stuck ts b e in record { taken = d.taken; split = d.split; front = left_front d.front; why = left_why c d.taken b.past b.rest (subst (λ z. head_is test z ≡ true) d.split begun) d.why })
       (λ begun full e. subst (λ z. Refused (Either P Q) (Either P' Q') stop ts z) e (full_refused c ts begun full))
-      (λ begun e. let d = c.second.stuck ts b e in record { taken = d.taken; split = d.split; front = right_front d.front; why = right_why c d.taken b.past b.rest (subst (λ z. begins test z ≡ false) d.split begun) d.why });
+      (λ begun e. let d = c.second.stuck ts b e in record { taken = d.taken; split = d.split; front = right_front d.front; why = right_why c d.taken b.past b.rest (subst (λ z. head_is test z ≡ false) d.split begun) d.why });
 }
   where
     weaken : (ts us : List Token) (x : A) → Either P Q ts us x → Either P' Q' ts us x
     weaken ts us x (inl is) = inl ((c.first (c.may _ _ _ is)).weaker _ _ _ is)
     weaken ts us x (inr is) = inr (c.second.weaker _ _ _ is)
 
-    all : (ts us : List Token) (x : A) → Either P Q ts us x → IsEnd stop us → chosen_by test allowed p q ts ≡ Ok (x, us)
+    all : (ts us : List Token) (x : A) → Either P Q ts us x → IsStopAt stop us → chosen_by test allowed p q ts ≡ Ok (x, us)
     all ts us x (inl is) a = let may = c.may _ _ _ is in all_left test allowed p q ts (x, us) (c.starts _ _ _ ((c.first may).weaker _ _ _ is)) may ((c.first may).all ts us x is a)
     all ts us x (inr is) a = all_right test allowed p q ts (x, us) (c.other _ _ _ (c.second.weaker _ _ _ is) a) (c.second.all ts us x is a)
 
-    all_any : (ts us : List Token) (x : A) → Either P' Q' ts us x → IsEnd stop us → chosen_by test allowed' p' q' ts ≡ Ok (x, us)
+    all_any : (ts us : List Token) (x : A) → Either P' Q' ts us x → IsStopAt stop us → chosen_by test allowed' p' q' ts ≡ Ok (x, us)
     all_any ts us x (inl is) a = all_left test allowed' p' q' ts (x, us) (c.starts _ _ _ is) c.may_any (c.all_any ts us x is a)
     all_any ts us x (inr is) a = all_right test allowed' p' q' ts (x, us) (c.other _ _ _ is a) (c.second.all_any ts us x is a)
 
 -- where a value made of another ends
-pub mapped_ends : {A B : Type 0} (f : A → B) (p : List Token → Reading A) (stop : Stop) → ((ts us : List Token) (x : A) → p ts ≡ Ok (x, us) → IsEnd stop us) → (ts us : List Token) (y : B) → mapped f p ts ≡ Ok (y, us) → IsEnd stop us
+pub mapped_ends : {A B : Type 0} (f : A → B) (p : List Token → Reading A) (stop : Stop) → ((ts us : List Token) (x : A) → p ts ≡ Ok (x, us) → IsStopAt stop us) → (ts us : List Token) (y : B) → mapped f p ts ≡ Ok (y, us) → IsStopAt stop us
 mapped_ends f p stop ends ts us y read = when_ok (p ts) (λ x. Ok (f x.0, x.1)) (y, us) read (λ x first made. ends ts us x.0 (first ∙ ap (λ z. Ok (x.0, z)) (ap (λ z. z.1) (ok_same (f x.0, x.1) (y, us) made))))

@@ -3,7 +3,7 @@
 use Rattle.std.proofs.Common.{◌≡◌, Bool, true, false, List, [], ◌∷◌, ◌++◌, append_assoc, Option, Some, None, refl, sym, ap, subst, ◌∙◌}
 use Rattle.std.specs.Prelude.{Result, Ok, Err}
 use Rattle.roc_lang.specs.Tokens.{Kind, Token}
-use Rattle.roc_parse.specs.Stuck.{Stuck, Reading, and_then, ◌>>=◌, begins}
+use Rattle.roc_parse.specs.Inner.Stuck.{Stuck, Reading, and_then, ◌>>=◌, head_is}
 
 abbrev pub Rule : Type 0 → Type 1
 Rule A = List Token → List Token → A → Type 0
@@ -15,8 +15,8 @@ abbrev pub head : List Token → Option Kind
 head [] = None
 head (t ∷ ts) = Some t.kind
 
-abbrev pub IsEnd : Stop → List Token → Type 0
-IsEnd stop ts = stop (head ts) ≡ true
+abbrev pub IsStopAt : Stop → List Token → Type 0
+IsStopAt stop ts = stop (head ts) ≡ true
 
 abbrev pub any : Stop
 any h = true
@@ -25,17 +25,17 @@ any h = true
 pub record Consumed {A : Type 0} (In : Rule A) (stop : Stop) (ts us : List Token) (x : A) : Type 0 where
   pub taken : List Token
   pub split : ts ≡ taken ++ us
-  pub is : (rest : List Token) → IsEnd stop rest → In (taken ++ rest) rest x
+  pub is : (rest : List Token) → IsStopAt stop rest → In (taken ++ rest) rest x
 
 -- tokens with which a sentence begins
 pub record Front {A : Type 0} (In : Rule A) (stop : Stop) (ts : List Token) : Type 0 where
   pub more : List Token
   pub value : A
-  pub is : (rest : List Token) → IsEnd stop rest → In (ts ++ (more ++ rest)) rest value
+  pub is : (rest : List Token) → IsStopAt stop rest → In (ts ++ (more ++ rest)) rest value
 
 -- no sentence goes on with this token
 abbrev pub NoneThrough : {A : Type 0} (R : Rule A) (stop : Stop) (taken : List Token) (t : Token) → Type 0
-NoneThrough R stop taken t = (ws rest : List Token) (x : _) → IsEnd stop rest → R (taken ++ t ∷ ws) rest x → ⊥
+NoneThrough R stop taken t = (ws rest : List Token) (x : _) → IsStopAt stop rest → R (taken ++ t ∷ ws) rest x → ⊥
 
 abbrev pub Why : {A : Type 0} (In Any : Rule A) (stop : Stop) (taken : List Token) (past : Bool) (rest : List Token) → Type 0
 Why In Any stop taken past [] = Unit {0}
@@ -51,8 +51,8 @@ pub record Refused {A : Type 0} (In Any : Rule A) (stop : Stop) (ts : List Token
 pub record Exact {A : Type 0} (In Any : Rule A) (stop : Stop) (r s : List Token → Reading A) : Type 0 where
   pub weaker : (ts us : List Token) (x : A) → In ts us x → Any ts us x
   pub some : Front In stop []
-  pub all : (ts us : List Token) (x : A) → In ts us x → IsEnd stop us → r ts ≡ Ok (x, us)
-  pub all_any : (ts us : List Token) (x : A) → Any ts us x → IsEnd stop us → s ts ≡ Ok (x, us)
+  pub all : (ts us : List Token) (x : A) → In ts us x → IsStopAt stop us → r ts ≡ Ok (x, us)
+  pub all_any : (ts us : List Token) (x : A) → Any ts us x → IsStopAt stop us → s ts ≡ Ok (x, us)
   pub reads : (ts us : List Token) (x : A) → r ts ≡ Ok (x, us) → Consumed In stop ts us x
   pub stuck : (ts : List Token) (b : Stuck) → r ts ≡ Err b → Refused In Any stop ts b
 
@@ -89,10 +89,10 @@ pub same_head : (xs : List Token) (t : Token) (us ws : List Token) → head (xs 
 same_head [] t us ws = refl
 same_head (x ∷ xs) t us ws = refl
 
-pub same_end : (stop : Stop) (xs : List Token) (t : Token) (us ws : List Token) → IsEnd stop (xs ++ t ∷ us) → IsEnd stop (xs ++ t ∷ ws)
+pub same_end : (stop : Stop) (xs : List Token) (t : Token) (us ws : List Token) → IsStopAt stop (xs ++ t ∷ us) → IsStopAt stop (xs ++ t ∷ ws)
 same_end stop xs t us ws e = ap stop (same_head xs t ws us) ∙ e
 
-pub same_start : (test : Kind → Bool) (xs : List Token) (t : Token) (us ws : List Token) → begins test (xs ++ t ∷ us) ≡ begins test (xs ++ t ∷ ws)
+pub same_start : (test : Kind → Bool) (xs : List Token) (t : Token) (us ws : List Token) → head_is test (xs ++ t ∷ us) ≡ head_is test (xs ++ t ∷ ws)
 same_start test [] t us ws = refl
 same_start test (x ∷ xs) t us ws = refl
 
@@ -108,8 +108,8 @@ abbrev pub bind : {A B : Type 0} → (List Token → Reading A) → (A → List 
 bind p q ts = p ts >>= λ x. q x.0 x.1
 
 pub record Followed {A B : Type 0} (Q' : A → Rule B) (stop stop' : Stop) : Type 0 where
-  pub is : (x : A) (ms us : List Token) (y : B) → Q' x ms us y → IsEnd stop' us → IsEnd stop ms
-  pub end : IsEnd stop []
+  pub is : (x : A) (ms us : List Token) (y : B) → Q' x ms us y → IsStopAt stop' us → IsStopAt stop ms
+  pub end : IsStopAt stop []
 
 -- a value of a rule
 pub record Value {A : Type 0} (P : Rule A) (x : A) : Type 0 where
@@ -119,7 +119,7 @@ pub record Value {A : Type 0} (P : Rule A) (x : A) : Type 0 where
 
 -- a front of the first rule, and a sentence of the second
 pub front_then : {A B : Type 0} {P : Rule A} {Q : A → Rule B} {stop stop' : Stop} (taken : List Token)
-    → Front P stop taken → IsEnd stop [] → ((x : A) → Value P x → Front (Q x) stop' []) → ((x : A) → Value P x → (ms us : List Token) (y : B) → Q x ms us y → IsEnd stop' us → IsEnd stop ms) → Front (Then P Q) stop' taken
+    → Front P stop taken → IsStopAt stop [] → ((x : A) → Value P x → Front (Q x) stop' []) → ((x : A) → Value P x → (ms us : List Token) (y : B) → Q x ms us y → IsStopAt stop' us → IsStopAt stop ms) → Front (Then P Q) stop' taken
 front_then {P = P} {Q = Q} {stop' = stop'} taken p end some follow =
     let v : Value P p.value = record { tokens = taken ++ (p.more ++ []); rest = []; is = p.is [] end } in
     let q = some p.value v in
@@ -135,8 +135,8 @@ front_then {P = P} {Q = Q} {stop' = stop'} taken p end some follow =
 
 -- a sentence of the first rule, and a front of the second
 then_front : {A B : Type 0} {P : Rule A} {Q : A → Rule B} (stop stop' : Stop) (x : A) (taken further : List Token)
-    → ((rest : List Token) → IsEnd stop rest → P (taken ++ rest) rest x) → Front (Q x) stop' further
-    → ((ms us : List Token) (y : B) → Q x ms us y → IsEnd stop' us → IsEnd stop ms) → Front (Then P Q) stop' (taken ++ further)
+    → ((rest : List Token) → IsStopAt stop rest → P (taken ++ rest) rest x) → Front (Q x) stop' further
+    → ((ms us : List Token) (y : B) → Q x ms us y → IsStopAt stop' us → IsStopAt stop ms) → Front (Then P Q) stop' (taken ++ further)
 then_front {P = P} {Q = Q} stop stop' x taken further p q follow =
     record {
       more = q.more;
@@ -149,14 +149,14 @@ then_front {P = P} {Q = Q} stop stop' x taken further p q follow =
     }
 
 -- a rule whose sentences are not gone on with has one of them in front of what follows
-pub one_sentence : {A : Type 0} {In Any : Rule A} {stop : Stop} {r s : List Token → Reading A} → Exact In Any stop r s → (ts us vs : List Token) (x y : A) → Any ts us x → Any ts vs y → IsEnd stop us → IsEnd stop vs → (x ≡ y) × (us ≡ vs)
+pub one_sentence : {A : Type 0} {In Any : Rule A} {stop : Stop} {r s : List Token → Reading A} → Exact In Any stop r s → (ts us vs : List Token) (x y : A) → Any ts us x → Any ts vs y → IsStopAt stop us → IsStopAt stop vs → (x ≡ y) × (us ≡ vs)
 one_sentence e ts us vs x y p q a b =
     let same = ok_same (x, us) (y, vs) (sym (e.all_any ts us x p a) ∙ e.all_any ts vs y q b) in
     (ap (λ z. z.0) same, ap (λ z. z.1) same)
 
 -- the second rule stops, behind the first
 none_behind : {A B : Type 0} {P P' : Rule A} {Q' : A → Rule B} {stop stop' : Stop} {p p' : List Token → Reading A} → Exact P P' stop p p' → Followed Q' stop stop'
-    → (x : A) (taken further us : List Token) (t : Token) → ((rest : List Token) → IsEnd stop rest → P' (taken ++ rest) rest x) → IsEnd stop (further ++ t ∷ us)
+    → (x : A) (taken further us : List Token) (t : Token) → ((rest : List Token) → IsStopAt stop rest → P' (taken ++ rest) rest x) → IsStopAt stop (further ++ t ∷ us)
     → NoneThrough (Q' x) stop' further t → NoneThrough (Then P' Q') stop' (taken ++ further) t
 none_behind {P' = P'} {Q' = Q'} {stop = stop} e follow x taken further us t is ends none ws rest y after through =
     let here = same_end stop further t us ws ends in
@@ -171,7 +171,7 @@ none_behind {P' = P'} {Q' = Q'} {stop = stop} e follow x taken further us t is e
 pub record Second {A B : Type 0} (P P' : Rule A) (Q Q' : A → Rule B) (stop' : Stop) (q q' : A → List Token → Reading B) : Type 0 where
   pub exact : (ts us : List Token) (x : A) → P ts us x → Exact (Q x) (Q' x) stop' (q x) (q' x)
   pub some : (ts us : List Token) (x : A) → P' ts us x → Front (Q' x) stop' []
-  pub all : (ts us : List Token) (x : A) → P' ts us x → (ms vs : List Token) (y : B) → Q' x ms vs y → IsEnd stop' vs → q' x ms ≡ Ok (y, vs)
+  pub all : (ts us : List Token) (x : A) → P' ts us x → (ms vs : List Token) (y : B) → Q' x ms vs y → IsStopAt stop' vs → q' x ms ≡ Ok (y, vs)
 
 weaker_then : {A B : Type 0} {P P' : Rule A} {Q Q' : A → Rule B} {stop stop' : Stop} {p p' : List Token → Reading A} {q q' : A → List Token → Reading B}
     → Exact P P' stop p p' → Second P P' Q Q' stop' q q' → (ts us : List Token) (y : B) → Then P Q ts us y → Then P' Q' ts us y
@@ -191,7 +191,7 @@ first_why e f follow taken true (t ∷ us) why = (
 -- the second rule stops
 second_why : {A B : Type 0} {P P' : Rule A} {Q Q' : A → Rule B} {stop stop' : Stop} {p p' : List Token → Reading A} {q q' : A → List Token → Reading B}
     → Exact P P' stop p p' → Second P P' Q Q' stop' q q' → Followed Q' stop stop'
-    → (x : A) (taken further : List Token) (past : Bool) (rest : List Token) → ((after : List Token) → IsEnd stop after → P (taken ++ after) after x) → IsEnd stop (further ++ rest)
+    → (x : A) (taken further : List Token) (past : Bool) (rest : List Token) → ((after : List Token) → IsStopAt stop after → P (taken ++ after) after x) → IsStopAt stop (further ++ rest)
     → Why (Q x) (Q' x) stop' further past rest → Why (Then P Q) (Then P' Q') stop' (taken ++ further) past rest
 second_why e f follow x taken further past [] is ends why = tt
 second_why e f follow x taken further false (t ∷ us) is ends why = none_behind e follow x taken further us t (λ rest a. e.weaker _ _ _ (is rest a)) ends why
@@ -209,7 +209,7 @@ second_why {P = P} {P' = P'} {Q = Q} {Q' = Q'} {stop = stop} {stop' = stop'} e f
         why.0 ws rest y after (subst (λ z. Q x z rest y) same.1 right)
 
 pub exact_bind : {A B : Type 0} {P P' : Rule A} {Q Q' : A → Rule B} {stop stop' : Stop} {p p' : List Token → Reading A} {q q' : A → List Token → Reading B}
-    → Exact P P' stop p p' → Second P P' Q Q' stop' q q' → ((ts us : List Token) (x : A) → p ts ≡ Ok (x, us) → IsEnd stop us) → Followed Q' stop stop'
+    → Exact P P' stop p p' → Second P P' Q Q' stop' q q' → ((ts us : List Token) (x : A) → p ts ≡ Ok (x, us) → IsStopAt stop us) → Followed Q' stop stop'
     → Exact (Then P Q) (Then P' Q') stop' (bind p q) (bind p' q')
 exact_bind {P = P} {P' = P'} {Q = Q} {Q' = Q'} {stop = stop} {stop' = stop'} {p = p} {p' = p'} {q = q} {q' = q'} e f ends follow = record {
   weaker = weaker_then e f;
@@ -243,7 +243,7 @@ exact_bind {P = P} {P' = P'} {Q = Q} {Q' = Q'} {stop = stop} {stop' = stop'} {p 
         taken = c.taken ++ d.taken;
         split = c.split ∙ ap (λ z. c.taken ++ z) d.split ∙ sym (append_assoc c.taken d.taken b.rest);
         front = then_front {P = P} {Q = Q} stop stop' x.0 c.taken d.taken c.is d.front (λ ms us y r a. follow.is x.0 ms us y (g.weaker _ _ _ r) a);
-        why = second_why e f follow x.0 c.taken d.taken b.past b.rest c.is (subst (λ z. IsEnd stop z) d.split (ends ts x.1 x.0 first)) d.why;
+        why = second_why e f follow x.0 c.taken d.taken b.past b.rest c.is (subst (λ z. IsStopAt stop z) d.split (ends ts x.1 x.0 first)) d.why;
       });
 }
 
@@ -253,7 +253,7 @@ some_any e = record { more = e.some.more; value = e.some.value; is = λ rest end
 -- where the second rule is exact at every value
 pub exact_then : {A B : Type 0} {P P' : Rule A} {Q Q' : A → Rule B} {stop stop' : Stop} {p p' : List Token → Reading A} {q q' : A → List Token → Reading B}
     → Exact P P' stop p p' → ((x : A) → Exact (Q x) (Q' x) stop' (q x) (q' x))
-    → ((ts us : List Token) (x : A) → p ts ≡ Ok (x, us) → IsEnd stop us) → Followed Q' stop stop'
+    → ((ts us : List Token) (x : A) → p ts ≡ Ok (x, us) → IsStopAt stop us) → Followed Q' stop stop'
     → Exact (Then P Q) (Then P' Q') stop' (bind p q) (bind p' q')
 exact_then e f ends follow = exact_bind e (record { exact = λ ts us x i. f x; some = λ ts us x i. some_any (f x); all = λ ts us x i ms vs y r a. (f x).all_any ms vs y r a }) ends follow
 
@@ -263,5 +263,5 @@ pub exact_next : {A B : Type 0} {P P' : Rule A} {Q Q' : A → Rule B} {stop' : S
 exact_next e f = exact_then e f (λ ts us x read. refl) (record { is = λ x ms us y r a. refl; end = refl })
 
 -- where rules one behind the other end
-pub bind_ends : {A B : Type 0} (p : List Token → Reading A) (q : A → List Token → Reading B) (stop : Stop) → ((x : A) (ts us : List Token) (y : B) → q x ts ≡ Ok (y, us) → IsEnd stop us) → (ts us : List Token) (y : B) → bind p q ts ≡ Ok (y, us) → IsEnd stop us
+pub bind_ends : {A B : Type 0} (p : List Token → Reading A) (q : A → List Token → Reading B) (stop : Stop) → ((x : A) (ts us : List Token) (y : B) → q x ts ≡ Ok (y, us) → IsStopAt stop us) → (ts us : List Token) (y : B) → bind p q ts ≡ Ok (y, us) → IsStopAt stop us
 bind_ends p q stop ends ts us y read = when_ok (p ts) (λ x. q x.0 x.1) (y, us) read (λ x first others. ends x.0 x.1 us y others)

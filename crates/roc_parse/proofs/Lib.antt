@@ -3,6 +3,8 @@ pub mod Exact
 pub mod Choices
 pub mod Several
 pub mod Terminals
+pub mod Separated
+pub mod Wider
 pub mod Depths
 pub mod Loops
 pub mod Atoms

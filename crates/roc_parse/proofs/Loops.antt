@@ -4,9 +4,9 @@ use Rattle.std.specs.Prelude.{Ok, nat_lt}
 use Rattle.std.proofs.lemmas.Bool.{ltb-true, lt-ltb}
 use Rattle.std.proofs.lemmas.Bool.Decides.{nat_tests}
 use Rattle.roc_lang.specs.Tokens.{Kind, Token}
-use Rattle.roc_parse.specs.Stuck.{Reading, refuse, exceed, begins}
-use Rattle.roc_parse.specs.Reading.{Deep, deeper, loop_at}
-use Rattle.roc_parse.proofs.Exact.{Rule, Stop, IsEnd, Front, Exact, ok_same, when_ok, Then, bind, exact_bind}
+use Rattle.roc_parse.specs.Inner.Stuck.{Reading, refuse, exceed, head_is}
+use Rattle.roc_parse.specs.Inner.Reading.{Deep, deeper, loop_at}
+use Rattle.roc_parse.proofs.Exact.{Rule, Stop, IsStopAt, Front, Exact, ok_same, when_ok, Then, bind, exact_bind}
 use Rattle.roc_parse.proofs.Choices.{when_chosen, Given, exact_given, Either, Chooses, exact_either, exact_same}
 
 -- a rule's sentences that are no deeper
@@ -25,11 +25,11 @@ pub data Tail {B : Type 0} (P : List Token → List Token → B → Type 0) (joi
 -- what is asked of operators
 pub record Looping {B : Type 0} (P : Rule B) (depth : B → ℕ) (join : Deep → B → Deep) (starts : Kind → Bool) (within stop : Stop) : Type 0 where
   pub join_deep : (v : Deep) (x : B) → (join v x).1 ≡ deeper v.1 (depth x)
-  pub starts_item : (ts us : List Token) (x : B) → P ts us x → begins starts ts ≡ true
-  pub apart : (us : List Token) → IsEnd stop us → begins starts us ≡ false
-  pub weaken : (us : List Token) → IsEnd stop us → IsEnd within us
-  pub starts_stop : (us : List Token) → begins starts us ≡ true → IsEnd within us
-  pub end : IsEnd within []
+  pub starts_item : (ts us : List Token) (x : B) → P ts us x → head_is starts ts ≡ true
+  pub apart : (us : List Token) → IsStopAt stop us → head_is starts us ≡ false
+  pub weaken : (us : List Token) → IsStopAt stop us → IsStopAt within us
+  pub starts_stop : (us : List Token) → head_is starts us ≡ true → IsStopAt within us
+  pub end : IsStopAt within []
   pub opens : (t : Token) → starts t.kind ≡ true → Front (Within P depth 1) within (t ∷ [])
 
 pub tail_deep : {B : Type 0} {P : Rule B} {depth : B → ℕ} {join : Deep → B → Deep} {starts : Kind → Bool} {within stop : Stop} → Looping P depth join starts within stop → {v w : Deep} {ts us : List Token} → Tail P join v ts us w → v.1 ≤ w.1
@@ -41,14 +41,14 @@ goes_deep : {B : Type 0} {P : Rule B} {depth : B → ℕ} {join : Deep → B →
 goes_deep l v w x ms us t = let h = tail_deep l t in let e = l.join_deep v x in omega arith
 
 abbrev pub IsRead : {B : Type 0} (P : Rule B) (depth : B → ℕ) (room : ℕ) (within : Stop) (item : List Token → Reading B) → Type 0
-IsRead P depth room within item = (ts us : List Token) (x : _) → P ts us x → depth x ≤ room → IsEnd within us → item ts ≡ Ok (x, us)
+IsRead P depth room within item = (ts us : List Token) (x : _) → P ts us x → depth x ≤ room → IsStopAt within us → item ts ≡ Ok (x, us)
 
-tail_follows : {B : Type 0} {P : Rule B} {depth : B → ℕ} {join : Deep → B → Deep} {starts : Kind → Bool} {within stop : Stop} → Looping P depth join starts within stop → {v w : Deep} {ts us : List Token} → Tail P join v ts us w → IsEnd stop us → IsEnd within ts
+tail_follows : {B : Type 0} {P : Rule B} {depth : B → ℕ} {join : Deep → B → Deep} {starts : Kind → Bool} {within stop : Stop} → Looping P depth join starts within stop → {v w : Deep} {ts us : List Token} → Tail P join v ts us w → IsStopAt stop us → IsStopAt within ts
 tail_follows l stays a = l.weaken _ a
 tail_follows l (goes p t) a = l.starts_stop _ (l.starts_item _ _ _ p)
 
 pub complete_loop : {B : Type 0} {P : Rule B} {depth : B → ℕ} {join : Deep → B → Deep} {starts : Kind → Bool} {within stop : Stop} (item : List Token → Reading B) (room : ℕ) → Looping P depth join starts within stop → IsRead P depth (room - 1) within item
-    → (turns : ℕ) {v w : Deep} {ts us : List Token} → Tail P join v ts us w → w.1 ≤ room → room ≤ v.1 + turns → IsEnd stop us → loop_at starts item join room turns v ts ≡ Ok (w, us)
+    → (turns : ℕ) {v w : Deep} {ts us : List Token} → Tail P join v ts us w → w.1 ≤ room → room ≤ v.1 + turns → IsStopAt stop us → loop_at starts item join room turns v ts ≡ Ok (w, us)
 unfolding loop_at
 complete_loop item room l read zero (stays {ts = ts}) fits enough a = rw (l.apart ts a) refl
 complete_loop item room l read zero {us = us} (goes {v = v} {w = w} {ms = ms} {x = x} p t) fits enough a = let h = goes_deep l v w x ms us t in absurd (omega arith)
@@ -66,34 +66,34 @@ complete_loop {join = join} item room l read (suc turns) {us = us} (goes {v = v}
 abbrev pub Loop : {B : Type 0} (P : Rule B) (join : Deep → B → Deep) (room : ℕ) → Deep → Rule Deep
 Loop P join room v = Within (Tail P join v) depth_of room
 
-abbrev Step : {B : Type 0} (P : Rule B) (depth : B → ℕ) (join : Deep → B → Deep) (room : ℕ) → Deep → Rule Deep
-Step P depth join room v = Then (Within P depth (room - 1)) (λ x. Loop P join room (join v x))
+abbrev OneMore : {B : Type 0} (P : Rule B) (depth : B → ℕ) (join : Deep → B → Deep) (room : ℕ) → Deep → Rule Deep
+OneMore P depth join room v = Then (Within P depth (room - 1)) (λ x. Loop P join room (join v x))
 
-step_to : {B : Type 0} (P : Rule B) (depth : B → ℕ) (join : Deep → B → Deep) (room : ℕ) (v : Deep) → v.1 ≤ room → (ts us : List Token) (w : Deep) → Either (Step P depth join room v) (Given v) ts us w → Loop P join room v ts us w
+step_to : {B : Type 0} (P : Rule B) (depth : B → ℕ) (join : Deep → B → Deep) (room : ℕ) (v : Deep) → v.1 ≤ room → (ts us : List Token) (w : Deep) → Either (OneMore P depth join room v) (Given v) ts us w → Loop P join room v ts us w
 step_to P depth join room v fits ts us w (inl s) = record { is = goes s.left.is s.right.is; fits = s.right.fits }
 step_to P depth join room v fits ts us w (inr g) = rw (g.value, g.same) (record { is = stays; fits = fits })
 
-step_tail : {B : Type 0} {P : Rule B} {depth : B → ℕ} {join : Deep → B → Deep} {starts : Kind → Bool} {within stop : Stop} → Looping P depth join starts within stop → (room : ℕ) {v w : Deep} {ts us : List Token} → Tail P join v ts us w → w.1 ≤ room → Either (Step P depth join room v) (Given v) ts us w
+step_tail : {B : Type 0} {P : Rule B} {depth : B → ℕ} {join : Deep → B → Deep} {starts : Kind → Bool} {within stop : Stop} → Looping P depth join starts within stop → (room : ℕ) {v w : Deep} {ts us : List Token} → Tail P join v ts us w → w.1 ≤ room → Either (OneMore P depth join room v) (Given v) ts us w
 step_tail l room stays fits = inr (record { same = refl; value = refl })
 step_tail l room {us = us} (goes {v = v} {w = w} {ms = ms} {x = x} p t) fits =
     let h = goes_deep l v w x ms us t in
     inl (record { first = x; between = ms; left = record { is = p; fits = omega arith }; right = record { is = t; fits = fits } })
 
-step_lower : {B : Type 0} {P : Rule B} {depth : B → ℕ} {join : Deep → B → Deep} {starts : Kind → Bool} {within stop : Stop} → Looping P depth join starts within stop → (room : ℕ) (v : Deep) (ts us : List Token) (w : Deep) → Step P depth join room v ts us w → v.1 < room
+step_lower : {B : Type 0} {P : Rule B} {depth : B → ℕ} {join : Deep → B → Deep} {starts : Kind → Bool} {within stop : Stop} → Looping P depth join starts within stop → (room : ℕ) (v : Deep) (ts us : List Token) (w : Deep) → OneMore P depth join room v ts us w → v.1 < room
 step_lower l room v ts us w s = let h = goes_deep l v w s.first s.between us s.right.is in let f = s.right.fits in omega arith
 
 pub stay_front : {B : Type 0} (P : Rule B) (join : Deep → B → Deep) (room : ℕ) (v : Deep) (stop : Stop) → v.1 ≤ room → Front (Loop P join room v) stop []
 stay_front P join room v stop fits = record { more = []; value = v; is = λ rest a. record { is = stays; fits = fits } }
 
 complete_step : {B : Type 0} {P : Rule B} {depth : B → ℕ} {join : Deep → B → Deep} {starts : Kind → Bool} {within stop : Stop} (item : List Token → Reading B) (room : ℕ) → Looping P depth join starts within stop → IsRead P depth (room - 1) within item
-    → (turns : ℕ) (v : Deep) (ts us : List Token) (w : Deep) → Step P depth join room v ts us w → room ≤ v.1 + suc turns → IsEnd stop us → bind item (λ x. loop_at starts item join room turns (join v x)) ts ≡ Ok (w, us)
+    → (turns : ℕ) (v : Deep) (ts us : List Token) (w : Deep) → OneMore P depth join room v ts us w → room ≤ v.1 + suc turns → IsStopAt stop us → bind item (λ x. loop_at starts item join room turns (join v x)) ts ≡ Ok (w, us)
 complete_step {depth = depth} item room l read turns v ts us w s enough a =
     let e = l.join_deep v s.first in
     let one = read ts s.between s.first s.left.is s.left.fits (tail_follows l s.right.is a) in
     let others = complete_loop item room l read turns s.right.is s.right.fits (omega arith) a in
     rw one others
 
-full_front : {B : Type 0} {P : Rule B} {depth : B → ℕ} {join : Deep → B → Deep} {starts : Kind → Bool} {within stop : Stop} → Looping P depth join starts within stop → (room : ℕ) (v : Deep) → 1 ≤ v.1 → v.1 < room → (t : Token) → starts t.kind ≡ true → Front (Step P depth join room v) stop (t ∷ [])
+full_front : {B : Type 0} {P : Rule B} {depth : B → ℕ} {join : Deep → B → Deep} {starts : Kind → Bool} {within stop : Stop} → Looping P depth join starts within stop → (room : ℕ) (v : Deep) → 1 ≤ v.1 → v.1 < room → (t : Token) → starts t.kind ≡ true → Front (OneMore P depth join room v) stop (t ∷ [])
 full_front {join = join} l room v deep lower t st =
     let o = l.opens t st in
     let e = l.join_deep v o.value in
@@ -110,7 +110,7 @@ not_lower : (v room : ℕ) → nat_lt v room ≡ false → room ≤ v
 not_lower v room e = grind (arith, nat_tests)
 
 pub exact_loop : {B : Type 0} {P : Rule B} {depth : B → ℕ} {join : Deep → B → Deep} {starts : Kind → Bool} {within stop : Stop} {item item' : List Token → Reading B} (room room' : ℕ) → room < room' → Looping P depth join starts within stop
-    → (2 ≤ room → Exact (Within P depth (room - 1)) (Within P depth (room' - 1)) within item item') → IsRead P depth (room' - 1) within item' → ((ts us : List Token) (x : B) → item ts ≡ Ok (x, us) → IsEnd within us)
+    → (2 ≤ room → Exact (Within P depth (room - 1)) (Within P depth (room' - 1)) within item item') → IsRead P depth (room' - 1) within item' → ((ts us : List Token) (x : B) → item ts ≡ Ok (x, us) → IsStopAt within us)
     → (turns turns' : ℕ) (v : Deep) → 1 ≤ v.1 → v.1 ≤ room → room ≤ v.1 + turns → room' ≤ v.1 + turns' → Exact (Loop P join room v) (Loop P join room' v) stop (loop_at starts item join room turns v) (loop_at starts item' join room' turns' v)
 unfolding loop_at
 exact_loop room room' lt l e read ends turns zero v deep fits enough enough' = absurd (omega arith)
@@ -118,11 +118,11 @@ exact_loop {P = P} {depth = depth} {join = join} {starts = starts} {within = wit
     let below : v.1 < room' = omega arith in
     let same : v.1 ≡ room = omega arith in
     let full : nat_lt v.1 room ≡ false = grind (arith, nat_tests) in
-    let choice : Chooses starts false (nat_lt v.1 room') (Step P depth join room v) (Step P depth join room' v) (Given v) (Given v) stop exceed (bind item' (λ x. loop_at starts item' join room' turns' (join v x))) (λ ts. Ok (v, ts)) (λ ts. Ok (v, ts)) = record {
+    let choice : Chooses starts false (nat_lt v.1 room') (OneMore P depth join room v) (OneMore P depth join room' v) (Given v) (Given v) stop exceed (bind item' (λ x. loop_at starts item' join room' turns' (join v x))) (λ ts. Ok (v, ts)) (λ ts. Ok (v, ts)) = record {
       first = λ f. absurd cc;
       second = exact_given v stop;
       starts = λ ts us w s. l.starts_item ts s.between s.first s.left.is;
-      other = λ ts us w g a. ap (begins starts) g.same ∙ l.apart us a;
+      other = λ ts us w g a. ap (head_is starts) g.same ∙ l.apart us a;
       may = λ ts us w s. let h = step_lower l room v ts us w s in absurd (omega arith);
       may_any = lt-ltb v.1 room' below;
       full = λ f t st. full_front l room' v deep below t st;
@@ -131,7 +131,7 @@ exact_loop {P = P} {depth = depth} {join = join} {starts = starts} {within = wit
     exact_same (step_to P depth join room v fits) (λ ts us w i. step_tail l room i.is i.fits) (step_to P depth join room' v (omega arith)) (λ ts us w i. step_tail l room' i.is i.fits) (exact_either choice)
 exact_loop {P = P} {depth = depth} {join = join} {starts = starts} {within = within} {stop = stop} {item = item} {item' = item'} room room' lt l e read ends (suc turns) (suc turns') v deep fits enough enough' =
     let below : v.1 < room' = omega arith in
-    let choice : Chooses starts (nat_lt v.1 room) (nat_lt v.1 room') (Step P depth join room v) (Step P depth join room' v) (Given v) (Given v) stop (bind item (λ x. loop_at starts item join room turns (join v x))) (bind item' (λ x. loop_at starts item' join room' turns' (join v x))) (λ ts. Ok (v, ts)) (λ ts. Ok (v, ts)) = record {
+    let choice : Chooses starts (nat_lt v.1 room) (nat_lt v.1 room') (OneMore P depth join room v) (OneMore P depth join room' v) (Given v) (Given v) stop (bind item (λ x. loop_at starts item join room turns (join v x))) (bind item' (λ x. loop_at starts item' join room' turns' (join v x))) (λ ts. Ok (v, ts)) (λ ts. Ok (v, ts)) = record {
       first = λ may.
           let lower = ltb-true v.1 room may in
           exact_bind (e (omega arith)) (record {
@@ -141,7 +141,7 @@ exact_loop {P = P} {depth = depth} {join = join} {starts = starts} {within = wit
           }) ends (record { is = λ x ms us w t a. tail_follows l t.is a; end = l.end });
       second = exact_given v stop;
       starts = λ ts us w s. l.starts_item ts s.between s.first s.left.is;
-      other = λ ts us w g a. ap (begins starts) g.same ∙ l.apart us a;
+      other = λ ts us w g a. ap (head_is starts) g.same ∙ l.apart us a;
       may = λ ts us w s. lt-ltb v.1 room (step_lower l room v ts us w s);
       may_any = lt-ltb v.1 room' below;
       full = λ f t st. full_front l room' v deep below t st;
@@ -154,13 +154,13 @@ tail_snoc stays p = goes p stays
 tail_snoc (goes q t) p = goes q (tail_snoc t p)
 
 -- where a row of operators ends
-pub loop_ends : {B : Type 0} (starts : Kind → Bool) (item : List Token → Reading B) (join : Deep → B → Deep) (room : ℕ) (within : Stop) → ((ts us : List Token) (x : B) → item ts ≡ Ok (x, us) → IsEnd within us)
-    → (turns : ℕ) (v w : Deep) (ts us : List Token) → IsEnd within ts → loop_at starts item join room turns v ts ≡ Ok (w, us) → (begins starts us ≡ false) × IsEnd within us
+pub loop_ends : {B : Type 0} (starts : Kind → Bool) (item : List Token → Reading B) (join : Deep → B → Deep) (room : ℕ) (within : Stop) → ((ts us : List Token) (x : B) → item ts ≡ Ok (x, us) → IsStopAt within us)
+    → (turns : ℕ) (v w : Deep) (ts us : List Token) → IsStopAt within ts → loop_at starts item join room turns v ts ≡ Ok (w, us) → (head_is starts us ≡ false) × IsStopAt within us
 unfolding loop_at
 loop_ends starts item join room within ends zero v w ts us a read =
-    when_chosen (begins starts ts) false (refuse ts) (Ok (v, ts)) ts (w, us) read (λ begun may e. absurd cc)
-    (λ e r. let same = ap (λ z. z.1) (ok_same (v, ts) (w, us) r) in (subst (λ z. begins starts z ≡ false) same e, subst (λ z. IsEnd within z) same a))
+    when_chosen (head_is starts ts) false (refuse ts) (Ok (v, ts)) ts (w, us) read (λ begun may e. absurd cc)
+    (λ e r. let same = ap (λ z. z.1) (ok_same (v, ts) (w, us) r) in (subst (λ z. head_is starts z ≡ false) same e, subst (λ z. IsStopAt within z) same a))
 loop_ends {B = B} starts item join room within ends (suc turns) v w ts us a read =
-    when_chosen (begins starts ts) (nat_lt v.1 room) (bind item (λ x. loop_at starts item join room turns (join v x)) ts) (Ok (v, ts)) ts (w, us) read
+    when_chosen (head_is starts ts) (nat_lt v.1 room) (bind item (λ x. loop_at starts item join room turns (join v x)) ts) (Ok (v, ts)) ts (w, us) read
     (λ begun may e. when_ok {A = B × List Token} (item ts) _ (w, us) e (λ x first others. loop_ends starts item join room within ends turns (join v x.0) w x.1 us (ends ts x.1 x.0 first) others))
-    (λ e r. let same = ap (λ z. z.1) (ok_same (v, ts) (w, us) r) in (subst (λ z. begins starts z ≡ false) same e, subst (λ z. IsEnd within z) same a))
+    (λ e r. let same = ap (λ z. z.1) (ok_same (v, ts) (w, us) r) in (subst (λ z. head_is starts z ≡ false) same e, subst (λ z. IsStopAt within z) same a))

@@ -4,108 +4,44 @@ use Rattle.std.specs.Prelude.{Ok}
 use lib.Chars.{codes}
 use Rattle.roc_lang.specs.Syntax.{Name, Expression, Statement, Piece, Procedure}
 use Rattle.roc_lang.specs.Tokens.{Kind, Word, Mark, Token}
-use Rattle.roc_lang.specs.Grammar.{Limits, IsToken, IsName, IsExpression, IsStatement, Each, none, first, Separated, last, more, IsPiece, piece, IsArguments, no_arguments, arguments, IsProcedure, procedure, class_word, open_brace, close_brace, open_parenthesis, close_parenthesis, comma}
-use Rattle.roc_parse.specs.Stuck.{Reading, begins}
-use Rattle.roc_parse.specs.Parts.{is_word, is_mark, word_at, mark_at, name_at, next_name_at, names_at, class_at}
-use Rattle.roc_parse.specs.Reading.{expression_at, statement_at, starts_statement, head_at, piece_at, starts_piece, names_closed_at, listed_at, arguments_at, procedure_at}
-use Rattle.roc_parse.proofs.Exact.{Rule, Stop, IsEnd, any, Front, Exact, Then, bind, exact_then, exact_next, bind_ends}
+use Rattle.roc_lang.specs.Grammar.{Limits, IsToken, IsName, IsExpression, IsStatement, Each, none, first, Separated, IsPiece, piece, IsArguments, no_arguments, arguments, IsProcedure, procedure, class_word, open_brace, close_brace, open_parenthesis, close_parenthesis, comma}
+use Rattle.roc_parse.specs.Inner.Stuck.{Reading, head_is}
+use Rattle.roc_parse.specs.Inner.Parts.{has_word, has_mark, word_at, mark_at, name_at, class_at}
+use Rattle.roc_parse.specs.Inner.Reading.{expression_at, statement_at, starts_statement, head_at, piece_at, starts_piece, names_closed_at, names_or_none_at, arguments_at, procedure_at}
+use Rattle.roc_parse.proofs.Exact.{Rule, IsStopAt, any, Front, Exact, Then, bind, exact_then, exact_next, bind_ends}
 use Rattle.roc_parse.proofs.Choices.{Mapped, mapped, exact_mapped, Either, Chooses, exact_either, exact_same, mapped_ends}
-use Rattle.roc_parse.proofs.Several.{Upto, other_than, ended, unended, Repeats, many_ends, exact_many, Some', exact_some, some_ends}
-use Rattle.roc_parse.proofs.Terminals.{Tokens, exact_word, exact_mark, exact_name, exact_class, Classes, word_kind, mark_kind, token_begins}
+use Rattle.roc_parse.proofs.Several.{Upto, other_than, ended, unended, Repeats, freely, many_ends, exact_many, Some', exact_some, some_ends}
+use Rattle.roc_parse.proofs.Terminals.{token_made, Tokens, exact_word, exact_mark, exact_name, exact_class, Classes, word_kind, token_begins}
 use Rattle.roc_parse.proofs.Atoms.{sum_stop, is_operator, stops_at}
-use Rattle.roc_parse.proofs.Atom.{a, mark, a_mark, named, token_of_kind}
-use Rattle.roc_parse.proofs.Statements.{Deeper, exact_expression, expression_ends, statements_repeat, one_expression, one_name}
-
--- ---- names with commas between
-
-abbrev pub NextName : Rule Name
-NextName = Then (Tokens (Mark comma)) (λ c. IsName)
-
-exact_next_name : Exact NextName NextName any next_name_at next_name_at
-unfolding next_name_at
-exact_next_name = exact_next (exact_mark comma) (λ c. exact_name)
-
-comma_front : (t : Token) → is_mark comma t.kind ≡ true → Front NextName any (t ∷ [])
-comma_front t e = record { more = a []; value = record { text = codes "a"; line = 1 }; is = λ rest end. record { first = tt; between = a rest; left = token_of_kind t (Mark comma) _ (mark_kind comma t.kind e); right = one_name rest } }
-
-names_repeat : Repeats NextName NextName (is_mark comma) (other_than (is_mark comma)) next_name_at next_name_at
-names_repeat = record {
-  exact = exact_next_name;
-  starts_any = λ ts us x t. token_begins (is_mark comma) (Mark comma) true ts t.between t.left refl;
-  apart = λ us e. unended (is_mark comma) us e;
-  opens = comma_front;
-}
-
--- at most so many names, one at least
-pub record Names (n : ℕ) (ts us : List Token) (names : List Name) : Type 0 where
-  pub is : Separated IsName ts us names
-  pub fits : length names ≤ n + 1
-
-separated : {ms us : List Token} {names : List Name} → Each NextName ms us names → {ts : List Token} {n : Name} → IsName ts ms n → Separated IsName ts us (n ∷ names)
-separated none i = last i
-separated (first t others) i = more i t.left (separated others t.right)
-
--- the first, and the others
-record Parted (ts us : List Token) (names : List Name) : Type 0 where
-  name : Name
-  between : List Token
-  others : List Name
-  is : IsName ts between name
-  each : Each NextName between us others
-  parts : names ≡ name ∷ others
-
-parted : {ts us : List Token} {names : List Name} → Separated IsName ts us names → Parted ts us names
-parted (last {b = b} {x = x} i) = record { name = x; between = b; others = []; is = i; each = none; parts = refl }
-parted (more {b = b} {c = c} {x = x} i m s) =
-    let p = parted s in
-    record { name = x; between = b; others = p.name ∷ p.others; is = i; each = first (record { first = tt; between = c; left = m; right = p.is }) p.each; parts = ap (λ ns. x ∷ ns) p.parts }
-
-names_to : (n : ℕ) (ts us : List Token) (names : List Name) → Some' IsName NextName n ts us names → Names n ts us names
-names_to n ts us names t =
-    let f = t.right.is.fits in
-    let made : Names n ts us (t.first ∷ t.right.from) = record { is = separated t.right.is.each t.left; fits = omega arith } in
-    subst (λ z. Names n ts us z) (sym t.right.value) made
-
-names_from : (n : ℕ) (ts us : List Token) (names : List Name) → Names n ts us names → Some' IsName NextName n ts us names
-names_from n ts us names i =
-    let p = parted i.is in
-    let f = i.fits in
-    let l = ap length p.parts in
-    record { first = p.name; between = p.between; left = p.is; right = record { from = p.others; is = record { each = p.each; fits = omega arith }; value = p.parts } }
-
-abbrev pub name_stop : Stop
-name_stop = other_than (is_mark comma)
-
-pub exact_names : (n n' : ℕ) → n < n' → Exact (Names n) (Names n') name_stop (names_at n) (names_at n')
-exact_names n n' lt = exact_same (names_to n) (names_from n) (names_to n') (names_from n') (exact_some exact_name names_repeat n n' lt)
-
-pub names_end : (n : ℕ) (ts us : List Token) (names : List Name) → names_at n ts ≡ Ok (names, us) → IsEnd name_stop us
-names_end n ts us names read = ended (is_mark comma) us (some_ends (is_mark comma) name_at next_name_at n ts us names read)
+use Rattle.roc_parse.proofs.Atom.{a, mark, a_mark, named}
+use Rattle.roc_parse.proofs.Wider.{Deeper, fewer, higher, Further}
+use Rattle.roc_parse.proofs.Separated.{Few, parted, exact_few, separable, few_end}
+use Rattle.roc_parse.proofs.Statements.{exact_expression, expression_ends, statements_repeat, one_expression, one_name}
 
 -- ---- arguments
 
 abbrev Listed : ℕ → Rule (List Name)
-Listed n = Either (Mapped (λ c. []) (Tokens (Mark close_parenthesis))) (Then (Names n) (λ ns. Mapped (λ c. ns) (Tokens (Mark close_parenthesis))))
+Listed n = Either (Mapped (λ c. []) (Tokens (Mark close_parenthesis))) (Then (Few IsName n) (λ ns. Mapped (λ c. ns) (Tokens (Mark close_parenthesis))))
 
 abbrev Arguments : ℕ → Rule (List Name)
 Arguments n = Then (Tokens (Mark open_parenthesis)) (λ o. Listed n)
 
-exact_closed : (n n' : ℕ) → n < n' → Exact (Then (Names n) (λ ns. Mapped (λ c. ns) (Tokens (Mark close_parenthesis)))) (Then (Names n') (λ ns. Mapped (λ c. ns) (Tokens (Mark close_parenthesis)))) any (names_closed_at n) (names_closed_at n')
+exact_closed : (n n' : ℕ) → n < n' → Exact (Then (Few IsName n) (λ ns. Mapped (λ c. ns) (Tokens (Mark close_parenthesis)))) (Then (Few IsName n') (λ ns. Mapped (λ c. ns) (Tokens (Mark close_parenthesis)))) any (names_closed_at n) (names_closed_at n')
 unfolding names_closed_at
-exact_closed n n' lt = exact_then (exact_names n n' lt) (λ ns. exact_mapped (λ c. ns) (exact_mark close_parenthesis)) (names_end n) (record { is = λ ns ms us y m end. stops_at (is_mark comma) (Mark close_parenthesis) ms us m.is refl; end = refl })
+exact_closed n n' lt = exact_then (exact_few (separable exact_name) n n' lt) (λ ns. exact_mapped (λ c. ns) (exact_mark close_parenthesis)) (few_end name_at n) (record { is = λ ns ms us y m end. stops_at (has_mark comma) (Mark close_parenthesis) ms us m.is refl; end = refl })
 
-separated_begins : (ts us : List Token) (names : List Name) → Separated IsName ts us names → begins (is_mark close_parenthesis) ts ≡ false
-separated_begins ts us names s = let p = parted s in ap (begins (is_mark close_parenthesis)) p.is.is
+separated_begins : (ts us : List Token) (names : List Name) → Separated IsName ts us names → head_is (has_mark close_parenthesis) ts ≡ false
+separated_begins ts us names s = let p = parted s in ap (head_is (has_mark close_parenthesis)) p.is.is
 
-exact_listed : (n n' : ℕ) → n < n' → Exact (Listed n) (Listed n') any (listed_at n) (listed_at n')
-unfolding listed_at
+exact_listed : (n n' : ℕ) → n < n' → Exact (Listed n) (Listed n') any (names_or_none_at n) (names_or_none_at n')
+unfolding names_or_none_at
 exact_listed n n' lt =
     let e = exact_mapped (λ c. []) (exact_mark close_parenthesis) in
-    let choice : Chooses {A = List Name} (is_mark close_parenthesis) true true (Mapped (λ c. []) (Tokens (Mark close_parenthesis))) (Mapped (λ c. []) (Tokens (Mark close_parenthesis))) (Then (Names n) (λ ns. Mapped (λ c. ns) (Tokens (Mark close_parenthesis)))) (Then (Names n') (λ ns. Mapped (λ c. ns) (Tokens (Mark close_parenthesis)))) any
+    let choice : Chooses {A = List Name} (has_mark close_parenthesis) true true (Mapped (λ c. []) (Tokens (Mark close_parenthesis))) (Mapped (λ c. []) (Tokens (Mark close_parenthesis))) (Then (Few IsName n) (λ ns. Mapped (λ c. ns) (Tokens (Mark close_parenthesis)))) (Then (Few IsName n') (λ ns. Mapped (λ c. ns) (Tokens (Mark close_parenthesis)))) any
     (mapped (λ c. []) (mark_at close_parenthesis)) (mapped (λ c. []) (mark_at close_parenthesis)) (names_closed_at n) (names_closed_at n') = record {
       first = λ m. e;
       second = exact_closed n n' lt;
-      starts = λ ts us x m. token_begins (is_mark close_parenthesis) (Mark close_parenthesis) true ts us m.is refl;
+      starts = λ ts us x m. token_begins (has_mark close_parenthesis) (Mark close_parenthesis) true ts us m.is refl;
       other = λ ts us x t end. separated_begins ts t.between t.first t.left.is;
       may = λ ts us x t. refl;
       may_any = refl;
@@ -113,17 +49,6 @@ exact_listed n n' lt =
       all_any = λ ts us x t end. e.all_any ts us x t end;
     } in
     exact_either choice
-
--- limits, the second further in each
-pub record Further (limits limits' : Limits) : Type 0 where
-  pub tables : limits.tables < limits'.tables
-  pub columns : Deeper limits.columns limits'.columns
-  pub inits : limits.inits < limits'.inits
-  pub procedures : limits.procedures < limits'.procedures
-  pub arguments : Deeper limits.arguments limits'.arguments
-  pub pieces : Deeper limits.pieces limits'.pieces
-  pub statements : limits.statements < limits'.statements
-  pub depth : Deeper limits.depth limits'.depth
 
 arguments_to : (limits : Limits) → 1 ≤ limits.arguments → (ts us : List Token) (names : List Name) → Arguments (limits.arguments - 1) ts us names → IsArguments limits ts us names
 arguments_to limits h ts us names t = go t.right
@@ -135,12 +60,6 @@ arguments_to limits h ts us names t = go t.right
 arguments_from : (limits : Limits) (ts us : List Token) (names : List Name) → IsArguments limits ts us names → Arguments (limits.arguments - 1) ts us names
 arguments_from limits ts us names (no_arguments {b = b} o c) = record { first = tt; between = b; left = o; right = inl (record { from = tt; is = c; value = refl }) }
 arguments_from limits ts us names (arguments {b = b} {c = c} {names = ns} o s p fits) = record { first = tt; between = b; left = o; right = inr (record { first = ns; between = c; left = record { is = s; fits = omega arith }; right = record { from = tt; is = p; value = refl } }) }
-
-pub fewer : (k k' : ℕ) → Deeper k k' → k - 1 < k' - 1
-fewer k k' d = omega (arith, d.above, d.further)
-
-pub higher : (k k' : ℕ) → Deeper k k' → 1 ≤ k'
-higher k k' d = omega (arith, d.above, d.further)
 
 pub exact_arguments : (limits limits' : Limits) → Further limits limits' → Exact (IsArguments limits) (IsArguments limits') any (arguments_at (limits.arguments - 1)) (arguments_at (limits'.arguments - 1))
 unfolding arguments_at
@@ -166,15 +85,15 @@ at_part k c n = bind (word_at (codes "at")) (λ w. place_part k c n)
 abbrev name_part : ℕ → Bool → List Token → Reading (Bool × Name × Expression)
 name_part k c = bind name_at (λ n. at_part k c n)
 
-head_ends : (k k' : ℕ) → Deeper k k' → (ts us : List Token) (h : Bool × Name × Expression) → head_at k ts ≡ Ok (h, us) → IsEnd sum_stop us
+head_ends : (k k' : ℕ) → Deeper k k' → (ts us : List Token) (h : Bool × Name × Expression) → head_at k ts ≡ Ok (h, us) → IsStopAt sum_stop us
 unfolding head_at
 head_ends k k' d = bind_ends class_at (λ c. name_part k c) sum_stop (λ c. bind_ends name_at (λ n. at_part k c n) sum_stop (λ n. bind_ends (word_at (codes "at")) (λ w. place_part k c n) sum_stop (λ w. mapped_ends (λ e. (c, n, e)) (expression_at k) sum_stop (expression_ends k k' d))))
 
-abbrev Bodies : (depth room : ℕ) → Rule (List Statement)
-Bodies depth room = Upto (IsStatement depth) room
+abbrev Bodies : Limits → Rule (List Statement)
+Bodies l = Upto (IsStatement l) l.statements
 
 abbrev Pieces : Limits → Rule Piece
-Pieces l = Then (Heads l.depth) (λ h. Then (Tokens (Mark open_brace)) (λ o. Then (Bodies l.depth l.statements) (λ b. Mapped (λ c. record { is_now = h.0; name = h.1; place = h.2; body = b }) (Tokens (Mark close_brace)))))
+Pieces l = Then (Heads l.depth) (λ h. Then (Tokens (Mark open_brace)) (λ o. Then (Bodies l) (λ b. Mapped (λ c. record { is_now = h.0; name = h.1; place = h.2; body = b }) (Tokens (Mark close_brace)))))
 
 piece_to : (l : Limits) (ts us : List Token) (p : Piece) → Pieces l ts us p → IsPiece l ts us p
 piece_to l ts us p t =
@@ -200,15 +119,15 @@ unfolding piece_at
 exact_piece l l' f =
     exact_same (piece_to l) (piece_from l) (piece_to l') (piece_from l')
     (exact_then (exact_head l.depth l'.depth f.depth) (λ h. exact_next (exact_mark open_brace) (λ o.
-    exact_then (exact_many (statements_repeat l.depth l'.depth f.depth) l.statements l'.statements f.statements) (λ b. exact_mapped (λ c. record { is_now = h.0; name = h.1; place = h.2; body = b }) (exact_mark close_brace))
-    (λ ts us b read. ended starts_statement us (many_ends starts_statement (statement_at l.depth) l.statements ts us b read))
+    exact_then (exact_many (statements_repeat l l' f) l.statements l'.statements f.statements) (λ b. exact_mapped (λ c. record { is_now = h.0; name = h.1; place = h.2; body = b }) (exact_mark close_brace))
+    (λ ts us b read. ended starts_statement us (many_ends starts_statement (statement_at l) l.statements ts us b read))
     (record { is = λ b ms us y m end. stops_at starts_statement (Mark close_brace) ms us m.is refl; end = refl })))
     (head_ends l.depth l'.depth f.depth)
     (record { is = λ h ms us y t end. stops_at is_operator (Mark open_brace) ms t.between t.left refl; end = refl }))
 
 -- ---- several pieces
 
-piece_starts : (l : Limits) (ts us : List Token) (p : Piece) → IsPiece l ts us p → begins starts_piece ts ≡ true
+piece_starts : (l : Limits) (ts us : List Token) (p : Piece) → IsPiece l ts us p → head_is starts_piece ts ≡ true
 piece_starts l ts us p (piece {b = b} w n k x o s z fits) = token_begins starts_piece (Word (class_word p.is_now)) true ts b w (class_starts p.is_now)
   where
     class_starts : (c : Bool) → starts_piece (Word (class_word c)) ≡ true
@@ -216,9 +135,9 @@ piece_starts l ts us p (piece {b = b} w n k x o s z fits) = token_begins starts_
     class_starts false = refl
 
 which_class : (k : Kind) → starts_piece k ≡ true → (c : Bool) × (k ≡ Word (class_word c))
-which_class k e = go (is_word (codes "now") k) (is_word (codes "later") k) refl refl
+which_class k e = go (has_word (codes "now") k) (has_word (codes "later") k) refl refl
   where
-    go : (n l : Bool) → is_word (codes "now") k ≡ n → is_word (codes "later") k ≡ l → (c : Bool) × (k ≡ Word (class_word c))
+    go : (n l : Bool) → has_word (codes "now") k ≡ n → has_word (codes "later") k ≡ l → (c : Bool) × (k ≡ Word (class_word c))
     go true l f g = (true, word_kind (codes "now") k f)
     go false true f g = (false, word_kind (codes "later") k g)
     go false false f g = absurd (cc (e, f, g))
@@ -238,16 +157,11 @@ one_piece l h t e =
       more = a (at_word (a (mark open_brace (mark close_brace []))));
       value = record { is_now = c.0; name = record { text = codes "a"; line = 1 }; place = named.0; body = [] };
       is = λ rest end.
-          piece (token_of_kind t (Word (class_word c.0)) _ c.1) (one_name _) (an_at _) (one_expression l.depth h _) (a_mark open_brace _) none (a_mark close_brace rest) (omega arith);
+          piece (token_made t (Word (class_word c.0)) _ c.1) (one_name _) (an_at _) (one_expression l.depth h _) (a_mark open_brace _) none (a_mark close_brace rest) (omega arith);
     }
 
-pieces_repeat : (l l' : Limits) → Further l l' → Repeats (IsPiece l) (IsPiece l') starts_piece (other_than starts_piece) (piece_at l) (piece_at l')
-pieces_repeat l l' f = record {
-  exact = exact_piece l l' f;
-  starts_any = piece_starts l';
-  apart = λ us e. unended starts_piece us e;
-  opens = λ t st. one_piece l' (higher _ _ f.depth) t st;
-}
+pieces_repeat : (l l' : Limits) → Further l l' → Repeats (IsPiece l) (IsPiece l') starts_piece any (other_than starts_piece) (piece_at l) (piece_at l')
+pieces_repeat l l' f = freely (exact_piece l l' f) (piece_starts l') (λ us e. unended starts_piece us e) (λ t st. one_piece l' (higher _ _ f.depth) t st)
 
 -- ---- procedures
 
@@ -298,11 +212,11 @@ unfolding procedure_at
 exact_procedure l l' f =
     exact_same (procedure_to l f.pieces.above) (procedure_from l f.pieces.above) (procedure_to l' (higher _ _ f.pieces)) (procedure_from l' (higher _ _ f.pieces))
     (exact_next (exact_word (codes "proc")) (λ w. exact_next exact_name (λ n. exact_next (exact_arguments l l' f) (λ list. exact_next (exact_mark open_brace) (λ o.
-    exact_then (exact_some (exact_piece l l' f) (pieces_repeat l l' f) (l.pieces - 1) (l'.pieces - 1) (fewer _ _ f.pieces)) (λ ps. exact_mapped (λ c. record { name = n; arguments = list; pieces = ps }) (exact_mark close_brace))
+    exact_then (exact_some (exact_piece l l' f) (λ ts us x read. refl) (pieces_repeat l l' f) (l.pieces - 1) (l'.pieces - 1) (fewer _ _ f.pieces)) (λ ps. exact_mapped (λ c. record { name = n; arguments = list; pieces = ps }) (exact_mark close_brace))
     (λ ts us ps read. ended starts_piece us (some_ends starts_piece (piece_at l) (piece_at l) (l.pieces - 1) ts us ps read))
     (record { is = λ ps ms us y m end. stops_at starts_piece (Mark close_brace) ms us m.is refl; end = refl }))))))
 
-pub procedure_front : (l : Limits) → 1 ≤ l.depth → 1 ≤ l.pieces → (t : Token) → is_word (codes "proc") t.kind ≡ true → Front (IsProcedure l) any (t ∷ [])
+pub procedure_front : (l : Limits) → 1 ≤ l.depth → 1 ≤ l.pieces → (t : Token) → has_word (codes "proc") t.kind ≡ true → Front (IsProcedure l) any (t ∷ [])
 procedure_front l h i t e =
     let now : Token = record { kind = Word (codes "now"); line = 1 } in
     let p = one_piece l h now refl in
@@ -312,5 +226,5 @@ procedure_front l h i t e =
       is = λ rest end.
           let same = append_assoc p.more (mark close_brace []) rest in
           let R : List Token → Type 0 = λ z. IsProcedure l (t ∷ a (mark open_parenthesis (mark close_parenthesis (mark open_brace (now ∷ z))))) rest (record { name = record { text = codes "a"; line = 1 }; arguments = []; pieces = p.value ∷ [] }) in
-          subst R (sym same) (procedure (token_of_kind t (Word (codes "proc")) _ (word_kind (codes "proc") t.kind e)) (one_name _) (no_arguments (a_mark open_parenthesis _) (a_mark close_parenthesis _)) (a_mark open_brace _) (first (p.is (mark close_brace rest) refl) none) (a_mark close_brace rest) (omega arith) (omega arith));
+          subst R (sym same) (procedure (token_made t (Word (codes "proc")) _ (word_kind (codes "proc") t.kind e)) (one_name _) (no_arguments (a_mark open_parenthesis _) (a_mark close_parenthesis _)) (a_mark open_brace _) (first (p.is (mark close_brace rest) refl) none) (a_mark close_brace rest) (omega arith) (omega arith));
     }

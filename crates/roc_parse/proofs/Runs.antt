@@ -4,9 +4,9 @@ use Rattle.std.specs.List.{AllByRecursion, fold}
 use Rattle.std.proofs.Math.ListN.{drop_of_length-le}
 use Rattle.std.proofs.Math.Seq.{drop-cons, take-suc}
 use Rattle.std.proofs.lemmas.Bool.{eqb-true, eq-eqb}
-use Rattle.roc_lang.specs.Tokens.{Token, is_word_byte, line_after}
-use Rattle.roc_parse.specs.Lexed.{IsNext, IsLexed, here, further, IsBroken}
-use Rattle.roc_parse.specs.Scanning.{word_run, line_run, value_and, value_on, value_from, next_of}
+use Rattle.roc_lang.specs.Tokens.{Token, IsTokenStep, is_word_byte, line_after}
+use Rattle.roc_parse.specs.Lexed.{IsLexed, here, further, IsBroken}
+use Rattle.roc_parse.specs.Inner.Scanning.{word_run, line_run, value_and, value_on, value_from, scanned_step}
 use Rattle.roc_parse.proofs.Steps.{next_is}
 use Rattle.roc_parse.proofs.Places.{broken_at, step_shorter, step_line}
 
@@ -103,10 +103,10 @@ pub record Reached (text : List ℕ) (ts : List Token) (line : ℕ) (rest : List
 pub reached_first : (text : List ℕ) → Reached text [] 1 text
 reached_first text = record { is = here; fits = omega arith }
 
-pub step_is : (line : ℕ) (rest : List ℕ) (y : List Token × ℕ × List ℕ) → Some y ≡ next_of line rest → IsNext line rest y.0 y.1 y.2
+pub step_is : (line : ℕ) (rest : List ℕ) (y : List Token × ℕ × List ℕ) → Some y ≡ scanned_step line rest → IsTokenStep line rest y.0 y.1 y.2
 step_is line rest y e = next_is line rest y (sym e)
 
-pub reached_next : (text : List ℕ) (ts us : List Token) (line : ℕ) (rest : List ℕ) (y : List Token × ℕ × List ℕ) → Reached text ts line rest → Some y ≡ next_of line rest → us ≡ ts ++ y.0 → Reached text us y.1 y.2
+pub reached_next : (text : List ℕ) (ts us : List Token) (line : ℕ) (rest : List ℕ) (y : List Token × ℕ × List ℕ) → Reached text ts line rest → Some y ≡ scanned_step line rest → us ≡ ts ++ y.0 → Reached text us y.1 y.2
 reached_next text ts us line rest y r e grown =
     let n = step_is line rest y e in
     let shorter = step_shorter n in
@@ -114,8 +114,8 @@ reached_next text ts us line rest y r e grown =
     let f = r.fits in
     record { is = subst (λ z. IsLexed 1 text z y.1 y.2) (sym grown) (further r.is n); fits = omega arith }
 
-pub reached_shorter : (line : ℕ) (rest : List ℕ) (y : List Token × ℕ × List ℕ) → Some y ≡ next_of line rest → length y.2 < length rest
+pub reached_shorter : (line : ℕ) (rest : List ℕ) (y : List Token × ℕ × List ℕ) → Some y ≡ scanned_step line rest → length y.2 < length rest
 reached_shorter line rest y e = step_shorter (step_is line rest y e)
 
-pub reached_break : (line : ℕ) (rest : List ℕ) → 0 < length rest → None ≡ next_of line rest → IsBroken line rest
+pub reached_break : (line : ℕ) (rest : List ℕ) → 0 < length rest → None ≡ scanned_step line rest → IsBroken line rest
 reached_break line rest h e = broken_at line rest h (sym e)

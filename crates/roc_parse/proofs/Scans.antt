@@ -1,9 +1,9 @@
 -- Each text is read up to its end or to a broken place, and in one way.
 use Rattle.std.proofs.Common.{◌≡◌, ℕ, zero, suc, ◌<◌, ◌≤◌, List, [], ◌∷◌, ◌++◌, length, Option, Some, None, refl, sym, ap, subst, ◌∙◌, append_assoc, ◌⊎◌, inl, inr, arith}
 use Rattle.std.proofs.lemmas.List.{append-nil}
-use Rattle.roc_lang.specs.Tokens.{Token}
-use Rattle.roc_parse.specs.Lexed.{IsNext, IsLexed, here, further, IsBroken}
-use Rattle.roc_parse.specs.Scanning.{next_of, IsScanned}
+use Rattle.roc_lang.specs.Tokens.{Token, IsTokenStep}
+use Rattle.roc_parse.specs.Lexed.{IsLexed, here, further, IsBroken}
+use Rattle.roc_parse.specs.Inner.Scanning.{scanned_step, IsScanned}
 use Rattle.roc_parse.proofs.Steps.{next_is}
 use Rattle.roc_parse.proofs.Places.{Place, one_step, no_step, broken_at, step_shorter}
 
@@ -17,13 +17,13 @@ pub record Scan (text : List ℕ) : Type 0 where
 scan_from : (n : ℕ) (text : List ℕ) (ts : List Token) (line : ℕ) (rest : List ℕ) → IsLexed 1 text ts line rest → length rest ≤ n → Scan text
 scan_from zero text ts line [] p h = record { tokens = ts; broken = None; is = (line, p) }
 scan_from zero text ts line (b ∷ rest) p h = absurd (omega arith)
-scan_from (suc n) text ts line rest p h = go (next_of line rest) refl (λ us after others q g. scan_from n text us after others q g)
+scan_from (suc n) text ts line rest p h = go (scanned_step line rest) refl (λ us after others q g. scan_from n text us after others q g)
   where
-    empty : (bs : List ℕ) → IsLexed 1 text ts line bs → next_of line bs ≡ None → Scan text
+    empty : (bs : List ℕ) → IsLexed 1 text ts line bs → scanned_step line bs ≡ None → Scan text
     empty [] q e = record { tokens = ts; broken = None; is = (line, q) }
     empty (b ∷ bs) q e = let more : 0 < length (b ∷ bs) = omega arith in record { tokens = ts; broken = Some line; is = (b ∷ bs, q, broken_at line (b ∷ bs) more e) }
 
-    go : (o : Option (List Token × ℕ × List ℕ)) → next_of line rest ≡ o → ((us : List Token) (after : ℕ) (others : List ℕ) → IsLexed 1 text us after others → length others ≤ n → Scan text) → Scan text
+    go : (o : Option (List Token × ℕ × List ℕ)) → scanned_step line rest ≡ o → ((us : List Token) (after : ℕ) (others : List ℕ) → IsLexed 1 text us after others → length others ≤ n → Scan text) → Scan text
     go None e k = empty rest p e
     go (Some y) e k = let m = next_is line rest y e in let s = step_shorter m in k (ts ++ y.0) y.1 y.2 (further p m) (omega arith)
 
@@ -38,7 +38,7 @@ record Begun (line : ℕ) (bytes : List ℕ) (ts : List Token) (after : ℕ) (re
   at : ℕ
   between : List ℕ
   others : List Token
-  is : IsNext line bytes first at between
+  is : IsTokenStep line bytes first at between
   on : IsLexed at between others after rest
   parts : ts ≡ first ++ others
 
@@ -51,7 +51,7 @@ begun (further {line = line} {at = at} {after = after} {bytes = bytes} {between 
   where
     go : Empty line bytes ts at between ⊎ Begun line bytes ts at between → Empty line bytes (ts ++ next) after rest ⊎ Begun line bytes (ts ++ next) after rest
     go (inl e) =
-        let m : IsNext line bytes next after rest = subst (λ (z : Place). IsNext z.1 z.2 next after rest) e n in
+        let m : IsTokenStep line bytes next after rest = subst (λ (z : Place). IsTokenStep z.1 z.2 next after rest) e n in
         inr (record { first = next; at = after; between = rest; others = []; is = m; on = here; parts = ap (λ (z : Place). z.0 ++ next) e ∙ sym (append-nil next) })
     go (inr b) = inr (record { first = b.first; at = b.at; between = b.between; others = b.others ++ next; is = b.is; on = further b.on n; parts = ap (λ z. z ++ next) b.parts ∙ append_assoc b.first b.others next })
 
@@ -67,7 +67,7 @@ either_on {us = us} {after' = after'} {rest' = rest'} (further {at = at} {after 
   where
     step : (m : List Token) → us ≡ ts ++ m → Empty at between m after' rest' ⊎ Begun at between m after' rest' → On (ts ++ next) after rest us after' rest' ⊎ On us after' rest' (ts ++ next) after rest
     step m e (inl f) =
-        let n' : IsNext after' rest' next after rest = subst (λ (z : Place). IsNext z.1 z.2 next after rest) (sym f) n in
+        let n' : IsTokenStep after' rest' next after rest = subst (λ (z : Place). IsTokenStep z.1 z.2 next after rest) (sym f) n in
         let same : us ≡ ts = e ∙ ap (λ (z : Place). ts ++ z.0) f ∙ append-nil ts in
         inr (record { more = next; parts = ap (λ z. z ++ next) (sym same); is = further here n' })
     step m e (inr b) =
@@ -84,7 +84,7 @@ either_on {us = us} {after' = after'} {rest' = rest'} (further {at = at} {after 
 
 -- from an end or a broken place nothing goes on
 abbrev Final : ℕ → List ℕ → Type 0
-Final line rest = (ts : List Token) (after : ℕ) (others : List ℕ) → IsNext line rest ts after others → ⊥
+Final line rest = (ts : List Token) (after : ℕ) (others : List ℕ) → IsTokenStep line rest ts after others → ⊥
 
 stays : {line : ℕ} {rest : List ℕ} {ts : List Token} {after : ℕ} {others : List ℕ} → Final line rest → IsLexed line rest ts after others → Empty line rest ts after others
 stays {line = line} {rest = rest} {ts = ts} {after = after} {others = others} final p = go (begun p)

@@ -8,10 +8,10 @@ use Rattle.std.proofs.lemmas.Bool.{eqb-true, le-leb, leb-true}
 use Rattle.std.proofs.lemmas.Bool.Decides.{nat_tests}
 use Rattle.std.proofs.lemmas.Option.{none-some, same_Some as some_is}
 use lib.Chars.{codes}
-use Rattle.roc_lang.specs.Tokens.{Word, Integer, Mark, Token, is_word_byte, is_mark, is_blank, line_after, IsWord, decimal, IsDecimal, IsTokenEnd, IsLineEnd}
+use Rattle.roc_lang.specs.declared.limits.TheConstants.{WORD_BYTES}
+use Rattle.roc_lang.specs.Tokens.{Word, Integer, Mark, Token, is_word_byte, is_mark, is_blank, line_after, IsWord, decimal, IsDecimal, IsTokenEnd, IsLineEnd, IsTokenStep, blank, comment, word, integer, mark}
 use Rattle.roc_parse.proofs.Bytes.{one_of, letter-blank, digit-blank, digit-letter, digit-word_byte, letter-word_byte, digit_above, digit_below}
-use Rattle.roc_parse.specs.Lexed.{IsNext, blank, comment, word, integer, mark}
-use Rattle.roc_parse.specs.Scanning.{word_run, line_run, token_at, value_and, value_on, value_from, value_of, Scanned, word_next, integer_next, comment_next, next_of}
+use Rattle.roc_parse.specs.Inner.Scanning.{word_run, line_run, token_at, value_and, value_on, value_from, value_of, Scanned, word_next, integer_next, comment_next, scanned_step}
 
 -- ---- runs of bytes
 
@@ -186,20 +186,20 @@ value_is (d ∷ ds) v e = go (is_ascii_digit d) refl e
 
 -- ---- what is a step is found
 
-comment_found : (line : ℕ) (text rest : List ℕ) → NoEnd text → IsLineEnd rest → next_of line (47 ∷ 47 ∷ (text ++ rest)) ≡ Some ([], line, rest)
-unfolding next_of comment_next
+comment_found : (line : ℕ) (text rest : List ℕ) → NoEnd text → IsLineEnd rest → scanned_step line (47 ∷ 47 ∷ (text ++ rest)) ≡ Some ([], line, rest)
+unfolding scanned_step comment_next
 comment_found line text rest all end = rw (line_whole text rest all end, drop_whole text rest) refl
 
 word_all : (b : ℕ) (more : List ℕ) → is_ascii_alphabetic b ≡ true → AllWord more → AllWord (b ∷ more)
 word_all b more h all = (letter-word_byte b h, all)
 
-word_found : (line : ℕ) (letters rest : List ℕ) → IsWord letters → IsTokenEnd rest → next_of line (letters ++ rest) ≡ Some (token_at line (Word letters), line, rest)
-unfolding next_of word_next
+word_found : (line : ℕ) (letters rest : List ℕ) → IsWord letters → IsTokenEnd rest → scanned_step line (letters ++ rest) ≡ Some (token_at line (Word letters), line, rest)
+unfolding scanned_step word_next
 word_found line [] rest is end = absurd is
 word_found line (b ∷ more) rest is end =
     let run = run_whole (b ∷ more) rest (word_all b more is.0 is.1) end in
-    let fits : length (b ∷ more) ≤ 32 = omega (arith, is.2) in
-    rw (letter-blank b is.0, is.0, run, le-leb (length (b ∷ more)) 32 fits, take_whole (b ∷ more) rest, drop_whole (b ∷ more) rest) refl
+    let fits : length (b ∷ more) ≤ WORD_BYTES = omega (arith, is.2) in
+    rw (letter-blank b is.0, is.0, run, le-leb (length (b ∷ more)) WORD_BYTES fits, take_whole (b ∷ more) rest, drop_whole (b ∷ more) rest) refl
 
 digits_word : (ds : List ℕ) → AllDigit ds → AllWord ds
 digits_word [] all = tt
@@ -215,82 +215,82 @@ integer_run line digits rest is end =
     let run = run_whole digits rest (digits_word digits (digits_of digits is)) end in
     rw (run, take_whole digits rest, drop_whole digits rest, decimal_taken digits is) refl
 
-integer_found : (line : ℕ) (digits rest : List ℕ) → IsDecimal digits → IsTokenEnd rest → next_of line (digits ++ rest) ≡ Some (token_at line (Integer (decimal digits)), line, rest)
-unfolding next_of
+integer_found : (line : ℕ) (digits rest : List ℕ) → IsDecimal digits → IsTokenEnd rest → scanned_step line (digits ++ rest) ≡ Some (token_at line (Integer (decimal digits)), line, rest)
+unfolding scanned_step
 integer_found line [] rest is end = absurd is
 integer_found line (d ∷ ds) rest is end = rw (digit-blank d is.0.0, digit-letter d is.0.0, is.0.0) (integer_run line (d ∷ ds) rest is end)
 
-mark_found : (line b : ℕ) (rest : List ℕ) → is_mark b ≡ true → next_of line (b ∷ rest) ≡ Some (token_at line (Mark b), line, rest)
-unfolding next_of
-mark_found line b rest h = one_of (λ m. next_of line (m ∷ rest) ≡ Some (token_at line (Mark m), line, rest)) (codes "{}()[],;.=+-*") b (refl, (refl, (refl, (refl, (refl, (refl, (refl, (refl, (refl, (refl, (refl, (refl, (refl, tt))))))))))))) h
+mark_found : (line b : ℕ) (rest : List ℕ) → is_mark b ≡ true → scanned_step line (b ∷ rest) ≡ Some (token_at line (Mark b), line, rest)
+unfolding scanned_step
+mark_found line b rest h = one_of (λ m. scanned_step line (m ∷ rest) ≡ Some (token_at line (Mark m), line, rest)) (codes "{}()[],;.=+-*") b (refl, (refl, (refl, (refl, (refl, (refl, (refl, (refl, (refl, (refl, (refl, (refl, (refl, tt))))))))))))) h
 
-blank_found : (line b : ℕ) (rest : List ℕ) → is_blank b ≡ true → next_of line (b ∷ rest) ≡ Some ([], line_after line b, rest)
-unfolding next_of
+blank_found : (line b : ℕ) (rest : List ℕ) → is_blank b ≡ true → scanned_step line (b ∷ rest) ≡ Some ([], line_after line b, rest)
+unfolding scanned_step
 blank_found line b rest h = rw h refl
 
-pub next_found : {line : ℕ} {bytes : List ℕ} {ts : List Token} {after : ℕ} {rest : List ℕ} → IsNext line bytes ts after rest → next_of line bytes ≡ Some (ts, after, rest)
+pub next_found : {line : ℕ} {bytes : List ℕ} {ts : List Token} {after : ℕ} {rest : List ℕ} → IsTokenStep line bytes ts after rest → scanned_step line bytes ≡ Some (ts, after, rest)
 next_found (blank {line = line} {b = b} {rest = rest} h) = blank_found line b rest h
-next_found (comment {line = line} {rest = rest} text e all end) = ap (next_of line) e ∙ comment_found line text rest all end
-next_found (word {line = line} {rest = rest} letters e is end) = ap (next_of line) e ∙ word_found line letters rest is end
-next_found (integer {line = line} {rest = rest} digits e is end) = ap (next_of line) e ∙ integer_found line digits rest is end
+next_found (comment {line = line} {rest = rest} text e all end) = ap (scanned_step line) e ∙ comment_found line text rest all end
+next_found (word {line = line} {rest = rest} letters e is end) = ap (scanned_step line) e ∙ word_found line letters rest is end
+next_found (integer {line = line} {rest = rest} digits e is end) = ap (scanned_step line) e ∙ integer_found line digits rest is end
 next_found (mark {line = line} {b = b} {rest = rest} h) = mark_found line b rest h
 
 -- ---- a step that is found is one
 
-made : (line : ℕ) (bytes : List ℕ) (x y : List Token × ℕ × List ℕ) → ◌≡◌ {A = Scanned} (Some x) (Some y) → IsNext line bytes x.0 x.1 x.2 → IsNext line bytes y.0 y.1 y.2
-made line bytes x y e n = subst (λ (z : List Token × ℕ × List ℕ). IsNext line bytes z.0 z.1 z.2) (some_is x y e) n
+made : (line : ℕ) (bytes : List ℕ) (x y : List Token × ℕ × List ℕ) → ◌≡◌ {A = Scanned} (Some x) (Some y) → IsTokenStep line bytes x.0 x.1 x.2 → IsTokenStep line bytes y.0 y.1 y.2
+made line bytes x y e n = subst (λ (z : List Token × ℕ × List ℕ). IsTokenStep line bytes z.0 z.1 z.2) (some_is x y e) n
 
-word_is : (line b : ℕ) (bs : List ℕ) (y : List Token × ℕ × List ℕ) → is_ascii_alphabetic b ≡ true → word_next line (b ∷ bs) ≡ Some y → IsNext line (b ∷ bs) y.0 y.1 y.2
+word_is : (line b : ℕ) (bs : List ℕ) (y : List Token × ℕ × List ℕ) → is_ascii_alphabetic b ≡ true → word_next line (b ∷ bs) ≡ Some y → IsTokenStep line (b ∷ bs) y.0 y.1 y.2
 unfolding word_next word_run
 word_is line b bs y h e = go (is_word_byte b) (letter-word_byte b h) e
   where
-    go : (t : Bool) → t ≡ true → cond {A = Scanned} (nat_le (cond t (suc (word_run bs)) 0) 32) (Some (token_at line (Word (take (cond t (suc (word_run bs)) 0) (b ∷ bs))), line, drop (cond t (suc (word_run bs)) 0) (b ∷ bs))) None ≡ Some y → IsNext line (b ∷ bs) y.0 y.1 y.2
+    go : (t : Bool) → t ≡ true → cond {A = Scanned} (nat_le (cond t (suc (word_run bs)) 0) WORD_BYTES) (Some (token_at line (Word (take (cond t (suc (word_run bs)) 0) (b ∷ bs))), line, drop (cond t (suc (word_run bs)) 0) (b ∷ bs))) None ≡ Some y → IsTokenStep line (b ∷ bs) y.0 y.1 y.2
     go false g i = absurd cc
-    go true g i = fit (nat_le (suc (word_run bs)) 32) refl i
+    go true g i = fit (nat_le (suc (word_run bs)) WORD_BYTES) refl i
       where
-        fit : (l : Bool) → nat_le (suc (word_run bs)) 32 ≡ l → cond {A = Scanned} l (Some (token_at line (Word (b ∷ take (word_run bs) bs)), line, drop (word_run bs) bs)) None ≡ Some y → IsNext line (b ∷ bs) y.0 y.1 y.2
+        fit : (l : Bool) → nat_le (suc (word_run bs)) WORD_BYTES ≡ l → cond {A = Scanned} l (Some (token_at line (Word (b ∷ take (word_run bs) bs)), line, drop (word_run bs) bs)) None ≡ Some y → IsTokenStep line (b ∷ bs) y.0 y.1 y.2
         fit false l j = absurd (none-some y j)
         fit true l j =
-            let short = leb-true (suc (word_run bs)) 32 l in
+            let short = leb-true (suc (word_run bs)) WORD_BYTES l in
             let n = length_take (word_run bs) bs in
-            let below : length (take (word_run bs) bs) < 32 = omega arith in
+            let below : length (take (word_run bs) bs) < WORD_BYTES = omega arith in
             made line (b ∷ bs) (token_at line (Word (b ∷ take (word_run bs) bs)), line, drop (word_run bs) bs) y j (word (b ∷ take (word_run bs) bs) (ap (λ z. b ∷ z) (take_drop (word_run bs) bs)) (h, run_all bs, below) (run_end bs))
 
-integer_is : (line : ℕ) (bytes : List ℕ) (y : List Token × ℕ × List ℕ) → integer_next line bytes ≡ Some y → IsNext line bytes y.0 y.1 y.2
+integer_is : (line : ℕ) (bytes : List ℕ) (y : List Token × ℕ × List ℕ) → integer_next line bytes ≡ Some y → IsTokenStep line bytes y.0 y.1 y.2
 unfolding integer_next
 integer_is line bytes y e = go (value_of (take (word_run bytes) bytes)) refl e
   where
-    go : (o : Option ℕ) → value_of (take (word_run bytes) bytes) ≡ o → option_map (λ n. (token_at line (Integer n), line, drop (word_run bytes) bytes)) o ≡ Some y → IsNext line bytes y.0 y.1 y.2
+    go : (o : Option ℕ) → value_of (take (word_run bytes) bytes) ≡ o → option_map (λ n. (token_at line (Integer n), line, drop (word_run bytes) bytes)) o ≡ Some y → IsTokenStep line bytes y.0 y.1 y.2
     go None f i = absurd (none-some y i)
     go (Some v) f i =
         let d = value_is (take (word_run bytes) bytes) v f in
         let same = ap (λ n. Some (token_at line (Integer n), line, drop (word_run bytes) bytes)) d.1 in
         made line bytes (token_at line (Integer (decimal (take (word_run bytes) bytes))), line, drop (word_run bytes) bytes) y (sym same ∙ i) (integer (take (word_run bytes) bytes) (take_drop (word_run bytes) bytes) d.0 (run_end bytes))
 
-comment_is : (line : ℕ) (bs : List ℕ) (y : List Token × ℕ × List ℕ) → comment_next line bs ≡ Some y → IsNext line (47 ∷ bs) y.0 y.1 y.2
+comment_is : (line : ℕ) (bs : List ℕ) (y : List Token × ℕ × List ℕ) → comment_next line bs ≡ Some y → IsTokenStep line (47 ∷ bs) y.0 y.1 y.2
 unfolding comment_next
 comment_is line [] y e = absurd (none-some y e)
 comment_is line (b ∷ bs) y e = go (b == 47) refl e
   where
-    go : (t : Bool) → (b == 47) ≡ t → cond {A = Scanned} t (Some ([], line, drop (line_run bs) bs)) None ≡ Some y → IsNext line (47 ∷ b ∷ bs) y.0 y.1 y.2
+    go : (t : Bool) → (b == 47) ≡ t → cond {A = Scanned} t (Some ([], line, drop (line_run bs) bs)) None ≡ Some y → IsTokenStep line (47 ∷ b ∷ bs) y.0 y.1 y.2
     go false f i = absurd (none-some y i)
     go true f i = made line (47 ∷ b ∷ bs) ([], line, drop (line_run bs) bs) y i (comment (take (line_run bs) bs) (ap (λ c. 47 ∷ c ∷ bs) (eqb-true b 47 f) ∙ ap (λ z. 47 ∷ 47 ∷ z) (take_drop (line_run bs) bs)) (line_all bs) (line_end bs))
 
-byte_is : (line b : ℕ) (bs : List ℕ) (y : List Token × ℕ × List ℕ) → next_of line (b ∷ bs) ≡ Some y → IsNext line (b ∷ bs) y.0 y.1 y.2
-unfolding next_of
+byte_is : (line b : ℕ) (bs : List ℕ) (y : List Token × ℕ × List ℕ) → scanned_step line (b ∷ bs) ≡ Some y → IsTokenStep line (b ∷ bs) y.0 y.1 y.2
+unfolding scanned_step
 byte_is line b bs y e = go (is_blank b) (is_ascii_alphabetic b) (is_ascii_digit b) (b == 47) (is_mark b) refl refl refl refl refl e
   where
     go : (k a d s m : Bool) → is_blank b ≡ k → is_ascii_alphabetic b ≡ a → is_ascii_digit b ≡ d → (b == 47) ≡ s → is_mark b ≡ m
         → cond {A = Scanned} k (Some ([], line_after line b, bs)) (cond a (word_next line (b ∷ bs)) (cond d (integer_next line (b ∷ bs)) (cond s (comment_next line bs) (cond m (Some (token_at line (Mark b), line, bs)) None)))) ≡ Some y
-        → IsNext line (b ∷ bs) y.0 y.1 y.2
+        → IsTokenStep line (b ∷ bs) y.0 y.1 y.2
     go true a d s m hk ha hd hs hm i = made line (b ∷ bs) ([], line_after line b, bs) y i (blank hk)
     go false true d s m hk ha hd hs hm i = word_is line b bs y ha i
     go false false true s m hk ha hd hs hm i = integer_is line (b ∷ bs) y i
-    go false false false true m hk ha hd hs hm i = subst (λ c. IsNext line (c ∷ bs) y.0 y.1 y.2) (sym (eqb-true b 47 hs)) (comment_is line bs y i)
+    go false false false true m hk ha hd hs hm i = subst (λ c. IsTokenStep line (c ∷ bs) y.0 y.1 y.2) (sym (eqb-true b 47 hs)) (comment_is line bs y i)
     go false false false false true hk ha hd hs hm i = made line (b ∷ bs) (token_at line (Mark b), line, bs) y i (mark hm)
     go false false false false false hk ha hd hs hm i = absurd (none-some y i)
 
-pub next_is : (line : ℕ) (bytes : List ℕ) (y : List Token × ℕ × List ℕ) → next_of line bytes ≡ Some y → IsNext line bytes y.0 y.1 y.2
-unfolding next_of
+pub next_is : (line : ℕ) (bytes : List ℕ) (y : List Token × ℕ × List ℕ) → scanned_step line bytes ≡ Some y → IsTokenStep line bytes y.0 y.1 y.2
+unfolding scanned_step
 next_is line [] y e = absurd (none-some y e)
 next_is line (b ∷ bs) y e = byte_is line b bs y e

@@ -5,17 +5,17 @@ use Rattle.std.proofs.lemmas.Bool.Decides.{nat_tests}
 use Rattle.roc_lang.specs.Syntax.{Expression}
 use Rattle.roc_lang.specs.Tokens.{Kind, Word, Integer, Mark, Token}
 use Rattle.roc_lang.specs.Grammar.{plus, minus, star}
-use Rattle.roc_parse.specs.Stuck.{Reading, begins}
-use Rattle.roc_parse.specs.Parts.{is_mark}
-use Rattle.roc_parse.specs.Reading.{Deep, is_sign, times, plus_or_minus, factor_at, signed_term_at, loop_at, atom_with, term_with, sum_with}
-use Rattle.roc_parse.proofs.Exact.{Rule, Stop, IsEnd, any, Front, Exact, ok_same, when_ok, Then, exact_bind, exact_next}
+use Rattle.roc_parse.specs.Inner.Stuck.{Reading, head_is}
+use Rattle.roc_parse.specs.Inner.Parts.{has_mark}
+use Rattle.roc_parse.specs.Inner.Reading.{Deep, is_sign, times, plus_or_minus, factor_at, signed_term_at, loop_at, atom_with, term_with, sum_with}
+use Rattle.roc_parse.proofs.Exact.{Rule, Stop, IsStopAt, any, Front, Exact, ok_same, when_ok, Then, exact_bind, exact_next}
 use Rattle.roc_parse.proofs.Choices.{Mapped, exact_mapped, exact_same}
 use Rattle.roc_parse.proofs.Several.{other_than, ended, unended}
-use Rattle.roc_parse.proofs.Terminals.{Tokens, exact_mark, mark_kind, token_begins, sign_mark, Signs, exact_sign}
+use Rattle.roc_parse.proofs.Terminals.{token_made, Tokens, exact_mark, mark_kind, token_begins, sign_mark, Signs, exact_sign}
 use Rattle.roc_parse.proofs.Depths.{Summed, Multiplied, term, sum, difference, atom, product, single_deep, multiplied_deep, variable}
 use Rattle.roc_parse.proofs.Loops.{Within, depth_of, IsRead, Tail, stays, goes, Looping, Loop, tail_deep, tail_snoc, stay_front, complete_loop, exact_loop, loop_ends}
 use Rattle.roc_parse.proofs.Atoms.{SumRule, AtomRule, Sums, Atoms, is_operator, sum_stop}
-use Rattle.roc_parse.proofs.Atom.{a, named, token_of_kind, Roomy, exact_atom, complete_atom}
+use Rattle.roc_parse.proofs.Atom.{a, named, Roomy, exact_atom, complete_atom}
 
 abbrev pub TermRule : Rule Deep
 TermRule ts us v = Multiplied ts us v.0 v.1
@@ -24,7 +24,7 @@ abbrev pub Terms : ℕ → Rule Deep
 Terms room = Within TermRule depth_of room
 
 abbrev pub term_stop : Stop
-term_stop = other_than (is_mark star)
+term_stop = other_than (has_mark star)
 
 -- ---- factors
 
@@ -34,14 +34,14 @@ Factor = Then (Tokens (Mark star)) (λ s. AtomRule)
 one_atom : (us : List Token) → AtomRule (a us) us named
 one_atom us = variable (record { is = refl; free = refl })
 
-factor_front : (t : Token) → is_mark star t.kind ≡ true → Front (Within Factor depth_of 1) any (t ∷ [])
-factor_front t e = record { more = a []; value = named; is = λ rest end. record { is = record { first = tt; between = a rest; left = token_of_kind t (Mark star) _ (mark_kind star t.kind e); right = one_atom rest }; fits = omega arith } }
+factor_front : (t : Token) → has_mark star t.kind ≡ true → Front (Within Factor depth_of 1) any (t ∷ [])
+factor_front t e = record { more = a []; value = named; is = λ rest end. record { is = record { first = tt; between = a rest; left = token_made t (Mark star) _ (mark_kind star t.kind e); right = one_atom rest }; fits = omega arith } }
 
-looping_factors : Looping Factor depth_of times (is_mark star) any term_stop
+looping_factors : Looping Factor depth_of times (has_mark star) any term_stop
 looping_factors = record {
   join_deep = λ v x. refl;
-  starts_item = λ ts us x t. token_begins (is_mark star) (Mark star) true ts t.between t.left refl;
-  apart = λ us e. unended (is_mark star) us e;
+  starts_item = λ ts us x t. token_begins (has_mark star) (Mark star) true ts t.between t.left refl;
+  apart = λ us e. unended (has_mark star) us e;
   weaken = λ us e. refl;
   starts_stop = λ us e. refl;
   end = refl;
@@ -110,9 +110,9 @@ complete_term room inner lower read read' ts us v i fits a =
     let others = complete_loop _ room looping_factors factors room t.right.is t.right.fits (omega arith) a in
     rw one others
 
-pub term_ends : (inner lower : List Token → Reading Deep) (room : ℕ) (ts us : List Token) (v : Deep) → term_with inner lower room ts ≡ Ok (v, us) → IsEnd term_stop us
+pub term_ends : (inner lower : List Token → Reading Deep) (room : ℕ) (ts us : List Token) (v : Deep) → term_with inner lower room ts ≡ Ok (v, us) → IsStopAt term_stop us
 unfolding term_with
-term_ends inner lower room ts us v read = when_ok {A = Deep × List Token} (atom_with inner room ts) (λ x. loop_at (is_mark star) (factor_at (atom_with lower (room - 1))) times room room x.0 x.1) (v, us) read (λ x first others. ended (is_mark star) us (loop_ends (is_mark star) (factor_at (atom_with lower (room - 1))) times room any (λ ts us x read. refl) room x.0 v x.1 us refl others).0)
+term_ends inner lower room ts us v read = when_ok {A = Deep × List Token} (atom_with inner room ts) (λ x. loop_at (has_mark star) (factor_at (atom_with lower (room - 1))) times room room x.0 x.1) (v, us) read (λ x first others. ended (has_mark star) us (loop_ends (has_mark star) (factor_at (atom_with lower (room - 1))) times room any (λ ts us x read. refl) room x.0 v x.1 us refl others).0)
 
 -- ---- signed terms
 
@@ -135,41 +135,41 @@ or_right true c e = absurd cc
 or_right false c e = e
 
 -- what is no operator is no sign, and no star
-no_sign : (us : List Token) → IsEnd sum_stop us → begins is_sign us ≡ false
+no_sign : (us : List Token) → IsStopAt sum_stop us → head_is is_sign us ≡ false
 no_sign [] e = refl
-no_sign (t ∷ us) e = or_left (is_sign t.kind) (is_mark star t.kind) (unended is_operator (t ∷ us) e)
+no_sign (t ∷ us) e = or_left (is_sign t.kind) (has_mark star t.kind) (unended is_operator (t ∷ us) e)
 
-no_star : (us : List Token) → IsEnd sum_stop us → begins (is_mark star) us ≡ false
+no_star : (us : List Token) → IsStopAt sum_stop us → head_is (has_mark star) us ≡ false
 no_star [] e = refl
-no_star (t ∷ us) e = or_right (is_sign t.kind) (is_mark star t.kind) (unended is_operator (t ∷ us) e)
+no_star (t ∷ us) e = or_right (is_sign t.kind) (has_mark star t.kind) (unended is_operator (t ∷ us) e)
 
-no_operator : (us : List Token) → begins is_sign us ≡ false → IsEnd term_stop us → IsEnd sum_stop us
+no_operator : (us : List Token) → head_is is_sign us ≡ false → IsStopAt term_stop us → IsStopAt sum_stop us
 no_operator [] e f = refl
-no_operator (t ∷ us) e f = ended is_operator (t ∷ us) (rw (e, unended (is_mark star) (t ∷ us) f) refl)
+no_operator (t ∷ us) e f = ended is_operator (t ∷ us) (rw (e, unended (has_mark star) (t ∷ us) f) refl)
 
-sign_kind_stops : (k : Kind) → is_sign k ≡ true → is_mark star k ≡ false
+sign_kind_stops : (k : Kind) → is_sign k ≡ true → has_mark star k ≡ false
 sign_kind_stops (Word letters) e = refl
 sign_kind_stops (Integer n) e = refl
 sign_kind_stops (Mark b) e = grind (arith, nat_tests)
 
-sign_stops : (us : List Token) → begins is_sign us ≡ true → IsEnd term_stop us
+sign_stops : (us : List Token) → head_is is_sign us ≡ true → IsStopAt term_stop us
 sign_stops [] e = refl
-sign_stops (t ∷ us) e = ended (is_mark star) (t ∷ us) (sign_kind_stops t.kind e)
+sign_stops (t ∷ us) e = ended (has_mark star) (t ∷ us) (sign_kind_stops t.kind e)
 
 one_term : (us : List Token) → TermRule (a us) us named
 one_term us = atom (one_atom us)
 
 -- a sign is + or -
 sign_of_kind : (k : Kind) → is_sign k ≡ true → (s : Bool) × (k ≡ Mark (sign_mark s))
-sign_of_kind k e = go (is_mark plus k) refl
+sign_of_kind k e = go (has_mark plus k) refl
   where
     or_false : (b c : Bool) → b ≡ false → (b || c) ≡ true → c ≡ true
     or_false true c f g = absurd cc
     or_false false c f g = g
 
-    go : (b : Bool) → is_mark plus k ≡ b → (s : Bool) × (k ≡ Mark (sign_mark s))
+    go : (b : Bool) → has_mark plus k ≡ b → (s : Bool) × (k ≡ Mark (sign_mark s))
     go true f = (true, mark_kind plus k f)
-    go false f = (false, mark_kind minus k (or_false (is_mark plus k) (is_mark minus k) f e))
+    go false f = (false, mark_kind minus k (or_false (has_mark plus k) (has_mark minus k) f e))
 
 signed_front : (t : Token) → is_sign t.kind ≡ true → Front (Within Signed signed_depth 1) term_stop (t ∷ [])
 signed_front t e =
@@ -178,7 +178,7 @@ signed_front t e =
       more = a [];
       value = (s.0, named);
       is = λ rest end.
-          record { is = record { first = s.0; between = a rest; left = token_of_kind t (Mark (sign_mark s.0)) _ s.1; right = record { from = named; is = one_term rest; value = refl } }; fits = omega arith };
+          record { is = record { first = s.0; between = a rest; left = token_made t (Mark (sign_mark s.0)) _ s.1; right = record { from = named; is = one_term rest; value = refl } }; fits = omega arith };
     }
 
 looping_sums : Looping Signed signed_depth plus_or_minus is_sign term_stop sum_stop
@@ -186,7 +186,7 @@ looping_sums = record {
   join_deep = λ v x. refl;
   starts_item = λ ts us x t. token_begins is_sign (Mark (sign_mark t.first)) true ts t.between t.left (sign_is t.first);
   apart = no_sign;
-  weaken = λ us e. ended (is_mark star) us (no_star us e);
+  weaken = λ us e. ended (has_mark star) us (no_star us e);
   starts_stop = sign_stops;
   end = refl;
   opens = signed_front;
@@ -214,7 +214,7 @@ read_signed k one read ts us y t fits end =
     let e = ap (λ z. z.1.1) t.right.value in
     rw (exact_sign.all ts t.between t.first t.left refl, read t.between us t.right.from t.right.is (omega arith) end, t.right.value) refl
 
-signed_ends : (one : List Token → Reading Deep) → ((ts us : List Token) (v : Deep) → one ts ≡ Ok (v, us) → IsEnd term_stop us) → (ts us : List Token) (y : Bool × Deep) → signed_term_at one ts ≡ Ok (y, us) → IsEnd term_stop us
+signed_ends : (one : List Token → Reading Deep) → ((ts us : List Token) (v : Deep) → one ts ≡ Ok (v, us) → IsStopAt term_stop us) → (ts us : List Token) (y : Bool × Deep) → signed_term_at one ts ≡ Ok (y, us) → IsStopAt term_stop us
 unfolding signed_term_at
 signed_ends one ends ts us y read = when_ok {A = Bool × List Token} _ _ (y, us) read (λ s first others. when_ok {A = Deep × List Token} _ _ (y, us) others (λ x second made.
     ends s.1 us x.0 (second ∙ ap (λ z. Ok (x.0, z)) (ap (λ z. z.1) (ok_same ((s.0, x.0), x.1) (y, us) made)))))
@@ -252,8 +252,8 @@ sum_from room ts us v t =
     let f = t.fits in
     record { first = b.first; between = b.between; left = record { is = b.is; fits = omega arith }; right = record { is = b.tail; fits = f } }
 
-tail_term_stop : {v w : Deep} {ts us : List Token} → Tail Signed plus_or_minus v ts us w → IsEnd sum_stop us → IsEnd term_stop ts
-tail_term_stop (stays {ts = ts}) e = ended (is_mark star) ts (no_star ts e)
+tail_term_stop : {v w : Deep} {ts us : List Token} → Tail Signed plus_or_minus v ts us w → IsStopAt sum_stop us → IsStopAt term_stop ts
+tail_term_stop (stays {ts = ts}) e = ended (has_mark star) ts (no_star ts e)
 tail_term_stop (goes {ts = ts} p t) e = sign_stops ts (token_begins is_sign (Mark (sign_mark p.first)) true ts p.between p.left (sign_is p.first))
 
 pub exact_sum : (room room' : ℕ) (i i' l l' o o' : List Token → Reading Deep) → Roomy room room' i i' → (2 ≤ room → Roomy (room - 1) (room' - 1) l l') → (3 ≤ room → Roomy (room - 1 - 1) (room' - 1 - 1) o o')
@@ -280,7 +280,7 @@ complete_sum room i l o read read' read'' ts us v is fits a =
     let others = complete_loop (signed_term_at (term_with l o (room - 1))) room looping_sums signed room t.right.is t.right.fits (omega arith) a in
     rw one others
 
-pub sum_ends : (i l o : List Token → Reading Deep) (room : ℕ) (ts us : List Token) (v : Deep) → sum_with i l o room ts ≡ Ok (v, us) → IsEnd sum_stop us
+pub sum_ends : (i l o : List Token → Reading Deep) (room : ℕ) (ts us : List Token) (v : Deep) → sum_with i l o room ts ≡ Ok (v, us) → IsStopAt sum_stop us
 unfolding sum_with
 sum_ends i l o room ts us v read = when_ok {A = Deep × List Token} (term_with i l room ts) (λ x. loop_at is_sign (signed_term_at (term_with l o (room - 1))) plus_or_minus room room x.0 x.1) (v, us) read (λ x first others.
     let e = loop_ends is_sign (signed_term_at (term_with l o (room - 1))) plus_or_minus room term_stop (signed_ends (term_with l o (room - 1)) (term_ends l o (room - 1))) room x.0 v x.1 us (term_ends i l room ts x.1 x.0 first) others in

@@ -8,9 +8,9 @@ use Rattle.std.proofs.lemmas.Option.{none-some, same_Some as some_is}
 use lib.Chars.{codes}
 use Rattle.roc_lang.specs.Syntax.{Name}
 use Rattle.roc_lang.specs.Tokens.{Kind, Word, Integer, Mark, Token}
-use Rattle.roc_lang.specs.Grammar.{IsToken, IsMark, IsName, IsInteger, is_reserved, class_word, plus, minus}
-use Rattle.roc_parse.specs.Stuck.{begins}
-use Rattle.roc_parse.specs.Parts.{first_at, is_word, is_mark, passes, word_at, mark_at, free_word, name_of, name_at, small_integer, negated, negated_at, class_of, class_at, sign_of, sign_at}
+use Rattle.roc_lang.specs.Grammar.{IsToken, IsMark, IsName, IsInteger, IsIdEnd, close_bracket, is_reserved, class_word, plus, minus}
+use Rattle.roc_parse.specs.Inner.Stuck.{head_is}
+use Rattle.roc_parse.specs.Inner.Parts.{first_at, has_word, has_mark, passes, word_at, mark_at, mark_line_at, free_word, name_of, name_at, small_integer, negated, negated_at, piece_class, class_at, sign_of, sign_at}
 use Rattle.roc_parse.proofs.Exact.{Rule, any, Exact}
 use Rattle.roc_parse.proofs.Choices.{First, exact_first, exact_same}
 
@@ -27,24 +27,24 @@ passed false x e = absurd (none-some x e)
 
 -- ---- words and marks
 
-pub word_kind : (word : List ℕ) (kind : Kind) → is_word word kind ≡ true → kind ≡ Word word
+pub word_kind : (word : List ℕ) (kind : Kind) → has_word word kind ≡ true → kind ≡ Word word
 word_kind word (Word letters) e = ap (λ w. Word w) ((bytes_eq-Decides letters word).0 e)
 word_kind word (Integer n) e = absurd cc
 word_kind word (Mark b) e = absurd cc
 
-pub kind_word : (word : List ℕ) → is_word word (Word word) ≡ true
+pub kind_word : (word : List ℕ) → has_word word (Word word) ≡ true
 kind_word word = (bytes_eq-Decides word word).1 refl
 
-pub mark_kind : (mark : ℕ) (kind : Kind) → is_mark mark kind ≡ true → kind ≡ Mark mark
+pub mark_kind : (mark : ℕ) (kind : Kind) → has_mark mark kind ≡ true → kind ≡ Mark mark
 mark_kind mark (Word letters) e = absurd cc
 mark_kind mark (Integer n) e = absurd cc
 mark_kind mark (Mark b) e = ap (λ m. Mark m) (eqb-true b mark e)
 
-pub kind_mark : (mark : ℕ) → is_mark mark (Mark mark) ≡ true
+pub kind_mark : (mark : ℕ) → has_mark mark (Mark mark) ≡ true
 kind_mark mark = eq-eqb mark mark refl
 
 -- a token of a kind
-token_made : (t : Token) (k : Kind) (us : List Token) → t.kind ≡ k → IsToken k (t ∷ us) us
+pub token_made : (t : Token) (k : Kind) (us : List Token) → t.kind ≡ k → IsToken k (t ∷ us) us
 token_made t k us e = record { line = t.line; is = ap (λ z. let u : Token = record { kind = z; line = t.line } in u ∷ us) e }
 
 abbrev pub Tokens : Kind → Rule (Unit {0})
@@ -52,26 +52,43 @@ Tokens k ts us x = IsToken k ts us
 
 pub exact_word : (word : List ℕ) → Exact (Tokens (Word word)) (Tokens (Word word)) any (word_at word) (word_at word)
 exact_word word =
-    same_first (λ t. passes (is_word word t.kind)) (Tokens (Word word)) (record { kind = Word word; line = 1 }) tt (ap passes (kind_word word))
-    (λ t us x e. token_made t (Word word) us (word_kind word t.kind (passed (is_word word t.kind) x e)))
+    same_first (λ t. passes (has_word word t.kind)) (Tokens (Word word)) (record { kind = Word word; line = 1 }) tt (ap passes (kind_word word))
+    (λ t us x e. token_made t (Word word) us (word_kind word t.kind (passed (has_word word t.kind) x e)))
     (λ ts us x i. record { token = record { kind = Word word; line = i.line }; is = i.is; takes = ap passes (kind_word word) })
 
 pub exact_mark : (mark : ℕ) → Exact (Tokens (Mark mark)) (Tokens (Mark mark)) any (mark_at mark) (mark_at mark)
 exact_mark mark =
-    same_first (λ t. passes (is_mark mark t.kind)) (Tokens (Mark mark)) (record { kind = Mark mark; line = 1 }) tt (ap passes (kind_mark mark))
-    (λ t us x e. token_made t (Mark mark) us (mark_kind mark t.kind (passed (is_mark mark t.kind) x e)))
+    same_first (λ t. passes (has_mark mark t.kind)) (Tokens (Mark mark)) (record { kind = Mark mark; line = 1 }) tt (ap passes (kind_mark mark))
+    (λ t us x e. token_made t (Mark mark) us (mark_kind mark t.kind (passed (has_mark mark t.kind) x e)))
     (λ ts us x i. record { token = record { kind = Mark mark; line = i.line }; is = i.is; takes = ap passes (kind_mark mark) })
 
--- how a list begins
-pub word_begins : (word : List ℕ) (ts us : List Token) → IsToken (Word word) ts us → begins (is_word word) ts ≡ true
-word_begins word ts us i = ap (begins (is_word word)) i.is ∙ kind_word word
+-- the bracket behind an id, with its line
+line_kind : (kind : Kind) (line l : ℕ) → cond {A = Option ℕ} (has_mark close_bracket kind) (Some line) None ≡ Some l → (kind ≡ Mark close_bracket) × (line ≡ l)
+line_kind kind line l e = go (has_mark close_bracket kind) refl e
+  where
+    go : (b : Bool) → has_mark close_bracket kind ≡ b → cond {A = Option ℕ} b (Some line) None ≡ Some l → (kind ≡ Mark close_bracket) × (line ≡ l)
+    go true h i = (mark_kind close_bracket kind h, some_is line l i)
+    go false h i = absurd (none-some l i)
 
-pub mark_begins : (mark : ℕ) (ts us : List Token) → IsMark mark ts us → begins (is_mark mark) ts ≡ true
-mark_begins mark ts us i = ap (begins (is_mark mark)) i.is ∙ kind_mark mark
+id_end_made : (t : Token) (us : List Token) (l : ℕ) → cond {A = Option ℕ} (has_mark close_bracket t.kind) (Some t.line) None ≡ Some l → IsIdEnd (t ∷ us) us l
+id_end_made t us l e =
+    let p = line_kind t.kind t.line l e in
+    subst (λ z. IsIdEnd (t ∷ us) us z) p.1 (record { is = ap (λ z. let u : Token = record { kind = z; line = t.line } in u ∷ us) p.0 })
+
+pub exact_id_end : Exact IsIdEnd IsIdEnd any (mark_line_at close_bracket) (mark_line_at close_bracket)
+exact_id_end = same_first (λ t. cond (has_mark close_bracket t.kind) (Some t.line) None) IsIdEnd (record { kind = Mark close_bracket; line = 1 }) 1 refl id_end_made
+    (λ ts us l i. record { token = record { kind = Mark close_bracket; line = l }; is = i.is; takes = refl })
+
+-- how a list begins
+pub word_begins : (word : List ℕ) (ts us : List Token) → IsToken (Word word) ts us → head_is (has_word word) ts ≡ true
+word_begins word ts us i = ap (head_is (has_word word)) i.is ∙ kind_word word
+
+pub mark_begins : (mark : ℕ) (ts us : List Token) → IsMark mark ts us → head_is (has_mark mark) ts ≡ true
+mark_begins mark ts us i = ap (head_is (has_mark mark)) i.is ∙ kind_mark mark
 
 -- a token decides each test
-pub token_begins : (test : Kind → Bool) (k : Kind) (b : Bool) (ts us : List Token) → IsToken k ts us → test k ≡ b → begins test ts ≡ b
-token_begins test k b ts us i e = ap (begins test) i.is ∙ e
+pub token_begins : (test : Kind → Bool) (k : Kind) (b : Bool) (ts us : List Token) → IsToken k ts us → test k ≡ b → head_is test ts ≡ b
+token_begins test k b ts us i e = ap (head_is test) i.is ∙ e
 
 -- ---- names
 
@@ -163,20 +180,20 @@ exact_negated = same_first (λ t. negated t.kind) Negated one (neg_ℤ (pos 1)) 
 abbrev pub Classes : Rule Bool
 Classes ts us b = IsToken (Word (class_word b)) ts us
 
-class_parts : (kind : Kind) (b : Bool) → class_of kind ≡ Some b → kind ≡ Word (class_word b)
-class_parts kind b e = go (is_word (codes "now") kind) (is_word (codes "later") kind) refl refl e
+class_parts : (kind : Kind) (b : Bool) → piece_class kind ≡ Some b → kind ≡ Word (class_word b)
+class_parts kind b e = go (has_word (codes "now") kind) (has_word (codes "later") kind) refl refl e
   where
-    go : (n l : Bool) → is_word (codes "now") kind ≡ n → is_word (codes "later") kind ≡ l → cond {A = Option Bool} n (Some true) (cond l (Some false) None) ≡ Some b → kind ≡ Word (class_word b)
+    go : (n l : Bool) → has_word (codes "now") kind ≡ n → has_word (codes "later") kind ≡ l → cond {A = Option Bool} n (Some true) (cond l (Some false) None) ≡ Some b → kind ≡ Word (class_word b)
     go true l h i j = word_kind (codes "now") kind h ∙ ap (λ z. Word (class_word z)) (some_is true b j)
     go false true h i j = word_kind (codes "later") kind i ∙ ap (λ z. Word (class_word z)) (some_is false b j)
     go false false h i j = absurd (none-some b j)
 
-class_taken : (b : Bool) → class_of (Word (class_word b)) ≡ Some b
+class_taken : (b : Bool) → piece_class (Word (class_word b)) ≡ Some b
 class_taken true = refl
 class_taken false = refl
 
 pub exact_class : Exact Classes Classes any class_at class_at
-exact_class = same_first (λ t. class_of t.kind) Classes (record { kind = Word (codes "now"); line = 1 }) true refl
+exact_class = same_first (λ t. piece_class t.kind) Classes (record { kind = Word (codes "now"); line = 1 }) true refl
     (λ t us b e. token_made t (Word (class_word b)) us (class_parts t.kind b e))
     (λ ts us b i. record { token = record { kind = Word (class_word b); line = i.line }; is = i.is; takes = class_taken b })
 
@@ -187,9 +204,9 @@ abbrev pub Signs : Rule Bool
 Signs ts us b = IsMark (sign_mark b) ts us
 
 sign_parts : (kind : Kind) (b : Bool) → sign_of kind ≡ Some b → kind ≡ Mark (sign_mark b)
-sign_parts kind b e = go (is_mark plus kind) (is_mark minus kind) refl refl e
+sign_parts kind b e = go (has_mark plus kind) (has_mark minus kind) refl refl e
   where
-    go : (n l : Bool) → is_mark plus kind ≡ n → is_mark minus kind ≡ l → cond {A = Option Bool} n (Some true) (cond l (Some false) None) ≡ Some b → kind ≡ Mark (sign_mark b)
+    go : (n l : Bool) → has_mark plus kind ≡ n → has_mark minus kind ≡ l → cond {A = Option Bool} n (Some true) (cond l (Some false) None) ≡ Some b → kind ≡ Mark (sign_mark b)
     go true l h i j = mark_kind plus kind h ∙ ap (λ z. Mark (sign_mark z)) (some_is true b j)
     go false true h i j = mark_kind minus kind i ∙ ap (λ z. Mark (sign_mark z)) (some_is false b j)
     go false false h i j = absurd (none-some b j)

@@ -4,18 +4,19 @@ use Rattle.std.specs.Prelude.{Result, Ok, Err, nat_le}
 use Rattle.std.proofs.lemmas.Bool.{leb-true}
 use Rattle.std.proofs.lemmas.Bool.Decides.{nat_tests}
 use Rattle.std.proofs.lemmas.List.{append-nil}
-use Rattle.roc_lang.specs.Syntax.{Text}
+use Rattle.roc_lang.specs.Syntax.{Tree}
 use Rattle.roc_lang.specs.Tokens.{Token, IsTokens}
 use Rattle.roc_lang.specs.Grammar.{Limits, standard, IsText, text_limit}
 use Rattle.roc_lang.specs.declared.fault.LangError.{LangError}
 use Rattle.roc_lang.specs.declared.fault.LangError.TheVariants as errors
 use Rattle.roc_lang.specs.declared.fault.What.{What}
 use Rattle.roc_lang.specs.declared.fault.What.TheVariants as whats
-use Rattle.roc_parse.specs.Stuck.{Stuck}
-use Rattle.roc_parse.specs.Reading.{whole_at}
-use Rattle.roc_parse.specs.Scanning.{IsScanned}
+use Rattle.roc_parse.specs.Inner.Stuck.{Stuck}
+use Rattle.roc_parse.specs.Inner.Reading.{whole_at}
+use Rattle.roc_parse.specs.Inner.Scanning.{IsScanned}
 use Rattle.roc_parse.specs.Fault.{IsWorkloadText, GoesOn, last_line, IsFirstFault, too_long, broken, misplaced, wrong, beyond, stops}
-use Rattle.roc_parse.specs.Answer.{IsFaultOf, fault_of, what_of, answer_of}
+use Rattle.roc_parse.specs.Answer.{TellsFirstFault}
+use Rattle.roc_parse.specs.Inner.Told.{stop_fault, what_of, answer_of}
 use Rattle.roc_parse.proofs.Exact.{Why, Refused, ok_same, err_same, ok-err}
 use Rattle.roc_parse.proofs.Texts.{Whole, at_end}
 use Rattle.roc_parse.proofs.Further.{past, past_all, further_text}
@@ -108,13 +109,13 @@ at_limit ts before t behind false split e l g = absurd (none_at_all ts behind t 
 
 -- reading either gives a text or stops
 data Read (ts : List Token) : Type 0 where
-  read : (t : Text) → whole_at standard ts ≡ Ok t → Read ts
+  read : (t : Tree) → whole_at standard ts ≡ Ok t → Read ts
   stuck : (s : Stuck) → whole_at standard ts ≡ Err s → Read ts
 
 reading : (ts : List Token) → Read ts
 reading ts = go (whole_at standard ts) refl
   where
-    go : (r : Result Text Stuck) → whole_at standard ts ≡ r → Read ts
+    go : (r : Result Tree Stuck) → whole_at standard ts ≡ r → Read ts
     go (Ok t) e = read t e
     go (Err s) e = stuck s e
 
@@ -137,7 +138,7 @@ at_token ts before t behind split on never = go (reading ts)
         absurd (never (one_shorter standard before t behind g))
     go (stuck s e) = (s.past, e ∙ ap (λ z. Err z) (stuck_parts s (t ∷ behind) (stops_there ts before t behind s split on never e)))
 
-end_answer : (bytes : List ℕ) (o : Option ℕ) (p : Bool) → answer_of bytes o (Err (record { past = p; rest = [] })) ≡ Err (fault_of bytes o p [])
+end_answer : (bytes : List ℕ) (o : Option ℕ) (p : Bool) → answer_of bytes o (Err (record { past = p; rest = [] })) ≡ Err (stop_fault bytes o p [])
 end_answer bytes None p = refl
 end_answer bytes (Some line) p = refl
 
@@ -212,7 +213,7 @@ one_fault bytes line other what another f g = go (sized bytes)
         (ap line_of same, ap kind_of same)
     go (inr long) = let a = long_fault bytes long f in let b = long_fault bytes long g in (a.0 ∙ sym b.0, a.1 ∙ sym b.1)
 
-pub text_has_none : (bytes : List ℕ) (t : Text) (line : ℕ) (what : What) → IsWorkloadText bytes t → IsFirstFault bytes line what → ⊥
+pub text_has_none : (bytes : List ℕ) (t : Tree) (line : ℕ) (what : What) → IsWorkloadText bytes t → IsFirstFault bytes line what → ⊥
 text_has_none bytes t line what w f =
     let s = scan bytes in
     ok-err t (errors.At line what) (sym (answer_only bytes s.tokens s.broken t s.is w) ∙ fault_answered bytes s.tokens s.broken s.is w.size f)
@@ -222,7 +223,7 @@ one_spelling bytes some others p q =
     let s = scan bytes in
     (text_tokens bytes s.tokens s.broken s.is some p).1 ∙ sym (text_tokens bytes s.tokens s.broken s.is others q).1
 
-pub one_tree : (bytes : List ℕ) (t u : Text) → IsWorkloadText bytes t → IsWorkloadText bytes u → t ≡ u
+pub one_tree : (bytes : List ℕ) (t u : Tree) → IsWorkloadText bytes t → IsWorkloadText bytes u → t ≡ u
 one_tree bytes t u w v =
     let s = scan bytes in
     ok_same t u (sym (answer_only bytes s.tokens s.broken t s.is w) ∙ answer_only bytes s.tokens s.broken u s.is v)
@@ -235,30 +236,30 @@ is_at (errors.At line what) = true
 at_some : (line : ℕ) (what : What) → errors.At line what ≡ errors.NoMemory → ⊥
 at_some line what e = let b : true ≡ false = ap is_at e in absurd cc
 
-fault_some : (bytes : List ℕ) (o : Option ℕ) (p : Bool) (rest : List Token) → fault_of bytes o p rest ≡ errors.NoMemory → ⊥
+fault_some : (bytes : List ℕ) (o : Option ℕ) (p : Bool) (rest : List Token) → stop_fault bytes o p rest ≡ errors.NoMemory → ⊥
 fault_some bytes None p [] e = at_some _ _ e
 fault_some bytes (Some line) p [] e = at_some _ _ e
 fault_some bytes None p (t ∷ ts) e = at_some _ _ e
 fault_some bytes (Some line) p (t ∷ ts) e = at_some _ _ e
 
 -- bytes are a text, or have a fault
-pub text_or_fault : (bytes : List ℕ) → ((t : Text) × IsWorkloadText bytes t) ⊎ ((line : ℕ) × (what : What) × IsFirstFault bytes line what)
+pub text_or_fault : (bytes : List ℕ) → ((t : Tree) × IsWorkloadText bytes t) ⊎ ((line : ℕ) × (what : What) × IsFirstFault bytes line what)
 text_or_fault bytes = go (sized bytes)
   where
-    told : (e : LangError) → (e ≡ errors.NoMemory → ⊥) → IsFaultOf bytes e → (line : ℕ) × (what : What) × IsFirstFault bytes line what
+    told : (e : LangError) → (e ≡ errors.NoMemory → ⊥) → TellsFirstFault bytes e → (line : ℕ) × (what : What) × IsFirstFault bytes line what
     told errors.NoMemory n f = absurd (n refl)
     told (errors.At line what) n f = (line, what, f)
 
-    no_memory : (o : Option ℕ) (r : Result Text Stuck) (e : LangError) → answer_of bytes o r ≡ Err e → e ≡ errors.NoMemory → ⊥
+    no_memory : (o : Option ℕ) (r : Result Tree Stuck) (e : LangError) → answer_of bytes o r ≡ Err e → e ≡ errors.NoMemory → ⊥
     no_memory None (Ok t) e a n = ok-err t e a
     no_memory (Some line) (Ok t) e a n = at_some line whats.Word (err_same (errors.At line whats.Word) e a ∙ n)
-    no_memory None (Err s) e a n = fault_some bytes None s.past s.rest (err_same (fault_of bytes None s.past s.rest) e a ∙ n)
-    no_memory (Some line) (Err s) e a n = fault_some bytes (Some line) s.past s.rest (err_same (fault_of bytes (Some line) s.past s.rest) e a ∙ n)
+    no_memory None (Err s) e a n = fault_some bytes None s.past s.rest (err_same (stop_fault bytes None s.past s.rest) e a ∙ n)
+    no_memory (Some line) (Err s) e a n = fault_some bytes (Some line) s.past s.rest (err_same (stop_fault bytes (Some line) s.past s.rest) e a ∙ n)
 
-    go : (length bytes ≤ text_limit) ⊎ (text_limit < length bytes) → ((t : Text) × IsWorkloadText bytes t) ⊎ ((line : ℕ) × (what : What) × IsFirstFault bytes line what)
+    go : (length bytes ≤ text_limit) ⊎ (text_limit < length bytes) → ((t : Tree) × IsWorkloadText bytes t) ⊎ ((line : ℕ) × (what : What) × IsFirstFault bytes line what)
     go (inr long) = inr (1, whats.Limit, too_long long)
     go (inl size) = let s = scan bytes in answered s (answer_of bytes s.broken (whole_at standard s.tokens)) refl
       where
-        answered : (s : Scan bytes) (a : Result Text LangError) → answer_of bytes s.broken (whole_at standard s.tokens) ≡ a → ((t : Text) × IsWorkloadText bytes t) ⊎ ((line : ℕ) × (what : What) × IsFirstFault bytes line what)
+        answered : (s : Scan bytes) (a : Result Tree LangError) → answer_of bytes s.broken (whole_at standard s.tokens) ≡ a → ((t : Tree) × IsWorkloadText bytes t) ⊎ ((line : ℕ) × (what : What) × IsFirstFault bytes line what)
         answered s (Ok t) e = inl (t, answer_text bytes s.tokens s.broken (whole_at standard s.tokens) t size s.is refl e)
         answered s (Err x) e = inr (told x (no_memory s.broken (whole_at standard s.tokens) x e) (answer_fault bytes s.tokens s.broken (whole_at standard s.tokens) x size s.is refl e))

@@ -1,7 +1,7 @@
 -- Which bytes are a workload text within the limits, and the first fault of those that are none: docs/LANGUAGE.md, "Faults".
 use Rattle.std.specs.Prelude.{ℕ, ◌-◌, ◌^◌, ◌<◌, ◌≤◌, Bool, false, ◌==◌, IsTrue, IsFalse, List, [], ◌∷◌, ◌++◌, length, take}
 use Rattle.std.specs.List.{fold}
-use Rattle.roc_lang.specs.Syntax.{Text}
+use Rattle.roc_lang.specs.Syntax.{Tree}
 use Rattle.roc_lang.specs.Tokens as tokens
 use Rattle.roc_lang.specs.Tokens.{Kind, IsTokens, line_after}
 use Rattle.roc_lang.specs.Grammar.{Limits, standard, IsText, text_limit}
@@ -10,7 +10,7 @@ use Rattle.roc_lang.specs.declared.fault.What.TheVariants.{Word, Token, Limit, E
 use Rattle.roc_parse.specs.Lexed.{IsLexed, IsBroken}
 
 -- the bytes are a text of this tree, within the limits
-pub record IsWorkloadText (bytes : List ℕ) (t : Text) : Type 0 where
+pub record IsWorkloadText (bytes : List ℕ) (t : Tree) : Type 0 where
   pub size : length bytes ≤ text_limit
   pub tokens : List tokens.Token
   pub spelt : IsTokens 1 bytes tokens
@@ -19,7 +19,7 @@ pub record IsWorkloadText (bytes : List ℕ) (t : Text) : Type 0 where
 -- some text of the grammar within these limits begins with these tokens
 pub record GoesOn (limits : Limits) (before : List tokens.Token) : Type 0 where
   pub more : List tokens.Token
-  pub tree : Text
+  pub tree : Tree
   pub is : IsText limits (before ++ more) tree
 
 -- the integer that is a token, but that the grammar takes behind a - alone
@@ -48,4 +48,4 @@ pub data IsFirstFault (bytes : List ℕ) : (line : ℕ) → What → Type 0 wher
   beyond : {after : ℕ} {rest : List ℕ} {before : List tokens.Token} (t : tokens.Token) (behind : List tokens.Token) → length bytes ≤ text_limit → IsLexed 1 bytes (before ++ t ∷ behind) after rest → GoesOn standard before
       → (GoesOn standard (before ++ t ∷ []) → ⊥) → (limits : Limits) → GoesOn limits (before ++ t ∷ []) → IsFirstFault bytes t.line Limit
   -- the text stops where more must come
-  stops : {all : List tokens.Token} → length bytes ≤ text_limit → IsTokens 1 bytes all → GoesOn standard all → ((t : Text) → IsText standard all t → ⊥) → IsFirstFault bytes (last_line bytes) End
+  stops : {all : List tokens.Token} → length bytes ≤ text_limit → IsTokens 1 bytes all → GoesOn standard all → ((t : Tree) → IsText standard all t → ⊥) → IsFirstFault bytes (last_line bytes) End

@@ -1,46 +1,74 @@
 //! Tables, init lines, and the whole of a text.
 
-ghost use Rattle.std.specs.Prelude.{◌≡◌, map};
+ghost use Rattle.std.specs.Prelude.{◌≡◌, ◌-◌, map};
 ghost use Rattle.roc_lang.specs.Grammar.{standard};
-ghost use Rattle.roc_lang.specs.Tree.{table_tree, init_tree, tree};
-ghost use Rattle.roc_parse.specs.Views.{Gives, views};
-ghost use Rattle.roc_parse.specs.Reading.{table_at, row_at, init_at, front_at, end_at, tables_at, inits_at, text_at, whole_at};
+ghost use Rattle.roc_lang.specs.Tree.{table_tree, init_tree};
+ghost use Rattle.roc_parse.specs.Inner.Views.{ReadsAs, token_views, parts_tree};
+ghost use Rattle.roc_parse.specs.Inner.Parts.{signed_at, behind_comma_at, separated_behind, separated_at, some_at};
+ghost use Rattle.roc_parse.specs.Inner.Reading.{said_arity_at, arity_at, table_at, row_at, init_at, front_at, end_at, tables_at, inits_at, text_at, whole_at};
 
 use crate::procedure::{names_of, procedures_of};
 use crate::refusal::{Refusal, limit_fault, token_fault};
-use crate::terminal::{begins_word, mark, name_of, shards_of, signed_of, word};
+use crate::statement::MORE_IDS;
+use crate::terminal::{
+    begins_mark, begins_word, bounded_of, mark, mark_line, name_of, shards_of, signed_of, word,
+};
 use crate::token::Token;
-use roc_lang::{Init, Source, Table};
+use roc_lang::limits::{ARITY, COLUMNS, INITS, LEAST_ARITY, TABLES};
+use roc_lang::{Init, Procedure, Source, Table};
 use std::alloc::Global;
 
 /// How many columns a table may have behind the first.
-const MORE_COLUMNS: u32 = 15;
+const MORE_COLUMNS: u32 = COLUMNS - 1;
 
-/// How many tables a text may have.
-const TABLE_LIMIT: u32 = 64;
+/// How many integers an id of a table has, and the opening brace behind it.
+#[tactic(auto, unfolding(crate::specs::Inner::Reading::said_arity_at))]
+fn said_arity_of(tokens: &[Token]) -> Result<(u64, &[Token]), Refusal<'_>>
+    ensures { ReadsAs (λ x. (x.0, token_views x.1.now)) result (said_arity_at standard (token_views tokens.now)) }
+{
+    let rest = mark(tokens, b'[')?;
+    let (arity, rest) = bounded_of(LEAST_ARITY, ARITY, rest)?;
+    let rest = mark(rest, b']')?;
+    let rest = mark(rest, b'{')?;
+    Ok((arity, rest))
+}
 
-/// How many init lines a text may have.
-const INIT_LIMIT: u32 = 4_096;
+/// The same, or the brace alone: then it is one.
+#[tactic(auto, unfolding(crate::specs::Inner::Reading::arity_at))]
+fn arity_of(tokens: &[Token]) -> Result<(u64, &[Token]), Refusal<'_>>
+    ensures { ReadsAs (λ x. (x.0, token_views x.1.now)) result (arity_at standard (token_views tokens.now)) }
+{
+    if begins_mark(tokens, b'[') {
+        return said_arity_of(tokens);
+    }
+    let rest = mark(tokens, b'{')?;
+    Ok((1, rest))
+}
 
-#[tactic(auto, unfolding(crate::specs::Reading::table_at))]
+#[tactic(auto, unfolding(crate::specs::Inner::Reading::table_at))]
 fn table_of(alloc: Global, tokens: &[Token]) -> Result<(Table, &[Token]), Refusal<'_>>
-    ensures { Gives (λ x. (table_tree x.0, views x.1.now)) result (table_at standard (views tokens.now)) }
+    ensures { ReadsAs (λ x. (table_tree x.0, token_views x.1.now)) result (table_at standard (token_views tokens.now)) }
 {
     let rest = word(tokens, "table")?;
     let (name, rest) = name_of(alloc, rest)?;
-    let rest = mark(rest, b'{')?;
+    let (arity, rest) = arity_of(rest)?;
     let (columns, rest) = names_of(alloc, MORE_COLUMNS, rest)?;
     let rest = mark(rest, b'}')?;
-    Ok((Table { name, columns }, rest))
+    let table = Table {
+        name,
+        arity,
+        columns,
+    };
+    Ok((table, rest))
 }
 
 /// As many tables as come.
 fn tables_of(alloc: Global, tokens: &[Token]) -> Result<(Vec<Table>, &[Token]), Refusal<'_>>
-    ensures { Gives (λ x. (map table_tree x.0.items, views x.1.now)) result (tables_at standard (views tokens.now)) }
+    ensures { ReadsAs (λ x. (map table_tree x.0.items, token_views x.1.now)) result (tables_at standard (token_views tokens.now)) }
 {
     let mut tables = Vec::new(alloc);
     let mut rest = tokens;
-    for _ in 0..TABLE_LIMIT {
+    for _ in 0..TABLES {
         if !begins_word(rest, "table") {
             return Ok((tables, rest));
         }
@@ -54,26 +82,76 @@ fn tables_of(alloc: Global, tokens: &[Token]) -> Result<(Vec<Table>, &[Token]), 
     Ok((tables, rest))
 }
 
-/// The place and the id of a row.
-#[tactic(auto, unfolding(crate::specs::Reading::row_at))]
-fn row_of(tokens: &[Token]) -> Result<((i64, i64), &[Token]), Refusal<'_>>
-    ensures { Gives (λ x. (x.0, views x.1.now)) result (row_at (views tokens.now)) }
+/// A comma and an integer behind it.
+#[tactic(auto, unfolding(crate::specs::Inner::Parts::behind_comma_at))]
+fn next_signed_of(tokens: &[Token]) -> Result<(i64, &[Token]), Refusal<'_>>
+    ensures { ReadsAs (λ x. (x.0, token_views x.1.now)) result (behind_comma_at signed_at (token_views tokens.now)) }
+{
+    let rest = mark(tokens, b',')?;
+    signed_of(rest)
+}
+
+/// An integer that was read, and those of the id behind it.
+fn signed_behind(
+    alloc: Global,
+    first: i64,
+    tokens: &[Token],
+) -> Result<(Vec<i64>, &[Token]), Refusal<'_>>
+    ensures { ReadsAs (λ x. (x.0.items, token_views x.1.now)) result (separated_behind signed_at first (standard.ids - 1) (token_views tokens.now)) }
+{
+    let mut integers = vec![in alloc; first]?;
+    let mut rest = tokens;
+    for _ in 0..MORE_IDS {
+        if !begins_mark(rest, b',') {
+            return Ok((integers, rest));
+        }
+        let (integer, after) = next_signed_of(rest)?;
+        integers.push(integer)?;
+        rest = after;
+    }
+    if begins_mark(rest, b',') {
+        return Err(limit_fault(rest));
+    }
+    Ok((integers, rest))
+}
+
+/// The integers of an id.
+#[tactic(auto, unfolding(crate::specs::Inner::Parts::some_at))]
+fn id_of(alloc: Global, tokens: &[Token]) -> Result<(Vec<i64>, &[Token]), Refusal<'_>>
+    ensures { ReadsAs (λ x. (x.0.items, token_views x.1.now)) result (separated_at signed_at (standard.ids - 1) (token_views tokens.now)) }
+{
+    let (first, rest) = signed_of(tokens)?;
+    signed_behind(alloc, first, rest)
+}
+
+/// Where a row stands in its table.
+#[derive(Debug, Drop)]
+struct Row {
+    place: i64,
+    id: Vec<i64>,
+    /// The line of the bracket behind the id.
+    line: u32,
+}
+
+#[tactic(auto, unfolding(crate::specs::Inner::Reading::row_at))]
+fn row_of(alloc: Global, tokens: &[Token]) -> Result<(Row, &[Token]), Refusal<'_>>
+    ensures { ReadsAs (λ x. ((x.0.place, x.0.id.items, x.0.line), token_views x.1.now)) result (row_at standard (token_views tokens.now)) }
 {
     let rest = mark(tokens, b'[')?;
     let (place, rest) = signed_of(rest)?;
     let rest = mark(rest, b',')?;
-    let (id, rest) = signed_of(rest)?;
-    let rest = mark(rest, b']')?;
-    Ok(((place, id), rest))
+    let (id, rest) = id_of(alloc, rest)?;
+    let (line, rest) = mark_line(rest, b']')?;
+    Ok((Row { place, id, line }, rest))
 }
 
-#[tactic(auto, unfolding(crate::specs::Reading::init_at))]
+#[tactic(auto, unfolding(crate::specs::Inner::Reading::init_at))]
 fn init_of(alloc: Global, tokens: &[Token]) -> Result<(Init, &[Token]), Refusal<'_>>
-    ensures { Gives (λ x. (init_tree x.0, views x.1.now)) result (init_at (views tokens.now)) }
+    ensures { ReadsAs (λ x. (init_tree x.0, token_views x.1.now)) result (init_at standard (token_views tokens.now)) }
 {
     let rest = word(tokens, "init")?;
     let (table, rest) = name_of(alloc, rest)?;
-    let ((place, id), rest) = row_of(rest)?;
+    let (row, rest) = row_of(alloc, rest)?;
     let rest = mark(rest, b'.')?;
     let (column, rest) = name_of(alloc, rest)?;
     let rest = mark(rest, b'=')?;
@@ -81,8 +159,9 @@ fn init_of(alloc: Global, tokens: &[Token]) -> Result<(Init, &[Token]), Refusal<
     let rest = mark(rest, b';')?;
     let init = Init {
         table,
-        place,
-        id,
+        place: row.place,
+        id: row.id,
+        id_line: row.line,
         column,
         value,
     };
@@ -91,11 +170,11 @@ fn init_of(alloc: Global, tokens: &[Token]) -> Result<(Init, &[Token]), Refusal<
 
 /// As many init lines as come.
 fn inits_of(alloc: Global, tokens: &[Token]) -> Result<(Vec<Init>, &[Token]), Refusal<'_>>
-    ensures { Gives (λ x. (map init_tree x.0.items, views x.1.now)) result (inits_at standard (views tokens.now)) }
+    ensures { ReadsAs (λ x. (map init_tree x.0.items, token_views x.1.now)) result (inits_at standard (token_views tokens.now)) }
 {
     let mut inits = Vec::new(alloc);
     let mut rest = tokens;
-    for _ in 0..INIT_LIMIT {
+    for _ in 0..INITS {
         if !begins_word(rest, "init") {
             return Ok((inits, rest));
         }
@@ -110,9 +189,9 @@ fn inits_of(alloc: Global, tokens: &[Token]) -> Result<(Vec<Init>, &[Token]), Re
 }
 
 /// The number of shards, and its line.
-#[tactic(auto, unfolding(crate::specs::Reading::front_at))]
+#[tactic(auto, unfolding(crate::specs::Inner::Reading::front_at))]
 fn front_of(tokens: &[Token]) -> Result<((u64, u32), &[Token]), Refusal<'_>>
-    ensures { Gives (λ x. (x.0, views x.1.now)) result (front_at (views tokens.now)) }
+    ensures { ReadsAs (λ x. (x.0, token_views x.1.now)) result (front_at (token_views tokens.now)) }
 {
     let rest = word(tokens, "shards")?;
     let (shards, rest) = shards_of(rest)?;
@@ -121,9 +200,9 @@ fn front_of(tokens: &[Token]) -> Result<((u64, u32), &[Token]), Refusal<'_>>
 }
 
 /// No token is left.
-#[tactic(auto, unfolding(crate::specs::Reading::end_at))]
+#[tactic(auto, unfolding(crate::specs::Inner::Reading::end_at))]
 fn end_of(tokens: &[Token]) -> Result<&[Token], Refusal<'_>>
-    ensures { Gives (λ x. (tt, views x.now)) result (end_at (views tokens.now)) }
+    ensures { ReadsAs (λ x. (tt, token_views x.now)) result (end_at (token_views tokens.now)) }
 {
     if tokens.is_empty() {
         Ok(tokens)
@@ -132,31 +211,47 @@ fn end_of(tokens: &[Token]) -> Result<&[Token], Refusal<'_>>
     }
 }
 
+/// The parts of a text.
+#[derive(Debug, Drop)]
+pub(crate) struct Parts {
+    pub shards: u64,
+    pub shards_line: u32,
+    pub tables: Vec<Table>,
+    pub inits: Vec<Init>,
+    pub procedures: Vec<Procedure>,
+}
+
 /// All of the tokens.
-#[tactic(auto, unfolding(crate::specs::Reading::text_at))]
-fn text_of(alloc: Global, tokens: &[Token]) -> Result<(Source, &[Token]), Refusal<'_>>
-    ensures { Gives (λ x. (tree x.0, views x.1.now)) result (text_at standard (views tokens.now)) }
+#[tactic(auto, unfolding(crate::specs::Inner::Reading::text_at))]
+fn text_of(alloc: Global, tokens: &[Token]) -> Result<(Parts, &[Token]), Refusal<'_>>
+    ensures { ReadsAs (λ x. (parts_tree x.0, token_views x.1.now)) result (text_at standard (token_views tokens.now)) }
 {
     let ((shards, shards_line), rest) = front_of(tokens)?;
     let (tables, rest) = tables_of(alloc, rest)?;
     let (inits, rest) = inits_of(alloc, rest)?;
     let (procedures, rest) = procedures_of(alloc, rest)?;
     let rest = end_of(rest)?;
-    let source = Source {
+    let parts = Parts {
         shards,
         shards_line,
         tables,
         inits,
         procedures,
     };
-    Ok((source, rest))
+    Ok((parts, rest))
 }
 
-/// The tree of all of the tokens.
-#[tactic(auto, unfolding(crate::specs::Reading::whole_at))]
+/// The source of all of the tokens.
+#[tactic(auto, unfolding(crate::specs::Inner::Reading::whole_at))]
 pub(crate) fn whole_of(alloc: Global, tokens: &[Token]) -> Result<Source, Refusal<'_>>
-    ensures { Gives tree result (whole_at standard (views tokens.now)) }
+    ensures { ReadsAs (λ source. source) result (whole_at standard (token_views tokens.now)) }
 {
-    let (source, _) = text_of(alloc, tokens)?;
-    Ok(source)
+    let (parts, _) = text_of(alloc, tokens)?;
+    Ok(Source::new(
+        parts.shards,
+        parts.shards_line,
+        parts.tables,
+        parts.inits,
+        parts.procedures,
+    ))
 }

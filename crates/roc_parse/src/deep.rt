@@ -1,10 +1,11 @@
 //! Expressions with their depths, and what operators and functions make of them.
 
 ghost use Rattle.std.specs.Prelude.{◌≡◌, ◌<◌, IfOk};
+ghost use Rattle.roc_lang.specs.Grammar.{standard};
 ghost use Rattle.roc_lang.specs.Syntax.{Pick};
 ghost use Rattle.roc_lang.specs.Tree.{expression_tree};
-ghost use Rattle.roc_parse.specs.Views.{deep_view, function_word, function_of};
-ghost use Rattle.roc_parse.specs.Reading.{times, plus_or_minus};
+ghost use Rattle.roc_parse.specs.Inner.Views.{deep_view, function_word, function_of};
+ghost use Rattle.roc_parse.specs.Inner.Reading.{times, plus_or_minus};
 
 use roc_lang::Expression;
 use std::alloc::{AllocError, Global};
@@ -67,8 +68,8 @@ pub(crate) fn picked(
 
 /// The product of two expressions.
 pub(crate) fn times(alloc: Global, first: Deep, second: Deep) -> Result<Deep, AllocError>
-    requires first { first.depth < 32 }
-    requires second { second.depth < 32 }
+    requires first { first.depth < standard.depth }
+    requires second { second.depth < standard.depth }
     ensures { IfOk result (λ d. deep_view d ≡ times (deep_view first) (deep_view second)) }
 {
     let depth = first.depth.max(second.depth) + 1;
@@ -85,8 +86,8 @@ pub(crate) fn plus_or_minus(
     is_sum: bool,
     second: Deep,
 ) -> Result<Deep, AllocError>
-    requires first { first.depth < 32 }
-    requires second { second.depth < 32 }
+    requires first { first.depth < standard.depth }
+    requires second { second.depth < standard.depth }
     ensures { IfOk result (λ d. deep_view d ≡ plus_or_minus (deep_view first) (is_sum, deep_view second)) }
 {
     let depth = first.depth.max(second.depth) + 1;

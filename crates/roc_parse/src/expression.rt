@@ -1,10 +1,12 @@
 //! Expressions: each is read within a room, the depth that is left to it.
 
 ghost use Rattle.std.specs.Prelude.{◌≡◌, ◌+◌, ◌-◌, ◌<◌, ◌≤◌, IfOk};
+ghost use Rattle.roc_lang.specs.Grammar.{standard};
 ghost use Rattle.roc_lang.specs.Syntax.{Pick};
 ghost use Rattle.roc_lang.specs.Tree.{expression_tree};
-ghost use Rattle.roc_parse.specs.Views.{Gives, views, deep_view, function_word, function_of};
-ghost use Rattle.roc_parse.specs.Reading.{number_at, variable_at, enclosed_at, next_at, pair_at, function_at, pick_at, atom_at, factor_at, factors_at, times, term_at, signed_term_at, sums_at, plus_or_minus, sum_at, deep_at, expression_at};
+ghost use Rattle.roc_parse.specs.Inner.Views.{ReadsAs, token_views, deep_view, function_word, function_of};
+ghost use Rattle.roc_parse.specs.Inner.Parts.{behind_comma_at};
+ghost use Rattle.roc_parse.specs.Inner.Reading.{number_at, variable_at, enclosed_at, pair_at, function_at, pick_at, atom_at, factor_at, factors_at, times, term_at, signed_term_at, sums_at, plus_or_minus, sum_at, deep_at, expression_at};
 
 use crate::deep::{Deep, Function, applied, picked, plus_or_minus, times, word_of};
 use crate::refusal::{Refusal, limit_fault};
@@ -13,14 +15,12 @@ use crate::terminal::{
 };
 use crate::token::Token;
 use roc_lang::Expression;
+use roc_lang::limits::DEPTH;
 use std::alloc::{AllocError, Global};
 
-/// How deep an expression may be.
-const DEPTH_LIMIT: u32 = 32;
-
-#[tactic(auto, unfolding(crate::specs::Reading::number_at))]
+#[tactic(auto, unfolding(crate::specs::Inner::Reading::number_at))]
 fn number_of(tokens: &[Token]) -> Result<(Deep, &[Token]), Refusal<'_>>
-    ensures read { Gives (λ x. (deep_view x.0, views x.1.now)) result (number_at (views tokens.now)) }
+    ensures read { ReadsAs (λ x. (deep_view x.0, token_views x.1.now)) result (number_at (token_views tokens.now)) }
     ensures depth { IfOk result (λ x. x.0.depth ≡ 1) }
 {
     let (value, rest) = integer_of(tokens)?;
@@ -34,9 +34,9 @@ fn number_of(tokens: &[Token]) -> Result<(Deep, &[Token]), Refusal<'_>>
     ))
 }
 
-#[tactic(auto, unfolding(crate::specs::Reading::variable_at))]
+#[tactic(auto, unfolding(crate::specs::Inner::Reading::variable_at))]
 fn variable_of(alloc: Global, tokens: &[Token]) -> Result<(Deep, &[Token]), Refusal<'_>>
-    ensures read { Gives (λ x. (deep_view x.0, views x.1.now)) result (variable_at (views tokens.now)) }
+    ensures read { ReadsAs (λ x. (deep_view x.0, token_views x.1.now)) result (variable_at (token_views tokens.now)) }
     ensures depth { IfOk result (λ x. x.0.depth ≡ 1) }
 {
     let (name, rest) = name_of(alloc, tokens)?;
@@ -52,11 +52,11 @@ fn variable_of(alloc: Global, tokens: &[Token]) -> Result<(Deep, &[Token]), Refu
 
 /// An expression in parentheses.
 #[cycle(expression)]
-#[tactic(auto, unfolding(crate::specs::Reading::enclosed_at))]
+#[tactic(auto, unfolding(crate::specs::Inner::Reading::enclosed_at))]
 fn enclosed_of(alloc: Global, room: u32, tokens: &[Token]) -> Result<(Deep, &[Token]), Refusal<'_>>
     requires above { 0 < room }
-    requires below { room < 32 }
-    ensures read { Gives (λ x. (deep_view x.0, views x.1.now)) result (enclosed_at (deep_at room) (views tokens.now)) }
+    requires below { room < standard.depth }
+    ensures read { ReadsAs (λ x. (deep_view x.0, token_views x.1.now)) result (enclosed_at (deep_at room) (token_views tokens.now)) }
     ensures deep { IfOk result (λ x. 0 < x.0.depth) }
     ensures fits { IfOk result (λ x. x.0.depth ≤ room + 1) }
 {
@@ -70,11 +70,15 @@ fn enclosed_of(alloc: Global, room: u32, tokens: &[Token]) -> Result<(Deep, &[To
 
 /// A comma and an expression behind it.
 #[cycle(expression)]
-#[tactic(auto, unfolding(crate::specs::Reading::next_at))]
-fn next_of(alloc: Global, room: u32, tokens: &[Token]) -> Result<(Deep, &[Token]), Refusal<'_>>
+#[tactic(auto, unfolding(crate::specs::Inner::Parts::behind_comma_at))]
+fn behind_comma_of(
+    alloc: Global,
+    room: u32,
+    tokens: &[Token],
+) -> Result<(Deep, &[Token]), Refusal<'_>>
     requires above { 0 < room }
-    requires below { room < 32 }
-    ensures read { Gives (λ x. (deep_view x.0, views x.1.now)) result (next_at (deep_at room) (views tokens.now)) }
+    requires below { room < standard.depth }
+    ensures read { ReadsAs (λ x. (deep_view x.0, token_views x.1.now)) result (behind_comma_at (deep_at room) (token_views tokens.now)) }
     ensures deep { IfOk result (λ x. 0 < x.0.depth) }
     ensures fits { IfOk result (λ x. x.0.depth ≤ room) }
 {
@@ -84,20 +88,20 @@ fn next_of(alloc: Global, room: u32, tokens: &[Token]) -> Result<(Deep, &[Token]
 
 /// Two operands in parentheses, and the greater of their depths.
 #[cycle(expression)]
-#[tactic(auto, unfolding(crate::specs::Reading::pair_at))]
+#[tactic(auto, unfolding(crate::specs::Inner::Reading::pair_at))]
 fn pair_of(
     alloc: Global,
     room: u32,
     tokens: &[Token],
 ) -> Result<((Expression, Expression, u32), &[Token]), Refusal<'_>>
     requires above { 0 < room }
-    requires below { room < 32 }
-    ensures read { Gives (λ x. ((expression_tree x.0.0, expression_tree x.0.1, x.0.2), views x.1.now)) result (pair_at (deep_at room) (views tokens.now)) }
+    requires below { room < standard.depth }
+    ensures read { ReadsAs (λ x. ((expression_tree x.0.0, expression_tree x.0.1, x.0.2), token_views x.1.now)) result (pair_at (deep_at room) (token_views tokens.now)) }
     ensures fits { IfOk result (λ x. x.0.2 ≤ room) }
 {
     let rest = mark(tokens, b'(')?;
     let (first, rest) = deep_of(alloc, room, rest)?;
-    let (second, rest) = next_of(alloc, room, rest)?;
+    let (second, rest) = behind_comma_of(alloc, room, rest)?;
     let rest = mark(rest, b')')?;
     let depth = first.depth.max(second.depth);
     Ok(((first.expression, second.expression, depth), rest))
@@ -105,7 +109,7 @@ fn pair_of(
 
 /// `min`, `max` or `less`, and its operands.
 #[cycle(expression)]
-#[tactic(auto, unfolding(crate::specs::Reading::function_at))]
+#[tactic(auto, unfolding(crate::specs::Inner::Reading::function_at))]
 fn call_of(
     alloc: Global,
     function: Function,
@@ -113,8 +117,8 @@ fn call_of(
     tokens: &[Token],
 ) -> Result<(Deep, &[Token]), Refusal<'_>>
     requires above { 0 < room }
-    requires below { room < 32 }
-    ensures read { Gives (λ x. (deep_view x.0, views x.1.now)) result (function_at (function_word function) (function_of function) (deep_at room) (views tokens.now)) }
+    requires below { room < standard.depth }
+    ensures read { ReadsAs (λ x. (deep_view x.0, token_views x.1.now)) result (function_at (function_word function) (function_of function) (deep_at room) (token_views tokens.now)) }
     ensures deep { IfOk result (λ x. 0 < x.0.depth) }
     ensures fits { IfOk result (λ x. x.0.depth ≤ room + 1) }
 {
@@ -127,19 +131,19 @@ fn call_of(
 
 /// `pick` and its operands.
 #[cycle(expression)]
-#[tactic(auto, unfolding(crate::specs::Reading::pick_at))]
+#[tactic(auto, unfolding(crate::specs::Inner::Reading::pick_at))]
 fn pick_of(alloc: Global, room: u32, tokens: &[Token]) -> Result<(Deep, &[Token]), Refusal<'_>>
     requires above { 0 < room }
-    requires below { room < 32 }
-    ensures read { Gives (λ x. (deep_view x.0, views x.1.now)) result (pick_at (deep_at room) (views tokens.now)) }
+    requires below { room < standard.depth }
+    ensures read { ReadsAs (λ x. (deep_view x.0, token_views x.1.now)) result (pick_at (deep_at room) (token_views tokens.now)) }
     ensures deep { IfOk result (λ x. 0 < x.0.depth) }
     ensures fits { IfOk result (λ x. x.0.depth ≤ room + 1) }
 {
     let rest = word(tokens, "pick")?;
     let rest = mark(rest, b'(')?;
     let (chooser, rest) = deep_of(alloc, room, rest)?;
-    let (first, rest) = next_of(alloc, room, rest)?;
-    let (second, rest) = next_of(alloc, room, rest)?;
+    let (first, rest) = behind_comma_of(alloc, room, rest)?;
+    let (second, rest) = behind_comma_of(alloc, room, rest)?;
     let rest = mark(rest, b')')?;
     let depth = chooser.depth.max(first.depth.max(second.depth)) + 1;
     let expression = picked(
@@ -153,11 +157,11 @@ fn pick_of(alloc: Global, room: u32, tokens: &[Token]) -> Result<(Deep, &[Token]
 
 /// An integer, a name, an expression in parentheses, or a function and its operands.
 #[cycle(expression)]
-#[tactic(auto, unfolding(crate::specs::Reading::atom_with))]
+#[tactic(auto, unfolding(crate::specs::Inner::Reading::atom_with))]
 fn atom_of(alloc: Global, room: u32, tokens: &[Token]) -> Result<(Deep, &[Token]), Refusal<'_>>
     requires above { 0 < room }
-    requires below { room ≤ 32 }
-    ensures read { Gives (λ x. (deep_view x.0, views x.1.now)) result (atom_at room (views tokens.now)) }
+    requires below { room ≤ standard.depth }
+    ensures read { ReadsAs (λ x. (deep_view x.0, token_views x.1.now)) result (atom_at room (token_views tokens.now)) }
     ensures deep { IfOk result (λ x. 0 < x.0.depth) }
     ensures fits { IfOk result (λ x. x.0.depth ≤ room) }
 {
@@ -200,11 +204,11 @@ fn atom_of(alloc: Global, room: u32, tokens: &[Token]) -> Result<(Deep, &[Token]
 
 /// A `*` and the atom behind it.
 #[cycle(expression)]
-#[tactic(auto, unfolding(crate::specs::Reading::factor_at))]
+#[tactic(auto, unfolding(crate::specs::Inner::Reading::factor_at))]
 fn factor_of(alloc: Global, room: u32, tokens: &[Token]) -> Result<(Deep, &[Token]), Refusal<'_>>
     requires above { 0 < room }
-    requires below { room ≤ 32 }
-    ensures read { Gives (λ x. (deep_view x.0, views x.1.now)) result (factor_at (atom_at room) (views tokens.now)) }
+    requires below { room ≤ standard.depth }
+    ensures read { ReadsAs (λ x. (deep_view x.0, token_views x.1.now)) result (factor_at (atom_at room) (token_views tokens.now)) }
     ensures deep { IfOk result (λ x. 0 < x.0.depth) }
     ensures fits { IfOk result (λ x. x.0.depth ≤ room) }
 {
@@ -222,8 +226,8 @@ fn factors_of(
 ) -> Result<(Deep, &[Token]), Refusal<'_>>
     requires above { 0 < first.depth }
     requires within { first.depth ≤ room }
-    requires below { room ≤ 32 }
-    ensures read { Gives (λ x. (deep_view x.0, views x.1.now)) result (factors_at (atom_at (room - 1)) room room (deep_view first) (views tokens.now)) }
+    requires below { room ≤ standard.depth }
+    ensures read { ReadsAs (λ x. (deep_view x.0, token_views x.1.now)) result (factors_at (atom_at (room - 1)) room room (deep_view first) (token_views tokens.now)) }
     ensures deep { IfOk result (λ x. 0 < x.0.depth) }
     ensures fits { IfOk result (λ x. x.0.depth ≤ room) }
 {
@@ -248,11 +252,11 @@ fn factors_of(
 
 /// Atoms with `*` between.
 #[cycle(expression)]
-#[tactic(auto, unfolding(crate::specs::Reading::term_with))]
+#[tactic(auto, unfolding(crate::specs::Inner::Reading::term_with))]
 fn term_of(alloc: Global, room: u32, tokens: &[Token]) -> Result<(Deep, &[Token]), Refusal<'_>>
     requires above { 0 < room }
-    requires below { room ≤ 32 }
-    ensures read { Gives (λ x. (deep_view x.0, views x.1.now)) result (term_at room (views tokens.now)) }
+    requires below { room ≤ standard.depth }
+    ensures read { ReadsAs (λ x. (deep_view x.0, token_views x.1.now)) result (term_at room (token_views tokens.now)) }
     ensures deep { IfOk result (λ x. 0 < x.0.depth) }
     ensures fits { IfOk result (λ x. x.0.depth ≤ room) }
 {
@@ -262,15 +266,15 @@ fn term_of(alloc: Global, room: u32, tokens: &[Token]) -> Result<(Deep, &[Token]
 
 /// A `+` or `-`, true for `+`, and the term behind it.
 #[cycle(expression)]
-#[tactic(auto, unfolding(crate::specs::Reading::signed_term_at))]
+#[tactic(auto, unfolding(crate::specs::Inner::Reading::signed_term_at))]
 fn signed_term_of(
     alloc: Global,
     room: u32,
     tokens: &[Token],
 ) -> Result<((bool, Deep), &[Token]), Refusal<'_>>
     requires above { 0 < room }
-    requires below { room ≤ 32 }
-    ensures read { Gives (λ x. ((x.0.0, deep_view x.0.1), views x.1.now)) result (signed_term_at (term_at room) (views tokens.now)) }
+    requires below { room ≤ standard.depth }
+    ensures read { ReadsAs (λ x. ((x.0.0, deep_view x.0.1), token_views x.1.now)) result (signed_term_at (term_at room) (token_views tokens.now)) }
     ensures deep { IfOk result (λ x. 0 < x.0.1.depth) }
     ensures fits { IfOk result (λ x. x.0.1.depth ≤ room) }
 {
@@ -289,8 +293,8 @@ fn sums_of(
 ) -> Result<(Deep, &[Token]), Refusal<'_>>
     requires above { 0 < first.depth }
     requires within { first.depth ≤ room }
-    requires below { room ≤ 32 }
-    ensures read { Gives (λ x. (deep_view x.0, views x.1.now)) result (sums_at (term_at (room - 1)) room room (deep_view first) (views tokens.now)) }
+    requires below { room ≤ standard.depth }
+    ensures read { ReadsAs (λ x. (deep_view x.0, token_views x.1.now)) result (sums_at (term_at (room - 1)) room room (deep_view first) (token_views tokens.now)) }
     ensures deep { IfOk result (λ x. 0 < x.0.depth) }
     ensures fits { IfOk result (λ x. x.0.depth ≤ room) }
 {
@@ -315,11 +319,11 @@ fn sums_of(
 
 /// Terms with `+` and `-` between.
 #[cycle(expression)]
-#[tactic(auto, unfolding(crate::specs::Reading::sum_with))]
+#[tactic(auto, unfolding(crate::specs::Inner::Reading::sum_with))]
 fn sum_of(alloc: Global, room: u32, tokens: &[Token]) -> Result<(Deep, &[Token]), Refusal<'_>>
     requires above { 0 < room }
-    requires below { room ≤ 32 }
-    ensures read { Gives (λ x. (deep_view x.0, views x.1.now)) result (sum_at room (views tokens.now)) }
+    requires below { room ≤ standard.depth }
+    ensures read { ReadsAs (λ x. (deep_view x.0, token_views x.1.now)) result (sum_at room (token_views tokens.now)) }
     ensures deep { IfOk result (λ x. 0 < x.0.depth) }
     ensures fits { IfOk result (λ x. x.0.depth ≤ room) }
 {
@@ -331,8 +335,8 @@ fn sum_of(alloc: Global, room: u32, tokens: &[Token]) -> Result<(Deep, &[Token])
 #[cycle(expression)]
 fn deep_of(alloc: Global, room: u32, tokens: &[Token]) -> Result<(Deep, &[Token]), Refusal<'_>>
     requires above { 0 < room }
-    requires below { room ≤ 32 }
-    ensures read { Gives (λ x. (deep_view x.0, views x.1.now)) result (deep_at room (views tokens.now)) }
+    requires below { room ≤ standard.depth }
+    ensures read { ReadsAs (λ x. (deep_view x.0, token_views x.1.now)) result (deep_at room (token_views tokens.now)) }
     ensures deep { IfOk result (λ x. 0 < x.0.depth) }
     ensures fits { IfOk result (λ x. x.0.depth ≤ room) }
 {
@@ -340,13 +344,13 @@ fn deep_of(alloc: Global, room: u32, tokens: &[Token]) -> Result<(Deep, &[Token]
 }
 
 /// An expression, as deep as any may be.
-#[tactic(auto, unfolding(crate::specs::Reading::expression_at))]
+#[tactic(auto, unfolding(crate::specs::Inner::Reading::expression_at))]
 pub(crate) fn expression_of(
     alloc: Global,
     tokens: &[Token],
 ) -> Result<(Expression, &[Token]), Refusal<'_>>
-    ensures { Gives (λ x. (expression_tree x.0, views x.1.now)) result (expression_at 32 (views tokens.now)) }
+    ensures { ReadsAs (λ x. (expression_tree x.0, token_views x.1.now)) result (expression_at standard.depth (token_views tokens.now)) }
 {
-    let (deep, rest) = deep_of(alloc, DEPTH_LIMIT, tokens)?;
+    let (deep, rest) = deep_of(alloc, DEPTH, tokens)?;
     Ok((deep.expression, rest))
 }

@@ -1,7 +1,7 @@
 //! Laws of texts and their faults. Each is the contract of a function that does nothing.
 
 ghost use Rattle.std.specs.Prelude.{◌≡◌, ◌⊎◌, ℕ, List};
-ghost use Rattle.roc_lang.specs.Syntax.{Text};
+ghost use Rattle.roc_lang.specs.Syntax.{Tree};
 ghost use Rattle.roc_lang.specs.Tokens.{Token, IsTokens};
 ghost use Rattle.roc_lang.specs.declared.fault.What.{What};
 ghost use Rattle.roc_parse.specs.Fault.{IsWorkloadText, IsFirstFault};
@@ -13,7 +13,7 @@ pub fn tokens_are_unique()
 
 /// Bytes are a workload text of at most one tree.
 pub fn tree_is_unique()
-    ensures { (bytes : List ℕ) (t u : Text) → IsWorkloadText bytes t → IsWorkloadText bytes u → t ≡ u }
+    ensures { (bytes : List ℕ) (t u : Tree) → IsWorkloadText bytes t → IsWorkloadText bytes u → t ≡ u }
 {}
 
 /// Bytes have at most one first fault.
@@ -23,10 +23,10 @@ pub fn fault_is_unique()
 
 /// A workload text has no fault.
 pub fn text_has_no_fault()
-    ensures { (bytes : List ℕ) (t : Text) (line : ℕ) (what : What) → IsWorkloadText bytes t → IsFirstFault bytes line what → ⊥ }
+    ensures { (bytes : List ℕ) (t : Tree) (line : ℕ) (what : What) → IsWorkloadText bytes t → IsFirstFault bytes line what → ⊥ }
 {}
 
 /// Bytes are a workload text, or have a first fault.
 pub fn text_or_fault()
-    ensures { (bytes : List ℕ) → ((t : Text) × IsWorkloadText bytes t) ⊎ ((line : ℕ) × (what : What) × IsFirstFault bytes line what) }
+    ensures { (bytes : List ℕ) → ((t : Tree) × IsWorkloadText bytes t) ⊎ ((line : ℕ) × (what : What) × IsFirstFault bytes line what) }
 {}

@@ -5,17 +5,12 @@ ghost use Rattle.std.specs.Option.{option_map, option_to_list};
 ghost use Rattle.std.specs.List.{AllByRecursion};
 ghost use Rattle.std.specs.String.{string_bytes};
 ghost use Rattle.roc_lang.specs.Tokens as rules;
-ghost use Rattle.roc_parse.specs.Views.{token_view, views};
-ghost use Rattle.roc_parse.specs.Scanning.{word_run, line_run, value_and, value_from, value_of, word_next, integer_next, comment_next, next_of, step_view, IsScanned};
+ghost use Rattle.roc_parse.specs.Inner.Views.{token_view, token_views};
+ghost use Rattle.roc_parse.specs.Inner.Scanning.{word_run, line_run, value_and, value_from, value_of, word_next, integer_next, comment_next, scanned_step, step_view, IsScanned};
 
-use crate::token::{Kind, Token};
+use crate::token::{GREATEST_INTEGER, Kind, Token};
+use roc_lang::limits::WORD_BYTES;
 use std::alloc::{AllocError, Global};
-
-/// How many bytes a word may have.
-const WORD_LIMIT: usize = 32;
-
-/// The greatest integer, which the grammar takes behind a `-` alone.
-const INTEGER_LIMIT: u64 = 1 << 63;
 
 /// The tokens of a text: all, or those before the first place where none is.
 #[derive(Debug, Drop)]
@@ -27,7 +22,7 @@ pub(crate) struct Lexed {
 
 /// A token, or none for a blank or a comment, and what is behind it.
 #[derive(Debug, Drop)]
-struct Step<'a> {
+struct TokenStep<'a> {
     token: Option<Token>,
     line: u32,
     rest: &'a [u8],
@@ -114,14 +109,14 @@ fn value_and(value: u64, byte: u8) -> Option<u64>
         return None;
     }
     let next = value.checked_mul(10)?.checked_add(u64::from(byte - b'0'))?;
-    if next > INTEGER_LIMIT {
+    if next > GREATEST_INTEGER {
         return None;
     }
     Some(next)
 }
 
 /// The value of an integer, if the bytes are one.
-#[tactic(auto, unfolding(crate::specs::Scanning::value_of))]
+#[tactic(auto, unfolding(crate::specs::Inner::Scanning::value_of))]
 fn value_of(bytes: &[u8]) -> Option<u64>
     ensures { result ≡ value_of bytes.now }
 {
@@ -150,21 +145,21 @@ fn value_from(first: u64, bytes: &[u8]) -> Option<u64>
     Some(value)
 }
 
-#[tactic(auto, unfolding(crate::specs::Scanning::word_next), using(crate::proofs::Steps::run_within, crate::proofs::Steps::run_all))]
-fn word_step(alloc: Global, line: u32, bytes: &[u8]) -> Result<Option<Step<'_>>, AllocError>
+#[tactic(auto, unfolding(crate::specs::Inner::Scanning::word_next), using(crate::proofs::Steps::run_within, crate::proofs::Steps::run_all))]
+fn word_step(alloc: Global, line: u32, bytes: &[u8]) -> Result<Option<TokenStep<'_>>, AllocError>
     ensures { IfOk result (λ s. option_map step_view s ≡ word_next line bytes.now) }
 {
     let (letters, rest) = bytes.split_at(word_run(bytes));
-    if letters.len() > WORD_LIMIT {
+    if letters.len() > WORD_BYTES {
         return Ok(None);
     }
     let kind = Kind::Word(text_of(alloc, letters)?);
     let token = Some(Token { kind, line });
-    Ok(Some(Step { token, line, rest }))
+    Ok(Some(TokenStep { token, line, rest }))
 }
 
-#[tactic(auto, unfolding(crate::specs::Scanning::integer_next), using(crate::proofs::Steps::run_within))]
-fn integer_step(line: u32, bytes: &[u8]) -> Option<Step<'_>>
+#[tactic(auto, unfolding(crate::specs::Inner::Scanning::integer_next), using(crate::proofs::Steps::run_within))]
+fn integer_step(line: u32, bytes: &[u8]) -> Option<TokenStep<'_>>
     ensures { option_map step_view result ≡ integer_next line bytes.now }
 {
     let (digits, rest) = bytes.split_at(word_run(bytes));
@@ -172,32 +167,32 @@ fn integer_step(line: u32, bytes: &[u8]) -> Option<Step<'_>>
         Some(value) => {
             let kind = Kind::Integer(value);
             let token = Some(Token { kind, line });
-            Some(Step { token, line, rest })
+            Some(TokenStep { token, line, rest })
         }
         None => None,
     }
 }
 
 /// What follows a first `/`.
-#[tactic(auto, unfolding(crate::specs::Scanning::comment_next), using(crate::proofs::Steps::line_within))]
-fn comment_step(line: u32, bytes: &[u8]) -> Option<Step<'_>>
+#[tactic(auto, unfolding(crate::specs::Inner::Scanning::comment_next), using(crate::proofs::Steps::line_within))]
+fn comment_step(line: u32, bytes: &[u8]) -> Option<TokenStep<'_>>
     ensures { option_map step_view result ≡ comment_next line bytes.now }
 {
     match bytes.split_first() {
         Some((b'/', others)) => {
             let (_, rest) = others.split_at(line_run(others));
             let token = None;
-            Some(Step { token, line, rest })
+            Some(TokenStep { token, line, rest })
         }
         Some(_) => None,
         None => None,
     }
 }
 
-#[tactic(auto, unfolding(crate::specs::Scanning::next_of))]
-fn step_of(alloc: Global, line: u32, bytes: &[u8]) -> Result<Option<Step<'_>>, AllocError>
+#[tactic(auto, unfolding(crate::specs::Inner::Scanning::scanned_step))]
+fn step_of(alloc: Global, line: u32, bytes: &[u8]) -> Result<Option<TokenStep<'_>>, AllocError>
     requires { line < 2 ^ 31 }
-    ensures { IfOk result (λ s. option_map step_view s ≡ next_of line bytes.now) }
+    ensures { IfOk result (λ s. option_map step_view s ≡ scanned_step line bytes.now) }
 {
     match bytes.split_first() {
         None => Ok(None),
@@ -206,7 +201,7 @@ fn step_of(alloc: Global, line: u32, bytes: &[u8]) -> Result<Option<Step<'_>>, A
             if is_blank(byte) {
                 let token = None;
                 let line = line_after(line, byte);
-                Ok(Some(Step { token, line, rest }))
+                Ok(Some(TokenStep { token, line, rest }))
             } else if byte.is_ascii_alphabetic() {
                 word_step(alloc, line, bytes)
             } else if byte.is_ascii_digit() {
@@ -216,7 +211,7 @@ fn step_of(alloc: Global, line: u32, bytes: &[u8]) -> Result<Option<Step<'_>>, A
             } else if is_mark(byte) {
                 let kind = Kind::Mark(byte);
                 let token = Some(Token { kind, line });
-                Ok(Some(Step { token, line, rest }))
+                Ok(Some(TokenStep { token, line, rest }))
             } else {
                 Ok(None)
             }
@@ -226,7 +221,7 @@ fn step_of(alloc: Global, line: u32, bytes: &[u8]) -> Result<Option<Step<'_>>, A
 
 /// Adds a token, if there is one.
 fn keep(tokens: &mut Vec<Token>, token: Option<Token>) -> Result<(), AllocError>
-    ensures { OnOk result (views tokens.new.items ≡ views tokens.old.items ++ option_to_list (option_map token_view token)) }
+    ensures { OnOk result (token_views tokens.new.items ≡ token_views tokens.old.items ++ option_to_list (option_map token_view token)) }
 {
     match token {
         Some(token) => {
@@ -240,7 +235,7 @@ fn keep(tokens: &mut Vec<Token>, token: Option<Token>) -> Result<(), AllocError>
 /// The tokens of a text.
 pub(crate) fn tokens_of(alloc: Global, text: &[u8]) -> Result<Lexed, AllocError>
     requires { length text.now < 2 ^ 30 }
-    ensures { IfOk result (λ lexed. IsScanned text.now (views lexed.tokens.items) lexed.broken) }
+    ensures { IfOk result (λ lexed. IsScanned text.now (token_views lexed.tokens.items) lexed.broken) }
 {
     let mut tokens = Vec::new(alloc);
     let mut line = 1;

@@ -2,9 +2,9 @@
 //!
 //! The contract of `parse` cites `IsWorkloadText` and `IsFirstFault` of `specs/Fault.antt`. They stand on the definitions
 //! of `roc_lang` (`Tokens`, `Grammar`) and on `specs/Lexed.antt`, which says how far a text has tokens. The layers above
-//! may rely on this: a tree is given exactly where the bytes are a workload text of it within the limits, unless memory
+//! may rely on this: a source is given exactly where the bytes are a workload text of it within the limits, unless memory
 //! runs out, and a fault is the first one from the left, with its kind and its line. Scope is not asked here.
-//! `Stuck`, `Parts`, `Reading`, `Scanning`, `Views` and most of `Answer` are of this crate alone.
+//! `specs/Inner/` is of this crate alone.
 #![tactic(auto)]
 
 mod declaration;

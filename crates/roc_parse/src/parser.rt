@@ -1,23 +1,21 @@
 //! `parse`: from the bytes of a text to its syntax tree, or its first fault.
 
 ghost use Rattle.std.specs.Prelude.{◌≡◌, ◌≤◌, length, IfOk, IfErr};
-ghost use Rattle.roc_lang.specs.Syntax.{Text};
-ghost use Rattle.roc_lang.specs.Grammar.{standard};
-ghost use Rattle.roc_lang.specs.Tree.{tree};
-ghost use Rattle.roc_parse.specs.Views.{kind_view, views};
-ghost use Rattle.roc_parse.specs.Reading.{whole_at};
+ghost use Rattle.roc_lang.specs.Syntax.{Tree};
+ghost use Rattle.roc_lang.specs.Grammar.{standard, text_limit};
+ghost use Rattle.roc_parse.specs.Inner.Views.{kind_view, token_views};
+ghost use Rattle.roc_parse.specs.Inner.Reading.{whole_at};
 ghost use Rattle.roc_parse.specs.Fault.{IsWorkloadText, is_above, last_line};
-ghost use Rattle.roc_parse.specs.Answer.{IsSourceOf, IsFaultOf, what_of, fault_of, answer_of, Tells};
+ghost use Rattle.roc_parse.specs.Inner.Told.{what_of, stop_fault, answer_of, IsAnswer};
+ghost use Rattle.roc_parse.specs.Answer.{IsSourceOf, TellsFirstFault};
 
 use crate::declaration::whole_of;
 use crate::lexer::{Lexed, line_after, tokens_of};
 use crate::refusal::Refusal;
-use crate::token::{Kind, Token};
+use crate::token::{GREATEST_INTEGER, Kind, Token};
+use roc_lang::limits::TEXT_BYTES;
 use roc_lang::{LangError, Source, What};
 use std::alloc::Global;
-
-/// How many bytes a text may have.
-const TEXT_LIMIT: usize = 1_048_576;
 
 /// Whether a token is the integer that the grammar takes behind a `-` alone.
 fn is_above(kind: &Kind) -> bool
@@ -25,7 +23,7 @@ fn is_above(kind: &Kind) -> bool
 {
     match kind {
         Kind::Word(_) => false,
-        Kind::Integer(value) => *value == 1 << 63,
+        Kind::Integer(value) => *value == GREATEST_INTEGER,
         Kind::Mark(_) => false,
     }
 }
@@ -45,7 +43,7 @@ fn what_of(is_limit: bool, kind: &Kind) -> What
 
 /// The line of the last byte.
 fn last_line(text: &[u8]) -> u32
-    requires { length text.now ≤ 1048576 }
+    requires { length text.now ≤ text_limit }
     ensures { result ≡ last_line text.now }
 {
     let front = &text[..text.len().saturating_sub(1)];
@@ -57,9 +55,9 @@ fn last_line(text: &[u8]) -> u32
 }
 
 /// The fault where reading stops before these tokens.
-fn fault_of(text: &[u8], broken: Option<u32>, is_limit: bool, rest: &[Token]) -> LangError
-    requires { length text.now ≤ 1048576 }
-    ensures { result ≡ fault_of text.now broken is_limit (views rest.now) }
+fn stop_fault(text: &[u8], broken: Option<u32>, is_limit: bool, rest: &[Token]) -> LangError
+    requires { length text.now ≤ text_limit }
+    ensures { result ≡ stop_fault text.now broken is_limit (token_views rest.now) }
 {
     match rest.first() {
         Some(token) => {
@@ -83,8 +81,8 @@ fn fault_of(text: &[u8], broken: Option<u32>, is_limit: bool, rest: &[Token]) ->
 
 /// What the tokens of a text give.
 fn answer_of(alloc: Global, text: &[u8], lexed: &Lexed) -> Result<Source, LangError>
-    requires { length text.now ≤ 1048576 }
-    ensures { Tells result (answer_of text.now lexed.now.broken (whole_at standard (views lexed.now.tokens.items))) }
+    requires { length text.now ≤ text_limit }
+    ensures { IsAnswer result (answer_of text.now lexed.now.broken (whole_at standard (token_views lexed.now.tokens.items))) }
 {
     match whole_of(alloc, &lexed.tokens) {
         Ok(source) => match lexed.broken {
@@ -94,7 +92,7 @@ fn answer_of(alloc: Global, text: &[u8], lexed: &Lexed) -> Result<Source, LangEr
                 what: What::Word,
             }),
         },
-        Err(Refusal::At { is_limit, rest }) => Err(fault_of(text, lexed.broken, is_limit, rest)),
+        Err(Refusal::At { is_limit, rest }) => Err(stop_fault(text, lexed.broken, is_limit, rest)),
         Err(Refusal::NoMemory) => Err(LangError::NoMemory),
     }
 }
@@ -105,13 +103,13 @@ fn answer_of(alloc: Global, text: &[u8], lexed: &Lexed) -> Result<Source, LangEr
 /// `NoMemory` leaves nothing behind.
 pub fn parse(alloc: Global, text: &[u8]) -> Result<Source, LangError>
     // What is taken is a workload text of the tree, within the limits.
-    ensures found { IfOk result (λ source. IsWorkloadText text.now (tree source)) }
+    ensures found { IfOk result (λ source. IsWorkloadText text.now source) }
     // Such a text is taken, unless memory runs out.
-    ensures only { (t : Text) → IsWorkloadText text.now t → IsSourceOf t result }
+    ensures only { (t : Tree) → IsWorkloadText text.now t → IsSourceOf t result }
     // A fault is the first one, at its line.
-    ensures fault { IfErr result (IsFaultOf text.now) }
+    ensures fault { IfErr result (TellsFirstFault text.now) }
 {
-    if text.len() > TEXT_LIMIT {
+    if text.len() > TEXT_BYTES {
         return Err(LangError::At {
             line: 1,
             what: What::Limit,

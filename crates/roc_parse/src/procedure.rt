@@ -1,33 +1,31 @@
 //! Names, pieces and procedures, and lists of them.
 
-ghost use Rattle.std.specs.Prelude.{◌≡◌, map};
+ghost use Rattle.std.specs.Prelude.{◌≡◌, ◌-◌, map};
 ghost use Rattle.roc_lang.specs.Grammar.{standard};
 ghost use Rattle.roc_lang.specs.Tree.{name_tree, expression_tree, piece_tree, procedure_tree};
-ghost use Rattle.roc_parse.specs.Views.{Gives, views};
-ghost use Rattle.roc_parse.specs.Parts.{next_name_at, names_behind, names_at, some_at};
-ghost use Rattle.roc_parse.specs.Reading.{names_closed_at, listed_at, arguments_at, head_at, piece_at, pieces_behind, pieces_at, procedure_at, procedures_at};
+ghost use Rattle.roc_parse.specs.Inner.Views.{ReadsAs, token_views};
+ghost use Rattle.roc_parse.specs.Inner.Parts.{name_at, behind_comma_at, separated_behind, separated_at, some_at};
+ghost use Rattle.roc_parse.specs.Inner.Reading.{names_closed_at, names_or_none_at, arguments_at, head_at, piece_at, pieces_behind, some_pieces_at, procedure_at, procedures_at};
 
 use crate::expression::expression_of;
 use crate::refusal::{Refusal, limit_fault};
 use crate::statement::body_of;
 use crate::terminal::{begins_mark, begins_piece, begins_word, class_at, mark, name_of, word};
 use crate::token::Token;
+use roc_lang::limits::{ARGUMENTS, PIECES, PROCEDURES};
 use roc_lang::{Expression, Name, Piece, Procedure};
 use std::alloc::Global;
 
 /// How many arguments a procedure may have behind the first.
-const MORE_ARGUMENTS: u32 = 7;
+const MORE_ARGUMENTS: u32 = ARGUMENTS - 1;
 
 /// How many pieces a procedure may have behind the first.
-const MORE_PIECES: u32 = 15;
-
-/// How many procedures a text may have.
-const PROCEDURE_LIMIT: u32 = 64;
+const MORE_PIECES: u32 = PIECES - 1;
 
 /// A comma and a name behind it.
-#[tactic(auto, unfolding(crate::specs::Parts::next_name_at))]
+#[tactic(auto, unfolding(crate::specs::Inner::Parts::behind_comma_at))]
 fn next_name_of(alloc: Global, tokens: &[Token]) -> Result<(Name, &[Token]), Refusal<'_>>
-    ensures { Gives (λ x. (name_tree x.0, views x.1.now)) result (next_name_at (views tokens.now)) }
+    ensures { ReadsAs (λ x. (name_tree x.0, token_views x.1.now)) result (behind_comma_at name_at (token_views tokens.now)) }
 {
     let rest = mark(tokens, b',')?;
     name_of(alloc, rest)
@@ -40,7 +38,7 @@ fn names_behind(
     more: u32,
     tokens: &[Token],
 ) -> Result<(Vec<Name>, &[Token]), Refusal<'_>>
-    ensures { Gives (λ x. (map name_tree x.0.items, views x.1.now)) result (names_behind (name_tree first) more (views tokens.now)) }
+    ensures { ReadsAs (λ x. (map name_tree x.0.items, token_views x.1.now)) result (separated_behind name_at (name_tree first) more (token_views tokens.now)) }
 {
     let mut names = vec![in alloc; first]?;
     let mut rest = tokens;
@@ -59,22 +57,22 @@ fn names_behind(
 }
 
 /// Names with commas between: one, and so many more.
-#[tactic(auto, unfolding(crate::specs::Parts::some_at))]
+#[tactic(auto, unfolding(crate::specs::Inner::Parts::some_at))]
 pub(crate) fn names_of(
     alloc: Global,
     more: u32,
     tokens: &[Token],
 ) -> Result<(Vec<Name>, &[Token]), Refusal<'_>>
-    ensures { Gives (λ x. (map name_tree x.0.items, views x.1.now)) result (names_at more (views tokens.now)) }
+    ensures { ReadsAs (λ x. (map name_tree x.0.items, token_views x.1.now)) result (separated_at name_at more (token_views tokens.now)) }
 {
     let (first, rest) = name_of(alloc, tokens)?;
     names_behind(alloc, first, more, rest)
 }
 
 /// Names and the closing parenthesis behind them.
-#[tactic(auto, unfolding(crate::specs::Reading::names_closed_at))]
+#[tactic(auto, unfolding(crate::specs::Inner::Reading::names_closed_at))]
 fn names_closed_of(alloc: Global, tokens: &[Token]) -> Result<(Vec<Name>, &[Token]), Refusal<'_>>
-    ensures { Gives (λ x. (map name_tree x.0.items, views x.1.now)) result (names_closed_at 7 (views tokens.now)) }
+    ensures { ReadsAs (λ x. (map name_tree x.0.items, token_views x.1.now)) result (names_closed_at (standard.arguments - 1) (token_views tokens.now)) }
 {
     let (names, rest) = names_of(alloc, MORE_ARGUMENTS, tokens)?;
     let rest = mark(rest, b')')?;
@@ -82,9 +80,9 @@ fn names_closed_of(alloc: Global, tokens: &[Token]) -> Result<(Vec<Name>, &[Toke
 }
 
 /// Names, or none, and the closing parenthesis.
-#[tactic(auto, unfolding(crate::specs::Reading::listed_at))]
+#[tactic(auto, unfolding(crate::specs::Inner::Reading::names_or_none_at))]
 fn listed_of(alloc: Global, tokens: &[Token]) -> Result<(Vec<Name>, &[Token]), Refusal<'_>>
-    ensures { Gives (λ x. (map name_tree x.0.items, views x.1.now)) result (listed_at 7 (views tokens.now)) }
+    ensures { ReadsAs (λ x. (map name_tree x.0.items, token_views x.1.now)) result (names_or_none_at (standard.arguments - 1) (token_views tokens.now)) }
 {
     if begins_mark(tokens, b')') {
         let rest = mark(tokens, b')')?;
@@ -93,9 +91,9 @@ fn listed_of(alloc: Global, tokens: &[Token]) -> Result<(Vec<Name>, &[Token]), R
     names_closed_of(alloc, tokens)
 }
 
-#[tactic(auto, unfolding(crate::specs::Reading::arguments_at))]
+#[tactic(auto, unfolding(crate::specs::Inner::Reading::arguments_at))]
 fn arguments_of(alloc: Global, tokens: &[Token]) -> Result<(Vec<Name>, &[Token]), Refusal<'_>>
-    ensures { Gives (λ x. (map name_tree x.0.items, views x.1.now)) result (arguments_at 7 (views tokens.now)) }
+    ensures { ReadsAs (λ x. (map name_tree x.0.items, token_views x.1.now)) result (arguments_at (standard.arguments - 1) (token_views tokens.now)) }
 {
     let rest = mark(tokens, b'(')?;
     listed_of(alloc, rest)
@@ -109,9 +107,9 @@ struct Head {
     place: Expression,
 }
 
-#[tactic(auto, unfolding(crate::specs::Reading::head_at))]
+#[tactic(auto, unfolding(crate::specs::Inner::Reading::head_at))]
 fn head_of(alloc: Global, tokens: &[Token]) -> Result<(Head, &[Token]), Refusal<'_>>
-    ensures { Gives (λ x. ((x.0.is_now, name_tree x.0.name, expression_tree x.0.place), views x.1.now)) result (head_at 32 (views tokens.now)) }
+    ensures { ReadsAs (λ x. ((x.0.is_now, name_tree x.0.name, expression_tree x.0.place), token_views x.1.now)) result (head_at standard.depth (token_views tokens.now)) }
 {
     let (is_now, rest) = class_at(tokens)?;
     let (name, rest) = name_of(alloc, rest)?;
@@ -127,9 +125,9 @@ fn head_of(alloc: Global, tokens: &[Token]) -> Result<(Head, &[Token]), Refusal<
     ))
 }
 
-#[tactic(auto, unfolding(crate::specs::Reading::piece_at))]
+#[tactic(auto, unfolding(crate::specs::Inner::Reading::piece_at))]
 fn piece_of(alloc: Global, tokens: &[Token]) -> Result<(Piece, &[Token]), Refusal<'_>>
-    ensures { Gives (λ x. (piece_tree x.0, views x.1.now)) result (piece_at standard (views tokens.now)) }
+    ensures { ReadsAs (λ x. (piece_tree x.0, token_views x.1.now)) result (piece_at standard (token_views tokens.now)) }
 {
     let (head, rest) = head_of(alloc, tokens)?;
     let rest = mark(rest, b'{')?;
@@ -150,7 +148,7 @@ fn pieces_behind(
     first: Piece,
     tokens: &[Token],
 ) -> Result<(Vec<Piece>, &[Token]), Refusal<'_>>
-    ensures { Gives (λ x. (map piece_tree x.0.items, views x.1.now)) result (pieces_behind standard (piece_tree first) 15 (views tokens.now)) }
+    ensures { ReadsAs (λ x. (map piece_tree x.0.items, token_views x.1.now)) result (pieces_behind standard (piece_tree first) (standard.pieces - 1) (token_views tokens.now)) }
 {
     let mut pieces = vec![in alloc; first]?;
     let mut rest = tokens;
@@ -169,17 +167,17 @@ fn pieces_behind(
 }
 
 /// One piece or more.
-#[tactic(auto, unfolding(crate::specs::Parts::some_at))]
+#[tactic(auto, unfolding(crate::specs::Inner::Parts::some_at))]
 fn pieces_of(alloc: Global, tokens: &[Token]) -> Result<(Vec<Piece>, &[Token]), Refusal<'_>>
-    ensures { Gives (λ x. (map piece_tree x.0.items, views x.1.now)) result (pieces_at standard 15 (views tokens.now)) }
+    ensures { ReadsAs (λ x. (map piece_tree x.0.items, token_views x.1.now)) result (some_pieces_at standard (standard.pieces - 1) (token_views tokens.now)) }
 {
     let (first, rest) = piece_of(alloc, tokens)?;
     pieces_behind(alloc, first, rest)
 }
 
-#[tactic(auto, unfolding(crate::specs::Reading::procedure_at))]
+#[tactic(auto, unfolding(crate::specs::Inner::Reading::procedure_at))]
 fn procedure_of(alloc: Global, tokens: &[Token]) -> Result<(Procedure, &[Token]), Refusal<'_>>
-    ensures { Gives (λ x. (procedure_tree x.0, views x.1.now)) result (procedure_at standard (views tokens.now)) }
+    ensures { ReadsAs (λ x. (procedure_tree x.0, token_views x.1.now)) result (procedure_at standard (token_views tokens.now)) }
 {
     let rest = word(tokens, "proc")?;
     let (name, rest) = name_of(alloc, rest)?;
@@ -200,11 +198,11 @@ pub(crate) fn procedures_of(
     alloc: Global,
     tokens: &[Token],
 ) -> Result<(Vec<Procedure>, &[Token]), Refusal<'_>>
-    ensures { Gives (λ x. (map procedure_tree x.0.items, views x.1.now)) result (procedures_at standard (views tokens.now)) }
+    ensures { ReadsAs (λ x. (map procedure_tree x.0.items, token_views x.1.now)) result (procedures_at standard (token_views tokens.now)) }
 {
     let mut procedures = Vec::new(alloc);
     let mut rest = tokens;
-    for _ in 0..PROCEDURE_LIMIT {
+    for _ in 0..PROCEDURES {
         if !begins_word(rest, "proc") {
             return Ok((procedures, rest));
         }

@@ -1,36 +1,87 @@
 //! Statements, and lists of them.
 
-ghost use Rattle.std.specs.Prelude.{◌≡◌, map};
-ghost use Rattle.roc_lang.specs.Tree.{access_tree, statement_tree};
-ghost use Rattle.roc_parse.specs.Views.{Gives, views};
-ghost use Rattle.roc_parse.specs.Reading.{access_at, get_at, set_at, out_at, statement_at, body_at};
+ghost use Rattle.std.specs.Prelude.{◌≡◌, ◌-◌, map};
+ghost use Rattle.roc_lang.specs.Grammar.{standard};
+ghost use Rattle.roc_lang.specs.Tree.{expression_tree, access_tree, statement_tree};
+ghost use Rattle.roc_parse.specs.Inner.Views.{ReadsAs, token_views};
+ghost use Rattle.roc_parse.specs.Inner.Parts.{behind_comma_at, separated_behind, some_at};
+ghost use Rattle.roc_parse.specs.Inner.Reading.{expression_at, id_at, access_at, get_at, set_at, out_at, statement_at, body_at};
 
 use crate::expression::expression_of;
 use crate::refusal::{Refusal, limit_fault};
-use crate::terminal::{begins_statement, begins_word, mark, name_of, word};
+use crate::terminal::{begins_mark, begins_statement, begins_word, mark, mark_line, name_of, word};
 use crate::token::Token;
-use roc_lang::{Access, Statement};
+use roc_lang::limits::{IDS, STATEMENTS};
+use roc_lang::{Access, Expression, Statement};
 use std::alloc::Global;
 
-/// How many statements a piece may have.
-const STATEMENT_LIMIT: u32 = 64;
+/// How many integers an id may have behind the first.
+pub(crate) const MORE_IDS: u32 = IDS - 1;
 
-#[tactic(auto, unfolding(crate::specs::Reading::access_at))]
+/// A comma and an integer of an id behind it.
+#[tactic(auto, unfolding(crate::specs::Inner::Parts::behind_comma_at))]
+fn next_integer_of(alloc: Global, tokens: &[Token]) -> Result<(Expression, &[Token]), Refusal<'_>>
+    ensures { ReadsAs (λ x. (expression_tree x.0, token_views x.1.now)) result (behind_comma_at (expression_at standard.depth) (token_views tokens.now)) }
+{
+    let rest = mark(tokens, b',')?;
+    expression_of(alloc, rest)
+}
+
+/// An integer that was read, and those of the id behind it.
+fn integers_behind(
+    alloc: Global,
+    first: Expression,
+    tokens: &[Token],
+) -> Result<(Vec<Expression>, &[Token]), Refusal<'_>>
+    ensures { ReadsAs (λ x. (map expression_tree x.0.items, token_views x.1.now)) result (separated_behind (expression_at standard.depth) (expression_tree first) (standard.ids - 1) (token_views tokens.now)) }
+{
+    let mut integers = vec![in alloc; first]?;
+    let mut rest = tokens;
+    for _ in 0..MORE_IDS {
+        if !begins_mark(rest, b',') {
+            return Ok((integers, rest));
+        }
+        let (integer, after) = next_integer_of(alloc, rest)?;
+        integers.push(integer)?;
+        rest = after;
+    }
+    if begins_mark(rest, b',') {
+        return Err(limit_fault(rest));
+    }
+    Ok((integers, rest))
+}
+
+/// The integers of an id.
+#[tactic(auto, unfolding(crate::specs::Inner::Parts::some_at))]
+fn id_of(alloc: Global, tokens: &[Token]) -> Result<(Vec<Expression>, &[Token]), Refusal<'_>>
+    ensures { ReadsAs (λ x. (map expression_tree x.0.items, token_views x.1.now)) result (id_at standard (token_views tokens.now)) }
+{
+    let (first, rest) = expression_of(alloc, tokens)?;
+    integers_behind(alloc, first, rest)
+}
+
+#[tactic(auto, unfolding(crate::specs::Inner::Reading::access_at))]
 fn access_of(alloc: Global, tokens: &[Token]) -> Result<(Access, &[Token]), Refusal<'_>>
-    ensures { Gives (λ x. (access_tree x.0, views x.1.now)) result (access_at 32 (views tokens.now)) }
+    ensures { ReadsAs (λ x. (access_tree x.0, token_views x.1.now)) result (access_at standard (token_views tokens.now)) }
 {
     let (table, rest) = name_of(alloc, tokens)?;
     let rest = mark(rest, b'[')?;
-    let (id, rest) = expression_of(alloc, rest)?;
-    let rest = mark(rest, b']')?;
+    let (id, rest) = id_of(alloc, rest)?;
+    let (id_line, rest) = mark_line(rest, b']')?;
     let rest = mark(rest, b'.')?;
     let (column, rest) = name_of(alloc, rest)?;
-    Ok((Access { table, id, column }, rest))
+    let access = Access {
+        table,
+        id,
+        id_line,
+        column,
+    };
+    Ok((access, rest))
 }
 
-#[tactic(auto, unfolding(crate::specs::Reading::get_at))]
+#[tactic(auto, unfolding(crate::specs::Inner::Reading::get_at))]
 fn get_of(alloc: Global, tokens: &[Token]) -> Result<(Statement, &[Token]), Refusal<'_>>
-    ensures { Gives (λ x. (statement_tree x.0, views x.1.now)) result (get_at 32 (views tokens.now)) }
+    ensures { ReadsAs (λ x. (statement_tree x.0, token_views x.1.now)) result (get_at standard (token_views tokens.now)) }
 {
     let rest = word(tokens, "get")?;
     let (name, rest) = name_of(alloc, rest)?;
@@ -40,9 +91,9 @@ fn get_of(alloc: Global, tokens: &[Token]) -> Result<(Statement, &[Token]), Refu
     Ok((Statement::Get { name, from }, rest))
 }
 
-#[tactic(auto, unfolding(crate::specs::Reading::set_at))]
+#[tactic(auto, unfolding(crate::specs::Inner::Reading::set_at))]
 fn set_of(alloc: Global, tokens: &[Token]) -> Result<(Statement, &[Token]), Refusal<'_>>
-    ensures { Gives (λ x. (statement_tree x.0, views x.1.now)) result (set_at 32 (views tokens.now)) }
+    ensures { ReadsAs (λ x. (statement_tree x.0, token_views x.1.now)) result (set_at standard (token_views tokens.now)) }
 {
     let rest = word(tokens, "set")?;
     let (to, rest) = access_of(alloc, rest)?;
@@ -52,9 +103,9 @@ fn set_of(alloc: Global, tokens: &[Token]) -> Result<(Statement, &[Token]), Refu
     Ok((Statement::Set { to, value }, rest))
 }
 
-#[tactic(auto, unfolding(crate::specs::Reading::out_at))]
+#[tactic(auto, unfolding(crate::specs::Inner::Reading::out_at))]
 fn out_of(alloc: Global, tokens: &[Token]) -> Result<(Statement, &[Token]), Refusal<'_>>
-    ensures { Gives (λ x. (statement_tree x.0, views x.1.now)) result (out_at 32 (views tokens.now)) }
+    ensures { ReadsAs (λ x. (statement_tree x.0, token_views x.1.now)) result (out_at standard (token_views tokens.now)) }
 {
     let rest = word(tokens, "out")?;
     let (value, rest) = expression_of(alloc, rest)?;
@@ -62,9 +113,9 @@ fn out_of(alloc: Global, tokens: &[Token]) -> Result<(Statement, &[Token]), Refu
     Ok((Statement::Out(value), rest))
 }
 
-#[tactic(auto, unfolding(crate::specs::Reading::statement_at))]
+#[tactic(auto, unfolding(crate::specs::Inner::Reading::statement_at))]
 fn statement_of(alloc: Global, tokens: &[Token]) -> Result<(Statement, &[Token]), Refusal<'_>>
-    ensures { Gives (λ x. (statement_tree x.0, views x.1.now)) result (statement_at 32 (views tokens.now)) }
+    ensures { ReadsAs (λ x. (statement_tree x.0, token_views x.1.now)) result (statement_at standard (token_views tokens.now)) }
 {
     if begins_word(tokens, "get") {
         get_of(alloc, tokens)
@@ -80,11 +131,11 @@ pub(crate) fn body_of(
     alloc: Global,
     tokens: &[Token],
 ) -> Result<(Vec<Statement>, &[Token]), Refusal<'_>>
-    ensures { Gives (λ x. (map statement_tree x.0.items, views x.1.now)) result (body_at 32 64 (views tokens.now)) }
+    ensures { ReadsAs (λ x. (map statement_tree x.0.items, token_views x.1.now)) result (body_at standard (token_views tokens.now)) }
 {
     let mut body = Vec::new(alloc);
     let mut rest = tokens;
-    for _ in 0..STATEMENT_LIMIT {
+    for _ in 0..STATEMENTS {
         if !begins_statement(rest) {
             return Ok((body, rest));
         }

@@ -4,18 +4,18 @@ ghost use Rattle.std.specs.Prelude.{◌≡◌, pos, Some, None};
 ghost use Rattle.std.specs.Option.{option_map};
 ghost use Rattle.roc_lang.specs.Grammar.{is_reserved};
 ghost use Rattle.roc_lang.specs.Tree.{name_tree};
-ghost use Rattle.roc_parse.specs.Stuck.{begins};
-ghost use Rattle.roc_parse.specs.Views.{Gives, kind_view, views};
-ghost use Rattle.roc_parse.specs.Parts.{is_word, is_mark, is_integer, word_at, mark_at, free_word, name_at, small_integer, integer_at, negated, negated_at, signed_at, shards_at, class_of, class_at, sign_of, sign_at};
-ghost use Rattle.roc_parse.specs.Reading.{starts_statement, starts_piece, is_sign};
+ghost use Rattle.roc_parse.specs.Inner.Stuck.{head_is};
+ghost use Rattle.roc_parse.specs.Inner.Views.{ReadsAs, kind_view, token_views};
+ghost use Rattle.roc_parse.specs.Inner.Parts.{has_word, has_mark, has_integer, word_at, mark_at, mark_line_at, free_word, name_at, small_integer, integer_at, bounded_at, negated, negated_at, signed_at, shards_at, piece_class, class_at, sign_of, sign_at};
+ghost use Rattle.roc_parse.specs.Inner.Reading.{starts_statement, starts_piece, is_sign};
 
-use crate::refusal::{Refusal, token_fault};
-use crate::token::{Kind, Token};
+use crate::refusal::{Refusal, limit_fault, token_fault};
+use crate::token::{GREATEST_INTEGER, Kind, Token};
 use roc_lang::Name;
 use std::alloc::Global;
 
-fn is_word(kind: &Kind, word: &str) -> bool
-    ensures { result ≡ is_word word.now (kind_view kind.now) }
+fn has_word(kind: &Kind, word: &str) -> bool
+    ensures { result ≡ has_word word.now (kind_view kind.now) }
 {
     match kind {
         Kind::Word(letters) => letters.as_str() == word,
@@ -24,8 +24,8 @@ fn is_word(kind: &Kind, word: &str) -> bool
     }
 }
 
-fn is_mark(kind: &Kind, mark: u8) -> bool
-    ensures { result ≡ is_mark mark (kind_view kind.now) }
+fn has_mark(kind: &Kind, mark: u8) -> bool
+    ensures { result ≡ has_mark mark (kind_view kind.now) }
 {
     match kind {
         Kind::Word(_) => false,
@@ -36,33 +36,33 @@ fn is_mark(kind: &Kind, mark: u8) -> bool
 
 /// Whether this word comes first.
 pub(crate) fn begins_word(tokens: &[Token], word: &str) -> bool
-    ensures { result ≡ begins (is_word word.now) (views tokens.now) }
+    ensures { result ≡ head_is (has_word word.now) (token_views tokens.now) }
 {
     match tokens.first() {
-        Some(token) => is_word(&token.kind, word),
+        Some(token) => has_word(&token.kind, word),
         None => false,
     }
 }
 
 /// Whether this mark comes first.
 pub(crate) fn begins_mark(tokens: &[Token], mark: u8) -> bool
-    ensures { result ≡ begins (is_mark mark) (views tokens.now) }
+    ensures { result ≡ head_is (has_mark mark) (token_views tokens.now) }
 {
     match tokens.first() {
-        Some(token) => is_mark(&token.kind, mark),
+        Some(token) => has_mark(&token.kind, mark),
         None => false,
     }
 }
 
 /// Whether a statement begins here.
 pub(crate) fn begins_statement(tokens: &[Token]) -> bool
-    ensures { result ≡ begins starts_statement (views tokens.now) }
+    ensures { result ≡ head_is starts_statement (token_views tokens.now) }
 {
     match tokens.first() {
         Some(token) => {
-            is_word(&token.kind, "get")
-                || is_word(&token.kind, "set")
-                || is_word(&token.kind, "out")
+            has_word(&token.kind, "get")
+                || has_word(&token.kind, "set")
+                || has_word(&token.kind, "out")
         }
         None => false,
     }
@@ -70,22 +70,22 @@ pub(crate) fn begins_statement(tokens: &[Token]) -> bool
 
 /// Whether a piece begins here.
 pub(crate) fn begins_piece(tokens: &[Token]) -> bool
-    ensures { result ≡ begins starts_piece (views tokens.now) }
+    ensures { result ≡ head_is starts_piece (token_views tokens.now) }
 {
     match tokens.first() {
-        Some(token) => is_word(&token.kind, "now") || is_word(&token.kind, "later"),
+        Some(token) => has_word(&token.kind, "now") || has_word(&token.kind, "later"),
         None => false,
     }
 }
 
 /// What follows a word of the grammar.
-#[tactic(auto, unfolding(crate::specs::Parts::first_at))]
+#[tactic(auto, unfolding(crate::specs::Inner::Parts::first_at))]
 pub(crate) fn word<'a>(tokens: &'a [Token], word: &str) -> Result<&'a [Token], Refusal<'a>>
-    ensures { Gives (λ x. (tt, views x.now)) result (word_at word.now (views tokens.now)) }
+    ensures { ReadsAs (λ x. (tt, token_views x.now)) result (word_at word.now (token_views tokens.now)) }
 {
     match tokens.split_first() {
         Some((token, rest)) => {
-            if is_word(&token.kind, word) {
+            if has_word(&token.kind, word) {
                 Ok(rest)
             } else {
                 Err(token_fault(tokens))
@@ -96,14 +96,31 @@ pub(crate) fn word<'a>(tokens: &'a [Token], word: &str) -> Result<&'a [Token], R
 }
 
 /// What follows a mark.
-#[tactic(auto, unfolding(crate::specs::Parts::first_at))]
+#[tactic(auto, unfolding(crate::specs::Inner::Parts::first_at))]
 pub(crate) fn mark(tokens: &[Token], mark: u8) -> Result<&[Token], Refusal<'_>>
-    ensures { Gives (λ x. (tt, views x.now)) result (mark_at mark (views tokens.now)) }
+    ensures { ReadsAs (λ x. (tt, token_views x.now)) result (mark_at mark (token_views tokens.now)) }
 {
     match tokens.split_first() {
         Some((token, rest)) => {
-            if is_mark(&token.kind, mark) {
+            if has_mark(&token.kind, mark) {
                 Ok(rest)
+            } else {
+                Err(token_fault(tokens))
+            }
+        }
+        None => Err(token_fault(tokens)),
+    }
+}
+
+/// The line of a mark.
+#[tactic(auto, unfolding(crate::specs::Inner::Parts::first_at))]
+pub(crate) fn mark_line(tokens: &[Token], mark: u8) -> Result<(u32, &[Token]), Refusal<'_>>
+    ensures { ReadsAs (λ x. (x.0, token_views x.1.now)) result (mark_line_at mark (token_views tokens.now)) }
+{
+    match tokens.split_first() {
+        Some((token, rest)) => {
+            if has_mark(&token.kind, mark) {
+                Ok((token.line, rest))
             } else {
                 Err(token_fault(tokens))
             }
@@ -151,9 +168,9 @@ fn free_word(kind: &Kind) -> Option<&str>
     }
 }
 
-#[tactic(auto, unfolding(crate::specs::Parts::first_at))]
+#[tactic(auto, unfolding(crate::specs::Inner::Parts::first_at))]
 pub(crate) fn name_of(alloc: Global, tokens: &[Token]) -> Result<(Name, &[Token]), Refusal<'_>>
-    ensures { Gives (λ x. (name_tree x.0, views x.1.now)) result (name_at (views tokens.now)) }
+    ensures { ReadsAs (λ x. (name_tree x.0, token_views x.1.now)) result (name_at (token_views tokens.now)) }
 {
     match tokens.split_first() {
         Some((token, rest)) => match free_word(&token.kind) {
@@ -170,7 +187,7 @@ pub(crate) fn name_of(alloc: Global, tokens: &[Token]) -> Result<(Name, &[Token]
 
 /// Whether an integer comes first.
 pub(crate) fn begins_integer(tokens: &[Token]) -> bool
-    ensures { result ≡ begins is_integer (views tokens.now) }
+    ensures { result ≡ head_is has_integer (token_views tokens.now) }
 {
     match tokens.first() {
         Some(token) => match &token.kind {
@@ -193,9 +210,9 @@ fn small_integer(kind: &Kind) -> Option<i64>
     }
 }
 
-#[tactic(auto, unfolding(crate::specs::Parts::first_at))]
+#[tactic(auto, unfolding(crate::specs::Inner::Parts::first_at))]
 pub(crate) fn integer_of(tokens: &[Token]) -> Result<(i64, &[Token]), Refusal<'_>>
-    ensures { Gives (λ x. (x.0, views x.1.now)) result (integer_at (views tokens.now)) }
+    ensures { ReadsAs (λ x. (x.0, token_views x.1.now)) result (integer_at (token_views tokens.now)) }
 {
     match tokens.split_first() {
         Some((token, rest)) => match small_integer(&token.kind) {
@@ -217,9 +234,9 @@ fn negated(kind: &Kind) -> Option<i64>
     }
 }
 
-#[tactic(auto, unfolding(crate::specs::Parts::first_at))]
+#[tactic(auto, unfolding(crate::specs::Inner::Parts::first_at))]
 fn negated_of(tokens: &[Token]) -> Result<(i64, &[Token]), Refusal<'_>>
-    ensures { Gives (λ x. (x.0, views x.1.now)) result (negated_at (views tokens.now)) }
+    ensures { ReadsAs (λ x. (x.0, token_views x.1.now)) result (negated_at (token_views tokens.now)) }
 {
     match tokens.split_first() {
         Some((token, rest)) => match negated(&token.kind) {
@@ -231,9 +248,9 @@ fn negated_of(tokens: &[Token]) -> Result<(i64, &[Token]), Refusal<'_>>
 }
 
 /// An integer, or a `-` and an integer.
-#[tactic(auto, unfolding(crate::specs::Parts::signed_at))]
+#[tactic(auto, unfolding(crate::specs::Inner::Parts::signed_at))]
 pub(crate) fn signed_of(tokens: &[Token]) -> Result<(i64, &[Token]), Refusal<'_>>
-    ensures { Gives (λ x. (x.0, views x.1.now)) result (signed_at (views tokens.now)) }
+    ensures { ReadsAs (λ x. (x.0, token_views x.1.now)) result (signed_at (token_views tokens.now)) }
 {
     if begins_mark(tokens, b'-') {
         let rest = mark(tokens, b'-')?;
@@ -248,15 +265,45 @@ fn small_value(kind: &Kind) -> Option<u64>
 {
     match kind {
         Kind::Word(_) => None,
-        Kind::Integer(value) => { if *value < 1 << 63 { Some(*value) } else { None } }
+        Kind::Integer(value) => {
+            if *value < GREATEST_INTEGER {
+                Some(*value)
+            } else {
+                None
+            }
+        }
         Kind::Mark(_) => None,
     }
 }
 
+/// An integer within bounds.
+#[tactic(auto, unfolding(crate::specs::Inner::Parts::bounded_at))]
+pub(crate) fn bounded_of(
+    least: u64,
+    most: u64,
+    tokens: &[Token],
+) -> Result<(u64, &[Token]), Refusal<'_>>
+    ensures { ReadsAs (λ x. (x.0, token_views x.1.now)) result (bounded_at least most (token_views tokens.now)) }
+{
+    match tokens.split_first() {
+        Some((token, rest)) => match small_value(&token.kind) {
+            Some(value) => {
+                if least <= value && value <= most {
+                    Ok((value, rest))
+                } else {
+                    Err(limit_fault(tokens))
+                }
+            }
+            None => Err(token_fault(tokens)),
+        },
+        None => Err(token_fault(tokens)),
+    }
+}
+
 /// The number of shards, and its line.
-#[tactic(auto, unfolding(crate::specs::Parts::first_at))]
+#[tactic(auto, unfolding(crate::specs::Inner::Parts::first_at))]
 pub(crate) fn shards_of(tokens: &[Token]) -> Result<((u64, u32), &[Token]), Refusal<'_>>
-    ensures { Gives (λ x. (x.0, views x.1.now)) result (shards_at (views tokens.now)) }
+    ensures { ReadsAs (λ x. (x.0, token_views x.1.now)) result (shards_at (token_views tokens.now)) }
 {
     match tokens.split_first() {
         Some((token, rest)) => match small_value(&token.kind) {
@@ -268,24 +315,24 @@ pub(crate) fn shards_of(tokens: &[Token]) -> Result<((u64, u32), &[Token]), Refu
 }
 
 /// Whether a word declares a piece `now`, and not `later`.
-fn class_of(kind: &Kind) -> Option<bool>
-    ensures { result ≡ class_of (kind_view kind.now) }
+fn piece_class(kind: &Kind) -> Option<bool>
+    ensures { result ≡ piece_class (kind_view kind.now) }
 {
-    if is_word(kind, "now") {
+    if has_word(kind, "now") {
         Some(true)
-    } else if is_word(kind, "later") {
+    } else if has_word(kind, "later") {
         Some(false)
     } else {
         None
     }
 }
 
-#[tactic(auto, unfolding(crate::specs::Parts::first_at))]
+#[tactic(auto, unfolding(crate::specs::Inner::Parts::first_at))]
 pub(crate) fn class_at(tokens: &[Token]) -> Result<(bool, &[Token]), Refusal<'_>>
-    ensures { Gives (λ x. (x.0, views x.1.now)) result (class_at (views tokens.now)) }
+    ensures { ReadsAs (λ x. (x.0, token_views x.1.now)) result (class_at (token_views tokens.now)) }
 {
     match tokens.split_first() {
-        Some((token, rest)) => match class_of(&token.kind) {
+        Some((token, rest)) => match piece_class(&token.kind) {
             Some(is_now) => Ok((is_now, rest)),
             None => Err(token_fault(tokens)),
         },
@@ -297,9 +344,9 @@ pub(crate) fn class_at(tokens: &[Token]) -> Result<(bool, &[Token]), Refusal<'_>
 fn sign_of(kind: &Kind) -> Option<bool>
     ensures { result ≡ sign_of (kind_view kind.now) }
 {
-    if is_mark(kind, b'+') {
+    if has_mark(kind, b'+') {
         Some(true)
-    } else if is_mark(kind, b'-') {
+    } else if has_mark(kind, b'-') {
         Some(false)
     } else {
         None
@@ -308,17 +355,17 @@ fn sign_of(kind: &Kind) -> Option<bool>
 
 /// Whether `+` or `-` comes first.
 pub(crate) fn begins_sign(tokens: &[Token]) -> bool
-    ensures { result ≡ begins is_sign (views tokens.now) }
+    ensures { result ≡ head_is is_sign (token_views tokens.now) }
 {
     match tokens.first() {
-        Some(token) => is_mark(&token.kind, b'+') || is_mark(&token.kind, b'-'),
+        Some(token) => has_mark(&token.kind, b'+') || has_mark(&token.kind, b'-'),
         None => false,
     }
 }
 
-#[tactic(auto, unfolding(crate::specs::Parts::first_at))]
+#[tactic(auto, unfolding(crate::specs::Inner::Parts::first_at))]
 pub(crate) fn sign_at(tokens: &[Token]) -> Result<(bool, &[Token]), Refusal<'_>>
-    ensures { Gives (λ x. (x.0, views x.1.now)) result (sign_at (views tokens.now)) }
+    ensures { ReadsAs (λ x. (x.0, token_views x.1.now)) result (sign_at (token_views tokens.now)) }
 {
     match tokens.split_first() {
         Some((token, rest)) => match sign_of(&token.kind) {

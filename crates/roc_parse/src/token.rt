@@ -1,5 +1,8 @@
 //! The tokens of a text.
 
+/// The greatest integer, which the grammar takes behind a `-` alone.
+pub(crate) const GREATEST_INTEGER: u64 = 1 << 63;
+
 #[derive(Debug, Drop)]
 pub(crate) enum Kind {
     /// A letter, then letters, digits and `_`: a name or a word of the grammar.

@@ -1,8 +1,10 @@
 -- The test of a program that has a plan
 use Rattle.std.proofs.Common.{◌≡◌, Bool, true, false, not, ◌&&◌, List, [], ◌∷◌, length, refl, ap, ◌∙◌, arith}
 use Rattle.std.specs.List.{AllByRecursion, list_all}
-use Rattle.roc_plan.specs.Program.{Piece, Procedure, Workload}
-use Rattle.roc_plan.specs.WellFormed.{IsProgram, IsDeferred, IsThinShaped, IsThinProgram, is_later_alone}
+use Rattle.roc_program.specs.Program.{Piece, Procedure, Workload}
+use Rattle.roc_program.specs.WellFormed.{IsProgram}
+use Rattle.roc_plan.specs.Within.{IsDeferred, IsThinShaped, IsThinProgram}
+use Rattle.roc_plan.specs.Inner.Thin.{is_later_alone}
 
 not_true : (b : Bool) → not b ≡ true → b ≡ false
 not_true true e = cc

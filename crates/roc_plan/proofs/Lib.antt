@@ -1,11 +1,4 @@
-pub mod Rows
-pub mod Firsts
 pub mod Single
-pub mod Bindings
-pub mod Counts
-pub mod Limited
-pub mod Scoped
-pub mod Formed
 pub mod Outlined
 pub mod Deferred
-pub mod Collisions
+pub mod Rows

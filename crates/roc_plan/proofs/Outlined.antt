@@ -2,16 +2,22 @@
 use Rattle.std.proofs.Common.{◌≡◌, ◌∙◌, ℕ, zero, suc, ◌+◌, ◌<◌, ◌≤◌, List, [], ◌∷◌, ◌++◌, length, map, cond, if◌then◌else◌, count_by, Option, Some, None, is_some, get_or, slice_get, refl, sym, ap, subst, arith, add-zero, append-nil}
 use Rattle.std.proofs.lemmas.List.Recursion.{is_count_by}
 use Rattle.std.specs.List.{AllByRecursion, range_with_len, filter_map, cons_option}
-use Rattle.roc_plan.specs.declared.workload.Statement.{Statement}
+use Rattle.roc_lang.specs.Grammar.{standard}
+use Rattle.roc_program.specs.LookUps.{no_piece, no_procedure}
+use Rattle.roc_program.specs.Names.{binding, output}
+use Rattle.roc_program.specs.Parts as view
+use Rattle.roc_program.specs.Program.{Table, Piece, Procedure, Workload}
+use Rattle.roc_program.specs.WellFormed.{known_behind, ArePieces, IsProcedure}
+use Rattle.roc_program.specs.declared.parts.Statement.{Statement}
+use Rattle.roc_program.proofs.Rows.{row_same}
+use Rattle.roc_sequence.proofs.Holds.{all_at}
+use Rattle.roc_sequence.proofs.Ranges.{range_more}
 use Rattle.roc_plan.specs.declared.outline.Outline.{Outline}
 use Rattle.roc_plan.specs.declared.group.Class.TheVariants.{Immediate, Deferrable}
-use Rattle.roc_plan.specs.Program.{Table, Piece, Procedure, Workload}
-use Rattle.roc_plan.specs.Workload as view
-use Rattle.roc_plan.specs.Names.{binding, output, bindings}
-use Rattle.roc_plan.specs.Groups.{Plan, no_piece, no_procedure, no_group, bound_in, inputs_in, source_in, places_in, outs_in}
-use Rattle.roc_plan.specs.WellFormed.{ArePieces, IsProcedure, IsDeferred, IsSinglePiece, IsThinProgram, thin_group, IsThin}
-use Rattle.roc_plan.specs.Outlines.{is_get, is_out, group, IsOutline, IsSingle, AreSingles}
-use Rattle.roc_plan.proofs.Rows.{row_same, at_place}
+use Rattle.roc_plan.specs.Groups.{Plan, no_group, bound_in, inputs_in, source_in, places_in, outs_in}
+use Rattle.roc_plan.specs.Within.{IsDeferred, IsThinProgram, thin_group, IsWithin}
+use Rattle.roc_plan.specs.Inner.Outlines.{is_get, is_out, group, IsOutline, IsSingle, AreSingles}
+use Rattle.roc_plan.specs.Inner.Thin.{IsSinglePiece}
 use Rattle.roc_plan.proofs.Single.{inputs_in-one}
 
 -- ---- counts
@@ -24,19 +30,6 @@ count_is h f xs = is_count_by (λ xs. length (filter_map h (map f xs))) (λ x. i
     step (Some z) rest = omega arith
 
 -- ---- ranges
-
-range_more : (a n : ℕ) → range_with_len a (suc n) ≡ range_with_len a n ++ (a + n) ∷ []
-range_more a zero = rw add-zero
-range_more a (suc n) =
-    let same : a + 1 + n ≡ a + suc n = omega arith in
-    ap (λ xs. a ∷ xs) (rw (← same) (range_more (a + 1) n))
-
--- one more number
-pub range_next : (n : ℕ) → range_with_len 0 (n + 1) ≡ range_with_len 0 n ++ n ∷ []
-range_next n =
-    let more : n + 1 ≡ suc n = omega arith in
-    let last : 0 + n ≡ n = omega arith in
-    ap (range_with_len 0) more ∙ range_more 0 n ∙ ap (λ k. range_with_len 0 n ++ k ∷ []) last
 
 -- ---- one group
 
@@ -86,16 +79,25 @@ singles_at (q ∷ ps) ((n ∷ []) ∷ rows) zero (suc j) o all at = cc
 singles_at (q ∷ ps) ((n ∷ []) ∷ rows) (suc i) j o all at = let there : IsAt ps i j o = singles_at ps rows i j o all.1 at in record { within = omega (arith, there.within); first = there.first; single = there.single }
 singles_at (q ∷ ps) ((n ∷ m ∷ row) ∷ rows) i j o all at = absurd all
 
+-- as many rows as procedures, each of one group
+pub singles_counted : (ps : List Procedure) (rows : List (List Outline)) → AreSingles ps rows → (length rows ≡ length ps) × AllByRecursion (λ row. length row ≡ 1) rows
+singles_counted [] [] all = (refl, tt)
+singles_counted [] (row ∷ rows) all = absurd all
+singles_counted (q ∷ ps) [] all = absurd all
+singles_counted (q ∷ ps) ([] ∷ rows) all = absurd all
+singles_counted (q ∷ ps) ((n ∷ []) ∷ rows) all = let rest = singles_counted ps rows all.1 in (omega (arith, rest.0), (refl, rest.1))
+singles_counted (q ∷ ps) ((n ∷ m ∷ row) ∷ rows) all = absurd all
+
 -- ---- the plan
 
-few_statements : (tables : List Table) (known : ℕ) (pieces : List Piece) → ArePieces tables known pieces → AllByRecursion (λ piece. length piece.body ≤ 64) pieces
+few_statements : (tables : List Table) (known : List ℕ) (pieces : List Piece) → ArePieces tables known pieces → AllByRecursion (λ piece. length piece.body ≤ standard.statements) pieces
 few_statements tables known [] all = tt
-few_statements tables known (piece ∷ rest) all = (all.0.statements, few_statements tables (known + length (bindings (piece ∷ []))) rest all.1)
+few_statements tables known (piece ∷ rest) all = (all.0.statements, few_statements tables (known_behind known piece) rest all.1)
 
 single_each : (tables : List Table) (ps : List Procedure) → AllByRecursion (IsProcedure tables) ps → AllByRecursion IsDeferred ps → AllByRecursion IsSinglePiece ps
 single_each tables [] formed deferred = tt
 single_each tables (p ∷ ps) formed deferred =
-    (record { one_piece = deferred.0.one_piece; statements = few_statements tables p.arguments p.pieces formed.0.pieces }, single_each tables ps formed.1 deferred.1)
+    (record { one_piece = deferred.0.one_piece; statements = few_statements tables (range_with_len 0 p.arguments) p.pieces formed.0.pieces }, single_each tables ps formed.1 deferred.1)
 
 pub single_pieces : (program : Workload) → IsThinProgram program → AllByRecursion IsSinglePiece program.procedures
 single_pieces program thin = single_each program.tables program.procedures thin.well_formed.procedures thin.deferred
@@ -104,7 +106,7 @@ single_pieces program thin = single_each program.tables program.procedures thin.
 abbrev pub rows_plan : Workload → List (List Outline) → Plan
 rows_plan program rows = record { program = program; groups = map (map group) rows }
 
-pub rows_thin : (program : Workload) (rows : List (List Outline)) → IsThinProgram program → AreSingles program.procedures rows → IsThin (rows_plan program rows)
+pub rows_thin : (program : Workload) (rows : List (List Outline)) → IsThinProgram program → AreSingles program.procedures rows → IsWithin (rows_plan program rows)
 rows_thin program rows thin singles = record { program = thin; groups = singles_thin program.procedures rows singles }
 
 -- what is kept of each group is what the plan says of it
@@ -112,7 +114,7 @@ pub rows_outlined : (program : Workload) (rows : List (List Outline)) → IsThin
 rows_outlined program rows thin singles proc g o here =
     let at = singles_at program.procedures rows proc g o singles here in
     let procedure = get_or program.procedures proc no_procedure in
-    let one : length procedure.pieces ≡ 1 = (at_place IsDeferred program.procedures proc no_procedure thin.deferred at.within).one_piece in
+    let one : length procedure.pieces ≡ 1 = (all_at IsDeferred program.procedures proc no_procedure thin.deferred at.within).one_piece in
     let groups : get_or (map (map group) rows) proc [] ≡ thin_group ∷ [] =
     ap (λ gs. get_or gs proc []) (singles_thin program.procedures rows singles) ∙ row_same (thin_group ∷ []) program.procedures proc [] at.within in
     let thin_here : get_or (get_or (map (map group) rows) proc []) g no_group ≡ thin_group =

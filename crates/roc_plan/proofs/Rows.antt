@@ -1,77 +1,61 @@
--- Rows of a table that is kept as a list of lists
-use Rattle.std.proofs.Common.{◌≡◌, ℕ, zero, suc, ◌<◌, List, [], ◌∷◌, length, map, Some, slice_get, get_or, refl, arith, subst, sym}
-use Rattle.std.specs.List.{AllByRecursion}
-use Rattle.std.proofs.lemmas.List.{length-map}
-use Rattle.std.proofs.lemmas.Option.{slice_get_read}
+-- The rows of groups that a plan keeps
+use Rattle.std.proofs.Common.{◌≡◌, ◌∙◌, ℕ, zero, suc, ◌≤◌, Bool, true, false, not, List, [], ◌∷◌, length, map, Some, get_or, slice_get, refl, ap, arith}
+use Rattle.std.proofs.lemmas.Bool.{eqb-true, and_parts}
+use Rattle.std.specs.List.{AllByRecursion, list_all}
+use Rattle.roc_program.specs.Program.{Procedure}
+use Rattle.roc_plan.specs.Groups.{Group}
+use Rattle.roc_plan.specs.Within.{thin_group}
+use Rattle.roc_plan.specs.Inner.Thin.{is_first_alone, is_thin_group, is_thin_row}
 
--- a read of a row and of an element of it
-pub row_read : {X Y : Type 0} (f : Y → List X) (rows : List Y) (i j : ℕ) (row : Y) (x : X) → j < length (get_or (map f rows) i []) → row ≡ get_or rows i row → x ≡ get_or (f row) j x → slice_get (get_or (map f rows) i []) j ≡ Some x
-row_read f [] i j row x has is at = absurd (omega arith)
-row_read {X} {Y} f (r ∷ rows) zero j row x has is at =
-    let P : Y → Type 0 = λ y. x ≡ get_or (f y) j x in slice_get_read (f r) (length (f r)) j x refl has (subst P is at)
-row_read f (r ∷ rows) (suc i) j row x has is at = row_read f rows i j row x has is at
+-- the element of a table whose elements are changed
+pub row_element : {X Y Z : Type 0} (f : Y → List X) (g : X → Z) (rows : List Y) (i j : ℕ) (x : X) (d : Z) → slice_get (get_or (map f rows) i []) j ≡ Some x → get_or (get_or (map (λ r. map g (f r)) rows) i []) j d ≡ g x
+row_element f g [] i j x d at = cc
+row_element f g (r ∷ rows) zero j x d at = element g (f r) j x d at
+  where
+    element : {X Z : Type 0} (g : X → Z) (xs : List X) (j : ℕ) (x : X) (d : Z) → slice_get xs j ≡ Some x → get_or (map g xs) j d ≡ g x
+    element g [] j x d at = cc
+    element g (y ∷ ys) zero x d at = cc
+    element g (y ∷ ys) (suc j) x d at = element g ys j x d at
+row_element f g (r ∷ rows) (suc i) j x d at = row_element f g rows i j x d at
 
--- a row is as long after its elements are changed
-pub row_length : {X Y Z : Type 0} (f : Y → List X) (g : X → Z) (rows : List Y) (i : ℕ) → length (get_or (map (λ r. map g (f r)) rows) i []) ≡ length (get_or (map f rows) i [])
-row_length f g [] i = refl
-row_length f g (r ∷ rows) zero = length-map (f r) g
-row_length f g (r ∷ rows) (suc i) = row_length f g rows i
+-- ---- rows of the one thin group
 
--- of a list that has the same at each place
-pub row_same : {X Y : Type 0} (row : X) (ys : List Y) (i : ℕ) (d : X) → i < length ys → get_or (map (λ _. row) ys) i d ≡ row
-row_same row [] i d h = absurd (omega arith)
-row_same row (y ∷ ys) zero d h = refl
-row_same row (y ∷ ys) (suc i) d h = row_same row ys i d (omega arith)
+first_alone : (pieces : List ℕ) → is_first_alone pieces ≡ true → pieces ≡ 0 ∷ []
+first_alone [] e = cc
+first_alone (k ∷ []) e = ap (λ n. n ∷ []) (eqb-true k 0 e)
+first_alone (k ∷ l ∷ rest) e = cc
 
--- the rows of a table all of whose rows are the same
-pub each_row : {X Y Z P : Type 0} (f : Y → List X) (g : X → Z) (row : List Z) (rows : List Y) (ps : List P) (i : ℕ) (y : Y)
-    → map (λ r. map g (f r)) rows ≡ map (λ _. row) ps → i < length rows → y ≡ get_or rows i y → map g (f y) ≡ row
-each_row f g row [] ps i y e has is = absurd (omega arith)
-each_row f g row (r ∷ rows) [] i y e has is = cc
-each_row {X} {Y} {Z} f g row (r ∷ rows) (p ∷ ps) zero y e has is =
-    let P : Y → Type 0 = λ x. map g (f x) ≡ row in subst P (sym is) cc
-each_row f g row (r ∷ rows) (p ∷ ps) (suc i) y e has is = each_row f g row rows ps i y (cc) (omega arith) is
+not_true : (b : Bool) → not b ≡ true → b ≡ false
+not_true true e = cc
+not_true false e = refl
 
--- two lists that lead to one are equally long
-pub same_count : {X Y Z : Type 0} (f : X → Z) (g : Y → Z) (xs : List X) (ys : List Y) → map f xs ≡ map g ys → length xs ≡ length ys
-same_count f g [] [] e = refl
-same_count f g [] (y ∷ ys) e = cc
-same_count f g (x ∷ xs) [] e = cc
-same_count f g (x ∷ xs) (y ∷ ys) e = let rest : length xs ≡ length ys = same_count f g xs ys (cc) in cc
+thin_group_from : (g : Group) → is_thin_group g ≡ true → g ≡ thin_group
+thin_group_from g e =
+    let parts = and_parts (not g.is_immediate) (is_first_alone g.pieces) e in
+    let with_class : Bool → Group = λ b. record { pieces = g.pieces; is_immediate = b } in
+    let with_pieces : List ℕ → Group = λ ks. record { pieces = ks; is_immediate = false } in
+    ap with_class (not_true g.is_immediate parts.0) ∙ ap with_pieces (first_alone g.pieces parts.1)
 
--- a list that leads to a list of one has one element
-pub count_one : {X Z : Type 0} (g : X → Z) (xs : List X) (z : Z) → map g xs ≡ z ∷ [] → length xs ≡ 1
-count_one g [] z e = cc
-count_one g (x ∷ []) z e = refl
-count_one g (x ∷ y ∷ ys) z e = cc
+thin_row_from : (row : List Group) → is_thin_row row ≡ true → row ≡ thin_group ∷ []
+thin_row_from [] e = cc
+thin_row_from (g ∷ []) e = ap (λ h. h ∷ []) (thin_group_from g e)
+thin_row_from (g ∷ h ∷ rest) e = cc
 
--- an element that was read, where the list's elements are changed
-pub read-map : {X Y : Type 0} (f : X → Y) (xs : List X) (i : ℕ) (x : X) (d : Y) → i < length xs → x ≡ get_or xs i x → get_or (map f xs) i d ≡ f x
-read-map f [] i x d within is = absurd (omega arith)
-read-map {X} {Y} f (y ∷ ys) zero x d within is = cc
-read-map f (y ∷ ys) (suc i) x d within is = read-map f ys i x d (omega arith) is
+pub thin_rows_from : (rows : List (List Group)) (ps : List Procedure) → length rows ≡ length ps → list_all is_thin_row rows ≡ true → rows ≡ map (λ _. thin_group ∷ []) ps
+thin_rows_from [] [] count e = refl
+thin_rows_from [] (p ∷ ps) count e = absurd (omega arith)
+thin_rows_from (row ∷ rows) [] count e = absurd (omega arith)
+thin_rows_from (row ∷ rows) (p ∷ ps) count e =
+    let parts = and_parts (is_thin_row row) (list_all is_thin_row rows) e in
+    let first : row ≡ thin_group ∷ [] = thin_row_from row parts.0 in
+    let rest : rows ≡ map (λ _. thin_group ∷ []) ps = thin_rows_from rows ps (omega arith) parts.1 in
+    cc
 
--- the element of a table each of whose rows is of this one
-pub each_same : {X P : Type 0} (x : X) (ps : List P) (i j : ℕ) (d : X) → j < length (get_or (map (λ _. x ∷ []) ps) i []) → get_or (get_or (map (λ _. x ∷ []) ps) i []) j d ≡ x
-each_same x [] i j d within = absurd (omega arith)
-each_same x (p ∷ ps) zero zero d within = refl
-each_same x (p ∷ ps) zero (suc j) d within = absurd (omega arith)
-each_same x (p ∷ ps) (suc i) j d within = each_same x ps i j d within
+pub thin_rows_pass : (ps : List Procedure) → list_all is_thin_row (map (λ _. thin_group ∷ []) ps) ≡ true
+thin_rows_pass [] = refl
+thin_rows_pass (p ∷ ps) = thin_rows_pass ps
 
--- what holds of each element holds of the one at a place
-pub at_place : {X : Type 0} (P : X → Type 0) (xs : List X) (i : ℕ) (d : X) → AllByRecursion P xs → i < length xs → P (get_or xs i d)
-at_place P [] i d all within = absurd (omega arith)
-at_place P (x ∷ xs) zero d all within = all.0
-at_place P (x ∷ xs) (suc i) d all within = at_place P xs i d all.1 (omega arith)
-
--- a row that has an element is there
-pub row_there : {X P : Type 0} (x : X) (ps : List P) (i j : ℕ) → j < length (get_or (map (λ _. x ∷ []) ps) i []) → i < length ps
-row_there x [] i j within = absurd (omega arith)
-row_there x (p ∷ ps) zero j within = omega arith
-row_there x (p ∷ ps) (suc i) j within = let inner : i < length ps = row_there x ps i j within in omega arith
-
--- what holds of each changed element holds of the one that was read
-pub all_read : {X Y : Type 0} (P : Y → Type 0) (f : X → Y) (xs : List X) (i : ℕ) (x : X) → AllByRecursion P (map f xs) → i < length xs → x ≡ get_or xs i x → P (f x)
-all_read P f [] i x all within is = absurd (omega arith)
-all_read {X} P f (y ∷ ys) zero x all within is = let Q : X → Type 0 = λ x. P (f x) in subst Q (sym is) all.0
-all_read P f (y ∷ ys) (suc i) x all within is = all_read P f ys i x all.1 (omega arith) is
+-- what holds of a row at a place
+pub row_few : {Y X : Type 0} (f : Y → List X) (n : ℕ) (rows : List Y) → AllByRecursion (λ row. length row ≡ 1) (map f rows) → 1 ≤ n → AllByRecursion (λ row. length (f row) ≤ n) rows
+row_few f n [] all some = tt
+row_few f n (r ∷ rows) all some = (omega (arith, all.0), row_few f n rows all.1 some)

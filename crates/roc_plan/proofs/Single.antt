@@ -2,13 +2,15 @@
 use Rattle.std.proofs.Common.{◌≡◌, ◌∙◌, ℕ, zero, suc, ◌-◌, ◌<◌, Bool, true, false, not, ◌&&◌, ◌||◌, ◌==◌, ℤ, pos, List, [], ◌∷◌, ◌++◌, length, filter, get_or, replicate, cond, refl, sym, subst, arith, append_assoc}
 use Rattle.std.proofs.lemmas.Bool.{eq-eqb}
 use Rattle.std.specs.List.{list_any}
-use Rattle.roc_plan.specs.Program.{Procedure, Piece}
-use Rattle.roc_plan.specs.Names.{piece_uses, bindings, is_among}
-use Rattle.roc_plan.specs.Values.{Environment, value_of_name, value}
-use Rattle.roc_plan.specs.ValueLaws.{value_same}
-use Rattle.roc_plan.specs.Groups.{Group, Plan, no_piece, no_group, no_procedure, inputs_in, with_arguments, place_in, procedure_of, groups_of, group_of, place_of}
-use Rattle.roc_plan.specs.WellFormed.{thin_group, IsDeferred, IsThin}
-use Rattle.roc_plan.proofs.Rows.{row_there, each_same, at_place}
+use Rattle.roc_program.specs.Program.{Procedure, Piece}
+use Rattle.roc_program.specs.LookUps.{no_piece, no_procedure}
+use Rattle.roc_program.specs.Names.{piece_uses, bindings, has_name}
+use Rattle.roc_program.specs.Values.{Environment, value_of_name, with_arguments, value}
+use Rattle.roc_program.proofs.Rows.{row_there, each_same}
+use Rattle.roc_sequence.proofs.Holds.{all_at}
+use Rattle.roc_program.proofs.ValueLaws.{value_same}
+use Rattle.roc_plan.specs.Groups.{Group, Plan, no_group, inputs_in, place_in, procedure_of, groups_of, group_of, group_place}
+use Rattle.roc_plan.specs.Within.{thin_group, IsDeferred, IsWithin}
 
 -- ---- no inputs
 
@@ -16,7 +18,7 @@ or_true : (b : Bool) → (b || true) ≡ true
 or_true true = refl
 or_true false = refl
 
-among_later : (front xs : List ℕ) (x : ℕ) → is_among (front ++ x ∷ xs) x ≡ true
+among_later : (front xs : List ℕ) (x : ℕ) → has_name (front ++ x ∷ xs) x ≡ true
 among_later [] xs x = rw (eq-eqb x x refl)
 among_later (y ∷ ys) xs x = rw (among_later ys xs x) (or_true (y == x))
 
@@ -26,11 +28,11 @@ skipped false true x rest e f = f
 skipped used false x rest e f = cc
 
 -- none of these is missing among them
-none_missing : (used : ℕ → Bool) (all front xs : List ℕ) → all ≡ front ++ xs → filter (λ n. used n && not (is_among all n)) xs ≡ []
+none_missing : (used : ℕ → Bool) (all front xs : List ℕ) → all ≡ front ++ xs → filter (λ n. used n && not (has_name all n)) xs ≡ []
 none_missing used all front [] e = refl
 none_missing used all front (x ∷ xs) e =
-    let here : is_among all x ≡ true = rw e (among_later front xs x) in
-    skipped (used x) (is_among all x) x (filter (λ n. used n && not (is_among all n)) xs) here
+    let here : has_name all x ≡ true = rw e (among_later front xs x) in
+    skipped (used x) (has_name all x) x (filter (λ n. used n && not (has_name all n)) xs) here
     (none_missing used all (front ++ x ∷ []) xs (e ∙ sym (append_assoc front (x ∷ []) xs)))
 
 pub inputs_in-one : (procedure : Procedure) → length procedure.pieces ≡ 1 → inputs_in procedure (0 ∷ []) ≡ []
@@ -58,20 +60,20 @@ place_in-one procedure arguments inputs one =
 
 -- ---- thin plans
 
-pub group_of-thin : (plan : Plan) (proc group : ℕ) → IsThin plan → group < length (groups_of plan proc) → group_of plan proc group ≡ thin_group
+pub group_of-thin : (plan : Plan) (proc group : ℕ) → IsWithin plan → group < length (groups_of plan proc) → group_of plan proc group ≡ thin_group
 group_of-thin plan proc group thin within =
     let P : List (List Group) → Type 0 = λ groups. group < length (get_or groups proc []) → get_or (get_or groups proc []) group no_group ≡ thin_group in
     subst P (sym thin.groups) (each_same thin_group plan.program.procedures proc group no_group) within
 
-pub procedure_within : (plan : Plan) (proc group : ℕ) → IsThin plan → group < length (groups_of plan proc) → proc < length plan.program.procedures
+pub procedure_within : (plan : Plan) (proc group : ℕ) → IsWithin plan → group < length (groups_of plan proc) → proc < length plan.program.procedures
 procedure_within plan proc group thin within =
     let P : List (List Group) → Type 0 = λ groups. group < length (get_or groups proc []) → proc < length plan.program.procedures in
     subst P (sym thin.groups) (row_there thin_group plan.program.procedures proc group) within
 
-pub one_piece : (plan : Plan) (proc : ℕ) → IsThin plan → proc < length plan.program.procedures → length (procedure_of plan proc).pieces ≡ 1
-one_piece plan proc thin within = (at_place IsDeferred plan.program.procedures proc no_procedure thin.program.deferred within).one_piece
+pub one_piece : (plan : Plan) (proc : ℕ) → IsWithin plan → proc < length plan.program.procedures → length (procedure_of plan proc).pieces ≡ 1
+one_piece plan proc thin within = (all_at IsDeferred plan.program.procedures proc no_procedure thin.program.deferred within).one_piece
 
-pub place_of-thin : (plan : Plan) (proc group : ℕ) (arguments inputs : List ℤ) → IsThin plan → group < length (groups_of plan proc) → place_of plan proc group arguments inputs ≡ value (get_or (procedure_of plan proc).pieces 0 no_piece).place arguments
-place_of-thin plan proc group arguments inputs thin within =
+pub group_place-thin : (plan : Plan) (proc group : ℕ) (arguments inputs : List ℤ) → IsWithin plan → group < length (groups_of plan proc) → group_place plan proc group arguments inputs ≡ value (get_or (procedure_of plan proc).pieces 0 no_piece).place arguments
+group_place-thin plan proc group arguments inputs thin within =
     rw (group_of-thin plan proc group thin within)
     (place_in-one (procedure_of plan proc) arguments inputs (one_piece plan proc thin (procedure_within plan proc group thin within)))

@@ -1,13 +1,14 @@
 -- Plans: programs whose pieces are put into groups; and what a group takes and gives
-use Rattle.std.specs.Prelude.{ℕ, ◌-◌, ℤ, pos, Bool, false, not, ◌&&◌, ◌==◌, List, [], ◌∷◌, ◌++◌, length, map, filter, replicate, take, slice_index_or, slice_set, unsigned_abs, if◌then◌else◌}
+use Rattle.std.specs.Prelude.{ℕ, ℤ, pos, Bool, false, not, ◌&&◌, ◌==◌, List, [], ◌∷◌, length, map, filter, take, slice_index_or, slice_set, unsigned_abs, if◌then◌else◌}
 use Rattle.std.specs.List.{flat_map, list_any, position_or_len, range_with_len}
 use Rattle.std.specs.Int.{int_rem_euclid}
+use Rattle.roc_program.specs.Program.{Workload, Procedure, Piece}
+use Rattle.roc_program.specs.LookUps.{no_piece, no_procedure}
+use Rattle.roc_program.specs.Names.{piece_uses, bindings, outputs, has_name}
+use Rattle.roc_program.specs.Values.{Environment, with_arguments, value}
 use Rattle.roc_plan.specs.declared.group.Class.{Class}
 use Rattle.roc_plan.specs.declared.group.Class.TheVariants.{Immediate, Deferrable}
 use Rattle.roc_plan.specs.declared.group.Input.{Input}
-use Rattle.roc_plan.specs.Program.{Workload, Procedure, Piece, Number}
-use Rattle.roc_plan.specs.Values.{Environment, value}
-use Rattle.roc_plan.specs.Names.{piece_uses, bindings, outputs, is_among}
 
 -- pieces of one procedure that run together, by number, and whether they run at the start
 pub record Group : Type 0 where
@@ -19,13 +20,7 @@ pub record Plan : Type 0 where
   pub program : Workload
   pub groups : List (List Group)
 
--- what stands for a piece, a procedure and a group that are not there
-abbrev pub no_piece : Piece
-no_piece = record { name = []; is_now = false; place = Number (pos 0); body = [] }
-
-abbrev pub no_procedure : Procedure
-no_procedure = record { name = []; arguments = 0; names = 0; pieces = [] }
-
+-- what stands for a group that is not there
 abbrev pub no_group : Group
 no_group = record { pieces = []; is_immediate = false }
 
@@ -40,13 +35,13 @@ bound_in procedure group = bindings (pieces_at procedure group)
 -- the names of other groups' pieces that a group uses, in the order in which they are bound
 abbrev pub inputs_in : Procedure → List ℕ → List ℕ
 inputs_in procedure group =
-    filter (λ n. list_any (λ piece. piece_uses piece n) (pieces_at procedure group) && not (is_among (bound_in procedure group) n))
+    filter (λ n. list_any (λ piece. piece_uses piece n) (pieces_at procedure group) && not (has_name (bound_in procedure group) n))
     (bindings procedure.pieces)
 
 -- the group that binds a name, and the name's place in that group's bound list
 abbrev pub source_in : Procedure → List Group → ℕ → Input
 source_in procedure groups n =
-    let at = position_or_len (λ group. is_among (bound_in procedure group.pieces) n) groups
+    let at = position_or_len (λ group. has_name (bound_in procedure group.pieces) n) groups
     in record { group = at; at = position_or_len (λ m. m == n) (bound_in procedure (slice_index_or groups at no_group).pieces) }
 
 -- the places in the reply of what a piece adds to it
@@ -56,10 +51,6 @@ places_in procedure k = range_with_len (length (outputs (take k procedure.pieces
 -- the places in the reply of what a group adds to it
 abbrev pub outs_in : Procedure → List ℕ → List ℕ
 outs_in procedure group = flat_map (places_in procedure) group
-
--- before anything is read: the arguments, and 0 for each other name
-abbrev pub with_arguments : Procedure → List ℤ → Environment
-with_arguments procedure arguments = arguments ++ replicate (procedure.names - length arguments) (pos 0)
 
 -- with these names' values set
 abbrev pub with_values : List ℕ → List ℤ → Environment → Environment
@@ -87,11 +78,11 @@ groups_of plan proc = slice_index_or plan.groups proc []
 abbrev pub group_of : Plan → ℕ → ℕ → Group
 group_of plan proc group = slice_index_or (groups_of plan proc) group no_group
 
-abbrev pub is_immediate : Plan → ℕ → ℕ → Bool
-is_immediate plan proc group = (group_of plan proc group).is_immediate
+abbrev pub is_group_immediate : Plan → ℕ → ℕ → Bool
+is_group_immediate plan proc group = (group_of plan proc group).is_immediate
 
-abbrev pub class_of : Plan → ℕ → ℕ → Class
-class_of plan proc group = if is_immediate plan proc group then Immediate else Deferrable
+abbrev pub group_class : Plan → ℕ → ℕ → Class
+group_class plan proc group = if is_group_immediate plan proc group then Immediate else Deferrable
 
 abbrev pub bound_of : Plan → ℕ → ℕ → List ℕ
 bound_of plan proc group = bound_in (procedure_of plan proc) (group_of plan proc group).pieces
@@ -103,8 +94,8 @@ inputs_of plan proc group =
 abbrev pub outs_of : Plan → ℕ → ℕ → List ℕ
 outs_of plan proc group = outs_in (procedure_of plan proc) (group_of plan proc group).pieces
 
-abbrev pub place_of : Plan → ℕ → ℕ → (arguments inputs : List ℤ) → ℤ
-place_of plan proc group arguments inputs = place_in (procedure_of plan proc) (group_of plan proc group).pieces arguments inputs
+abbrev pub group_place : Plan → ℕ → ℕ → (arguments inputs : List ℤ) → ℤ
+group_place plan proc group arguments inputs = place_in (procedure_of plan proc) (group_of plan proc group).pieces arguments inputs
 
 -- the shard of a place, modulo the number of shards
 abbrev pub shard_of : Plan → ℤ → ℕ

@@ -1,15 +1,4 @@
-pub mod Program
-pub mod Values
-pub mod Names
 pub mod Groups
-pub mod LookUps
-pub mod Resolve
-pub mod Limits
-pub mod Codes
-pub mod WellFormed
-pub mod ValueLaws
-pub mod Workload
-pub mod Pieces
-pub mod Conflict
-pub mod Outlines
+pub mod Within
 pub mod FaultText
+pub mod Inner

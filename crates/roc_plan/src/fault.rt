@@ -6,8 +6,7 @@ use std::fmt;
 /// Why a workload has no plan.
 #[derive(Clone, Copy, Debug, PartialEq, Eq)]
 pub enum PlanFault {
-    /// There is not one shard, or a procedure is not one piece that was declared `later`: no other workload has a plan for
-    /// now.
+    /// There is not one shard, or a procedure is not one piece that was declared `later`.
     Unfit,
     NoMemory,
 }

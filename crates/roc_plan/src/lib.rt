@@ -1,31 +1,16 @@
-//! Plans: what a workload text means once its names are resolved, and the groups of pieces that
-//! servers and coordinators run.
+//! Plans: workloads whose pieces are put into the groups that servers and coordinators run.
 //!
-//! Contracts see a `Workload` as a program of `specs/Program.antt` (`specs/Workload.antt` says
-//! which), a `Plan` as a program with its groups, as `specs/Groups.antt` has it, and the value of an
-//! expression as `specs/Values.antt` says. `resolve` gives the program that `specs/Resolve.antt` reads
-//! out of the tree of a text, where it is in scope, and `Plan::thin` its plan.
-//!
-//! The layers above may rely on this: each plan is thin for now (`IsThin` of `specs/WellFormed.antt`,
-//! which `Plan::workload` tells), its numbers are within the limits and its names are bound before
-//! they are used; and each reader answers what `specs/Groups.antt` says of the plan, without memory.
-//! `specs/ValueLaws.antt` has the laws of values.
+//! Contracts see a [`Plan`] as a program with its groups, as `specs/Groups.antt` has it, and each reader answers what that file
+//! says of the plan, without memory. [`Plan::thin`] makes the plan of a workload that the protocol reaches (`IsWithin` of
+//! `specs/Within.antt`), and [`Plan::within`] tells whether a plan is one.
 #![tactic(auto)]
 
 mod fault;
 mod group;
-pub mod laws;
-mod names;
 mod outline;
 mod plan;
-mod static_conflict;
-mod tree;
-mod value;
-mod workload;
+mod thin;
 
 pub use fault::PlanFault;
 pub use group::{Class, Input, Known};
 pub use plan::Plan;
-pub use static_conflict::{PieceId, conflict};
-pub use tree::resolve;
-pub use workload::{Access, Expression, Init, Piece, Procedure, Statement, Table, Workload};

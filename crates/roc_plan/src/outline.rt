@@ -1,13 +1,15 @@
 //! What a plan keeps of its groups, so that its readers take no memory.
 ghost use Rattle.std.specs.Prelude.{◌≡◌, ◌≤◌, length, map, count_by, IfOk};
 ghost use Rattle.std.specs.List.{range_with_len, AllByRecursion};
-ghost use Rattle.roc_plan.specs.Outlines as outlines;
-ghost use Rattle.roc_plan.specs.Outlines.{IsSingle, AreSingles};
-ghost use Rattle.roc_plan.specs.WellFormed.{IsSinglePiece};
-ghost use Rattle.roc_plan.specs.Workload as view;
+ghost use Rattle.roc_lang.specs.Grammar.{standard};
+ghost use Rattle.roc_program.specs.Parts as view;
+ghost use Rattle.roc_plan.specs.Inner.Outlines as outlines;
+ghost use Rattle.roc_plan.specs.Inner.Outlines.{IsSingle, AreSingles};
+ghost use Rattle.roc_plan.specs.Inner.Thin.{IsSinglePiece};
 
-use crate::{Class, Input, Piece, Procedure, Statement};
+use crate::{Class, Input};
 use roc_base::NoMemory;
+use roc_program::{Piece, Procedure, Statement};
 use std::alloc::Global;
 
 /// A group of a procedure.
@@ -23,14 +25,14 @@ pub struct Outline {
     pub outs: Vec<u16>,
 }
 
-#[tactic(auto, unfolding(crate::specs::Outlines::is_get))]
+#[tactic(auto, unfolding(crate::specs::Inner::Outlines::is_get))]
 fn is_get(statement: &Statement) -> bool
     ensures { result ≡ outlines.is_get statement.now }
 {
     matches!(statement, Statement::Get(..))
 }
 
-#[tactic(auto, unfolding(crate::specs::Outlines::is_out))]
+#[tactic(auto, unfolding(crate::specs::Inner::Outlines::is_out))]
 fn is_out(statement: &Statement) -> bool
     ensures { result ≡ outlines.is_out statement.now }
 {
@@ -76,7 +78,7 @@ fn places(alloc: Global, count: u16) -> Result<Vec<u16>, NoMemory>
 
 // The one group of a procedure, its one piece, which is deferrable.
 fn single(alloc: Global, piece: &Piece) -> Result<Outline, NoMemory>
-    requires { length (view.piece piece.now).body ≤ 64 }
+    requires { length (view.piece piece.now).body ≤ standard.statements }
     ensures { IfOk result (IsSingle (view.piece piece.now)) }
 {
     Ok(Outline {

@@ -1,18 +1,17 @@
 //! Plans: a workload with its pieces in groups, and what is read of them.
 ghost use Rattle.std.specs.Prelude.{◌≡◌, ◌↔◌, ◌<◌, length, map, position, slice_get, IfOk, IsErrOf, IsTrue};
-ghost use Rattle.std.specs.List.{list_all};
 ghost use Rattle.std.specs.Str.{bytes_eq};
 ghost use Rattle.std.specs.String.{string_bytes};
-ghost use Rattle.roc_plan.specs.WellFormed.{IsProgram, IsThinShaped, is_later_alone, IsThin};
-ghost use Rattle.roc_plan.specs.Workload as view;
-ghost use Rattle.roc_plan.specs.Workload.{program};
-ghost use Rattle.roc_plan.specs.Groups.{procedure_of, groups_of, class_of, bound_of, inputs_of, outs_of, place_of, shard_of};
-ghost use Rattle.roc_plan.specs.LookUps.{procedure_named};
-ghost use Rattle.roc_plan.specs.Outlines.{row_of};
+ghost use Rattle.roc_program.specs.LookUps.{procedure_named};
+ghost use Rattle.roc_plan.specs.Groups.{procedure_of, groups_of, group_of, group_class, bound_of, inputs_of, outs_of, group_place, shard_of};
+ghost use Rattle.roc_plan.specs.Within.{IsThinShaped, IsWithin};
+ghost use Rattle.roc_plan.specs.Inner.Outlines.{row_of};
 
 use crate::outline::{Outline, singles};
-use crate::{Class, Input, Known, PlanFault, Procedure, Workload};
+use crate::thin::{are_thin_rows, is_thin};
+use crate::{Class, Input, Known, PlanFault};
 use roc_base::Shard;
+use roc_program::{Procedure, Workload};
 use std::alloc::Global;
 use std::marker::Model;
 
@@ -26,13 +25,13 @@ pub struct Plan {
 
 impl Model for Plan {
     ghost use Rattle.roc_plan.specs.Groups.{Plan as Grouped};
-    ghost use Rattle.roc_plan.specs.Codes.{plan_code};
+    ghost use Rattle.roc_plan.specs.Inner.Codes.{plan_code};
 
     ghost Value = { Grouped };
 
     ghost coded = { plan_code };
 
-    ghost use Rattle.roc_plan.specs.Outlines.{plan, IsOutlined};
+    ghost use Rattle.roc_plan.specs.Inner.Outlines.{plan, IsOutlined};
 
     ghost view = { plan };
 
@@ -43,22 +42,28 @@ impl Plan {
     /// The plan of a workload of one shard, each of whose procedures is one `later` piece, which is its one group. `Unfit`
     /// comes exactly where the workload is another.
     pub fn thin(alloc: Global, workload: Workload) -> Result<Plan, PlanFault>
-        requires { IsProgram (program workload) }
-        ensures program { IfOk result (λ plan. plan.program ≡ program workload) }
-        ensures thin { IfOk result IsThin }
-        ensures unfit { IsErrOf result PlanFault.Unfit ↔ ¬ IsThinShaped (program workload) }
+        ensures program { IfOk result (λ plan. plan.program ≡ workload) }
+        ensures within { IfOk result IsWithin }
+        ensures unfit { IsErrOf result PlanFault.Unfit ↔ ¬ IsThinShaped workload }
     {
         if !is_thin(&workload) {
             return Err(PlanFault::Unfit);
         }
-        let outlines = singles(alloc, &workload.procedures)?;
+        let outlines = singles(alloc, workload.procedures())?;
         Ok(Plan { workload, outlines })
+    }
+
+    /// Whether the protocol reaches the plan: there is one shard, and each procedure is one deferrable piece, which is its one
+    /// group.
+    pub fn within(&self) -> bool
+        ensures { IsTrue result ↔ IsWithin self.now }
+    {
+        is_thin(&self.workload) && are_thin_rows(&self.outlines)
     }
 
     /// The workload that the plan is of.
     pub fn workload(&self) -> &Workload
-        ensures program { program result.now ≡ self.now.program }
-        ensures thin { IsThin self.now }
+        ensures { result.now ≡ self.now.program }
     {
         &self.workload
     }
@@ -67,14 +72,14 @@ impl Plan {
     pub fn procedures(&self) -> u16
         ensures { result ≡ length self.now.program.procedures }
     {
-        self.workload.procedures.len() as u16
+        self.workload.procedures().len() as u16
     }
 
     /// The number of the procedure of a name, letter by letter.
     pub fn procedure_named(&self, name: &[u8]) -> Option<u16>
         ensures { result ≡ procedure_named self.now.program name.now }
     {
-        match place_named(&self.workload.procedures, name) {
+        match place_named(self.workload.procedures(), name) {
             Some(number) => Some(number as u16),
             None => None,
         }
@@ -85,7 +90,7 @@ impl Plan {
         requires { proc < length self.now.program.procedures }
         ensures { result ≡ (procedure_of self.now proc).arguments }
     {
-        self.workload.procedures[proc as usize].arguments
+        self.workload.procedures()[proc as usize].arguments
     }
 
     /// How many groups a procedure has.
@@ -99,9 +104,17 @@ impl Plan {
     /// When a group runs.
     pub fn class(&self, proc: u16, group: u16) -> Class
         requires { group < length (groups_of self.now proc) }
-        ensures { result ≡ class_of self.now proc group }
+        ensures { result ≡ group_class self.now proc group }
     {
         outline_at(&self.outlines, proc, group).class
+    }
+
+    /// The numbers of a group's pieces, in the order in which they run.
+    pub fn pieces(&self, proc: u16, group: u16) -> &[u16]
+        requires { group < length (groups_of self.now proc) }
+        ensures { result.now ≡ (group_of self.now proc group).pieces }
+    {
+        outline_at(&self.outlines, proc, group).pieces.as_slice()
     }
 
     /// How many values a group binds.
@@ -130,13 +143,14 @@ impl Plan {
 
     /// The place of a group, where it is known what the group runs with.
     pub fn place(&self, proc: u16, group: u16, known: &Known) -> i64
+        requires within { IsWithin self.now }
         requires exists { group < length (groups_of self.now proc) }
         requires args { length known.now.args ≡ (procedure_of self.now proc).arguments }
         requires inputs { length known.now.inputs ≡ length (inputs_of self.now proc group) }
-        ensures { result ≡ place_of self.now proc group known.now.args known.now.inputs }
+        ensures { result ≡ group_place self.now proc group known.now.args known.now.inputs }
     {
         // A group is the one piece of its procedure, and takes no inputs.
-        let place = &self.workload.procedures[proc as usize].pieces[0].place;
+        let place = &self.workload.procedures()[proc as usize].pieces[0].place;
         place.value(known.args.as_slice())
     }
 
@@ -145,35 +159,8 @@ impl Plan {
         ensures number { result.0 ≡ shard_of self.now place }
         ensures exists { result.0 < self.now.program.shards }
     {
-        Shard(place.rem_euclid(i64::from(self.workload.shards)) as u8)
+        Shard(place.rem_euclid(i64::from(self.workload.shards())) as u8)
     }
-}
-
-// The procedure is one piece, declared later.
-fn is_deferred(procedure: &Procedure) -> bool
-    ensures { result ≡ is_later_alone (view.procedure procedure.now).pieces }
-{
-    match procedure.pieces.as_slice() {
-        [piece] => !piece.is_now,
-        _ => false,
-    }
-}
-
-fn are_deferred(procedures: &[Procedure]) -> bool
-    ensures { result ≡ list_all (λ p. is_later_alone p.pieces) (map view.procedure procedures.now) }
-{
-    for procedure in procedures {
-        if !is_deferred(procedure) {
-            return false;
-        }
-    }
-    true
-}
-
-fn is_thin(workload: &Workload) -> bool
-    ensures { IsTrue result ↔ IsThinShaped (program workload.now) }
-{
-    workload.shards == 1 && are_deferred(&workload.procedures)
 }
 
 // What is kept of a group.

@@ -1,12 +1,12 @@
 -- What holds of an expression that was parsed: its names are words, its numbers fit, and its canonical text is no deeper.
-use Rattle.std.proofs.Common.{ℕ, ◌+◌, ◌^◌, ◌<◌, ◌≤◌, max, Bool, true, false, ◌||◌, List, IsFalse, subst, arith}
+use Rattle.std.proofs.Common.{ℕ, ◌+◌, ◌^◌, ◌<◌, ◌≤◌, max, Bool, true, false, ◌||◌, List, ◌++◌, IsFalse, subst, arith}
 use Rattle.std.specs.Prelude.{pos, negsuc}
 use Rattle.std.specs.List.{AllByRecursion}
 use Rattle.roc_lang.specs.Syntax.{Name, Expression, Number, Variable, Sum, Difference, Product, Minimum, Maximum, Less, Pick}
 use Rattle.roc_lang.specs.Tokens as tokens
-use Rattle.roc_lang.specs.Tokens.{Kind, Word, Integer, Mark, Token, IsWord, IsTokens}
+use Rattle.roc_lang.specs.Tokens.{Kind, Word, Integer, Mark, Token, IsWord, IsTokenStep, IsTokens}
 use Rattle.roc_lang.specs.Grammar.{IsToken, IsName, IsExpression, is_reserved}
-use Rattle.roc_parse.specs.Reading.{deeper}
+use Rattle.roc_parse.specs.Inner.Reading.{deeper}
 use Rattle.roc_parse.proofs.Depths.{Summed, Multiplied, Single, Paired, term, sum, difference, atom, product, number, variable, parentheses, minimum, maximum, less, pick, pair, deep_sum}
 use Rattle.roc_print.specs.Canonical.{is_sum, is_product}
 
@@ -21,13 +21,16 @@ IsSpelt (Mark b) = Unit {0}
 abbrev pub Words : List Token → Type 0
 Words ts = AllByRecursion (λ t. IsSpelt t.kind) ts
 
+step_words : {line : ℕ} {bytes : List ℕ} {ts : List Token} {after : ℕ} {rest : List ℕ} → IsTokenStep line bytes ts after rest → (others : List Token) → Words others → Words (ts ++ others)
+step_words (tokens.blank h) others w = w
+step_words (tokens.comment text e all end) others w = w
+step_words (tokens.word letters e is end) others w = (is, w)
+step_words (tokens.integer digits e is end) others w = (tt, w)
+step_words (tokens.mark h) others w = (tt, w)
+
 pub spelt_words : {line : ℕ} {bytes : List ℕ} {ts : List Token} → IsTokens line bytes ts → Words ts
 spelt_words tokens.nothing = tt
-spelt_words (tokens.blank h i) = spelt_words i
-spelt_words (tokens.comment text e all end i) = spelt_words i
-spelt_words (tokens.word letters e is end i) = (is, spelt_words i)
-spelt_words (tokens.integer digits e is end i) = (tt, spelt_words i)
-spelt_words (tokens.mark h i) = (tt, spelt_words i)
+spelt_words (tokens.step {others = others} n i) = step_words n others (spelt_words i)
 
 -- behind a token
 pub behind : {kind : Kind} {a b : List Token} → IsToken kind a b → Words a → Words b

@@ -1,3 +1,4 @@
+pub mod Spelt
 pub mod Numerals
 pub mod Fit
 pub mod Keywords

@@ -2,35 +2,41 @@
 use Rattle.std.proofs.Common.{ℕ, ◌+◌, ◌<◌, ◌≤◌, Bool, true, false, List, [], ◌∷◌, ◌++◌, map, length, flat_map, refl, sym, ap, subst, ◌∙◌, arith}
 use Rattle.std.specs.List.{fold}
 use lib.Chars.{codes}
-use Rattle.roc_lang.specs.Syntax.{Name, Access, Statement, Get, Set, Out, Piece, Procedure}
-use Rattle.roc_lang.specs.Tokens.{Word, Mark, Token, IsTokenEnd, IsTokens, blank, word, mark}
-use Rattle.roc_lang.specs.Grammar.{standard, class_word, IsAccess, access, IsStatement, get, set, out, IsPiece, piece, IsArguments, no_arguments, arguments, IsProcedure, procedure, open_brace, close_brace, open_parenthesis, close_parenthesis, open_bracket, close_bracket, semicolon, dot, equals}
-use Rattle.roc_print.specs.Canonical.{names_text, expression_text, access_text, statement_text, statement_line, class_text, head_text, piece_lines, procedure_lines}
-use Rattle.roc_print.specs.UpToLines.{bare_name, bare_access, bare_statement, bare_piece, bare_procedure}
+use Rattle.roc_lang.specs.Syntax.{Name, Expression, Access, Statement, Get, Set, Out, Piece, Procedure}
+use Rattle.roc_lang.specs.Tokens.{Word, Mark, Token, IsTokenEnd, IsTokens}
+use Rattle.roc_print.proofs.Spelt.{blank, word, mark}
+use Rattle.roc_lang.specs.Grammar.{standard, class_word, IsExpression, IsAccess, access, IsStatement, get, set, out, IsPiece, piece, IsArguments, no_arguments, arguments, IsProcedure, procedure, open_brace, close_brace, open_parenthesis, close_parenthesis, open_bracket, close_bracket, semicolon, dot, equals}
+use Rattle.roc_print.specs.Canonical.{names_text, expression_text, id_text, access_text, statement_text, statement_line, class_text, head_text, piece_lines, procedure_lines}
+use Rattle.roc_print.specs.UpToLines.{bare_name, bare_expression, bare_access, bare_statement, bare_piece, bare_procedure}
 use Rattle.roc_print.proofs.Keywords.{get_word, set_word, out_word, now_word, later_word, at_word, proc_word}
 use Rattle.roc_print.proofs.Spelling.{grouped_4, grouped_5, grouped_7, grouped_9, Made, at_line, token_is, name_made}
 use Rattle.roc_print.proofs.Expressions.{expression_shown}
-use Rattle.roc_print.proofs.Trees.{IsFitAccess, IsFitStatement, IsFitPiece, IsFitNames, IsFitProcedure}
-use Rattle.roc_print.proofs.Sequences.{same_length, each_made, close_comma, names_made}
+use Rattle.roc_print.proofs.Trees.{IsFitExpression, IsFitAccess, IsFitStatement, IsFitPiece, IsFitNames, IsFitProcedure}
+use Rattle.roc_print.proofs.Sequences.{same_length, each_made, close_comma, separated_made, names_made}
 
 -- ---- statements
 
-access_made : (x : Access) → IsFitAccess x → (line : ℕ) (rest : List ℕ) (others : List Token) → IsTokenEnd rest → IsTokens line rest others → Made (IsAccess standard.depth) bare_access line (access_text x ++ rest) others x
+whole_shown : (e : Expression) → IsFitExpression e → (line : ℕ) (rest : List ℕ) (others : List Token) → IsTokenEnd rest → IsTokens line rest others → Made (IsExpression standard.depth) bare_expression line (expression_text e ++ rest) others e
+whole_shown e h = expression_shown standard.depth e h.fit h.shallow
+
+access_made : (x : Access) → IsFitAccess x → (line : ℕ) (rest : List ℕ) (others : List Token) → IsTokenEnd rest → IsTokens line rest others → Made (IsAccess standard) bare_access line (access_text x ++ rest) others x
 access_made x h line rest others end i =
     let c = name_made x.column h.column line rest others end i in
-    let e = expression_shown standard.depth x.id h.id.fit h.id.shallow line (codes "]." ++ (x.column.text ++ rest)) (at_line (Mark close_bracket) line ∷ at_line (Mark dot) line ∷ c.tokens) refl (mark refl (mark refl c.spelt)) in
-    let t = name_made x.table h.table line (codes "[" ++ (expression_text x.id ++ (codes "]." ++ (x.column.text ++ rest)))) (at_line (Mark open_bracket) line ∷ e.tokens) refl (mark refl e.spelt) in
+    let e = separated_made (IsExpression standard.depth) bare_expression expression_text IsFitExpression whole_shown (codes ",") close_comma x.id h.id.some h.id.all line (codes "]." ++ (x.column.text ++ rest))
+    (at_line (Mark close_bracket) line ∷ at_line (Mark dot) line ∷ c.tokens) refl (mark refl (mark refl c.spelt)) in
+    let t = name_made x.table h.table line (codes "[" ++ (id_text x.id ++ (codes "]." ++ (x.column.text ++ rest)))) (at_line (Mark open_bracket) line ∷ e.tokens) refl (mark refl e.spelt) in
     record {
       tokens = t.tokens;
-      tree = record { table = t.tree; id = e.tree; column = c.tree };
-      spelt = subst (λ z. IsTokens line z t.tokens) (sym (grouped_5 x.table.text (codes "[") (expression_text x.id) (codes "].") x.column.text rest)) t.spelt;
-      is = access t.is (token_is (Mark open_bracket) line e.tokens) e.is (token_is (Mark close_bracket) line (at_line (Mark dot) line ∷ c.tokens)) (token_is (Mark dot) line c.tokens) c.is;
-      same = λ k. record { table = t.same k; id = e.same k; column = c.same k };
+      tree = record { table = t.tree; id = e.tree; id_line = line; column = c.tree };
+      spelt = subst (λ z. IsTokens line z t.tokens) (sym (grouped_5 x.table.text (codes "[") (id_text x.id) (codes "].") x.column.text rest)) t.spelt;
+      is = access t.is (token_is (Mark open_bracket) line e.tokens) e.is (record { is = refl }) (token_is (Mark dot) line c.tokens) c.is
+          (subst (λ k. k ≤ standard.ids) (sym (same_length bare_expression e.tree x.id e.same)) h.id.few);
+      same = λ k. record { table = t.same k; id = e.same k; id_line = 0; column = c.same k };
     }
 
 -- a statement before its semicolon
 statement_made : (s : Statement) → IsFitStatement s → (line : ℕ) (rest : List ℕ) (others : List Token) → IsTokenEnd rest → IsTokens line rest (at_line (Mark semicolon) line ∷ others)
-    → Made (IsStatement standard.depth) bare_statement line (statement_text s ++ rest) others s
+    → Made (IsStatement standard) bare_statement line (statement_text s ++ rest) others s
 statement_made (Get name from) h line rest others end i =
     let a = access_made from h.1 line rest (at_line (Mark semicolon) line ∷ others) end i in
     let n = name_made name h.0 line (codes " = " ++ (access_text from ++ rest)) (at_line (Mark equals) line ∷ a.tokens) refl (blank refl (mark refl (blank refl a.spelt))) in
@@ -67,7 +73,7 @@ statement_made (Out value) h line rest others end i =
 abbrev pub next_line : {A : Type 0} → ℕ → A → ℕ
 next_line line x = line + 1
 
-statement_line_made : (s : Statement) → IsFitStatement s → (line : ℕ) (rest : List ℕ) (others : List Token) → IsTokens (line + 1) rest others → Made (IsStatement standard.depth) bare_statement line (statement_line s ++ rest) others s
+statement_line_made : (s : Statement) → IsFitStatement s → (line : ℕ) (rest : List ℕ) (others : List Token) → IsTokens (line + 1) rest others → Made (IsStatement standard) bare_statement line (statement_line s ++ rest) others s
 statement_line_made s h line rest others i =
     let m = statement_made s h line (codes ";" ++ (10 ∷ [] ++ rest)) others refl (mark refl (blank refl i)) in
     record {
@@ -91,7 +97,7 @@ piece_made : (p : Piece) → IsFitPiece p → (line : ℕ) (rest : List ℕ) (ot
 piece_made p h line rest others i =
     let last : ℕ = fold next_line (line + 1) p.body in
     let end : List ℕ = codes "  }" ++ (10 ∷ [] ++ rest) in
-    let body = each_made (IsStatement standard.depth) bare_statement statement_line next_line IsFitStatement statement_line_made p.body h.body (line + 1) end (at_line (Mark close_brace) last ∷ others) (blank refl (blank refl (mark refl (blank refl i)))) in
+    let body = each_made (IsStatement standard) bare_statement statement_line next_line IsFitStatement statement_line_made p.body h.body (line + 1) end (at_line (Mark close_brace) last ∷ others) (blank refl (blank refl (mark refl (blank refl i)))) in
     let lines : List ℕ = codes " {" ++ (10 ∷ [] ++ (flat_map statement_line p.body ++ end)) in
     let place = expression_shown standard.depth p.place h.place.fit h.place.shallow line lines (at_line (Mark open_brace) line ∷ body.tokens) refl (blank refl (mark refl (blank refl body.spelt))) in
     let from : List ℕ = codes " at " ++ (expression_text p.place ++ lines) in

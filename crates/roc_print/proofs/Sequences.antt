@@ -4,9 +4,10 @@ use Rattle.std.specs.List.{AllByRecursion, fold}
 use Rattle.std.proofs.lemmas.List.{length-map}
 use lib.Chars.{codes}
 use Rattle.roc_lang.specs.Syntax.{Name}
-use Rattle.roc_lang.specs.Tokens.{Mark, Token, IsTokenEnd, IsTokens, blank, mark}
+use Rattle.roc_lang.specs.Tokens.{Mark, Token, IsTokenEnd, IsTokens}
+use Rattle.roc_print.proofs.Spelt.{blank, mark}
 use Rattle.roc_lang.specs.Grammar.{IsName, Each, none, first, Separated, last, more, comma}
-use Rattle.roc_print.specs.Canonical.{names_text}
+use Rattle.roc_print.specs.Canonical.{separated_text, names_text}
 use Rattle.roc_print.specs.UpToLines.{bare_name}
 use Rattle.roc_print.proofs.Fit.{IsFitName}
 use Rattle.roc_print.proofs.Spelling.{Made, at_line, token_is, name_made}
@@ -31,7 +32,7 @@ each_made Is bare text line_behind Fit step (x ∷ xs) all line rest others i =
       same = λ k. f.same k ∷ m.same k;
     }
 
--- ---- names
+-- ---- several with commas between
 
 -- what spells a comma alone, and ends a word before it
 pub record IsComma (between : List ℕ) : Type 0 where
@@ -47,26 +48,38 @@ wide_comma = record { ends = λ rest. refl; spelt = λ line rest others i. mark 
 regrouped : (n b m f r : List ℕ) → n ++ (b ++ m ++ f) ++ r ≡ n ++ (b ++ (m ++ f ++ r))
 regrouped n b m f r = simp append_assoc
 
-one_made : (between : List ℕ) (n : Name) → IsFitName n → (line : ℕ) (rest : List ℕ) (others : List Token) → IsTokenEnd rest → IsTokens line rest others → Made (Separated IsName) (map bare_name) line (names_text between (n ∷ []) ++ rest) others (n ∷ [])
-one_made between n h line rest others end i =
-    let m = name_made n h line rest others end i in
-    record { tokens = m.tokens; tree = m.tree ∷ []; spelt = subst (λ z. IsTokens line z m.tokens) (sym (append_assoc n.text [] rest)) m.spelt; is = last m.is; same = λ k. m.same k ∷ [] }
+-- before anything that ends a token, the text of each spells it
+abbrev pub Shows : {A : Type 0} (Is : List Token → List Token → A → Type 0) (bare : A → A) (text : A → List ℕ) (Fit : A → Type 0) → Type 0
+Shows Is bare text Fit = (x : _) → Fit x → (line : ℕ) (rest : List ℕ) (others : List Token) → IsTokenEnd rest → IsTokens line rest others → Made Is bare line (text x ++ rest) others x
 
-names_behind : (between : List ℕ) → IsComma between → (n : Name) (ns : List Name) → IsFitName n → AllByRecursion IsFitName ns → (line : ℕ) (rest : List ℕ) (others : List Token) → IsTokenEnd rest → IsTokens line rest others
-    → Made (Separated IsName) (map bare_name) line (names_text between (n ∷ ns) ++ rest) others (n ∷ ns)
-names_behind between c n [] h all line rest others end i = one_made between n h line rest others end i
-names_behind between c n (m ∷ ms) h all line rest others end i =
-    let y = names_behind between c m ms all.0 all.1 line rest others end i in
-    let x = name_made n h line (between ++ (names_text between (m ∷ ms) ++ rest)) (at_line (Mark comma) line ∷ y.tokens) (c.ends (names_text between (m ∷ ms) ++ rest)) (c.spelt line (names_text between (m ∷ ms) ++ rest) y.tokens y.spelt) in
+one_made : {A : Type 0} (Is : List Token → List Token → A → Type 0) (bare : A → A) (text : A → List ℕ) (Fit : A → Type 0) → Shows Is bare text Fit
+    → (between : List ℕ) (x : A) → Fit x → (line : ℕ) (rest : List ℕ) (others : List Token) → IsTokenEnd rest → IsTokens line rest others → Made (Separated Is) (map bare) line (separated_text between text (x ∷ []) ++ rest) others (x ∷ [])
+one_made Is bare text Fit step between x h line rest others end i =
+    let m = step x h line rest others end i in
+    record { tokens = m.tokens; tree = m.tree ∷ []; spelt = subst (λ z. IsTokens line z m.tokens) (sym (append_assoc (text x) [] rest)) m.spelt; is = last m.is; same = λ k. m.same k ∷ [] }
+
+some_made : {A : Type 0} (Is : List Token → List Token → A → Type 0) (bare : A → A) (text : A → List ℕ) (Fit : A → Type 0) → Shows Is bare text Fit
+    → (between : List ℕ) → IsComma between → (x : A) (xs : List A) → Fit x → AllByRecursion Fit xs → (line : ℕ) (rest : List ℕ) (others : List Token) → IsTokenEnd rest → IsTokens line rest others
+    → Made (Separated Is) (map bare) line (separated_text between text (x ∷ xs) ++ rest) others (x ∷ xs)
+some_made Is bare text Fit step between c x [] h all line rest others end i = one_made Is bare text Fit step between x h line rest others end i
+some_made Is bare text Fit step between c x (y ∷ ys) h all line rest others end i =
+    let m = some_made Is bare text Fit step between c y ys all.0 all.1 line rest others end i in
+    let behind : List ℕ = separated_text between text (y ∷ ys) ++ rest in
+    let n = step x h line (between ++ behind) (at_line (Mark comma) line ∷ m.tokens) (c.ends behind) (c.spelt line behind m.tokens m.spelt) in
     record {
-      tokens = x.tokens;
-      tree = x.tree ∷ y.tree;
-      spelt = subst (λ z. IsTokens line z x.tokens) (sym (regrouped n.text between m.text (flat_map (λ k. between ++ k.text) ms) rest)) x.spelt;
-      is = more x.is (token_is (Mark comma) line y.tokens) y.is;
-      same = λ k. x.same k ∷ y.same k;
+      tokens = n.tokens;
+      tree = n.tree ∷ m.tree;
+      spelt = subst (λ z. IsTokens line z n.tokens) (sym (regrouped (text x) between (text y) (flat_map (λ z. between ++ text z) ys) rest)) n.spelt;
+      is = more n.is (token_is (Mark comma) line m.tokens) m.is;
+      same = λ k. n.same k ∷ m.same k;
     }
+
+pub separated_made : {A : Type 0} (Is : List Token → List Token → A → Type 0) (bare : A → A) (text : A → List ℕ) (Fit : A → Type 0) → Shows Is bare text Fit
+    → (between : List ℕ) → IsComma between → (xs : List A) → 0 < length xs → AllByRecursion Fit xs → (line : ℕ) (rest : List ℕ) (others : List Token) → IsTokenEnd rest → IsTokens line rest others
+    → Made (Separated Is) (map bare) line (separated_text between text xs ++ rest) others xs
+separated_made Is bare text Fit step between c [] some all line rest others end i = absurd (omega arith)
+separated_made Is bare text Fit step between c (x ∷ xs) some all line rest others end i = some_made Is bare text Fit step between c x xs all.0 all.1 line rest others end i
 
 pub names_made : (between : List ℕ) → IsComma between → (names : List Name) → 0 < length names → AllByRecursion IsFitName names → (line : ℕ) (rest : List ℕ) (others : List Token) → IsTokenEnd rest → IsTokens line rest others
     → Made (Separated IsName) (map bare_name) line (names_text between names ++ rest) others names
-names_made between c [] some all line rest others end i = absurd (omega arith)
-names_made between c (n ∷ ns) some all line rest others end i = names_behind between c n ns all.0 all.1 line rest others end i
+names_made between c names some all = separated_made IsName bare_name (λ n. n.text) IsFitName name_made between c names some all

@@ -3,7 +3,8 @@ use Rattle.std.proofs.Common.{◌≡◌, ℕ, zero, suc, ◌^◌, ◌<◌, ◌�
 use Rattle.std.specs.Prelude.{ℤ, pos, negsuc, neg_ℤ}
 use Rattle.std.specs.Fmt as fmt
 use Rattle.roc_lang.specs.Syntax.{Name}
-use Rattle.roc_lang.specs.Tokens.{Kind, Word, Integer, Mark, Token, IsTokenEnd, IsTokens, word, integer, mark}
+use Rattle.roc_lang.specs.Tokens.{Kind, Word, Integer, Mark, Token, IsTokenEnd, IsTokens}
+use Rattle.roc_print.proofs.Spelt.{word, integer, mark}
 use Rattle.roc_lang.specs.Grammar.{IsToken, IsName, IsSigned, plain, negated, minus}
 use Rattle.roc_print.specs.UpToLines.{bare_name}
 use Rattle.roc_print.proofs.Numerals.{written_is_decimal, written_value}

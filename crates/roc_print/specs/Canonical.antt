@@ -1,13 +1,16 @@
 -- The canonical text of a tree: docs/LANGUAGE.md, "Canonical text".
-use Rattle.std.specs.Prelude.{ℕ, Bool, true, false, ◌||◌, List, [], ◌∷◌, ◌++◌, codes, if◌then◌else◌}
+use Rattle.std.specs.Prelude.{ℕ, Bool, true, false, ◌||◌, nat_lt, List, [], ◌∷◌, ◌++◌, codes, if◌then◌else◌}
 use Rattle.std.specs.List.{flat_map}
 use Rattle.std.specs.Fmt.{decimal, signed_decimal}
-use Rattle.roc_lang.specs.Syntax.{Name, Expression, Number, Variable, Sum, Difference, Product, Minimum, Maximum, Less, Pick, Access, Statement, Get, Set, Out, Piece, Procedure, Table, Init, Text}
+use Rattle.roc_lang.specs.Syntax.{Name, Expression, Number, Variable, Sum, Difference, Product, Minimum, Maximum, Less, Pick, Access, Statement, Get, Set, Out, Piece, Procedure, Table, Init, Tree}
 
--- names, and what stands between them
+-- the texts of several, and what stands between them
+abbrev pub separated_text : {A : Type 0} (between : List ℕ) (text : A → List ℕ) → List A → List ℕ
+separated_text between text [] = []
+separated_text between text (x ∷ xs) = text x ++ flat_map (λ y. between ++ text y) xs
+
 abbrev pub names_text : (between : List ℕ) → List Name → List ℕ
-names_text between [] = []
-names_text between (n ∷ ns) = n.text ++ flat_map (λ m. between ++ m.text) ns
+names_text between = separated_text between (λ n. n.text)
 
 -- ---- expressions
 
@@ -52,9 +55,13 @@ expression_text (Pick c e f) = codes "pick(" ++ expression_text c ++ codes "," +
 
 -- ---- lines of a procedure
 
--- t[E].c
+-- the integers of an id, with commas between
+abbrev pub id_text : List Expression → List ℕ
+id_text id = separated_text (codes ",") expression_text id
+
+-- t[E,E].c
 abbrev pub access_text : Access → List ℕ
-access_text a = a.table.text ++ codes "[" ++ expression_text a.id ++ codes "]." ++ a.column.text
+access_text a = a.table.text ++ codes "[" ++ id_text a.id ++ codes "]." ++ a.column.text
 
 abbrev pub statement_text : Statement → List ℕ
 statement_text (Get name from) = codes "get " ++ name.text ++ codes " = " ++ access_text from
@@ -81,12 +88,16 @@ procedure_lines p = codes "proc " ++ p.name.text ++ codes "(" ++ names_text (cod
 
 -- ---- the other lines
 
-abbrev pub table_line : Table → List ℕ
-table_line t = codes "table " ++ t.name.text ++ codes " { " ++ names_text (codes ", ") t.columns ++ codes " }" ++ 10 ∷ []
+-- [n], where an id has more than one integer
+abbrev pub arity_text : ℕ → List ℕ
+arity_text arity = if nat_lt 1 arity then codes "[" ++ decimal arity ++ codes "]" else []
 
--- t[P,I].c
+abbrev pub table_line : Table → List ℕ
+table_line t = codes "table " ++ t.name.text ++ arity_text t.arity ++ codes " { " ++ names_text (codes ", ") t.columns ++ codes " }" ++ 10 ∷ []
+
+-- t[P,I].c, where I is as many integers as the id has
 abbrev pub cell_text : Init → List ℕ
-cell_text i = i.table.text ++ codes "[" ++ signed_decimal i.place ++ codes "," ++ signed_decimal i.id ++ codes "]." ++ i.column.text
+cell_text i = i.table.text ++ codes "[" ++ signed_decimal i.place ++ codes "," ++ separated_text (codes ",") signed_decimal i.id ++ codes "]." ++ i.column.text
 
 abbrev pub init_line : Init → List ℕ
 init_line i = codes "init " ++ cell_text i ++ codes " = " ++ signed_decimal i.value ++ codes ";" ++ 10 ∷ []
@@ -95,5 +106,5 @@ abbrev pub shards_line : ℕ → List ℕ
 shards_line shards = codes "shards " ++ decimal shards ++ codes ";" ++ 10 ∷ []
 
 -- all lines of a text
-abbrev pub canonical : Text → List ℕ
+abbrev pub canonical : Tree → List ℕ
 canonical t = shards_line t.shards ++ flat_map table_line t.tables ++ flat_map init_line t.inits ++ flat_map procedure_lines t.procedures

@@ -1,6 +1,6 @@
 -- A tree up to its lines: each line is 0, and everything else stays as it is.
 use Rattle.std.specs.Prelude.{map}
-use Rattle.roc_lang.specs.Syntax.{Name, Expression, Number, Variable, Sum, Difference, Product, Minimum, Maximum, Less, Pick, Access, Statement, Get, Set, Out, Piece, Procedure, Table, Init, Text}
+use Rattle.roc_lang.specs.Syntax.{Name, Expression, Number, Variable, Sum, Difference, Product, Minimum, Maximum, Less, Pick, Access, Statement, Get, Set, Out, Piece, Procedure, Table, Init, Tree}
 
 -- a name's letters alone
 abbrev pub bare_name : Name → Name
@@ -20,7 +20,7 @@ bare_expression (Pick c e f) = Pick (bare_expression c) (bare_expression e) (bar
 
 -- one column of a row, without lines
 abbrev pub bare_access : Access → Access
-bare_access a = record { table = bare_name a.table; id = bare_expression a.id; column = bare_name a.column }
+bare_access a = record { table = bare_name a.table; id = map bare_expression a.id; id_line = 0; column = bare_name a.column }
 
 -- a statement without lines
 abbrev pub bare_statement : Statement → Statement
@@ -38,14 +38,14 @@ bare_procedure p = record { name = bare_name p.name; arguments = map bare_name p
 
 -- a table without lines
 abbrev pub bare_table : Table → Table
-bare_table t = record { name = bare_name t.name; columns = map bare_name t.columns }
+bare_table t = record { name = bare_name t.name; arity = t.arity; columns = map bare_name t.columns }
 
 -- the value of a cell at the start, without lines
 abbrev pub bare_init : Init → Init
-bare_init i = record { table = bare_name i.table; place = i.place; id = i.id; column = bare_name i.column; value = i.value }
+bare_init i = record { table = bare_name i.table; place = i.place; id = i.id; id_line = 0; column = bare_name i.column; value = i.value }
 
--- the whole tree with each line 0: that of the number of shards, and that of each name
-abbrev pub without_lines : Text → Text
+-- the whole tree with each line 0: that of the number of shards, that of each name, and that of the bracket behind each id
+abbrev pub without_lines : Tree → Tree
 without_lines t = record {
   shards = t.shards;
   shards_line = 0;

@@ -1,13 +1,14 @@
 //! The lines of a canonical text.
 
-ghost use Rattle.std.specs.Prelude.{◌≡◌, ◌++◌, OnOk, map};
+ghost use Rattle.std.specs.Prelude.{◌≡◌, [], ◌∷◌, ◌++◌, OnOk, map, codes};
 ghost use Rattle.std.specs.List.{flat_map};
+ghost use Rattle.std.specs.Fmt.{signed_decimal};
 ghost use Rattle.std.specs.String.{string_bytes};
-ghost use Rattle.roc_lang.specs.Tree.{name_tree, access_tree, statement_tree, piece_tree, procedure_tree, table_tree, init_tree};
-ghost use Rattle.roc_print.specs.Canonical.{names_text, access_text, statement_text, statement_line, class_text, head_text, piece_lines, procedure_lines, table_line, cell_text, init_line, shards_line};
+ghost use Rattle.roc_lang.specs.Tree.{name_tree, expression_tree, access_tree, statement_tree, piece_tree, procedure_tree, table_tree, init_tree};
+ghost use Rattle.roc_print.specs.Canonical.{separated_text, names_text, expression_text, id_text, access_text, statement_text, statement_line, class_text, head_text, piece_lines, procedure_lines, arity_text, table_line, cell_text, init_line, shards_line};
 
 use crate::expression::push_expression;
-use roc_lang::{Access, Init, Name, Piece, Procedure, Statement, Table};
+use roc_lang::{Access, Expression, Init, Name, Piece, Procedure, Statement, Table};
 use std::alloc::AllocError;
 
 /// Adds names, and what stands between them.
@@ -32,12 +33,34 @@ fn push_others(text: &mut String, between: &str, names: &[Name]) -> Result<(), A
     Ok(())
 }
 
+/// Adds integers of an id, with a comma before each.
+fn push_other_integers(text: &mut String, integers: &[Expression]) -> Result<(), AllocError>
+    ensures { OnOk result (string_bytes text.new ≡ string_bytes text.old ++ flat_map (λ e. codes "," ++ expression_text e) (map expression_tree integers.now)) }
+{
+    for integer in integers {
+        text.push_str(",")?;
+        push_expression(text, integer)?;
+    }
+    Ok(())
+}
+
+/// Adds the integers of an id, with commas between.
+fn push_id(text: &mut String, id: &[Expression]) -> Result<(), AllocError>
+    ensures { OnOk result (string_bytes text.new ≡ string_bytes text.old ++ id_text (map expression_tree id.now)) }
+{
+    if let Some((first, others)) = id.split_first() {
+        push_expression(text, first)?;
+        push_other_integers(text, others)?;
+    }
+    Ok(())
+}
+
 fn push_access(text: &mut String, access: &Access) -> Result<(), AllocError>
     ensures { OnOk result (string_bytes text.new ≡ string_bytes text.old ++ access_text (access_tree access.now)) }
 {
     text.push_str(&access.table.text)?;
     text.push_str("[")?;
-    push_expression(text, &access.id)?;
+    push_id(text, &access.id)?;
     text.push_str("].")?;
     text.push_str(&access.column.text)
 }
@@ -135,11 +158,23 @@ pub(crate) fn push_procedures(text: &mut String, procedures: &[Procedure]) -> Re
     Ok(())
 }
 
+/// Adds how many integers an id has, where it is more than one.
+fn push_arity(text: &mut String, arity: u64) -> Result<(), AllocError>
+    ensures { OnOk result (string_bytes text.new ≡ string_bytes text.old ++ arity_text arity) }
+{
+    if arity > 1 {
+        write!(text, "[{arity}]")
+    } else {
+        Ok(())
+    }
+}
+
 fn push_table(text: &mut String, table: &Table) -> Result<(), AllocError>
     ensures { OnOk result (string_bytes text.new ≡ string_bytes text.old ++ table_line (table_tree table.now)) }
 {
     text.push_str("table ")?;
     text.push_str(&table.name.text)?;
+    push_arity(text, table.arity)?;
     text.push_str(" { ")?;
     push_names(text, ", ", &table.columns)?;
     text.push_str(" }\n")
@@ -155,22 +190,53 @@ pub(crate) fn push_tables(text: &mut String, tables: &[Table]) -> Result<(), All
     Ok(())
 }
 
+/// Adds integers of an id, with a comma before each.
+fn push_other_signed(text: &mut String, integers: &[i64]) -> Result<(), AllocError>
+    ensures { OnOk result (string_bytes text.new ≡ string_bytes text.old ++ flat_map (λ n. codes "," ++ signed_decimal n) integers.now) }
+{
+    for integer in integers {
+        write!(text, ",{integer}")?;
+    }
+    Ok(())
+}
+
+/// Adds the integers of an id, with commas between.
+fn push_signed(text: &mut String, id: &[i64]) -> Result<(), AllocError>
+    ensures { OnOk result (string_bytes text.new ≡ string_bytes text.old ++ separated_text (codes ",") signed_decimal id.now) }
+{
+    if let Some((first, others)) = id.split_first() {
+        write!(text, "{first}")?;
+        push_other_signed(text, others)?;
+    }
+    Ok(())
+}
+
 /// Adds the cell of an init line.
 fn push_cell(text: &mut String, init: &Init) -> Result<(), AllocError>
     ensures { OnOk result (string_bytes text.new ≡ string_bytes text.old ++ cell_text (init_tree init.now)) }
 {
-    let (table, column) = (init.table.text.as_str(), init.column.text.as_str());
-    let (place, id) = (init.place, init.id);
-    write!(text, "{table}[{place},{id}].{column}")
+    let place = init.place;
+    text.push_str(&init.table.text)?;
+    write!(text, "[{place},")?;
+    push_signed(text, &init.id)?;
+    text.push_str("].")?;
+    text.push_str(&init.column.text)
+}
+
+/// Adds the value of an init line, and the end of the line.
+fn push_value(text: &mut String, init: &Init) -> Result<(), AllocError>
+    ensures { OnOk result (string_bytes text.new ≡ string_bytes text.old ++ codes " = " ++ signed_decimal init.now.value ++ codes ";" ++ 10 ∷ []) }
+{
+    let value = init.value;
+    write!(text, " = {value};\n")
 }
 
 fn push_init(text: &mut String, init: &Init) -> Result<(), AllocError>
     ensures { OnOk result (string_bytes text.new ≡ string_bytes text.old ++ init_line (init_tree init.now)) }
 {
-    let value = init.value;
     text.push_str("init ")?;
     push_cell(text, init)?;
-    write!(text, " = {value};\n")
+    push_value(text, init)
 }
 
 /// Adds init lines.

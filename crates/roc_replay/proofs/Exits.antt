@@ -1,14 +1,14 @@
 -- What the sink took at each end of a replay
-use Rattle.std.proofs.Common.{◌≡◌, ℕ, zero, suc, ◌+◌, ◌<◌, ◌≤◌, List, [], ◌∷◌, ◌++◌, length, map, take, drop, get_or, Bool, true, false, cond, refl, sym, ap, subst, ◌∙◌, arith, take-append-drop, append_assoc}
+use Rattle.std.proofs.Common.{◌≡◌, ℕ, zero, suc, ◌+◌, ◌<◌, ◌≤◌, List, [], ◌∷◌, ◌++◌, length, map, take, drop, get_or, Bool, true, false, cond, refl, sym, ap, subst, ◌∙◌, arith, take-append-drop}
 use Rattle.std.proofs.Math.Seq.{drop-cons, take-suc}
 use Rattle.std.proofs.lemmas.Bool.{ltb-true, false≢true}
 use Rattle.std.proofs.lemmas.Grind.{flat_map-append}
 use Rattle.std.proofs.lemmas.List.{append-nil}
 use Rattle.std.specs.Prelude.{Option, count_by, fold}
 use Rattle.roc_io.specs.Told.{Adds, AddsFront}
-use Rattle.roc_io.proofs.Told.{Adds-nil, Adds-trans, AddsFront-behind, AddsFront-longer}
+use Rattle.roc_io.proofs.Told.{Adds-trans, AddsThenFront-behind}
 use Rattle.roc_plan.specs.Groups.{Plan}
-use Rattle.roc_plan.specs.WellFormed.{IsThin}
+use Rattle.roc_plan.specs.Within.{IsWithin}
 use Rattle.roc_world.specs.World.{World}
 use Rattle.roc_world.specs.Reads.{cells_of, unanswered_of}
 use Rattle.roc_sched.specs.declared.line.Act.{Act}
@@ -20,12 +20,13 @@ use Rattle.roc_report.specs.Text.{line_text, lines_text}
 use Rattle.roc_replay.specs.declared.ended.Ended.{Ended}
 use Rattle.roc_replay.specs.declared.ended.Ended.TheVariants.{Done, Text, SinkFault, NoMemory}
 use Rattle.roc_replay.specs.Cells.{by_cell}
-use Rattle.roc_replay.specs.Closed.{IsClosed, asks_unsent}
-use Rattle.roc_replay.specs.Ended.{IsUnsent, IsFront, of_events, of_report, IsEnd}
+use Rattle.roc_replay.specs.Inner.Closed.{IsClosed, asks_unsent}
+use Rattle.roc_replay.specs.Ended.{IsUnsent, IsCut, at_line, at_end, IsUnfinished, behind_lines}
+use Rattle.roc_replay.specs.Inner.Ends.{IsEnd}
 use Rattle.roc_replay.specs.Played.{coordinators, IsPlayedLine}
 use Rattle.roc_replay.specs.Report.{is_busy, busy_in, end_line, closing_lines, steps_lines}
 use Rattle.roc_replay.proofs.Shows.{explained}
-use Rattle.roc_replay.proofs.SoFar.{IsSoFar, count_by-append, step, played_more, text_more}
+use Rattle.roc_replay.proofs.SoFar.{IsSoFar, count_by-append}
 
 -- ---- lists
 
@@ -46,9 +47,6 @@ take_all [] zero within = refl
 take_all [] (suc i) within = refl
 take_all (x ∷ xs) zero within = absurd (omega arith)
 take_all {A} (x ∷ xs) (suc i) within = let less : length xs ≤ i = omega arith in ap (λ (rest : List A). x ∷ rest) (take_all xs i less)
-
-front_of_all : {A : Type 0} (old new : Option (List A)) (xs : List A) → Adds old new xs → AddsFront old new xs
-front_of_all {A} old new xs adds = subst (AddsFront old new) (append-nil xs) (AddsFront-behind old new new xs [] adds (0, Adds-nil new))
 
 none_counted : {A B : Type 0} (p : B → Bool) (f : A → B) → ((a : A) → p (f a) ≡ false) → (xs : List A) → count_by p (map f xs) ≡ 0
 none_counted p f none [] = refl
@@ -80,18 +78,17 @@ module _ (plan : Plan) (schedule : List ℕ) (lines : List Line) (of : IsThinSch
       }
 
   -- no memory for the next line
-  pub stopped_end : (i : ℕ) (w : World) (busy : ℕ) (old now : Option (List ℕ)) → IsSoFar plan (take i lines) w busy old now → IsFront plan schedule old now
+  pub stopped_end : (i : ℕ) (w : World) (busy : ℕ) (old now : Option (List ℕ)) → IsSoFar plan (take i lines) w busy old now → IsUnfinished plan schedule old now
   stopped_end i w busy old now so =
-      of_events (take i lines) (drop i lines) so.steps w (subst (IsThinSchedule plan.program schedule) (sym (take-append-drop i lines)) of) so.played (front_of_all old now _ so.taken)
+      behind_lines (take i lines) (drop i lines) so.steps w (subst (IsThinSchedule plan.program schedule) (sym (take-append-drop i lines)) of) so.played so.taken
 
   -- the sink failed at the text of a line
   pub failed_end : (i : ℕ) (line : Line) (w after : World) (text : List ℕ) (busy more : ℕ) (old now then : Option (List ℕ)) → i < length lines → line ≡ get_or lines i line
-      → IsSoFar plan (take i lines) w busy old now → IsPlayedLine plan line.act w after text more → AddsFront now then text → IsFront plan schedule old then
+      → IsSoFar plan (take i lines) w busy old now → IsPlayedLine plan line.act w after text more → AddsFront now then text → IsCut plan schedule old then
   failed_end i line w after text busy more old now then within is so next front =
-      of_events (take i lines ++ line ∷ []) (drop (suc i) lines) (so.steps ++ step plan (take i lines) line so.steps w after text more so.played next ∷ []) after
-      (subst (IsThinSchedule plan.program schedule) (sym (append_assoc (take i lines) (line ∷ []) (drop (suc i) lines) ∙ parts_at lines i line within is)) of)
-      (played_more plan (take i lines) line so.steps w after text more so.played next)
-      (subst (AddsFront old then) (sym (text_more plan (take i lines) line so.steps w after text more so.played next)) (AddsFront-behind old now then _ text so.taken front))
+      at_line (take i lines) line (drop (suc i) lines) so.steps w after text more
+      (subst (IsThinSchedule plan.program schedule) (sym (parts_at lines i line within is)) of) so.played next
+      (AddsThenFront-behind old now then _ text so.taken front)
 
   -- ---- the closing lines
 
@@ -104,7 +101,7 @@ module _ (plan : Plan) (schedule : List ℕ) (lines : List Line) (of : IsThinSch
       let four = none_counted is_busy Pending (λ id. refl) (unanswered_of w) in
       omega arith
 
-  pub closed_end : (thin : IsThin plan) (w : World) (busy : ℕ) (old now then : Option (List ℕ)) → IsSoFar plan lines w busy old now → (e : Ended) → IsClosed plan.program w busy e now then → IsEnd plan schedule e old then
+  pub closed_end : (thin : IsWithin plan) (w : World) (busy : ℕ) (old now then : Option (List ℕ)) → IsSoFar plan lines w busy old now → (e : Ended) → IsClosed plan.program w busy e now then → IsEnd plan schedule e old then
   closed_end thin w busy old now then so (Done summary) (adds, end, refused) = record {
     lines = lines;
     of_schedule = of;
@@ -116,11 +113,8 @@ module _ (plan : Plan) (schedule : List ℕ) (lines : List Line) (of : IsThinSch
     end = end;
     busy = (let all = count_by-append is_busy (steps_lines [] so.steps) (closing_lines w) in let none = busy_in-closing w in let before = so.refused in omega arith);
   }
-  closed_end thin w busy old now then so SinkFault front =
-      of_report lines so.steps w of so.played
-      (subst (AddsFront old then) (sym (flat_map-append (line_text plan.program) (steps_lines [] so.steps) (closing_lines w))) (AddsFront-behind old now then _ _ so.taken front))
+  closed_end thin w busy old now then so SinkFault front = at_end lines so.steps w of so.played (AddsThenFront-behind old now then _ _ so.taken front)
   closed_end thin w busy old now then so NoMemory same =
-      of_report lines so.steps w of so.played
-      (subst (AddsFront old then) (sym (flat_map-append (line_text plan.program) (steps_lines [] so.steps) (closing_lines w)))
-      (AddsFront-longer old then (lines_text plan.program (steps_lines [] so.steps)) (lines_text plan.program (closing_lines w)) (front_of_all old then _ (subst (λ (x : Option (List ℕ)). Adds old x (lines_text plan.program (steps_lines [] so.steps))) (sym same) so.taken))))
+      behind_lines lines [] so.steps w (subst (IsThinSchedule plan.program schedule) (sym (append-nil lines)) of) so.played
+      (subst (λ (x : Option (List ℕ)). Adds old x (lines_text plan.program (steps_lines [] so.steps))) (sym same) so.taken)
   closed_end thin w busy old now then so (Text line what) never = absurd never

@@ -1,5 +1,6 @@
 pub mod Exits
 pub mod Growing
+pub mod OneReport
 pub mod Rising
 pub mod Shows
 pub mod SoFar

@@ -11,14 +11,14 @@ use Rattle.roc_msg.specs.declared.msg.Msg.{Msg}
 use Rattle.roc_msg.specs.declared.msg.Sent.{Sent}
 use Rattle.roc_msg.specs.declared.outbox.Outgoing.{Outgoing}
 use Rattle.roc_plan.specs.Groups.{Plan}
-use Rattle.roc_plan.specs.WellFormed.{IsThin}
+use Rattle.roc_plan.specs.Within.{IsWithin}
 use Rattle.roc_server.specs.declared.handled.Handled.{Handled as ServerHandled}
 use Rattle.roc_server.specs.declared.handled.Handled.TheVariants as server_answer
 use Rattle.roc_coord.specs.declared.handled.Handled.{Handled as CoordHandled}
 use Rattle.roc_coord.specs.declared.handled.Handled.TheVariants as coord_answer
 use Rattle.roc_coord.specs.declared.handled.SubmitFault.{SubmitFault}
 use Rattle.roc_coord.specs.declared.handled.SubmitFault.TheVariants as fault
-use Rattle.roc_coord.specs.State.{State as CoordState}
+use Rattle.roc_coord.specs.State.{CoordState}
 use Rattle.roc_coord.specs.Step.{after_message}
 use Rattle.roc_audit.specs.declared.entry.Entry.{Entry}
 use Rattle.roc_audit.specs.Witness.{IsSerialWitness}
@@ -172,7 +172,7 @@ report_orders steps w =
     ∙ ap (λ (l : List (List TxnId)). l ++ orders_in (closing_lines w)) (orders_in-steps [] steps)
     ∙ closing_orders w
 
-pub explained : (plan : Plan) (coords : ℕ) (steps : List Stepped) (w : World) → IsThin plan → IsRun plan coords steps w → IsExplained plan.program (report steps w)
+pub explained : (plan : Plan) (coords : ℕ) (steps : List Stepped) (w : World) → IsWithin plan → IsRun plan coords steps w → IsExplained plan.program (report steps w)
 explained plan coords steps w thin r = record {
   order = w.order;
   shown = report_orders steps w;

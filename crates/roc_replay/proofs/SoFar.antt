@@ -21,7 +21,7 @@ use Rattle.roc_sched.specs.declared.line.Act.TheVariants as act
 use Rattle.roc_sched.specs.declared.line.Line.{Line}
 use Rattle.roc_sched.specs.Thin.{FitsProgram}
 use Rattle.roc_report.specs.Text.{line_text, lines_text}
-use Rattle.roc_replay.specs.Closed.{asks_unsent}
+use Rattle.roc_replay.specs.Inner.Closed.{asks_unsent}
 use Rattle.roc_replay.specs.Events.{event_of}
 use Rattle.roc_replay.specs.Played.{coordinators, IsPlayed, IsPlayedLine}
 use Rattle.roc_replay.specs.Report.{is_busy, busy_in, first_lines, send_lines, answer_lines, step_lines, steps_lines}

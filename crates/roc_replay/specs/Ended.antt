@@ -1,7 +1,7 @@
 -- How a replay ends, and what the sink took: docs/FORMATS.md, "Report"
 use Rattle.std.specs.Prelude.{◌≡◌, ℕ, ◌<◌, Bool, true, false, List, [], ◌∷◌, ◌++◌, Option, length}
-use Rattle.roc_io.specs.Told.{Adds, AddsFront}
-use Rattle.roc_plan.specs.Program.{Workload}
+use Rattle.roc_io.specs.Told.{Adds, AddsThenFront}
+use Rattle.roc_program.specs.Program.{Workload}
 use Rattle.roc_plan.specs.Groups.{Plan}
 use Rattle.roc_world.specs.World.{World}
 use Rattle.roc_world.specs.Happens.{Stepped}
@@ -15,48 +15,41 @@ use Rattle.roc_report.specs.Text.{lines_text}
 use Rattle.roc_replay.specs.declared.ended.Ended.{Ended}
 use Rattle.roc_replay.specs.declared.ended.Ended.TheVariants.{Done, Text, SinkFault, NoMemory}
 use Rattle.roc_replay.specs.declared.ended.Summary.{Summary}
-use Rattle.roc_replay.specs.Report.{steps_lines, end_line, busy_in, report}
+use Rattle.roc_replay.specs.Report.{steps_lines, closing_lines, end_line, busy_in, report}
 use Rattle.roc_replay.specs.Told.{IsExplained}
-use Rattle.roc_replay.specs.Played.{IsPlayed}
+use Rattle.roc_replay.specs.Played.{IsPlayed, IsPlayedLine}
 
 -- ---- which end
 
 -- where the whole schedule was played
 abbrev pub IfDone : Ended → (Summary → Type 0) → Type 0
 IfDone (Done summary) P = P summary
-IfDone (Text line w) P = Unit {0}
-IfDone SinkFault P = Unit {0}
-IfDone NoMemory P = Unit {0}
+IfDone _ P = Unit {0}
 
 -- where a line asks for a message that was not sent
 abbrev pub IfMessage : Ended → (ℕ → Type 0) → Type 0
 IfMessage (Text line what.Message) P = P line
-IfMessage (Text line what.Limit) P = Unit {0}
-IfMessage (Done summary) P = Unit {0}
-IfMessage SinkFault P = Unit {0}
-IfMessage NoMemory P = Unit {0}
+IfMessage _ P = Unit {0}
 
 -- where the text has another fault
 abbrev pub IfRefused : Ended → (ℕ → What → Type 0) → Type 0
-IfRefused (Text line what.Message) P = Unit {0}
 IfRefused (Text line what.Limit) P = P line what.Limit
-IfRefused (Done summary) P = Unit {0}
-IfRefused SinkFault P = Unit {0}
-IfRefused NoMemory P = Unit {0}
+IfRefused _ P = Unit {0}
 
--- where it stopped on the way
-abbrev pub OnStopped : Ended → Type 0 → Type 0
-OnStopped SinkFault P = P
-OnStopped NoMemory P = P
-OnStopped (Done summary) P = Unit {0}
-OnStopped (Text line w) P = Unit {0}
+-- where the sink failed
+abbrev pub OnSinkFault : Ended → Type 0 → Type 0
+OnSinkFault SinkFault P = P
+OnSinkFault _ P = Unit {0}
 
--- the sink failed
-abbrev pub sink_failed : Ended → Bool
-sink_failed SinkFault = true
-sink_failed (Done summary) = false
-sink_failed (Text line w) = false
-sink_failed NoMemory = false
+-- where memory ran out
+abbrev pub OnNoMemory : Ended → Type 0 → Type 0
+OnNoMemory NoMemory P = P
+OnNoMemory _ P = Unit {0}
+
+-- the sink is blamed
+abbrev pub is_sink_fault : Ended → Bool
+is_sink_fault SinkFault = true
+is_sink_fault _ = false
 
 -- ---- what the sink took
 
@@ -88,22 +81,22 @@ pub record IsUnsent (plan : Plan) (schedule : List ℕ) (number : ℕ) (old new 
   pub taken : Adds old new (lines_text plan.program (steps_lines [] steps))
 
 -- the bytes are a thin schedule of no lines, and the sink took nothing
-pub record IsRefused (program : Workload) (schedule : List ℕ) (number : ℕ) (fault : What) (old new : Option (List ℕ)) : Type 0 where
+pub record IsNoSchedule (program : Workload) (schedule : List ℕ) (number : ℕ) (fault : What) (old new : Option (List ℕ)) : Type 0 where
   pub first : number ≡ 1
   pub limit : fault ≡ what.Limit
   pub none : (lines : List Line) → IsThinSchedule program schedule lines → ⊥
   pub untouched : new ≡ old
 
--- what the sink took is a front of the report so far: nothing, or a front of the lines of a run over some first lines of the schedule, or of the whole report of a run over all of them
-pub data IsFront (plan : Plan) (schedule : List ℕ) (old new : Option (List ℕ)) : Type 0 where
-  of_nothing : new ≡ old → IsFront plan schedule old new
-  of_events : (before behind : List Line) (steps : List Stepped) (w : World) → IsThinSchedule plan.program schedule (before ++ behind) → IsPlayed plan before steps w → AddsFront old new (lines_text plan.program (steps_lines [] steps)) → IsFront plan schedule old new
-  of_report : (lines : List Line) (steps : List Stepped) (w : World) → IsThinSchedule plan.program schedule lines → IsPlayed plan lines steps w → AddsFront old new (lines_text plan.program (report steps w)) → IsFront plan schedule old new
+-- the sink failed at the text of a line of the schedule, or at the closing lines: it took all that was to be written before, and a front of this
+pub data IsCut (plan : Plan) (schedule : List ℕ) (old new : Option (List ℕ)) : Type 0 where
+  at_line : (before : List Line) (line : Line) (behind : List Line) (steps : List Stepped) (w after : World) (text : List ℕ) (busy : ℕ)
+      → IsThinSchedule plan.program schedule (before ++ line ∷ behind) → IsPlayed plan before steps w → IsPlayedLine plan line.act w after text busy
+      → AddsThenFront old new (lines_text plan.program (steps_lines [] steps)) text → IsCut plan schedule old new
+  at_end : (lines : List Line) (steps : List Stepped) (w : World) → IsThinSchedule plan.program schedule lines → IsPlayed plan lines steps w
+      → AddsThenFront old new (lines_text plan.program (steps_lines [] steps)) (lines_text plan.program (closing_lines w)) → IsCut plan schedule old new
 
--- each end with what it says
-abbrev pub IsEnd : Plan → List ℕ → Ended → (old new : Option (List ℕ)) → Type 0
-IsEnd plan schedule (Done summary) old new = IsReplayed plan schedule summary old new
-IsEnd plan schedule (Text line what.Message) old new = IsUnsent plan schedule line old new
-IsEnd plan schedule (Text line what.Limit) old new = IsRefused plan.program schedule line what.Limit old new
-IsEnd plan schedule SinkFault old new = IsFront plan schedule old new
-IsEnd plan schedule NoMemory old new = IsFront plan schedule old new
+-- memory ran out: the sink took nothing, or the whole text of some first lines of the schedule
+pub data IsUnfinished (plan : Plan) (schedule : List ℕ) (old new : Option (List ℕ)) : Type 0 where
+  at_start : new ≡ old → IsUnfinished plan schedule old new
+  behind_lines : (before behind : List Line) (steps : List Stepped) (w : World) → IsThinSchedule plan.program schedule (before ++ behind) → IsPlayed plan before steps w
+      → Adds old new (lines_text plan.program (steps_lines [] steps)) → IsUnfinished plan schedule old new

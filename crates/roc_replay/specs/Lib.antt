@@ -1,7 +1,7 @@
 pub mod Cells
-pub mod Closed
 pub mod Ended
 pub mod Events
+pub mod Inner
 pub mod Played
 pub mod Report
 pub mod Told

@@ -4,8 +4,9 @@
 //! has the lines of a run, and `specs/Told.antt` what lines tell of themselves. The layers above may rely on
 //! this: where `replay` answers Done, the sink took the text of the report of the run of exactly that
 //! schedule, and the report's one `order` line is a serial witness of the history that its own `submit`
-//! and `answer` lines show. Of any other end they may rely on its cause, and that what the sink took is a front
-//! of the report so far.
+//! and `answer` lines show. Of any other end they may rely on its cause, and on what the sink took: the text of
+//! whole lines of the schedule, and where a write failed a front of the text that was due behind it. `specs/Inner/`
+//! is of this crate alone.
 #![tactic(auto)]
 
 mod closing;

@@ -1,13 +1,12 @@
 //! The text of an event's lines.
 ghost use Rattle.std.specs.Prelude.{◌≡◌, ◌+◌, ◌^◌, ◌<◌, ◌≤◌, ◌++◌, drop, length, IfOk, OnOk};
-ghost use Rattle.roc_plan.specs.Workload.{program};
 ghost use Rattle.roc_report.specs.Text.{lines_text};
 ghost use Rattle.roc_replay.specs.Events.{event_of};
 ghost use Rattle.roc_replay.specs.Report.{first_lines, ignored_lines, send_lines, answer_lines};
 
 use roc_base::NoMemory;
 use roc_msg::Sent;
-use roc_plan::Workload;
+use roc_program::Workload;
 use roc_report::{ReportLine, append};
 use roc_sched::Act;
 use roc_world::Seen;
@@ -25,7 +24,7 @@ pub fn event_text(
 ) -> Result<Vec<u8>, NoMemory>
     requires { before ≤ length sent.now }
     ensures { IfOk result (λ text. text.items
-        ≡ lines_text (program workload.now) (first_lines (event_of act.now) seen.now ++ (send_lines (before + 1) (drop before sent.now) ++ answer_lines seen.now))) }
+        ≡ lines_text (workload.now) (first_lines (event_of act.now) seen.now ++ (send_lines (before + 1) (drop before sent.now) ++ answer_lines seen.now))) }
 {
     let mut text = Vec::new(alloc);
     push_first(alloc, &mut text, workload, act, seen)?;
@@ -49,7 +48,7 @@ fn push_first(
     act: &Act,
     seen: &Seen,
 ) -> Result<(), NoMemory>
-    ensures { OnOk result (text.new.items ≡ text.old.items ++ lines_text (program workload.now) (first_lines (event_of act.now) seen.now)) }
+    ensures { OnOk result (text.new.items ≡ text.old.items ++ lines_text (workload.now) (first_lines (event_of act.now) seen.now)) }
 {
     match act {
         Act::Submit { coord, proc, args } => {
@@ -79,7 +78,7 @@ fn push_ignored(
     workload: &Workload,
     seen: &Seen,
 ) -> Result<(), NoMemory>
-    ensures { OnOk result (text.new.items ≡ text.old.items ++ lines_text (program workload.now) (ignored_lines seen.now)) }
+    ensures { OnOk result (text.new.items ≡ text.old.items ++ lines_text (workload.now) (ignored_lines seen.now)) }
 {
     match seen {
         Seen::Ignored(reason) => append(alloc, text, workload, &ReportLine::Ignored(*reason)),
@@ -98,7 +97,7 @@ fn push_sends(
     sent: &[Sent],
 ) -> Result<(), NoMemory>
     requires { first + length sent.now < 2 ^ 64 }
-    ensures { OnOk result (text.new.items ≡ text.old.items ++ lines_text (program workload.now) (send_lines first sent.now)) }
+    ensures { OnOk result (text.new.items ≡ text.old.items ++ lines_text (workload.now) (send_lines first sent.now)) }
 {
     for (index, sent) in sent.iter().enumerate() {
         let number = first + index as u64;
@@ -114,7 +113,7 @@ fn push_answer(
     workload: &Workload,
     seen: &Seen,
 ) -> Result<(), NoMemory>
-    ensures { OnOk result (text.new.items ≡ text.old.items ++ lines_text (program workload.now) (answer_lines seen.now)) }
+    ensures { OnOk result (text.new.items ≡ text.old.items ++ lines_text (workload.now) (answer_lines seen.now)) }
 {
     match seen {
         Seen::Answered { id, reply } => append(

@@ -2,14 +2,15 @@
 ghost use Rattle.std.specs.Prelude.{◌≡◌, ℕ, ◌≤◌, List, length, IfOk, OnOk};
 ghost use Rattle.std.specs.List.{AllByRecursion};
 ghost use Rattle.roc_io.specs.Cause.{HasCause};
-ghost use Rattle.roc_plan.specs.WellFormed.{IsThin};
+ghost use Rattle.roc_plan.specs.Within.{IsWithin};
 ghost use Rattle.roc_world.specs.Fits.{FitsWorld};
 ghost use Rattle.roc_world.specs.Reached.{IsReached, IsEventOf};
 ghost use Rattle.roc_world.specs.Reads.{cells_of};
 ghost use Rattle.roc_sched.specs.Thin.{IsThinSchedule, FitsProgram};
 ghost use Rattle.roc_replay.specs.Cells.{by_cell};
-ghost use Rattle.roc_replay.specs.Closed.{IsClosed, asks_unsent};
-ghost use Rattle.roc_replay.specs.Ended.{IsEnd, sink_failed};
+ghost use Rattle.roc_replay.specs.Inner.Closed.{IsClosed, asks_unsent};
+ghost use Rattle.roc_replay.specs.Ended.{is_sink_fault};
+ghost use Rattle.roc_replay.specs.Inner.Ends.{IsEnd};
 ghost use Rattle.roc_replay.specs.Events.{event_of};
 ghost use Rattle.roc_replay.specs.Played.{IsPlayedLine};
 ghost use Rattle.roc_replay.specs.Report.{first_lines, busy_in};
@@ -30,10 +31,10 @@ const COORDINATORS: u16 = 16;
 /// Plays the lines of a schedule, one after another, from the first world on. The sink takes the
 /// lines of each event in one piece, and the closing lines in one piece at the end.
 pub fn play<S: Sink>(alloc: Global, plan: &Plan, lines: &[Line], sink: &mut S) -> Ended
-    requires thin { IsThin plan.now }
+    requires within { IsWithin plan.now }
     requires fits { AllByRecursion (λ line. FitsProgram plan.now.program line.act) lines.now }
     ensures ends { (schedule : List ℕ) → IsThinSchedule plan.now.program schedule lines.now → IsEnd plan.now schedule result (S.taken sink.old) (S.taken sink.new) }
-    ensures sink { HasCause (sink_failed result) (S.faults sink.old) (S.faults sink.new) }
+    ensures sink { HasCause (is_sink_fault result) (S.faults sink.old) (S.faults sink.new) }
 {
     let Ok(mut world) = World::new(alloc, plan, COORDINATORS) else {
         return Ended::NoMemory;
@@ -61,7 +62,7 @@ pub fn play<S: Sink>(alloc: Global, plan: &Plan, lines: &[Line], sink: &mut S) -
 fn close<S: Sink>(alloc: Global, plan: &Plan, world: &World, busy: u64, sink: &mut S) -> Ended
     requires { by_cell (cells_of world.now) ≡ cells_of world.now }
     ensures closed { IsClosed plan.now.program world.now busy result (S.taken sink.old) (S.taken sink.new) }
-    ensures sink { HasCause (sink_failed result) (S.faults sink.old) (S.faults sink.new) }
+    ensures sink { HasCause (is_sink_fault result) (S.faults sink.old) (S.faults sink.new) }
 {
     let Ok(closing) = last_lines(alloc, plan, world, busy) else {
         return Ended::NoMemory;
@@ -91,6 +92,7 @@ struct Played {
 
 // Plays one line: its event happens, and the lines that tell it are given as text.
 fn play_line(alloc: Global, plan: &Plan, world: &mut World, act: &Act) -> Result<Played, NoMemory>
+    requires within { IsWithin plan.now }
     requires reached { IsReached plan.now world.old }
     requires fits { FitsWorld plan.now world.old }
     requires event { IsEventOf plan.now world.old (event_of act.now) }

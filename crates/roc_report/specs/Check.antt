@@ -1,10 +1,11 @@
 -- The text of `check`, as lines: docs/FORMATS.md, "Text of check"
 use Rattle.std.specs.Prelude.{ℕ, Bool, List, [], ◌∷◌, ◌++◌, length, map, filter, if◌then◌else◌}
 use Rattle.std.specs.List.{flat_map, range_with_len}
-use Rattle.roc_plan.specs.Program.{Workload}
-use Rattle.roc_plan.specs.Pieces.{pieces_of, all_pieces}
-use Rattle.roc_plan.specs.Conflict.{piece_of, are_in_conflict}
-use Rattle.roc_plan.specs.declared.static_conflict.PieceId.{PieceId}
+use Rattle.roc_program.specs.Program.{Workload}
+use Rattle.roc_program.specs.Pieces.{piece_ids, all_pieces}
+use Rattle.roc_program.specs.Conflict.{are_in_conflict}
+use Rattle.roc_program.specs.Pieces.{piece_of}
+use Rattle.roc_program.specs.declared.piece_id.PieceId.{PieceId}
 use Rattle.roc_report.specs.declared.line.Standing.{Standing}
 use Rattle.roc_report.specs.declared.line.Standing.TheVariants.{Immediate, Promoted, Deferrable}
 use Rattle.roc_report.specs.Line.{Line, Shards, Proc, Piece, Conflict}
@@ -20,7 +21,7 @@ standing_of program is_immediate id = if (piece_of program id).is_now then Immed
 -- a procedure, and behind it its pieces
 abbrev pub procedure_lines : Workload → (PieceId → Bool) → ℕ → List Line
 procedure_lines program is_immediate proc =
-    Proc proc ∷ map (λ id. Piece id (standing_of program is_immediate id)) (pieces_of program proc)
+    Proc proc ∷ map (λ id. Piece id (standing_of program is_immediate id)) (piece_ids program proc)
 
 -- each of these pieces with itself and with those behind it, where the two conflict
 abbrev pub conflict_lines : Workload → List PieceId → List Line

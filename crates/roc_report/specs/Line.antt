@@ -3,7 +3,7 @@ use Rattle.std.specs.Prelude.{ℕ, ℤ, List}
 use Rattle.roc_base.specs.declared.id.TxnId.{TxnId}
 use Rattle.roc_msg.specs.declared.reason.Reason.{Reason}
 use Rattle.roc_msg.specs.declared.msg.Sent.{Sent}
-use Rattle.roc_plan.specs.declared.static_conflict.PieceId.{PieceId}
+use Rattle.roc_program.specs.declared.piece_id.PieceId.{PieceId}
 use Rattle.roc_rows.specs.declared.cell.Cell.{Cell}
 use Rattle.roc_report.specs.declared.line.Standing.{Standing}
 

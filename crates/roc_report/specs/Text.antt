@@ -12,10 +12,10 @@ use Rattle.roc_msg.specs.declared.msg.Msg.TheVariants as msg
 use Rattle.roc_msg.specs.declared.msg.Sent.{Sent}
 use Rattle.roc_msg.specs.Msg.{id_of, word_of}
 use Rattle.roc_msg.specs.Reason.{reason_text}
-use Rattle.roc_plan.specs.Program.{Workload}
-use Rattle.roc_plan.specs.LookUps.{procedure_name, table_name, column_name}
-use Rattle.roc_plan.specs.Conflict.{piece_of}
-use Rattle.roc_plan.specs.declared.static_conflict.PieceId.{PieceId}
+use Rattle.roc_program.specs.Program.{Workload}
+use Rattle.roc_program.specs.LookUps.{procedure_name, table_name, column_name}
+use Rattle.roc_program.specs.Pieces.{piece_of}
+use Rattle.roc_program.specs.declared.piece_id.PieceId.{PieceId}
 use Rattle.roc_rows.specs.declared.cell.Cell.{Cell}
 use Rattle.roc_report.specs.Line.{Line, Submit, Busy, Spent, Deliver, Ignored, Send, Answer, Order, Row, Pending, End, Shards, Proc, Piece, Conflict}
 use Rattle.roc_report.specs.Standing.{standing_text}
@@ -52,9 +52,13 @@ edges_of (msg.CommitOk id shard outs) = []
 abbrev pub sent_text : Sent → List ℕ
 sent_text s = word_of s.msg ++ ids_text (option_to_list (id_of s.msg)) ++ spaced (node_text s.from) ++ spaced (node_text s.to) ++ edges_text (edges_of s.msg)
 
--- TABLE[PLACE,ID].COLUMN
+-- the integers of an id, a comma before each
+abbrev pub key_text : List ℤ → List ℕ
+key_text id = flat_map (λ n. codes "," ++ signed_decimal n) id
+
+-- TABLE[PLACE,ID..].COLUMN
 abbrev pub cell_text : Workload → Cell → List ℕ
-cell_text program c = table_name program c.table ++ codes "[" ++ signed_decimal c.place ++ codes "," ++ signed_decimal c.id ++ codes "]." ++ column_name program c.table c.column
+cell_text program c = table_name program c.table ++ codes "[" ++ signed_decimal c.place ++ key_text c.id ++ codes "]." ++ column_name program c.table c.column
 
 -- PROCEDURE.PIECE
 abbrev pub piece_text : Workload → PieceId → List ℕ

@@ -2,7 +2,7 @@
 
 use roc_base::{Nums, TxnId};
 use roc_msg::{Reason, Sent};
-use roc_plan::PieceId;
+use roc_program::PieceId;
 use roc_rows::Cell;
 use std::fmt;
 
@@ -33,7 +33,7 @@ impl fmt::Display for Standing {
     }
 }
 
-/// One line of a report. It lends its lists and messages from where they are kept.
+/// One line of a report. It lends its lists, messages and cells from where they are kept.
 #[derive(Clone, Copy, Debug)]
 pub enum ReportLine<'a> {
     /// An accepted submission: its id, the procedure's number and the arguments.
@@ -64,7 +64,7 @@ pub enum ReportLine<'a> {
     Order(&'a [TxnId]),
     /// A cell that is not 0, and its number.
     Row {
-        cell: Cell,
+        cell: &'a Cell,
         value: i64,
     },
     /// A transaction without a reply.
@@ -76,15 +76,17 @@ pub enum ReportLine<'a> {
         pending: u64,
         messages: u64,
     },
+}
+
+/// One line of the text of `check`.
+#[derive(Clone, Copy, Debug)]
+pub enum CheckLine {
     /// How many shards the workload has.
     Shards(u8),
     /// A procedure, by its number.
     Proc(u16),
     /// A piece of a procedure.
-    Piece {
-        id: PieceId,
-        standing: Standing,
-    },
+    Piece { id: PieceId, standing: Standing },
     /// Two pieces in static conflict.
     Conflict(PieceId, PieceId),
 }

@@ -2,17 +2,15 @@
 ghost use Rattle.std.specs.Prelude.{◌≡◌, ◌∷◌, ◌++◌, OnOk, OnErr, codes};
 ghost use Rattle.std.specs.Fmt.{decimal};
 ghost use Rattle.std.specs.String.{string_bytes};
-ghost use Rattle.roc_plan.specs.Conflict.{piece_of};
-ghost use Rattle.roc_plan.specs.LookUps.{procedure_name, table_name, column_name};
-ghost use Rattle.roc_plan.specs.Workload.{program};
-ghost use Rattle.roc_report.specs.Line.{Row, Conflict};
+ghost use Rattle.roc_program.specs.LookUps.{procedure_name, table_name, column_name};
+ghost use Rattle.roc_report.specs.Line.{Row};
 ghost use Rattle.roc_report.specs.Shown.{shown};
-ghost use Rattle.roc_report.specs.Text.{numbers_text, ids_text, tags_text, edges_text, edges_of, spaced, sent_text, cell_text, words_of, line_text};
+ghost use Rattle.roc_report.specs.Text.{numbers_text, ids_text, tags_text, edges_text, edges_of, spaced, sent_text, key_text, cell_text, words_of, line_text};
 
 use crate::ReportLine;
 use roc_base::{Edge, NoMemory, Shard, TxnId};
 use roc_msg::{Msg, Sent};
-use roc_plan::{PieceId, Workload};
+use roc_program::Workload;
 use roc_rows::Cell;
 use std::alloc::{AllocError, Global};
 
@@ -24,7 +22,7 @@ pub fn append(
     workload: &Workload,
     line: &ReportLine,
 ) -> Result<(), NoMemory>
-    ensures ok { OnOk result (into.new.items ≡ into.old.items ++ line_text (program workload.now) (shown line.now)) }
+    ensures ok { OnOk result (into.new.items ≡ into.old.items ++ line_text workload.now (shown line.now)) }
     ensures err { OnErr result (into.new.items ≡ into.old.items) }
 {
     let mut text = String::new(alloc);
@@ -36,7 +34,7 @@ pub fn append(
 
 // Adds a line without its end.
 fn push_words(text: &mut String, workload: &Workload, line: &ReportLine) -> Result<(), AllocError>
-    ensures { OnOk result (string_bytes text.new ≡ string_bytes text.old ++ words_of (program workload.now) (shown line.now)) }
+    ensures { OnOk result (string_bytes text.new ≡ string_bytes text.old ++ words_of workload.now (shown line.now)) }
 {
     match line {
         ReportLine::Submit { id, proc, args } => {
@@ -56,7 +54,7 @@ fn push_words(text: &mut String, workload: &Workload, line: &ReportLine) -> Resu
             text.push_str("order")?;
             push_ids(text, ids)
         }
-        ReportLine::Row { cell, value } => push_row(text, workload, *cell, *value),
+        ReportLine::Row { cell, value } => push_row(text, workload, **cell, *value),
         ReportLine::Pending(id) => write!(text, "pending {id}"),
         ReportLine::End {
             answered,
@@ -66,12 +64,6 @@ fn push_words(text: &mut String, workload: &Workload, line: &ReportLine) -> Resu
             text,
             "end {answered} answered {pending} pending {messages} messages"
         ),
-        ReportLine::Shards(count) => write!(text, "shards {count}"),
-        ReportLine::Proc(proc) => write!(text, "proc {}", procedure_name(workload, *proc)),
-        ReportLine::Piece { id, standing } => {
-            write!(text, "piece {} {standing}", piece_name(workload, *id))
-        }
-        ReportLine::Conflict(first, second) => push_conflict(text, workload, *first, *second),
     }
 }
 
@@ -150,7 +142,7 @@ fn push_row(
     cell: Cell,
     value: i64,
 ) -> Result<(), AllocError>
-    ensures { OnOk result (string_bytes text.new ≡ string_bytes text.old ++ words_of (program workload.now) (Row cell value)) }
+    ensures { OnOk result (string_bytes text.new ≡ string_bytes text.old ++ words_of workload.now (Row cell value)) }
 {
     text.push_str("row ")?;
     push_cell(text, workload, cell)?;
@@ -159,55 +151,31 @@ fn push_row(
 
 // Adds where a cell is.
 fn push_cell(text: &mut String, workload: &Workload, cell: Cell) -> Result<(), AllocError>
-    ensures { OnOk result (string_bytes text.new ≡ string_bytes text.old ++ cell_text (program workload.now) cell) }
+    ensures { OnOk result (string_bytes text.new ≡ string_bytes text.old ++ cell_text workload.now cell) }
 {
     let (place, id) = (cell.place, cell.id);
     let table = table_name(workload, cell.table);
     let column = column_name(workload, cell.table, cell.column);
-    write!(text, "{table}[{place},{id}].{column}")
+    write!(text, "{table}[{place}")?;
+    push_key(text, id.as_slice())?;
+    write!(text, "].{column}")
 }
 
-// Adds a conflict of two pieces.
-fn push_conflict(
-    text: &mut String,
-    workload: &Workload,
-    first: PieceId,
-    second: PieceId,
-) -> Result<(), AllocError>
-    ensures { OnOk result (string_bytes text.new ≡ string_bytes text.old ++ words_of (program workload.now) (Conflict first second)) }
+// Adds the integers of an id, a comma before each.
+fn push_key(text: &mut String, id: &[i64]) -> Result<(), AllocError>
+    ensures { OnOk result (string_bytes text.new ≡ string_bytes text.old ++ key_text id.now) }
 {
-    let (proc, piece) = (
-        procedure_name(workload, first.proc),
-        piece_name(workload, first),
-    );
-    let (other_proc, other_piece) = (
-        procedure_name(workload, second.proc),
-        piece_name(workload, second),
-    );
-    write!(text, "conflict {proc}.{piece} {other_proc}.{other_piece}")
-}
-
-// The name of a piece, if it exists.
-fn piece_name(workload: &Workload, id: PieceId) -> &str
-    ensures { result.now ≡ (piece_of (program workload.now) id).name }
-{
-    let PieceId { proc, piece } = id;
-    if usize::from(proc) < workload.procedures.len()
-        && usize::from(piece) < workload.procedures[usize::from(proc)].pieces.len()
-    {
-        workload.procedures[usize::from(proc)].pieces[usize::from(piece)]
-            .name
-            .as_str()
-    } else {
-        ""
+    for integer in id {
+        write!(text, ",{integer}")?;
     }
+    Ok(())
 }
 
-// The name of a procedure, if it exists.
-fn procedure_name(workload: &Workload, proc: u16) -> &str
-    ensures { result.now ≡ procedure_name (program workload.now) proc }
+/// The name of a procedure, if it exists.
+pub(crate) fn procedure_name(workload: &Workload, proc: u16) -> &str
+    ensures { result.now ≡ procedure_name workload.now proc }
 {
-    if usize::from(proc) < workload.procedures.len() {
+    if usize::from(proc) < workload.procedures().len() {
         workload.procedure_name(proc)
     } else {
         ""
@@ -216,9 +184,9 @@ fn procedure_name(workload: &Workload, proc: u16) -> &str
 
 // The name of a table, if it exists.
 fn table_name(workload: &Workload, table: u8) -> &str
-    ensures { result.now ≡ table_name (program workload.now) table }
+    ensures { result.now ≡ table_name workload.now table }
 {
-    if usize::from(table) < workload.tables.len() {
+    if usize::from(table) < workload.tables().len() {
         workload.table_name(table)
     } else {
         ""
@@ -227,10 +195,10 @@ fn table_name(workload: &Workload, table: u8) -> &str
 
 // The name of a column, if it exists.
 fn column_name(workload: &Workload, table: u8, column: u8) -> &str
-    ensures { result.now ≡ column_name (program workload.now) table column }
+    ensures { result.now ≡ column_name workload.now table column }
 {
-    if usize::from(table) < workload.tables.len()
-        && usize::from(column) < workload.tables[usize::from(table)].columns.len()
+    if usize::from(table) < workload.tables().len()
+        && usize::from(column) < workload.tables()[usize::from(table)].columns.len()
     {
         workload.column_name(table, column)
     } else {

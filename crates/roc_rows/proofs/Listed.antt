@@ -16,8 +16,11 @@ use Rattle.std.specs.Ordering.{int_cmp, ordering_then, ordering_reverse, is_lt, 
 use Rattle.std.specs.declared.cmp.Ordering.{Ordering}
 use Rattle.std.specs.declared.cmp.Ordering.TheVariants.{Less, Equal, Greater}
 use Rattle.roc_rows.specs.declared.cell.Cell.{Cell}
-use Rattle.roc_rows.specs.Cells.{is_cell, is_cell-true, is_cell-swap, is_cell-equivalence, is_cell-by_cmp, cell_cmp, cell_cmp-total, cell_cmp-exact}
-use Rattle.roc_rows.specs.Store.{Store, read, entries, numbers-read, read-numbers, store_of, HasNoZero, numbers-store_of, entries-numbers}
+use Rattle.roc_rows.specs.Cells.{is_cell, cell_cmp}
+use Rattle.roc_rows.specs.Inner.Cells.{is_cell-true, is_cell-swap, is_cell-equivalence, is_cell-by_cmp, cell_cmp-total, cell_cmp-exact}
+use Rattle.roc_rows.specs.Store.{Store, read, entries}
+use Rattle.roc_rows.proofs.Stored.{numbers-read, read-numbers, numbers-store_of, entries-numbers}
+use Rattle.roc_rows.specs.Inner.Kept.{store_of, HasNoZero}
 
 -- a look-up finds the same after the entries change places
 lookup_permuted : (es fs : List (Cell × ℤ)) → IsDistinct is_cell (keys_of es) → IsPermutation es fs → (c : Cell) → lookup (is_cell c) fs ≡ lookup (is_cell c) es
@@ -58,7 +61,7 @@ cells_rise fs up apart = sorted_from_all_adjacent cell_cmp-total (keys_of fs) no
     subst (λ x. cell_cmp x (get_or (keys_of fs) (k + 1) no_cell) ≡ Less) (sym at_a) (subst (λ y. cell_cmp a.0 y ≡ Less) (sym at_b) (cell_before a b in_order apart_here)))
   where
     no_cell : Cell
-    no_cell = record { table = 0; place = pos 0; id = pos 0; column = 0 }
+    no_cell = record { table = 0; place = pos 0; id = pos 0 ∷ []; column = 0 }
 
 below_all-from : (c : Cell) (fs : List (Cell × ℤ)) → AllByRecursion (λ y. cell_cmp c y ≡ Less) (keys_of fs) → below_all cell_cmp c fs ≡ true
 below_all-from c [] h = refl

@@ -3,7 +3,9 @@ use Rattle.std.proofs.Common.{◌≡◌, ◌≢◌, ℤ, pos, Bool, true, false,
 use Rattle.std.specs.Map.{lookup}
 use Rattle.roc_rows.specs.declared.cell.Cell.{Cell}
 use Rattle.roc_rows.specs.Cells.{is_cell}
-use Rattle.roc_rows.specs.Store.{read, write, same_store, store_of, read-store_of, read-write, HasNoZero}
+use Rattle.roc_rows.specs.Store.{read, write}
+use Rattle.roc_rows.proofs.Stored.{same_store, read-store_of, read-write}
+use Rattle.roc_rows.specs.Inner.Kept.{store_of, HasNoZero}
 
 -- entries that are found alike make one store
 pub store_of-alike : (es fs : List (Cell × ℤ)) → ((c : Cell) → lookup (is_cell c) fs ≡ lookup (is_cell c) es) → store_of fs ≡ store_of es

@@ -1,3 +1,5 @@
 pub mod Cells
-pub mod Held
+pub mod Written
 pub mod Store
+pub mod Held
+pub mod Inner

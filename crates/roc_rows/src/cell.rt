@@ -1,4 +1,5 @@
 //! One number of the database.
+use roc_base::Key;
 
 /// One column of one row. A row is named by its table, its place, which says the shard that holds
 /// it, and its id. Tables and columns are named by number. Cells are ordered by table, place, id
@@ -7,6 +8,6 @@
 pub struct Cell {
     pub table: u8,
     pub place: i64,
-    pub id: i64,
+    pub id: Key,
     pub column: u8,
 }

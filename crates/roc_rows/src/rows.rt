@@ -16,8 +16,8 @@ pub struct Rows {
 
 impl Model for Rows {
     ghost use Rattle.std.specs.HashMap.{spare};
-    ghost use Rattle.roc_rows.specs.Held.{Held, coded_held};
-    ghost use Rattle.roc_rows.specs.Store.{store_of, HasNoZero};
+    ghost use Rattle.roc_rows.specs.Held.{Held};
+    ghost use Rattle.roc_rows.specs.Inner.Kept.{coded_held, store_of, HasNoZero};
 
     ghost Value = { Held };
 

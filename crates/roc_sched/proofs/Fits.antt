@@ -9,9 +9,8 @@ use Rattle.std.proofs.lemmas.Bool.{leb-true, ltb-true, eqb-true}
 use Rattle.std.proofs.lemmas.Option.{same_Some, none-some, option_and_then_some}
 use Rattle.std.proofs.lemmas.List.Quantifiers.{position-Some}
 use Rattle.roc_lang.specs.Tokens.{decimal}
-use Rattle.roc_plan.specs.Program.{Workload}
-use Rattle.roc_plan.specs.Groups.{no_procedure}
-use Rattle.roc_plan.specs.LookUps.{procedure_named}
+use Rattle.roc_program.specs.Program.{Workload}
+use Rattle.roc_program.specs.LookUps.{no_procedure, procedure_named}
 use Rattle.roc_sched.specs.declared.line.Act.{Act}
 use Rattle.roc_sched.specs.declared.line.Act.TheVariants as act
 use Rattle.roc_sched.specs.declared.line.Line.{Line}

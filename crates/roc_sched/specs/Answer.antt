@@ -1,6 +1,6 @@
 -- What `parse_thin` answers: the lines of a thin schedule, or the one fault of what is none.
 use Rattle.std.specs.Prelude.{◌≡◌, ℕ, List, Result, Ok, Err}
-use Rattle.roc_plan.specs.Program.{Workload}
+use Rattle.roc_program.specs.Program.{Workload}
 use Rattle.roc_sched.specs.declared.line.Line.{Line}
 use Rattle.roc_sched.specs.declared.fault.TextFault.{TextFault}
 use Rattle.roc_sched.specs.declared.fault.TextFault.TheVariants.{At, NoMemory}

@@ -4,7 +4,7 @@ use Rattle.std.specs.Borrow.{Bor}
 use Rattle.std.specs.List.{fold, list_all}
 use Rattle.std.specs.Char.{is_ascii_digit}
 use Rattle.std.specs.Option.{option_map}
-use Rattle.roc_plan.specs.Program.{Workload}
+use Rattle.roc_program.specs.Program.{Workload}
 use Rattle.roc_sched.specs.declared.line.Act.{Act}
 use Rattle.roc_sched.specs.declared.line.Line.{Line}
 use Rattle.roc_sched.specs.declared.fault.TextFault.{TextFault}
@@ -17,7 +17,7 @@ use Rattle.roc_sched.specs.Acts.{submission_of, delivery_of, act_of}
 use Rattle.roc_sched.specs.Schedule.{most_bytes, most_lines, numbered}
 use Rattle.roc_sched.specs.Thin.{most_submissions, call_of, submissions}
 
--- What a function returned, seen by view, is what reading gives, unless memory ran out. What is not read has one fault for now.
+-- What a function returned, seen by view, is what reading gives, unless memory ran out. What is not read has one fault.
 abbrev pub Fails : {Y : Type 0} → TextFault → Option Y → Type 0
 Fails NoMemory read = Unit {0}
 Fails (At line what) read = (line ≡ 1) × (what ≡ Limit) × (read ≡ None)

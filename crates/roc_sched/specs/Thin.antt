@@ -1,9 +1,8 @@
 -- Thin schedules of a program: docs/FORMATS.md, "Thin schedules".
 use Rattle.std.specs.Prelude.{◌≡◌, ℕ, ◌<◌, ◌≤◌, ◌^◌, Bool, true, false, ◌==◌, if◌then◌else◌, List, length, filter, Option, Some, None, slice_index_or}
 use Rattle.std.specs.Option.{option_map}
-use Rattle.roc_plan.specs.Program.{Workload}
-use Rattle.roc_plan.specs.Groups.{no_procedure}
-use Rattle.roc_plan.specs.LookUps.{procedure_named}
+use Rattle.roc_program.specs.Program.{Workload}
+use Rattle.roc_program.specs.LookUps.{no_procedure, procedure_named}
 use Rattle.roc_sched.specs.declared.line.Act.{Act}
 use Rattle.roc_sched.specs.declared.line.Act.TheVariants as act
 use Rattle.roc_sched.specs.declared.line.Line.{Line}

@@ -1,6 +1,6 @@
 //! What a line asks for.
 
-ghost use Rattle.roc_plan.specs.Program.{Workload};
+ghost use Rattle.roc_program.specs.Program.{Workload};
 ghost use Rattle.roc_sched.specs.Each.{each};
 ghost use Rattle.roc_sched.specs.Numbers.{integer_of};
 ghost use Rattle.roc_sched.specs.Acts.{Submit};

@@ -4,7 +4,7 @@ ghost use Rattle.std.specs.Prelude.{◌≡◌, ℕ, List, IsTrue, IsFalse};
 ghost use Rattle.std.specs.List.{AllByRecursion};
 ghost use Rattle.roc_lang.specs.Tokens.{IsWord};
 ghost use Rattle.roc_lang.specs.Grammar.{is_reserved};
-ghost use Rattle.roc_plan.specs.Program.{Workload};
+ghost use Rattle.roc_program.specs.Program.{Workload};
 ghost use Rattle.roc_sched.specs.declared.line.Line.{Line};
 ghost use Rattle.roc_sched.specs.Thin.{IsThinSchedule, FitsProgram};
 ghost use Rattle.roc_sched.specs.Numbers.{is_name};

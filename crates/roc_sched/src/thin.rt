@@ -93,7 +93,7 @@ fn thin_lines(alloc: Global, plan: &Plan, text: &[u8]) -> Result<Sequence<Line>,
     Ok(lines)
 }
 
-/// The lines of a schedule of a plan, for now of a thin one: `docs/FORMATS.md` says what that is. Lines that are skipped
+/// The lines of a thin schedule of a plan: `docs/FORMATS.md` says what that is. Lines that are skipped
 /// are left out, and count for the numbers of the others.
 ///
 /// `At { line: 1, what: Limit }` is the one fault of all other bytes. `NoMemory` leaves nothing behind.

@@ -1,15 +1,11 @@
 -- Names that pieces bind, one piece behind another.
-use Rattle.std.proofs.Common.{◌≡◌, ℕ, zero, suc, ◌<◌, Bool, true, false, ◌||◌, List, [], ◌∷◌, length, get_or, map, cond, refl, sym, ap, ◌∙◌, arith}
+use Rattle.std.proofs.Common.{◌≡◌, ℕ, zero, suc, ◌<◌, true, false, ◌||◌, List, [], ◌∷◌, length, get_or, map, cond, sym, ap, ◌∙◌, arith}
 use Rattle.std.specs.List.{flat_map}
 use Rattle.std.proofs.lemmas.List.Concat.{flat_map-cons}
 use Rattle.roc_lang.specs.Syntax.{Name, Piece}
 use Rattle.roc_lang.specs.Scope.{is_among, bound_by}
-use Rattle.roc_scope.proofs.Names.{among-append}
-use Rattle.roc_scope.specs.Before.{now_by, later_by}
-
-or_true : (b : Bool) → (b || true) ≡ true
-or_true true = refl
-or_true false = refl
+use Rattle.roc_scope.proofs.Names.{or_true, among-append}
+use Rattle.roc_scope.specs.Inner.Before.{now_by, later_by}
 
 -- what is among the names of one element is among those of all
 pub among_at : {A B : Type 0} (view : A → B) (f : B → List Name) (name : Name) (xs : List A) (i : ℕ) (x : A) → i < length xs → x ≡ get_or xs i x → is_among (f (view x)) name ≡ true

@@ -1,14 +1,13 @@
 -- Names that stand in a list.
-use Rattle.std.proofs.Common.{◌≡◌, ℕ, zero, suc, ◌+◌, ◌<◌, Bool, true, false, ◌||◌, List, [], ◌∷◌, ◌++◌, length, get_or, take, drop, map, refl, sym, ap, ◌∙◌, arith, add-one}
-use Rattle.std.specs.List.{list_any, flat_map}
+use Rattle.std.proofs.Common.{◌≡◌, ℕ, zero, suc, ◌+◌, ◌<◌, Bool, true, false, ◌||◌, List, [], ◌∷◌, ◌++◌, length, get_or, take, drop, map, refl, ap, ◌∙◌, arith, add-one}
+use Rattle.std.specs.List.{list_any}
 use Rattle.std.specs.Str.{bytes_eq}
 use Rattle.std.proofs.Math.Seq.{drop-cons, take-suc}
 use Rattle.std.proofs.lemmas.List.Folds.{list_any-append}
-use Rattle.std.proofs.lemmas.List.Concat.{flat_map-cons}
-use Rattle.roc_lang.specs.Syntax.{Name, Statement}
-use Rattle.roc_lang.specs.Scope.{is_among, bound_by}
+use Rattle.roc_lang.specs.Syntax.{Name}
+use Rattle.roc_lang.specs.Scope.{is_among}
 
-or_true : (b : Bool) → (b || true) ≡ true
+pub or_true : (b : Bool) → (b || true) ≡ true
 or_true true = refl
 or_true false = refl
 
@@ -20,17 +19,6 @@ any_at view p (y ∷ ys) (suc i) x below is passes = ap (λ b. p (view y) || b) 
 
 pub among-append : (xs ys : List Name) (name : Name) → is_among (xs ++ ys) name ≡ (is_among xs name || is_among ys name)
 among-append xs ys name = list_any-append (λ n. bytes_eq n.text name.text) xs ys
-
--- what one of the statements binds
-pub bound_at : {A : Type 0} (view : A → Statement) (name : Name) (xs : List A) (i : ℕ) (x : A) → i < length xs → x ≡ get_or xs i x → is_among (bound_by (view x)) name ≡ true
-    → is_among (flat_map bound_by (map view xs)) name ≡ true
-bound_at view name [] i x below is binds = absurd (omega arith)
-bound_at view name (y ∷ ys) zero x below is binds =
-    ap (λ zs. is_among zs name) (flat_map-cons bound_by (view y) (map view ys)) ∙ among-append (bound_by (view y)) (flat_map bound_by (map view ys)) name
-    ∙ ap (λ b. b || is_among (flat_map bound_by (map view ys)) name) (ap (λ z. is_among (bound_by (view z)) name) (sym is) ∙ binds)
-bound_at view name (y ∷ ys) (suc i) x below is binds =
-    ap (λ zs. is_among zs name) (flat_map-cons bound_by (view y) (map view ys)) ∙ among-append (bound_by (view y)) (flat_map bound_by (map view ys)) name
-    ∙ ap (λ b. is_among (bound_by (view y)) name || b) (bound_at view name ys i x (omega arith) is binds) ∙ or_true (is_among (bound_by (view y)) name)
 
 -- the element at a place, and the lists before and behind it
 pub item_splits : {A : Type 0} (xs : List A) (i : ℕ) (x : A) → i < length xs → x ≡ get_or xs i x → (drop i xs ≡ x ∷ drop (i + 1) xs) × (take (i + 1) xs ≡ take i xs ++ x ∷ [])

@@ -4,7 +4,7 @@ use Rattle.std.specs.String.{string_bytes}
 use Rattle.roc_lang.specs.Scope.{FaultKind, Fault}
 use Rattle.roc_lang.specs.Scope as scope
 use Rattle.roc_scope.specs.declared.fault.ScopeWhat.{ScopeWhat}
-use Rattle.roc_scope.specs.declared.fault.ScopeWhat.TheVariants.{Shards, Twice, Unknown, LaterUsed, SamePieceKey, Unbound}
+use Rattle.roc_scope.specs.declared.fault.ScopeWhat.TheVariants.{Shards, Twice, Unknown, LaterUsed, SamePieceKey, Unbound, Arity}
 use Rattle.roc_scope.specs.declared.fault.ScopeFault.{ScopeFault}
 use Rattle.roc_scope.specs.declared.fault.ScopeFault.TheVariants.{At, NoMemory}
 
@@ -15,6 +15,7 @@ kind (Unknown name) = scope.Unknown (string_bytes name)
 kind (LaterUsed name) = scope.LaterUsed (string_bytes name)
 kind (SamePieceKey name) = scope.SamePieceKey (string_bytes name)
 kind (Unbound name) = scope.Unbound (string_bytes name)
+kind (Arity name) = scope.Arity (string_bytes name)
 
 -- the first of the faults, in the order of the text
 abbrev pub first : List Fault → Option Fault

@@ -1,4 +1,3 @@
 pub mod Fault
 pub mod FaultText
-pub mod Misuse
-pub mod Before
+pub mod Inner

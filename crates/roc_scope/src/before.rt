@@ -3,11 +3,11 @@
 ghost use Rattle.std.specs.Prelude.{◌≡◌, ◌++◌, map};
 ghost use Rattle.std.specs.List.{flat_map};
 ghost use Rattle.roc_lang.specs.Tree.{name_tree, expression_tree, statement_tree, piece_tree};
-ghost use Rattle.roc_lang.specs.Scope.{is_among, bound_by, use_faults, names_of};
-ghost use Rattle.roc_scope.specs.Before.{now_names, later_names, bound};
-ghost use Rattle.roc_scope.specs.Misuse.{Finds};
+ghost use Rattle.roc_lang.specs.Scope.{is_among, bound_by, use_faults, names_of, key_faults};
+ghost use Rattle.roc_scope.specs.Inner.Before.{now_names, later_names, bound};
+ghost use Rattle.roc_scope.specs.Inner.Misuse.{Finds};
 
-use crate::misuse::{Misuse, Reason};
+use crate::misuse::{Misuse, Reason, at_name};
 use roc_lang::{Expression, Name, Piece, Statement};
 
 /// What stands before a statement, or before a piece where no statement of it stands here.
@@ -109,7 +109,7 @@ fn check_use<'a>(before: &Before, is_key: bool, name: &'a Name) -> Result<(), Mi
     } else {
         Reason::Unbound
     };
-    Err(Misuse { reason, name })
+    Err(at_name(reason, name))
 }
 
 /// The names of an expression, from left to right.
@@ -138,4 +138,14 @@ pub(crate) fn check_expression<'a>(
             check_expression(before, is_key, second)
         }
     }
+}
+
+/// The integers of an id, from left to right.
+pub(crate) fn check_id<'a>(before: &Before, id: &'a [Expression]) -> Result<(), Misuse<'a>>
+    ensures { Finds result (flat_map (key_faults (bound before.now)) (map expression_tree id.now)) }
+{
+    for integer in id {
+        check_expression(before, true, integer)?;
+    }
+    Ok(())
 }

@@ -23,6 +23,8 @@ pub enum ScopeWhat {
     SamePieceKey(String),
     /// Nothing binds the name before.
     Unbound(String),
+    /// An id of the table of this name has another number of integers than the table declares.
+    Arity(String),
 }
 
 impl fmt::Display for ScopeWhat {
@@ -36,6 +38,7 @@ impl fmt::Display for ScopeWhat {
             ScopeWhat::LaterUsed(name) => write!(f, "later {name}"),
             ScopeWhat::SamePieceKey(name) => write!(f, "key {name}"),
             ScopeWhat::Unbound(name) => write!(f, "unbound {name}"),
+            ScopeWhat::Arity(name) => write!(f, "arity {name}"),
         }
     }
 }

@@ -2,7 +2,7 @@
 //!
 //! `specs/Scope.antt` of `roc_lang` lists the faults of a tree in the order of the text. The contract of `check_scope`
 //! cites this list: it answers `Ok` exactly where the list is empty, and else its first fault (`IsFirst` of
-//! `specs/Fault.antt`). The layers above may rely on this; `specs/Misuse.antt` and `Before.antt` are of this crate alone.
+//! `specs/Fault.antt`). The layers above may rely on this; `specs/Inner/` is of this crate alone.
 #![tactic(auto)]
 
 mod before;

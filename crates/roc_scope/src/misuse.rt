@@ -6,7 +6,7 @@ ghost use Rattle.roc_lang.specs.Scope.{Fault, Twice, fault_at};
 ghost use Rattle.roc_lang.specs.Tree.{name_tree};
 ghost use Rattle.roc_scope.specs.Fault as fault;
 ghost use Rattle.roc_scope.specs.Fault.{first, IsFirst};
-ghost use Rattle.roc_scope.specs.Misuse.{kind, fault_of, Finds};
+ghost use Rattle.roc_scope.specs.Inner.Misuse.{reason_kind, misuse_fault, Finds};
 
 use crate::{ScopeFault, ScopeWhat};
 use roc_lang::Name;
@@ -20,18 +20,32 @@ pub(crate) enum Reason {
     LaterUsed,
     SamePieceKey,
     Unbound,
+    Arity,
 }
 
-/// A name that is declared or used where it may not be.
+/// A name that is declared or used where it may not be, or as it may not be.
 #[derive(Clone, Copy, Debug)]
 pub(crate) struct Misuse<'a> {
     pub reason: Reason,
     pub name: &'a Name,
+    /// Where the fault is told.
+    pub line: u32,
+}
+
+/// A fault where the name stands.
+pub(crate) fn at_name(reason: Reason, name: &Name) -> Misuse<'_>
+    ensures { misuse_fault result ≡ record { kind = reason_kind reason (string_bytes name.now.text); line = name.now.line } }
+{
+    Misuse {
+        reason,
+        name,
+        line: name.line,
+    }
 }
 
 // What is wrong, with a name of its own.
 fn what_of(alloc: Global, misuse: &Misuse) -> Result<ScopeWhat, AllocError>
-    ensures { IfOk result (λ what. fault.kind what ≡ kind misuse.now.reason (string_bytes misuse.now.name.now.text)) }
+    ensures { IfOk result (λ what. fault.kind what ≡ reason_kind misuse.now.reason (string_bytes misuse.now.name.now.text)) }
 {
     let name = String::from_str(alloc, misuse.name.text.as_str())?;
     Ok(match misuse.reason {
@@ -40,16 +54,17 @@ fn what_of(alloc: Global, misuse: &Misuse) -> Result<ScopeWhat, AllocError>
         Reason::LaterUsed => ScopeWhat::LaterUsed(name),
         Reason::SamePieceKey => ScopeWhat::SamePieceKey(name),
         Reason::Unbound => ScopeWhat::Unbound(name),
+        Reason::Arity => ScopeWhat::Arity(name),
     })
 }
 
 /// The fault, with a name of its own.
 pub(crate) fn owned(alloc: Global, misuse: &Misuse) -> ScopeFault
-    ensures { (faults : List Fault) → first faults ≡ Some (fault_of misuse.now) → IsFirst faults result }
+    ensures { (faults : List Fault) → first faults ≡ Some (misuse_fault misuse.now) → IsFirst faults result }
 {
     match what_of(alloc, misuse) {
         Ok(what) => ScopeFault::At {
-            line: misuse.name.line,
+            line: misuse.line,
             what,
         },
         Err(_) => ScopeFault::NoMemory,
@@ -61,10 +76,7 @@ pub(crate) fn check_new(is_repeated: bool, name: &Name) -> Result<(), Misuse<'_>
     ensures { Finds result (if is_repeated then fault_at (name_tree name.now) Twice else []) }
 {
     if is_repeated {
-        Err(Misuse {
-            reason: Reason::Twice,
-            name,
-        })
+        Err(at_name(Reason::Twice, name))
     } else {
         Ok(())
     }

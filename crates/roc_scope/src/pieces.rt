@@ -2,12 +2,12 @@
 
 ghost use Rattle.std.specs.Prelude.{◌≡◌, [], ◌++◌, map, None, Some, MatchOption};
 ghost use Rattle.roc_lang.specs.Tree.{name_tree, access_tree, statement_tree, piece_tree, table_tree};
-ghost use Rattle.roc_lang.specs.Scope.{is_among, repeated, table_named, column_faults, access_faults, statement_faults, statements_faults, piece_faults, pieces_faults};
-ghost use Rattle.roc_scope.specs.Before.{bound, bound_behind, bound_first};
-ghost use Rattle.roc_scope.specs.Misuse.{Finds};
+ghost use Rattle.roc_lang.specs.Scope.{is_among, repeated, table_named, column_faults, arity_faults, access_faults, statement_faults, statements_faults, piece_faults, pieces_faults};
+ghost use Rattle.roc_scope.specs.Inner.Before.{bound, bound_behind, bound_first};
+ghost use Rattle.roc_scope.specs.Inner.Misuse.{Finds};
 
-use crate::before::{Before, check_expression, is_among, is_taken};
-use crate::misuse::{Misuse, Reason, check_new};
+use crate::before::{Before, check_expression, check_id, is_among, is_taken};
+use crate::misuse::{Misuse, Reason, at_name, check_new};
 use roc_lang::{Access, Name, Piece, Statement, Table};
 
 /// The first table of a name.
@@ -30,9 +30,27 @@ pub(crate) fn check_column<'a>(table: &Table, column: &'a Name) -> Result<(), Mi
     if is_among(&table.columns, column) {
         Ok(())
     } else {
+        Err(at_name(Reason::Unknown, column))
+    }
+}
+
+/// An id of a table, which is written with this name, has as many integers as the table declares. The line is that of the
+/// bracket behind the id.
+pub(crate) fn check_arity<'a>(
+    table: &Table,
+    name: &'a Name,
+    count: usize,
+    line: u32,
+) -> Result<(), Misuse<'a>>
+    ensures { Finds result (arity_faults (Some (table_tree table.now)) (name_tree name.now) count line) }
+{
+    if count as u64 == table.arity {
+        Ok(())
+    } else {
         Err(Misuse {
-            reason: Reason::Unknown,
-            name: column,
+            reason: Reason::Arity,
+            name,
+            line,
         })
     }
 }
@@ -43,13 +61,11 @@ fn check_access<'a>(tables: &[Table], before: &Before, access: &'a Access) -> Re
 {
     match table_named(tables, &access.table) {
         Some(table) => {
-            check_expression(before, true, &access.id)?;
+            check_id(before, &access.id)?;
+            check_arity(table, &access.table, access.id.len(), access.id_line)?;
             check_column(table, &access.column)
         }
-        None => Err(Misuse {
-            reason: Reason::Unknown,
-            name: &access.table,
-        }),
+        None => Err(at_name(Reason::Unknown, &access.table)),
     }
 }
 

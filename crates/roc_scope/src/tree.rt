@@ -2,20 +2,18 @@
 
 ghost use Rattle.std.specs.Prelude.{◌≡◌, [], map, ◌↔◌, IsOk, IfErr};
 ghost use Rattle.std.specs.List.{flat_map};
-ghost use Rattle.roc_lang.specs.Tree.{name_tree, table_tree, init_tree, procedure_tree, tree};
+ghost use Rattle.roc_lang.specs.Tree.{name_tree, table_tree, init_tree, procedure_tree};
 ghost use Rattle.roc_lang.specs.Scope.{is_among, repeats, tables_faults, init_faults, procedures_faults, faults};
 ghost use Rattle.roc_scope.specs.Fault.{IsFirst};
-ghost use Rattle.roc_scope.specs.Misuse.{Finds, names_faults};
+ghost use Rattle.roc_scope.specs.Inner.Misuse.{Finds, names_faults};
 
 use crate::before::is_among;
-use crate::misuse::{Misuse, Reason, check_new, owned};
-use crate::pieces::{check_column, check_pieces, table_named};
+use crate::misuse::{Misuse, Reason, at_name, check_new, owned};
+use crate::pieces::{check_arity, check_column, check_pieces, table_named};
 use crate::{ScopeFault, ScopeWhat};
+use roc_lang::limits::SHARDS;
 use roc_lang::{Init, Name, Procedure, Source, Table};
 use std::alloc::Global;
-
-/// How many shards there may be.
-const SHARD_LIMIT: u64 = 64;
 
 // No name stands twice.
 fn check_distinct(names: &[Name]) -> Result<(), Misuse<'_>>
@@ -53,11 +51,11 @@ fn check_init<'a>(tables: &[Table], init: &'a Init) -> Result<(), Misuse<'a>>
     ensures { Finds result (init_faults (map table_tree tables.now) (init_tree init.now)) }
 {
     match table_named(tables, &init.table) {
-        Some(table) => check_column(table, &init.column),
-        None => Err(Misuse {
-            reason: Reason::Unknown,
-            name: &init.table,
-        }),
+        Some(table) => {
+            check_arity(table, &init.table, init.id.len(), init.id_line)?;
+            check_column(table, &init.column)
+        }
+        None => Err(at_name(Reason::Unknown, &init.table)),
     }
 }
 
@@ -95,24 +93,26 @@ fn check_procedures<'a>(tables: &[Table], procedures: &'a [Procedure]) -> Result
 }
 
 fn check_names(source: &Source) -> Result<(), Misuse<'_>>
-    ensures { Finds result (names_faults (tree source.now)) }
+    ensures { Finds result (names_faults source.now) }
 {
-    check_tables(&source.tables)?;
-    check_inits(&source.tables, &source.inits)?;
-    check_procedures(&source.tables, &source.procedures)
+    let tables = source.tables();
+    check_tables(tables)?;
+    check_inits(tables, source.inits())?;
+    check_procedures(tables, source.procedures())
 }
 
 /// Whether a workload's tree is in scope, and else its first fault in the order of the text: `docs/LANGUAGE.md` lists the
 /// faults. Memory is taken for the name in a fault alone.
 pub fn check_scope(alloc: Global, source: &Source) -> Result<(), ScopeFault>
     // There is no fault exactly where there is none in the tree.
-    ensures in_scope { IsOk result ↔ (faults (tree source.now) ≡ []) }
+    ensures in_scope { IsOk result ↔ (faults source.now ≡ []) }
     // A fault is the first of the tree.
-    ensures fault { IfErr result (IsFirst (faults (tree source.now))) }
+    ensures fault { IfErr result (IsFirst (faults source.now)) }
 {
-    if source.shards < 1 || source.shards > SHARD_LIMIT {
+    let shards = source.shards();
+    if shards < 1 || shards > SHARDS {
         return Err(ScopeFault::At {
-            line: source.shards_line,
+            line: source.shards_line(),
             what: ScopeWhat::Shards,
         });
     }

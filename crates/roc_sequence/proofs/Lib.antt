@@ -2,3 +2,9 @@ pub mod Places
 pub mod Appended
 pub mod Filtered
 pub mod Members
+pub mod Holds
+pub mod Found
+pub mod Listed
+pub mod Fronts
+pub mod Ranges
+pub mod Rising

@@ -1,6 +1,6 @@
 -- Start cells, line by line
 use Rattle.std.proofs.Common.{◌≡◌, Bool, true, false, cond, List, ◌∷◌, filter, sym, ap, ◌∙◌}
-use Rattle.roc_plan.specs.Program.{Init}
+use Rattle.roc_program.specs.Program.{Init}
 use Rattle.roc_rows.specs.Store.{Store, write}
 use Rattle.roc_whole.specs.Serial.{after_inits, init_cell}
 

@@ -1,6 +1,6 @@
 -- Groups that run one after another
 use Rattle.std.proofs.Common.{◌≡◌, ℕ, ℤ, unwrap_or, append_assoc, zero, suc, ◌+◌, ◌-◌, ◌<◌, ◌≤◌, List, [], ◌∷◌, ◌++◌, length, map, Option, Some, None, Result, Ok, Err, OnOk, find, position, slice_get, refl, sym, ap, subst, ◌∙◌, arith}
-use Rattle.std.specs.List.{AllByRecursion, filter_map, flat_map, range_with_len, cons_option}
+use Rattle.std.specs.List.{filter_map, flat_map, range_with_len, cons_option}
 use Rattle.std.specs.Option.{option_map, option_to_list}
 use Rattle.roc_sequence.specs.Places.{NoneTwice}
 use Rattle.roc_base.specs.declared.id.TxnId.{TxnId}
@@ -9,20 +9,20 @@ use Rattle.roc_group.specs.Group_run.{group_run}
 use Rattle.roc_plan.specs.Groups.{Plan}
 use Rattle.roc_rows.specs.Store.{Store}
 use Rattle.roc_server.specs.declared.started.StartedGroup.{StartedGroup}
-use Rattle.roc_server.specs.Commit.{call_of, count_of_groups, groups_here, run_group, run_groups, take_all}
-use Rattle.roc_server.specs.Fits.{IsGroupOf}
-use Rattle.roc_server.specs.Kept.{holding, is_same_group, unrun, AreSameGroups}
-use Rattle.roc_server.specs.Runs.{RunsAt}
-use Rattle.roc_server.specs.State.{State, is_group, find_group}
-use Rattle.roc_server.proofs.Found.{found_at, found_within, set_where_it_stands}
+use Rattle.roc_server.specs.Commit.{count_of_groups, groups_here, run_group, run_groups, take_all, group_call}
+use Rattle.roc_server.specs.Fits.{AreGroupsOf}
+use Rattle.roc_server.specs.Inner.Kept.{holding, is_same_group, unrun, AreSameGroups}
+use Rattle.roc_server.specs.Inner.Runs.{RunsAt}
+use Rattle.roc_server.specs.State.{is_group, find_group, ServerState}
+use Rattle.roc_sequence.proofs.Found.{found_at, found_within, set_where_it_stands}
 use Rattle.roc_server.proofs.Same_groups.{same_own, same_swap, set_same, fits_same, once_same, find_same}
 
-pub run_groups-append : (plan : Plan) (s : State) (xs ys : List StartedGroup) → run_groups plan s (xs ++ ys) ≡ run_groups plan (run_groups plan s xs) ys
+pub run_groups-append : (plan : Plan) (s : ServerState) (xs ys : List StartedGroup) → run_groups plan s (xs ++ ys) ≡ run_groups plan (run_groups plan s xs) ys
 run_groups-append plan s [] ys = refl
 run_groups-append plan s (x ∷ xs) ys = run_groups-append plan (run_group plan s x) xs ys
 
 -- what they gave before does not matter
-pub run_groups-same : (plan : Plan) (s : State) (xs ys : List StartedGroup) → map unrun xs ≡ map unrun ys → run_groups plan s xs ≡ run_groups plan s ys
+pub run_groups-same : (plan : Plan) (s : ServerState) (xs ys : List StartedGroup) → map unrun xs ≡ map unrun ys → run_groups plan s xs ≡ run_groups plan s ys
 run_groups-same plan s [] [] same = refl
 run_groups-same plan s [] (y ∷ ys) same = cc
 run_groups-same plan s (x ∷ xs) [] same = cc
@@ -31,15 +31,15 @@ run_groups-same plan s (x ∷ xs) (y ∷ ys) same =
     ap (λ e. run_groups plan (run_group plan s e) xs) head ∙ run_groups-same plan (run_group plan s y) xs ys (cc)
 
 -- a group that stands at a place runs
-pub ran_at : (plan : Plan) (e : StartedGroup) (at : ℕ) (old new : List StartedGroup) (before after : Store) (s : State) → NoneTwice is_same_group old → slice_get old at ≡ Some e → RunsAt plan e at old new before after → run_group plan (holding s before old) e ≡ holding s after new
+pub ran_at : (plan : Plan) (e : StartedGroup) (at : ℕ) (old new : List StartedGroup) (before after : Store) (s : ServerState) → NoneTwice is_same_group old → slice_get old at ≡ Some e → RunsAt plan e at old new before after → run_group plan (holding s before old) e ≡ holding s after new
 ran_at plan e at old new before after s once got ran =
-    let reply = (group_run plan (call_of e) before).reply in
+    let reply = (group_run plan (group_call e) before).reply in
     let set = set_where_it_stands is_same_group same_own same_swap (λ (g : StartedGroup). record g { outs = Some reply }) old at e once got in
     λ i. holding s (sym ran.store i) ((sym set ∙ sym ran.groups) i)
 
 pub ran_same : (plan : Plan) (e : StartedGroup) (at : ℕ) (old new : List StartedGroup) (before after : Store) → slice_get old at ≡ Some e → RunsAt plan e at old new before after → AreSameGroups old new
 ran_same plan e at old new before after got ran =
-    let gave : StartedGroup = record e { outs = Some (group_run plan (call_of e) before).reply } in
+    let gave : StartedGroup = record e { outs = Some (group_run plan (group_call e) before).reply } in
     subst (AreSameGroups old) (sym ran.groups) (set_same old at e gave got refl)
 
 got : {A : Type 0} (xs : List A) (at : ℕ) → at < length xs → (x : A) × (slice_get xs at ≡ Some x)
@@ -49,7 +49,7 @@ got (x ∷ xs) (suc k) l = got xs k (omega arith)
 
 -- the group of a number, where one is at a place, has run or memory was wanting
 module _ {E : Type 0} (plan : Plan) (id : TxnId) (number at : ℕ) (old new : List StartedGroup) (before after : Store) (once : NoneTwice is_same_group old) (stands : position (is_group id number) old ≡ Some at) where
-  pub number_runs : (r : Result (Unit {0}) E) → OnOk r ((e : StartedGroup) → slice_get old at ≡ Some e → RunsAt plan e at old new before after) → OnOk r ((s : State) → run_groups plan (holding s before old) (option_to_list (find_group id number old)) ≡ holding s after new)
+  pub number_runs : (r : Result (Unit {0}) E) → OnOk r ((e : StartedGroup) → slice_get old at ≡ Some e → RunsAt plan e at old new before after) → OnOk r ((s : ServerState) → run_groups plan (holding s before old) (option_to_list (find_group id number old)) ≡ holding s after new)
   number_runs (Err e) ran = tt
   number_runs (Ok u) ran = λ s.
       let here = got old at (found_within (is_group id number) old at stands) in
@@ -91,9 +91,9 @@ groups_here-from plan id started count e =
 
 -- how far a transaction's groups have run
 pub record RunsFrom (plan : Plan) (id : TxnId) (count number : ℕ) (first now : List StartedGroup) (before after : Store) : Type 0 where
-  pub runs : (s : State) → run_groups plan (holding s after now) (groups_from id first number count) ≡ run_groups plan (holding s before first) (groups_from id first 0 count)
+  pub runs : (s : ServerState) → run_groups plan (holding s after now) (groups_from id first number count) ≡ run_groups plan (holding s before first) (groups_from id first 0 count)
   pub same : AreSameGroups first now
-  pub fits : AllByRecursion (IsGroupOf plan) now
+  pub fits : AreGroupsOf plan now
   pub once : NoneTwice is_same_group now
 
 map-list : (o : Option StartedGroup) → map unrun (option_to_list o) ≡ option_to_list (option_map unrun o)
@@ -102,7 +102,7 @@ map-list (Some x) = refl
 
 pub runs_more : (plan : Plan) (id : TxnId) (count number : ℕ) (first now next : List StartedGroup) (before after later : Store)
     → number < count → RunsFrom plan id count number first now before after
-    → ((s : State) → run_groups plan (holding s after now) (option_to_list (find_group id number now)) ≡ holding s later next) → AreSameGroups now next
+    → ((s : ServerState) → run_groups plan (holding s after now) (option_to_list (find_group id number now)) ≡ holding s later next) → AreSameGroups now next
     → RunsFrom plan id count (number + 1) first next before later
 runs_more plan id count number first now next before after later l sofar ran same =
     let o = find_group id number first in
@@ -123,14 +123,14 @@ runs_more plan id count number first now next before after later l sofar ran sam
 
 -- how far transactions were taken: these are left
 pub record TakesFrom (plan : Plan) (all left : List TxnId) (first now : List StartedGroup) (before after : Store) : Type 0 where
-  pub takes : (s : State) → take_all plan (holding s after now) left ≡ take_all plan (holding s before first) all
+  pub takes : (s : ServerState) → take_all plan (holding s after now) left ≡ take_all plan (holding s before first) all
   pub same : AreSameGroups first now
-  pub fits : AllByRecursion (IsGroupOf plan) now
+  pub fits : AreGroupsOf plan now
   pub once : NoneTwice is_same_group now
 
 pub takes_more : (plan : Plan) (all left rest : List TxnId) (id : TxnId) (first now next : List StartedGroup) (before after later : Store)
     → left ≡ id ∷ rest → TakesFrom plan all left first now before after
-    → ((s : State) → run_groups plan (holding s after now) (groups_here plan id now) ≡ holding s later next) → AreSameGroups now next
+    → ((s : ServerState) → run_groups plan (holding s after now) (groups_here plan id now) ≡ holding s later next) → AreSameGroups now next
     → TakesFrom plan all rest first next before later
 takes_more plan all left rest id first now next before after later e sofar ran same =
     record {

@@ -1,9 +1,8 @@
-pub mod Found
 pub mod Same_groups
 pub mod Group_runs
 pub mod Start_steps
 pub mod Untaken
-pub mod Same_members
 pub mod Commit_steps
 pub mod First_cells
 pub mod Message_steps
+pub mod One_step

@@ -13,38 +13,38 @@ use Rattle.roc_server.specs.declared.handled.Handled.{Handled}
 use Rattle.roc_server.specs.declared.handled.Handled.TheVariants.{Ignored}
 use Rattle.roc_server.specs.Commit.{Commits}
 use Rattle.roc_server.specs.Start.{after_start}
-use Rattle.roc_server.specs.State.{State, Step, ignored}
+use Rattle.roc_server.specs.State.{ignored, ServerState, ServerStep}
 use Rattle.roc_server.specs.Step.{Handles, Shows}
 
 -- what is answered, kept and sent is the step of a message
-abbrev pub Comes : Plan → State → Msg → State → Outbox → Outbox → Handled → Type 0
-Comes plan s msg after old new answer = (r : Step) × Handles plan s msg r × Shows r answer after old new
+abbrev pub IsStepFor : Plan → ServerState → Msg → ServerState → Outbox → Outbox → Handled → Type 0
+IsStepFor plan s msg after old new answer = (r : ServerStep) × Handles plan s msg r × Shows r answer after old new
 
-pub start_comes : {E : Type 0} (r : Result Handled E) (plan : Plan) (s after : State) (msg : Msg) (id : TxnId) (proc group : ℕ) (args inputs args2 inputs2 : List ℤ) (old new : Outbox) → msg ≡ Start id proc group args inputs → args2 ≡ args → inputs2 ≡ inputs
-    → IfOk r (λ answer. Shows (after_start plan s id (call proc group args2 inputs2)) answer after old new) → IfOk r (Comes plan s msg after old new)
+pub start_comes : {E : Type 0} (r : Result Handled E) (plan : Plan) (s after : ServerState) (msg : Msg) (id : TxnId) (proc group : ℕ) (args inputs args2 inputs2 : List ℤ) (old new : Outbox) → msg ≡ Start id proc group args inputs → args2 ≡ args → inputs2 ≡ inputs
+    → IfOk r (λ answer. Shows (after_start plan s id (call proc group args2 inputs2)) answer after old new) → IfOk r (IsStepFor plan s msg after old new)
 start_comes (Err e) plan s after msg id proc group args inputs args2 inputs2 old new is same same2 shows = tt
 start_comes (Ok answer) plan s after msg id proc group args inputs args2 inputs2 old new is same same2 shows =
-    let P : Msg → Type 0 = λ m. Comes plan s m after old new answer in
+    let P : Msg → Type 0 = λ m. IsStepFor plan s m after old new answer in
     subst P ((λ i. Start id proc group (same i) (same2 i)) ∙ sym is) (after_start plan s id (call proc group args2 inputs2), refl, shows)
 
-pub commit_comes : {E : Type 0} (r : Result Handled E) (plan : Plan) (s after : State) (msg : Msg) (id : TxnId) (edges : List Dependency) (old new : Outbox) → msg ≡ Commit id edges
-    → IfOk r (λ answer. (r : Step) × Commits plan s id edges r × Shows r answer after old new) → IfOk r (Comes plan s msg after old new)
+pub commit_comes : {E : Type 0} (r : Result Handled E) (plan : Plan) (s after : ServerState) (msg : Msg) (id : TxnId) (edges : List Dependency) (old new : Outbox) → msg ≡ Commit id edges
+    → IfOk r (λ answer. (r : ServerStep) × Commits plan s id edges r × Shows r answer after old new) → IfOk r (IsStepFor plan s msg after old new)
 commit_comes (Err e) plan s after msg id edges old new is shows = tt
-commit_comes (Ok answer) plan s after msg id edges old new is shows = let P : Msg → Type 0 = λ m. Comes plan s m after old new answer in subst P (sym is) shows
+commit_comes (Ok answer) plan s after msg id edges old new is shows = let P : Msg → Type 0 = λ m. IsStepFor plan s m after old new answer in subst P (sym is) shows
 
-module _ (plan : Plan) (s : State) (out : Outbox) where
+module _ (plan : Plan) (s : ServerState) (out : Outbox) where
   ignored_shown : Shows (ignored s Foreign) (Ignored Foreign) s out out
   ignored_shown = record { answers = refl; keeps = refl; sends = sym (append-nil out.messages); decides = sym (append-nil out.decided) }
 
   pub foreign_comes : (msg : Msg)
       → ((id : TxnId) × (group : ℕ) × (shard : Shard) × (bound : List ℤ) × (outs : List ℤ) × (edges : List Dependency) × (msg ≡ StartOk id group shard bound outs edges)) ⊎ ((id : TxnId) × (shard : Shard) × (outs : List ℤ) × (msg ≡ CommitOk id shard outs))
-      → Comes plan s msg s out out (Ignored Foreign)
-  foreign_comes msg (inl p) = let P : Msg → Type 0 = λ m. Comes plan s m s out out (Ignored Foreign) in subst P (sym p.6) (ignored s Foreign, refl, ignored_shown)
-  foreign_comes msg (inr p) = let P : Msg → Type 0 = λ m. Comes plan s m s out out (Ignored Foreign) in subst P (sym p.3) (ignored s Foreign, refl, ignored_shown)
+      → IsStepFor plan s msg s out out (Ignored Foreign)
+  foreign_comes msg (inl p) = let P : Msg → Type 0 = λ m. IsStepFor plan s m s out out (Ignored Foreign) in subst P (sym p.6) (ignored s Foreign, refl, ignored_shown)
+  foreign_comes msg (inr p) = let P : Msg → Type 0 = λ m. IsStepFor plan s m s out out (Ignored Foreign) in subst P (sym p.3) (ignored s Foreign, refl, ignored_shown)
 
 -- the same between equal states
-pub comes_from : (plan : Plan) (s t after then : State) (msg : Msg) (old new : Outbox) (answer : Handled) → s ≡ t → after ≡ then → Comes plan s msg after old new answer → Comes plan t msg then old new answer
+pub comes_from : (plan : Plan) (s t after then : ServerState) (msg : Msg) (old new : Outbox) (answer : Handled) → s ≡ t → after ≡ then → IsStepFor plan s msg after old new answer → IsStepFor plan t msg then old new answer
 comes_from plan s t after then msg old new answer is is2 comes =
-    let P : State → Type 0 = λ u. Comes plan u msg after old new answer in
-    let Q : State → Type 0 = λ u. Comes plan t msg u old new answer in
+    let P : ServerState → Type 0 = λ u. IsStepFor plan u msg after old new answer in
+    let Q : ServerState → Type 0 = λ u. IsStepFor plan t msg u old new answer in
     subst Q is2 (subst P is comes)

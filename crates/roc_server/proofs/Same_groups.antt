@@ -2,15 +2,15 @@
 use Rattle.std.proofs.Common.{◌≡◌, ℕ, zero, suc, Bool, true, false, cond, List, [], ◌∷◌, map, Some, slice_get, slice_set, refl, sym, ap, subst, ◌∙◌, arith, ◌||◌}
 use Rattle.std.proofs.lemmas.List.{length-map}
 use Rattle.std.proofs.lemmas.Bool.Decides.{nat_tests}
-use Rattle.std.specs.List.{AllByRecursion}
 use Rattle.std.specs.Option.{option_map}
 use Rattle.roc_sequence.specs.Places.{place_of, NoneTwice}
 use Rattle.roc_base.specs.declared.id.TxnId.{TxnId}
 use Rattle.roc_base.specs.TxnId.{is_txn}
 use Rattle.roc_plan.specs.Groups.{Plan}
 use Rattle.roc_server.specs.declared.started.StartedGroup.{StartedGroup}
-use Rattle.roc_server.specs.Fits.{IsGroupOf}
-use Rattle.roc_server.specs.Kept.{is_same_group, unrun, AreSameGroups}
+use Rattle.roc_server.specs.Commit.{group_call}
+use Rattle.roc_server.specs.Fits.{IsCallOf, AreGroupsOf}
+use Rattle.roc_server.specs.Inner.Kept.{is_same_group, unrun, AreSameGroups}
 use Rattle.roc_server.specs.State.{is_group, find_group, is_here}
 
 pub same_own : (e : StartedGroup) → is_same_group e e ≡ true
@@ -26,19 +26,13 @@ set_same (x ∷ xs) zero e after got same =
     let is : x ≡ e = cc in λ i. (same ∙ ap unrun (sym is)) i ∷ map unrun xs
 set_same (x ∷ xs) (suc k) e after got same = ap (λ ys. unrun x ∷ ys) (set_same xs k e after got same)
 
-group_fits : (plan : Plan) (e : StartedGroup) → IsGroupOf plan e → IsGroupOf plan (unrun e)
-group_fits plan e h = record { procedure = h.procedure; group = h.group; args = h.args; inputs = h.inputs }
-
-run_fits : (plan : Plan) (e : StartedGroup) → IsGroupOf plan (unrun e) → IsGroupOf plan e
-run_fits plan e h = record { procedure = h.procedure; group = h.group; args = h.args; inputs = h.inputs }
-
-pub fits_same : (plan : Plan) (old new : List StartedGroup) → AreSameGroups old new → AllByRecursion (IsGroupOf plan) old → AllByRecursion (IsGroupOf plan) new
+pub fits_same : (plan : Plan) (old new : List StartedGroup) → AreSameGroups old new → AreGroupsOf plan old → AreGroupsOf plan new
 fits_same plan [] [] same fits = tt
 fits_same plan [] (y ∷ ys) same fits = cc
 fits_same plan (x ∷ xs) [] same fits = cc
 fits_same plan (x ∷ xs) (y ∷ ys) same fits =
     let head : unrun x ≡ unrun y = cc in
-    (run_fits plan y (subst (IsGroupOf plan) head (group_fits plan x fits.0)), fits_same plan xs ys (cc) fits.1)
+    (subst (λ (e : StartedGroup). IsCallOf plan (group_call e)) head fits.0, fits_same plan xs ys (cc) fits.1)
 
 place-unrun : (x : StartedGroup) (xs : List StartedGroup) → place_of (is_same_group (unrun x)) (map unrun xs) ≡ place_of (is_same_group x) xs
 place-unrun x [] = refl

@@ -1,10 +1,11 @@
 -- What a server holds is of a plan: its groups are the plan's, with the plan's counts
-use Rattle.std.specs.Prelude.{◌≡◌, ◌<◌, length}
+use Rattle.std.specs.Prelude.{◌≡◌, ◌<◌, List, length}
 use Rattle.std.specs.List.{AllByRecursion}
 use Rattle.roc_plan.specs.Groups.{Plan, procedure_of, groups_of, inputs_of}
 use Rattle.roc_group.specs.Group_run.{Call}
 use Rattle.roc_server.specs.declared.started.StartedGroup.{StartedGroup}
-use Rattle.roc_server.specs.State.{State}
+use Rattle.roc_server.specs.Commit.{group_call}
+use Rattle.roc_server.specs.State.{ServerState}
 
 -- the plan has the group of the call, and takes as many arguments and inputs
 pub record IsCallOf (plan : Plan) (c : Call) : Type 0 where
@@ -13,11 +14,9 @@ pub record IsCallOf (plan : Plan) (c : Call) : Type 0 where
   pub args : length c.args ≡ (procedure_of plan c.proc).arguments
   pub inputs : length c.inputs ≡ length (inputs_of plan c.proc c.group)
 
-pub record IsGroupOf (plan : Plan) (e : StartedGroup) : Type 0 where
-  pub procedure : e.proc < length plan.program.procedures
-  pub group : e.group < length (groups_of plan e.proc)
-  pub args : length e.args ≡ (procedure_of plan e.proc).arguments
-  pub inputs : length e.inputs ≡ length (inputs_of plan e.proc e.group)
+-- each group started by such a call
+abbrev pub AreGroupsOf : Plan → List StartedGroup → Type 0
+AreGroupsOf plan started = AllByRecursion (λ e. IsCallOf plan (group_call e)) started
 
-abbrev pub FitsPlan : Plan → State → Type 0
-FitsPlan plan s = AllByRecursion (IsGroupOf plan) s.started
+abbrev pub ServerFits : Plan → ServerState → Type 0
+ServerFits plan s = AreGroupsOf plan s.started

@@ -1,11 +1,8 @@
 pub mod State
 pub mod First
-pub mod Fits
 pub mod Start
+pub mod New
 pub mod Commit
+pub mod Fits
 pub mod Step
-pub mod Kept
-pub mod Codes
-pub mod Runs
-pub mod Decided
-pub mod Taken
+pub mod Inner

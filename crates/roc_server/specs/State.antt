@@ -12,7 +12,7 @@ use Rattle.roc_server.specs.declared.handled.Handled.{Handled}
 use Rattle.roc_server.specs.declared.handled.Handled.TheVariants.{Done, Ignored}
 use Rattle.roc_server.specs.declared.started.StartedGroup.{StartedGroup}
 
-pub record State : Type 0 where
+pub record ServerState : Type 0 where
   pub shard : Shard
   pub store : Store
   -- the groups that started here, in the order in which they arrived
@@ -23,18 +23,18 @@ pub record State : Type 0 where
   pub stopped : Bool
 
 -- what comes of a message: the answer, the state after it, what is sent, and the transactions newly decided, in the order in which they were taken
-pub record Step : Type 0 where
+pub record ServerStep : Type 0 where
   pub answer : Handled
-  pub state : State
+  pub state : ServerState
   pub sends : List Outgoing
   pub decided : List TxnId
 
 -- an ignored message changes nothing and sends nothing
-abbrev pub ignored : State → Reason → Step
+abbrev pub ignored : ServerState → Reason → ServerStep
 ignored s reason = record { answer = Ignored reason; state = s; sends = []; decided = [] }
 
 -- a message that changes nothing, and what is sent
-abbrev pub answered : State → List Outgoing → Step
+abbrev pub answered : ServerState → List Outgoing → ServerStep
 answered s sends = record { answer = Done; state = s; sends = sends; decided = [] }
 
 -- this group of this transaction

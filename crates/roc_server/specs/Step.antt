@@ -6,19 +6,19 @@ use Rattle.roc_msg.specs.declared.outbox.Outbox.{Outbox}
 use Rattle.roc_msg.specs.declared.reason.Reason.TheVariants.{Foreign}
 use Rattle.roc_plan.specs.Groups.{Plan}
 use Rattle.roc_server.specs.declared.handled.Handled.{Handled}
-use Rattle.roc_server.specs.State.{State, Step, ignored}
+use Rattle.roc_server.specs.State.{ignored, ServerState, ServerStep}
 use Rattle.roc_server.specs.Start.{after_start}
 use Rattle.roc_server.specs.Commit.{Commits}
 
 -- r is what comes of a message
-abbrev pub Handles : Plan → State → Msg → Step → Type 0
+abbrev pub Handles : Plan → ServerState → Msg → ServerStep → Type 0
 Handles plan s (Start id proc group args inputs) r = r ≡ after_start plan s id (record { proc = proc; group = group; args = args; inputs = inputs })
 Handles plan s (Commit id edges) r = Commits plan s id edges r
 Handles plan s (StartOk id group shard bound outs edges) r = r ≡ ignored s Foreign
 Handles plan s (CommitOk id shard outs) r = r ≡ ignored s Foreign
 
 -- r is what was answered, what is kept, and what was added to an outbox
-pub record Shows (r : Step) (answer : Handled) (state : State) (old new : Outbox) : Type 0 where
+pub record Shows (r : ServerStep) (answer : Handled) (state : ServerState) (old new : Outbox) : Type 0 where
   pub answers : r.answer ≡ answer
   pub keeps : r.state ≡ state
   pub sends : new.messages ≡ old.messages ++ r.sends

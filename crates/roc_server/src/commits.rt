@@ -1,20 +1,20 @@
 //! Commits.
 ghost use Rattle.std.specs.Prelude.{◌≡◌, ◌++◌, ◌∷◌, [], filter, map, false, IfOk, OnOk};
-ghost use Rattle.std.specs.List.{AllByRecursion};
 ghost use Rattle.roc_sequence.specs.Places.{NoneTwice};
+ghost use Rattle.roc_plan.specs.Within.{IsWithin};
 ghost use Rattle.roc_server.specs.Commit.{commitok, Commits};
-ghost use Rattle.roc_server.specs.Fits.{IsGroupOf};
-ghost use Rattle.roc_server.specs.Kept.{state_of, is_same_group, IsSound};
-ghost use Rattle.roc_server.specs.State.{Step, is_here};
+ghost use Rattle.roc_server.specs.Fits.{AreGroupsOf};
+ghost use Rattle.roc_server.specs.Inner.Kept.{state_of, is_same_group, IsConsistent};
+ghost use Rattle.roc_server.specs.State.{is_here, ServerStep};
 ghost use Rattle.roc_server.specs.Step.{Shows};
-ghost use Rattle.roc_server.specs.Taken.{TakesNew};
+ghost use Rattle.roc_server.specs.Inner.Taken.{TakesNew};
 
-use crate::decided::{is_among, newly_decided};
+use crate::decided::newly_decided;
 use crate::groups::is_here;
 use crate::kept::Kept;
 use crate::runs::{outs_here, run_all};
 use crate::{Handled, StartedGroup};
-use roc_base::{Edges, NoMemory, Node, Shard, TxnId};
+use roc_base::{Edges, NoMemory, Node, Shard, TxnId, is_among};
 use roc_depgraph::Learnt;
 use roc_msg::{Msg, Outbox, Reason};
 use roc_plan::Plan;
@@ -30,11 +30,12 @@ pub(crate) fn take_commit(
     edges: &Edges,
     out: &mut Outbox,
 ) -> Result<Handled, NoMemory>
-    requires fits { AllByRecursion (IsGroupOf plan.now) kept.old.started.items }
-    requires sound { IsSound kept.old }
-    ensures step { IfOk result (λ answer. (r : Step) × Commits plan.now (state_of shard kept.old false) id edges.now r × Shows r answer (state_of shard kept.new false) out.old out.new) }
-    ensures fits { OnOk result (AllByRecursion (IsGroupOf plan.now) kept.new.started.items) }
-    ensures sound { OnOk result (IsSound kept.new) }
+    requires within { IsWithin plan.now }
+    requires fits { AreGroupsOf plan.now kept.old.started.items }
+    requires sound { IsConsistent kept.old }
+    ensures step { IfOk result (λ answer. (r : ServerStep) × Commits plan.now (state_of shard kept.old false) id edges.now r × Shows r answer (state_of shard kept.new false) out.old out.new) }
+    ensures fits { OnOk result (AreGroupsOf plan.now kept.new.started.items) }
+    ensures sound { OnOk result (IsConsistent kept.new) }
 {
     if !is_here(&kept.started, id) {
         return Ok(Handled::Ignored(Reason::NotHere));
@@ -59,7 +60,8 @@ fn take_new(
     kept: &mut Kept,
     out: &mut Outbox,
 ) -> Result<(), NoMemory>
-    requires fits { AllByRecursion (IsGroupOf plan.now) kept.old.started.items }
+    requires within { IsWithin plan.now }
+    requires fits { AreGroupsOf plan.now kept.old.started.items }
     requires once { NoneTwice is_same_group kept.old.started.items }
     ensures { OnOk result (TakesNew plan.now shard kept.old kept.new out.old out.new) }
 {
@@ -80,7 +82,7 @@ fn send_commitoks(
     ids: &[TxnId],
     out: &mut Outbox,
 ) -> Result<(), NoMemory>
-    requires { AllByRecursion (IsGroupOf plan.now) started.now }
+    requires { AreGroupsOf plan.now started.now }
     ensures { OnOk result (out.new ≡ record out.old { messages = out.old.messages ++ map (commitok plan.now shard started.now) (filter (λ t. is_here t started.now) ids.now) }) }
 {
     for id in ids {
@@ -100,7 +102,7 @@ fn send_commitok(
     id: TxnId,
     out: &mut Outbox,
 ) -> Result<(), NoMemory>
-    requires { AllByRecursion (IsGroupOf plan.now) started.now }
+    requires { AreGroupsOf plan.now started.now }
     ensures { OnOk result (out.new ≡ record out.old { messages = out.old.messages ++ commitok plan.now shard started.now id ∷ [] }) }
 {
     let outs = outs_here(alloc, plan, id, started)?;

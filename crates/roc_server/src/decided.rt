@@ -2,9 +2,9 @@
 ghost use Rattle.std.specs.Prelude.{◌↔◌, IsTrue, IfOk};
 ghost use Rattle.roc_base.specs.TxnId.{is_txn};
 ghost use Rattle.roc_sequence.specs.Places.{IsListed};
-ghost use Rattle.roc_server.specs.Decided.{IsUntaken, AreUntaken, AreOrdered};
+ghost use Rattle.roc_server.specs.New.{IsNew, AreAllNew, AreNew};
 
-use roc_base::{NoMemory, TxnId};
+use roc_base::{NoMemory, TxnId, is_among};
 use roc_component::order;
 use roc_depgraph::Deps;
 use std::alloc::Global;
@@ -15,7 +15,7 @@ pub(crate) fn newly_decided(
     deps: &Deps,
     taken: &[TxnId],
 ) -> Result<Vec<TxnId>, NoMemory>
-    ensures { IfOk result (λ ids. AreOrdered deps.now taken.now ids.items) }
+    ensures { IfOk result (λ ids. AreNew (IsListed is_txn taken.now) deps.now ids.items) }
 {
     let ids = untaken(alloc, deps, taken)?;
     order(alloc, deps, &ids)
@@ -23,7 +23,7 @@ pub(crate) fn newly_decided(
 
 // The same in any order: those whose lists are known, since only they can be decided.
 fn untaken(alloc: Global, deps: &Deps, taken: &[TxnId]) -> Result<Vec<TxnId>, NoMemory>
-    ensures { IfOk result (λ ids. AreUntaken deps.now taken.now ids.items) }
+    ensures { IfOk result (λ ids. AreAllNew (IsListed is_txn taken.now) deps.now ids.items) }
 {
     let mut ids = Vec::new(alloc);
     for known in deps.as_slice() {
@@ -36,17 +36,10 @@ fn untaken(alloc: Global, deps: &Deps, taken: &[TxnId]) -> Result<Vec<TxnId>, No
 
 // Whether a transaction is decided and not among these.
 fn is_untaken(deps: &Deps, taken: &[TxnId], id: TxnId) -> Result<bool, NoMemory>
-    ensures { IfOk result (λ untaken. IsTrue untaken ↔ IsUntaken deps.now taken.now id) }
+    ensures { IfOk result (λ untaken. IsTrue untaken ↔ IsNew (IsListed is_txn taken.now) deps.now id) }
 {
     if is_among(taken, id) {
         return Ok(false);
     }
     deps.is_decided(id)
-}
-
-// Whether a transaction is among these.
-pub(crate) fn is_among(ids: &[TxnId], id: TxnId) -> bool
-    ensures { IsTrue result ↔ IsListed is_txn ids.now id }
-{
-    ids.contains(&id)
 }

@@ -1,12 +1,13 @@
 //! The cells of a server before any message.
 ghost use Rattle.std.specs.Prelude.{◌≡◌, ◌==◌, filter, IfOk, OnOk};
 ghost use Rattle.roc_plan.specs.Groups.{shard_of};
-ghost use Rattle.roc_plan.specs.Workload as pure;
+ghost use Rattle.roc_program.specs.Parts as pure;
 ghost use Rattle.roc_rows.specs.Store.{empty, write};
 ghost use Rattle.roc_whole.specs.Serial.{after_inits, init_cell};
 
 use roc_base::{NoMemory, Shard};
-use roc_plan::{Init, Plan};
+use roc_plan::Plan;
+use roc_program::Init;
 use roc_rows::{Cell, Rows};
 use std::alloc::Global;
 
@@ -15,7 +16,7 @@ pub(crate) fn first_rows(alloc: Global, plan: &Plan, shard: Shard) -> Result<Row
     ensures { IfOk result (λ rows. rows.store ≡ after_inits empty (filter (λ i. shard_of plan.now i.place == shard.0) plan.now.program.inits)) }
 {
     let mut rows = Rows::new(alloc);
-    for init in &plan.workload().inits {
+    for init in plan.workload().inits() {
         if is_here(plan, shard, init) {
             set_init(&mut rows, init)?;
         }

@@ -1,11 +1,11 @@
 //! Look-ups among the groups that have started on a server.
 ghost use Rattle.std.specs.Prelude.{◌≡◌, ◌&&◌, not, ◌==◌, find, position};
 ghost use Rattle.std.specs.Option.{option_copied};
-ghost use Rattle.std.specs.List.{list_any, AllByRecursion};
+ghost use Rattle.std.specs.List.{list_any};
 ghost use Rattle.roc_base.specs.TxnId.{is_txn};
 ghost use Rattle.roc_base.specs.Equality.{is_nums};
 ghost use Rattle.roc_server.specs.Commit.{count_of_groups};
-ghost use Rattle.roc_server.specs.Fits.{IsGroupOf};
+ghost use Rattle.roc_server.specs.Fits.{AreGroupsOf};
 ghost use Rattle.roc_server.specs.State.{is_group, find_group, is_here};
 
 use crate::StartedGroup;
@@ -51,7 +51,7 @@ fn first_group(started: &[StartedGroup], id: TxnId) -> Option<&StartedGroup>
 
 // How many groups the transaction's procedure has; none where the transaction is not here.
 pub(crate) fn count_of_groups(plan: &Plan, started: &[StartedGroup], id: TxnId) -> u16
-    requires { AllByRecursion (IsGroupOf plan.now) started.now }
+    requires { AreGroupsOf plan.now started.now }
     ensures { result ≡ count_of_groups plan.now (find (λ e. is_txn e.id id) started.now) }
 {
     match first_group(started, id) {

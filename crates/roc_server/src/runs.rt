@@ -1,14 +1,14 @@
 //! Runs of the groups that have started.
 ghost use Rattle.std.specs.Prelude.{◌≡◌, ◌<◌, ◌++◌, [], vec_len, unwrap_or, Some, slice_get, IfOk, OnOk};
 ghost use Rattle.std.specs.Option.{option_to_list};
-ghost use Rattle.std.specs.List.{AllByRecursion};
 ghost use Rattle.roc_sequence.specs.Places.{NoneTwice};
+ghost use Rattle.roc_plan.specs.Within.{IsWithin};
 ghost use Rattle.roc_server.specs.Commit.{groups_here, outs_here, run_groups, take_all};
 ghost use Rattle.roc_server.specs.declared.started.StartedGroup.{StartedGroup as Group};
-ghost use Rattle.roc_server.specs.Fits.{IsGroupOf};
-ghost use Rattle.roc_server.specs.Kept.{holding, is_same_group, AreSameGroups};
-ghost use Rattle.roc_server.specs.Runs.{RunsAt};
-ghost use Rattle.roc_server.specs.State.{State, find_group};
+ghost use Rattle.roc_server.specs.Fits.{AreGroupsOf};
+ghost use Rattle.roc_server.specs.Inner.Kept.{holding, is_same_group, AreSameGroups};
+ghost use Rattle.roc_server.specs.Inner.Runs.{RunsAt};
+ghost use Rattle.roc_server.specs.State.{find_group, ServerState};
 
 use crate::StartedGroup;
 use crate::groups::{count_of_groups, find_group, place_of_group};
@@ -26,9 +26,10 @@ pub(crate) fn run_all(
     started: &mut Vec<StartedGroup>,
     rows: &mut Rows,
 ) -> Result<(), NoMemory>
-    requires fits { AllByRecursion (IsGroupOf plan.now) started.old.items }
+    requires within { IsWithin plan.now }
+    requires fits { AreGroupsOf plan.now started.old.items }
     requires once { NoneTwice is_same_group started.old.items }
-    ensures runs { OnOk result ((s : State) → take_all plan.now (holding s rows.old.store started.old.items) ids.now ≡ holding s rows.new.store started.new.items) }
+    ensures runs { OnOk result ((s : ServerState) → take_all plan.now (holding s rows.old.store started.old.items) ids.now ≡ holding s rows.new.store started.new.items) }
     ensures groups { OnOk result (AreSameGroups started.old.items started.new.items) }
 {
     for id in ids {
@@ -45,9 +46,10 @@ fn run_transaction(
     started: &mut Vec<StartedGroup>,
     rows: &mut Rows,
 ) -> Result<(), NoMemory>
-    requires fits { AllByRecursion (IsGroupOf plan.now) started.old.items }
+    requires within { IsWithin plan.now }
+    requires fits { AreGroupsOf plan.now started.old.items }
     requires once { NoneTwice is_same_group started.old.items }
-    ensures runs { OnOk result ((s : State) → run_groups plan.now (holding s rows.old.store started.old.items) (groups_here plan.now id started.old.items) ≡ holding s rows.new.store started.new.items) }
+    ensures runs { OnOk result ((s : ServerState) → run_groups plan.now (holding s rows.old.store started.old.items) (groups_here plan.now id started.old.items) ≡ holding s rows.new.store started.new.items) }
     ensures groups { OnOk result (AreSameGroups started.old.items started.new.items) }
 {
     let count = count_of_groups(plan, started, id);
@@ -66,9 +68,10 @@ fn run_number(
     started: &mut Vec<StartedGroup>,
     rows: &mut Rows,
 ) -> Result<(), NoMemory>
-    requires fits { AllByRecursion (IsGroupOf plan.now) started.old.items }
+    requires within { IsWithin plan.now }
+    requires fits { AreGroupsOf plan.now started.old.items }
     requires once { NoneTwice is_same_group started.old.items }
-    ensures runs { OnOk result ((s : State) → run_groups plan.now (holding s rows.old.store started.old.items) (option_to_list (find_group id number started.old.items)) ≡ holding s rows.new.store started.new.items) }
+    ensures runs { OnOk result ((s : ServerState) → run_groups plan.now (holding s rows.old.store started.old.items) (option_to_list (find_group id number started.old.items)) ≡ holding s rows.new.store started.new.items) }
     ensures groups { OnOk result (AreSameGroups started.old.items started.new.items) }
 {
     match place_of_group(started, id, number) {
@@ -85,8 +88,9 @@ fn run_at(
     started: &mut Vec<StartedGroup>,
     rows: &mut Rows,
 ) -> Result<(), NoMemory>
-    requires within { at < vec_len started.old }
-    requires fits { AllByRecursion (IsGroupOf plan.now) started.old.items }
+    requires within { IsWithin plan.now }
+    requires exists { at < vec_len started.old }
+    requires fits { AreGroupsOf plan.now started.old.items }
     ensures { OnOk result ((e : Group) → slice_get started.old.items at ≡ Some e → RunsAt plan.now e at started.old.items started.new.items rows.old.store rows.new.store) }
 {
     let group = &started[at];
@@ -109,7 +113,7 @@ pub(crate) fn outs_here(
     id: TxnId,
     started: &[StartedGroup],
 ) -> Result<Nums, NoMemory>
-    requires { AllByRecursion (IsGroupOf plan.now) started.now }
+    requires { AreGroupsOf plan.now started.now }
     ensures { IfOk result (λ outs. outs ≡ outs_here plan.now id started.now) }
 {
     let mut outs = Nums::new(alloc);

@@ -1,21 +1,20 @@
 //! The server.
 ghost use Rattle.std.specs.Prelude.{◌≡◌, ◌↔◌, true, false, IsTrue, IfOk, OnOk};
-ghost use Rattle.std.specs.List.{AllByRecursion};
 ghost use Rattle.roc_depgraph.specs.Deps.{IsDecided};
+ghost use Rattle.roc_plan.specs.Within.{IsWithin};
 ghost use Rattle.roc_rows.specs.Store.{entries};
 ghost use Rattle.roc_server.specs.First.{first_server};
-ghost use Rattle.roc_server.specs.Fits.{IsGroupOf, FitsPlan};
-ghost use Rattle.roc_server.specs.Kept.{state_of, IsSound};
-ghost use Rattle.roc_server.specs.State.{Step};
+ghost use Rattle.roc_server.specs.Fits.{AreGroupsOf, ServerFits};
+ghost use Rattle.roc_server.specs.Inner.Kept.{state_of, IsConsistent};
+ghost use Rattle.roc_server.specs.State.{ServerStep};
 ghost use Rattle.roc_server.specs.Step.{Handles, Shows};
 
 use crate::Handled;
 use crate::commits::take_commit;
-use crate::decided::is_among;
 use crate::first::first_rows;
 use crate::kept::Kept;
 use crate::starts::{Request, take_start};
-use roc_base::{NoMemory, Shard, TxnId};
+use roc_base::{NoMemory, Shard, TxnId, is_among};
 use roc_msg::{Msg, NodeFault, Outbox, Reason};
 use roc_plan::{Known, Plan};
 use roc_rows::{Cell, Rows};
@@ -33,18 +32,18 @@ pub struct Server {
 }
 
 impl Model for Server {
-    ghost use Rattle.roc_server.specs.Codes.{coded_state};
-    ghost use Rattle.roc_server.specs.State.{State};
+    ghost use Rattle.roc_server.specs.Inner.Codes.{coded_state};
+    ghost use Rattle.roc_server.specs.State.{ServerState};
 
-    ghost Value = { State };
+    ghost Value = { ServerState };
 
     ghost coded = { coded_state };
 
-    ghost use Rattle.roc_server.specs.Kept.{state_of, IsSound};
+    ghost use Rattle.roc_server.specs.Inner.Kept.{state_of, IsConsistent};
 
     ghost view = { λ s. state_of s.shard s.kept s.stopped };
 
-    ghost invariant = { λ s. IsSound s.kept };
+    ghost invariant = { λ s. IsConsistent s.kept };
 }
 
 impl Server {
@@ -52,7 +51,7 @@ impl Server {
     /// allocator.
     pub fn new(alloc: Global, plan: &Plan, shard: Shard) -> Result<Server, NoMemory>
         ensures first { IfOk result (λ server. server ≡ first_server plan.now shard) }
-        ensures fits { IfOk result (FitsPlan plan.now) }
+        ensures fits { IfOk result (ServerFits plan.now) }
     {
         let rows = first_rows(alloc, plan, shard)?;
         Ok(Server {
@@ -67,11 +66,12 @@ impl Server {
     /// newly decides is added to `out`. `NoMemory` promises nothing of the server's groups, lists
     /// and cells, nor of `out`, but that each later call answers `Stopped`.
     pub fn handle(&mut self, plan: &Plan, msg: &Msg, out: &mut Outbox) -> Result<Handled, NodeFault>
-        requires { FitsPlan plan.now self.old }
+        requires within { IsWithin plan.now }
+        requires fits { ServerFits plan.now self.old }
 
         // The step that the definitions fix.
-        ensures step { IfOk result (λ answer. (r : Step) × Handles plan.now self.old msg.now r × Shows r answer self.new out.old out.new) }
-        ensures fits { FitsPlan plan.now self.new }
+        ensures step { IfOk result (λ answer. (r : ServerStep) × Handles plan.now self.old msg.now r × Shows r answer self.new out.old out.new) }
+        ensures fits { ServerFits plan.now self.new }
         ensures shard { self.new.shard ≡ self.old.shard }
 
         // A server that found no memory answers so from then on, and exactly then.
@@ -119,11 +119,12 @@ fn take(
     msg: &Msg,
     out: &mut Outbox,
 ) -> Result<Handled, NoMemory>
-    requires fits { AllByRecursion (IsGroupOf plan.now) kept.old.started.items }
-    requires sound { IsSound kept.old }
-    ensures step { IfOk result (λ answer. (r : Step) × Handles plan.now (state_of shard kept.old false) msg.now r × Shows r answer (state_of shard kept.new false) out.old out.new) }
-    ensures fits { OnOk result (AllByRecursion (IsGroupOf plan.now) kept.new.started.items) }
-    ensures sound { OnOk result (IsSound kept.new) }
+    requires within { IsWithin plan.now }
+    requires fits { AreGroupsOf plan.now kept.old.started.items }
+    requires sound { IsConsistent kept.old }
+    ensures step { IfOk result (λ answer. (r : ServerStep) × Handles plan.now (state_of shard kept.old false) msg.now r × Shows r answer (state_of shard kept.new false) out.old out.new) }
+    ensures fits { OnOk result (AreGroupsOf plan.now kept.new.started.items) }
+    ensures sound { OnOk result (IsConsistent kept.new) }
 {
     match msg {
         Msg::Start {

@@ -1,12 +1,12 @@
 //! Starts.
 ghost use Rattle.std.specs.Prelude.{◌≡◌, ◌++◌, ◌∷◌, [], ◌<◌, length, None, false, IfOk, OnOk};
-ghost use Rattle.std.specs.List.{AllByRecursion};
 ghost use Rattle.roc_group.specs.Group_run.{call};
 ghost use Rattle.roc_plan.specs.Groups.{groups_of};
-ghost use Rattle.roc_server.specs.Fits.{IsCallOf, IsGroupOf};
-ghost use Rattle.roc_server.specs.Kept.{state_of, asked, IsSound};
-ghost use Rattle.roc_server.specs.Start.{has_counts, start_fault, comes_before, edges_for, new_group, startok_of, after_start};
-ghost use Rattle.roc_server.specs.State.{State};
+ghost use Rattle.roc_plan.specs.Within.{IsWithin};
+ghost use Rattle.roc_server.specs.Fits.{IsCallOf, AreGroupsOf};
+ghost use Rattle.roc_server.specs.Inner.Kept.{state_of, asked, IsConsistent};
+ghost use Rattle.roc_server.specs.Start.{has_counts, start_fault, edges_for, new_group, startok_of, after_start, is_predecessor};
+ghost use Rattle.roc_server.specs.State.{ServerState};
 ghost use Rattle.roc_server.specs.Step.{Shows};
 
 use crate::groups::{differs, find_group};
@@ -36,11 +36,12 @@ pub(crate) fn take_start(
     request: Request,
     out: &mut Outbox,
 ) -> Result<Handled, NoMemory>
-    requires fits { AllByRecursion (IsGroupOf plan.now) kept.old.started.items }
-    requires sound { IsSound kept.old }
+    requires within { IsWithin plan.now }
+    requires fits { AreGroupsOf plan.now kept.old.started.items }
+    requires sound { IsConsistent kept.old }
     ensures step { IfOk result (λ answer. Shows (after_start plan.now (state_of shard kept.old false) request.id (asked request)) answer (state_of shard kept.new false) out.old out.new) }
-    ensures fits { OnOk result (AllByRecursion (IsGroupOf plan.now) kept.new.started.items) }
-    ensures sound { OnOk result (IsSound kept.new) }
+    ensures fits { OnOk result (AreGroupsOf plan.now kept.new.started.items) }
+    ensures sound { OnOk result (IsConsistent kept.new) }
 {
     if let Some(reason) = start_fault(plan, shard, kept, &request) {
         return Ok(Handled::Ignored(reason));
@@ -58,6 +59,7 @@ pub(crate) fn take_start(
 
 // Why a start is ignored, where it is: the first reason that holds.
 fn start_fault(plan: &Plan, shard: Shard, kept: &Kept, request: &Request) -> Option<Reason>
+    requires within { IsWithin plan.now }
     ensures reason { result ≡ start_fault plan.now (state_of shard kept.now false) request.now.id (asked request.now) }
     ensures fits { result ≡ None → IsCallOf plan.now (asked request.now) }
 {
@@ -101,8 +103,9 @@ fn new_group(
     started: &[StartedGroup],
     request: Request,
 ) -> Result<StartedGroup, NoMemory>
-    requires { IsCallOf plan.now (asked request) }
-    ensures { IfOk result (λ e. (s : State) → s.shard ≡ shard → s.started ≡ started.now → e ≡ new_group plan.now s request.id (asked request)) }
+    requires within { IsWithin plan.now }
+    requires call { IsCallOf plan.now (asked request) }
+    ensures { IfOk result (λ e. (s : ServerState) → s.shard ≡ shard → s.started ≡ started.now → e ≡ new_group plan.now s request.id (asked request)) }
 {
     let Request {
         id,
@@ -137,7 +140,7 @@ fn edges_for(
 {
     let mut met = Vec::new(alloc);
     for e in started {
-        if comes_before(e, id, cells) {
+        if is_predecessor(e, id, cells) {
             met.push(Edge::new(e.id, false, true, shard))?;
         }
     }
@@ -147,8 +150,8 @@ fn edges_for(
 }
 
 // Whether a group is of another transaction and conflicts with one that uses these cells.
-fn comes_before(e: &StartedGroup, id: TxnId, cells: &[Access]) -> bool
-    ensures { result ≡ comes_before id cells.now e.now }
+fn is_predecessor(e: &StartedGroup, id: TxnId, cells: &[Access]) -> bool
+    ensures { result ≡ is_predecessor id cells.now e.now }
 {
     e.id != id && conflict(e.cells.as_slice(), cells)
 }

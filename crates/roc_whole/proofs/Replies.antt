@@ -1,9 +1,9 @@
 -- What a run adds to a reply does not depend on what stands there already
 use Rattle.std.proofs.Common.{◌≡◌, ℤ, List, [], ◌∷◌, refl, sym, ap, ◌∙◌, append_assoc, append-nil}
 use Rattle.roc_rows.specs.Store.{Store}
-use Rattle.roc_plan.specs.Program.{Statement, Get, Set, Out, Piece, Procedure}
-use Rattle.roc_plan.specs.Values.{Environment, value}
-use Rattle.roc_plan.specs.Groups.{with_arguments}
+use Rattle.roc_program.specs.Program.{Statement, Get, Set, Out, Piece, Procedure}
+use Rattle.roc_program.specs.Values.{Environment, value}
+use Rattle.roc_program.specs.Values.{with_arguments}
 use Rattle.roc_whole.specs.Run.{Progress, progress, after_statement, after_statements, after_piece, after_pieces, whole_run, behind}
 
 after_statement-behind : (place : ℤ) (said : List ℤ) (p : Progress) (s : Statement) → after_statement place (behind said p) s ≡ behind said (after_statement place p s)

@@ -1,7 +1,7 @@
 -- Serial runs of two lists
 use Rattle.std.proofs.Common.{◌≡◌, List, [], ◌∷◌, ◌++◌, refl, ap}
 use Rattle.roc_rows.specs.Store.{Store}
-use Rattle.roc_plan.specs.Program.{Workload}
+use Rattle.roc_program.specs.Program.{Workload}
 use Rattle.roc_whole.specs.Serial.{Call, Answer, run_of, serial_store, serial_answers}
 
 pub serial_store-append : (w : Workload) (store : Store) (xs ys : List Call) → serial_store w store (xs ++ ys) ≡ serial_store w (serial_store w store xs) ys

@@ -1,10 +1,9 @@
--- Pieces that run on a store, statement by statement: docs/LANGUAGE.md, "Runs"
+-- Pieces that run on a store, statement by statement: docs/LANGUAGE.md, "Whole runs and serial runs"
 use Rattle.std.specs.Prelude.{ℤ, List, [], ◌∷◌, ◌++◌, slice_set}
 use Rattle.roc_rows.specs.declared.cell.Cell.{Cell}
 use Rattle.roc_rows.specs.Store.{Store, read, write}
-use Rattle.roc_plan.specs.Program.{Access, Statement, Get, Set, Out, Piece, Procedure}
-use Rattle.roc_plan.specs.Values.{Environment, value}
-use Rattle.roc_plan.specs.Groups.{with_arguments}
+use Rattle.roc_program.specs.Program.{Access, Statement, Get, Set, Out, Piece, Procedure}
+use Rattle.roc_program.specs.Values.{Environment, with_arguments, value, key_of}
 
 -- where a run stands: the cells, the values of the procedure's names, and what was added to the reply so far
 pub record Progress : Type 0 where
@@ -16,13 +15,13 @@ abbrev pub progress : Store → Environment → List ℤ → Progress
 progress store environment reply = record { store = store; environment = environment; reply = reply }
 
 -- the cell that an access of a piece at this place means
-abbrev pub cell_of : ℤ → Environment → Access → Cell
-cell_of place env a = record { table = a.table; place = place; id = value a.id env; column = a.column }
+abbrev pub access_cell : ℤ → Environment → Access → Cell
+access_cell place env a = record { table = a.table; place = place; id = key_of a env; column = a.column }
 
 -- after a statement of a piece at this place
 abbrev pub after_statement : ℤ → Progress → Statement → Progress
-after_statement place p (Get number from) = record p { environment = slice_set p.environment number (read p.store (cell_of place p.environment from)) }
-after_statement place p (Set to v) = record p { store = write p.store (cell_of place p.environment to) (value v p.environment) }
+after_statement place p (Get number from) = record p { environment = slice_set p.environment number (read p.store (access_cell place p.environment from)) }
+after_statement place p (Set to v) = record p { store = write p.store (access_cell place p.environment to) (value v p.environment) }
 after_statement place p (Out v) = record p { reply = p.reply ++ value v p.environment ∷ [] }
 
 -- statements run in their order

@@ -1,10 +1,10 @@
--- Serial runs: whole procedures one after another, from the start store: docs/LANGUAGE.md, "Runs"
+-- Serial runs: whole procedures one after another, from the start store: docs/LANGUAGE.md, "Whole runs and serial runs"
 use Rattle.std.specs.Prelude.{ℕ, ℤ, List, [], ◌∷◌, slice_index_or}
 use Rattle.roc_base.specs.declared.id.TxnId.{TxnId}
 use Rattle.roc_rows.specs.declared.cell.Cell.{Cell}
 use Rattle.roc_rows.specs.Store.{Store, empty, write}
-use Rattle.roc_plan.specs.Program.{Workload, Procedure, Init}
-use Rattle.roc_plan.specs.Groups.{no_procedure}
+use Rattle.roc_program.specs.Program.{Workload, Procedure, Init}
+use Rattle.roc_program.specs.LookUps.{no_procedure}
 use Rattle.roc_whole.specs.Run.{Progress, whole_run}
 
 -- the cell that an `init` line sets

@@ -1,7 +1,7 @@
 //! Laws of runs, each the contract of a function that does nothing.
 ghost use Rattle.std.specs.Prelude.{◌≡◌, ◌++◌, ℤ, List};
 ghost use Rattle.roc_rows.specs.Store.{Store};
-ghost use Rattle.roc_plan.specs.Program.{Piece, Workload};
+ghost use Rattle.roc_program.specs.Program.{Piece, Workload};
 ghost use Rattle.roc_whole.specs.Run.{Progress, after_pieces, behind};
 ghost use Rattle.roc_whole.specs.Serial.{Call, serial_store, serial_answers};
 

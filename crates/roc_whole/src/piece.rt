@@ -1,14 +1,16 @@
 //! Pieces, statement by statement.
 ghost use Rattle.std.specs.Prelude.{◌≡◌, OnOk, slice_set};
-ghost use Rattle.roc_plan.specs.Workload as pure;
-ghost use Rattle.roc_whole.specs.Run.{progress, cell_of, after_statement, after_piece};
+ghost use Rattle.roc_program.specs.Keys.{IsKey, HasKey, HasKeys};
+ghost use Rattle.roc_program.specs.Parts as pure;
+ghost use Rattle.roc_whole.specs.Run.{progress, access_cell, after_statement, after_piece};
 
 use roc_base::{NoMemory, Nums};
-use roc_plan::{Access, Piece, Statement};
+use roc_program::{Access, Piece, Statement};
 use roc_rows::{Cell, Rows};
 
 /// Runs a piece on the cells. `names` has the values of the procedure's names, by number: a `get`
-/// sets its own, and one past the end is dropped. What the piece gives out is added to `reply`.
+/// sets its own, and one past the end is dropped. The ids of what it accesses have one to four integers, as those of a
+/// workload's pieces have. What the piece gives out is added to `reply`.
 /// `NoMemory` leaves some statements run and others not, so that cells, names and reply are to be
 /// thrown away.
 pub fn run_piece(
@@ -17,6 +19,7 @@ pub fn run_piece(
     names: &mut [i64],
     reply: &mut Nums,
 ) -> Result<(), NoMemory>
+    requires { HasKeys (pure.piece piece.now) }
     ensures { OnOk result (progress rows.new.store names.new reply.new ≡ after_piece (progress rows.old.store names.old reply.old) (pure.piece piece.now)) }
 {
     let place = piece.place.value(names);
@@ -34,27 +37,29 @@ fn run_statement(
     names: &mut [i64],
     reply: &mut Nums,
 ) -> Result<(), NoMemory>
+    requires { HasKey (pure.statement statement.now) }
     ensures { OnOk result (progress rows.new.store names.new reply.new ≡ after_statement place (progress rows.old.store names.old reply.old) (pure.statement statement.now)) }
 {
     match statement {
         Statement::Get(number, from) => {
-            let read = rows.get(cell_of(place, names, from));
+            let read = rows.get(access_cell(place, names, from));
             set_name(names, *number, read);
         }
-        Statement::Set(to, value) => rows.set(cell_of(place, names, to), value.value(names))?,
+        Statement::Set(to, value) => rows.set(access_cell(place, names, to), value.value(names))?,
         Statement::Out(value) => reply.push(value.value(names))?,
     }
     Ok(())
 }
 
 // The cell that an access means.
-fn cell_of(place: i64, names: &[i64], access: &Access) -> Cell
-    ensures { result ≡ cell_of place names.now (pure.access access.now) }
+fn access_cell(place: i64, names: &[i64], access: &Access) -> Cell
+    requires { IsKey (pure.access access.now).id }
+    ensures { result ≡ access_cell place names.now (pure.access access.now) }
 {
     Cell {
         table: access.table,
         place,
-        id: access.id.value(names),
+        id: access.key(names),
         column: access.column,
     }
 }

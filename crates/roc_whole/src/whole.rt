@@ -1,14 +1,16 @@
 //! Whole procedures.
 ghost use Rattle.std.specs.Prelude.{◌≡◌, ◌<◌, ◌++◌, length, IfOk, OnOk};
 ghost use Rattle.roc_rows.specs.Store.{write};
-ghost use Rattle.roc_plan.specs.Groups.{with_arguments};
-ghost use Rattle.roc_plan.specs.Workload as pure;
+ghost use Rattle.roc_program.specs.Values.{with_arguments};
+ghost use Rattle.std.specs.List.{AllByRecursion};
+ghost use Rattle.roc_program.specs.Keys.{HasKeys};
+ghost use Rattle.roc_program.specs.Parts as pure;
 ghost use Rattle.roc_whole.specs.Run.{progress, after_pieces, whole_run};
 ghost use Rattle.roc_whole.specs.Serial.{procedure_at, init_cell, start_store};
 
 use crate::run_piece;
 use roc_base::{NoMemory, Nums};
-use roc_plan::{Init, Procedure, Workload};
+use roc_program::{Init, Procedure, Workload};
 use roc_rows::{Cell, Rows};
 use std::alloc::Global;
 
@@ -24,11 +26,11 @@ pub fn run_whole(
     args: &[i64],
     reply: &mut Nums,
 ) -> Result<(), NoMemory>
-    requires { proc < length (pure.program workload.now).procedures }
-    ensures store { OnOk result (rows.new.store ≡ (whole_run (procedure_at (pure.program workload.now) proc) args.now rows.old.store).store) }
-    ensures reply { OnOk result (reply.new ≡ reply.old ++ (whole_run (procedure_at (pure.program workload.now) proc) args.now rows.old.store).reply) }
+    requires { proc < length workload.now.procedures }
+    ensures store { OnOk result (rows.new.store ≡ (whole_run (procedure_at workload.now proc) args.now rows.old.store).store) }
+    ensures reply { OnOk result (reply.new ≡ reply.old ++ (whole_run (procedure_at workload.now proc) args.now rows.old.store).reply) }
 {
-    let procedure = &workload.procedures[proc as usize];
+    let procedure = &workload.procedures()[proc as usize];
     let mut names = start_names(alloc, procedure, args)?;
     run_pieces(procedure, rows, names.as_mut_slice(), reply)?;
     Ok(())
@@ -41,6 +43,7 @@ fn run_pieces(
     names: &mut [i64],
     reply: &mut Nums,
 ) -> Result<(), NoMemory>
+    requires { AllByRecursion HasKeys (pure.procedure procedure.now).pieces }
     ensures { OnOk result (progress rows.new.store names.new reply.new ≡ after_pieces (progress rows.old.store names.old reply.old) (pure.procedure procedure.now).pieces) }
 {
     for piece in &procedure.pieces {
@@ -63,10 +66,10 @@ fn start_names(alloc: Global, procedure: &Procedure, args: &[i64]) -> Result<Vec
 /// What all cells hold before anything runs: each `init` line of the workload, a later one over an
 /// earlier one.
 pub fn start_rows(alloc: Global, workload: &Workload) -> Result<Rows, NoMemory>
-    ensures { IfOk result (λ rows. rows.store ≡ start_store (pure.program workload.now)) }
+    ensures { IfOk result (λ rows. rows.store ≡ start_store workload.now) }
 {
     let mut rows = Rows::new(alloc);
-    for init in &workload.inits {
+    for init in workload.inits() {
         set_init(&mut rows, init)?;
     }
     Ok(rows)

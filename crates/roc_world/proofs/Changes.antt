@@ -3,23 +3,22 @@ use Rattle.std.proofs.Common.{◌≡◌, ◌≢◌, ℕ, zero, suc, Bool, true, 
 use Rattle.std.proofs.lemmas.Bool.{false≢true, eqb-true}
 use Rattle.std.proofs.lemmas.Bool.Decides.{nat_tests}
 use Rattle.std.specs.Prelude.{slice_get, slice_set}
-use Rattle.roc_base.specs.Lists.{Has}
-use Rattle.roc_base.proofs.Members.{has_append}
-use Rattle.roc_sequence.proofs.Members.{from_Has-map}
+use Rattle.roc_sequence.specs.Lists.{Has}
+use Rattle.roc_sequence.proofs.Members.{has_append, from_has_map}
 use Rattle.roc_base.specs.declared.id.TxnId.{TxnId}
 use Rattle.roc_base.specs.declared.node.Node.{Node}
 use Rattle.roc_msg.specs.declared.msg.Sent.{Sent}
 use Rattle.roc_msg.specs.declared.outbox.Outgoing.{Outgoing}
 use Rattle.roc_plan.specs.Groups.{Plan}
-use Rattle.roc_plan.specs.WellFormed.{IsThin}
+use Rattle.roc_plan.specs.Within.{IsWithin}
 use Rattle.roc_server.specs.declared.started.StartedGroup.{StartedGroup}
-use Rattle.roc_server.specs.State.{State as ServerState}
-use Rattle.roc_coord.specs.State.{State as CoordState}
+use Rattle.roc_server.specs.State.{ServerState}
+use Rattle.roc_coord.specs.State.{CoordState}
 use Rattle.roc_audit.specs.declared.entry.Entry.{Entry}
-use Rattle.roc_audit.specs.Witness.{call_of, calls_of}
+use Rattle.roc_audit.specs.Witness.{submitted_call, submitted_calls}
 use Rattle.roc_whole.specs.Serial.{serial_store, start_store}
 use Rattle.roc_world.specs.World.{sent_by}
-use Rattle.roc_world.proofs.Invariants.{AreSubmissions, AreStarted, RanInOrder, IsServer, Tells}
+use Rattle.roc_world.proofs.Invariants.{AreSubmissions, AreStarted, RanInOrder, IsServer, IsMeant}
 use Rattle.roc_world.proofs.Grows.{Extends, group_later, calls_later}
 use Rattle.roc_world.proofs.Runs.{call_of-started}
 
@@ -53,16 +52,16 @@ get-set_cases xs i j a b c e f = go (i == j) refl
 
 -- ---- a longer history
 
-module _ (plan : Plan) (thin : IsThin plan) (old new : List Entry) (x : Extends old new) (coords : List CoordState) (submissions : AreSubmissions plan old coords) where
+module _ (plan : Plan) (thin : IsWithin plan) (old new : List Entry) (x : Extends old new) (coords : List CoordState) (submissions : AreSubmissions plan old coords) where
   pub started_longer : (started : List StartedGroup) → AreStarted old started → AreStarted new started
   started_longer started a = record { each = λ e i. group_later old new e x (a.each e i); once = a.once }
 
   pub ran_longer : (order : List TxnId) (s : ServerState) → AreStarted old s.started → RanInOrder plan old order s → RanInOrder plan new order s
   ran_longer order s a r =
-      let same : calls_of new order ≡ calls_of old order = calls_later old new order x (λ t l.
+      let same : submitted_calls new order ≡ submitted_calls old order = calls_later old new order x (λ t l.
       let e = r.started t l in (
         record { id = t; procedure = e.0.proc; arguments = e.0.args },
-        subst (λ (u : TxnId). call_of u old ≡ Some (record { id = u; procedure = e.0.proc; arguments = e.0.args })) e.2 (call_of-started plan thin old coords submissions s.started a e.0 e.1),
+        subst (λ (u : TxnId). submitted_call u old ≡ Some (record { id = u; procedure = e.0.proc; arguments = e.0.args })) e.2 (call_of-started plan thin old coords submissions s.started a e.0 e.1),
       )) in
       record {
         store = r.store ∙ ap (serial_store plan.program (start_store plan.program)) (sym same);
@@ -88,10 +87,10 @@ module _ (plan : Plan) (thin : IsThin plan) (old new : List Entry) (x : Extends 
 
 pub messages_sent :
     (h : List Entry) (started : List StartedGroup) (sent : List Sent) (from : Node) (outs : List Outgoing)
-    → ((m : Sent) → Has m sent → Tells h started m.msg m.to) → ((o : Outgoing) → Has o outs → Tells h started o.msg o.to)
-    → (m : Sent) → Has m (sent ++ map (sent_by from) outs) → Tells h started m.msg m.to
+    → ((m : Sent) → Has m sent → IsMeant h started m.msg m.to) → ((o : Outgoing) → Has o outs → IsMeant h started o.msg o.to)
+    → (m : Sent) → Has m (sent ++ map (sent_by from) outs) → IsMeant h started m.msg m.to
 messages_sent h started sent from outs f g m i =
     elim (has_append m sent (map (sent_by from) outs) i) [
       | inl j ↦ f m j
-      | inr j ↦ (let r = from_Has-map (sent_by from) m outs j in subst (λ (x : Sent). Tells h started x.msg x.to) (sym r.2) (g r.0 r.1))
+      | inr j ↦ (let r = from_has_map (sent_by from) m outs j in subst (λ (x : Sent). IsMeant h started x.msg x.to) (sym r.2) (g r.0 r.1))
     ]

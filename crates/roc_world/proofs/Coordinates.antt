@@ -1,14 +1,16 @@
 -- What a message and a submission do to a coordinator
-use Rattle.std.proofs.Common.{if◌then◌else◌, ◌≡◌, ℕ, ℤ, ◌<◌, Bool, true, false, cond, not, ◌==◌, List, [], ◌∷◌, ◌++◌, Option, Some, None, is_some, length, map, filter, refl, sym, ap, subst, ◌∙◌, ◌⊎◌, inl, inr}
+use Rattle.std.proofs.Common.{if◌then◌else◌, ◌≡◌, ℕ, ℤ, ◌<◌, Bool, true, false, cond, not, ◌==◌, List, [], ◌∷◌, ◌++◌, Option, Some, None, is_some, length, map, filter, refl, sym, ap, subst, ◌∙◌, ◌⊎◌, inl, inr, append-nil}
 use Rattle.std.proofs.lemmas.Bool.{and_parts, eqb-true, false≢true}
 use Rattle.std.specs.List.{flat_map, list_any, list_all, zip, range_with_len}
-use Rattle.roc_base.specs.Lists.{Has}
-use Rattle.roc_sequence.proofs.Members.{Has-one, from_Has-map}
+use Rattle.roc_sequence.specs.Lists.{Has}
+use Rattle.roc_sequence.proofs.Members.{has_one, from_has_map}
 use Rattle.roc_base.specs.declared.id.TxnId.{TxnId}
 use Rattle.roc_base.specs.declared.node.Shard.{Shard}
 use Rattle.roc_base.specs.declared.node.Node.{Node}
 use Rattle.roc_base.specs.declared.node.Node.TheVariants.{Server, Coord}
-use Rattle.roc_base.specs.TxnId.{is_txn, is_txn-true, is_txn-eq}
+use Rattle.roc_base.specs.TxnId.{is_txn}
+use Rattle.roc_base.proofs.Ids.{is_txn-eq}
+use Rattle.roc_base.specs.Inner.Equalities.{is_txn-true}
 use Rattle.roc_base.specs.Edge.{Dependency}
 use Rattle.roc_base.specs.Edges.{united}
 use Rattle.roc_msg.specs.declared.msg.Msg.{Msg}
@@ -17,31 +19,31 @@ use Rattle.roc_msg.specs.declared.outbox.Outgoing.{Outgoing}
 use Rattle.roc_msg.specs.declared.reason.Reason.{Reason}
 use Rattle.roc_msg.specs.declared.reason.Reason.TheVariants.{Stale, Unfit}
 use Rattle.roc_plan.specs.Groups.{Plan, outs_of}
-use Rattle.roc_plan.specs.WellFormed.{IsThin}
+use Rattle.roc_plan.specs.Within.{IsWithin}
 use Rattle.roc_world.proofs.Thin.{group_of-one}
 use Rattle.roc_server.specs.declared.started.StartedGroup.{StartedGroup}
 use Rattle.roc_coord.specs.declared.transaction.TakenStart.{TakenStart}
 use Rattle.roc_coord.specs.declared.transaction.TakenCommit.{TakenCommit}
 use Rattle.roc_coord.specs.declared.transaction.Transaction.{Transaction}
-use Rattle.roc_coord.specs.State.{State, Step, ignored, find_transaction, with_transaction, find_startok, has_commitok}
+use Rattle.roc_coord.specs.State.{ignored, find_transaction, with_transaction, find_startok, has_commitok, CoordState, CoordStep}
 use Rattle.roc_coord.specs.Starts.{with_starts, starts_of, all_started, all_edges, shards_of, commit_to, commits_of}
 use Rattle.roc_coord.specs.Commits.{groups_on, places_on, all_committed, given_by_start, given_by_commit, placed_by_startoks, placed_by_commitoks, placed_outs, out_at, reply_length, reply_of}
 use Rattle.roc_coord.specs.Step.{unless_refused, is_fit_startok, with_startok, with_commits, commits_for, startok_taken, after_startok, is_fit_commitok, with_commitok, reply_now, commitok_taken, after_commitok, after_message}
 use Rattle.roc_audit.specs.declared.entry.Entry.{Entry}
 use Rattle.roc_audit.specs.declared.entry.Entry.TheVariants as entry
 use Rattle.roc_world.specs.Happens.{answer_entries}
-use Rattle.roc_world.proofs.Invariants.{AreSubmissions, AreStarted, HasStarted, HasRun, IsPending, IsCoord, Tells, only}
-use Rattle.roc_world.proofs.Runs.{find-some}
-use Rattle.roc_world.proofs.Rounds.{append_nil, with_starts-none, starts_of-none, all_started-one, shards_of-one, group_numbers-one, outs_of-range, out_at-range}
+use Rattle.roc_world.proofs.Invariants.{AreSubmissions, AreStarted, HasStarted, HasRun, IsPending, IsCoord, IsMeant, only}
+use Rattle.roc_sequence.proofs.Found.{found_has}
+use Rattle.roc_world.proofs.Rounds.{with_starts-none, starts_of-none, all_started-one, shards_of-one, group_numbers-one, outs_of-range, out_at-range}
 
 abbrev no_numbers : List ℤ
 no_numbers = []
 
 -- what holds after a step of a coordinator
-pub record Coordinates (h : List Entry) (started : List StartedGroup) (number : ℕ) (c : State) (r : Step) : Type 0 where
+pub record Coordinates (h : List Entry) (started : List StartedGroup) (number : ℕ) (c : CoordState) (r : CoordStep) : Type 0 where
   pub is_coord : IsCoord h started number r.state
   pub next : r.state.next ≡ c.next
-  pub sends : (o : Outgoing) → Has o r.sends → Tells h started o.msg o.to
+  pub sends : (o : Outgoing) → Has o r.sends → IsMeant h started o.msg o.to
   -- a transaction that it holds was there, or was asked to commit
   pub kept : (y : Transaction) → Has y r.state.pending → Has y c.pending ⊎ (y.asked ≡ only ∷ [])
   -- and who is told to commit was asked to
@@ -50,7 +52,7 @@ pub record Coordinates (h : List Entry) (started : List StartedGroup) (number : 
   pub own : (o : Outgoing) (t : TxnId) (edges : List Dependency) → Has o r.sends → o.msg ≡ Commit t edges → t.coord ≡ number
   pub answers : (e : Entry) → Has e (answer_entries r.answer) → (t : TxnId) × (reply : List ℤ) × (e ≡ entry.Answered t reply) × HasRun started t reply
 
-module _ (plan : Plan) (thin : IsThin plan) (h : List Entry) (coords : List State) (submissions : AreSubmissions plan h coords) (started : List StartedGroup) (are : AreStarted h started) (number : ℕ) (c : State) (is : IsCoord h started number c) where
+module _ (plan : Plan) (thin : IsWithin plan) (h : List Entry) (coords : List CoordState) (submissions : AreSubmissions plan h coords) (started : List StartedGroup) (are : AreStarted h started) (number : ℕ) (c : CoordState) (is : IsCoord h started number c) where
   pub ignored_coordinates : (reason : Reason) → Coordinates h started number c (ignored c reason)
   ignored_coordinates reason = record { is_coord = is; next = refl; sends = λ o i. elim i [ ]; kept = λ y i. inl i; commits = λ o t es i. elim i [ ]; own = λ o t es i. elim i [ ]; answers = λ e i. elim i [ ] }
 
@@ -59,7 +61,7 @@ module _ (plan : Plan) (thin : IsThin plan) (h : List Entry) (coords : List Stat
   changed x p = record {
     is_number = is.is_number;
     each = λ y i.
-        let r = from_Has-map (λ (z : Transaction). if is_txn z.id x.id then x else z) y c.pending i in
+        let r = from_has_map (λ (z : Transaction). if is_txn z.id x.id then x else z) y c.pending i in
         subst (IsPending h started (with_transaction c x)) (sym r.2) (go r.0 r.1 (is_txn r.0.id x.id));
   }
     where
@@ -97,7 +99,7 @@ module _ (plan : Plan) (thin : IsThin plan) (h : List Entry) (coords : List Stat
     union : all_edges told ≡ edges
     union =
         ap (λ (oks : List TakenStart). united (flat_map (λ ok. ok.edges) oks)) startoks
-        ∙ ap united (append_nil edges)
+        ∙ ap united (append-nil edges)
         ∙ ap united (sym message.told) ∙ (are.each message.entry message.has).edges ∙ message.told
 
     asked : Transaction
@@ -136,7 +138,7 @@ module _ (plan : Plan) (thin : IsThin plan) (h : List Entry) (coords : List Stat
       next = refl;
       sends = λ o i.
           let j = subst (λ (os : List Outgoing). Has o os) all_sends i in
-          subst (λ (y : Outgoing). Tells h started y.msg y.to) (sym (Has-one o (record { to = Server only; msg = Commit x.id edges }) j))
+          subst (λ (y : Outgoing). IsMeant h started y.msg y.to) (sym (has_one o (record { to = Server only; msg = Commit x.id edges }) j))
           (refl, subst (λ (t : TxnId). HasStarted started t edges) (sym of) message);
       kept = λ y i. elim (among y i) [ inl j ↦ inr (ap (λ (z : Transaction). z.asked) j) | inr j ↦ inl j.0 ];
       commits = λ o t es i m y j of_y. elim (among y j) [
@@ -149,14 +151,14 @@ module _ (plan : Plan) (thin : IsThin plan) (h : List Entry) (coords : List Stat
       where
         its_id : (o : Outgoing) (t : TxnId) (es : List Dependency) → Has o (starts_of plan told ++ commits_for plan (with_starts plan told)) → o.msg ≡ Commit t es → t ≡ x.id
         its_id o t es i m =
-            let k = Has-one o (record { to = Server only; msg = Commit x.id edges }) (subst (λ (os : List Outgoing). Has o os) all_sends i) in
+            let k = has_one o (record { to = Server only; msg = Commit x.id edges }) (subst (λ (os : List Outgoing). Has o os) all_sends i) in
             let told_to : o.msg ≡ Commit x.id edges = ap (λ (z : Outgoing). z.msg) k in
             cc
 
         among : (y : Transaction) → Has y (with_transaction c (with_commits plan (with_starts plan told))).pending → (y ≡ record told { asked = only ∷ [] }) ⊎ (Has y c.pending × (is_txn y.id x.id ≡ false))
         among y i =
             let j = subst (λ (z : Transaction). Has y (with_transaction c z).pending) ends i in
-            let r = from_Has-map (λ (z : Transaction). if is_txn z.id x.id then record told { asked = only ∷ [] } else z) y c.pending j in
+            let r = from_has_map (λ (z : Transaction). if is_txn z.id x.id then record told { asked = only ∷ [] } else z) y c.pending j in
             go r.0 r.1 (is_txn r.0.id x.id) refl r.2
           where
             go : (z : Transaction) → Has z c.pending → (b : Bool) → is_txn z.id x.id ≡ b → y ≡ cond b (record told { asked = only ∷ [] }) z → (y ≡ record told { asked = only ∷ [] }) ⊎ (Has y c.pending × (is_txn y.id x.id ≡ false))
@@ -177,7 +179,7 @@ module _ (plan : Plan) (thin : IsThin plan) (h : List Entry) (coords : List Stat
       go (Some x) k = stale (is_some (find_startok 0 x.startoks)) refl
         where
           found : Has x c.pending × (is_txn x.id id ≡ true)
-          found = find-some (λ (y : Transaction). is_txn y.id id) c.pending x k
+          found = found_has (λ (y : Transaction). is_txn y.id id) c.pending x k
 
           fit : (b : Bool) → is_some (find_startok 0 x.startoks) ≡ false → Coordinates h started number c (unless_refused c (if not b then Some Unfit else None) (startok_taken plan c (with_startok x (record { group = 0; bound = []; outs = []; edges = edges }))))
           fit true n = startok_coordinates id edges message x found.0 (is_txn-true x.id id found.1) (fresh x found.0 n)
@@ -223,7 +225,7 @@ module _ (plan : Plan) (thin : IsThin plan) (h : List Entry) (coords : List Stat
     on = rw (group_numbers-one plan thin x its_procedure) (rw (group_of-one plan thin x.proc its_procedure) (rw mine.starts refl))
 
     places_one : places_on plan x only ≡ places
-    places_one = ap (λ (gs : List ℕ). flat_map (outs_of plan x.proc) gs) on ∙ append_nil places
+    places_one = ap (λ (gs : List ℕ). flat_map (outs_of plan x.proc) gs) on ∙ append-nil places
 
     count : length outs ≡ length places
     count =
@@ -234,7 +236,7 @@ module _ (plan : Plan) (thin : IsThin plan) (h : List Entry) (coords : List Stat
     nothing_before : placed_by_startoks plan done ≡ []
     nothing_before = elim mine.stage [
       | inl s ↦ ap (λ (oks : List TakenStart). flat_map (given_by_start plan done) oks) s.0
-      | inr (e, a, b, oks, d) ↦ ap (λ (oks : List TakenStart). flat_map (given_by_start plan done) oks) oks ∙ append_nil (zip (outs_of plan x.proc 0) no_numbers) ∙ zip_nothing (outs_of plan x.proc 0)
+      | inr (e, a, b, oks, d) ↦ ap (λ (oks : List TakenStart). flat_map (given_by_start plan done) oks) oks ∙ append-nil (zip (outs_of plan x.proc 0) no_numbers) ∙ zip_nothing (outs_of plan x.proc 0)
     ]
       where
         zip_nothing : (ps : List ℕ) → zip ps no_numbers ≡ []
@@ -246,10 +248,10 @@ module _ (plan : Plan) (thin : IsThin plan) (h : List Entry) (coords : List Stat
         let placed : placed_outs plan done ≡ zip places outs =
         ap (λ (front : List (ℕ × ℤ)). front ++ placed_by_commitoks plan done) nothing_before
         ∙ ap (λ (oks : List TakenCommit). flat_map (given_by_commit plan done) oks) commitoks
-        ∙ append_nil (zip (places_on plan done only) outs)
+        ∙ append-nil (zip (places_on plan done only) outs)
         ∙ ap (λ (ps : List ℕ). zip ps outs) places_one in
         let long : reply_length plan done ≡ length places =
-        ap (λ (gs : List ℕ). length (flat_map (outs_of plan x.proc) gs)) (group_numbers-one plan thin x its_procedure) ∙ ap length (append_nil places) in
+        ap (λ (gs : List ℕ). length (flat_map (outs_of plan x.proc) gs)) (group_numbers-one plan thin x its_procedure) ∙ ap length (append-nil places) in
         let range = outs_of-range plan thin x its_procedure in
         ap (λ (ps : List (ℕ × ℤ)). map (λ place. out_at place ps) (range_with_len 0 (reply_length plan done))) placed
         ∙ ap (λ (n : ℕ). map (λ place. out_at place (zip places outs)) (range_with_len 0 n)) long
@@ -279,7 +281,7 @@ module _ (plan : Plan) (thin : IsThin plan) (h : List Entry) (coords : List Stat
       kept = λ y i. inl (left y i);
       commits = λ o t es i. elim i [ ];
       own = λ o t es i. elim i [ ];
-      answers = λ e i. (id, outs, Has-one e (entry.Answered done.id (reply_of plan done)) i ∙ (λ j. entry.Answered (of j) (reply_is j)), message);
+      answers = λ e i. (id, outs, has_one e (entry.Answered done.id (reply_of plan done)) i ∙ (λ j. entry.Answered (of j) (reply_is j)), message);
     })
 
   pub after_commitok_coordinates : (id : TxnId) (outs : List ℤ) → HasRun started id outs → Coordinates h started number c (after_commitok plan c (find_transaction id c.pending) (record { shard = only; outs = outs }))
@@ -290,7 +292,7 @@ module _ (plan : Plan) (thin : IsThin plan) (h : List Entry) (coords : List Stat
       go (Some x) k = stale (has_commitok only x.commitoks)
         where
           found : Has x c.pending × (is_txn x.id id ≡ true)
-          found = find-some (λ (y : Transaction). is_txn y.id id) c.pending x k
+          found = found_has (λ (y : Transaction). is_txn y.id id) c.pending x k
 
           fit : (b : Bool) → is_fit_commitok plan x (record { shard = only; outs = outs }) ≡ b → Coordinates h started number c (unless_refused c (if not b then Some Unfit else None) (commitok_taken c (with_commitok x (record { shard = only; outs = outs })) (reply_now plan (with_commitok x (record { shard = only; outs = outs })))))
           fit true f = commitok_coordinates id outs message x found.0 (is_txn-true x.id id found.1) f
@@ -302,7 +304,7 @@ module _ (plan : Plan) (thin : IsThin plan) (h : List Entry) (coords : List Stat
 
   -- ---- any message
 
-  pub message_coordinates : (m : Msg) (to : Node) → Tells h started m to → to ≡ Coord number → Coordinates h started number c (after_message plan c m)
+  pub message_coordinates : (m : Msg) (to : Node) → IsMeant h started m to → to ≡ Coord number → Coordinates h started number c (after_message plan c m)
   message_coordinates (Start id proc group args inputs) to t e = ignored_coordinates _
   message_coordinates (Commit id edges) to t e = ignored_coordinates _
   message_coordinates (StartOk id group shard bound outs edges) to (is_to, first, on, no_bound, no_outs, message) e =

@@ -2,7 +2,7 @@
 use Rattle.std.proofs.Common.{if◌then◌else◌, ◌≡◌, ℕ, ℤ, ◌-◌, ◌<◌, ◌≤◌, Bool, true, false, not, ◌==◌, List, [], ◌∷◌, Some, None, length, refl, sym, ap, subst, ◌∙◌, arith}
 use Rattle.std.proofs.lemmas.Bool.Decides.{nat_tests}
 use Rattle.std.specs.Prelude.{nat_lt, nat_le, slice_get}
-use Rattle.roc_base.specs.Lists.{Has}
+use Rattle.roc_sequence.specs.Lists.{Has}
 use Rattle.roc_base.specs.declared.node.Shard.{Shard}
 use Rattle.roc_base.specs.declared.node.Node.{Node}
 use Rattle.roc_base.specs.declared.node.Node.TheVariants.{Server, Coord}
@@ -10,22 +10,23 @@ use Rattle.roc_msg.specs.declared.msg.Sent.{Sent}
 use Rattle.roc_msg.specs.declared.reason.Reason.{Reason}
 use Rattle.roc_msg.specs.declared.reason.Reason.TheVariants.{Stale}
 use Rattle.roc_plan.specs.Groups.{Plan, procedure_of}
-use Rattle.roc_plan.specs.WellFormed.{IsThin}
+use Rattle.roc_plan.specs.Within.{IsWithin}
 use Rattle.roc_server.specs.declared.handled.Handled.TheVariants as server_answer
-use Rattle.roc_server.specs.State.{State as ServerState}
+use Rattle.roc_server.specs.State.{ServerState}
 use Rattle.roc_server.specs.Step.{Handles}
 use Rattle.roc_coord.specs.declared.handled.Handled.{Handled as CoordHandled}
 use Rattle.roc_coord.specs.declared.handled.Handled.TheVariants as coord_answer
 use Rattle.roc_coord.specs.declared.handled.SubmitFault.TheVariants as fault
-use Rattle.roc_coord.specs.State.{State as CoordState}
+use Rattle.roc_coord.specs.State.{CoordState}
 use Rattle.roc_coord.specs.Step.{after_message}
 use Rattle.roc_coord.specs.Submit.{Submission, refused_or_accepted, after_submit, most_transactions, most_pending}
 use Rattle.roc_world.specs.declared.event.Event.TheVariants.{Deliver}
 use Rattle.roc_world.specs.declared.event.Seen.TheVariants as seen
 use Rattle.roc_world.specs.World.{World}
 use Rattle.roc_world.specs.Happens.{Outcome, Submits, Comes, Happens, server_seen, coord_seen}
-use Rattle.roc_world.proofs.Invariants.{Tells, IsSound}
-use Rattle.roc_world.proofs.Reached.{has_at, receiver}
+use Rattle.roc_world.proofs.Invariants.{IsMeant, IsSound}
+use Rattle.roc_world.proofs.Reached.{receiver}
+use Rattle.roc_sequence.proofs.Members.{has_at}
 use Rattle.roc_world.proofs.Refusals.{message_is_taken}
 use Rattle.roc_world.proofs.Staleness.{message_is_stale}
 
@@ -62,12 +63,12 @@ submission_ends plan w coord proc args d c o e f s = let same : d ≡ c = cc in 
 
 -- ---- a delivery
 
-module _ (plan : Plan) (thin : IsThin plan) (w : World) (is : IsSound plan w) (k : ℕ) where
+module _ (plan : Plan) (thin : IsWithin plan) (w : World) (is : IsSound plan w) (k : ℕ) where
   pub server_takes : (m : Sent) (shard : Shard) (o : Outcome) → slice_get w.sent (k - 1) ≡ Some m → m.to ≡ Server shard → Happens plan w (Deliver k) o → o.seen ≡ seen.Done
   server_takes m shard o there to (n, some, at, c) = let same : n ≡ m = cc in go n.to refl (ap (λ (x : Sent). x.to) same ∙ to) c
     where
       has : Has n w.sent
-      has = has_at plan thin w.sent (k - 1) n at
+      has = has_at w.sent (k - 1) n at
 
       go : (t : Node) → n.to ≡ t → t ≡ Server shard → Comes plan w k n.msg t o → o.seen ≡ seen.Done
       go (Coord c) is_to e x = absurd (cc)
@@ -75,7 +76,7 @@ module _ (plan : Plan) (thin : IsThin plan) (w : World) (is : IsSound plan w) (k
           let on = receiver plan thin w is n has s is_to in
           let one : slice_get (is.server ∷ []) 0 ≡ Some v = subst (λ (ss : List ServerState). slice_get ss 0 ≡ Some v) is.one_server (subst (λ (x : Shard). slice_get w.servers x.0 ≡ Some v) on found) in
           let v_is : is.server ≡ v = cc in
-          let tells = subst (λ (t : Node). Tells w.history is.server.started n.msg t) (is_to ∙ ap Server on) (is.messages n has) in
+          let tells = subst (λ (t : Node). IsMeant w.history is.server.started n.msg t) (is_to ∙ ap Server on) (is.messages n has) in
           let done : r.answer ≡ server_answer.Done = message_is_taken plan thin w.history w.coords is.submissions w.order is.server is.is_server n.msg tells r (subst (λ (x : ServerState). Handles plan x n.msg r) (sym v_is) step) in
           ap (λ (x : Outcome). x.seen) is_o ∙ ap server_seen done
 
@@ -83,7 +84,7 @@ module _ (plan : Plan) (thin : IsThin plan) (w : World) (is : IsSound plan w) (k
   coordinator_ignores o why (n, some, at, c) ignored = go n.to refl c
     where
       has : Has n w.sent
-      has = has_at plan thin w.sent (k - 1) n at
+      has = has_at w.sent (k - 1) n at
 
       was_ignored : (a : CoordHandled) → coord_seen a ≡ seen.Ignored why → a ≡ coord_answer.Ignored why
       was_ignored coord_answer.Done e = absurd (cc)

@@ -4,9 +4,8 @@ use Rattle.std.proofs.lemmas.List.{length-map}
 use Rattle.std.proofs.lemmas.List.FromFn.{length-range_with_len, map-range_with_len_more}
 use Rattle.std.specs.List.{AllByRecursion, range_with_len}
 use Rattle.roc_plan.specs.Groups.{Plan}
-use Rattle.roc_plan.specs.WellFormed.{IsThin}
-use Rattle.roc_coord.specs.State.{State as CoordState, first_coord}
-use Rattle.roc_coord.specs.Fits.{FitsPlan as CoordFits}
+use Rattle.roc_coord.specs.State.{first_coord, CoordState}
+use Rattle.roc_coord.specs.Fits.{CoordFits}
 
 -- a list of the first numbers' nodes, with the next one
 pub firsts_more : {X : Type 0} (first : ℕ → X) (n : ℕ) (now new : List X) (x : X) → now ≡ map first (range_with_len 0 n) → x ≡ first n → new ≡ now ++ x ∷ [] → new ≡ map first (range_with_len 0 (n + 1))
@@ -31,9 +30,8 @@ first_coords_fit plan a (suc n) = (tt, first_coords_fit plan (a + 1) n)
 pub coords_fit : (plan : Plan) (n : ℕ) (coords : List CoordState) → coords ≡ map first_coord (range_with_len 0 n) → AllByRecursion (CoordFits plan) coords
 coords_fit plan n coords is = subst (AllByRecursion (CoordFits plan)) (sym is) (first_coords_fit plan 0 n)
 
--- so many servers as shards, of which a thin plan has one
-pub some_first : {X : Type 0} (plan : Plan) → IsThin plan → (first : ℕ → X) (n : ℕ) (servers : List X) → n ≡ plan.program.shards → servers ≡ map first (range_with_len 0 n) → 0 < length servers
-some_first plan thin first n servers count is =
-    let some = thin.program.well_formed.some_shard in
+-- so many servers as shards, of which there are some
+pub some_first : {X : Type 0} (plan : Plan) → 0 < plan.program.shards → (first : ℕ → X) (n : ℕ) (servers : List X) → n ≡ plan.program.shards → servers ≡ map first (range_with_len 0 n) → 0 < length servers
+some_first plan some first n servers count is =
     let long : length servers ≡ n = ap length is ∙ length-map (range_with_len 0 n) first ∙ length-range_with_len 0 n in
     omega arith

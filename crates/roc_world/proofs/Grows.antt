@@ -1,23 +1,24 @@
 -- What no event takes back
 use Rattle.std.proofs.Common.{◌≡◌, ℕ, ℤ, List, [], ◌∷◌, ◌++◌, Some, refl, sym, ap, ◌∙◌, inl, inr}
-use Rattle.roc_base.specs.Lists.{Has}
+use Rattle.roc_sequence.specs.Lists.{Has}
 use Rattle.roc_sequence.specs.Places.{IsListed}
-use Rattle.roc_base.proofs.Members.{has_left}
+use Rattle.roc_sequence.proofs.Members.{has_left}
 use Rattle.roc_sequence.proofs.Places.{listed_head, listed_tail}
 use Rattle.roc_base.specs.declared.id.TxnId.{TxnId}
 use Rattle.roc_base.specs.declared.node.Node.{Node}
-use Rattle.roc_base.specs.TxnId.{is_txn, is_txn-same}
+use Rattle.roc_base.specs.TxnId.{is_txn}
+use Rattle.roc_base.specs.Inner.Equalities.{is_txn-same}
 use Rattle.roc_base.specs.Edge.{Dependency}
 use Rattle.roc_msg.specs.declared.msg.Msg.{Msg}
 use Rattle.roc_msg.specs.declared.msg.Msg.TheVariants.{Start, StartOk, Commit, CommitOk}
 use Rattle.roc_whole.specs.Serial.{Call}
 use Rattle.roc_server.specs.declared.started.StartedGroup.{StartedGroup}
 use Rattle.roc_coord.specs.declared.transaction.Transaction.{Transaction}
-use Rattle.roc_coord.specs.State.{State as CoordState}
+use Rattle.roc_coord.specs.State.{CoordState}
 use Rattle.roc_audit.specs.declared.entry.Entry.{Entry}
-use Rattle.roc_audit.specs.Witness.{call_of, calls_of}
+use Rattle.roc_audit.specs.Witness.{submitted_call, submitted_calls}
 use Rattle.roc_audit.proofs.Histories.{call_of-append}
-use Rattle.roc_world.proofs.Invariants.{IsGroupOf, HasStarted, HasRun, IsAtStage, IsPending, IsCoord, Tells}
+use Rattle.roc_world.proofs.Invariants.{IsGroupOf, HasStarted, HasRun, IsAtStage, IsPending, IsCoord, IsMeant}
 
 -- f is e, later: of the same transaction with the same edges, and what it gave stays
 pub record IsLater (e f : StartedGroup) : Type 0 where
@@ -82,7 +83,7 @@ pending_later old new es fs c d x e g n p =
 pub coord_later : (old new : List Entry) (es fs : List StartedGroup) (number : ℕ) (c : CoordState) → Extends old new → Grows es fs → IsCoord old es number c → IsCoord new fs number c
 coord_later old new es fs number c e g i = record { is_number = i.is_number; each = λ x h. pending_later old new es fs c c x e g refl (i.each x h) }
 
-pub tells_later : (old new : List Entry) (es fs : List StartedGroup) (m : Msg) (to : Node) → Extends old new → Grows es fs → Tells old es m to → Tells new fs m to
+pub tells_later : (old new : List Entry) (es fs : List StartedGroup) (m : Msg) (to : Node) → Extends old new → Grows es fs → IsMeant old es m to → IsMeant new fs m to
 tells_later old new es fs (Start id proc group args inputs) to e g (a, b, c, d) = (a, b, c, has_later old new _ e d)
 tells_later old new es fs (StartOk id group shard bound outs edges) to e g (a, b, c, d, i, j) = (a, b, c, d, i, started_later es fs id edges g j)
 tells_later old new es fs (Commit id edges) to e g (a, b) = (a, started_later es fs id edges g b)
@@ -92,10 +93,10 @@ pub group_later : (old new : List Entry) (e : StartedGroup) → Extends old new 
 group_later old new e x i = record { submitted = has_later old new _ x i.submitted; group = i.group; inputs = i.inputs; edges = i.edges }
 
 -- the calls of an order whose transactions were submitted stay the same
-pub calls_later : (old new : List Entry) (order : List TxnId) → Extends old new → ((t : TxnId) → IsListed is_txn order t → (c : Call) × (call_of t old ≡ Some c)) → calls_of new order ≡ calls_of old order
+pub calls_later : (old new : List Entry) (order : List TxnId) → Extends old new → ((t : TxnId) → IsListed is_txn order t → (c : Call) × (submitted_call t old ≡ Some c)) → submitted_calls new order ≡ submitted_calls old order
 calls_later old new [] x f = refl
 calls_later old new (t ∷ order) x f =
     let here = f t (listed_head is_txn t order (is_txn-same t)) in
-    let there : call_of t new ≡ Some here.0 = rw x.is (call_of-append old x.more t here.0 here.1) in
+    let there : submitted_call t new ≡ Some here.0 = rw x.is (call_of-append old x.more t here.0 here.1) in
     let rest = calls_later old new order x (λ u h. f u (listed_tail is_txn t order u h)) in
     rw (there, here.1) (ap (λ cs. here.0 ∷ cs) rest)

@@ -1,7 +1,7 @@
--- What holds in every world of every run of a thin plan, topic by topic
+-- What holds in every world of every run of a plan that the protocol reaches, topic by topic
 use Rattle.std.proofs.Common.{◌≡◌, ℕ, ℤ, ◌<◌, List, [], ◌∷◌, Some, length, ◌⊎◌}
 use Rattle.std.specs.Prelude.{slice_get}
-use Rattle.roc_base.specs.Lists.{Has}
+use Rattle.roc_sequence.specs.Lists.{Has}
 use Rattle.roc_sequence.specs.Places.{IsListed, IsListedBefore, NoneTwice}
 use Rattle.roc_base.specs.declared.id.TxnId.{TxnId}
 use Rattle.roc_base.specs.declared.node.Shard.{Shard}
@@ -18,16 +18,16 @@ use Rattle.roc_msg.specs.declared.msg.Sent.{Sent}
 use Rattle.roc_plan.specs.Groups.{Plan, procedure_of, outs_of}
 use Rattle.roc_whole.specs.Serial.{serial_store, start_store}
 use Rattle.roc_server.specs.declared.started.StartedGroup.{StartedGroup}
-use Rattle.roc_server.specs.State.{State as ServerState}
+use Rattle.roc_server.specs.State.{ServerState}
 use Rattle.roc_coord.specs.declared.transaction.Transaction.{Transaction}
-use Rattle.roc_coord.specs.State.{State as CoordState}
+use Rattle.roc_coord.specs.State.{CoordState}
 use Rattle.roc_audit.specs.declared.entry.Entry.{Entry}
 use Rattle.roc_audit.specs.declared.entry.Entry.TheVariants.{Submitted}
 use Rattle.roc_audit.specs.History.{WasAnswered, IsAnsweredBefore}
-use Rattle.roc_audit.specs.Witness.{calls_of, serial_reply}
+use Rattle.roc_audit.specs.Witness.{serial_reply, submitted_calls}
 use Rattle.roc_world.specs.World.{World}
 
--- the one shard of a thin plan
+-- the one shard of such a plan
 abbrev pub only : Shard
 only = record { 0 = 0 }
 
@@ -79,7 +79,7 @@ pub record AreStarted (h : List Entry) (started : List StartedGroup) : Type 0 wh
 
 -- The groups ran in the order, each once, and each gave its reply in the serial run of the order
 pub record RanInOrder (plan : Plan) (h : List Entry) (order : List TxnId) (s : ServerState) : Type 0 where
-  pub store : s.store ≡ serial_store plan.program (start_store plan.program) (calls_of h order)
+  pub store : s.store ≡ serial_store plan.program (start_store plan.program) (submitted_calls h order)
   pub once : NoneTwice is_txn order
   pub started : (t : TxnId) → IsListed is_txn order t → (e : StartedGroup) × Has e s.started × (e.id ≡ t)
   pub gave : (e : StartedGroup) (outs : List ℤ) → Has e s.started → e.outs ≡ Some outs → serial_reply plan.program h order e.id ≡ Some outs
@@ -119,11 +119,11 @@ pub record IsCoord (h : List Entry) (started : List StartedGroup) (number : ℕ)
 -- ---- messages
 
 -- what a message tells
-abbrev pub Tells : List Entry → List StartedGroup → Msg → Node → Type 0
-Tells h started (Start id proc group args inputs) to = (to ≡ Server only) × (group ≡ 0) × (inputs ≡ []) × Has (Submitted id proc args) h
-Tells h started (StartOk id group shard bound outs edges) to = (to ≡ Coord id.coord) × (group ≡ 0) × (shard ≡ only) × (bound ≡ []) × (outs ≡ []) × HasStarted started id edges
-Tells h started (Commit id edges) to = (to ≡ Server only) × HasStarted started id edges
-Tells h started (CommitOk id shard outs) to = (to ≡ Coord id.coord) × (shard ≡ only) × HasRun started id outs
+abbrev pub IsMeant : List Entry → List StartedGroup → Msg → Node → Type 0
+IsMeant h started (Start id proc group args inputs) to = (to ≡ Server only) × (group ≡ 0) × (inputs ≡ []) × Has (Submitted id proc args) h
+IsMeant h started (StartOk id group shard bound outs edges) to = (to ≡ Coord id.coord) × (group ≡ 0) × (shard ≡ only) × (bound ≡ []) × (outs ≡ []) × HasStarted started id edges
+IsMeant h started (Commit id edges) to = (to ≡ Server only) × HasStarted started id edges
+IsMeant h started (CommitOk id shard outs) to = (to ≡ Coord id.coord) × (shard ≡ only) × HasRun started id outs
 
 -- each pending transaction of this id was asked to commit
 abbrev pub IsAsked : List CoordState → TxnId → Type 0
@@ -136,7 +136,7 @@ pub record AreAsked (coords : List CoordState) (sent : List Sent) (known : List 
 
 -- ---- histories
 
-pub record IsExplained (h : List Entry) (order : List TxnId) (started : List StartedGroup) : Type 0 where
+pub record IsInOrder (h : List Entry) (order : List TxnId) (started : List StartedGroup) : Type 0 where
   pub answered : (t : TxnId) (reply : List ℤ) → WasAnswered h t reply → HasRun started t reply
   pub in_time : (t u : TxnId) → IsAnsweredBefore h t u → IsListed is_txn order u → IsListedBefore is_txn order t u
 
@@ -148,6 +148,6 @@ pub record IsSound (plan : Plan) (w : World) : Type 0 where
   pub submissions : AreSubmissions plan w.history w.coords
   pub is_server : IsServer plan w.history w.order server
   pub coords : (number : ℕ) (c : CoordState) → slice_get w.coords number ≡ Some c → IsCoord w.history server.started number c
-  pub messages : (m : Sent) → Has m w.sent → Tells w.history server.started m.msg m.to
+  pub messages : (m : Sent) → Has m w.sent → IsMeant w.history server.started m.msg m.to
   pub asked : AreAsked w.coords w.sent server.known
-  pub history : IsExplained w.history w.order server.started
+  pub history : IsInOrder w.history w.order server.started

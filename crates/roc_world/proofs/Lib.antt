@@ -18,3 +18,4 @@ pub mod Firsts
 pub mod Messages
 pub mod Submissions
 pub mod Receivers
+pub mod One_run

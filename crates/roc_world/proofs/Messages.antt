@@ -14,15 +14,15 @@ use Rattle.roc_msg.specs.declared.outbox.Outgoing.{Outgoing}
 use Rattle.roc_msg.specs.declared.reason.NodeFault.{NodeFault}
 use Rattle.roc_plan.specs.Groups.{Plan}
 use Rattle.roc_server.specs.declared.handled.Handled.{Handled}
-use Rattle.roc_server.specs.State.{State, Step}
+use Rattle.roc_server.specs.State.{ServerState, ServerStep}
 use Rattle.roc_server.specs.Step.{Handles, Shows}
-use Rattle.roc_coord.proofs.Ranges.{range_more}
+use Rattle.roc_sequence.proofs.Ranges.{range_more}
 use Rattle.roc_audit.specs.Order.{noted}
 use Rattle.roc_world.specs.declared.event.Seen.{Seen}
 use Rattle.roc_world.specs.declared.network.Network.{Network}
 use Rattle.roc_world.specs.World.{World, sent_by}
 use Rattle.roc_world.specs.Happens.{Comes, server_seen, came_to_server}
-use Rattle.roc_world.specs.Nodes.{ServerTakes}
+use Rattle.roc_world.specs.Inner.Nodes.{ServerTakes}
 
 -- ---- messages that are added one by one
 
@@ -49,8 +49,8 @@ numbers_more from messages i old now before numbers after within sent so_far mor
 -- ---- a server takes a message
 
 pub server_takes :
-    (plan : Plan) (result : Result Handled NodeFault) (servers : List State) (shard : ℕ) (server after : State) (msg : Msg) (before out : Outbox) → shard < length servers → server ≡ get_or servers shard server
-    → IfOk result (λ answer. (r : Step) × Handles plan server msg r × Shows r answer after before out) → IfOk result (λ answer. ServerTakes plan shard msg answer servers (slice_set servers shard after) before out)
+    (plan : Plan) (result : Result Handled NodeFault) (servers : List ServerState) (shard : ℕ) (server after : ServerState) (msg : Msg) (before out : Outbox) → shard < length servers → server ≡ get_or servers shard server
+    → IfOk result (λ answer. (r : ServerStep) × Handles plan server msg r × Shows r answer after before out) → IfOk result (λ answer. ServerTakes plan shard msg answer servers (slice_set servers shard after) before out)
 server_takes plan (Err fault) servers shard server after msg before out within is h = tt
 server_takes plan (Ok answer) servers shard server after msg before out within is (r, handles, shows) =
     record {
@@ -62,14 +62,14 @@ server_takes plan (Ok answer) servers shard server after msg before out within i
       others = ap (slice_set servers shard) (sym shows.keeps);
     }
   where
-    at : (xs : List State) (i : ℕ) → i < length xs → server ≡ get_or xs i server → slice_get xs i ≡ Some server
+    at : (xs : List ServerState) (i : ℕ) → i < length xs → server ≡ get_or xs i server → slice_get xs i ≡ Some server
     at [] i w e = absurd (omega arith)
     at (x ∷ xs) zero w e = ap Some (sym e)
     at (x ∷ xs) (suc i) w e = at xs i (omega arith) e
 
 -- what a delivery to a server leaves, with what was sent and decided
 pub server_comes :
-    (plan : Plan) (w : World) (k : ℕ) (shard : Shard) (msg : Msg) (answer : Handled) (seen : Seen) (servers : List State) (delivered network : Network) (order decided : List TxnId) (messages : List Outgoing) (before out : Outbox)
+    (plan : Plan) (w : World) (k : ℕ) (shard : Shard) (msg : Msg) (answer : Handled) (seen : Seen) (servers : List ServerState) (delivered network : Network) (order decided : List TxnId) (messages : List Outgoing) (before out : Outbox)
     → before.messages ≡ [] → before.decided ≡ [] → ServerTakes plan shard.0 msg answer w.servers servers before out → seen ≡ server_seen answer
     → delivered ≡ record { sent = w.sent; undelivered = filter (λ n. not (n == k)) w.undelivered } → messages ≡ out.messages → decided ≡ out.decided
     → network.sent ≡ delivered.sent ++ map (sent_by (Server shard)) messages → network.undelivered ≡ delivered.undelivered ++ range_with_len (length delivered.sent + 1) (length messages)

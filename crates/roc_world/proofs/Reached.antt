@@ -1,11 +1,12 @@
 -- What holds in every world of every run
-use Rattle.std.proofs.Common.{if◌then◌else◌, ◌≡◌, ℕ, ℤ, zero, suc, ◌+◌, ◌-◌, ◌<◌, Bool, true, false, not, ◌==◌, List, [], ◌∷◌, Some, None, length, map, filter, refl, sym, ap, subst, ◌∙◌, inl, inr, arith}
+use Rattle.std.proofs.Common.{if◌then◌else◌, ◌≡◌, ℕ, ℤ, zero, suc, ◌+◌, ◌-◌, ◌<◌, Bool, true, false, not, ◌==◌, List, [], ◌∷◌, Some, None, length, map, filter, refl, sym, ap, subst, ◌∙◌, arith}
 use Rattle.std.proofs.lemmas.Bool.{false≢true, eqb-true, eq-eqb}
 use Rattle.std.specs.Prelude.{slice_get, nat_lt, nat_le}
 use Rattle.std.specs.List.{range_with_len}
 use Rattle.std.proofs.lemmas.Bool.Decides.{nat_tests}
-use Rattle.roc_base.specs.Lists.{Has}
+use Rattle.roc_sequence.specs.Lists.{Has}
 use Rattle.roc_sequence.specs.Places.{IsListed}
+use Rattle.roc_sequence.proofs.Members.{has_at}
 use Rattle.roc_base.specs.declared.id.TxnId.{TxnId}
 use Rattle.roc_base.specs.declared.node.Shard.{Shard}
 use Rattle.roc_base.specs.declared.node.Node.{Node}
@@ -14,16 +15,16 @@ use Rattle.roc_base.specs.TxnId.{is_txn}
 use Rattle.roc_msg.specs.declared.msg.Msg.{Msg}
 use Rattle.roc_msg.specs.declared.msg.Msg.TheVariants.{Start, StartOk, Commit, CommitOk}
 use Rattle.roc_msg.specs.declared.msg.Sent.{Sent}
-use Rattle.roc_plan.specs.Program.{Init}
+use Rattle.roc_program.specs.Program.{Init}
 use Rattle.roc_plan.specs.Groups.{Plan, procedure_of, shard_of}
-use Rattle.roc_plan.specs.WellFormed.{IsThin}
+use Rattle.roc_plan.specs.Within.{IsWithin}
 use Rattle.roc_rows.specs.Store.{empty}
 use Rattle.roc_whole.specs.Serial.{after_inits}
-use Rattle.roc_server.specs.State.{State as ServerState}
+use Rattle.roc_server.specs.State.{ServerState}
 use Rattle.roc_server.specs.First.{first_server}
 use Rattle.roc_server.specs.Step.{Handles}
 use Rattle.roc_coord.specs.declared.handled.SubmitFault.TheVariants as fault
-use Rattle.roc_coord.specs.State.{State as CoordState, first_coord}
+use Rattle.roc_coord.specs.State.{first_coord, CoordState}
 use Rattle.roc_coord.specs.Submit.{Submission, refused_or_accepted, after_submit, most_transactions, most_pending}
 use Rattle.roc_audit.specs.declared.entry.Entry.TheVariants.{Submitted}
 use Rattle.roc_audit.specs.Witness.{serial_reply, IsSerialWitness}
@@ -31,7 +32,7 @@ use Rattle.roc_world.specs.declared.event.Event.{Event}
 use Rattle.roc_world.specs.declared.event.Event.TheVariants.{Submit, Deliver}
 use Rattle.roc_world.specs.World.{World, first_world}
 use Rattle.roc_world.specs.Happens.{Outcome, Submits, Comes, Happens, came_to_server, Stepped, IsRun, begun, goes_on}
-use Rattle.roc_world.proofs.Invariants.{only, IsCoord, Tells, IsSound}
+use Rattle.roc_world.proofs.Invariants.{only, IsCoord, IsMeant, IsSound}
 use Rattle.roc_world.proofs.Thin.{shard_of-one}
 use Rattle.roc_world.proofs.Worlds.{submitted_sound, server_sound, coord_sound}
 
@@ -46,7 +47,7 @@ first_coords a zero number c e = absurd (cc)
 first_coords a (suc n) zero c e = let same : a + 0 ≡ a = omega arith in let is : first_coord a ≡ c = cc in sym is ∙ ap first_coord (sym same)
 first_coords a (suc n) (suc number) c e = let same : (a + 1) + number ≡ a + suc number = omega arith in first_coords (a + 1) n number c e ∙ ap first_coord same
 
-module _ (plan : Plan) (thin : IsThin plan) where
+module _ (plan : Plan) (thin : IsWithin plan) where
   first_store : (first_server plan only).store ≡ after_inits empty plan.program.inits
   first_store = ap (after_inits empty) (filter-all (λ (i : Init). shard_of plan i.place == 0) (λ i. eq-eqb (shard_of plan i.place) 0 (shard_of-one plan i.place thin)) plan.program.inits)
 
@@ -117,16 +118,11 @@ module _ (plan : Plan) (thin : IsThin plan) where
       procedure true e r = arguments (length args == (procedure_of plan proc).arguments) (grind (arith, nat_tests)) refl r
       procedure false e r = elim r [ ]
 
-  pub has_at : {A : Type 0} (xs : List A) (i : ℕ) (a : A) → slice_get xs i ≡ Some a → Has a xs
-  has_at [] i a e = absurd (cc)
-  has_at (x ∷ xs) zero a e = let same : x ≡ a = cc in inl (sym same)
-  has_at (x ∷ xs) (suc i) a e = inr (has_at xs i a e)
-
   -- who is told of a message is its receiver
   pub receiver : (w : World) (is : IsSound plan w) (m : Sent) → Has m w.sent → (shard : Shard) → m.to ≡ Server shard → shard ≡ only
   receiver w is m has shard to = go m.msg (is.messages m has)
     where
-      go : (msg : Msg) → Tells w.history is.server.started msg m.to → shard ≡ only
+      go : (msg : Msg) → IsMeant w.history is.server.started msg m.to → shard ≡ only
       go (Start id proc group args inputs) t = let e = t.0 in cc
       go (Commit id edges) t = let e = t.0 in cc
       go (StartOk id group s bound outs edges) t = absurd (let e = t.0 in cc)

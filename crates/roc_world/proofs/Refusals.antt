@@ -1,49 +1,38 @@
 -- Nothing is refused: in every world a server takes each message, and a coordinator ignores only what is stale
-use Rattle.std.proofs.Common.{◌≡◌, ℕ, ◌<◌, Bool, true, false, cond, not, ◌&&◌, ◌||◌, ◌==◌, List, [], ◌∷◌, Option, Some, None, is_none, length, refl, sym, ap, subst, ◌∙◌, inl, inr, arith}
+use Rattle.std.proofs.Common.{◌≡◌, ℕ, ◌<◌, Bool, true, false, cond, not, ◌&&◌, ◌==◌, List, [], ◌∷◌, Option, Some, None, is_none, length, refl, sym, ap, subst, ◌∙◌, inl, inr, arith}
 use Rattle.std.proofs.lemmas.Bool.{and_from, eq-eqb, false≢true}
 use Rattle.std.proofs.lemmas.Bool.Decides.{nat_tests}
 use Rattle.std.specs.Prelude.{nat_lt}
-use Rattle.std.specs.List.{list_any}
-use Rattle.roc_base.specs.Lists.{Has}
+use Rattle.roc_sequence.specs.Lists.{Has}
 use Rattle.roc_base.specs.declared.id.TxnId.{TxnId}
 use Rattle.roc_base.specs.declared.node.Node.TheVariants.{Server}
-use Rattle.roc_base.specs.TxnId.{is_txn, is_txn-true, is_txn-eq}
+use Rattle.roc_base.specs.TxnId.{is_txn}
+use Rattle.roc_base.proofs.Ids.{is_txn-eq}
+use Rattle.roc_base.specs.Inner.Equalities.{is_txn-true, Decides-is_nums}
 use Rattle.roc_base.specs.Edge.{Dependency}
-use Rattle.roc_base.specs.Equality.{Decides-is_nums}
+use Rattle.roc_base.specs.Equality.{is_nums}
 use Rattle.roc_depgraph.specs.declared.known.KnownList.{KnownList}
 use Rattle.roc_depgraph.specs.Deps.{list_of, is_known}
 use Rattle.roc_msg.specs.declared.msg.Msg.{Msg}
 use Rattle.roc_msg.specs.declared.msg.Msg.TheVariants.{Start, StartOk, Commit, CommitOk}
 use Rattle.roc_msg.specs.declared.reason.Reason.{Reason}
-use Rattle.roc_plan.specs.Groups.{Plan, procedure_of, groups_of, inputs_of, place_of, shard_of}
-use Rattle.roc_plan.specs.WellFormed.{IsThin}
+use Rattle.roc_plan.specs.Groups.{Plan, procedure_of, groups_of, inputs_of, shard_of, group_place}
+use Rattle.roc_plan.specs.Within.{IsWithin}
 use Rattle.roc_group.specs.Group_run.{Call}
 use Rattle.roc_server.specs.declared.handled.Handled.TheVariants.{Done}
 use Rattle.roc_server.specs.declared.started.StartedGroup.{StartedGroup}
-use Rattle.roc_server.specs.State.{State as ServerState, Step, is_group, find_group}
-use Rattle.roc_server.specs.Start.{has_procedure, has_counts, differs, start_fault, start_taken, start_judged, after_start, are_numbers}
+use Rattle.roc_server.specs.State.{is_group, find_group, ServerState, ServerStep}
+use Rattle.roc_server.specs.Start.{has_procedure, has_counts, differs, start_fault, start_taken, start_judged, after_start}
 use Rattle.roc_server.specs.Commit.{Commits, not_here, differs as unlike, again, waits, taught}
 use Rattle.roc_server.specs.Step.{Handles}
-use Rattle.roc_coord.specs.State.{State as CoordState}
+use Rattle.roc_coord.specs.State.{CoordState}
 use Rattle.roc_audit.specs.declared.entry.Entry.{Entry}
 use Rattle.roc_audit.specs.declared.entry.Entry.TheVariants.{Submitted}
-use Rattle.roc_world.proofs.Invariants.{AreSubmissions, HasStarted, IsServer, Tells, only}
+use Rattle.roc_world.proofs.Invariants.{AreSubmissions, HasStarted, IsServer, IsMeant, only}
 use Rattle.roc_world.proofs.Thin.{groups_of-one, inputs_of-one, shard_of-one}
-use Rattle.roc_world.proofs.Runs.{find-none}
+use Rattle.roc_sequence.proofs.Found.{none_found}
+use Rattle.roc_sequence.proofs.Holds.{none_has, has_any}
 use Rattle.roc_world.proofs.Serves.{list_of-has}
-
-list_any-false : {A : Type 0} (p : A → Bool) (xs : List A) → ((a : A) → Has a xs → p a ≡ false) → list_any p xs ≡ false
-list_any-false p [] f = refl
-list_any-false p (x ∷ xs) f = rw (f x (inl refl)) (list_any-false p xs (λ a i. f a (inr i)))
-
-list_any-true : {A : Type 0} (p : A → Bool) (xs : List A) (a : A) → Has a xs → p a ≡ true → list_any p xs ≡ true
-list_any-true p [] a i e = elim i [ ]
-list_any-true {A} p (x ∷ xs) a (inl i) e = rw (subst (λ (b : A). p b ≡ true) i e) refl
-list_any-true p (x ∷ xs) a (inr i) e = go (p x) (list_any-true p xs a i e)
-  where
-    go : (b : Bool) → list_any p xs ≡ true → b || list_any p xs ≡ true
-    go true k = refl
-    go false k = k
 
 -- what is known of an id is a list
 list_of-some : (known : List KnownList) (t : TxnId) (edges : List Dependency) → list_of t known ≡ Some edges → (k : KnownList) × Has k known × (k.of ≡ t) × (k.edges ≡ edges)
@@ -54,7 +43,7 @@ list_of-some (k ∷ ks) t edges e = go (is_txn k.of t) refl e (list_of-some ks t
     go true f m ih = let same : k.edges ≡ edges = cc in (k, inl refl, is_txn-true k.of t f, same)
     go false f m ih = let r = ih m in (r.0, inr r.1, r.2, r.3)
 
-module _ (plan : Plan) (thin : IsThin plan) (h : List Entry) (coords : List CoordState) (submissions : AreSubmissions plan h coords) (order : List TxnId) (s : ServerState) (is : IsServer plan h order s) where
+module _ (plan : Plan) (thin : IsWithin plan) (h : List Entry) (coords : List CoordState) (submissions : AreSubmissions plan h coords) (order : List TxnId) (s : ServerState) (is : IsServer plan h order s) where
   module _ (id : TxnId) (c : Call) (first : c.group ≡ 0) (none : c.inputs ≡ []) (submitted : Has (Submitted id c.proc c.args) h) where
     there : c.proc < length plan.program.procedures
     there = submissions.procedure id c.proc c.args submitted
@@ -72,8 +61,8 @@ module _ (plan : Plan) (thin : IsThin plan) (h : List Entry) (coords : List Coor
         and_from (length c.args == (procedure_of plan c.proc).arguments) (length c.inputs == length (inputs_of plan c.proc c.group))
         (eq-eqb (length c.args) (procedure_of plan c.proc).arguments (submissions.arguments id c.proc c.args submitted)) (eq-eqb (length c.inputs) (length (inputs_of plan c.proc c.group)) inputs)
 
-    placed : shard_of plan (place_of plan c.proc c.group c.args c.inputs) == s.shard.0 ≡ true
-    placed = eq-eqb (shard_of plan (place_of plan c.proc c.group c.args c.inputs)) s.shard.0 (shard_of-one plan (place_of plan c.proc c.group c.args c.inputs) thin ∙ sym (ap (λ x. x.0) is.shard))
+    placed : shard_of plan (group_place plan c.proc c.group c.args c.inputs) == s.shard.0 ≡ true
+    placed = eq-eqb (shard_of plan (group_place plan c.proc c.group c.args c.inputs)) s.shard.0 (shard_of-one plan (group_place plan c.proc c.group c.args c.inputs) thin ∙ sym (ap (λ x. x.0) is.shard))
 
     not_late : is_none (find_group id c.group s.started) && is_known s.known id ≡ false
     not_late = go (find_group id c.group s.started) refl (is_known s.known id) refl
@@ -84,16 +73,16 @@ module _ (plan : Plan) (thin : IsThin plan) (h : List Entry) (coords : List Coor
         go None f true k =
             let l = list_of-has s.known id k in
             let e = is.known l.0 l.1 in
-            let away = find-none (is_group id c.group) s.started f e.entry e.has in
+            let away = none_found (is_group id c.group) s.started f e.entry e.has in
             absurd (false≢true (sym away ∙ and_from (is_txn e.entry.id id) (e.entry.group == c.group) (is_txn-eq e.entry.id id (e.of ∙ l.2)) (eq-eqb e.entry.group c.group ((is.started.each e.entry e.has).group ∙ sym first))))
 
     alike : differs s id c ≡ false
-    alike = list_any-false (λ e. is_txn e.id id && not (e.proc == c.proc && are_numbers e.args c.args)) s.started one
+    alike = none_has (λ e. is_txn e.id id && not (e.proc == c.proc && is_nums e.args c.args)) s.started one
       where
-        one : (e : StartedGroup) → Has e s.started → is_txn e.id id && not (e.proc == c.proc && are_numbers e.args c.args) ≡ false
+        one : (e : StartedGroup) → Has e s.started → is_txn e.id id && not (e.proc == c.proc && is_nums e.args c.args) ≡ false
         one e i = go (is_txn e.id id) refl
           where
-            go : (b : Bool) → is_txn e.id id ≡ b → b && not (e.proc == c.proc && are_numbers e.args c.args) ≡ false
+            go : (b : Bool) → is_txn e.id id ≡ b → b && not (e.proc == c.proc && is_nums e.args c.args) ≡ false
             go false k = refl
             go true k =
                 let same = is_txn-true e.id id k in
@@ -112,8 +101,8 @@ module _ (plan : Plan) (thin : IsThin plan) (h : List Entry) (coords : List Coor
         go (Some e) = refl
         go None = refl
 
-  pub commit_is_taken : (id : TxnId) (edges : List Dependency) → HasStarted s.started id edges → (r : Step) → Commits plan s id edges r → r.answer ≡ Done
-  commit_is_taken id edges started r (not_here absent) = absurd (false≢true (sym absent ∙ list_any-true (λ e. is_txn e.id id) s.started started.entry started.has (is_txn-eq started.entry.id id started.of)))
+  pub commit_is_taken : (id : TxnId) (edges : List Dependency) → HasStarted s.started id edges → (r : ServerStep) → Commits plan s id edges r → r.answer ≡ Done
+  commit_is_taken id edges started r (not_here absent) = absurd (false≢true (sym absent ∙ has_any (λ e. is_txn e.id id) s.started started.entry started.has (is_txn-eq started.entry.id id started.of)))
   commit_is_taken id edges started r (unlike kept here known other) =
       let l = list_of-some s.known id kept known in
       let e = is.known l.0 l.1 in
@@ -123,8 +112,8 @@ module _ (plan : Plan) (thin : IsThin plan) (h : List Entry) (coords : List Coor
   commit_is_taken id edges started r (waits a b c) = refl
   commit_is_taken id edges started r (taught ts a b c) = refl
 
-  pub message_is_taken : (m : Msg) → Tells h s.started m (Server only) → (r : Step) → Handles plan s m r → r.answer ≡ Done
-  message_is_taken (Start id proc group args inputs) (to, first, none, submitted) r i = ap (λ (x : Step). x.answer) i ∙ start_is_taken id (record { proc = proc; group = group; args = args; inputs = inputs }) first none submitted
+  pub message_is_taken : (m : Msg) → IsMeant h s.started m (Server only) → (r : ServerStep) → Handles plan s m r → r.answer ≡ Done
+  message_is_taken (Start id proc group args inputs) (to, first, none, submitted) r i = ap (λ (x : ServerStep). x.answer) i ∙ start_is_taken id (record { proc = proc; group = group; args = args; inputs = inputs }) first none submitted
   message_is_taken (Commit id edges) (to, started) r i = commit_is_taken id edges started r i
   message_is_taken (StartOk id group shard bound outs edges) t r i = absurd (let e = t.0 in cc)
   message_is_taken (CommitOk id shard outs) t r i = absurd (let e = t.0 in cc)

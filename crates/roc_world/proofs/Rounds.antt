@@ -1,5 +1,5 @@
 -- What the rounds of a transaction come to where its procedure is one deferrable group
-use Rattle.std.proofs.Common.{◌≡◌, ℕ, ℤ, zero, suc, ◌+◌, ◌<◌, true, false, cond, ◌==◌, List, [], ◌∷◌, ◌++◌, is_some, is_none, length, map, refl, sym, ap, ◌∙◌, arith}
+use Rattle.std.proofs.Common.{◌≡◌, ℕ, ℤ, zero, suc, ◌+◌, ◌<◌, true, false, cond, ◌==◌, List, [], ◌∷◌, ◌++◌, is_some, is_none, length, map, refl, sym, ap, ◌∙◌, arith, append-nil}
 use Rattle.std.proofs.lemmas.Bool.{eq-eqb}
 use Rattle.std.proofs.lemmas.Bool.Decides.{nat_tests}
 use Rattle.std.specs.List.{range_with_len, zip, list_all}
@@ -7,8 +7,8 @@ use Rattle.roc_base.specs.declared.node.Shard.{Shard}
 use Rattle.roc_base.specs.declared.node.Node.TheVariants.{Server}
 use Rattle.roc_msg.specs.declared.msg.Msg.TheVariants.{Start}
 use Rattle.roc_plan.specs.declared.group.Input.{Input}
-use Rattle.roc_plan.specs.Groups.{Plan, Group, procedure_of, outs_of, outs_in, place_of}
-use Rattle.roc_plan.specs.WellFormed.{IsThin}
+use Rattle.roc_plan.specs.Groups.{Plan, Group, procedure_of, outs_of, outs_in, group_place}
+use Rattle.roc_plan.specs.Within.{IsWithin}
 use Rattle.roc_coord.specs.declared.transaction.SentStart.{SentStart}
 use Rattle.roc_coord.specs.declared.transaction.TakenStart.{TakenStart}
 use Rattle.roc_coord.specs.declared.transaction.Transaction.{Transaction}
@@ -18,14 +18,10 @@ use Rattle.roc_coord.specs.Commits.{out_at}
 use Rattle.roc_world.proofs.Invariants.{only}
 use Rattle.roc_world.proofs.Thin.{groups_of-one, group_of-one, inputs_of-one, shard_of-one}
 
-pub append_nil : {A : Type 0} (xs : List A) → xs ++ [] ≡ xs
-append_nil [] = refl
-append_nil (x ∷ xs) = ap (λ ys. x ∷ ys) (append_nil xs)
-
 abbrev pub one_start : SentStart
 one_start = record { group = 0; shard = only }
 
-module _ (plan : Plan) (thin : IsThin plan) (x : Transaction) (there : x.proc < length plan.program.procedures) where
+module _ (plan : Plan) (thin : IsWithin plan) (x : Transaction) (there : x.proc < length plan.program.procedures) where
   pub group_numbers-one : group_numbers plan x.proc ≡ 0 ∷ []
   group_numbers-one = ap (λ (gs : List Group). range_with_len 0 (length gs)) (groups_of-one plan thin x.proc there)
 
@@ -36,7 +32,7 @@ module _ (plan : Plan) (thin : IsThin plan) (x : Transaction) (there : x.proc < 
   is_ready-one = ap (λ (is : List Input). list_all (λ i. is_some (find_startok i.group x.startoks)) is) (inputs_of-one plan thin x.proc there)
 
   pub shard_for-one : shard_for plan x 0 ≡ only
-  shard_for-one = ap (λ (n : ℕ). record { 0 = n }) (shard_of-one plan (place_of plan x.proc 0 x.args (inputs_for plan x 0)) thin)
+  shard_for-one = ap (λ (n : ℕ). record { 0 = n }) (shard_of-one plan (group_place plan x.proc 0 x.args (inputs_for plan x 0)) thin)
 
   ready_by : ready_groups plan x ≡ cond (is_none (find_start 0 x.starts)) (0 ∷ []) []
   ready_by = rw group_numbers-one (rw is_ready-one refl)
@@ -64,7 +60,7 @@ module _ (plan : Plan) (thin : IsThin plan) (x : Transaction) (there : x.proc < 
   pub with_starts-none : x.starts ≡ one_start ∷ [] → with_starts plan x ≡ x
   with_starts-none e =
       ap (λ (gs : List ℕ). record x { starts = x.starts ++ map (sent_start plan x) gs }) (ready_groups-none e)
-      ∙ ap (λ (starts : List SentStart). record x { starts = starts }) (append_nil x.starts)
+      ∙ ap (λ (starts : List SentStart). record x { starts = starts }) (append-nil x.starts)
 
   pub starts_of-none : x.starts ≡ one_start ∷ [] → starts_of plan x ≡ []
   starts_of-none e = ap (λ (gs : List ℕ). map (start_for plan x) gs) (ready_groups-none e)
@@ -82,7 +78,7 @@ module _ (plan : Plan) (thin : IsThin plan) (x : Transaction) (there : x.proc < 
       lengths a (suc n) = ap suc (lengths (a + 1) n)
 
       go : (n : ℕ) → range_with_len 0 n ++ [] ≡ range_with_len 0 (length (range_with_len 0 n ++ []))
-      go n = append_nil (range_with_len 0 n) ∙ ap (range_with_len 0) (sym (ap length (append_nil (range_with_len 0 n)) ∙ lengths 0 n))
+      go n = append-nil (range_with_len 0 n) ∙ ap (range_with_len 0) (sym (ap length (append-nil (range_with_len 0 n)) ∙ lengths 0 n))
 
 pub shards_of-one : (x : Transaction) → x.starts ≡ one_start ∷ [] → shards_of x ≡ only ∷ []
 unfolding shards_below

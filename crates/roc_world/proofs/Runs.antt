@@ -2,79 +2,54 @@
 use Rattle.std.proofs.Common.{if◌then◌else◌, ◌≡◌, ℕ, ℤ, ◌<◌, Bool, true, false, cond, ◌==◌, List, [], ◌∷◌, ◌++◌, Some, None, length, refl, sym, ap, subst, ◌∙◌, ◌⊎◌, inl, inr, arith}
 use Rattle.std.proofs.lemmas.Bool.{and_parts, and_from, eq-eqb, false≢true}
 use Rattle.std.specs.List.{find}
-use Rattle.roc_base.specs.Lists.{Has}
+use Rattle.roc_sequence.specs.Lists.{Has}
 use Rattle.roc_sequence.specs.Places.{IsListed}
-use Rattle.roc_sequence.proofs.Members.{from_Has-map, Has-map}
+use Rattle.roc_sequence.proofs.Members.{from_has_map, has_map}
 use Rattle.roc_sequence.proofs.Places.{listed_head, listed_cases}
 use Rattle.roc_sequence.proofs.Appended.{listed_front, listed_behind, listed_either, NoneTwice-append}
+use Rattle.roc_sequence.proofs.Found.{find_only}
 use Rattle.roc_base.specs.declared.id.TxnId.{TxnId}
-use Rattle.roc_base.specs.TxnId.{is_txn, is_txn-true, is_txn-same, is_txn-eq, is_txn-ne}
+use Rattle.roc_base.specs.TxnId.{is_txn}
+use Rattle.roc_base.proofs.Ids.{is_txn-eq, is_txn-ne}
+use Rattle.roc_base.specs.Inner.Equalities.{is_txn-true, is_txn-same}
 use Rattle.roc_plan.specs.Groups.{Plan, groups_of, procedure_of, outs_of}
-use Rattle.roc_plan.specs.WellFormed.{IsThin}
+use Rattle.roc_plan.specs.Within.{IsWithin}
 use Rattle.roc_rows.specs.Store.{Store}
 use Rattle.roc_whole.specs.Run.{Progress, whole_run}
 use Rattle.roc_whole.specs.Serial.{Call, run_of, serial_store, serial_run, start_store}
 use Rattle.roc_whole.proofs.SerialRuns.{serial_store-append, serial_answers-append}
 use Rattle.roc_group.specs.Group_run.{group_run}
 use Rattle.roc_server.specs.declared.started.StartedGroup.{StartedGroup}
-use Rattle.roc_server.specs.State.{State as ServerState, is_group, find_group}
-use Rattle.roc_server.specs.Commit.{groups_here, call_of as group_call, with_outs, run_group}
+use Rattle.roc_server.specs.State.{is_group, find_group, ServerState}
+use Rattle.roc_server.specs.Commit.{groups_here, with_outs, run_group, group_call}
 use Rattle.roc_audit.specs.declared.entry.Entry.{Entry}
-use Rattle.roc_audit.specs.Witness.{call_of, calls_of, reply_in, serial_reply}
-use Rattle.roc_coord.specs.State.{State as CoordState}
+use Rattle.roc_audit.specs.Witness.{reply_in, serial_reply, submitted_call, submitted_calls}
+use Rattle.roc_coord.specs.State.{CoordState}
 use Rattle.roc_audit.proofs.Histories.{call_of-is, calls_of-append, calls_of-listed}
 use Rattle.roc_audit.proofs.Replies.{reply_in-front, reply_in-behind, reply_in-none}
 use Rattle.roc_world.proofs.Invariants.{AreSubmissions, IsGroupOf, AreStarted, RanInOrder}
 use Rattle.roc_world.proofs.Grows.{Grows, IsLater}
 use Rattle.roc_world.proofs.Thin.{groups_of-one, group_run-whole, reply-count}
 
--- ---- what is found in a list
-
-pub find-one : {A : Type 0} (p : A → Bool) (xs : List A) (a : A) → Has a xs → p a ≡ true → ((b : A) → Has b xs → p b ≡ true → b ≡ a) → find p xs ≡ Some a
-find-one p [] a h e f = elim h [ ]
-find-one {A} p (x ∷ xs) a h e f = go (p x) refl h (λ i. find-one p xs a i e (λ b j. f b (inr j)))
-  where
-    go : (t : Bool) → p x ≡ t → Has a (x ∷ xs) → (Has a xs → find p xs ≡ Some a) → cond t (Some x) (find p xs) ≡ Some a
-    go true k i ih = ap Some (f x (inl refl) k)
-    go false k (inl i) ih = let same : p a ≡ false = subst (λ (b : A). p b ≡ false) (sym i) k in absurd (false≢true (sym same ∙ e))
-    go false k (inr i) ih = ih i
-
-pub find-none : {A : Type 0} (p : A → Bool) (xs : List A) → find p xs ≡ None → (a : A) → Has a xs → p a ≡ false
-find-none p [] e a h = elim h [ ]
-find-none {A} p (x ∷ xs) e a h = go (p x) refl e h (λ k i. find-none p xs k a i)
-  where
-    go : (t : Bool) → p x ≡ t → cond t (Some x) (find p xs) ≡ None → Has a (x ∷ xs) → (find p xs ≡ None → Has a xs → p a ≡ false) → p a ≡ false
-    go true k m i ih = absurd (cc)
-    go false k m (inl i) ih = subst (λ (b : A). p b ≡ false) (sym i) k
-    go false k m (inr i) ih = ih m i
-
-pub find-some : {A : Type 0} (p : A → Bool) (xs : List A) (a : A) → find p xs ≡ Some a → Has a xs × (p a ≡ true)
-find-some p [] a e = absurd (cc)
-find-some {A} p (x ∷ xs) a e = go (p x) refl e (find-some p xs a)
-  where
-    go : (t : Bool) → p x ≡ t → cond t (Some x) (find p xs) ≡ Some a → (find p xs ≡ Some a → Has a xs × (p a ≡ true)) → Has a (x ∷ xs) × (p a ≡ true)
-    go true k m ih = let same : x ≡ a = cc in (inl (sym same), subst (λ (b : A). p b ≡ true) same k)
-    go false k m ih = let r = ih m in (inr r.0, r.1)
-
 -- ---- one group of a transaction
 
-module _ (plan : Plan) (thin : IsThin plan) (h : List Entry) (coords : List CoordState) where
+module _ (plan : Plan) (thin : IsWithin plan) (h : List Entry) (coords : List CoordState) where
   -- the groups here of a transaction are its one group
   pub groups_here-one :
       (started : List StartedGroup) → AreStarted h started → (e : StartedGroup) → Has e started → e.proc < length plan.program.procedures
       → groups_here plan e.id started ≡ e ∷ []
   groups_here-one started are e has there =
       let found : find (λ f. is_txn f.id e.id) started ≡ Some e =
-      find-one (λ f. is_txn f.id e.id) started e has (is_txn-same e.id) (λ b i k. are.once b e i has (is_txn-true b.id e.id k)) in
+      find_only (λ f. is_txn f.id e.id) started e has (is_txn-same e.id) (λ b i k. are.once b e i has (is_txn-true b.id e.id k)) in
       let group : find_group e.id 0 started ≡ Some e =
-      find-one (is_group e.id 0) started e has (and_from (is_txn e.id e.id) (e.group == 0) (is_txn-same e.id) (eq-eqb e.group 0 (are.each e has).group))
+      find_only (is_group e.id 0) started e has (and_from (is_txn e.id e.id) (e.group == 0) (is_txn-same e.id) (eq-eqb e.group 0 (are.each e has).group))
       (λ b i k. are.once b e i has (is_txn-true b.id e.id (and_parts (is_txn b.id e.id) (b.group == 0) k).0)) in
       let one : length (groups_of plan e.proc) ≡ 1 = ap length (groups_of-one plan thin e.proc there) in
       rw found (rw one (rw group))
 
   -- ---- what a transaction called
 
-  pub call_of-started : (submissions : AreSubmissions plan h coords) (started : List StartedGroup) → AreStarted h started → (e : StartedGroup) → Has e started → call_of e.id h ≡ Some (record { id = e.id; procedure = e.proc; arguments = e.args })
+  pub call_of-started : (submissions : AreSubmissions plan h coords) (started : List StartedGroup) → AreStarted h started → (e : StartedGroup) → Has e started → submitted_call e.id h ≡ Some (record { id = e.id; procedure = e.proc; arguments = e.args })
   call_of-started submissions started are e has =
       let mine = (are.each e has).submitted in
       call_of-is h e.id e.proc e.args (λ q b i. (submissions.same_procedure e.id q e.proc b e.args i mine, submissions.same_arguments e.id q e.proc b e.args i mine)) mine
@@ -84,7 +59,7 @@ module _ (plan : Plan) (thin : IsThin plan) (h : List Entry) (coords : List Coor
   pub from_with_outs : (e : StartedGroup) (outs : List ℤ) (started : List StartedGroup) → AreStarted h started → Has e started → (f : StartedGroup) → Has f (with_outs e outs started)
       → (f ≡ record e { outs = Some outs }) ⊎ (Has f started × (is_txn f.id e.id ≡ false))
   from_with_outs e outs started are has f i =
-      let r = from_Has-map (λ (g : StartedGroup). if is_group e.id e.group g then record g { outs = Some outs } else g) f started i in
+      let r = from_has_map (λ (g : StartedGroup). if is_group e.id e.group g then record g { outs = Some outs } else g) f started i in
       go r.0 r.1 (is_group e.id e.group r.0) refl r.2
     where
       go : (g : StartedGroup) → Has g started → (b : Bool) → is_group e.id e.group g ≡ b → f ≡ cond b (record g { outs = Some outs }) g → (f ≡ record e { outs = Some outs }) ⊎ (Has f started × (is_txn f.id e.id ≡ false))
@@ -105,13 +80,13 @@ module _ (plan : Plan) (thin : IsThin plan) (h : List Entry) (coords : List Coor
   pub with_outs_here : (e : StartedGroup) (outs : List ℤ) (started : List StartedGroup) → Has e started → Has (record e { outs = Some outs }) (with_outs e outs started)
   with_outs_here e outs started has =
       let k : is_group e.id e.group e ≡ true = and_from (is_txn e.id e.id) (e.group == e.group) (is_txn-same e.id) (eq-eqb e.group e.group refl) in
-      let i = Has-map (λ (g : StartedGroup). if is_group e.id e.group g then record g { outs = Some outs } else g) e started has in
+      let i = has_map (λ (g : StartedGroup). if is_group e.id e.group g then record g { outs = Some outs } else g) e started has in
       rw k at i
 
   pub with_outs_there : (e : StartedGroup) (outs : List ℤ) (started : List StartedGroup) (f : StartedGroup) → Has f started → is_txn f.id e.id ≡ false → Has f (with_outs e outs started)
   with_outs_there e outs started f has other =
       let k : is_group e.id e.group f ≡ false = rw other refl in
-      let i = Has-map (λ (g : StartedGroup). if is_group e.id e.group g then record g { outs = Some outs } else g) f started has in
+      let i = has_map (λ (g : StartedGroup). if is_group e.id e.group g then record g { outs = Some outs } else g) f started has in
       rw k at i
 
   -- ---- one group runs
@@ -171,31 +146,31 @@ module _ (plan : Plan) (thin : IsThin plan) (h : List Entry) (coords : List Coor
             )
         go f i false k = (f, with_outs_there e whole.reply s.started f i k, record { of = refl; told = refl; gave = λ outs g. g })
 
-    calls_after : calls_of h (order ++ e.id ∷ []) ≡ calls_of h order ++ call ∷ []
-    calls_after = calls_of-append h order (e.id ∷ []) ∙ ap (λ cs. calls_of h order ++ cs) (rw (call_of-started submissions s.started are e has))
+    calls_after : submitted_calls h (order ++ e.id ∷ []) ≡ submitted_calls h order ++ call ∷ []
+    calls_after = calls_of-append h order (e.id ∷ []) ∙ ap (λ cs. submitted_calls h order ++ cs) (rw (call_of-started submissions s.started are e has))
 
-    store_before : s.store ≡ serial_store plan.program (start_store plan.program) (calls_of h order)
+    store_before : s.store ≡ serial_store plan.program (start_store plan.program) (submitted_calls h order)
     store_before = ran.store
 
-    reply_is : whole.reply ≡ (run_of plan.program (serial_store plan.program (start_store plan.program) (calls_of h order)) call).reply
+    reply_is : whole.reply ≡ (run_of plan.program (serial_store plan.program (start_store plan.program) (submitted_calls h order)) call).reply
     reply_is = ap (λ (p : Progress). p.reply) (run-whole e s.store (are.each e has).group there ∙ ap (λ (x : Store). whole_run (procedure_of plan e.proc) e.args x) store_before)
 
-    answers_after : serial_run plan.program (calls_of h (order ++ e.id ∷ [])) ≡ serial_run plan.program (calls_of h order) ++ (record { id = e.id; reply = whole.reply }) ∷ []
+    answers_after : serial_run plan.program (submitted_calls h (order ++ e.id ∷ [])) ≡ serial_run plan.program (submitted_calls h order) ++ (record { id = e.id; reply = whole.reply }) ∷ []
     answers_after =
         ap (serial_run plan.program) calls_after
-        ∙ serial_answers-append plan.program (start_store plan.program) (calls_of h order) (call ∷ [])
-        ∙ ap (λ (r : List ℤ). serial_run plan.program (calls_of h order) ++ (record { id = e.id; reply = r }) ∷ []) (sym reply_is)
+        ∙ serial_answers-append plan.program (start_store plan.program) (submitted_calls h order) (call ∷ [])
+        ∙ ap (λ (r : List ℤ). serial_run plan.program (submitted_calls h order) ++ (record { id = e.id; reply = r }) ∷ []) (sym reply_is)
 
     mine : serial_reply plan.program h (order ++ e.id ∷ []) e.id ≡ Some whole.reply
     mine =
-        let none : reply_in e.id (serial_run plan.program (calls_of h order)) ≡ None =
-        reply_in-none plan.program e.id (start_store plan.program) (calls_of h order) (λ c i. is_txn-ne c.id e.id (λ same. new (subst (IsListed is_txn order) same (calls_of-listed h order c i)))) in
+        let none : reply_in e.id (serial_run plan.program (submitted_calls h order)) ≡ None =
+        reply_in-none plan.program e.id (start_store plan.program) (submitted_calls h order) (λ c i. is_txn-ne c.id e.id (λ same. new (subst (IsListed is_txn order) same (calls_of-listed h order c i)))) in
         ap (reply_in e.id) answers_after
-        ∙ reply_in-behind e.id (serial_run plan.program (calls_of h order)) ((record { id = e.id; reply = whole.reply }) ∷ []) none
+        ∙ reply_in-behind e.id (serial_run plan.program (submitted_calls h order)) ((record { id = e.id; reply = whole.reply }) ∷ []) none
         ∙ rw (is_txn-same e.id)
 
     kept_reply : (t : TxnId) (reply : List ℤ) → serial_reply plan.program h order t ≡ Some reply → serial_reply plan.program h (order ++ e.id ∷ []) t ≡ Some reply
-    kept_reply t reply k = ap (reply_in t) answers_after ∙ reply_in-front t (serial_run plan.program (calls_of h order)) ((record { id = e.id; reply = whole.reply }) ∷ []) reply k
+    kept_reply t reply k = ap (reply_in t) answers_after ∙ reply_in-front t (serial_run plan.program (submitted_calls h order)) ((record { id = e.id; reply = whole.reply }) ∷ []) reply k
 
     e_listed : IsListed is_txn (order ++ e.id ∷ []) e.id
     e_listed = listed_behind is_txn order (e.id ∷ []) e.id (listed_head is_txn e.id [] (is_txn-same e.id))
@@ -204,7 +179,7 @@ module _ (plan : Plan) (thin : IsThin plan) (h : List Entry) (coords : List Coor
     ran_after = record {
       store =
           ap (λ (p : Progress). p.store) (run-whole e s.store (are.each e has).group there ∙ ap (λ (x : Store). whole_run (procedure_of plan e.proc) e.args x) store_before)
-          ∙ sym (ap (serial_store plan.program (start_store plan.program)) calls_after ∙ serial_store-append plan.program (start_store plan.program) (calls_of h order) (call ∷ []));
+          ∙ sym (ap (serial_store plan.program (start_store plan.program)) calls_after ∙ serial_store-append plan.program (start_store plan.program) (submitted_calls h order) (call ∷ []));
       once = NoneTwice-append is_txn is_txn-same order (e.id ∷ []) ran.once ((λ i. absurd (omega arith)), tt) (λ a i j. new (subst (IsListed is_txn order) (one a i) j));
       started = λ t i. elim (listed_either is_txn order (e.id ∷ []) t i) [
         | inl l ↦ (let r = ran.started t l in let g = grows_after.later r.0 r.1 in (g.0, g.1, g.2.of ∙ r.2))

@@ -1,36 +1,37 @@
 -- What a coordinator ignores is stale
-use Rattle.std.proofs.Common.{if◌then◌else◌, ◌≡◌, ℕ, ℤ, Bool, true, false, not, ◌==◌, List, [], ◌∷◌, Option, Some, None, is_some, length, refl, sym, ap, subst, ◌∙◌}
+use Rattle.std.proofs.Common.{if◌then◌else◌, ◌≡◌, ℕ, ℤ, Bool, true, false, not, ◌==◌, List, [], ◌∷◌, Option, Some, None, is_some, length, refl, sym, ap, subst, ◌∙◌, append-nil}
 use Rattle.std.proofs.lemmas.Bool.{and_from, eq-eqb, false≢true}
 use Rattle.std.specs.Prelude.{slice_get}
 use Rattle.std.specs.List.{list_any, flat_map}
-use Rattle.roc_base.specs.Lists.{Has}
+use Rattle.roc_sequence.specs.Lists.{Has}
 use Rattle.roc_base.specs.declared.id.TxnId.{TxnId}
 use Rattle.roc_base.specs.declared.node.Shard.{Shard}
 use Rattle.roc_base.specs.declared.node.Node.{Node}
 use Rattle.roc_base.specs.declared.node.Node.TheVariants.{Coord}
-use Rattle.roc_base.specs.TxnId.{is_txn, is_txn-true}
+use Rattle.roc_base.specs.TxnId.{is_txn}
+use Rattle.roc_base.specs.Inner.Equalities.{is_txn-true}
 use Rattle.roc_base.specs.Edge.{Dependency}
 use Rattle.roc_msg.specs.declared.msg.Msg.{Msg}
 use Rattle.roc_msg.specs.declared.msg.Msg.TheVariants.{Start, StartOk, Commit, CommitOk}
 use Rattle.roc_msg.specs.declared.reason.Reason.{Reason}
 use Rattle.roc_msg.specs.declared.reason.Reason.TheVariants.{Stale, Unfit}
 use Rattle.roc_plan.specs.Groups.{Plan, group_of, outs_of}
-use Rattle.roc_plan.specs.WellFormed.{IsThin, thin_group}
+use Rattle.roc_plan.specs.Within.{IsWithin, thin_group}
 use Rattle.roc_coord.specs.declared.handled.Handled.{Handled}
 use Rattle.roc_coord.specs.declared.handled.Handled.TheVariants.{Done, Answered, Ignored}
 use Rattle.roc_coord.specs.declared.transaction.TakenStart.{TakenStart}
 use Rattle.roc_coord.specs.declared.transaction.TakenCommit.{TakenCommit}
 use Rattle.roc_coord.specs.declared.transaction.Transaction.{Transaction}
-use Rattle.roc_coord.specs.State.{State as CoordState, ignored, find_transaction, find_startok, was_asked, has_commitok}
+use Rattle.roc_coord.specs.State.{ignored, find_transaction, find_startok, was_asked, has_commitok, CoordState}
 use Rattle.roc_coord.specs.Starts.{bound_count, out_count}
 use Rattle.roc_coord.specs.Commits.{groups_on, places_on}
 use Rattle.roc_coord.specs.Step.{unless_refused, is_fit_startok, with_startok, startok_taken, after_startok, is_fit_commitok, with_commitok, reply_now, commitok_taken, after_commitok, after_message}
 use Rattle.roc_audit.specs.declared.entry.Entry.TheVariants.{Submitted}
 use Rattle.roc_world.specs.World.{World}
-use Rattle.roc_world.proofs.Invariants.{IsPending, HasRun, Tells, IsSound, only}
+use Rattle.roc_world.proofs.Invariants.{IsPending, HasRun, IsMeant, IsSound, only}
 use Rattle.roc_world.proofs.Thin.{group_of-one}
-use Rattle.roc_world.proofs.Runs.{find-some}
-use Rattle.roc_world.proofs.Rounds.{append_nil, group_numbers-one}
+use Rattle.roc_sequence.proofs.Found.{found_has}
+use Rattle.roc_world.proofs.Rounds.{group_numbers-one}
 use Rattle.roc_world.proofs.Serves.{list_of-has}
 
 -- an answer that is no refusal
@@ -55,7 +56,7 @@ told edges = record { group = 0; bound = []; outs = []; edges = edges }
 abbrev gave : List ℤ → TakenCommit
 gave outs = record { shard = only; outs = outs }
 
-module _ (plan : Plan) (thin : IsThin plan) (w : World) (is : IsSound plan w) (number : ℕ) (c : CoordState) (there : slice_get w.coords number ≡ Some c) where
+module _ (plan : Plan) (thin : IsWithin plan) (w : World) (is : IsSound plan w) (number : ℕ) (c : CoordState) (there : slice_get w.coords number ≡ Some c) where
   pending : (x : Transaction) → Has x c.pending → IsPending w.history is.server.started c x
   pending x i = (is.coords number c there).each x i
 
@@ -78,7 +79,7 @@ module _ (plan : Plan) (thin : IsThin plan) (w : World) (is : IsSound plan w) (n
         where
           fit : (b : Bool) → is_fit_startok plan x (told edges) only ≡ b → IsTaken (unless_refused c (if not b then Some Unfit else None) (startok_taken plan c (with_startok x (told edges)))).answer
           fit true f = done_taken Done refl
-          fit false f = absurd (false≢true (sym f ∙ fits x (find-some (λ (y : Transaction). is_txn y.id id) c.pending x k).0))
+          fit false f = absurd (false≢true (sym f ∙ fits x (found_has (λ (y : Transaction). is_txn y.id id) c.pending x k).0))
 
           stale : (b : Bool) → IsTaken (unless_refused c (if b then Some Stale else if not (is_fit_startok plan x (told edges) only) then Some Unfit else None) (startok_taken plan c (with_startok x (told edges)))).answer
           stale true = stale_taken c
@@ -108,7 +109,7 @@ module _ (plan : Plan) (thin : IsThin plan) (w : World) (is : IsSound plan w) (n
       fits : (x : Transaction) → Has x c.pending → x.id ≡ id → is_fit_commitok plan x (gave outs) ≡ true
       fits x i of =
           let one : list_any (λ shard. shard.0 == only.0) x.asked ≡ true = ap (λ (shards : List Shard). list_any (λ shard. shard.0 == only.0) shards) (asked x i of) in
-          let places : places_on plan x only ≡ outs_of plan x.proc 0 = ap (λ (gs : List ℕ). flat_map (outs_of plan x.proc) gs) (on x i) ∙ append_nil (outs_of plan x.proc 0) in
+          let places : places_on plan x only ≡ outs_of plan x.proc 0 = ap (λ (gs : List ℕ). flat_map (outs_of plan x.proc) gs) (on x i) ∙ append-nil (outs_of plan x.proc 0) in
           let count : length outs ≡ length (places_on plan x only) =
           is.is_server.ran.count message.entry outs message.has message.gave ∙ ap (λ (p : ℕ). length (outs_of plan p 0)) (same_procedure x i of) ∙ sym (ap length places) in
           and_from (list_any (λ shard. shard.0 == only.0) x.asked) (length outs == length (places_on plan x only)) one (eq-eqb (length outs) (length (places_on plan x only)) count)
@@ -125,7 +126,7 @@ module _ (plan : Plan) (thin : IsThin plan) (w : World) (is : IsSound plan w) (n
       go (Some x) k = stale (has_commitok only x.commitoks)
         where
           found : Has x c.pending × (is_txn x.id id ≡ true)
-          found = find-some (λ (y : Transaction). is_txn y.id id) c.pending x k
+          found = found_has (λ (y : Transaction). is_txn y.id id) c.pending x k
 
           fit : (b : Bool) → is_fit_commitok plan x (gave outs) ≡ b → IsTaken (unless_refused c (if not b then Some Unfit else None) (commitok_taken c (with_commitok x (gave outs)) (reply_now plan (with_commitok x (gave outs))))).answer
           fit true f = last (with_commitok x (gave outs))
@@ -135,7 +136,7 @@ module _ (plan : Plan) (thin : IsThin plan) (w : World) (is : IsSound plan w) (n
           stale true = stale_taken c
           stale false = fit (is_fit_commitok plan x (gave outs)) refl
 
-  pub message_is_stale : (m : Msg) (to : Node) → Tells w.history is.server.started m to → to ≡ Coord number → (reason : Reason) → (after_message plan c m).answer ≡ Ignored reason → reason ≡ Stale
+  pub message_is_stale : (m : Msg) (to : Node) → IsMeant w.history is.server.started m to → to ≡ Coord number → (reason : Reason) → (after_message plan c m).answer ≡ Ignored reason → reason ≡ Stale
   unfolding IsTaken
   message_is_stale (Start id proc group args inputs) to t e reason k = absurd (let f = t.0 in cc)
   message_is_stale (Commit id edges) to t e reason k = absurd (let f = t.0 in cc)

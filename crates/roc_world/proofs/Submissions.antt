@@ -6,13 +6,13 @@ use Rattle.roc_msg.specs.declared.outbox.Outbox.{Outbox}
 use Rattle.roc_plan.specs.Groups.{Plan}
 use Rattle.roc_coord.specs.declared.handled.SubmitFault.{SubmitFault}
 use Rattle.roc_coord.specs.declared.handled.SubmitFault.TheVariants as fault
-use Rattle.roc_coord.specs.State.{State}
+use Rattle.roc_coord.specs.State.{CoordState}
 use Rattle.roc_coord.specs.Submit.{refusal_of, refused_or_accepted, after_submit, UnlessStopped}
 use Rattle.roc_world.specs.declared.event.Event.TheVariants as event
 use Rattle.roc_world.specs.declared.event.Seen.TheVariants as seen
 use Rattle.roc_world.specs.World.{World}
 use Rattle.roc_world.specs.Happens.{Submits, Happens}
-use Rattle.roc_world.specs.Nodes.{CoordSubmits}
+use Rattle.roc_world.specs.Inner.Nodes.{CoordSubmits}
 
 -- what is there, written again
 pub set_there : {X : Type 0} (xs : List X) (i : ℕ) (x : X) → slice_get xs i ≡ Some x → slice_set xs i x ≡ xs
@@ -20,21 +20,21 @@ set_there [] i x e = absurd (cc)
 set_there (y ∷ ys) zero x e = let same : y ≡ x = cc in ap (λ (z : _). z ∷ ys) (sym same)
 set_there (y ∷ ys) (suc i) x e = ap (λ (zs : List _). y ∷ zs) (set_there ys i x e)
 
-refused_keeps : (plan : Plan) (s : State) (proc : ℕ) (args : List ℤ) (why : SubmitFault) → Err why ≡ (after_submit plan s proc args).answer → (after_submit plan s proc args).state ≡ s
+refused_keeps : (plan : Plan) (s : CoordState) (proc : ℕ) (args : List ℤ) (why : SubmitFault) → Err why ≡ (after_submit plan s proc args).answer → (after_submit plan s proc args).state ≡ s
 refused_keeps plan s proc args why = go (refusal_of plan s proc args)
   where
     go : (o : Option SubmitFault) → Err why ≡ (refused_or_accepted plan s proc args o).answer → (refused_or_accepted plan s proc args o).state ≡ s
     go (Some f) e = refl
     go None e = absurd (cc)
 
-module _ (plan : Plan) (w : World) (coord proc : ℕ) (args : List ℤ) (after : List State) (before out : Outbox) where
+module _ (plan : Plan) (w : World) (coord proc : ℕ) (args : List ℤ) (after : List CoordState) (before out : Outbox) where
   coords_same : (why : SubmitFault) → CoordSubmits plan coord proc args (Err why) w.coords after before out → after ≡ w.coords
   coords_same why s = s.others ∙ ap (slice_set w.coords coord) (refused_keeps plan s.coord proc args why s.submitted.answer) ∙ set_there w.coords coord s.coord s.there
 
   spent : CoordSubmits plan coord proc args (Err fault.Spent) w.coords after before out → Happens plan w (event.Submit coord proc args) (record { seen = seen.Spent; world = record w { coords = after } })
   spent s =
       let r = after_submit plan s.coord proc args in
-      let world = ap (λ (cs : List State). record w { coords = cs }) (coords_same fault.Spent s) in (
+      let world = ap (λ (cs : List CoordState). record w { coords = cs }) (coords_same fault.Spent s) in (
         s.coord,
         s.there,
         subst (λ (a : Result TxnId SubmitFault). Submits w coord proc args r.state r.sends a (record { seen = seen.Spent; world = record w { coords = after } })) s.submitted.answer (ap (λ (x : World). record { seen = seen.Spent; world = x }) world),
@@ -43,7 +43,7 @@ module _ (plan : Plan) (w : World) (coord proc : ℕ) (args : List ℤ) (after :
   busy : CoordSubmits plan coord proc args (Err fault.Busy) w.coords after before out → Happens plan w (event.Submit coord proc args) (record { seen = seen.Busy; world = record w { coords = after } })
   busy s =
       let r = after_submit plan s.coord proc args in
-      let world = ap (λ (cs : List State). record w { coords = cs }) (coords_same fault.Busy s) in (
+      let world = ap (λ (cs : List CoordState). record w { coords = cs }) (coords_same fault.Busy s) in (
         s.coord,
         s.there,
         subst (λ (a : Result TxnId SubmitFault). Submits w coord proc args r.state r.sends a (record { seen = seen.Busy; world = record w { coords = after } })) s.submitted.answer (ap (λ (x : World). record { seen = seen.Busy; world = x }) world),

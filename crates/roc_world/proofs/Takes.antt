@@ -1,21 +1,22 @@
 -- Transactions that are taken one by one
 use Rattle.std.proofs.Common.{◌≡◌, ℤ, false, List, [], ◌∷◌, ◌++◌, Option, unwrap_or, refl, sym, ap, subst, ◌∙◌, inl, inr, arith, append_assoc}
-use Rattle.roc_base.specs.Lists.{Has}
+use Rattle.roc_sequence.specs.Lists.{Has}
 use Rattle.roc_sequence.specs.Places.{IsListed, is_listed, NoneTwice}
 use Rattle.roc_sequence.proofs.Places.{listed_head, listed_tail, listed_cases, unlisted_test}
 use Rattle.roc_sequence.proofs.Appended.{listed_either}
 use Rattle.roc_base.specs.declared.id.TxnId.{TxnId}
 use Rattle.roc_base.specs.declared.node.Node.TheVariants.{Coord}
-use Rattle.roc_base.specs.TxnId.{is_txn, is_txn-true, is_txn-same}
+use Rattle.roc_base.specs.TxnId.{is_txn}
+use Rattle.roc_base.specs.Inner.Equalities.{is_txn-true, is_txn-same}
 use Rattle.roc_msg.specs.declared.msg.Msg.TheVariants.{CommitOk}
 use Rattle.roc_msg.specs.declared.outbox.Outgoing.{Outgoing}
 use Rattle.std.specs.List.{flat_map}
 use Rattle.roc_plan.specs.Groups.{Plan}
-use Rattle.roc_plan.specs.WellFormed.{IsThin}
+use Rattle.roc_plan.specs.Within.{IsWithin}
 use Rattle.roc_server.specs.declared.started.StartedGroup.{StartedGroup}
-use Rattle.roc_server.specs.State.{State as ServerState}
+use Rattle.roc_server.specs.State.{ServerState}
 use Rattle.roc_server.specs.Commit.{groups_here, run_group, run_groups, take_all, commitok_of}
-use Rattle.roc_coord.specs.State.{State as CoordState}
+use Rattle.roc_coord.specs.State.{CoordState}
 use Rattle.roc_audit.specs.declared.entry.Entry.{Entry}
 use Rattle.roc_audit.specs.Order.{noted}
 use Rattle.roc_world.proofs.Invariants.{AreSubmissions, AreStarted, RanInOrder, HasRun}
@@ -56,7 +57,7 @@ pub record Taken (plan : Plan) (h : List Entry) (order : List TxnId) (old new : 
   pub grows : Grows old.started new.started
   pub ran : RanInOrder plan h order new
 
-module _ (plan : Plan) (thin : IsThin plan) (h : List Entry) (coords : List CoordState) (submissions : AreSubmissions plan h coords) where
+module _ (plan : Plan) (thin : IsWithin plan) (h : List Entry) (coords : List CoordState) (submissions : AreSubmissions plan h coords) where
   pub take_all-taken :
       (ts order : List TxnId) (s : ServerState) → AreStarted h s.started → RanInOrder plan h order s → NoneTwice is_txn ts
       → ((t : TxnId) → IsListed is_txn ts t → ¬ IsListed is_txn order t)

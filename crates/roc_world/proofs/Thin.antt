@@ -1,18 +1,19 @@
 -- What the definitions come to where each procedure is one deferrable group and there is one shard
-use Rattle.std.proofs.Common.{◌≡◌, ℕ, ℤ, zero, suc, ◌+◌, ◌<◌, List, [], ◌∷◌, ◌++◌, length, pos, negsuc, get_or, refl, sym, ap, subst, ◌∙◌, arith, length-append, zero-add}
+use Rattle.std.proofs.Common.{◌≡◌, ℕ, ℤ, zero, suc, ◌+◌, ◌<◌, List, [], ◌∷◌, ◌++◌, length, pos, negsuc, get_or, refl, sym, ap, subst, ◌∙◌, arith, length-append, zero-add, append-nil}
 use Rattle.std.specs.List.{filter_map, range_with_len}
 use Rattle.std.specs.Int.{int_rem_euclid}
 use Rattle.std.specs.Prelude.{unsigned_abs}
-use Rattle.roc_plan.specs.Program.{Piece, Statement, Get, Set, Out}
-use Rattle.roc_plan.specs.Names.{output, outputs}
-use Rattle.roc_plan.specs.Values.{value}
-use Rattle.roc_plan.specs.Groups.{Plan, Group, no_group, no_piece, procedure_of, groups_of, group_of, pieces_at, inputs_in, inputs_of, environment_in, with_arguments, with_values, shard_of, outs_in, outs_of}
-use Rattle.roc_plan.specs.WellFormed.{IsThin, thin_group}
-use Rattle.roc_plan.proofs.Rows.{row_same}
+use Rattle.roc_program.specs.Program.{Piece, Statement, Get, Set, Out}
+use Rattle.roc_program.specs.Names.{output, outputs}
+use Rattle.roc_program.specs.Values.{value, with_arguments}
+use Rattle.roc_plan.specs.Groups.{Plan, Group, no_group, procedure_of, groups_of, group_of, pieces_at, inputs_in, inputs_of, environment_in, with_values, shard_of, outs_in, outs_of}
+use Rattle.roc_program.specs.LookUps.{no_piece}
+use Rattle.roc_plan.specs.Within.{IsWithin, thin_group}
+use Rattle.roc_program.proofs.Rows.{row_same}
 use Rattle.roc_plan.proofs.Single.{inputs_in-one, one_piece}
 use Rattle.roc_rows.specs.Store.{Store}
 use Rattle.roc_whole.specs.Run.{Progress, after_statement, after_statements, after_piece, after_pieces, whole_run}
-use Rattle.roc_group.specs.Group_run.{group_run, pieces_of}
+use Rattle.roc_group.specs.Group_run.{group_run, group_pieces}
 
 -- how many values statements and pieces add to the reply
 statement_replies : (place : ℤ) (p : Progress) (ss : List Statement) → length (after_statements place p ss).reply ≡ length p.reply + length (filter_map output ss)
@@ -32,7 +33,7 @@ replies p (piece ∷ pieces) =
     let all : length (filter_map output piece.body ++ outputs pieces) ≡ length (filter_map output piece.body) + length (outputs pieces) = length-append (filter_map output piece.body) (outputs pieces) in
     omega arith
 
-module _ (plan : Plan) (thin : IsThin plan) (proc : ℕ) (there : proc < length plan.program.procedures) where
+module _ (plan : Plan) (thin : IsWithin plan) (proc : ℕ) (there : proc < length plan.program.procedures) where
   -- one group
   pub groups_of-one : groups_of plan proc ≡ thin_group ∷ []
   groups_of-one =
@@ -49,8 +50,8 @@ module _ (plan : Plan) (thin : IsThin plan) (proc : ℕ) (there : proc < length 
       ap (λ (g : Group). inputs_in (procedure_of plan proc) g.pieces) group_of-one ∙ inputs_in-one (procedure_of plan proc) (one_piece plan proc thin there) in
       rw none
 
-  pub pieces_of-one : (args inputs : List ℤ) → pieces_of plan (record { proc = proc; group = 0; args = args; inputs = inputs }) ≡ (procedure_of plan proc).pieces
-  pieces_of-one args inputs = ap (λ (g : Group). pieces_at (procedure_of plan proc) g.pieces) group_of-one ∙ go (procedure_of plan proc).pieces (one_piece plan proc thin there)
+  pub group_pieces-one : (args inputs : List ℤ) → group_pieces plan (record { proc = proc; group = 0; args = args; inputs = inputs }) ≡ (procedure_of plan proc).pieces
+  group_pieces-one args inputs = ap (λ (g : Group). pieces_at (procedure_of plan proc) g.pieces) group_of-one ∙ go (procedure_of plan proc).pieces (one_piece plan proc thin there)
     where
       go : (pieces : List Piece) → length pieces ≡ 1 → get_or pieces 0 no_piece ∷ [] ≡ pieces
       go [] e = absurd (omega arith)
@@ -63,7 +64,7 @@ module _ (plan : Plan) (thin : IsThin plan) (proc : ℕ) (there : proc < length 
       let none : environment_in (procedure_of plan proc) (group_of plan proc 0).pieces args inputs ≡ with_arguments (procedure_of plan proc) args =
       ap (λ (g : Group). environment_in (procedure_of plan proc) g.pieces args inputs) group_of-one
       ∙ ap (λ (names : List ℕ). with_values names inputs (with_arguments (procedure_of plan proc) args)) (inputs_in-one (procedure_of plan proc) (one_piece plan proc thin there)) in
-      λ i. after_pieces (record { store = store; environment = none i; reply = [] }) (pieces_of-one args inputs i)
+      λ i. after_pieces (record { store = store; environment = none i; reply = [] }) (group_pieces-one args inputs i)
 
   -- a whole run gives as many values as its group adds to the reply
   pub reply-count : (args : List ℤ) (store : Store) → length (whole_run (procedure_of plan proc) args store).reply ≡ length (outs_of plan proc 0)
@@ -76,17 +77,13 @@ module _ (plan : Plan) (thin : IsThin plan) (proc : ℕ) (there : proc < length 
       lengths a zero = refl
       lengths a (suc n) = ap suc (lengths (a + 1) n)
 
-      nil : {A : Type 0} (xs : List A) → xs ++ [] ≡ xs
-      nil [] = refl
-      nil (x ∷ xs) = ap (λ ys. x ∷ ys) (nil xs)
-
       one : (pieces : List Piece) → length pieces ≡ 1 → length (range_with_len 0 (length (outputs (get_or pieces 0 no_piece ∷ []))) ++ []) ≡ length (outputs pieces)
       one [] e = absurd (omega arith)
-      one (p ∷ []) e = ap length (nil (range_with_len 0 (length (outputs (p ∷ []))))) ∙ lengths 0 (length (outputs (p ∷ [])))
+      one (p ∷ []) e = ap length (append-nil (range_with_len 0 (length (outputs (p ∷ []))))) ∙ lengths 0 (length (outputs (p ∷ [])))
       one (p ∷ q ∷ ps) e = absurd (omega arith)
 
 -- every place is on the one shard
-pub shard_of-one : (plan : Plan) (place : ℤ) → IsThin plan → shard_of plan place ≡ 0
+pub shard_of-one : (plan : Plan) (place : ℤ) → IsWithin plan → shard_of plan place ≡ 0
 shard_of-one plan place thin = rw thin.program.one_shard (go place)
   where
     go : (z : ℤ) → unsigned_abs (int_rem_euclid z (pos 1)) ≡ 0

@@ -1,12 +1,11 @@
 -- Each event keeps what holds in every world
-use Rattle.std.proofs.Common.{if◌then◌else◌, ◌≡◌, ℕ, ℤ, ◌<◌, Bool, true, false, ◌==◌, List, [], ◌∷◌, ◌++◌, Some, length, map, refl, sym, ap, subst, ◌∙◌, ◌⊎◌, inl, inr, arith, append_assoc}
+use Rattle.std.proofs.Common.{if◌then◌else◌, ◌≡◌, ℕ, ℤ, ◌<◌, Bool, true, false, ◌==◌, List, [], ◌∷◌, ◌++◌, Some, length, map, refl, sym, ap, subst, ◌∙◌, ◌⊎◌, inl, inr, arith, append_assoc, append-nil}
 use Rattle.std.proofs.lemmas.Bool.{false≢true, eqb-true}
 use Rattle.std.proofs.lemmas.Bool.Decides.{nat_tests}
 use Rattle.std.specs.Prelude.{slice_get, slice_set}
-use Rattle.roc_base.specs.Lists.{Has}
+use Rattle.roc_sequence.specs.Lists.{Has}
 use Rattle.roc_sequence.specs.Places.{IsListed, IsListedBefore, is_listed}
-use Rattle.roc_base.proofs.Members.{has_right, has_append}
-use Rattle.roc_sequence.proofs.Members.{Has-one, from_Has-map}
+use Rattle.roc_sequence.proofs.Members.{has_right, has_append, has_one, from_has_map}
 use Rattle.roc_sequence.proofs.Places.{listed_or_not}
 use Rattle.roc_sequence.proofs.Appended.{before_front, before_new}
 use Rattle.roc_base.specs.declared.id.TxnId.{TxnId}
@@ -19,11 +18,11 @@ use Rattle.roc_msg.specs.declared.msg.Msg.TheVariants.{Start, Commit}
 use Rattle.roc_msg.specs.declared.msg.Sent.{Sent}
 use Rattle.roc_msg.specs.declared.outbox.Outgoing.{Outgoing}
 use Rattle.roc_plan.specs.Groups.{Plan, procedure_of}
-use Rattle.roc_plan.specs.WellFormed.{IsThin}
-use Rattle.roc_server.specs.State.{State as ServerState, Step as ServerStep}
+use Rattle.roc_plan.specs.Within.{IsWithin}
+use Rattle.roc_server.specs.State.{ServerState, ServerStep}
 use Rattle.roc_server.specs.Step.{Handles}
 use Rattle.roc_coord.specs.declared.transaction.Transaction.{Transaction}
-use Rattle.roc_coord.specs.State.{State as CoordState, Step as CoordStep}
+use Rattle.roc_coord.specs.State.{CoordState, CoordStep}
 use Rattle.roc_coord.specs.Starts.{with_starts}
 use Rattle.roc_coord.specs.Submit.{Submission, accepted, new_transaction}
 use Rattle.roc_coord.specs.Step.{after_message}
@@ -34,17 +33,17 @@ use Rattle.roc_audit.proofs.Histories.{before_cases, answered_by_before}
 use Rattle.roc_world.specs.World.{World, sent_by, sends}
 use Rattle.roc_audit.specs.Order.{noted}
 use Rattle.roc_world.specs.Happens.{came_to_server, came_to_coord, answer_entries}
-use Rattle.roc_world.proofs.Invariants.{only, IsNumbered, AreSubmissions, HasStarted, HasRun, IsPending, IsCoord, Tells, IsAsked, AreAsked, IsExplained, IsSound}
+use Rattle.roc_world.proofs.Invariants.{only, IsNumbered, AreSubmissions, HasStarted, HasRun, IsPending, IsCoord, IsMeant, IsAsked, AreAsked, IsInOrder, IsSound}
 use Rattle.roc_world.proofs.Grows.{Grows-same, Extends, Extends-same, Extends-append, run_later, coord_later, pending_later, tells_later}
 use Rattle.roc_world.proofs.Serves.{Serves, message_serves}
 use Rattle.roc_world.proofs.Learns.{learns, sends_no_commit}
-use Rattle.roc_world.proofs.Rounds.{append_nil, starts-first, starts_of-first}
+use Rattle.roc_world.proofs.Rounds.{starts-first, starts_of-first}
 use Rattle.roc_world.proofs.Coordinates.{Coordinates, message_coordinates}
 use Rattle.roc_world.proofs.Changes.{get-set_here, get-set_other, get-set_cases, server_longer, messages_sent}
 
 -- ---- a submission
 
-module _ (plan : Plan) (thin : IsThin plan) (w : World) (is : IsSound plan w) (coord proc : ℕ) (args : List ℤ) (c : CoordState) (there : slice_get w.coords coord ≡ Some c) where
+module _ (plan : Plan) (thin : IsWithin plan) (w : World) (is : IsSound plan w) (coord proc : ℕ) (args : List ℤ) (c : CoordState) (there : slice_get w.coords coord ≡ Some c) where
   abbrev x : Transaction
   x = new_transaction c proc args
 
@@ -73,7 +72,7 @@ module _ (plan : Plan) (thin : IsThin plan) (w : World) (is : IsSound plan w) (c
   old_or_new t p a i =
       elim (has_append (Submitted t p a) w.history (Submitted x.id proc args ∷ []) i) [
         | inl j ↦ inl j
-        | inr j ↦ (let e = Has-one (Submitted t p a) (Submitted x.id proc args) j in
+        | inr j ↦ (let e = has_one (Submitted t p a) (Submitted x.id proc args) j in
             let same : t ≡ x.id = cc in
             let procedures : p ≡ proc = cc in
             let arguments : a ≡ args = cc in
@@ -148,21 +147,21 @@ module _ (plan : Plan) (thin : IsThin plan) (w : World) (is : IsSound plan w) (c
       is_number = its_number;
       each = λ y i. elim (has_append y c.pending (with_starts plan x ∷ []) i) [
         | inl j ↦ pending_later w.history longer is.server.started is.server.started c result.state y grown (Grows-same is.server.started) refl ((is.coords coord c there).each y j)
-        | inr j ↦ subst (IsPending longer is.server.started result.state) (sym (Has-one y (with_starts plan x) j)) new_pending
+        | inr j ↦ subst (IsPending longer is.server.started result.state) (sym (has_one y (with_starts plan x) j)) new_pending
       ];
     }
 
-    explained_after : IsExplained longer w.order is.server.started
+    explained_after : IsInOrder longer w.order is.server.started
     explained_after = record {
       answered = λ t reply i. elim (has_append (Answered t reply) w.history (Submitted x.id proc args ∷ []) i) [
         | inl j ↦ is.history.answered t reply j
-        | inr j ↦ absurd (let e = Has-one (Answered t reply) (Submitted x.id proc args) j in cc)
+        | inr j ↦ absurd (let e = has_one (Answered t reply) (Submitted x.id proc args) j in cc)
       ];
       in_time = λ t u b l. elim (before_cases w.history (Submitted x.id proc args ∷ []) t u b) [
         | inl k ↦ is.history.in_time t u k l
         | inr k ↦ elim k [
           | inl m ↦ absurd (let r = is.is_server.ran.started u l in
-              let e = Has-one (Submitted u m.2.0 m.2.1) (Submitted x.id proc args) m.2.2 in
+              let e = has_one (Submitted u m.2.0 m.2.1) (Submitted x.id proc args) m.2.2 in
               let same : u ≡ x.id = cc in
               let g = is.is_server.started.each r.0 r.1 in
               unused r.0.proc r.0.args (subst (λ (v : TxnId). Has (Submitted v r.0.proc r.0.args) w.history) (r.2 ∙ same) g.submitted))
@@ -181,7 +180,7 @@ module _ (plan : Plan) (thin : IsThin plan) (w : World) (is : IsSound plan w) (c
         elim (get-set_cases w.coords coord number c result.state d there e) [
           | inl k ↦ (elim (has_append y c.pending (with_starts plan x ∷ []) (subst (λ (v : CoordState). Has y v.pending) k.1 i)) [
             | inl j ↦ f coord c y there j of
-            | inr j ↦ absurd (other (sym of ∙ ap (λ (z : Transaction). z.id) (Has-one y (with_starts plan x) j)))
+            | inr j ↦ absurd (other (sym of ∙ ap (λ (z : Transaction). z.id) (has_one y (with_starts plan x) j)))
           ])
           | inr k ↦ f number d y k.1 i of
         ]
@@ -193,14 +192,14 @@ module _ (plan : Plan) (thin : IsThin plan) (w : World) (is : IsSound plan w) (c
         unused s.entry.proc s.entry.args (subst (λ (v : TxnId). Has (Submitted v s.entry.proc s.entry.args) w.history) (s.of ∙ same) g.submitted)
 
     commit_started : (m : Sent) (t : TxnId) (edges : List Dependency) → Has m w.sent → m.msg ≡ Commit t edges → HasStarted is.server.started t edges
-    commit_started m t edges i e = (subst (λ (msg : Msg). Tells w.history is.server.started msg m.to) e (is.messages m i)).1
+    commit_started m t edges i e = (subst (λ (msg : Msg). IsMeant w.history is.server.started msg m.to) e (is.messages m i)).1
 
     asked_submitted : AreAsked (slice_set w.coords coord result.state) (w.sent ++ map (sent_by (Coord coord)) result.sends) is.server.known
     asked_submitted = record {
       by_commit = λ m t edges i e. elim (has_append m w.sent (map (sent_by (Coord coord)) result.sends) i) [
         | inl j ↦ asked_after t (is.asked.by_commit m t edges j e) (not_started t edges (commit_started m t edges j e))
-        | inr j ↦ absurd (let r = from_Has-map (sent_by (Coord coord)) m result.sends j in
-            let o = Has-one r.0 (record { to = Server only; msg = Start x.id proc 0 args [] }) (subst (λ (os : List Outgoing). Has r.0 os) (starts_of-first plan thin x known refl) r.1) in
+        | inr j ↦ absurd (let r = from_has_map (sent_by (Coord coord)) m result.sends j in
+            let o = has_one r.0 (record { to = Server only; msg = Start x.id proc 0 args [] }) (subst (λ (os : List Outgoing). Has r.0 os) (starts_of-first plan thin x known refl) r.1) in
             let is_start : m.msg ≡ Start x.id proc 0 args [] = ap (λ (y : Sent). y.msg) r.2 ∙ ap (λ (y : Outgoing). y.msg) o in cc)
       ];
       by_list = λ k i. asked_after k.of (is.asked.by_list k i) (not_started k.of k.edges (is.is_server.known k i));
@@ -220,7 +219,7 @@ module _ (plan : Plan) (thin : IsThin plan) (w : World) (is : IsSound plan w) (c
           (λ m i. tells_later w.history longer is.server.started is.server.started m.msg m.to grown (Grows-same is.server.started) (is.messages m i))
           (λ o i.
           let j = subst (λ (os : List Outgoing). Has o os) (starts_of-first plan thin x known refl) i in
-          subst (λ (y : Outgoing). Tells longer is.server.started y.msg y.to) (sym (Has-one o (record { to = Server only; msg = Start x.id proc 0 args [] }) j)) (refl, refl, refl, mine));
+          subst (λ (y : Outgoing). IsMeant longer is.server.started y.msg y.to) (sym (has_one o (record { to = Server only; msg = Start x.id proc 0 args [] }) j)) (refl, refl, refl, mine));
       asked = asked_submitted;
       history = explained_after;
     }
@@ -229,20 +228,20 @@ module _ (plan : Plan) (thin : IsThin plan) (w : World) (is : IsSound plan w) (c
 
 -- the order grows at its end
 noted-front : (order ts : List TxnId) → (more : List TxnId) × (noted order ts ≡ order ++ more)
-noted-front order [] = ([], sym (append_nil order))
+noted-front order [] = ([], sym (append-nil order))
 noted-front order (t ∷ ts) = go (if is_listed is_txn order t then [] else t ∷ []) (λ o. noted-front o ts)
   where
     go : (one : List TxnId) → ((o : List TxnId) → (more : List TxnId) × (noted o ts ≡ o ++ more)) → (more : List TxnId) × (noted (order ++ one) ts ≡ order ++ more)
     go one ih = let r = ih (order ++ one) in (one ++ r.0, r.1 ∙ append_assoc order one r.0)
 
-module _ (plan : Plan) (thin : IsThin plan) (w : World) (is : IsSound plan w) (k : ℕ) (m : Sent) (has : Has m w.sent) where
-  told : Tells w.history is.server.started m.msg m.to
+module _ (plan : Plan) (thin : IsWithin plan) (w : World) (is : IsSound plan w) (k : ℕ) (m : Sent) (has : Has m w.sent) where
+  told : IsMeant w.history is.server.started m.msg m.to
   told = is.messages m has
 
   -- to the server: only servers are told of starts and commits, and there is one
   module _ (r : ServerStep) (step : Handles plan is.server m.msg r) (to : m.to ≡ Server only) where
     serves : Serves plan w.history w.order is.server r
-    serves = message_serves plan thin w.history w.coords is.submissions w.order is.server is.is_server m.msg (subst (λ (n : Node). Tells w.history is.server.started m.msg n) to told) r step
+    serves = message_serves plan thin w.history w.coords is.submissions w.order is.server is.is_server m.msg (subst (λ (n : Node). IsMeant w.history is.server.started m.msg n) to told) r step
 
     in_time_later : (t u : TxnId) → IsAnsweredBefore w.history t u → IsListed is_txn (noted w.order r.decided) u → IsListedBefore is_txn (noted w.order r.decided) t u
     in_time_later t u b l =
@@ -268,7 +267,7 @@ module _ (plan : Plan) (thin : IsThin plan) (w : World) (is : IsSound plan w) (k
       asked = record {
         by_commit = λ n t edges i e. elim (has_append n w.sent (map (sent_by (Server only)) r.sends) i) [
           | inl j ↦ is.asked.by_commit n t edges j e
-          | inr j ↦ absurd (let x = from_Has-map (sent_by (Server only)) n r.sends j in
+          | inr j ↦ absurd (let x = from_has_map (sent_by (Server only)) n r.sends j in
               sends_no_commit plan is.server m.msg r step x.0 t edges x.1 (sym (ap (λ (y : Sent). y.msg) x.2) ∙ e))
         ];
         by_list = λ l i. elim (learns plan is.server m.msg r step l i) [
@@ -331,7 +330,7 @@ module _ (plan : Plan) (thin : IsThin plan) (w : World) (is : IsSound plan w) (k
       same_arguments = λ t p q a b i j. is.submissions.same_arguments t p q a b (no_submission t p a i) (no_submission t q b j);
     }
 
-    explained_longer : IsExplained longer' w.order is.server.started
+    explained_longer : IsInOrder longer' w.order is.server.started
     explained_longer = record {
       answered = λ t reply i. elim (has_append (Answered t reply) w.history (answer_entries r.answer) i) [
         | inl j ↦ is.history.answered t reply j
@@ -390,7 +389,7 @@ module _ (plan : Plan) (thin : IsThin plan) (w : World) (is : IsSound plan w) (k
       asked = record {
         by_commit = λ n t edges i e. elim (has_append n w.sent (map (sent_by (Coord number)) r.sends) i) [
           | inl j ↦ asked_still t (is.asked.by_commit n t edges j e)
-          | inr j ↦ (let q = from_Has-map (sent_by (Coord number)) n r.sends j in asked_new q.0 t edges q.1 (sym (ap (λ (y : Sent). y.msg) q.2) ∙ e))
+          | inr j ↦ (let q = from_has_map (sent_by (Coord number)) n r.sends j in asked_new q.0 t edges q.1 (sym (ap (λ (y : Sent). y.msg) q.2) ∙ e))
         ];
         by_list = λ l i. asked_still l.of (is.asked.by_list l i);
       };

@@ -9,13 +9,13 @@ use Rattle.roc_msg.specs.declared.msg.Msg.{Msg}
 use Rattle.roc_msg.specs.declared.outbox.Outgoing.{Outgoing}
 use Rattle.roc_server.specs.declared.handled.Handled.{Handled as ServerHandled}
 use Rattle.roc_server.specs.declared.handled.Handled.TheVariants as server_answer
-use Rattle.roc_server.specs.State.{State as ServerState, Step as ServerStep}
+use Rattle.roc_server.specs.State.{ServerState, ServerStep}
 use Rattle.roc_server.specs.Step.{Handles}
 use Rattle.roc_coord.specs.declared.handled.Handled.{Handled as CoordHandled}
 use Rattle.roc_coord.specs.declared.handled.Handled.TheVariants as coord_answer
 use Rattle.roc_coord.specs.declared.handled.SubmitFault.{SubmitFault}
 use Rattle.roc_coord.specs.declared.handled.SubmitFault.TheVariants as fault
-use Rattle.roc_coord.specs.State.{State as CoordState, Step as CoordStep}
+use Rattle.roc_coord.specs.State.{CoordState, CoordStep}
 use Rattle.roc_coord.specs.Step.{after_message}
 use Rattle.roc_coord.specs.Submit.{after_submit}
 use Rattle.roc_audit.specs.declared.entry.Entry.{Entry}

@@ -3,5 +3,4 @@ pub mod Happens
 pub mod Fits
 pub mod Reached
 pub mod Reads
-pub mod Parts
-pub mod Nodes
+pub mod Inner

@@ -1,12 +1,10 @@
 -- The worlds of all runs, and what may happen in one
-use Rattle.std.specs.Prelude.{◌≡◌, ℕ, ◌<◌, ◌≤◌, List, Some, length, slice_get}
-use Rattle.roc_msg.specs.declared.msg.Sent.{Sent}
+use Rattle.std.specs.Prelude.{◌≡◌, ℕ, ◌<◌, ◌≤◌, List, length}
 use Rattle.roc_plan.specs.Groups.{Plan, procedure_of}
 use Rattle.roc_world.specs.declared.event.Event.{Event}
 use Rattle.roc_world.specs.declared.event.Event.TheVariants.{Submit, Deliver}
 use Rattle.roc_world.specs.World.{World}
 use Rattle.roc_world.specs.Happens.{Stepped, IsRun}
-use Rattle.roc_world.specs.Fits.{IsNodeOf}
 
 -- a run leads to w
 pub record IsReached (plan : Plan) (w : World) : Type 0 where
@@ -18,7 +16,3 @@ pub record IsReached (plan : Plan) (w : World) : Type 0 where
 abbrev pub IsEventOf : Plan → World → Event → Type 0
 IsEventOf plan w (Submit coord proc args) = (coord < length w.coords) × (proc < length plan.program.procedures) × (length args ≡ (procedure_of plan proc).arguments)
 IsEventOf plan w (Deliver k) = (0 < k) × (k ≤ length w.sent)
-
--- each message goes to a node of the world
-pub record HaveReceivers (w : World) : Type 0 where
-  pub each : (k : ℕ) (m : Sent) → slice_get w.sent k ≡ Some m → IsNodeOf w m.to

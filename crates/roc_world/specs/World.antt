@@ -6,9 +6,9 @@ use Rattle.roc_base.specs.declared.node.Node.{Node}
 use Rattle.roc_msg.specs.declared.msg.Sent.{Sent}
 use Rattle.roc_msg.specs.declared.outbox.Outgoing.{Outgoing}
 use Rattle.roc_plan.specs.Groups.{Plan}
-use Rattle.roc_server.specs.State.{State as ServerState}
+use Rattle.roc_server.specs.State.{ServerState}
 use Rattle.roc_server.specs.First.{first_server}
-use Rattle.roc_coord.specs.State.{State as CoordState, first_coord}
+use Rattle.roc_coord.specs.State.{first_coord, CoordState}
 use Rattle.roc_audit.specs.declared.entry.Entry.{Entry}
 
 pub record World : Type 0 where

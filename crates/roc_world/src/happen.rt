@@ -1,12 +1,13 @@
 //! What an event does, over the fields of a world.
-ghost use Rattle.std.specs.Prelude.{◌≡◌, ◌<◌, ◌≤◌, ◌++◌, length, IfOk, OnOk};
+ghost use Rattle.std.specs.Prelude.{◌≡◌, ◌<◌, ◌++◌, length, IfOk, OnOk};
 ghost use Rattle.roc_base.specs.declared.node.Node.TheVariants as node;
-ghost use Rattle.roc_plan.specs.Groups.{procedure_of};
+ghost use Rattle.roc_plan.specs.Within.{IsWithin};
 ghost use Rattle.roc_world.specs.declared.event.Event.TheVariants as event;
 ghost use Rattle.roc_world.specs.Fits.{FitsWorld};
 ghost use Rattle.roc_world.specs.Happens.{Comes, Happens, coord_seen, server_seen, answer_entries};
-ghost use Rattle.roc_world.specs.Parts.{world_of};
-ghost use Rattle.roc_world.specs.Reached.{IsEventOf, HaveReceivers};
+ghost use Rattle.roc_world.specs.Inner.Parts.{world_of};
+ghost use Rattle.roc_world.specs.Reached.{IsEventOf};
+ghost use Rattle.roc_world.specs.Inner.Receivers.{HaveReceivers};
 
 use crate::network::{add_sent, message, note_delivery};
 use crate::nodes::{handle_at_coord, handle_at_server, submit_at};
@@ -28,6 +29,7 @@ pub(crate) fn happen(
     parts: &mut Parts,
     event: &Event,
 ) -> Result<Seen, NoMemory>
+    requires within { IsWithin plan.now }
     requires fits { FitsWorld plan.now (world_of parts.old) }
     requires receivers { HaveReceivers (world_of parts.old) }
     requires event { IsEventOf plan.now (world_of parts.old) event.now }
@@ -50,6 +52,7 @@ fn submit(
     proc: u16,
     args: &Nums,
 ) -> Result<Seen, NoMemory>
+    requires within { IsWithin plan.now }
     requires fits { FitsWorld plan.now (world_of parts.old) }
     requires event { IsEventOf plan.now (world_of parts.old) (event.Submit coord proc args.now) }
     ensures step { IfOk result (λ seen. Happens plan.now (world_of parts.old) (event.Submit coord proc args.now) (record { seen = seen; world = world_of parts.new })) }
@@ -85,6 +88,7 @@ fn submit(
 
 // A message comes to its receiver.
 fn deliver(alloc: Global, plan: &Plan, parts: &mut Parts, number: u64) -> Result<Seen, NoMemory>
+    requires within { IsWithin plan.now }
     requires fits { FitsWorld plan.now (world_of parts.old) }
     requires receivers { HaveReceivers (world_of parts.old) }
     requires event { IsEventOf plan.now (world_of parts.old) (event.Deliver number) }
@@ -108,6 +112,7 @@ fn come_to_server(
     shard: Shard,
     msg: &Msg,
 ) -> Result<Seen, NoMemory>
+    requires within { IsWithin plan.now }
     requires fits { FitsWorld plan.now (world_of parts.old) }
     requires exists { shard.0 < length parts.old.servers.items }
     ensures step { IfOk result (λ seen. Comes plan.now (world_of parts.old) number msg.now (node.Server shard) (record { seen = seen; world = world_of parts.new })) }
@@ -137,6 +142,7 @@ fn come_to_coord(
     coord: u16,
     msg: &Msg,
 ) -> Result<Seen, NoMemory>
+    requires within { IsWithin plan.now }
     requires fits { FitsWorld plan.now (world_of parts.old) }
     requires exists { coord < length parts.old.coords.items }
     ensures step { IfOk result (λ seen. Comes plan.now (world_of parts.old) number msg.now (node.Coord coord) (record { seen = seen; world = world_of parts.new })) }

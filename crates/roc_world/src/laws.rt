@@ -2,18 +2,18 @@
 //!
 //! The laws speak of the definitions that the nodes' contracts cite. Each is the contract of a
 //! function that does nothing.
-ghost use Rattle.std.specs.Prelude.{◌≡◌, ℕ, ℤ, ◌-◌, ◌<◌, ◌≤◌, List, Some, slice_get, length};
-ghost use Rattle.roc_base.specs.declared.id.TxnId.{TxnId};
+ghost use Rattle.std.specs.Prelude.{◌≡◌, ℕ, ℤ, ◌-◌, ◌<◌, ◌≤◌, List, Some, slice_get, length, map};
 ghost use Rattle.roc_base.specs.declared.node.Shard.{Shard};
 ghost use Rattle.roc_base.specs.declared.node.Node.TheVariants as node;
 ghost use Rattle.roc_msg.specs.declared.msg.Sent.{Sent};
 ghost use Rattle.roc_msg.specs.declared.reason.Reason.{Reason};
 ghost use Rattle.roc_msg.specs.declared.reason.Reason.TheVariants as reason;
 ghost use Rattle.roc_plan.specs.Groups.{Plan};
-ghost use Rattle.roc_plan.specs.WellFormed.{IsThin};
-ghost use Rattle.roc_coord.specs.State.{State as CoordState};
+ghost use Rattle.roc_plan.specs.Within.{IsWithin};
+ghost use Rattle.roc_coord.specs.State.{CoordState};
 ghost use Rattle.roc_coord.specs.Submit.{most_transactions, most_pending};
 ghost use Rattle.roc_audit.specs.Witness.{IsSerialWitness};
+ghost use Rattle.roc_world.specs.declared.event.Event.{Event};
 ghost use Rattle.roc_world.specs.declared.event.Event.TheVariants as event;
 ghost use Rattle.roc_world.specs.declared.event.Seen.TheVariants as seen;
 ghost use Rattle.roc_world.specs.World.{World};
@@ -24,15 +24,15 @@ ghost use Rattle.roc_world.specs.Happens.{Outcome, Happens, Stepped, IsRun};
 /// the order's transactions run whole, one after another; and who was answered before another's
 /// submission stands before it.
 pub fn order_is_serial()
-    ensures { (plan : Plan) (coords : ℕ) (steps : List Stepped) (w : World) → IsThin plan → IsRun plan coords steps w → IsSerialWitness plan.program w.history w.order }
+    ensures { (plan : Plan) (coords : ℕ) (steps : List Stepped) (w : World) → IsWithin plan → IsRun plan coords steps w → IsSerialWitness plan.program w.history w.order }
 {}
 
 /// No message is refused: in every world a server takes each message that comes, and a coordinator
 /// ignores only one that was answered before or is of a transaction that has its reply.
 pub fn nothing_is_refused()
-    ensures servers { (plan : Plan) (coords : ℕ) (steps : List Stepped) (w : World) → IsThin plan → IsRun plan coords steps w
+    ensures servers { (plan : Plan) (coords : ℕ) (steps : List Stepped) (w : World) → IsWithin plan → IsRun plan coords steps w
         → (k : ℕ) (m : Sent) (shard : Shard) (o : Outcome) → slice_get w.sent (k - 1) ≡ Some m → m.to ≡ node.Server shard → Happens plan w (event.Deliver k) o → o.seen ≡ seen.Done }
-    ensures coordinators { (plan : Plan) (coords : ℕ) (steps : List Stepped) (w : World) → IsThin plan → IsRun plan coords steps w
+    ensures coordinators { (plan : Plan) (coords : ℕ) (steps : List Stepped) (w : World) → IsWithin plan → IsRun plan coords steps w
         → (k : ℕ) (o : Outcome) (why : Reason) → Happens plan w (event.Deliver k) o → o.seen ≡ seen.Ignored why → why ≡ reason.Stale }
 {}
 
@@ -48,4 +48,16 @@ pub fn submissions_are_taken()
     ensures taken { (plan : Plan) (w : World) (coord proc : ℕ) (args : List ℤ) (c : CoordState) (o : Outcome) → slice_get w.coords coord ≡ Some c
         → Happens plan w (event.Submit coord proc args) o
         → c.next < most_transactions → length c.pending < most_pending → o.seen ≡ seen.Submitted (record { coord = c.number; seq = c.next }) }
+{}
+
+/// What comes of an event in a world is one: what is seen, and the world after it.
+pub fn step_is_one()
+    ensures { (plan : Plan) (w : World) (e : Event) (o other : Outcome) → Happens plan w e o → Happens plan w e other → o ≡ other }
+{}
+
+/// Of a list of events there is one run: two runs with these events have the same steps, and lead
+/// to the same world.
+pub fn run_is_one()
+    ensures { (plan : Plan) (coords : ℕ) (steps others : List Stepped) (w v : World) → IsRun plan coords steps w → IsRun plan coords others v
+        → map (λ s. s.event) steps ≡ map (λ s. s.event) others → (steps ≡ others) × (w ≡ v) }
 {}

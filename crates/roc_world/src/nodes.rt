@@ -1,12 +1,13 @@
 //! The servers and the coordinators, of which one takes what comes.
-ghost use Rattle.std.specs.Prelude.{◌≡◌, ◌<◌, length, map, IfOk, OnOk};
+ghost use Rattle.std.specs.Prelude.{◌≡◌, ◌<◌, length, map, IfOk};
 ghost use Rattle.std.specs.List.{AllByRecursion, range_with_len};
+ghost use Rattle.roc_plan.specs.Within.{IsWithin};
 ghost use Rattle.roc_server.specs.First.{first_server};
-ghost use Rattle.roc_server.specs.Fits.{FitsPlan as ServerFits};
+ghost use Rattle.roc_server.specs.Fits.{ServerFits};
 ghost use Rattle.roc_coord.specs.State.{first_coord};
-ghost use Rattle.roc_coord.specs.Fits.{FitsPlan as CoordFits};
+ghost use Rattle.roc_coord.specs.Fits.{CoordFits};
 ghost use Rattle.roc_coord.specs.Submit.{UnlessStopped};
-ghost use Rattle.roc_world.specs.Nodes.{ServerTakes, CoordTakes, CoordSubmits};
+ghost use Rattle.roc_world.specs.Inner.Nodes.{ServerTakes, CoordTakes, CoordSubmits};
 
 use roc_base::{NoMemory, Shard, TxnId};
 use roc_coord::{Coord, Handled as CoordHandled, SubmitFault};
@@ -46,6 +47,7 @@ pub(crate) fn handle_at_server(
     msg: &Msg,
     out: &mut Outbox,
 ) -> Result<ServerHandled, NodeFault>
+    requires within { IsWithin plan.now }
     requires exists { shard.0 < length servers.old.items }
     requires fits { AllByRecursion (ServerFits plan.now) servers.old.items }
     ensures step { IfOk result (λ answer. ServerTakes plan.now shard.0 msg.now answer servers.old.items servers.new.items out.old out.new) }
@@ -63,6 +65,7 @@ pub(crate) fn handle_at_coord(
     msg: &Msg,
     out: &mut Outbox,
 ) -> Result<CoordHandled, NodeFault>
+    requires within { IsWithin plan.now }
     requires exists { number < length coords.old.items }
     requires fits { AllByRecursion (CoordFits plan.now) coords.old.items }
     ensures step { IfOk result (λ answer. CoordTakes plan.now number msg.now answer coords.old.items coords.new.items out.old out.new) }
@@ -81,6 +84,7 @@ pub(crate) fn submit_at(
     args: &[i64],
     out: &mut Outbox,
 ) -> Result<TxnId, SubmitFault>
+    requires within { IsWithin plan.now }
     requires exists { number < length coords.old.items }
     requires fits { AllByRecursion (CoordFits plan.now) coords.old.items }
     ensures step { UnlessStopped result (CoordSubmits plan.now number proc args.now result coords.old.items coords.new.items out.old out.new) }

@@ -1,5 +1,6 @@
 //! The world.
 ghost use Rattle.std.specs.Prelude.{◌≡◌, ◌≤◌, [], length, IfOk, OnOk};
+ghost use Rattle.roc_plan.specs.Within.{IsWithin};
 ghost use Rattle.roc_world.specs.Fits.{FitsWorld};
 ghost use Rattle.roc_world.specs.Happens.{Happens};
 ghost use Rattle.roc_world.specs.Reached.{IsReached, IsEventOf};
@@ -30,14 +31,14 @@ pub struct World {
 
 impl Model for World {
     ghost use Rattle.std.specs.Coded.{codes};
-    ghost use Rattle.roc_server.specs.Codes.{coded_state};
+    ghost use Rattle.roc_server.specs.Inner.Codes.{coded_state};
     ghost use Rattle.roc_world.specs.World.{World};
 
     ghost Value = { World };
 
     ghost coded = { Prim.hlevel (codes, coded_state) };
 
-    ghost use Rattle.roc_world.specs.Parts.{world_of};
+    ghost use Rattle.roc_world.specs.Inner.Parts.{world_of};
 
     ghost view = { λ w. world_of w.parts };
 }
@@ -51,7 +52,7 @@ impl World {
         ensures reached { IfOk result (IsReached plan.now) }
         ensures fits { IfOk result (FitsWorld plan.now) }
     {
-        let servers = first_servers(alloc, plan, plan.workload().shards)?;
+        let servers = first_servers(alloc, plan, plan.workload().shards())?;
         let coords = first_coords(alloc, coords)?;
         Ok(World {
             alloc,
@@ -69,6 +70,7 @@ impl World {
     /// leaves a world that is to be thrown away: nothing is promised of it but that it has no
     /// servers, so that it is of no run, and each later call answers `Stopped`.
     pub fn step(&mut self, plan: &Plan, event: &Event) -> Result<Seen, NodeFault>
+        requires within { IsWithin plan.now }
         requires reached { IsReached plan.now self.old }
         requires fits { FitsWorld plan.now self.old }
         requires event { IsEventOf plan.now self.old event.now }
@@ -86,8 +88,6 @@ impl World {
         if self.parts.servers.is_empty() {
             return Err(NodeFault::Stopped);
         }
-        // A plan is thin, so that each message's receiver exists.
-        let _ = plan.workload();
         match happen(self.alloc, plan, &mut self.parts, event) {
             Ok(seen) => Ok(seen),
             Err(NoMemory) => {

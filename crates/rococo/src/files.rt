@@ -1,6 +1,6 @@
 //! The files of the machine.
 ghost use Rattle.std.specs.Prelude.{◌≡◌, [], None};
-ghost use Rattle.rococo.specs.Within.{OkWithin};
+ghost use Rattle.rococo.specs.Inner.Within.{OkWithin};
 
 use roc_io::{Files, Read};
 use std::io;
@@ -23,6 +23,8 @@ impl<'a, R> RealFiles<'a, R> {
 
 impl<R: FileSystem> Files for RealFiles<'_, R> {
     ghost faults = { λ f. f.faults };
+
+    ghost failed_names = { λ f. None };
 
     ghost content = { λ f name. None };
 

@@ -2,10 +2,14 @@
 ghost use Rattle.std.specs.Prelude.{◌≡◌, ℕ, ◌<◌, ◌≤◌, List, [], Some, true, false, length, IfSome, unwrap_or, option_map, is_none};
 ghost use Rattle.roc_io.specs.Calls.{calls_failing, next_fails, called};
 ghost use Rattle.roc_io.specs.Cause.{HasCause};
+ghost use Rattle.roc_io.specs.Told.{AddsIf};
 ghost use Rattle.roc_io.specs.Files.{read_failed, Reads, Fills, held};
 
 use super::{Files, Read};
 use crate::calls::Calls;
+use crate::files::name::FileName;
+use crate::kept::Kept;
+use std::alloc::Global;
 use std::marker::Model;
 
 /// A file in memory: a name and the bytes that it holds.
@@ -79,10 +83,13 @@ fn copy_within(bytes: &[u8], into: &mut Vec<u8>, limit: usize) -> Read
 
 /// Files in memory that fail at the reads that they were told to fail at.
 ///
-/// A read of a name that is not there fails too, and is counted.
+/// A read of a name that is not there fails too, and is counted. Once there is no memory for a name whose read
+/// failed, they tell no such names any more; what they answer does not change by that.
 #[derive(Debug, Drop)]
 pub struct MemFiles {
+    alloc: Global,
     files: Vec<StoredFile>,
+    failed: Kept<FileName>,
     calls: Calls,
 }
 
@@ -91,33 +98,45 @@ impl Model for MemFiles {
 
     ghost Value = { FilesState };
 
-    ghost view = { λ f. record { files = f.files.items; calls = f.calls } };
+    ghost view = { λ f. record { files = f.files.items; failed = f.failed; calls = f.calls } };
 }
 
 impl MemFiles {
     /// These files; of two with one name the first counts. The reads with the numbers in `failing` are to
     /// fail; the first read is number 1.
-    pub fn new(files: Vec<StoredFile>, failing: Vec<u64>) -> Self
-        ensures { result ≡ record { files = files.items; calls = calls_failing failing.items } }
+    pub fn new(alloc: Global, files: Vec<StoredFile>, failing: Vec<u64>) -> Self
+        ensures { result ≡ record { files = files.items; failed = Some []; calls = calls_failing failing.items } }
     {
         MemFiles {
+            alloc,
             files,
+            failed: Kept::new(alloc),
             calls: Calls::new(failing),
         }
+    }
+
+    /// The names whose reads failed, one for each failure, where they are told.
+    pub fn failed_names(&self) -> Option<&[FileName]>
+        ensures { option_map (λ names. names.now) result ≡ self.now.failed }
+    {
+        self.failed.items()
     }
 }
 
 impl Files for MemFiles {
     ghost faults = { λ f. f.calls.faults };
 
+    ghost failed_names = { λ f. f.failed };
+
     ghost content = { λ f name. held f.files name };
 
     fn read(&mut self, name: &str, into: &mut Vec<u8>, limit: usize) -> Read
         ensures cause { HasCause (read_failed result) self.old.calls.faults self.new.calls.faults }
+        ensures failed { AddsIf (read_failed result) self.old.failed self.new.failed name.now }
         ensures fills { Fills result limit into.new.items }
         ensures told { IfSome (held self.old.files name.now) (λ bytes. Reads result bytes limit into.new.items) }
         ensures files { self.new.files ≡ self.old.files }
-        ensures failed { let missing = is_none (held self.old.files name.now) in read_failed result ≡ next_fails missing self.old.calls }
+        ensures due { let missing = is_none (held self.old.files name.now) in read_failed result ≡ next_fails missing self.old.calls }
         ensures calls { let missing = is_none (held self.old.files name.now) in self.new.calls ≡ called missing self.old.calls }
     {
         into.clear();
@@ -125,7 +144,10 @@ impl Files for MemFiles {
         let fails = self.calls.next_fails(found.is_none());
         match found {
             Some(bytes) if !fails => copy_within(bytes, into, limit),
-            _ => Read::Failed,
+            _ => {
+                self.failed.push_made(FileName::copied(self.alloc, name));
+                Read::Failed
+            }
         }
     }
 
@@ -160,6 +182,8 @@ impl CalmFiles {
 
 impl Files for CalmFiles {
     ghost faults = { λ _. 0 };
+
+    ghost failed_names = { λ _. Some [] };
 
     ghost content = { λ f name. Some (unwrap_or (held f name) []) };
 

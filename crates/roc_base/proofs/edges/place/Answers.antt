@@ -1,8 +1,9 @@
 use Rattle.std.proofs.Common.{◌≡◌, ◌∙◌, sym, ap, rules}
 use Rattle.std.proofs.lemmas.List.Sorted.{IsPartitionPoint-from_clause}
-use Rattle.roc_base.specs.TxnId.{is_txn, txn_lt, is_txn-true}
-use Rattle.roc_base.specs.Edges.{place_of}
-use Rattle.roc_base.proofs.Place.{place_of-partition, IsPartitionedBy-rising, IsAt-place, IsGapFor-other, IsGapFor-end}
+use Rattle.roc_base.specs.TxnId.{is_txn, txn_lt}
+use Rattle.roc_base.specs.Inner.Equalities.{is_txn-true}
+use Rattle.roc_base.specs.Inner.Place.{entry_place}
+use Rattle.roc_base.proofs.Place.{entry_place-partition, IsPartitionedBy-rising, IsAt-place, IsGapFor-other, IsGapFor-end}
 use Rattle.roc_base.proofs.edges.place.Goals as goal
 use Rattle.roc_base.proofs.edges.place.Goals.{else-at-edges-via-then-at-edges+else-eq, else-at-edges-via-else-at-edges}
 
@@ -10,8 +11,8 @@ pub returns-then-eq-clause-found : goal.returns-then-eq-clause-found
 returns-then-eq-clause-found c =
     let id = c.args.id in
     let edges = c.args.edges.now in
-    let at : c.partition_point-at.result ≡ place_of id edges =
-    place_of-partition id edges _ c.partition_point-at.ensures.bound
+    let at : c.partition_point-at.result ≡ entry_place id edges =
+    entry_place-partition id edges _ c.partition_point-at.ensures.bound
     (IsPartitionPoint-from_clause (λ e. txn_lt e.from id) edges _ c.partition_point-at.ensures.partitioned
     (IsPartitionedBy-rising id edges c.requires) (λ a r f h. search rules)) in
     let same = is_txn-true c.from.result id (sym c.eq.ensures ∙ c.if-eq.true) in
@@ -21,8 +22,8 @@ pub returns-else-at-edges-clause-absent : goal.returns-else-at-edges-clause-abse
 returns-else-at-edges-clause-absent c =
     let id = c.args.id in
     let edges = c.args.edges.now in
-    let at : c.partition_point-at.result ≡ place_of id edges =
-    place_of-partition id edges _ c.partition_point-at.ensures.bound
+    let at : c.partition_point-at.result ≡ entry_place id edges =
+    entry_place-partition id edges _ c.partition_point-at.ensures.bound
     (IsPartitionPoint-from_clause (λ e. txn_lt e.from id) edges _ c.partition_point-at.ensures.partitioned
     (IsPartitionedBy-rising id edges c.requires) (λ a r f h. search rules)) in
     elim c.else-at-edges.branch [

@@ -1,10 +1,9 @@
 use Rattle.std.proofs.Common.{◌≡◌, ◌++◌, drop}
-use Rattle.roc_plan.specs.Workload.{program}
 use Rattle.roc_report.specs.Check.{conflict_lines}
 use Rattle.roc_report.specs.Text.{lines_text}
 use Rattle.roc_check.proofs.text.push_conflicts.Given as goal
 
 abbrev pub invariant-loop-at : goal.invariant-loop-at
 invariant-loop-at l =
-    l.text.items ++ lines_text (program l.workload) (conflict_lines (program l.workload) (drop l.at l.pieces))
-    ≡ l.fn.text.items ++ lines_text (program l.workload) (conflict_lines (program l.workload) l.pieces)
+    l.text.items ++ lines_text l.workload (conflict_lines l.workload (drop l.at l.pieces))
+    ≡ l.fn.text.items ++ lines_text l.workload (conflict_lines l.workload l.pieces)

@@ -1,5 +1,5 @@
 use Rattle.std.proofs.Common.{take}
-use Rattle.roc_component.specs.Ancestry.{AreAncestries}
+use Rattle.roc_component.specs.Inner.Ancestry.{AreAncestries}
 use Rattle.roc_component.proofs.ancestry.ancestries.Given as goal
 
 abbrev pub invariant-loop-id : goal.invariant-loop-id

@@ -1,7 +1,7 @@
 use Rattle.std.proofs.Common.{◌∙◌, ap, subst, sym}
 use Rattle.roc_depgraph.specs.Deps.{Precedes, PrecedesNow}
 use Rattle.roc_component.specs.Components.{IsTakingOrder}
-use Rattle.roc_component.specs.Member.{next_of}
+use Rattle.roc_component.specs.Inner.Member.{next_of}
 use Rattle.roc_component.proofs.Front.{lists_decided, members_are, front_next, front_done}
 use Rattle.roc_component.proofs.component_order.order.Goals as goal
 

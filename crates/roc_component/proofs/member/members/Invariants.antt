@@ -1,5 +1,5 @@
 use Rattle.std.proofs.Common.{◌≡◌, map, take}
-use Rattle.roc_component.specs.Member.{member_of}
+use Rattle.roc_component.specs.Inner.Member.{member_of}
 use Rattle.roc_component.proofs.member.members.Given as goal
 
 abbrev pub invariant-loop-row : goal.invariant-loop-row

@@ -1,5 +1,5 @@
-use Rattle.roc_plan.specs.Conflict.{are_in_conflict}
-use Rattle.roc_plan.specs.Pieces.{all_pieces}
+use Rattle.roc_program.specs.Conflict.{are_in_conflict}
+use Rattle.roc_program.specs.Pieces.{all_pieces}
 use Rattle.roc_conflict.proofs.Members.{found_by_any}
 use Rattle.roc_conflict.proofs.Present.{some_conflict}
 use Rattle.roc_conflict.proofs.laws.conflicts_are_with_pieces.Goals as goal

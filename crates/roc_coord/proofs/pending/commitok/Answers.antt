@@ -1,13 +1,16 @@
 use Rattle.std.proofs.Common.{Bool, List, set, sym, ap, subst, ◌∙◌}
 use Rattle.std.specs.List.{position, remove, AllByRecursion}
-use Rattle.roc_base.specs.TxnId.{is_txn}
+use Rattle.roc_base.specs.TxnId.{is_txn, txn_lt}
 use Rattle.roc_coord.specs.declared.handled.Handled.TheVariants.{Done, Answered}
 use Rattle.roc_coord.specs.declared.transaction.Transaction.{Transaction}
-use Rattle.roc_coord.specs.Ids.{ids_of, AreRising}
+use Rattle.roc_coord.specs.Ids.{ids_of}
+use Rattle.roc_sequence.specs.Rising.{IsRising}
 use Rattle.roc_coord.specs.Fits.{IsTransactionOf}
 use Rattle.roc_coord.specs.State.{find_transaction}
 use Rattle.roc_coord.specs.Step.{IsOutcome, after_commitok, commitok_refusal}
-use Rattle.roc_coord.proofs.Among.{same_element, ids_of-set, ids_of-remove, place_found, AreRising-remove, AllByRecursion-set, AllByRecursion-remove}
+use Rattle.roc_coord.proofs.Among.{ids_of-set, ids_of-remove, place_found}
+use Rattle.roc_sequence.proofs.Rising.{rising_remove}
+use Rattle.roc_sequence.proofs.Holds.{same_element, all_set, all_remove}
 use Rattle.roc_coord.proofs.Outcomes.{commitok_absent, commitok_refused, commitok_done, commitok_answered}
 use Rattle.roc_coord.proofs.pending.commitok.Goals as goal
 
@@ -37,7 +40,7 @@ returns-in-None-clause-step c =
     let none = ap (λ x. commitok_refusal c.args.plan.now x c.args.ok) one ∙ sym c.in_ok-reason.ensures ∙ c.in_default-2.is in
     λ s out same.
     subst (λ y. IsOutcome (after_commitok c.args.plan.now s (find_transaction c.args.id xs) c.args.ok) Done (record s { pending = set xs c.in-Some.at y }) out out) (sym c.in_ok-take_commitok.ensures.kept)
-    (commitok_done c.args.plan.now xs s same c.args.id c.in-Some.at place c.index_mut.result.now c.index_mut.ensures.value c.args.ok out (subst AreRising c.requires.ids c.requires.rising) none (sym c.in_ok-take_commitok.ensures.reply ∙ c.in-None.is))
+    (commitok_done c.args.plan.now xs s same c.args.id c.in-Some.at place c.index_mut.result.now c.index_mut.ensures.value c.args.ok out (subst (IsRising txn_lt) c.requires.ids c.requires.rising) none (sym c.in_ok-take_commitok.ensures.reply ∙ c.in-None.is))
 
 pub returns-in-None-clause-ids : goal.returns-in-None-clause-ids
 returns-in-None-clause-ids c =
@@ -55,7 +58,7 @@ returns-in-Some-3-clause-step c =
     λ s out same.
     subst (λ rest. IsOutcome (after_commitok c.args.plan.now s (find_transaction c.args.id xs) c.args.ok) (Answered c.args.id c.in-Some-3.reply) (record s { pending = rest }) out out)
     (ap without (sym c.in_ok-take_commitok.ensures.kept) ∙ sym c.remove.ensures.items)
-    (commitok_answered c.args.plan.now xs s same c.args.id at place c.index_mut.result.now c.index_mut.ensures.value c.args.ok out c.in-Some-3.reply (subst AreRising c.requires.ids c.requires.rising) none
+    (commitok_answered c.args.plan.now xs s same c.args.id at place c.index_mut.result.now c.index_mut.ensures.value c.args.ok out c.in-Some-3.reply (subst (IsRising txn_lt) c.requires.ids c.requires.rising) none
     (sym c.in_ok-take_commitok.ensures.reply ∙ c.in-Some-3.is))
 
 pub returns-in-Some-3-clause-ids : goal.returns-in-Some-3-clause-ids
@@ -67,11 +70,11 @@ returns-in-Some-3-clause-ids c =
     c.remove-in-Some-3.ensures.items ∙ sym rest
 
 pub returns-in-Some-3-clause-rising : goal.returns-in-Some-3-clause-rising
-returns-in-Some-3-clause-rising c = subst AreRising (sym c.remove-in-Some-3.ensures.items) (AreRising-remove c.args.ids.now.items c.in-Some.at c.requires.rising)
+returns-in-Some-3-clause-rising c = subst (IsRising txn_lt) (sym c.remove-in-Some-3.ensures.items) (rising_remove txn_lt c.args.ids.now.items c.in-Some.at c.requires.rising)
 
 pub returns-in-Some-3-clause-fits : goal.returns-in-Some-3-clause-fits
 returns-in-Some-3-clause-fits c =
     let is_of : Transaction → Type 0 = λ x. IsTransactionOf c.args.plan.now x in
     let are_of : List Transaction → Type 0 = λ xs. AllByRecursion is_of xs in
     let changed = set c.args.transactions.now.items c.in-Some.at c.take_commitok.new.x in
-    subst are_of (sym c.remove.ensures.items) (AllByRecursion-remove is_of changed c.in-Some.at (AllByRecursion-set is_of c.args.transactions.now.items c.in-Some.at c.take_commitok.new.x c.requires.fits c.take_commitok.ensures.fits))
+    subst are_of (sym c.remove.ensures.items) (all_remove is_of changed c.in-Some.at (all_set is_of c.args.transactions.now.items c.in-Some.at c.take_commitok.new.x c.requires.fits c.take_commitok.ensures.fits))

@@ -3,7 +3,8 @@ use Rattle.std.specs.List.{position}
 use Rattle.roc_base.specs.TxnId.{is_txn}
 use Rattle.roc_coord.specs.declared.transaction.Transaction.{Transaction}
 use Rattle.roc_coord.specs.Step.{startok_refusal}
-use Rattle.roc_coord.proofs.Among.{same_element, ids_of-set, place_found}
+use Rattle.roc_coord.proofs.Among.{ids_of-set, place_found}
+use Rattle.roc_sequence.proofs.Holds.{same_element}
 use Rattle.roc_coord.proofs.Outcomes.{startok_absent, startok_refused, startok_done}
 use Rattle.roc_coord.proofs.pending.startok.Goals as goal
 

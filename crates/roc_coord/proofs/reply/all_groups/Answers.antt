@@ -1,6 +1,6 @@
 use Rattle.std.proofs.Common.{arith}
 use Rattle.std.proofs.lemmas.Grind.{common_steps}
-use Rattle.roc_coord.proofs.Ranges.{range_more}
+use Rattle.roc_sequence.proofs.Ranges.{range_more}
 use Rattle.roc_coord.proofs.reply.all_groups.Goals as goal
 
 pub loop-group-preserved : goal.loop-group-preserved

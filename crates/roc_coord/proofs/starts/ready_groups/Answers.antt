@@ -1,7 +1,7 @@
 use Rattle.std.proofs.Common.{arith}
 use Rattle.std.proofs.lemmas.Grind.{common_steps}
 use Rattle.roc_coord.specs.Starts.{can_start}
-use Rattle.roc_coord.proofs.Ranges.{filter_range_more}
+use Rattle.roc_sequence.proofs.Ranges.{filter_range_more}
 use Rattle.roc_coord.proofs.starts.ready_groups.Goals as goal
 
 pub loop-group-preserved : goal.loop-group-preserved

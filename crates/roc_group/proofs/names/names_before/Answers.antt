@@ -4,6 +4,6 @@ use Rattle.roc_group.proofs.names.names_before.Goals as goal
 
 pub returns : goal.returns
 returns c =
-    names_read c.workload.result.now c.args.plan.now c.args.proc c.args.group c.index-procedure.result.now c.workload.ensures.program c.workload.ensures.thin c.requires.exists c.index-procedure.ensures
+    names_read c.workload.result.now c.procedures.result.now c.args.plan.now c.args.proc c.args.group c.index-procedures-proc.result c.workload.ensures c.procedures.ensures.value c.requires.within c.requires.exists c.index-procedures-proc.is
     c.args.known.now.args c.args.known.now.inputs c.in_ok-names.names.items c.resize.new.self.items c.in_ok-names.names.len c.requires.args
     (c.in_ok-names.ensures.items ∙ c.as_slice.ensures) (c.in_ok-names.ensures.len ∙ ap length c.as_slice.ensures) c.in_ok-resize.ensures.items

@@ -1,6 +1,6 @@
 use Rattle.std.proofs.Common.{◌≡◌, map, take}
 use Rattle.std.specs.List.{flat_map}
-use Rattle.roc_plan.specs.Workload as pure
+use Rattle.roc_program.specs.Parts as pure
 use Rattle.roc_group.specs.Accesses.{uses_of}
 use Rattle.roc_group.proofs.uses.uses_of_piece.Given as goal
 

@@ -2,11 +2,12 @@ use Rattle.std.proofs.Common.{◌≡◌, ◌++◌, ◌∷◌, [], ◌-◌, map, 
 use Rattle.std.proofs.lemmas.Result.{err_from_is_err_and}
 use Rattle.std.proofs.lemmas.List.{map_push}
 use lib.Chars.{codes}
+use Rattle.roc_lang.specs.Grammar.{standard}
 use Rattle.roc_lang.specs.Tree.{init_tree}
-use Rattle.roc_parse.specs.Stuck.{begins}
-use Rattle.roc_parse.specs.Views.{views}
-use Rattle.roc_parse.specs.Parts.{is_word}
-use Rattle.roc_parse.specs.Reading.{init_at}
+use Rattle.roc_parse.specs.Inner.Stuck.{head_is}
+use Rattle.roc_parse.specs.Inner.Views.{token_views}
+use Rattle.roc_parse.specs.Inner.Parts.{has_word}
+use Rattle.roc_parse.specs.Inner.Reading.{init_at}
 use Rattle.roc_parse.proofs.Turns.{many_starts, many_stops, many_is_full, many_refuses, many_goes_on}
 use Rattle.roc_parse.proofs.declaration.inits_of.Goals as goal
 
@@ -15,28 +16,28 @@ loop-init c = rw c.new-inits.ensures.items (many_starts _)
 
 pub returns-then-not-begins_word : goal.returns-then-not-begins_word
 returns-then-not-begins_word c =
-    let e : begins (is_word (codes "init")) (views c.loop.rest.now) ≡ false = cc c.if-not-begins_word.ensures in
-    many_stops (is_word (codes "init")) init_at (4096 - c.loop.counter) (map init_tree c.loop.inits.items) (views c.loop.rest.now) _ e c.loop.invariant
+    let e : head_is (has_word (codes "init")) (token_views c.loop.rest.now) ≡ false = cc c.if-not-begins_word.ensures in
+    many_stops (has_word (codes "init")) (init_at standard) (standard.inits - c.loop.counter) (map init_tree c.loop.inits.items) (token_views c.loop.rest.now) _ e c.loop.invariant
 
 pub returns-in_err-init : goal.returns-in_err-init
 returns-in_err-init c =
     let p = err_from_is_err_and c.from_residual.result c.from_residual.ensures.1 in
-    let e : begins (is_word (codes "init")) (views c.loop.rest.now) ≡ true = cc c.if-not-begins_word.ensures in
-    rw (p.1, p.2) (many_refuses (is_word (codes "init")) init_at 4096 c.loop.counter (map init_tree c.loop.inits.items) (views c.loop.rest.now) _ c.in_err-init.field-0.0 c.loop-test.true e c.in_err-init.ensures c.loop.invariant)
+    let e : head_is (has_word (codes "init")) (token_views c.loop.rest.now) ≡ true = cc c.if-not-begins_word.ensures in
+    rw (p.1, p.2) (many_refuses (has_word (codes "init")) (init_at standard) standard.inits c.loop.counter (map init_tree c.loop.inits.items) (token_views c.loop.rest.now) _ c.in_err-init.field-0.0 c.loop-test.true e c.in_err-init.ensures c.loop.invariant)
 
 pub loop-preserved : goal.loop-preserved
 loop-preserved c =
-    let e : begins (is_word (codes "init")) (views c.loop.rest.now) ≡ true = cc c.if-not-begins_word.ensures in
+    let e : head_is (has_word (codes "init")) (token_views c.loop.rest.now) ≡ true = cc c.if-not-begins_word.ensures in
     let x = c.in_ok-init.init in
     let grown : map init_tree c.push.new.self.items ≡ map init_tree c.loop.inits.items ++ init_tree x ∷ [] = rw c.in_ok-push.ensures.items (map_push _ c.loop.inits.items x) in
-    rw grown (many_goes_on (is_word (codes "init")) init_at 4096 c.loop.counter (map init_tree c.loop.inits.items) (views c.loop.rest.now) (views c.in_ok-init.after.now) (init_tree x) _ c.loop-test.true e c.in_ok-init.ensures c.loop.invariant)
+    rw grown (many_goes_on (has_word (codes "init")) (init_at standard) standard.inits c.loop.counter (map init_tree c.loop.inits.items) (token_views c.loop.rest.now) (token_views c.in_ok-init.after.now) (init_tree x) _ c.loop-test.true e c.in_ok-init.ensures c.loop.invariant)
 
 pub returns-then-begins_word : goal.returns-then-begins_word
 returns-then-begins_word c =
-    let e : begins (is_word (codes "init")) (views c.loop.rest.now) ≡ true = cc c.if-begins_word.ensures in
-    rw c.limit_fault.ensures (many_is_full (is_word (codes "init")) init_at 4096 c.loop.counter (map init_tree c.loop.inits.items) (views c.loop.rest.now) _ c.loop-test.false e c.loop.invariant)
+    let e : head_is (has_word (codes "init")) (token_views c.loop.rest.now) ≡ true = cc c.if-begins_word.ensures in
+    rw c.limit_fault.ensures (many_is_full (has_word (codes "init")) (init_at standard) standard.inits c.loop.counter (map init_tree c.loop.inits.items) (token_views c.loop.rest.now) _ c.loop-test.false e c.loop.invariant)
 
 pub returns : goal.returns
 returns c =
-    let e : begins (is_word (codes "init")) (views c.loop.rest.now) ≡ false = cc c.if-begins_word.ensures in
-    many_stops (is_word (codes "init")) init_at (4096 - c.loop.counter) (map init_tree c.loop.inits.items) (views c.loop.rest.now) _ e c.loop.invariant
+    let e : head_is (has_word (codes "init")) (token_views c.loop.rest.now) ≡ false = cc c.if-begins_word.ensures in
+    many_stops (has_word (codes "init")) (init_at standard) (standard.inits - c.loop.counter) (map init_tree c.loop.inits.items) (token_views c.loop.rest.now) _ e c.loop.invariant

@@ -2,10 +2,10 @@ use Rattle.std.proofs.Common.{◌≡◌, ◌-◌, map}
 use lib.Chars.{codes}
 use Rattle.roc_lang.specs.Grammar.{standard}
 use Rattle.roc_lang.specs.Tree.{table_tree}
-use Rattle.roc_parse.specs.Views.{views}
-use Rattle.roc_parse.specs.Parts.{is_word, with_front, many_at}
-use Rattle.roc_parse.specs.Reading.{table_at, tables_at}
+use Rattle.roc_parse.specs.Inner.Views.{token_views}
+use Rattle.roc_parse.specs.Inner.Parts.{has_word, with_front, many_at}
+use Rattle.roc_parse.specs.Inner.Reading.{table_at, tables_at}
 use Rattle.roc_parse.proofs.declaration.tables_of.Given as goal
 
 abbrev pub invariant-loop : goal.invariant-loop
-invariant-loop l = with_front (map table_tree l.tables.items) (many_at (is_word (codes "table")) (table_at standard) (64 - l.counter) (views l.rest)) ≡ tables_at standard (views l.tokens)
+invariant-loop l = with_front (map table_tree l.tables.items) (many_at (has_word (codes "table")) (table_at standard) (standard.tables - l.counter) (token_views l.rest)) ≡ tables_at standard (token_views l.tokens)

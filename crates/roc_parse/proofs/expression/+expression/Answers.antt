@@ -2,88 +2,88 @@ use Rattle.std.proofs.Common.{◌≡◌, ℕ, ◌-◌, Bool, true, false, List, 
 use Rattle.std.proofs.lemmas.Result.{err_from_is_err_and}
 use Rattle.roc_lang.specs.Tokens.{Token}
 use Rattle.roc_lang.specs.Grammar.{star}
-use Rattle.roc_parse.specs.Stuck.{Reading, begins}
-use Rattle.roc_parse.specs.Views.{views, deep_view}
-use Rattle.roc_parse.specs.Parts.{is_mark}
-use Rattle.roc_parse.specs.Reading.{Deep, is_sign, atom_at, factor_at, times, term_at, signed_term_at, plus_or_minus}
+use Rattle.roc_parse.specs.Inner.Stuck.{Reading, head_is}
+use Rattle.roc_parse.specs.Inner.Views.{token_views, deep_view}
+use Rattle.roc_parse.specs.Inner.Parts.{has_mark}
+use Rattle.roc_parse.specs.Inner.Reading.{Deep, is_sign, atom_at, factor_at, times, term_at, signed_term_at, plus_or_minus}
 use Rattle.roc_parse.proofs.Turns.{deep_is_sum, loop_stops, loop_past, loop_is_full, loop_refuses, loop_goes_on}
 use Rattle.roc_parse.proofs.expression.+expression.Goals as goal
 
 pub deep_of-returns-clause-read : goal.deep_of-returns-clause-read
-deep_of-returns-clause-read t c = rw (deep_is_sum c.args.room (views c.args.tokens.now) c.requires.above) c.sum_of.ensures.read
+deep_of-returns-clause-read t c = rw (deep_is_sum c.args.room (token_views c.args.tokens.now) c.requires.above) c.sum_of.ensures.read
 
 abbrev factors_of_item : ℕ → List Token → Reading Deep
 factors_of_item room = factor_at (atom_at (room - 1))
 
 pub factors_of-returns-then-not-begins_mark-clause-read : goal.factors_of-returns-then-not-begins_mark-clause-read
 factors_of-returns-then-not-begins_mark-clause-read t c =
-    let e : begins (is_mark star) (views c.loop.rest.now) ≡ false = cc c.if-not-begins_mark.ensures in
-    loop_stops (is_mark star) (factors_of_item c.args.room) times c.args.room (c.args.room - c.loop.counter) (deep_view c.loop.product) (views c.loop.rest.now) _ e c.loop.invariant.0
+    let e : head_is (has_mark star) (token_views c.loop.rest.now) ≡ false = cc c.if-not-begins_mark.ensures in
+    loop_stops (has_mark star) (factors_of_item c.args.room) times c.args.room (c.args.room - c.loop.counter) (deep_view c.loop.product) (token_views c.loop.rest.now) _ e c.loop.invariant.0
 
 pub factors_of-returns-then-product-room-clause-read : goal.factors_of-returns-then-product-room-clause-read
 factors_of-returns-then-product-room-clause-read t c =
-    let e : begins (is_mark star) (views c.loop.rest.now) ≡ true = cc c.if-not-begins_mark.ensures in
-    rw c.limit_fault.ensures (loop_past (is_mark star) (factors_of_item c.args.room) times c.args.room (c.args.room - c.loop.counter) (deep_view c.loop.product) (views c.loop.rest.now) _ e c.if-product-room.true c.loop.invariant.0)
+    let e : head_is (has_mark star) (token_views c.loop.rest.now) ≡ true = cc c.if-not-begins_mark.ensures in
+    rw c.limit_fault.ensures (loop_past (has_mark star) (factors_of_item c.args.room) times c.args.room (c.args.room - c.loop.counter) (deep_view c.loop.product) (token_views c.loop.rest.now) _ e c.if-product-room.true c.loop.invariant.0)
 
 pub factors_of-returns-in_err-factor-clause-read : goal.factors_of-returns-in_err-factor-clause-read
 factors_of-returns-in_err-factor-clause-read t c =
     let p = err_from_is_err_and c.from_residual.result c.from_residual.ensures.1 in
-    let e : begins (is_mark star) (views c.loop.rest.now) ≡ true = cc c.if-not-begins_mark.ensures in
-    rw (p.1, p.2) (loop_refuses (is_mark star) (factors_of_item c.args.room) times c.args.room c.args.room c.loop.counter (deep_view c.loop.product) (views c.loop.rest.now) _ c.in_err-factor.field-0.0 c.loop-test.true e c.if-product-room.false c.in_err-factor.ensures.read c.loop.invariant.0)
+    let e : head_is (has_mark star) (token_views c.loop.rest.now) ≡ true = cc c.if-not-begins_mark.ensures in
+    rw (p.1, p.2) (loop_refuses (has_mark star) (factors_of_item c.args.room) times c.args.room c.args.room c.loop.counter (deep_view c.loop.product) (token_views c.loop.rest.now) _ c.in_err-factor.field-0.0 c.loop-test.true e c.if-product-room.false c.in_err-factor.ensures.read c.loop.invariant.0)
 
 pub factors_of-loop-preserved : goal.factors_of-loop-preserved
 factors_of-loop-preserved t c =
-    let e : begins (is_mark star) (views c.loop.rest.now) ≡ true = cc c.if-not-begins_mark.ensures in
+    let e : head_is (has_mark star) (token_views c.loop.rest.now) ≡ true = cc c.if-not-begins_mark.ensures in
     let d = ap (λ z. z.1) c.in_ok-product.ensures in
     let l = c.if-product-room.false in
     let f = c.in_ok-factor.ensures.fits in
-    let on = loop_goes_on (is_mark star) (factors_of_item c.args.room) times c.args.room c.args.room c.loop.counter (deep_view c.loop.product) (views c.loop.rest.now) (views c.in_ok-factor.after.now) (deep_view c.in_ok-factor.factor) _ c.loop-test.true e l c.in_ok-factor.ensures.read c.loop.invariant.0 in
+    let on = loop_goes_on (has_mark star) (factors_of_item c.args.room) times c.args.room c.args.room c.loop.counter (deep_view c.loop.product) (token_views c.loop.rest.now) (token_views c.in_ok-factor.after.now) (deep_view c.in_ok-factor.factor) _ c.loop-test.true e l c.in_ok-factor.ensures.read c.loop.invariant.0 in
     (rw c.in_ok-product.ensures on, omega arith, omega arith)
 
 pub factors_of-returns-then-begins_mark-clause-read : goal.factors_of-returns-then-begins_mark-clause-read
 factors_of-returns-then-begins_mark-clause-read t c =
-    let e : begins (is_mark star) (views c.loop.rest.now) ≡ true = cc c.if-begins_mark.ensures in
-    rw c.limit_fault-then-begins_mark.ensures (loop_is_full (is_mark star) (factors_of_item c.args.room) times c.args.room c.args.room c.loop.counter (deep_view c.loop.product) (views c.loop.rest.now) _ c.loop-test.false e c.loop.invariant.0)
+    let e : head_is (has_mark star) (token_views c.loop.rest.now) ≡ true = cc c.if-begins_mark.ensures in
+    rw c.limit_fault-then-begins_mark.ensures (loop_is_full (has_mark star) (factors_of_item c.args.room) times c.args.room c.args.room c.loop.counter (deep_view c.loop.product) (token_views c.loop.rest.now) _ c.loop-test.false e c.loop.invariant.0)
 
 pub factors_of-returns-clause-read : goal.factors_of-returns-clause-read
 factors_of-returns-clause-read t c =
-    let e : begins (is_mark star) (views c.loop.rest.now) ≡ false = cc c.if-begins_mark.ensures in
-    loop_stops (is_mark star) (factors_of_item c.args.room) times c.args.room (c.args.room - c.loop.counter) (deep_view c.loop.product) (views c.loop.rest.now) _ e c.loop.invariant.0
+    let e : head_is (has_mark star) (token_views c.loop.rest.now) ≡ false = cc c.if-begins_mark.ensures in
+    loop_stops (has_mark star) (factors_of_item c.args.room) times c.args.room (c.args.room - c.loop.counter) (deep_view c.loop.product) (token_views c.loop.rest.now) _ e c.loop.invariant.0
 
 abbrev sums_of_item : ℕ → List Token → Reading (Bool × Deep)
 sums_of_item room = signed_term_at (term_at (room - 1))
 
 pub sums_of-returns-then-not-begins_sign-clause-read : goal.sums_of-returns-then-not-begins_sign-clause-read
 sums_of-returns-then-not-begins_sign-clause-read t c =
-    let e : begins is_sign (views c.loop.rest.now) ≡ false = cc c.if-not-begins_sign.ensures in
-    loop_stops is_sign (sums_of_item c.args.room) plus_or_minus c.args.room (c.args.room - c.loop.counter) (deep_view c.loop.sum) (views c.loop.rest.now) _ e c.loop.invariant.0
+    let e : head_is is_sign (token_views c.loop.rest.now) ≡ false = cc c.if-not-begins_sign.ensures in
+    loop_stops is_sign (sums_of_item c.args.room) plus_or_minus c.args.room (c.args.room - c.loop.counter) (deep_view c.loop.sum) (token_views c.loop.rest.now) _ e c.loop.invariant.0
 
 pub sums_of-returns-then-sum-room-clause-read : goal.sums_of-returns-then-sum-room-clause-read
 sums_of-returns-then-sum-room-clause-read t c =
-    let e : begins is_sign (views c.loop.rest.now) ≡ true = cc c.if-not-begins_sign.ensures in
-    rw c.limit_fault.ensures (loop_past is_sign (sums_of_item c.args.room) plus_or_minus c.args.room (c.args.room - c.loop.counter) (deep_view c.loop.sum) (views c.loop.rest.now) _ e c.if-sum-room.true c.loop.invariant.0)
+    let e : head_is is_sign (token_views c.loop.rest.now) ≡ true = cc c.if-not-begins_sign.ensures in
+    rw c.limit_fault.ensures (loop_past is_sign (sums_of_item c.args.room) plus_or_minus c.args.room (c.args.room - c.loop.counter) (deep_view c.loop.sum) (token_views c.loop.rest.now) _ e c.if-sum-room.true c.loop.invariant.0)
 
 pub sums_of-returns-in_err-is_sum-clause-read : goal.sums_of-returns-in_err-is_sum-clause-read
 sums_of-returns-in_err-is_sum-clause-read t c =
     let p = err_from_is_err_and c.from_residual.result c.from_residual.ensures.1 in
-    let e : begins is_sign (views c.loop.rest.now) ≡ true = cc c.if-not-begins_sign.ensures in
-    rw (p.1, p.2) (loop_refuses is_sign (sums_of_item c.args.room) plus_or_minus c.args.room c.args.room c.loop.counter (deep_view c.loop.sum) (views c.loop.rest.now) _ c.in_err-is_sum.field-0.0 c.loop-test.true e c.if-sum-room.false c.in_err-is_sum.ensures.read c.loop.invariant.0)
+    let e : head_is is_sign (token_views c.loop.rest.now) ≡ true = cc c.if-not-begins_sign.ensures in
+    rw (p.1, p.2) (loop_refuses is_sign (sums_of_item c.args.room) plus_or_minus c.args.room c.args.room c.loop.counter (deep_view c.loop.sum) (token_views c.loop.rest.now) _ c.in_err-is_sum.field-0.0 c.loop-test.true e c.if-sum-room.false c.in_err-is_sum.ensures.read c.loop.invariant.0)
 
 pub sums_of-loop-preserved : goal.sums_of-loop-preserved
 sums_of-loop-preserved t c =
-    let e : begins is_sign (views c.loop.rest.now) ≡ true = cc c.if-not-begins_sign.ensures in
+    let e : head_is is_sign (token_views c.loop.rest.now) ≡ true = cc c.if-not-begins_sign.ensures in
     let d = ap (λ z. z.1) c.in_ok-sum.ensures in
     let l = c.if-sum-room.false in
     let f = c.in_ok-is_sum.ensures.fits in
-    let on = loop_goes_on is_sign (sums_of_item c.args.room) plus_or_minus c.args.room c.args.room c.loop.counter (deep_view c.loop.sum) (views c.loop.rest.now) (views c.in_ok-is_sum.after.now) (c.in_ok-is_sum.is_sum, deep_view c.in_ok-is_sum.term) _ c.loop-test.true e l c.in_ok-is_sum.ensures.read c.loop.invariant.0 in
+    let on = loop_goes_on is_sign (sums_of_item c.args.room) plus_or_minus c.args.room c.args.room c.loop.counter (deep_view c.loop.sum) (token_views c.loop.rest.now) (token_views c.in_ok-is_sum.after.now) (c.in_ok-is_sum.is_sum, deep_view c.in_ok-is_sum.term) _ c.loop-test.true e l c.in_ok-is_sum.ensures.read c.loop.invariant.0 in
     (rw c.in_ok-sum.ensures on, omega arith, omega arith)
 
 pub sums_of-returns-then-begins_sign-clause-read : goal.sums_of-returns-then-begins_sign-clause-read
 sums_of-returns-then-begins_sign-clause-read t c =
-    let e : begins is_sign (views c.loop.rest.now) ≡ true = cc c.if-begins_sign.ensures in
-    rw c.limit_fault-then-begins_sign.ensures (loop_is_full is_sign (sums_of_item c.args.room) plus_or_minus c.args.room c.args.room c.loop.counter (deep_view c.loop.sum) (views c.loop.rest.now) _ c.loop-test.false e c.loop.invariant.0)
+    let e : head_is is_sign (token_views c.loop.rest.now) ≡ true = cc c.if-begins_sign.ensures in
+    rw c.limit_fault-then-begins_sign.ensures (loop_is_full is_sign (sums_of_item c.args.room) plus_or_minus c.args.room c.args.room c.loop.counter (deep_view c.loop.sum) (token_views c.loop.rest.now) _ c.loop-test.false e c.loop.invariant.0)
 
 pub sums_of-returns-clause-read : goal.sums_of-returns-clause-read
 sums_of-returns-clause-read t c =
-    let e : begins is_sign (views c.loop.rest.now) ≡ false = cc c.if-begins_sign.ensures in
-    loop_stops is_sign (sums_of_item c.args.room) plus_or_minus c.args.room (c.args.room - c.loop.counter) (deep_view c.loop.sum) (views c.loop.rest.now) _ e c.loop.invariant.0
+    let e : head_is is_sign (token_views c.loop.rest.now) ≡ false = cc c.if-begins_sign.ensures in
+    loop_stops is_sign (sums_of_item c.args.room) plus_or_minus c.args.room (c.args.room - c.loop.counter) (deep_view c.loop.sum) (token_views c.loop.rest.now) _ e c.loop.invariant.0

@@ -1,6 +1,6 @@
 use Rattle.std.proofs.Common.{◌≡◌, ◌+◌, ◌-◌, ◌*◌, ◌<◌, ◌≤◌}
-use Rattle.roc_parse.specs.Views.{views, deep_view}
-use Rattle.roc_parse.specs.Reading.{atom_at, factors_at, term_at, sums_at}
+use Rattle.roc_parse.specs.Inner.Views.{token_views, deep_view}
+use Rattle.roc_parse.specs.Inner.Reading.{atom_at, factors_at, term_at, sums_at}
 use Rattle.roc_parse.proofs.expression.+expression.Given as goal
 
 -- the room first, and then which function calls which in the same room
@@ -28,8 +28,8 @@ decreases-sum_of l = 10 * l.room + 4
 abbrev pub decreases-deep_of : goal.decreases-deep_of
 decreases-deep_of l = 10 * l.room + 5
 
-abbrev pub decreases-next_of : goal.decreases-next_of
-decreases-next_of l = 10 * l.room + 6
+abbrev pub decreases-behind_comma_of : goal.decreases-behind_comma_of
+decreases-behind_comma_of l = 10 * l.room + 6
 
 abbrev pub decreases-enclosed_of : goal.decreases-enclosed_of
 decreases-enclosed_of l = 10 * l.room + 6
@@ -44,7 +44,7 @@ abbrev pub decreases-pick_of : goal.decreases-pick_of
 decreases-pick_of l = 10 * l.room + 8
 
 abbrev pub invariant-factors_of-loop : goal.invariant-factors_of-loop
-invariant-factors_of-loop l = (factors_at (atom_at (l.room - 1)) l.room (l.room - l.counter) (deep_view l.product) (views l.rest) ≡ factors_at (atom_at (l.room - 1)) l.room l.room (deep_view l.fn.first) (views l.tokens)) × (0 < l.product.depth) × (l.product.depth ≤ l.room)
+invariant-factors_of-loop l = (factors_at (atom_at (l.room - 1)) l.room (l.room - l.counter) (deep_view l.product) (token_views l.rest) ≡ factors_at (atom_at (l.room - 1)) l.room l.room (deep_view l.fn.first) (token_views l.tokens)) × (0 < l.product.depth) × (l.product.depth ≤ l.room)
 
 abbrev pub invariant-sums_of-loop : goal.invariant-sums_of-loop
-invariant-sums_of-loop l = (sums_at (term_at (l.room - 1)) l.room (l.room - l.counter) (deep_view l.sum) (views l.rest) ≡ sums_at (term_at (l.room - 1)) l.room l.room (deep_view l.fn.first) (views l.tokens)) × (0 < l.sum.depth) × (l.sum.depth ≤ l.room)
+invariant-sums_of-loop l = (sums_at (term_at (l.room - 1)) l.room (l.room - l.counter) (deep_view l.sum) (token_views l.rest) ≡ sums_at (term_at (l.room - 1)) l.room l.room (deep_view l.fn.first) (token_views l.tokens)) × (0 < l.sum.depth) × (l.sum.depth ≤ l.room)

@@ -1,8 +1,8 @@
 use Rattle.std.proofs.Common.{◌<◌, length, sym, ap, ◌∙◌, arith}
 use Rattle.std.specs.Option.{option_map}
 use Rattle.std.proofs.lemmas.Bool.Decides.{nat_tests}
-use Rattle.roc_parse.specs.Views.{views}
-use Rattle.roc_parse.specs.Scanning.{step_view}
+use Rattle.roc_parse.specs.Inner.Views.{token_views}
+use Rattle.roc_parse.specs.Inner.Scanning.{step_view}
 use Rattle.roc_parse.proofs.Runs.{reached_first, reached_next, reached_shorter, reached_break}
 use Rattle.roc_parse.proofs.lexer.tokens_of.Goals as goal
 
@@ -14,7 +14,7 @@ loop-rest-smaller c = reached_shorter c.loop-rest.line c.loop-rest.rest.now (ste
 
 pub loop-rest-preserved : goal.loop-rest-preserved
 loop-rest-preserved c =
-    reached_next c.args.text.now (views c.loop-rest.tokens.items) (views c.keep.new.tokens.items) c.loop-rest.line c.loop-rest.rest.now (step_view c.in-Some.step) c.loop-rest.invariant
+    reached_next c.args.text.now (token_views c.loop-rest.tokens.items) (token_views c.keep.new.tokens.items) c.loop-rest.line c.loop-rest.rest.now (step_view c.in-Some.step) c.loop-rest.invariant
     (sym (ap (option_map step_view) c.in-Some.is) ∙ c.in_ok-step.ensures) c.in_ok-keep-in-Some.ensures
 
 pub returns-in-None : goal.returns-in-None

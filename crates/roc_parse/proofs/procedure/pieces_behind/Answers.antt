@@ -3,36 +3,36 @@ use Rattle.std.proofs.lemmas.Result.{err_from_is_err_and}
 use Rattle.std.proofs.lemmas.List.{map_push}
 use Rattle.roc_lang.specs.Grammar.{standard}
 use Rattle.roc_lang.specs.Tree.{piece_tree}
-use Rattle.roc_parse.specs.Stuck.{begins}
-use Rattle.roc_parse.specs.Views.{views}
-use Rattle.roc_parse.specs.Reading.{starts_piece, piece_at}
+use Rattle.roc_parse.specs.Inner.Stuck.{head_is}
+use Rattle.roc_parse.specs.Inner.Views.{token_views}
+use Rattle.roc_parse.specs.Inner.Reading.{starts_piece, piece_at}
 use Rattle.roc_parse.proofs.Turns.{many_stops, many_is_full, many_refuses, many_goes_on}
 use Rattle.roc_parse.proofs.procedure.pieces_behind.Goals as goal
 
 pub returns-then-not-begins_piece : goal.returns-then-not-begins_piece
 returns-then-not-begins_piece c =
-    let e : begins starts_piece (views c.loop.rest.now) ≡ false = cc c.if-not-begins_piece.ensures in
-    many_stops starts_piece (piece_at standard) (15 - c.loop.counter) (map piece_tree c.loop.pieces.items) (views c.loop.rest.now) _ e c.loop.invariant
+    let e : head_is starts_piece (token_views c.loop.rest.now) ≡ false = cc c.if-not-begins_piece.ensures in
+    many_stops starts_piece (piece_at standard) (standard.pieces - 1 - c.loop.counter) (map piece_tree c.loop.pieces.items) (token_views c.loop.rest.now) _ e c.loop.invariant
 
 pub returns-in_err-piece : goal.returns-in_err-piece
 returns-in_err-piece c =
     let p = err_from_is_err_and c.from_residual-in_err-piece.result c.from_residual-in_err-piece.ensures.1 in
-    let e : begins starts_piece (views c.loop.rest.now) ≡ true = cc c.if-not-begins_piece.ensures in
-    rw (p.1, p.2) (many_refuses starts_piece (piece_at standard) 15 c.loop.counter (map piece_tree c.loop.pieces.items) (views c.loop.rest.now) _ c.in_err-piece.field-0.0 c.loop-test.true e c.in_err-piece.ensures c.loop.invariant)
+    let e : head_is starts_piece (token_views c.loop.rest.now) ≡ true = cc c.if-not-begins_piece.ensures in
+    rw (p.1, p.2) (many_refuses starts_piece (piece_at standard) (standard.pieces - 1) c.loop.counter (map piece_tree c.loop.pieces.items) (token_views c.loop.rest.now) _ c.in_err-piece.field-0.0 c.loop-test.true e c.in_err-piece.ensures c.loop.invariant)
 
 pub loop-preserved : goal.loop-preserved
 loop-preserved c =
-    let e : begins starts_piece (views c.loop.rest.now) ≡ true = cc c.if-not-begins_piece.ensures in
+    let e : head_is starts_piece (token_views c.loop.rest.now) ≡ true = cc c.if-not-begins_piece.ensures in
     let x = c.in_ok-piece.piece in
     let grown : map piece_tree c.push.new.self.items ≡ map piece_tree c.loop.pieces.items ++ piece_tree x ∷ [] = rw c.in_ok-push.ensures.items (map_push _ c.loop.pieces.items x) in
-    rw grown (many_goes_on starts_piece (piece_at standard) 15 c.loop.counter (map piece_tree c.loop.pieces.items) (views c.loop.rest.now) (views c.in_ok-piece.after.now) (piece_tree x) _ c.loop-test.true e c.in_ok-piece.ensures c.loop.invariant)
+    rw grown (many_goes_on starts_piece (piece_at standard) (standard.pieces - 1) c.loop.counter (map piece_tree c.loop.pieces.items) (token_views c.loop.rest.now) (token_views c.in_ok-piece.after.now) (piece_tree x) _ c.loop-test.true e c.in_ok-piece.ensures c.loop.invariant)
 
 pub returns-then-begins_piece : goal.returns-then-begins_piece
 returns-then-begins_piece c =
-    let e : begins starts_piece (views c.loop.rest.now) ≡ true = cc c.if-begins_piece.ensures in
-    rw c.limit_fault.ensures (many_is_full starts_piece (piece_at standard) 15 c.loop.counter (map piece_tree c.loop.pieces.items) (views c.loop.rest.now) _ c.loop-test.false e c.loop.invariant)
+    let e : head_is starts_piece (token_views c.loop.rest.now) ≡ true = cc c.if-begins_piece.ensures in
+    rw c.limit_fault.ensures (many_is_full starts_piece (piece_at standard) (standard.pieces - 1) c.loop.counter (map piece_tree c.loop.pieces.items) (token_views c.loop.rest.now) _ c.loop-test.false e c.loop.invariant)
 
 pub returns : goal.returns
 returns c =
-    let e : begins starts_piece (views c.loop.rest.now) ≡ false = cc c.if-begins_piece.ensures in
-    many_stops starts_piece (piece_at standard) (15 - c.loop.counter) (map piece_tree c.loop.pieces.items) (views c.loop.rest.now) _ e c.loop.invariant
+    let e : head_is starts_piece (token_views c.loop.rest.now) ≡ false = cc c.if-begins_piece.ensures in
+    many_stops starts_piece (piece_at standard) (standard.pieces - 1 - c.loop.counter) (map piece_tree c.loop.pieces.items) (token_views c.loop.rest.now) _ e c.loop.invariant

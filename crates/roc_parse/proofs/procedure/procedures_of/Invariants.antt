@@ -2,10 +2,10 @@ use Rattle.std.proofs.Common.{◌≡◌, ◌-◌, map}
 use lib.Chars.{codes}
 use Rattle.roc_lang.specs.Grammar.{standard}
 use Rattle.roc_lang.specs.Tree.{procedure_tree}
-use Rattle.roc_parse.specs.Views.{views}
-use Rattle.roc_parse.specs.Parts.{is_word, with_front, many_at}
-use Rattle.roc_parse.specs.Reading.{procedure_at, procedures_at}
+use Rattle.roc_parse.specs.Inner.Views.{token_views}
+use Rattle.roc_parse.specs.Inner.Parts.{has_word, with_front, many_at}
+use Rattle.roc_parse.specs.Inner.Reading.{procedure_at, procedures_at}
 use Rattle.roc_parse.proofs.procedure.procedures_of.Given as goal
 
 abbrev pub invariant-loop : goal.invariant-loop
-invariant-loop l = with_front (map procedure_tree l.procedures.items) (many_at (is_word (codes "proc")) (procedure_at standard) (64 - l.counter) (views l.rest)) ≡ procedures_at standard (views l.tokens)
+invariant-loop l = with_front (map procedure_tree l.procedures.items) (many_at (has_word (codes "proc")) (procedure_at standard) (standard.procedures - l.counter) (token_views l.rest)) ≡ procedures_at standard (token_views l.tokens)

@@ -1,7 +1,7 @@
 use Rattle.std.proofs.Common.{◌∙◌, ℕ, false, List, refl, ap}
 use Rattle.std.specs.List.{count_by, range_with_len}
 use Rattle.roc_plan.specs.Groups.{Group}
-use Rattle.roc_plan.specs.Outlines.{is_get, is_out}
+use Rattle.roc_plan.specs.Inner.Outlines.{is_get, is_out}
 use Rattle.roc_plan.proofs.Outlined.{gets_are, outs_are}
 use Rattle.roc_plan.proofs.outline.single.Goals as goal
 

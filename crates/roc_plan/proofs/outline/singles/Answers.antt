@@ -1,14 +1,15 @@
 use Rattle.std.proofs.Common.{◌≡◌, ◌∙◌, ℕ, ◌+◌, ◌<◌, ◌≤◌, ◌++◌, List, [], ◌∷◌, length, map, take, get_or, sym, subst, ap, arith}
 use Rattle.std.proofs.lemmas.List.{length-map, map-append, take_more}
-use Rattle.roc_plan.specs.declared.workload.Procedure.{Procedure}
-use Rattle.roc_plan.specs.declared.workload.Piece.{Piece}
+use Rattle.roc_program.specs.declared.parts.Procedure.{Procedure}
+use Rattle.roc_program.specs.declared.parts.Piece.{Piece}
 use Rattle.roc_plan.specs.declared.outline.Outline.{Outline}
-use Rattle.roc_plan.specs.Program as pure
-use Rattle.roc_plan.specs.Workload as view
-use Rattle.roc_plan.specs.Groups.{no_piece}
-use Rattle.roc_plan.specs.Outlines.{IsSingle, AreSingles}
-use Rattle.roc_plan.specs.WellFormed.{IsSinglePiece}
-use Rattle.roc_plan.proofs.Rows.{read-map, all_read}
+use Rattle.roc_program.specs.Program as pure
+use Rattle.roc_program.specs.Parts as view
+use Rattle.roc_program.specs.LookUps.{no_piece}
+use Rattle.roc_lang.specs.Grammar.{standard}
+use Rattle.roc_plan.specs.Inner.Outlines.{IsSingle, AreSingles}
+use Rattle.roc_plan.specs.Inner.Thin.{IsSinglePiece}
+use Rattle.roc_program.proofs.Rows.{read-map, all_read}
 use Rattle.roc_plan.proofs.Outlined.{singles_more}
 use Rattle.roc_plan.proofs.outline.singles.Goals as goal
 
@@ -43,7 +44,7 @@ index-requires c =
 pub single-requires : goal.single-requires
 single-requires c =
     let one = all_read IsSinglePiece view.procedure c.args.procedures.now c.loop-procedure.procedure-index c.procedure-item.result c.requires c.loop-procedure-test.true c.procedure-item.is in
-    all_read (λ piece. length piece.body ≤ 64) view.piece c.procedure-item.result.pieces.items 0 c.index.result.now one.statements (some_piece c.procedure-item.result one) c.index.ensures
+    all_read (λ piece. length piece.body ≤ standard.statements) view.piece c.procedure-item.result.pieces.items 0 c.index.result.now one.statements (some_piece c.procedure-item.result one) c.index.ensures
 
 pub loop-procedure-preserved : goal.loop-procedure-preserved
 loop-procedure-preserved c =

@@ -1,6 +1,6 @@
 use Rattle.std.proofs.Common.{map, take}
-use Rattle.roc_plan.specs.Outlines.{AreSingles}
-use Rattle.roc_plan.specs.Workload as view
+use Rattle.roc_plan.specs.Inner.Outlines.{AreSingles}
+use Rattle.roc_program.specs.Parts as view
 use Rattle.roc_plan.proofs.outline.singles.Given as goal
 
 abbrev pub invariant-loop-procedure : goal.invariant-loop-procedure

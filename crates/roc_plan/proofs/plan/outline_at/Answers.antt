@@ -1,4 +1,4 @@
-use Rattle.roc_plan.proofs.Rows.{row_read}
+use Rattle.roc_program.proofs.Rows.{row_read}
 use Rattle.roc_plan.proofs.plan.outline_at.Goals as goal
 
 pub returns : goal.returns

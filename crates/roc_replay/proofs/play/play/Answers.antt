@@ -2,7 +2,7 @@
 use Rattle.std.proofs.Common.{◌≡◌, ◌+◌, List, length, take, true, refl, subst, ◌∙◌}
 use Rattle.roc_io.specs.Told.{Adds, AddsFront}
 use Rattle.roc_sched.specs.declared.line.Line.{Line}
-use Rattle.roc_replay.specs.Closed.{asks_unsent}
+use Rattle.roc_replay.specs.Inner.Closed.{asks_unsent}
 use Rattle.roc_replay.proofs.Exits.{unsent_end, stopped_end, failed_end, closed_end, front_more, take_all}
 use Rattle.roc_replay.proofs.Rising.{cells_rise}
 use Rattle.roc_replay.proofs.SoFar.{IsSoFar, nothing_so_far, one_more}
@@ -37,10 +37,10 @@ loop-line-preserved g c = (
 )
 
 pub close-requires : goal.close-requires
-close-requires g c = let so = c.loop-line.invariant.1 in cells_rise c.args.plan.now _ so.steps c.loop-line.world c.requires.thin so.played.run
+close-requires g c = let so = c.loop-line.invariant.1 in cells_rise c.args.plan.now _ so.steps c.loop-line.world c.requires.within so.played.run
 
 pub returns-clause-ends : goal.returns-clause-ends
 returns-clause-ends g c schedule of =
-    closed_end c.args.plan.now schedule c.args.lines.now of c.requires.thin c.loop-line.world c.loop-line.busy _ _ _
+    closed_end c.args.plan.now schedule c.args.lines.now of c.requires.within c.loop-line.world c.loop-line.busy _ _ _
     (subst (λ (lines : List Line). IsSoFar c.args.plan.now lines c.loop-line.world c.loop-line.busy (g.S.Sink.taken c.args.sink.now) (g.S.Sink.taken c.loop-line.sink)) (take_all c.args.lines.now c.loop-line.line-index c.loop-line-test.false) c.loop-line.invariant.1)
     c.close.result c.close.ensures.closed

@@ -1,4 +1,4 @@
-use Rattle.roc_rows.specs.Store.{read-empty, read-write_same, read-write_other, same_store}
+use Rattle.roc_rows.proofs.Stored.{read-empty, read-write_same, read-write_other, same_store}
 use Rattle.roc_rows.proofs.laws.reads_after_writes.Goals as goal
 
 pub returns : goal.returns

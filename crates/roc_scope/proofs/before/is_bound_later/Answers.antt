@@ -1,9 +1,9 @@
 use Rattle.std.proofs.Common.{List, map, sym, ap, ◌∙◌}
 use Rattle.std.specs.List.{flat_map}
 use Rattle.roc_lang.specs.Tree.{name_tree, statement_tree, piece_tree}
-use Rattle.roc_lang.specs.declared.source.Statement.{Statement}
+use Rattle.roc_lang.specs.declared.syntax.Statement.{Statement}
 use Rattle.roc_lang.specs.Scope.{is_among, bound_by}
-use Rattle.roc_scope.specs.Before.{later_by}
+use Rattle.roc_scope.specs.Inner.Before.{later_by}
 use Rattle.roc_scope.proofs.Bindings.{among_at, among_later}
 use Rattle.roc_scope.proofs.before.is_bound_later.Goals as goal
 

@@ -1,7 +1,7 @@
 use Rattle.std.proofs.Common.{◌≡◌, false, map, take}
 use Rattle.roc_lang.specs.Tree.{name_tree, piece_tree}
 use Rattle.roc_lang.specs.Scope.{is_among}
-use Rattle.roc_scope.specs.Before.{later_names}
+use Rattle.roc_scope.specs.Inner.Before.{later_names}
 use Rattle.roc_scope.proofs.before.is_bound_later.Given as goal
 
 abbrev pub invariant-loop-piece : goal.invariant-loop-piece

@@ -1,7 +1,7 @@
 use Rattle.std.proofs.Common.{◌≡◌, [], map, take, drop}
 use Rattle.roc_lang.specs.Tree.{name_tree, statement_tree, piece_tree, table_tree}
 use Rattle.roc_lang.specs.Scope.{statements_faults}
-use Rattle.roc_scope.specs.Before.{bound_behind}
+use Rattle.roc_scope.specs.Inner.Before.{bound_behind}
 use Rattle.roc_scope.proofs.pieces.check_body.Given as goal
 
 abbrev pub invariant-loop-i : goal.invariant-loop-i

@@ -1,11 +1,11 @@
 use Rattle.std.proofs.Common.{List, [], map, take, drop, sym, ap, ◌+◌, ◌∙◌}
 use Rattle.std.proofs.lemmas.Result.{err_from_is_err_and}
-use Rattle.roc_lang.specs.declared.source.Piece.{Piece}
+use Rattle.roc_lang.specs.declared.syntax.Piece.{Piece}
 use Rattle.roc_lang.specs.Tree.{name_tree, piece_tree, table_tree}
 use Rattle.roc_lang.specs.Scope.{pieces_faults}
 use Rattle.roc_scope.proofs.Names.{item_splits}
-use Rattle.roc_scope.specs.Before.{bound_behind}
-use Rattle.roc_scope.specs.Misuse.{fault_of}
+use Rattle.roc_scope.specs.Inner.Before.{bound_behind}
+use Rattle.roc_scope.specs.Inner.Misuse.{misuse_fault}
 use Rattle.roc_scope.proofs.Stops.{pieces_stop}
 use Rattle.roc_scope.proofs.pieces.check_pieces.Goals as goal
 
@@ -19,4 +19,4 @@ returns-in_err-check_piece c =
     let bound = bound_behind (map name_tree c.args.arguments.now) (map piece_tree (take i all)) [] in
     let split = item_splits all i c.index-pieces-i.result c.loop-i-test.true c.index-pieces-i.is in
     let rest = ap (λ (xs : List Piece). pieces_faults tables earlier bound (map piece_tree xs)) (sym split.0) ∙ c.loop-i.invariant in
-    rw (p.1, p.2) (pieces_stop (fault_of c.in_err-check_piece.field-0.0) tables earlier bound (piece_tree c.index-pieces-i.result) (map piece_tree (drop (i + 1) all)) _ rest c.in_err-check_piece.ensures)
+    rw (p.1, p.2) (pieces_stop (misuse_fault c.in_err-check_piece.field-0.0) tables earlier bound (piece_tree c.index-pieces-i.result) (map piece_tree (drop (i + 1) all)) _ rest c.in_err-check_piece.ensures)

@@ -1,11 +1,11 @@
 use Rattle.std.proofs.Common.{◌≡◌, List, ◌++◌, ◌∷◌, [], None, sym, subst, ap, ◌∙◌}
-use Rattle.std.proofs.lemmas.Bool.{false≢true}
 use Rattle.roc_base.specs.declared.id.TxnId.{TxnId}
 use Rattle.roc_base.specs.TxnId.{is_txn}
 use Rattle.roc_depgraph.specs.declared.learnt.Learnt.{Learnt}
 use Rattle.roc_depgraph.specs.Deps.{list_of, learnt}
 use Rattle.roc_depgraph.specs.Learnt.{Learns}
 use Rattle.roc_sequence.specs.Places.{IsListed}
+use Rattle.roc_sequence.proofs.Places.{listed_true, listed_false}
 use Rattle.roc_server.specs.Commit.{commitok}
 use Rattle.roc_server.specs.State.{is_here}
 use Rattle.roc_server.proofs.Commit_steps.{taught_shown, taught_sound, again_shown, waits_shown, differs_shown, absent_shown}
@@ -52,7 +52,7 @@ returns-in_ok-send_commitok-in-Repeat-clause-step c =
     let Listed : List TxnId → Type 0 = λ xs. IsListed is_txn xs c.args.id in
     again_shown c.args.plan.now c.args.shard c.args.kept.now c.learn.new.self c.args.id c.args.edges.now c.requires.sound l.1
     (ap (is_here c.args.id) (sym c.deref.ensures.value) ∙ sym c.is_here.ensures ∙ c.if-not-is_here.false) l.0 c.args.out.now c.send_commitok.new.out
-    (subst Listed c.as_slice.ensures (c.is_among.ensures.0 c.if-is_among.true))
+    (subst Listed c.as_slice.ensures (listed_true is_txn _ c.args.id (sym c.is_among.ensures ∙ c.if-is_among.true)))
     (c.in_ok-send_commitok-in-Repeat.ensures ∙ ap (λ xs. let o = c.args.out.now in record o { messages = o.messages ++ commitok c.args.plan.now c.args.shard xs c.args.id ∷ [] }) c.deref-then-is_among.ensures.value)
 
 pub returns-else-is_among-clause-step : goal.returns-else-is_among-clause-step
@@ -62,4 +62,4 @@ returns-else-is_among-clause-step c =
     let Listed : List TxnId → Type 0 = λ xs. IsListed is_txn xs c.args.id in
     waits_shown c.args.plan.now c.args.shard c.args.kept.now c.learn.new.self c.args.id c.args.edges.now c.requires.sound l.1
     (ap (is_here c.args.id) (sym c.deref.ensures.value) ∙ sym c.is_here.ensures ∙ c.if-not-is_here.false) l.0 c.args.out.now
-    (λ m. false≢true (sym c.if-is_among.false ∙ c.is_among.ensures.1 (subst Listed (sym c.as_slice.ensures) m)))
+    (λ m. listed_false is_txn _ c.args.id (sym c.is_among.ensures ∙ c.if-is_among.false) (subst Listed (sym c.as_slice.ensures) m))

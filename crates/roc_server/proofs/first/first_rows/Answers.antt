@@ -1,23 +1,22 @@
-use Rattle.std.proofs.Common.{◌≡◌, ◌+◌, ◌<◌, ◌==◌, ◌∷◌, suc, Bool, pos, length, map, drop, get_or, sym, ap, ◌∙◌, arith}
+use Rattle.std.proofs.Common.{◌≡◌, ◌+◌, ◌<◌, ◌==◌, ◌∷◌, suc, Bool, length, map, drop, sym, ap, ◌∙◌, arith}
 use Rattle.std.proofs.Math.Seq.{drop-cons}
-use Rattle.roc_plan.specs.declared.workload.Init.{Init}
+use Rattle.roc_program.specs.declared.parts.Init.{Init}
 use Rattle.roc_plan.specs.Groups.{shard_of}
-use Rattle.roc_plan.specs.Program as program
-use Rattle.roc_plan.specs.Workload as pure
+use Rattle.roc_program.specs.Program as program
+use Rattle.roc_program.specs.Parts as pure
 use Rattle.roc_server.proofs.First_cells.{init_set, init_left}
 use Rattle.roc_server.proofs.first.first_rows.Goals as goal
 use Rattle.roc_server.proofs.first.first_rows.Goals.{then-is_here+in_ok-set_init, else-is_here}
 
 pub loop-init-preserved : goal.loop-init-preserved
 loop-init-preserved c =
-    let items = c.deref-init-items.result.now in
+    let items = c.inits-init-items.result.now in
     let i = c.loop-init.init-index in
-    let none : Init = record { table = 0; place = pos 0; id = pos 0; column = 0; value = pos 0 } in
-    let x = pure.init (get_or items i none) in
+    let x = pure.init c.init-item.result in
     let rest = map pure.init (drop (i + 1) items) in
     let within : i < length items = omega arith in
     let next : suc i ≡ i + 1 = omega arith in
-    let left : map pure.init (drop i items) ≡ x ∷ rest = ap (map pure.init) (drop-cons items i none within) ∙ ap (λ k. x ∷ map pure.init (drop k items)) next in
+    let left : map pure.init (drop i items) ≡ x ∷ rest = ap (map pure.init) (drop-cons items i c.init-item.result within) ∙ ap (λ (y : Init). pure.init y ∷ map pure.init (drop (suc i) items)) (sym c.init-item.is) ∙ ap (λ k. x ∷ map pure.init (drop k items)) next in
     let here : program.Init → Bool = λ l. shard_of c.args.plan.now l.place == c.args.shard.0 in
     elim c.if-is_here.branch [
       | then-is_here+in_ok-set_init w ↦

@@ -1,6 +1,6 @@
 use Rattle.std.proofs.Common.{◌≡◌, ◌==◌, map, filter, drop}
 use Rattle.roc_plan.specs.Groups.{shard_of}
-use Rattle.roc_plan.specs.Workload as pure
+use Rattle.roc_program.specs.Parts as pure
 use Rattle.roc_whole.specs.Serial.{after_inits}
 use Rattle.roc_server.proofs.first.first_rows.Given as goal
 

@@ -1,5 +1,5 @@
 use Rattle.std.proofs.Common.{false}
-use Rattle.roc_server.specs.Kept.{state_of}
+use Rattle.roc_server.specs.Inner.Kept.{state_of}
 use Rattle.roc_server.proofs.Message_steps.{start_comes, commit_comes, foreign_comes}
 use Rattle.roc_server.proofs.server.take.Goals as goal
 

@@ -1,7 +1,7 @@
 use Rattle.std.proofs.Common.{◌≡◌, None, false, sym, ap, ◌∙◌, refl}
 use Rattle.std.specs.Option.{option_copied}
 use Rattle.roc_server.specs.Fits.{IsCallOf}
-use Rattle.roc_server.specs.Kept.{state_of, asked}
+use Rattle.roc_server.specs.Inner.Kept.{state_of, asked}
 use Rattle.roc_server.specs.Start.{new_group}
 use Rattle.roc_server.specs.State.{find_group}
 use Rattle.roc_server.proofs.Start_steps.{starts, start_shown, new_fits, all_fit, start_sound}

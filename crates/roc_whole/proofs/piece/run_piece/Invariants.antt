@@ -1,5 +1,5 @@
 use Rattle.std.proofs.Common.{◌≡◌, drop, map}
-use Rattle.roc_plan.specs.Workload as pure
+use Rattle.roc_program.specs.Parts as pure
 use Rattle.roc_whole.specs.Run.{progress, after_statements}
 use Rattle.roc_whole.proofs.piece.run_piece.Given as goal
 

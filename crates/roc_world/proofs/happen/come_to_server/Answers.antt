@@ -1,4 +1,4 @@
-use Rattle.roc_world.specs.Parts.{world_of}
+use Rattle.roc_world.specs.Inner.Parts.{world_of}
 use Rattle.roc_world.proofs.Messages.{server_comes}
 use Rattle.roc_world.proofs.happen.come_to_server.Goals as goal
 

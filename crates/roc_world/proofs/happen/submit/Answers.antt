@@ -1,4 +1,4 @@
-use Rattle.roc_world.specs.Parts.{world_of}
+use Rattle.roc_world.specs.Inner.Parts.{world_of}
 use Rattle.roc_world.proofs.Submissions.{spent_happens, busy_happens}
 use Rattle.roc_world.proofs.happen.submit.Goals as goal
 

@@ -1,7 +1,7 @@
 use Rattle.std.proofs.Common.{◌≡◌, map}
 use Rattle.std.specs.List.{AllByRecursion, range_with_len}
 use Rattle.roc_server.specs.First.{first_server}
-use Rattle.roc_server.specs.Fits.{FitsPlan as ServerFits}
+use Rattle.roc_server.specs.Fits.{ServerFits}
 use Rattle.roc_world.proofs.nodes.first_servers.Given as goal
 
 abbrev pub invariant-loop-number : goal.invariant-loop-number

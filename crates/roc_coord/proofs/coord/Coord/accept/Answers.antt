@@ -4,7 +4,8 @@ use Rattle.std.specs.List.{AllByRecursion}
 use Rattle.roc_base.specs.declared.id.TxnId.{TxnId}
 use Rattle.roc_base.specs.TxnId.{txn_lt}
 use Rattle.roc_coord.specs.declared.transaction.Transaction.{Transaction}
-use Rattle.roc_coord.specs.Ids.{ids_of, AreGiven}
+use Rattle.roc_coord.specs.Ids.{ids_of}
+use Rattle.roc_coord.specs.Inner.Given.{AreGiven}
 use Rattle.roc_coord.proofs.Given.{given_below, given_push}
 use Rattle.roc_coord.proofs.coord.Coord.accept.Goals as goal
 

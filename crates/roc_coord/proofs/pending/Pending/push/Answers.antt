@@ -4,8 +4,9 @@ use Rattle.std.specs.List.{AllByRecursion}
 use Rattle.roc_base.specs.declared.id.TxnId.{TxnId}
 use Rattle.roc_base.specs.TxnId.{txn_lt}
 use Rattle.roc_coord.specs.declared.transaction.Transaction.{Transaction}
-use Rattle.roc_coord.specs.Ids.{ids_of, AreRising}
-use Rattle.roc_coord.proofs.Among.{AreRising-push}
+use Rattle.roc_coord.specs.Ids.{ids_of}
+use Rattle.roc_sequence.specs.Rising.{IsRising}
+use Rattle.roc_sequence.proofs.Rising.{rising_more}
 use Rattle.roc_coord.proofs.pending.Pending.push.Goals as goal
 
 pub invariant_of-self-2 : goal.invariant_of-self-2
@@ -16,4 +17,4 @@ invariant_of-self-2 c =
     let both : ids_of c.push.new.self.items ≡ ids_of c.self.inside.transactions.items ++ c.args.x.id ∷ [] = ap ids_of c.in_ok-push.ensures.items ∙ map-append (λ (x : Transaction). x.id) c.self.inside.transactions.items (c.args.x ∷ []) in
     let is_below : List TxnId → Type 0 = λ ids. AllByRecursion (λ id. IsTrue (txn_lt id c.args.x.id)) ids in
     let below : is_below c.self.inside.ids.items = subst is_below (ap ids_of (sym c.self.view_is) ∙ sym before) c.requires in
-    (grown ∙ ap add before ∙ sym both, subst AreRising (sym grown) (AreRising-push c.self.inside.ids.items c.args.x.id c.self.invariant.1 below))
+    (grown ∙ ap add before ∙ sym both, subst (IsRising txn_lt) (sym grown) (rising_more txn_lt c.args.x.id c.self.inside.ids.items c.self.invariant.1 below))

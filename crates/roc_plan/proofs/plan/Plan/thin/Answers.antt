@@ -1,46 +1,54 @@
-use Rattle.std.proofs.Common.{◌≡◌, List, map, refl, sym, subst, ap}
+use Rattle.std.proofs.Common.{◌≡◌, List, map, refl, sym, subst, ap, arith}
+use Rattle.std.proofs.lemmas.List.{length-map}
 use Rattle.std.proofs.lemmas.Simd.{map-map}
 use Rattle.std.specs.List.{AllByRecursion}
+use Rattle.roc_lang.specs.Grammar.{standard}
+use Rattle.roc_program.specs.Program.{Procedure}
 use Rattle.roc_plan.specs.declared.plan.Plan.TheInside.{Inside}
-use Rattle.roc_plan.specs.declared.workload.Procedure.{Procedure}
 use Rattle.roc_plan.specs.Groups.{Group, Plan}
-use Rattle.roc_plan.specs.Outlines.{group, plan, IsOutline, AreSingles, IsOutlined}
-use Rattle.roc_plan.specs.WellFormed.{IsSinglePiece, IsThinProgram, IsThin}
-use Rattle.roc_plan.specs.Workload as view
+use Rattle.roc_plan.specs.Within.{IsThinProgram, IsWithin}
+use Rattle.roc_plan.specs.Inner.Outlines.{group, plan, IsOutline, AreSingles, IsOutlined}
+use Rattle.roc_plan.specs.Inner.Thin.{IsSinglePiece}
 use Rattle.roc_plan.proofs.Deferred.{thin_program}
-use Rattle.roc_plan.proofs.Outlined.{single_pieces, rows_plan, rows_thin, rows_outlined}
+use Rattle.roc_plan.proofs.Outlined.{single_pieces, singles_counted, rows_plan, rows_thin, rows_outlined}
+use Rattle.roc_plan.proofs.Rows.{row_few}
 use Rattle.roc_plan.proofs.plan.Plan.thin.Goals as goal
 
 pub singles-requires : goal.singles-requires
 singles-requires c =
-    let thin = thin_program (view.program c.args.workload) c.requires (c.if-not-is_thin.ensures.0 refl) in
-    let P : List Procedure → Type 0 = λ all. AllByRecursion IsSinglePiece (map view.procedure all) in
-    subst P (sym c.deref.ensures.value) (single_pieces (view.program c.args.workload) thin)
+    let thin = thin_program c.args.workload c.procedures.ensures.well_formed (c.if-not-is_thin.ensures.shaped.0 refl) in
+    let P : List Procedure → Type 0 = λ all. AllByRecursion IsSinglePiece all in
+    subst P (sym c.procedures.ensures.value) (single_pieces c.args.workload thin)
 
--- the fields say what they have to where there is a row for each procedure
-outlined : (p : Inside) → IsThinProgram (view.program p.workload) → AreSingles (view.program p.workload).procedures (map (λ row. row.items) p.outlines.items) → IsOutlined p
-outlined p thin singles =
-    let program = view.program p.workload in
+-- what the fields say where there is a row for each procedure
+record Is (p : Inside) : Type 0 where
+  outlined : IsOutlined p
+  within : IsWithin (plan p)
+
+made : (p : Inside) → IsThinProgram p.workload → AreSingles p.workload.procedures (map (λ row. row.items) p.outlines.items) → Is p
+made p thin singles =
     let rows = map (λ row. row.items) p.outlines.items in
-    let f : List (List Group) → Plan = λ groups. record { program = program; groups = groups } in
-    let same : rows_plan program rows ≡ plan p = ap f (map-map (map group) (λ row. row.items) p.outlines.items) in
-    let Q : Plan → Type 0 = IsThin in
+    let f : List (List Group) → Plan = λ groups. record { program = p.workload; groups = groups } in
+    let same : rows_plan p.workload rows ≡ plan p = ap f (map-map (map group) (λ row. row.items) p.outlines.items) in
+    let counts = singles_counted p.workload.procedures rows singles in
     record {
-      thin = subst Q same (rows_thin program rows thin singles);
-      each = λ proc g o at. let P : Plan → Type 0 = λ grouped. IsOutline grouped proc g o in subst P same (rows_outlined program rows thin singles proc g o at);
+      outlined =
+          record {
+            rows = omega (arith, counts.0, length-map p.outlines.items (λ row. row.items));
+            few = row_few (λ row. row.items) standard.pieces p.outlines.items counts.1 (omega arith);
+            each = λ proc g o at. let P : Plan → Type 0 = λ grouped. IsOutline grouped proc g o in subst P same (rows_outlined p.workload rows thin singles proc g o at);
+          };
+      within = subst IsWithin same (rows_thin p.workload rows thin singles);
     }
-
-made : (p : Inside) (lent : List Procedure) → IsThinProgram (view.program p.workload) → lent ≡ p.workload.procedures.items → AreSingles (map view.procedure lent) (map (λ row. row.items) p.outlines.items) → IsOutlined p
-made p lent thin same singles =
-    let P : List Procedure → Type 0 = λ all. AreSingles (map view.procedure all) (map (λ row. row.items) p.outlines.items) in
-    outlined p thin (subst P same singles)
 
 pub invariant_of-result : goal.invariant_of-result
 invariant_of-result c =
-    let thin = thin_program (view.program c.args.workload) c.requires (c.if-not-is_thin.ensures.0 refl) in
-    made (record { workload = c.args.workload; outlines = c.in_ok-outlines.outlines }) c.deref.result.now thin c.deref.ensures.value c.in_ok-outlines.ensures
+    let thin = thin_program c.args.workload c.procedures.ensures.well_formed (c.if-not-is_thin.ensures.shaped.0 refl) in
+    let P : List Procedure → Type 0 = λ all. AreSingles all (map (λ row. row.items) c.in_ok-outlines.outlines.items) in
+    (made (record { workload = c.args.workload; outlines = c.in_ok-outlines.outlines }) thin (subst P c.procedures.ensures.value c.in_ok-outlines.ensures)).outlined
 
-pub returns-clause-thin : goal.returns-clause-thin
-returns-clause-thin c =
-    let thin = thin_program (view.program c.args.workload) c.requires (c.if-not-is_thin.ensures.0 refl) in
-    (made (record { workload = c.args.workload; outlines = c.in_ok-outlines.outlines }) c.deref.result.now thin c.deref.ensures.value c.in_ok-outlines.ensures).thin
+pub returns-clause-within : goal.returns-clause-within
+returns-clause-within c =
+    let thin = thin_program c.args.workload c.procedures.ensures.well_formed (c.if-not-is_thin.ensures.shaped.0 refl) in
+    let P : List Procedure → Type 0 = λ all. AreSingles all (map (λ row. row.items) c.in_ok-outlines.outlines.items) in
+    (made (record { workload = c.args.workload; outlines = c.in_ok-outlines.outlines }) thin (subst P c.procedures.ensures.value c.in_ok-outlines.ensures)).within

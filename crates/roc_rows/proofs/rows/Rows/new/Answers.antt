@@ -1,4 +1,4 @@
-use Rattle.roc_rows.specs.Store.{store_of-none}
+use Rattle.roc_rows.proofs.Stored.{store_of-none}
 use Rattle.roc_rows.proofs.rows.Rows.new.Goals as goal
 
 pub returns : goal.returns

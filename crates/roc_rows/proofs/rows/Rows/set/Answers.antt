@@ -1,6 +1,7 @@
 use Rattle.std.proofs.Common.{◌∙◌, ◌≢◌, ap, sym, pos, Some, None, w64, to_z, of_z, unwrap_or}
 use Rattle.std.proofs.lemmas.Int.{to_z-of_z}
-use Rattle.roc_rows.specs.Store.{write, none≢some}
+use Rattle.roc_rows.specs.Store.{write}
+use Rattle.roc_rows.specs.Inner.Writes.{none≢some}
 use Rattle.roc_rows.proofs.Stores.{store_of-put, HasNoZero-put}
 use Rattle.roc_rows.proofs.rows.Rows.set.Goals as goal
 

@@ -1,5 +1,5 @@
 use Rattle.std.proofs.Common.{false, sym, ap, ◌∙◌}
-use Rattle.roc_server.specs.Kept.{state_of}
+use Rattle.roc_server.specs.Inner.Kept.{state_of}
 use Rattle.roc_server.proofs.Message_steps.{comes_from}
 use Rattle.roc_server.proofs.server.Server.handle.Goals as goal
 

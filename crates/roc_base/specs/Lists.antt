@@ -1,7 +1,0 @@
--- Membership in a list
-use Rattle.std.specs.Prelude.{◌≡◌, List, [], ◌∷◌, ◌⊎◌}
-
--- a is in the list
-abbrev pub Has : {A : Type 0} → A → List A → Type 0
-Has a [] = ⊥
-Has a (x ∷ xs) = (a ≡ x) ⊎ Has a xs

@@ -1,0 +1,77 @@
+-- What was done, and what standard output took: docs/FORMATS.md, "Report" and "Text of check", and docs/LANGUAGE.md, "Canonical text"
+use Rattle.std.specs.Prelude.{◌↔◌, ℕ, ◌≤◌, Bool, IsTrue, List, length}
+use Rattle.roc_io.specs.Told.{Adds}
+use Rattle.roc_lang.specs.Syntax.{Tree}
+use Rattle.roc_print.specs.Canonical.{canonical}
+use Rattle.roc_program.specs.declared.piece_id.PieceId.{PieceId}
+use Rattle.roc_program.specs.Program.{Workload}
+use Rattle.roc_plan.specs.Groups.{Plan}
+use Rattle.roc_conflict.specs.Immediate.{IsImmediate}
+use Rattle.roc_report.specs.Line.{Line}
+use Rattle.roc_report.specs.Text.{lines_text}
+use Rattle.roc_report.specs.Check.{check_lines}
+use Rattle.roc_sched.specs.Schedule.{most_bytes}
+use Rattle.roc_replay.specs.declared.ended.Summary.{Summary}
+use Rattle.roc_replay.specs.Told.{IsExplained}
+use Rattle.roc_replay.specs.Ended.{IsReplayed}
+use Rattle.roc_cli.specs.Call.{Call}
+use Rattle.roc_cli.specs.Words.{IsReplay, IsPrint, IsCheck}
+use Rattle.roc_cli.specs.Held.{Holds, HoldsPlan, HoldsText, HoldsProgram}
+
+-- ---- replay
+
+-- the words ask for the replay of a schedule of these bytes, which are not too many, and name a workload that has this plan
+pub record IsReplayOf (call : Call) (plan : Plan) (bytes : List ℕ) : Type 0 where
+  pub workload : List ℕ
+  pub schedule : List ℕ
+  pub given : IsReplay call.words workload schedule
+  pub of_workload : HoldsPlan call.content workload plan
+  pub of_schedule : Holds call.content schedule bytes
+  pub size : length bytes ≤ most_bytes
+
+-- standard output took the report of the run of exactly the named schedule, under the plan of the named workload
+pub record Replays (call : Call) : Type 0 where
+  pub plan : Plan
+  pub bytes : List ℕ
+  pub asked : IsReplayOf call plan bytes
+  pub summary : Summary
+  pub replayed : IsReplayed plan bytes summary call.out_before call.out_after
+
+-- standard output took lines that explain themselves: the one order that they show is a serial witness of the history that they show
+pub record Explains (call : Call) : Type 0 where
+  pub plan : Plan
+  pub bytes : List ℕ
+  pub asked : IsReplayOf call plan bytes
+  pub lines : List Line
+  pub taken : Adds call.out_before call.out_after (lines_text plan.program lines)
+  pub explained : IsExplained plan.program lines
+
+-- ---- print
+
+-- standard output took the canonical text of the named workload
+pub record Prints (call : Call) : Type 0 where
+  pub workload : List ℕ
+  pub given : IsPrint call.words workload
+  pub tree : Tree
+  pub held : HoldsText call.content workload tree
+  pub taken : Adds call.out_before call.out_after (canonical tree)
+
+-- ---- check
+
+-- these are the immediate pieces of a program: the least set that is closed under conflict and holds those declared `now`
+abbrev pub AreImmediate : Workload → (PieceId → Bool) → Type 0
+AreImmediate program immediate = (id : PieceId) → IsTrue (immediate id) ↔ IsImmediate program id
+
+-- the text of `check`
+abbrev pub check_text : Workload → (PieceId → Bool) → List ℕ
+check_text program immediate = lines_text program (check_lines program immediate)
+
+-- standard output took the text of the check of the named workload
+pub record Checks (call : Call) : Type 0 where
+  pub workload : List ℕ
+  pub given : IsCheck call.words workload
+  pub program : Workload
+  pub held : HoldsProgram call.content workload program
+  pub immediate : PieceId → Bool
+  pub are_immediate : AreImmediate program immediate
+  pub taken : Adds call.out_before call.out_after (check_text program immediate)

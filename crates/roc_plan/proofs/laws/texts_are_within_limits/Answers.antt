@@ -1,5 +1,0 @@
-use Rattle.roc_plan.proofs.Limited.{within_limits}
-use Rattle.roc_plan.proofs.laws.texts_are_within_limits.Goals as goal
-
-pub returns : goal.returns
-returns c = within_limits

@@ -1,5 +1,0 @@
-use Rattle.roc_plan.proofs.Collisions.{between}
-use Rattle.roc_plan.proofs.static_conflict.conflict.Goals as goal
-
-pub returns : goal.returns
-returns c = between _ _ _ _ _ c.body_of.ensures c.body_of-2.ensures c.collide_somewhere.ensures

@@ -1,0 +1,33 @@
+-- The tests of what the protocol reaches
+use Rattle.std.specs.Prelude.{◌≡◌, ℕ, ◌≤◌, Bool, false, not, ◌&&◌, ◌==◌, List, [], ◌∷◌, length}
+use Rattle.std.specs.List.{AllByRecursion}
+use Rattle.roc_lang.specs.Grammar.{standard}
+use Rattle.roc_program.specs.Program.{Piece, Procedure}
+use Rattle.roc_plan.specs.Groups.{Group}
+
+-- one piece, declared `later`
+abbrev pub is_later_alone : List Piece → Bool
+is_later_alone [] = false
+is_later_alone (piece ∷ []) = not piece.is_now
+is_later_alone (piece ∷ other ∷ rest) = false
+
+-- the first piece alone
+abbrev pub is_first_alone : List ℕ → Bool
+is_first_alone [] = false
+is_first_alone (k ∷ []) = k == 0
+is_first_alone (k ∷ l ∷ rest) = false
+
+-- a deferrable group of the first piece
+abbrev pub is_thin_group : Group → Bool
+is_thin_group g = not g.is_immediate && is_first_alone g.pieces
+
+-- such a group alone
+abbrev pub is_thin_row : List Group → Bool
+is_thin_row [] = false
+is_thin_row (g ∷ []) = is_thin_group g
+is_thin_row (g ∷ h ∷ rest) = false
+
+-- the one piece is within the limits
+pub record IsSinglePiece (procedure : Procedure) : Type 0 where
+  pub one_piece : length procedure.pieces ≡ 1
+  pub statements : AllByRecursion (λ piece. length piece.body ≤ standard.statements) procedure.pieces

@@ -1,0 +1,12 @@
+pub mod Program
+pub mod Values
+pub mod Names
+pub mod LookUps
+pub mod WellFormed
+pub mod Keys
+pub mod Resolve
+pub mod Pieces
+pub mod Conflict
+pub mod Parts
+pub mod Workload
+pub mod Inner

@@ -1,0 +1,33 @@
+-- The parts of a program by number, and what they are called. What is not there is empty.
+use Rattle.std.specs.Prelude.{ℕ, pos, false, List, [], Option, position, slice_index_or}
+use Rattle.std.specs.Str.{bytes_eq}
+use Rattle.roc_program.specs.Program.{Workload, Procedure, Piece, Table, Number}
+
+-- what stands for a piece, a procedure and a table that are not there
+abbrev pub no_piece : Piece
+no_piece = record { name = []; is_now = false; place = Number (pos 0); body = [] }
+
+abbrev pub no_procedure : Procedure
+no_procedure = record { name = []; arguments = 0; names = 0; pieces = [] }
+
+abbrev pub no_table : Table
+no_table = record { name = []; arity = 0; columns = [] }
+
+abbrev pub table_at : List Table → ℕ → Table
+table_at tables table = slice_index_or tables table no_table
+
+-- the number of the first procedure of this name
+abbrev pub procedure_named : Workload → List ℕ → Option ℕ
+procedure_named program name = position (λ procedure. bytes_eq procedure.name name) program.procedures
+
+abbrev pub procedure_name : Workload → ℕ → List ℕ
+procedure_name program proc = (slice_index_or program.procedures proc no_procedure).name
+
+abbrev pub table_name : Workload → ℕ → List ℕ
+table_name program table = (table_at program.tables table).name
+
+abbrev pub columns_of : Workload → ℕ → List (List ℕ)
+columns_of program table = (table_at program.tables table).columns
+
+abbrev pub column_name : Workload → (table column : ℕ) → List ℕ
+column_name program table column = slice_index_or (columns_of program table) column []

@@ -1,0 +1,24 @@
+-- What comes of the closing lines, and of a line that cannot be played
+use Rattle.std.specs.Prelude.{◌≡◌, ℕ, nat_lt, Bool, false, List, Option}
+use Rattle.roc_io.specs.Told.{Adds, AddsFront}
+use Rattle.roc_program.specs.Program.{Workload}
+use Rattle.roc_world.specs.World.{World}
+use Rattle.roc_sched.specs.declared.line.Act.{Act}
+use Rattle.roc_sched.specs.declared.line.Act.TheVariants as act
+use Rattle.roc_report.specs.Line.{End}
+use Rattle.roc_report.specs.Text.{lines_text}
+use Rattle.roc_replay.specs.declared.ended.Ended.{Ended}
+use Rattle.roc_replay.specs.declared.ended.Ended.TheVariants.{Done, Text, SinkFault, NoMemory}
+use Rattle.roc_replay.specs.Report.{end_line, closing_lines}
+
+-- the sink took the closing lines of a world, after so many submissions were refused as busy
+abbrev pub IsClosed : Workload → World → ℕ → Ended → (old new : Option (List ℕ)) → Type 0
+IsClosed program w busy (Done summary) old new = Adds old new (lines_text program (closing_lines w)) × (end_line w ≡ End summary.answered summary.pending summary.messages) × (summary.busy ≡ busy)
+IsClosed program w busy SinkFault old new = AddsFront old new (lines_text program (closing_lines w))
+IsClosed program w busy NoMemory old new = new ≡ old
+IsClosed program w busy (Text line what) old new = ⊥
+
+-- the act asks for a message that was not sent, where so many were
+abbrev pub asks_unsent : Act → ℕ → Bool
+asks_unsent (act.Deliver number) sent = nat_lt sent number
+asks_unsent (act.Submit coord proc args) sent = false

@@ -1,0 +1,22 @@
+-- What is newly decided: docs/PROTOCOL.md, "Commit"
+use Rattle.std.specs.Prelude.{List}
+use Rattle.roc_sequence.specs.Places.{IsListed}
+use Rattle.roc_base.specs.declared.id.TxnId.{TxnId}
+use Rattle.roc_base.specs.TxnId.{is_txn}
+use Rattle.roc_component.specs.Components.{IsTakingOrder}
+use Rattle.roc_depgraph.specs.declared.known.KnownList.{KnownList}
+use Rattle.roc_depgraph.specs.Deps.{IsDecided}
+
+-- decided by the lists, and not before
+abbrev pub IsNew : (before : TxnId → Type 0) → (known : List KnownList) → TxnId → Type 0
+IsNew before known t = IsDecided known t × (¬ before t)
+
+-- exactly those, in any order
+pub record AreAllNew (before : TxnId → Type 0) (known : List KnownList) (ts : List TxnId) : Type 0 where
+  pub only : (t : TxnId) → IsListed is_txn ts t → IsNew before known t
+  pub all : (t : TxnId) → IsNew before known t → IsListed is_txn ts t
+
+-- exactly those, in component order
+pub record AreNew (before : TxnId → Type 0) (known : List KnownList) (ts : List TxnId) : Type 0 where
+  pub members : AreAllNew before known ts
+  pub ordered : IsTakingOrder known ts ts

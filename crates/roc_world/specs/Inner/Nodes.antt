@@ -1,0 +1,37 @@
+-- What comes of an event at one of many nodes
+use Rattle.std.specs.Prelude.{◌≡◌, ℕ, ℤ, List, Some, Result, slice_get, slice_set}
+use Rattle.roc_base.specs.declared.id.TxnId.{TxnId}
+use Rattle.roc_msg.specs.declared.msg.Msg.{Msg}
+use Rattle.roc_msg.specs.declared.outbox.Outbox.{Outbox}
+use Rattle.roc_plan.specs.Groups.{Plan}
+use Rattle.roc_server.specs.declared.handled.Handled.{Handled as ServerHandled}
+use Rattle.roc_server.specs.State.{ServerState, ServerStep}
+use Rattle.roc_server.specs.Step.{Handles, Shows}
+use Rattle.roc_coord.specs.declared.handled.Handled.{Handled as CoordHandled}
+use Rattle.roc_coord.specs.declared.handled.SubmitFault.{SubmitFault}
+use Rattle.roc_coord.specs.State.{CoordState}
+use Rattle.roc_coord.specs.Step.{after_message, IsOutcome}
+use Rattle.roc_coord.specs.Submit.{after_submit, IsSubmitted}
+
+-- the server of a shard took a message, and no other changed
+pub record ServerTakes (plan : Plan) (shard : ℕ) (msg : Msg) (answer : ServerHandled) (old new : List ServerState) (before after : Outbox) : Type 0 where
+  pub server : ServerState
+  pub there : slice_get old shard ≡ Some server
+  pub step : ServerStep
+  pub handles : Handles plan server msg step
+  pub shows : Shows step answer step.state before after
+  pub others : new ≡ slice_set old shard step.state
+
+-- a coordinator took a message, and no other changed
+pub record CoordTakes (plan : Plan) (number : ℕ) (msg : Msg) (answer : CoordHandled) (old new : List CoordState) (before after : Outbox) : Type 0 where
+  pub coord : CoordState
+  pub there : slice_get old number ≡ Some coord
+  pub outcome : IsOutcome (after_message plan coord msg) answer (after_message plan coord msg).state before after
+  pub others : new ≡ slice_set old number (after_message plan coord msg).state
+
+-- a transaction was submitted at a coordinator, and no other changed
+pub record CoordSubmits (plan : Plan) (number proc : ℕ) (args : List ℤ) (answer : Result TxnId SubmitFault) (old new : List CoordState) (before after : Outbox) : Type 0 where
+  pub coord : CoordState
+  pub there : slice_get old number ≡ Some coord
+  pub submitted : IsSubmitted (after_submit plan coord proc args) answer (after_submit plan coord proc args).state before after
+  pub others : new ≡ slice_set old number (after_submit plan coord proc args).state
