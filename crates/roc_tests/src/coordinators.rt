@@ -1,0 +1,220 @@
+//! What a coordinator makes of submissions and messages that no honest caller or node sends, and where it is spent.
+ghost use Rattle.roc_plan.specs.Within.{IsWithin};
+ghost use Rattle.roc_coord.specs.Fits.{CoordFits};
+
+use crate::workloads::counter;
+use roc_base::{Edges, Nums, Shard, TxnId};
+use roc_coord::{Coord, Handled, SubmitFault};
+use roc_msg::{Msg, Outbox, Reason};
+use roc_plan::Plan;
+use std::alloc::Global;
+use std::process::Abort;
+use std::test::Fail;
+
+const FIRST: TxnId = TxnId { coord: 0, seq: 0 };
+
+fn startok(alloc: Global, id: TxnId, shard: u8) -> Msg {
+    Msg::StartOk {
+        id,
+        group: 0,
+        shard: Shard(shard),
+        bound: Nums::new(alloc),
+        outs: Nums::new(alloc),
+        edges: Edges::new(alloc),
+    }
+}
+
+fn commitok(alloc: Global, id: TxnId, outs: &[i64]) -> Result<Msg, Fail> {
+    let outs = Nums::from_slice(alloc, outs)?;
+    let shard = Shard(0);
+    Ok(Msg::CommitOk { id, shard, outs })
+}
+
+// Submits a call, and has it refused for a fault or accepted.
+fn submits(
+    rt: &impl Abort,
+    plan: &Plan,
+    coord: &mut Coord,
+    proc: u16,
+    args: &[i64],
+    out: &mut Outbox,
+    wanted: Result<TxnId, SubmitFault>,
+)
+    requires within { IsWithin plan.now }
+    requires fits { CoordFits plan.now coord.old }
+    ensures { CoordFits plan.now coord.new }
+{
+    let answer = coord.submit(plan, proc, args, out);
+    assert_eq!(rt; answer, wanted);
+}
+
+// Has a message taken, or ignored for a reason.
+fn handles(
+    rt: &impl Abort,
+    plan: &Plan,
+    coord: &mut Coord,
+    msg: &Msg,
+    out: &mut Outbox,
+    wanted: Option<Reason>,
+)
+    requires within { IsWithin plan.now }
+    requires fits { CoordFits plan.now coord.old }
+    ensures { CoordFits plan.now coord.new }
+{
+    let found = match coord.handle(plan, msg, out) {
+        Ok(Handled::Done | Handled::Answered { .. }) => None,
+        Ok(Handled::Ignored(reason)) => Some(reason),
+        Err(_) => panic!(rt; "no memory"),
+    };
+    assert_eq!(rt; found, wanted);
+}
+
+// Has messages handled in turn.
+fn handles_all(
+    rt: &impl Abort,
+    plan: &Plan,
+    coord: &mut Coord,
+    cases: &[(Msg, Option<Reason>)],
+    out: &mut Outbox,
+)
+    requires within { IsWithin plan.now }
+    requires fits { CoordFits plan.now coord.old }
+{
+    for (msg, wanted) in cases {
+        handles(rt, plan, coord, msg, out, *wanted);
+    }
+}
+
+// Has messages handled in turn by a coordinator that submitted one addition.
+fn check(rt: &impl Abort, alloc: Global, cases: &[(Msg, Option<Reason>)]) -> Result<(), Fail> {
+    let plan = counter(alloc)?;
+    let mut coord = Coord::new(alloc, 0);
+    let mut out = Outbox::new(alloc);
+    submits(rt, &plan, &mut coord, 0, &[1], &mut out, Ok(FIRST));
+    handles_all(rt, &plan, &mut coord, cases, &mut out);
+    Ok(())
+}
+
+#[test]
+fn forged_messages_are_ignored(rt: HostRuntime) -> Result<(), Fail> {
+    let alloc = rt.alloc();
+    let foreign = Msg::Commit {
+        id: FIRST,
+        edges: Edges::new(alloc),
+    };
+    let other = TxnId { coord: 0, seq: 1 };
+    let cases = [
+        (foreign, Some(Reason::Foreign)),
+        (startok(alloc, other, 0), Some(Reason::Stale)),
+        (startok(alloc, FIRST, 1), Some(Reason::Unfit)),
+        (commitok(alloc, FIRST, &[7])?, Some(Reason::Unfit)),
+    ];
+    check(&rt, alloc, cases.as_slice())
+}
+
+#[test]
+fn repeated_messages_are_ignored(rt: HostRuntime) -> Result<(), Fail> {
+    let alloc = rt.alloc();
+    let cases = [
+        (startok(alloc, FIRST, 0), None),
+        (startok(alloc, FIRST, 0), Some(Reason::Stale)),
+        (commitok(alloc, FIRST, &[7, 8])?, Some(Reason::Unfit)),
+        (commitok(alloc, FIRST, &[7])?, None),
+        (commitok(alloc, FIRST, &[7])?, Some(Reason::Stale)),
+    ];
+    check(&rt, alloc, cases.as_slice())
+}
+
+// Submits as many additions as may be unanswered.
+fn fills(rt: &impl Abort, plan: &Plan, coord: &mut Coord, out: &mut Outbox)
+    requires within { IsWithin plan.now }
+    requires fits { CoordFits plan.now coord.old }
+    ensures { CoordFits plan.now coord.new }
+{
+    for seq in 0..16 {
+        let id = TxnId { coord: 0, seq };
+        submits(rt, plan, coord, 0, &[1], out, Ok(id));
+    }
+}
+
+// Has submissions refused in turn, each for its fault.
+fn refuses(
+    rt: &impl Abort,
+    plan: &Plan,
+    coord: &mut Coord,
+    faults: &[(u16, &[i64], SubmitFault)],
+    out: &mut Outbox,
+)
+    requires within { IsWithin plan.now }
+    requires fits { CoordFits plan.now coord.old }
+{
+    for (proc, args, fault) in faults {
+        submits(rt, plan, coord, *proc, args, out, Err(*fault));
+    }
+}
+
+#[test]
+fn submissions_are_refused_for_a_fault(rt: HostRuntime) -> Result<(), Fail> {
+    let plan = counter(rt.alloc())?;
+    let mut coord = Coord::new(rt.alloc(), 0);
+    let mut out = Outbox::new(rt.alloc());
+    fills(&rt, &plan, &mut coord, &mut out);
+    let faults: [(u16, &[i64], SubmitFault); 3] = [
+        (1, &[1], SubmitFault::NoProc),
+        (0, &[1, 2], SubmitFault::Args),
+        (0, &[1], SubmitFault::Busy),
+    ];
+    refuses(&rt, &plan, &mut coord, faults.as_slice(), &mut out);
+    assert_eq!(rt; coord.unanswered().len(), 16);
+    Ok(())
+}
+
+// Has one addition submitted and answered.
+fn is_answered(
+    rt: &impl Abort,
+    alloc: Global,
+    plan: &Plan,
+    coord: &mut Coord,
+    seq: u32,
+    out: &mut Outbox,
+) -> Result<(), Fail>
+    requires within { IsWithin plan.now }
+    requires fits { CoordFits plan.now coord.old }
+    ensures { CoordFits plan.now coord.new }
+{
+    let id = TxnId { coord: 0, seq };
+    submits(rt, plan, coord, 0, &[1], out, Ok(id));
+    handles(rt, plan, coord, &startok(alloc, id, 0), out, None);
+    let ended = commitok(alloc, id, &[0])?;
+    handles(rt, plan, coord, &ended, out, None);
+    Ok(())
+}
+
+// Has as many additions submitted and answered, one after another, as a coordinator takes.
+fn spends(
+    rt: &impl Abort,
+    alloc: Global,
+    plan: &Plan,
+    coord: &mut Coord,
+    out: &mut Outbox,
+) -> Result<(), Fail>
+    requires within { IsWithin plan.now }
+    requires fits { CoordFits plan.now coord.old }
+    ensures { CoordFits plan.now coord.new }
+{
+    for seq in 0..256 {
+        is_answered(rt, alloc, plan, coord, seq, out)?;
+    }
+    Ok(())
+}
+
+#[test]
+fn a_coordinator_is_spent_after_256_transactions(rt: HostRuntime) -> Result<(), Fail> {
+    let plan = counter(rt.alloc())?;
+    let mut coord = Coord::new(rt.alloc(), 0);
+    let mut out = Outbox::new(rt.alloc());
+    spends(&rt, rt.alloc(), &plan, &mut coord, &mut out)?;
+    let spent = Err(SubmitFault::Spent);
+    submits(&rt, &plan, &mut coord, 0, &[1], &mut out, spent);
+    Ok(())
+}

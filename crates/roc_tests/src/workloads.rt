@@ -1,0 +1,28 @@
+//! Workloads of the tests.
+ghost use Rattle.std.specs.Prelude.{IfOk};
+ghost use Rattle.roc_plan.specs.Within.{IsWithin};
+
+use roc_parse::parse;
+use roc_plan::Plan;
+use roc_program::{Workload, resolve};
+use std::alloc::Global;
+use std::test::Fail;
+
+/// One counter on one shard.
+pub(crate) const COUNTER: &[u8] = b"shards 1;
+table t { x }
+proc add(n) { later a at 0 { get v = t[0].x; set t[0].x = v + n; out v; } }
+";
+
+/// The workload of a text.
+pub(crate) fn workload_of(alloc: Global, text: &[u8]) -> Result<Workload, Fail> {
+    let source = parse(alloc, text)?;
+    Ok(resolve(alloc, source)?)
+}
+
+/// The plan of the counter.
+pub(crate) fn counter(alloc: Global) -> Result<Plan, Fail>
+    ensures { IfOk result IsWithin }
+{
+    Ok(Plan::thin(alloc, workload_of(alloc, COUNTER)?)?)
+}
