@@ -14,10 +14,11 @@ use Rattle.roc_scgraph.specs.Graph.{piece_id, are_siblings, is_vertex, edge}
 use Rattle.roc_scgraph.specs.Cycles.{steps_to, is_fixed, is_conflict_edge}
 use Rattle.roc_scgraph.proofs.Vertices.{siblings_trans, siblings_swap, is_vertex-true, is_vertex-same, fixed_apart}
 
--- an immediate piece with a conflict
+-- an immediate piece with a conflict with an immediate piece
 pub record Meets (program : Workload) (immediate : PieceId → Bool) (v : Vertex) : Type 0 where
   pub at_start : immediate (piece_id v) ≡ true
   pub other : PieceId
+  pub other_at_start : immediate other ≡ true
   pub conflict : are_in_conflict program (piece_id v) other ≡ true
 
 -- two pieces of an instance
@@ -34,7 +35,7 @@ abbrev pub AreFixed : Workload → (PieceId → Bool) → List (Vertex × Vertex
 AreFixed program immediate steps = AllByRecursion (λ n. IsTrue (is_fixed (edge program immediate n.0 n.1))) steps
 
 -- a step between an instance and what is outside
-apart_from : (r a b : Vertex) → are_siblings r a ≡ true → are_siblings r b ≡ false → are_siblings a b ≡ false
+pub apart_from : (r a b : Vertex) → are_siblings r a ≡ true → are_siblings r b ≡ false → are_siblings a b ≡ false
 apart_from r a b h k = go (are_siblings a b) refl
   where
     go : (t : Bool) → are_siblings a b ≡ t → t ≡ false
@@ -81,14 +82,14 @@ module _ (program : Workload) (immediate : PieceId → Bool) (mirrored : (one ot
       → (v : Vertex) × Has v (vs ++ end ∷ []) × (are_siblings r v ≡ true) × Meets program immediate v
   enters r o [] end out inside fixed =
       let f = fixed_apart program immediate o end (apart_swap r o end out inside) fixed.0 in
-      (end, inl refl, inside, record { at_start = f.2; other = piece_id o; conflict = mirrored (piece_id end) (piece_id o) ∙ f.0 })
+      (end, inl refl, inside, record { at_start = f.2; other = piece_id o; other_at_start = f.1; conflict = mirrored (piece_id end) (piece_id o) ∙ f.0 })
   enters r o (v ∷ vs) end out inside fixed = go (are_siblings r v) refl (λ e. enters r v vs end e inside fixed.1)
     where
       go : (t : Bool) → are_siblings r v ≡ t → (are_siblings r v ≡ false → (w : Vertex) × Has w (vs ++ end ∷ []) × (are_siblings r w ≡ true) × Meets program immediate w)
           → (w : Vertex) × Has w (v ∷ (vs ++ end ∷ [])) × (are_siblings r w ≡ true) × Meets program immediate w
       go true e further =
           let f = fixed_apart program immediate o v (apart_swap r o v out e) fixed.0 in
-          (v, inl refl, e, record { at_start = f.2; other = piece_id o; conflict = mirrored (piece_id v) (piece_id o) ∙ f.0 })
+          (v, inl refl, e, record { at_start = f.2; other = piece_id o; other_at_start = f.1; conflict = mirrored (piece_id v) (piece_id o) ∙ f.0 })
       go false e further = let w = further e in (w.0, inr w.1, w.2, w.3)
 
   -- a path that begins and ends in an instance, and leaves it, leaves at one such piece and comes back at another
@@ -112,6 +113,6 @@ module _ (program : Workload) (immediate : PieceId → Bool) (mirrored : (one ot
             one_inside = inside;
             other_inside = w.2;
             apart = λ same. once.0 (subst (λ x. IsListed is_vertex (v ∷ (vs ++ end ∷ [])) x) (sym same) (has_listed is_vertex is_vertex-true is_vertex-same (v ∷ (vs ++ end ∷ [])) w.0 (inr w.1)));
-            one_meets = record { at_start = f.1; other = piece_id v; conflict = f.0 };
+            one_meets = record { at_start = f.1; other = piece_id v; other_at_start = f.2; conflict = f.0 };
             other_meets = w.3;
           }

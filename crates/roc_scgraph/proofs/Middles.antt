@@ -27,7 +27,7 @@ same_id_parts a b e f =
     let with_piece : ℕ → PieceId = λ n. record { proc = b.proc; piece = n } in
     ap with_proc e ∙ ap with_piece f
 
-first≢second : First ≢ Second
+pub first≢second : First ≢ Second
 first≢second e = false≢true (sym (ap (is_instance First) e))
 
 -- none is another

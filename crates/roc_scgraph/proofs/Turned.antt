@@ -28,7 +28,7 @@ back_none_twice is [] vs h = h
 back_none_twice is (u ∷ us) vs h = back_none_twice is us vs h.1
 
 -- what stands in the front does not stand behind it
-front_apart : (us vs : List Vertex) → NoneTwice is_vertex (us ++ vs) → (a : Vertex) → Has a us → Has a vs → ⊥
+pub front_apart : (us vs : List Vertex) → NoneTwice is_vertex (us ++ vs) → (a : Vertex) → Has a us → Has a vs → ⊥
 front_apart [] vs h a here back = here
 front_apart (u ∷ us) vs h a (inl e) back = h.0 (subst (IsListed is_vertex (us ++ vs)) e (has_listed is_vertex is_vertex-true is_vertex-same (us ++ vs) a (has_right a us vs back)))
 front_apart (u ∷ us) vs h a (inr k) back = front_apart us vs h.1 a k back
@@ -40,11 +40,11 @@ turned_none_twice us vs h =
 
 -- ---- steps
 
-steps-append : (u : Vertex) (vs : List Vertex) (w : Vertex) (ws : List Vertex) (end : Vertex) → steps_to u (vs ++ w ∷ ws) end ≡ steps_to u vs w ++ steps_to w ws end
+pub steps-append : (u : Vertex) (vs : List Vertex) (w : Vertex) (ws : List Vertex) (end : Vertex) → steps_to u (vs ++ w ∷ ws) end ≡ steps_to u vs w ++ steps_to w ws end
 steps-append u [] w ws end = refl
 steps-append u (v ∷ vs) w ws end = ap (λ rest. (u, v) ∷ rest) (steps-append v vs w ws end)
 
-front_all : {A : Type 0} (P : A → Type 0) (xs ys : List A) → AllByRecursion P (xs ++ ys) → AllByRecursion P xs
+pub front_all : {A : Type 0} (P : A → Type 0) (xs ys : List A) → AllByRecursion P (xs ++ ys) → AllByRecursion P xs
 front_all P [] ys h = tt
 front_all P (x ∷ xs) ys h = (h.0, front_all P xs ys h.1)
 

@@ -1,5 +1,5 @@
 -- What the tests of a list of vertices say of it as a cycle
-use Rattle.std.proofs.Common.{◌≡◌, ◌↔◌, ◌≤◌, ℕ, ◌+◌, Bool, true, false, List, ◌∷◌, length, IsTrue, sym, ◌∙◌, subst, arith}
+use Rattle.std.proofs.Common.{◌≡◌, ◌↔◌, ◌≤◌, Bool, true, false, List, ◌∷◌, length, IsTrue, sym, ◌∙◌, subst, arith}
 use Rattle.std.proofs.lemmas.Bool.{false≢true}
 use Rattle.std.specs.List.{AllByRecursion, list_all, list_any}
 use Rattle.roc_sequence.specs.Places.{NoneTwice}

@@ -1,2 +1,13 @@
 pub mod Tests
 pub mod Cycles
+pub mod Ordered
+pub mod Walked
+pub mod Listed
+pub mod Raised
+pub mod Simple
+pub mod Joined
+pub mod Leaving
+pub mod Bounded
+pub mod Sound
+pub mod Best
+pub mod Final

@@ -2,7 +2,7 @@
 use Rattle.std.proofs.Common.{◌≡◌, ◌↔◌, Bool, true, false, List, [], ◌∷◌, IsTrue, sym, ◌∙◌, subst, refl}
 use Rattle.std.proofs.lemmas.Bool.{false≢true, and_parts, and_from}
 use Rattle.std.specs.List.{AllByRecursion, list_all, list_any}
-use Rattle.roc_sequence.specs.Places.{NoneTwice, IsListed}
+use Rattle.roc_sequence.specs.Places.{NoneTwice}
 use Rattle.roc_sequence.proofs.Listed.{any_listed, listed_any}
 use Rattle.roc_scgraph.specs.declared.vertex.Vertex.{Vertex}
 use Rattle.roc_scgraph.specs.Graph.{is_vertex}

@@ -64,7 +64,7 @@ fn are_present(workload: &Workload, vertices: &[Vertex]) -> bool
     true
 }
 
-fn is_present(workload: &Workload, vertex: Vertex) -> bool
+pub(crate) fn is_present(workload: &Workload, vertex: Vertex) -> bool
     ensures { IsTrue result ↔ HasPiece workload.now (piece_id vertex) }
 {
     vertex.proc < procedure_count(workload) && vertex.piece < piece_count(workload, vertex.proc)

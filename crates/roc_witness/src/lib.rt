@@ -4,5 +4,11 @@
 #![tactic(auto)]
 
 mod cycle;
+mod order;
+mod search;
+mod table;
+mod vertices;
+mod walks;
 
 pub use cycle::is_unreorderable;
+pub use search::shortest;

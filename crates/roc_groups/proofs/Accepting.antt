@@ -1,0 +1,121 @@
+-- The merged groups of an acceptable workload are accepted, and what follows for accepted groups
+use Rattle.std.proofs.Common.{◌≡◌, ◌≢◌, ◌↔◌, ℕ, ◌<◌, Bool, true, false, List, length, IsTrue, refl, sym, ◌∙◌}
+use Rattle.std.proofs.lemmas.Bool.{and_parts, and_from, false_from_ne_true}
+use Rattle.roc_sequence.specs.Lists.{Has}
+use Rattle.roc_program.specs.Program.{Workload}
+use Rattle.roc_program.specs.Conflict.{are_in_conflict}
+use Rattle.roc_program.specs.WellFormed.{IsProgram}
+use Rattle.roc_program.specs.declared.piece_id.PieceId.{PieceId}
+use Rattle.roc_conflict.specs.Immediate.{IsImmediate, in_conflict}
+use Rattle.roc_conflict.specs.Contended.{has_conflict, is_contended}
+use Rattle.roc_conflict.proofs.Mirrored.{conflict_mirrored}
+use Rattle.roc_conflict.proofs.Present.{some_conflict}
+use Rattle.roc_conflict.proofs.Least.{present_from_immediate}
+use Rattle.roc_scgraph.specs.declared.vertex.Vertex.{Vertex}
+use Rattle.roc_scgraph.specs.Cycles.{IsUnreorderable}
+use Rattle.roc_groups.specs.Groups.{id_of, groups_in}
+use Rattle.roc_groups.specs.Core.{contended, IsAcceptable}
+use Rattle.roc_groups.specs.Grouping.{IsMerged}
+use Rattle.roc_groups.specs.Accepted.{over_groups, is_group_immediate, IsAcceptedIn, IsAcceptedGrouping}
+use Rattle.roc_groups.proofs.Cores.{core_immediate}
+use Rattle.roc_groups.proofs.Circles.{no_circle}
+use Rattle.roc_groups.proofs.Fused_classes.{AreFit, AreContendedTogether, over_least, one_contended, together_from_no_cycle, no_cycle_from_together}
+
+abbrev AreLeast : Workload → (PieceId → Bool) → Type 0
+AreLeast program is_immediate = (id : PieceId) → IsTrue (is_immediate id) ↔ IsImmediate program id
+
+module _ (program : Workload) (is_immediate : PieceId → Bool) (groups : List (List (List ℕ))) where
+  -- a contended piece belongs to a procedure that is there
+  pub proc_of_contended : AreLeast program is_immediate → (proc x : ℕ) → is_contended program is_immediate (id_of proc x) ≡ true → proc < length program.procedures
+  proc_of_contended least proc x h =
+      (present_from_immediate program (id_of proc x) ((least (id_of proc x)).0 (and_parts (is_immediate (id_of proc x)) (has_conflict program (id_of proc x)) h).0)).procedure
+
+  fit_from_merged : IsProgram program → AreLeast program is_immediate → IsMerged program is_immediate groups → AreFit program is_immediate groups
+  fit_from_merged well least merged = record {
+    even = merged.procedures;
+    grouping = λ proc below. (merged.each proc below).grouping;
+    immediate = λ proc below x y n t. core_immediate program is_immediate proc well least x ((merged.each proc below).alone x y n t).0;
+    least = least;
+  }
+
+  pub merged_accepted : IsProgram program → AreLeast program is_immediate → IsAcceptable program is_immediate → IsMerged program is_immediate groups → IsAcceptedGrouping program is_immediate groups
+  merged_accepted well least acceptable merged =
+      let fit = fit_from_merged well least merged in
+      record {
+        procedures = merged.procedures;
+        each = λ proc below. let is = merged.each proc below in record {
+          grouping = is.grouping;
+          co_located = λ x y n t. let c = is.alone x y n t in acceptable proc x y c.0 c.1;
+          immediate = λ x y n t. fit.immediate proc below x y n t;
+          no_circle = no_circle program is_immediate proc (groups_in groups proc) well is;
+        };
+        least = least;
+        no_cycle = no_cycle_from_together program is_immediate groups fit
+            (λ proc x y cx cy. (merged.each proc (proc_of_contended least proc x cx)).together x y (contended cx) (contended cy));
+      }
+
+  pub fit_from_each : length groups ≡ length program.procedures → AreLeast program is_immediate
+      → ((proc : ℕ) → proc < length program.procedures → IsAcceptedIn program is_immediate proc (groups_in groups proc)) → AreFit program is_immediate groups
+  fit_from_each even least each = record {
+    even = even;
+    grouping = λ proc below. (each proc below).grouping;
+    immediate = λ proc below x y n t. (each proc below).immediate x y n t;
+    least = least;
+  }
+
+  pub no_cycle_exactly : length groups ≡ length program.procedures → AreLeast program is_immediate
+      → ((proc : ℕ) → proc < length program.procedures → IsAcceptedIn program is_immediate proc (groups_in groups proc))
+      → ((cycle : List Vertex) → ¬ IsUnreorderable (over_groups program groups) (is_group_immediate is_immediate groups) cycle) ↔ AreContendedTogether program is_immediate groups
+  no_cycle_exactly even least each =
+      let fit = fit_from_each even least each in
+      (together_from_no_cycle program is_immediate groups fit, no_cycle_from_together program is_immediate groups fit)
+
+  module _ (is : IsAcceptedGrouping program is_immediate groups) where
+    fit : AreFit program is_immediate groups
+    fit = fit_from_each is.procedures is.least is.each
+
+    pub contended_together : AreContendedTogether program is_immediate groups
+    contended_together = together_from_no_cycle program is_immediate groups fit is.no_cycle
+
+    pub one_group_contended : (p q : PieceId) → p.proc ≡ q.proc → IsTrue (is_contended (over_groups program groups) (is_group_immediate is_immediate groups) p)
+        → IsTrue (is_contended (over_groups program groups) (is_group_immediate is_immediate groups) q) → p ≡ q
+    one_group_contended = one_contended program is_immediate groups fit contended_together
+
+    -- groups in conflict are both immediate, or both deferrable
+    pub one_class : (p q : PieceId) → IsTrue (are_in_conflict (over_groups program groups) p q) → is_group_immediate is_immediate groups p ≡ is_group_immediate is_immediate groups q
+    one_class p q h = go (is_group_immediate is_immediate groups p) refl (is_group_immediate is_immediate groups q) refl
+      where
+        along : (a b : PieceId) → are_in_conflict (over_groups program groups) a b ≡ true → is_group_immediate is_immediate groups a ≡ true → is_group_immediate is_immediate groups b ≡ true
+        along a b k e = (over_least program is_immediate groups fit b).1 (in_conflict ((over_least program is_immediate groups fit a).0 e) k)
+
+        go : (s : Bool) → is_group_immediate is_immediate groups p ≡ s → (t : Bool) → is_group_immediate is_immediate groups q ≡ t → s ≡ t
+        go true e true f = refl
+        go true e false f = sym (along p q h e) ∙ f
+        go false e true f = sym e ∙ along q p (conflict_mirrored (over_groups program groups) q p ∙ h) f
+        go false e false f = refl
+
+    -- two immediate groups of a procedure do not meet
+    pub siblings_apart : (p q : PieceId) → p ≢ q → p.proc ≡ q.proc → IsTrue (is_group_immediate is_immediate groups p) → are_in_conflict (over_groups program groups) p q ≡ false
+    siblings_apart p q n same h = false_from_ne_true (are_in_conflict (over_groups program groups) p q) meet
+      where
+        meet : are_in_conflict (over_groups program groups) p q ≡ true → ⊥
+        meet k =
+            let back : are_in_conflict (over_groups program groups) q p ≡ true = conflict_mirrored (over_groups program groups) q p ∙ k in
+            n (one_group_contended p q same
+            (and_from _ _ h (some_conflict (over_groups program groups) p q k))
+            (and_from _ _ (sym (one_class p q k) ∙ h) (some_conflict (over_groups program groups) q p back)))
+
+    -- nor do immediate pieces of two of its groups
+    pub pieces_apart : (proc : ℕ) (g h : List ℕ) (x y : ℕ) → Has g (groups_in groups proc) → Has h (groups_in groups proc) → g ≢ h → Has x g → Has y h
+        → IsTrue (is_immediate (id_of proc x)) → are_in_conflict program (id_of proc x) (id_of proc y) ≡ false
+    pieces_apart proc g h x y gs hs n one other i = false_from_ne_true (are_in_conflict program (id_of proc x) (id_of proc y)) meet
+      where
+        meet : are_in_conflict program (id_of proc x) (id_of proc y) ≡ true → ⊥
+        meet k =
+            let back : are_in_conflict program (id_of proc y) (id_of proc x) ≡ true = conflict_mirrored program (id_of proc y) (id_of proc x) ∙ k in
+            let j : is_immediate (id_of proc y) ≡ true = (is.least (id_of proc y)).1 (in_conflict ((is.least (id_of proc x)).0 i) k) in
+            let cx = and_from _ _ i (some_conflict program (id_of proc x) (id_of proc y) k) in
+            let cy = and_from _ _ j (some_conflict program (id_of proc y) (id_of proc x) back) in
+            let t = contended_together proc x y cx cy in
+            let of = (is.each proc (proc_of_contended is.least proc x cx)).grouping in
+            n (of.once g t.group x gs t.is one t.one ∙ sym (of.once h t.group y hs t.is other t.other))

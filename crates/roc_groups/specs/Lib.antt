@@ -1,0 +1,7 @@
+pub mod Groups
+pub mod Flow
+pub mod Core
+pub mod Grouping
+pub mod Refusals
+pub mod Accepted
+pub mod Inner

@@ -1,0 +1,7 @@
+use Rattle.std.proofs.Common.{ℕ, ◌<◌}
+use Rattle.roc_conflict.specs.Classes.{is_immediate}
+use Rattle.roc_merge.specs.Inner.Firsts.{IsJoined}
+use Rattle.roc_merge.proofs.apart.first_in.Given as goal
+
+abbrev pub invariant-loop-p : goal.invariant-loop-p
+invariant-loop-p l = (a b : ℕ) → a < l.p → IsJoined l.workload (is_immediate l.classes) l.proc a b

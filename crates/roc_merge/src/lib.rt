@@ -1,0 +1,19 @@
+//! Merging: the pieces of a workload that may not be cut become one group, or the workload is refused.
+//!
+//! Of each procedure the contended pieces and those between two of them on the data flow are one group, where they are at one place
+//! (transaction chopping, TODS 1995; merging of immediate pieces, ROCOCO, OSDI 2014). `docs/CHECKER.md` says it with examples, and
+//! the words of the contracts stand in `roc_groups`.
+//!
+//! The layers above may rely on this: [`merge`] gives the merged groups exactly where the workload is acceptable (or finds no memory
+//! for them), and else names exactly the first reason.
+#![tactic(auto)]
+
+mod apart;
+mod between;
+mod group;
+mod merging;
+mod refusal;
+mod tables;
+
+pub use merging::merge;
+pub use refusal::Refusal;

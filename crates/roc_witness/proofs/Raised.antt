@@ -1,0 +1,66 @@
+-- Levels one by one, until the shortest walk is found
+use Rattle.std.proofs.Common.{◌≡◌, ℕ, zero, suc, ◌+◌, ◌<◌, Bool, true, false, ◌&&◌, not, List, [], ◌∷◌, ◌++◌, length, get_or, refl, sym, ap, ◌∙◌, inl, inr, arith, length-append}
+use Rattle.std.proofs.Math.ListN.{get_or-append}
+use Rattle.std.proofs.Math.Seq.{get_or-append_seam}
+use Rattle.std.proofs.lemmas.Bool.{false≢true, cases_lt}
+use Rattle.roc_scgraph.specs.declared.vertex.Vertex.{Vertex}
+use Rattle.roc_scgraph.specs.Graph.{are_siblings, is_vertex}
+use Rattle.roc_scgraph.proofs.Vertices.{is_vertex-same}
+use Rattle.roc_witness.specs.Inner.Table.{joins}
+use Rattle.roc_witness.specs.Inner.Walks.{leads, HasNoWalk, IsLeastAdded, reaching, level, AreLevels, IsShortestWalk, HasNoShortWalk}
+
+-- from its start a walk leads to no sibling
+pub leads_out : (table : List (List Bool)) (start goal : Vertex) → are_siblings start goal ≡ true → leads table start start goal ≡ false
+leads_out table start goal h = go (joins table start goal)
+  where
+    inside : not (is_vertex start start && are_siblings start goal) ≡ false
+    inside = ap (λ (t : Bool). not (t && are_siblings start goal)) (is_vertex-same start) ∙ ap not h
+
+    go : (t : Bool) → (t && not (is_vertex start start && are_siblings start goal)) ≡ false
+    go true = inside
+    go false = refl
+
+module _ (leads : Vertex → Vertex → Bool) (vertices : List Vertex) (goal : Vertex) where
+  pub levels_start : AreLevels leads vertices goal ((goal ∷ []) ∷ [])
+  levels_start zero within = refl
+  levels_start (suc k) within = absurd (omega arith)
+
+  pub levels_more : (levels more : List (List Vertex)) (count : ℕ) (target next : List Vertex) → AreLevels leads vertices goal levels → length levels ≡ count + 1 → target ≡ level leads vertices goal count
+      → next ≡ reaching leads vertices target → more ≡ levels ++ next ∷ [] → AreLevels leads vertices goal more
+  levels_more levels more count target next known long is made e k within =
+      let size : length more ≡ count + 2 = omega (arith, ap (λ (ls : List (List Vertex)). length ls) e, length-append levels (next ∷ []), long) in
+      ap (λ (ls : List (List Vertex)). get_or ls k []) e
+      ∙ elim (cases_lt k (length levels)) [
+        | inl below ↦ get_or-append levels (next ∷ []) [] k below ∙ known k below
+        | inr past ↦
+            (let last : k ≡ suc count = omega arith in
+            let here : k ≡ length levels = omega arith in
+            ap (λ (n : ℕ). get_or (levels ++ next ∷ []) n []) here ∙ get_or-append_seam levels next [] [] ∙ made ∙ ap (reaching leads vertices) is ∙ ap (level leads vertices goal) (sym last))
+      ]
+
+  module _ (start : Vertex) where
+    pub none_at_once : leads start goal ≡ false → HasNoShortWalk leads vertices start goal 0
+    none_at_once h [] walk few = false≢true (sym h ∙ walk.joined.0)
+    none_at_once h (w ∷ ws) walk few = absurd (omega arith)
+
+    pub none_more : (count : ℕ) → HasNoShortWalk leads vertices start goal count → HasNoWalk leads vertices start goal (count + 1) → HasNoShortWalk leads vertices start goal (count + 1)
+    none_more count short long other walk few =
+        elim (cases_lt count (length other)) [
+          | inl above ↦ long other walk (omega arith)
+          | inr within ↦ short other walk within
+        ]
+
+    pub shortest_found : (count : ℕ) (front mid cycle : List Vertex) → count < 6 → HasNoShortWalk leads vertices start goal count → IsLeastAdded leads vertices start goal (count + 1) front mid → cycle ≡ mid ++ goal ∷ []
+        → IsShortestWalk leads vertices start goal front cycle
+    shortest_found count front mid cycle within none found e =
+        record {
+          way = found.way;
+          is = e ∙ ap (λ (vs : List Vertex). vs ++ goal ∷ []) found.added;
+          few = omega (arith, found.least.long);
+          walk = found.least.walk;
+          shortest = λ other walk. elim (cases_lt count (length other)) [
+            | inl above ↦ omega (arith, found.least.long)
+            | inr below ↦ absurd (none other walk below)
+          ];
+          least = λ other walk long. found.least.least other walk (long ∙ found.least.long);
+        }

@@ -1,0 +1,7 @@
+use Rattle.std.proofs.Common.{◌≡◌}
+use Rattle.roc_conflict.specs.Classes.{is_immediate}
+use Rattle.roc_witness.specs.Inner.Table.{row_of}
+use Rattle.roc_witness.proofs.table.row.Given as goal
+
+abbrev pub invariant-loop-number : goal.invariant-loop-number
+invariant-loop-number l = l.row.items ≡ row_of l.workload (is_immediate l.classes) l.one l.number

@@ -1,0 +1,4 @@
+pub mod Table
+pub mod Vertices
+pub mod Walks
+pub mod Candidates

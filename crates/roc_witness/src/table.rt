@@ -1,0 +1,136 @@
+//! Which pieces a fixed C-edge joins, found once for all pairs.
+ghost use Rattle.std.specs.Prelude.{◌≡◌, ◌*◌, length, map, IfOk};
+ghost use Rattle.std.specs.List.{range_with_len};
+ghost use Rattle.roc_program.specs.WellFormed.{IsProgram};
+ghost use Rattle.roc_conflict.specs.Classes.{is_immediate};
+ghost use Rattle.roc_scgraph.specs.Graph.{are_siblings};
+ghost use Rattle.roc_witness.specs.Inner.Table.{number_of, piece_at, meet, row_of, are_met, joins, IsTableOf};
+
+use roc_base::NoMemory;
+use roc_conflict::Classes;
+use roc_program::{PieceId, Workload, conflict};
+use roc_scgraph::Vertex;
+use roc_sequence::Sequence;
+use std::alloc::Global;
+use std::marker::Model;
+
+// As many as a procedure may have (`docs/LANGUAGE.md`, "Limits").
+const PIECES: u16 = 16;
+
+/// Of each two pieces whether they conflict and are both immediate.
+#[derive(Drop)]
+pub(crate) struct Table {
+    rows: Vec<Sequence<bool>>,
+}
+
+impl Model for Table {
+    ghost use Rattle.std.specs.Prelude.{Bool, List};
+
+    ghost Value = { List (List Bool) };
+
+    ghost view = { λ t. t.rows.items };
+}
+
+impl Table {
+    /// The table of a workload.
+    pub(crate) fn of(
+        alloc: Global,
+        workload: &Workload,
+        classes: &Classes,
+    ) -> Result<Table, NoMemory>
+        ensures { IfOk result (λ t. IsTableOf workload.now (is_immediate classes.now) t) }
+    {
+        let rows = rows(alloc, workload, classes, numbers(workload))?;
+        Ok(Table { rows })
+    }
+
+    /// Whether an edge joins two vertices that stands in the way of reordering.
+    pub(crate) fn joins(&self, one: Vertex, other: Vertex) -> bool
+        ensures { result ≡ joins self.now one other }
+    {
+        if are_siblings(one, other) {
+            one.piece != other.piece
+        } else {
+            self.are_met(one.id(), other.id())
+        }
+    }
+
+    fn are_met(&self, one: PieceId, other: PieceId) -> bool
+        ensures { result ≡ are_met self.now one other }
+    {
+        match self.rows.get(number_of(one)) {
+            Some(row) => match row.as_slice().get(number_of(other)) {
+                Some(met) => *met,
+                None => false,
+            },
+            None => false,
+        }
+    }
+}
+
+/// Whether two vertices belong to one instance of one procedure.
+pub(crate) fn are_siblings(one: Vertex, other: Vertex) -> bool
+    ensures { result ≡ are_siblings one other }
+{
+    one.proc == other.proc && one.instance == other.instance
+}
+
+fn number_of(id: PieceId) -> usize
+    ensures { result ≡ number_of id }
+{
+    usize::from(PIECES) * usize::from(id.proc) + usize::from(id.piece)
+}
+
+// How many numbers the pieces of a workload have.
+fn numbers(workload: &Workload) -> u16
+    ensures value { result ≡ 16 * length workload.now.procedures }
+    ensures well_formed { IsProgram workload.now }
+{
+    PIECES * workload.procedures().len() as u16
+}
+
+fn piece_at(number: u16) -> PieceId
+    ensures { result ≡ piece_at number }
+{
+    PieceId {
+        proc: number / PIECES,
+        piece: number % PIECES,
+    }
+}
+
+fn meet(workload: &Workload, classes: &Classes, one: PieceId, other: PieceId) -> bool
+    ensures { result ≡ meet workload.now (is_immediate classes.now) one other }
+{
+    classes.is_immediate(one) && classes.is_immediate(other) && conflict(workload, one, other)
+}
+
+fn row(
+    alloc: Global,
+    workload: &Workload,
+    classes: &Classes,
+    one: PieceId,
+    count: u16,
+) -> Result<Sequence<bool>, NoMemory>
+    ensures { IfOk result (λ r. r ≡ row_of workload.now (is_immediate classes.now) one count) }
+{
+    let mut row = Vec::new(alloc);
+    for number in 0..count {
+        row.push(meet(workload, classes, one, piece_at(number)))?;
+    }
+    Ok(Sequence::from_vec(row))
+}
+
+fn rows(
+    alloc: Global,
+    workload: &Workload,
+    classes: &Classes,
+    count: u16,
+) -> Result<Vec<Sequence<bool>>, NoMemory>
+    ensures { IfOk result (λ rows. rows.items ≡ map (λ n. row_of workload.now (is_immediate classes.now) (piece_at n) count) (range_with_len 0 count)) }
+{
+    let mut rows = Vec::new(alloc);
+    for number in 0..count {
+        rows.push(row(alloc, workload, classes, piece_at(number), count)?)?;
+    }
+    Ok(rows)
+}
