@@ -1,0 +1,9 @@
+pub mod Keys
+pub mod Hosts
+pub mod Judging
+pub mod Counts
+pub mod Tables
+pub mod EntryRules
+pub mod Reading
+pub mod Seating
+pub mod Whole
