@@ -1,25 +1,31 @@
 -- The merged groups of an acceptable workload are accepted, and what follows for accepted groups
-use Rattle.std.proofs.Common.{◌≡◌, ◌≢◌, ◌↔◌, ℕ, ◌<◌, Bool, true, false, List, length, IsTrue, refl, sym, ◌∙◌}
+use Rattle.std.proofs.Common.{◌≡◌, ◌≢◌, ◌↔◌, ℕ, ◌<◌, Bool, true, false, List, length, IsTrue, refl, sym, ◌∙◌, [], ◌∷◌, subst, arith, inl, inr}
 use Rattle.std.proofs.lemmas.Bool.{and_parts, and_from, false_from_ne_true}
+use Rattle.std.specs.List.{list_any}
 use Rattle.roc_sequence.specs.Lists.{Has}
+use Rattle.roc_sequence.proofs.Holds.{any_has, has_any, all_at}
+use Rattle.roc_program.specs.LookUps.{no_procedure}
 use Rattle.roc_program.specs.Program.{Workload}
 use Rattle.roc_program.specs.Conflict.{are_in_conflict}
-use Rattle.roc_program.specs.WellFormed.{IsProgram}
+use Rattle.roc_program.specs.WellFormed.{IsProgram, IsProcedure}
 use Rattle.roc_program.specs.declared.piece_id.PieceId.{PieceId}
-use Rattle.roc_conflict.specs.Immediate.{IsImmediate, in_conflict}
+use Rattle.roc_conflict.specs.Immediate.{IsImmediate, in_conflict, declared}
 use Rattle.roc_conflict.specs.Contended.{has_conflict, is_contended}
 use Rattle.roc_conflict.proofs.Mirrored.{conflict_mirrored}
-use Rattle.roc_conflict.proofs.Present.{some_conflict}
+use Rattle.roc_conflict.proofs.Present.{some_conflict, present_from_now}
 use Rattle.roc_conflict.proofs.Least.{present_from_immediate}
 use Rattle.roc_scgraph.specs.declared.vertex.Vertex.{Vertex}
 use Rattle.roc_scgraph.specs.Cycles.{IsUnreorderable}
-use Rattle.roc_groups.specs.Groups.{id_of, groups_in}
+use Rattle.roc_groups.specs.Flow.{feeds}
+use Rattle.roc_groups.proofs.Elements.{has_row}
+use Rattle.roc_groups.proofs.Forward.{forward}
+use Rattle.roc_groups.specs.Groups.{id_of, groups_in, group_at}
 use Rattle.roc_groups.specs.Core.{contended, IsAcceptable}
-use Rattle.roc_groups.specs.Grouping.{IsMerged}
-use Rattle.roc_groups.specs.Accepted.{over_groups, is_group_immediate, IsAcceptedIn, IsAcceptedGrouping}
+use Rattle.roc_groups.specs.Grouping.{AreTogether, IsMerged}
+use Rattle.roc_groups.specs.Accepted.{over_groups, is_group_immediate, IsAcceptedIn, IsAcceptedGrouping, group_feeds}
 use Rattle.roc_groups.proofs.Cores.{core_immediate}
 use Rattle.roc_groups.proofs.Circles.{no_circle}
-use Rattle.roc_groups.proofs.Fused_classes.{AreFit, AreContendedTogether, over_least, one_contended, together_from_no_cycle, no_cycle_from_together}
+use Rattle.roc_groups.proofs.Fused_classes.{AreFit, AreContendedTogether, over_least, one_contended, together_from_no_cycle, no_cycle_from_together, same_group}
 
 abbrev AreLeast : Workload → (PieceId → Bool) → Type 0
 AreLeast program is_immediate = (id : PieceId) → IsTrue (is_immediate id) ↔ IsImmediate program id
@@ -119,3 +125,29 @@ module _ (program : Workload) (is_immediate : PieceId → Bool) (groups : List (
             let t = contended_together proc x y cx cy in
             let of = (is.each proc (proc_of_contended is.least proc x cx)).grouping in
             n (of.once g t.group x gs t.is one t.one ∙ sym (of.once h t.group y hs t.is other t.other))
+
+-- what another group needs is immediate
+pub needed_immediate : (program : Workload) (is_immediate : PieceId → Bool) (groups : List (List (List ℕ))) → IsProgram program → IsAcceptedGrouping program is_immediate groups
+    → (proc g h : ℕ) → proc < length program.procedures → g ≢ h → IsTrue (group_feeds program proc (groups_in groups proc) g h) → IsTrue (is_group_immediate is_immediate groups (id_of proc g))
+needed_immediate program is_immediate groups well is proc g h below apart feed =
+    let z = any_has (λ z. list_any (feeds program proc z) (group_at (groups_in groups proc) h)) (group_at (groups_in groups proc) g) feed in
+    let y = any_has (feeds program proc z.0) (group_at (groups_in groups proc) h) z.2 in
+    elim (forward program well proc z.0 y.0 y.2) [
+      | inl e ↦ (let inside : Has z.0 (group_at (groups_in groups proc) h) = subst (λ k. Has k (group_at (groups_in groups proc) h)) (sym e) y.1 in
+          let t : AreTogether (groups_in groups proc) z.0 z.0 = record { group = group_at (groups_in groups proc) g; is = has_row z.0 (groups_in groups proc) g z.1; one = z.1; other = z.1 } in
+          absurd (apart (same_group program is_immediate groups (fit program is_immediate groups is) proc g h z.0 z.0 z.1 inside below t)))
+      | inr l ↦ has_any (λ x. is_immediate (id_of proc x)) (group_at (groups_in groups proc) g) z.0 z.1
+          ((is.least (id_of proc z.0)).1 (declared (present_from_now program (id_of proc z.0) l.1) l.1))
+    ]
+
+-- each procedure has a group
+pub some_group : (program : Workload) (is_immediate : PieceId → Bool) (groups : List (List (List ℕ))) → IsProgram program → IsAcceptedGrouping program is_immediate groups
+    → (proc : ℕ) → proc < length program.procedures → 0 < length (groups_in groups proc)
+some_group program is_immediate groups well is proc below =
+    let some = (all_at (IsProcedure program.tables) program.procedures proc no_procedure well.procedures below).some_piece in
+    let t = ((is.each proc below).grouping.whole 0).0 some in
+    some_of t.group (groups_in groups proc) t.is
+  where
+    some_of : (g : List ℕ) (gs : List (List ℕ)) → Has g gs → 0 < length gs
+    some_of g [] h = absurd h
+    some_of g (k ∷ gs) h = omega arith

@@ -12,7 +12,7 @@ ghost use Rattle.roc_scgraph.specs.Cycles.{IsUnreorderable};
 ghost use Rattle.roc_groups.specs.Groups.{id_of, groups_in};
 ghost use Rattle.roc_groups.specs.Core.{IsAcceptable};
 ghost use Rattle.roc_groups.specs.Grouping.{AreTogether, IsMerged};
-ghost use Rattle.roc_groups.specs.Accepted.{over_groups, is_group_immediate, IsAcceptedIn, IsAcceptedGrouping};
+ghost use Rattle.roc_groups.specs.Accepted.{over_groups, is_group_immediate, group_feeds, IsAcceptedIn, IsAcceptedGrouping};
 
 /// At most one grouping is the merged one.
 pub fn merged_groups_are_one()
@@ -52,4 +52,13 @@ pub fn accepted_groups_meet_others_alone()
     ensures pieces_apart { (program : Workload) (is_immediate : PieceId → Bool) (groups : List (List (List ℕ))) → IsAcceptedGrouping program is_immediate groups
         → (proc : ℕ) (g h : List ℕ) (x y : ℕ) → Has g (groups_in groups proc) → Has h (groups_in groups proc) → g ≢ h → Has x g → Has y h
         → IsTrue (is_immediate (id_of proc x)) → are_in_conflict program (id_of proc x) (id_of proc y) ≡ false }
+{}
+
+/// Of accepted groups of a well-formed program each procedure has one at least, and what a group needs of others comes from immediate
+/// ones.
+pub fn accepted_groups_need_immediate_ones()
+    ensures some { (program : Workload) (is_immediate : PieceId → Bool) (groups : List (List (List ℕ))) → IsProgram program → IsAcceptedGrouping program is_immediate groups
+        → (proc : ℕ) → proc < length program.procedures → 0 < length (groups_in groups proc) }
+    ensures needed { (program : Workload) (is_immediate : PieceId → Bool) (groups : List (List (List ℕ))) → IsProgram program → IsAcceptedGrouping program is_immediate groups
+        → (proc g h : ℕ) → proc < length program.procedures → g ≢ h → IsTrue (group_feeds program proc (groups_in groups proc) g h) → IsTrue (is_group_immediate is_immediate groups (id_of proc g)) }
 {}

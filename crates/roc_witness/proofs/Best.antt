@@ -21,7 +21,7 @@ module _ (P Q R : List Vertex → Type 0) (left : (d : List Vertex) → P d → 
       go true e = sym (better_between d a b e h) ∙ k
       go false e = refl
 
-  pub best_of_two : (a b : Option (List Vertex)) → IsBest P a → IsBest Q b → IsBest R (better_of a b)
+  best_of_two : (a b : Option (List Vertex)) → IsBest P a → IsBest Q b → IsBest R (better_of a b)
   best_of_two None None h k = λ d r. elim (either d r) [ inl i ↦ h d i | inr j ↦ k d j ]
   best_of_two None (Some b) h k = (right b k.0, λ d r. elim (either d r) [ inl i ↦ absurd (h d i) | inr j ↦ k.1 d j ])
   best_of_two (Some a) None h k = (left a h.0, λ d r. elim (either d r) [ inl i ↦ h.1 d i | inr j ↦ absurd (k d j) ])

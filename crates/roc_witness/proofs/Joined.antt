@@ -15,10 +15,10 @@ use Rattle.roc_scgraph.specs.Cycles.{is_fixed}
 use Rattle.roc_scgraph.proofs.Middles.{same_id_parts}
 use Rattle.roc_witness.specs.Inner.Table.{number_of, piece_at, meet, row_of, table_of, joins, IsTableOf}
 
-quotient : (m k : ℕ) → k < 16 → (16 * m + k) / 16 ≡ m
+pub quotient : (m k : ℕ) → k < 16 → (16 * m + k) / 16 ≡ m
 quotient m k h = omega arith
 
-remainder : (m k : ℕ) → k < 16 → (16 * m + k) % 16 ≡ k
+pub remainder : (m k : ℕ) → k < 16 → (16 * m + k) % 16 ≡ k
 remainder m k h = omega arith
 
 module _ (program : Workload) (formed : IsProgram program) where

@@ -140,10 +140,10 @@ module _ (program : Workload) (immediate : PieceId → Bool) (table : List (List
 
   -- ---- the cycle that leaves there
 
-  pub lead_own : lead p p.piece ≡ first p ∷ []
+  lead_own : lead p p.piece ≡ first p ∷ []
   lead_own = ap (λ (t : Bool). cond t (first p ∷ []) (first p ∷ sibling p p.piece ∷ [])) (eq-eqb p.piece p.piece refl)
 
-  pub lead_other : (piece : ℕ) → p.piece ≢ piece → lead p piece ≡ first p ∷ sibling p piece ∷ []
+  lead_other : (piece : ℕ) → p.piece ≢ piece → lead p piece ≡ first p ∷ sibling p piece ∷ []
   lead_other piece n = go (p.piece == piece) refl
     where
       go : (t : Bool) → (p.piece == piece) ≡ t → cond t (first p ∷ []) (first p ∷ sibling p piece ∷ []) ≡ first p ∷ sibling p piece ∷ []

@@ -11,3 +11,4 @@ pub mod Bounded
 pub mod Sound
 pub mod Best
 pub mod Final
+pub mod Gathered

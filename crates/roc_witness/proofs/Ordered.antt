@@ -50,7 +50,7 @@ one_place Second Second e = refl
 by_numbers : (a b : Vertex) → is_before a b ≡ three a.proc a.piece (place a.instance) b.proc b.piece (place b.instance)
 by_numbers a b = ap (λ (t : Bool). nat_lt a.proc b.proc || ((a.proc == b.proc) && (nat_lt a.piece b.piece || ((a.piece == b.piece) && t)))) (earlier a.instance b.instance)
 
-pub before_swap : (a b : Vertex) → is_before a b ≡ true → is_before b a ≡ false
+before_swap : (a b : Vertex) → is_before a b ≡ true → is_before b a ≡ false
 before_swap a b h = by_numbers b a ∙ three_swap a.proc a.piece (place a.instance) b.proc b.piece (place b.instance) (sym (by_numbers a b) ∙ h)
 
 before_trans : (a b c : Vertex) → is_before a b ≡ true → is_before b c ≡ true → is_before a c ≡ true
@@ -58,7 +58,7 @@ before_trans a b c h k =
     by_numbers a c
     ∙ three_trans a.proc a.piece (place a.instance) b.proc b.piece (place b.instance) c.proc c.piece (place c.instance) (sym (by_numbers a b) ∙ h) (sym (by_numbers b c) ∙ k)
 
-pub before_self : (a : Vertex) → is_before a a ≡ false
+before_self : (a : Vertex) → is_before a a ≡ false
 before_self a = go (is_before a a) refl
   where
     go : (t : Bool) → is_before a a ≡ t → t ≡ false

@@ -1,13 +1,15 @@
 -- Levels one by one, until the shortest walk is found
-use Rattle.std.proofs.Common.{◌≡◌, ℕ, zero, suc, ◌+◌, ◌<◌, Bool, true, false, ◌&&◌, not, List, [], ◌∷◌, ◌++◌, length, get_or, refl, sym, ap, ◌∙◌, inl, inr, arith, length-append}
+use Rattle.std.proofs.Common.{◌≡◌, ℕ, zero, suc, ◌+◌, Bool, true, false, ◌&&◌, not, List, [], ◌∷◌, ◌++◌, length, get_or, refl, sym, ap, ◌∙◌, inl, inr, arith, length-append}
 use Rattle.std.proofs.Math.ListN.{get_or-append}
 use Rattle.std.proofs.Math.Seq.{get_or-append_seam}
 use Rattle.std.proofs.lemmas.Bool.{false≢true, cases_lt}
+use Rattle.std.specs.List.{list_any}
+use Rattle.roc_sequence.proofs.Holds.{has_any}
 use Rattle.roc_scgraph.specs.declared.vertex.Vertex.{Vertex}
 use Rattle.roc_scgraph.specs.Graph.{are_siblings, is_vertex}
 use Rattle.roc_scgraph.proofs.Vertices.{is_vertex-same}
 use Rattle.roc_witness.specs.Inner.Table.{joins}
-use Rattle.roc_witness.specs.Inner.Walks.{leads, HasNoWalk, IsLeastAdded, reaching, level, AreLevels, IsShortestWalk, HasNoShortWalk}
+use Rattle.roc_witness.specs.Inner.Walks.{leads, HasNoWalk, reaching, level, AreLevels, HasNoShortWalk}
 
 -- from its start a walk leads to no sibling
 pub leads_out : (table : List (List Bool)) (start goal : Vertex) → are_siblings start goal ≡ true → leads table start start goal ≡ false
@@ -43,24 +45,14 @@ module _ (leads : Vertex → Vertex → Bool) (vertices : List Vertex) (goal : V
     none_at_once h [] walk few = false≢true (sym h ∙ walk.joined.0)
     none_at_once h (w ∷ ws) walk few = absurd (omega arith)
 
+    -- nor any where no vertex can be reached
+    pub none_out : leads start goal ≡ false → list_any (leads start) vertices ≡ false → (most : ℕ) → HasNoShortWalk leads vertices start goal most
+    none_out h none most [] walk few = false≢true (sym h ∙ walk.joined.0)
+    none_out h none most (w ∷ ws) walk few = false≢true (sym none ∙ has_any (leads start) vertices w walk.within.0 walk.joined.0)
+
     pub none_more : (count : ℕ) → HasNoShortWalk leads vertices start goal count → HasNoWalk leads vertices start goal (count + 1) → HasNoShortWalk leads vertices start goal (count + 1)
     none_more count short long other walk few =
         elim (cases_lt count (length other)) [
           | inl above ↦ long other walk (omega arith)
           | inr within ↦ short other walk within
         ]
-
-    pub shortest_found : (count : ℕ) (front mid cycle : List Vertex) → count < 6 → HasNoShortWalk leads vertices start goal count → IsLeastAdded leads vertices start goal (count + 1) front mid → cycle ≡ mid ++ goal ∷ []
-        → IsShortestWalk leads vertices start goal front cycle
-    shortest_found count front mid cycle within none found e =
-        record {
-          way = found.way;
-          is = e ∙ ap (λ (vs : List Vertex). vs ++ goal ∷ []) found.added;
-          few = omega (arith, found.least.long);
-          walk = found.least.walk;
-          shortest = λ other walk. elim (cases_lt count (length other)) [
-            | inl above ↦ omega (arith, found.least.long)
-            | inr below ↦ absurd (none other walk below)
-          ];
-          least = λ other walk long. found.least.least other walk (long ∙ found.least.long);
-        }

@@ -41,14 +41,14 @@ module _ (leads : Vertex → Vertex → Bool) (vertices : List Vertex) (goal : V
   At count = level leads vertices goal count
 
   -- a walk begins at its level
-  pub at_level : (v : Vertex) (way : List Vertex) → Has v vertices → IsWalk leads vertices v goal way → Has v (At (suc (length way)))
+  at_level : (v : Vertex) (way : List Vertex) → Has v vertices → IsWalk leads vertices v goal way → Has v (At (suc (length way)))
   at_level v [] there walk = has_filter (λ u. list_any (leads u) (goal ∷ [])) v vertices there (or_left (leads v goal) false walk.joined.0)
   at_level v (w ∷ ws) there walk =
       has_filter (λ u. list_any (leads u) (At (suc (length ws)))) v vertices there
       (has_any (leads v) (At (suc (length ws))) w (at_level w ws walk.within.0 (record { within = walk.within.1; joined = walk.joined.1 })) walk.joined.0)
 
   -- and at a level a walk begins
-  pub from_level : (count : ℕ) (v : Vertex) → Has v (At (suc count)) → Has v vertices × ((way : List Vertex) × IsWalk leads vertices v goal way × (length way ≡ count))
+  from_level : (count : ℕ) (v : Vertex) → Has v (At (suc count)) → Has v vertices × ((way : List Vertex) × IsWalk leads vertices v goal way × (length way ≡ count))
   from_level zero v h =
       let k = from_has_filter (λ u. list_any (leads u) (goal ∷ [])) v vertices h in
       let r = any_has (leads v) (goal ∷ []) k.1 in
@@ -61,18 +61,18 @@ module _ (leads : Vertex → Vertex → Bool) (vertices : List Vertex) (goal : V
 
   module _ (from : Vertex) (count : ℕ) where
     -- where none of the level can be reached there is no walk
-    pub none_led : find (leads from) (At (suc count)) ≡ None → HasNoWalk leads vertices from goal (suc count)
+    none_led : find (leads from) (At (suc count)) ≡ None → HasNoWalk leads vertices from goal (suc count)
     none_led e [] walk long = absurd (omega arith)
     none_led e (w ∷ ws) walk long =
         let n : length ws ≡ count = omega arith in
         none_passes (leads from) (At (suc count)) e w (subst (λ k. Has w (At (suc k))) n (at_level w ws walk.within.0 (record { within = walk.within.1; joined = walk.joined.1 }))) walk.joined.0
 
     -- where one can be reached, a walk goes on there
-    pub goes_on : (v : Vertex) → find (leads from) (At (suc count)) ≡ Some v → HasNoWalk leads vertices v goal count → ⊥
+    goes_on : (v : Vertex) → find (leads from) (At (suc count)) ≡ Some v → HasNoWalk leads vertices v goal count → ⊥
     goes_on v e none = let r = from_level count v (found_has (leads from) (At (suc count)) v e).0 in none r.1.0 r.1.1 r.1.2
 
     -- the least walk goes through the first of them
-    pub least_led : (v : Vertex) (way : List Vertex) → IsRising is_before vertices → find (leads from) (At (suc count)) ≡ Some v → IsLeastWalk leads vertices v goal count way → IsLeastWalk leads vertices from goal (suc count) (v ∷ way)
+    least_led : (v : Vertex) (way : List Vertex) → IsRising is_before vertices → find (leads from) (At (suc count)) ≡ Some v → IsLeastWalk leads vertices v goal count way → IsLeastWalk leads vertices from goal (suc count) (v ∷ way)
     least_led v way rising e least =
         let found = found_has (leads from) (At (suc count)) v e in
         record {

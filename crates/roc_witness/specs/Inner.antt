@@ -1,3 +1,4 @@
+pub mod Columns
 pub mod Table
 pub mod Vertices
 pub mod Walks

@@ -4,11 +4,13 @@ ghost use Rattle.std.specs.List.{range_with_len};
 ghost use Rattle.roc_program.specs.WellFormed.{IsProgram};
 ghost use Rattle.roc_conflict.specs.Classes.{is_immediate};
 ghost use Rattle.roc_scgraph.specs.Graph.{are_siblings};
+ghost use Rattle.roc_witness.specs.Inner.Columns.{columns_of, AreColumns};
 ghost use Rattle.roc_witness.specs.Inner.Table.{number_of, piece_at, meet, row_of, are_met, joins, IsTableOf};
 
+use crate::columns::Columns;
 use roc_base::NoMemory;
 use roc_conflict::Classes;
-use roc_program::{PieceId, Workload, conflict};
+use roc_program::{PieceId, Workload};
 use roc_scgraph::Vertex;
 use roc_sequence::Sequence;
 use std::alloc::Global;
@@ -40,7 +42,8 @@ impl Table {
     ) -> Result<Table, NoMemory>
         ensures { IfOk result (λ t. IsTableOf workload.now (is_immediate classes.now) t) }
     {
-        let rows = rows(alloc, workload, classes, numbers(workload))?;
+        let columns = columns(alloc, workload)?;
+        let rows = rows(alloc, workload, classes, &columns)?;
         Ok(Table { rows })
     }
 
@@ -98,10 +101,11 @@ fn piece_at(number: u16) -> PieceId
     }
 }
 
-fn meet(workload: &Workload, classes: &Classes, one: PieceId, other: PieceId) -> bool
-    ensures { result ≡ meet workload.now (is_immediate classes.now) one other }
+fn meet(workload: &Workload, classes: &Classes, one: PieceId, other: &Columns) -> bool
+    requires { other.now ≡ columns_of workload.now other.now.piece }
+    ensures { result ≡ meet workload.now (is_immediate classes.now) one other.now.piece }
 {
-    classes.is_immediate(one) && classes.is_immediate(other) && conflict(workload, one, other)
+    classes.is_immediate(one) && classes.is_immediate(other.piece) && other.conflict(workload, one)
 }
 
 fn row(
@@ -109,28 +113,43 @@ fn row(
     workload: &Workload,
     classes: &Classes,
     one: PieceId,
-    count: u16,
+    others: &[Columns],
 ) -> Result<Sequence<bool>, NoMemory>
-    ensures { IfOk result (λ r. r ≡ row_of workload.now (is_immediate classes.now) one count) }
+    requires { AreColumns workload.now others.now }
+    ensures { IfOk result (λ r. r ≡ row_of workload.now (is_immediate classes.now) one (length others.now)) }
 {
     let mut row = Vec::new(alloc);
-    for number in 0..count {
-        row.push(meet(workload, classes, one, piece_at(number)))?;
+    for other in others {
+        row.push(meet(workload, classes, one, other))?;
     }
     Ok(Sequence::from_vec(row))
+}
+
+// Those of all pieces, by number.
+fn columns(alloc: Global, workload: &Workload) -> Result<Vec<Columns>, NoMemory>
+    ensures columns { IfOk result (λ columns. AreColumns workload.now columns.items) }
+    ensures count { IfOk result (λ columns. length columns.items ≡ 16 * length workload.now.procedures) }
+    ensures well_formed { IsProgram workload.now }
+{
+    let mut columns = Vec::new(alloc);
+    for number in 0..numbers(workload) {
+        columns.push(Columns::of(alloc, workload, piece_at(number))?)?;
+    }
+    Ok(columns)
 }
 
 fn rows(
     alloc: Global,
     workload: &Workload,
     classes: &Classes,
-    count: u16,
+    columns: &[Columns],
 ) -> Result<Vec<Sequence<bool>>, NoMemory>
-    ensures { IfOk result (λ rows. rows.items ≡ map (λ n. row_of workload.now (is_immediate classes.now) (piece_at n) count) (range_with_len 0 count)) }
+    requires { AreColumns workload.now columns.now }
+    ensures { IfOk result (λ rows. rows.items ≡ map (λ n. row_of workload.now (is_immediate classes.now) (piece_at n) (length columns.now)) (range_with_len 0 (length columns.now))) }
 {
     let mut rows = Vec::new(alloc);
-    for number in 0..count {
-        rows.push(row(alloc, workload, classes, piece_at(number), count)?)?;
+    for one in columns {
+        rows.push(row(alloc, workload, classes, one.piece, columns)?)?;
     }
     Ok(rows)
 }

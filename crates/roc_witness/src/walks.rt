@@ -42,6 +42,9 @@ impl Walks {
             (spec.HasNoShortWalk (spec.leads table.now self.now.start) self.now.vertices self.now.start self.now.goal 6)
             (λ c. spec.IsShortestWalk (spec.leads table.now self.now.start) self.now.vertices self.now.start self.now.goal front.now c.items)) }
     {
+        if !leads_to_any(table, self.start, self.start, self.vertices.as_slice()) {
+            return Ok(None);
+        }
         let mut levels = Vec::new(alloc);
         levels.push(Sequence::from_slice(alloc, &[self.goal])?)?;
         for left in 0..MOST {

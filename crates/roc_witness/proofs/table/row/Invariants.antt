@@ -3,5 +3,5 @@ use Rattle.roc_conflict.specs.Classes.{is_immediate}
 use Rattle.roc_witness.specs.Inner.Table.{row_of}
 use Rattle.roc_witness.proofs.table.row.Given as goal
 
-abbrev pub invariant-loop-number : goal.invariant-loop-number
-invariant-loop-number l = l.row.items ≡ row_of l.workload (is_immediate l.classes) l.one l.number
+abbrev pub invariant-loop-other : goal.invariant-loop-other
+invariant-loop-other l = l.row.items ≡ row_of l.workload (is_immediate l.classes) l.one l.other-index

@@ -1,0 +1,7 @@
+use Rattle.std.proofs.Common.{◌≡◌, map}
+use Rattle.roc_program.specs.Parts as view
+use Rattle.roc_witness.specs.Inner.Columns.{writes, marks}
+use Rattle.roc_witness.proofs.columns.written.Given as goal
+
+abbrev pub invariant-loop-number : goal.invariant-loop-number
+invariant-loop-number l = l.written.items ≡ marks writes (map view.statement l.body) l.number
