@@ -5,7 +5,7 @@ ghost use Rattle.roc_coord.specs.Fits.{CoordFits};
 use crate::workloads::counter;
 use roc_base::{Edges, Nums, Shard, TxnId};
 use roc_coord::{Coord, Handled, SubmitFault};
-use roc_msg::{Msg, Outbox, Reason};
+use roc_msg::{Facts, Msg, Outbox, Reason};
 use roc_plan::Plan;
 use std::alloc::Global;
 use std::process::Abort;
@@ -21,6 +21,7 @@ fn startok(alloc: Global, id: TxnId, shard: u8) -> Msg {
         bound: Nums::new(alloc),
         outs: Nums::new(alloc),
         edges: Edges::new(alloc),
+        facts: Facts::new(alloc),
     }
 }
 
@@ -101,10 +102,12 @@ fn forged_messages_are_ignored(rt: HostRuntime) -> Result<(), Fail> {
     let foreign = Msg::Commit {
         id: FIRST,
         edges: Edges::new(alloc),
+        facts: Facts::new(alloc),
     };
     let other = TxnId { coord: 0, seq: 1 };
     let cases = [
         (foreign, Some(Reason::Foreign)),
+        (Msg::Stop, Some(Reason::Foreign)),
         (startok(alloc, other, 0), Some(Reason::Stale)),
         (startok(alloc, FIRST, 1), Some(Reason::Unfit)),
         (commitok(alloc, FIRST, &[7])?, Some(Reason::Unfit)),

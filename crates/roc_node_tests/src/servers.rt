@@ -4,7 +4,7 @@ ghost use Rattle.roc_server.specs.Fits.{ServerFits};
 
 use crate::workloads::counter;
 use roc_base::{Edge, Edges, Nums, Shard, TxnId};
-use roc_msg::{Msg, Outbox, Reason};
+use roc_msg::{Facts, Msg, Outbox, Reason};
 use roc_plan::Plan;
 use roc_server::{Handled, Server};
 use std::alloc::Global;
@@ -28,7 +28,11 @@ fn start(alloc: Global, proc: u16, group: u16, args: &[i64]) -> Result<Msg, Fail
 fn commit(alloc: Global, before: &[Edge]) -> Result<Msg, Fail> {
     let mut edges = Edges::new(alloc);
     edges.unite(before)?;
-    Ok(Msg::Commit { id: FIRST, edges })
+    Ok(Msg::Commit {
+        id: FIRST,
+        edges,
+        facts: Facts::new(alloc),
+    })
 }
 
 // Has a message taken, or ignored for a reason.
@@ -93,6 +97,7 @@ fn forged_messages_are_ignored(rt: HostRuntime) -> Result<(), Fail> {
     };
     let cases = [
         (foreign, Some(Reason::Foreign)),
+        (Msg::Stop, Some(Reason::Foreign)),
         (start(alloc, 1, 0, &[5])?, Some(Reason::BadProc)),
         (start(alloc, 0, 1, &[5])?, Some(Reason::BadGroup)),
         (start(alloc, 0, 0, &[])?, Some(Reason::BadInputs)),

@@ -1,9 +1,14 @@
 //! Runs of the program over files and streams in memory.
-use crate::workloads::COUNTER;
 use roc_cli::run;
 use roc_io::{CalmLink, CalmSpawner, MemFiles, MemSink, StoredFile};
 use std::alloc::{AllocError, Global};
 use std::test::Fail;
+
+/// One counter on one shard.
+const COUNTER: &[u8] = b"shards 1;
+table t { x }
+proc add(n) { later a at 0 { get v = t[0].x; set t[0].x = v + n; out v; } }
+";
 
 const SCHEDULE: &[u8] = b"submit 0 add 5
 deliver 1
@@ -169,7 +174,9 @@ const CHECK: [&str; 2] = ["check", "add.rcw"];
 const CHECKED: &[u8] = b"shards 1
 proc add
 piece a deferrable
+group 0 deferrable a
 conflict add.a add.a
+accepted
 ";
 
 #[test]

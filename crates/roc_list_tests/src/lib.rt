@@ -1,0 +1,7 @@
+//! Tests of lists, cells, known lists and orders, in calls that no command makes. It gives nothing to use.
+#![tactic(auto)]
+
+#[cfg(test)]
+mod lists;
+#[cfg(test)]
+mod orders;

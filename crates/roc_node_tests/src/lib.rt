@@ -1,0 +1,12 @@
+//! Tests of servers and coordinators with messages that no honest node sends, and of whole runs of procedures. It gives
+//! nothing to use.
+#![tactic(auto)]
+
+#[cfg(test)]
+mod coordinators;
+#[cfg(test)]
+mod servers;
+#[cfg(test)]
+mod whole_runs;
+#[cfg(test)]
+mod workloads;
