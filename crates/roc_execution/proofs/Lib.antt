@@ -1,0 +1,12 @@
+pub mod Components
+pub mod Whole
+pub mod Shards
+pub mod Later
+pub mod Starting
+pub mod Deciding
+pub mod Keeping
+pub mod Following
+pub mod Agreed
+pub mod FromEdges
+pub mod Counted
+pub mod SharedOut

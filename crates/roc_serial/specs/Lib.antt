@@ -1,0 +1,6 @@
+pub mod Behaviour
+pub mod Runs
+pub mod Orders
+pub mod Growth
+pub mod Counter
+pub mod Inner
