@@ -1,7 +1,9 @@
-//! Tests of the checker's calls on whole workloads, which no command makes yet. It gives nothing to use.
+//! Tests of what the rows of `check` do not show of the checker's calls. It gives nothing to use.
 #![tactic(auto)]
 
 #[cfg(test)]
 mod cycles;
 #[cfg(test)]
 mod merging;
+#[cfg(test)]
+mod plans;

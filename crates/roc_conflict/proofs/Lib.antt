@@ -2,5 +2,6 @@ pub mod Members
 pub mod Present
 pub mod Mirrored
 pub mod Least
-pub mod Walk
+pub mod Marking
+pub mod Promoting
 pub mod Rows

@@ -1,2 +1,3 @@
--- What the contracts of private functions alone cite: membership in a list of pieces
+-- What the contracts of private functions alone cite: membership in a list of pieces, and marks on pieces
 pub mod Found
+pub mod Marks

@@ -10,8 +10,9 @@
 mod classes;
 mod contention;
 pub mod laws;
+mod marks;
 mod promotion;
 
 pub use classes::Classes;
 pub use contention::contended;
-pub use promotion::promote;
+pub use promotion::{is_least, promote};

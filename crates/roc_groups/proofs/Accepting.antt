@@ -19,10 +19,10 @@ use Rattle.roc_scgraph.specs.Cycles.{IsUnreorderable}
 use Rattle.roc_groups.specs.Flow.{feeds}
 use Rattle.roc_groups.proofs.Elements.{has_row}
 use Rattle.roc_groups.proofs.Forward.{forward}
-use Rattle.roc_groups.specs.Groups.{id_of, groups_in, group_at}
+use Rattle.roc_groups.specs.Groups.{piece_numbered, groups_in, group_at}
 use Rattle.roc_groups.specs.Core.{contended, IsAcceptable}
 use Rattle.roc_groups.specs.Grouping.{AreTogether, IsMerged}
-use Rattle.roc_groups.specs.Accepted.{over_groups, is_group_immediate, IsAcceptedIn, IsAcceptedGrouping, group_feeds}
+use Rattle.roc_groups.specs.Accepted.{over_groups, is_immediate_group, IsAcceptedIn, IsAcceptedGrouping, group_feeds}
 use Rattle.roc_groups.proofs.Cores.{core_immediate}
 use Rattle.roc_groups.proofs.Circles.{no_circle}
 use Rattle.roc_groups.proofs.Fused_classes.{AreFit, AreContendedTogether, over_least, one_contended, together_from_no_cycle, no_cycle_from_together, same_group}
@@ -32,9 +32,9 @@ AreLeast program is_immediate = (id : PieceId) → IsTrue (is_immediate id) ↔ 
 
 module _ (program : Workload) (is_immediate : PieceId → Bool) (groups : List (List (List ℕ))) where
   -- a contended piece belongs to a procedure that is there
-  pub proc_of_contended : AreLeast program is_immediate → (proc x : ℕ) → is_contended program is_immediate (id_of proc x) ≡ true → proc < length program.procedures
+  pub proc_of_contended : AreLeast program is_immediate → (proc x : ℕ) → is_contended program is_immediate (piece_numbered proc x) ≡ true → proc < length program.procedures
   proc_of_contended least proc x h =
-      (present_from_immediate program (id_of proc x) ((least (id_of proc x)).0 (and_parts (is_immediate (id_of proc x)) (has_conflict program (id_of proc x)) h).0)).procedure
+      (present_from_immediate program (piece_numbered proc x) ((least (piece_numbered proc x)).0 (and_parts (is_immediate (piece_numbered proc x)) (has_conflict program (piece_numbered proc x)) h).0)).procedure
 
   fit_from_merged : IsProgram program → AreLeast program is_immediate → IsMerged program is_immediate groups → AreFit program is_immediate groups
   fit_from_merged well least merged = record {
@@ -71,7 +71,7 @@ module _ (program : Workload) (is_immediate : PieceId → Bool) (groups : List (
 
   pub no_cycle_exactly : length groups ≡ length program.procedures → AreLeast program is_immediate
       → ((proc : ℕ) → proc < length program.procedures → IsAcceptedIn program is_immediate proc (groups_in groups proc))
-      → ((cycle : List Vertex) → ¬ IsUnreorderable (over_groups program groups) (is_group_immediate is_immediate groups) cycle) ↔ AreContendedTogether program is_immediate groups
+      → ((cycle : List Vertex) → ¬ IsUnreorderable (over_groups program groups) (is_immediate_group is_immediate groups) cycle) ↔ AreContendedTogether program is_immediate groups
   no_cycle_exactly even least each =
       let fit = fit_from_each even least each in
       (together_from_no_cycle program is_immediate groups fit, no_cycle_from_together program is_immediate groups fit)
@@ -83,25 +83,25 @@ module _ (program : Workload) (is_immediate : PieceId → Bool) (groups : List (
     pub contended_together : AreContendedTogether program is_immediate groups
     contended_together = together_from_no_cycle program is_immediate groups fit is.no_cycle
 
-    pub one_group_contended : (p q : PieceId) → p.proc ≡ q.proc → IsTrue (is_contended (over_groups program groups) (is_group_immediate is_immediate groups) p)
-        → IsTrue (is_contended (over_groups program groups) (is_group_immediate is_immediate groups) q) → p ≡ q
+    pub one_group_contended : (p q : PieceId) → p.proc ≡ q.proc → IsTrue (is_contended (over_groups program groups) (is_immediate_group is_immediate groups) p)
+        → IsTrue (is_contended (over_groups program groups) (is_immediate_group is_immediate groups) q) → p ≡ q
     one_group_contended = one_contended program is_immediate groups fit contended_together
 
     -- groups in conflict are both immediate, or both deferrable
-    pub one_class : (p q : PieceId) → IsTrue (are_in_conflict (over_groups program groups) p q) → is_group_immediate is_immediate groups p ≡ is_group_immediate is_immediate groups q
-    one_class p q h = go (is_group_immediate is_immediate groups p) refl (is_group_immediate is_immediate groups q) refl
+    pub one_class : (p q : PieceId) → IsTrue (are_in_conflict (over_groups program groups) p q) → is_immediate_group is_immediate groups p ≡ is_immediate_group is_immediate groups q
+    one_class p q h = go (is_immediate_group is_immediate groups p) refl (is_immediate_group is_immediate groups q) refl
       where
-        along : (a b : PieceId) → are_in_conflict (over_groups program groups) a b ≡ true → is_group_immediate is_immediate groups a ≡ true → is_group_immediate is_immediate groups b ≡ true
+        along : (a b : PieceId) → are_in_conflict (over_groups program groups) a b ≡ true → is_immediate_group is_immediate groups a ≡ true → is_immediate_group is_immediate groups b ≡ true
         along a b k e = (over_least program is_immediate groups fit b).1 (in_conflict ((over_least program is_immediate groups fit a).0 e) k)
 
-        go : (s : Bool) → is_group_immediate is_immediate groups p ≡ s → (t : Bool) → is_group_immediate is_immediate groups q ≡ t → s ≡ t
+        go : (s : Bool) → is_immediate_group is_immediate groups p ≡ s → (t : Bool) → is_immediate_group is_immediate groups q ≡ t → s ≡ t
         go true e true f = refl
         go true e false f = sym (along p q h e) ∙ f
         go false e true f = sym e ∙ along q p (conflict_mirrored (over_groups program groups) q p ∙ h) f
         go false e false f = refl
 
     -- two immediate groups of a procedure do not meet
-    pub siblings_apart : (p q : PieceId) → p ≢ q → p.proc ≡ q.proc → IsTrue (is_group_immediate is_immediate groups p) → are_in_conflict (over_groups program groups) p q ≡ false
+    pub siblings_apart : (p q : PieceId) → p ≢ q → p.proc ≡ q.proc → IsTrue (is_immediate_group is_immediate groups p) → are_in_conflict (over_groups program groups) p q ≡ false
     siblings_apart p q n same h = false_from_ne_true (are_in_conflict (over_groups program groups) p q) meet
       where
         meet : are_in_conflict (over_groups program groups) p q ≡ true → ⊥
@@ -113,22 +113,22 @@ module _ (program : Workload) (is_immediate : PieceId → Bool) (groups : List (
 
     -- nor do immediate pieces of two of its groups
     pub pieces_apart : (proc : ℕ) (g h : List ℕ) (x y : ℕ) → Has g (groups_in groups proc) → Has h (groups_in groups proc) → g ≢ h → Has x g → Has y h
-        → IsTrue (is_immediate (id_of proc x)) → are_in_conflict program (id_of proc x) (id_of proc y) ≡ false
-    pieces_apart proc g h x y gs hs n one other i = false_from_ne_true (are_in_conflict program (id_of proc x) (id_of proc y)) meet
+        → IsTrue (is_immediate (piece_numbered proc x)) → are_in_conflict program (piece_numbered proc x) (piece_numbered proc y) ≡ false
+    pieces_apart proc g h x y gs hs n one other i = false_from_ne_true (are_in_conflict program (piece_numbered proc x) (piece_numbered proc y)) meet
       where
-        meet : are_in_conflict program (id_of proc x) (id_of proc y) ≡ true → ⊥
+        meet : are_in_conflict program (piece_numbered proc x) (piece_numbered proc y) ≡ true → ⊥
         meet k =
-            let back : are_in_conflict program (id_of proc y) (id_of proc x) ≡ true = conflict_mirrored program (id_of proc y) (id_of proc x) ∙ k in
-            let j : is_immediate (id_of proc y) ≡ true = (is.least (id_of proc y)).1 (in_conflict ((is.least (id_of proc x)).0 i) k) in
-            let cx = and_from _ _ i (some_conflict program (id_of proc x) (id_of proc y) k) in
-            let cy = and_from _ _ j (some_conflict program (id_of proc y) (id_of proc x) back) in
+            let back : are_in_conflict program (piece_numbered proc y) (piece_numbered proc x) ≡ true = conflict_mirrored program (piece_numbered proc y) (piece_numbered proc x) ∙ k in
+            let j : is_immediate (piece_numbered proc y) ≡ true = (is.least (piece_numbered proc y)).1 (in_conflict ((is.least (piece_numbered proc x)).0 i) k) in
+            let cx = and_from _ _ i (some_conflict program (piece_numbered proc x) (piece_numbered proc y) k) in
+            let cy = and_from _ _ j (some_conflict program (piece_numbered proc y) (piece_numbered proc x) back) in
             let t = contended_together proc x y cx cy in
             let of = (is.each proc (proc_of_contended is.least proc x cx)).grouping in
             n (of.once g t.group x gs t.is one t.one ∙ sym (of.once h t.group y hs t.is other t.other))
 
 -- what another group needs is immediate
 pub needed_immediate : (program : Workload) (is_immediate : PieceId → Bool) (groups : List (List (List ℕ))) → IsProgram program → IsAcceptedGrouping program is_immediate groups
-    → (proc g h : ℕ) → proc < length program.procedures → g ≢ h → IsTrue (group_feeds program proc (groups_in groups proc) g h) → IsTrue (is_group_immediate is_immediate groups (id_of proc g))
+    → (proc g h : ℕ) → proc < length program.procedures → g ≢ h → IsTrue (group_feeds program proc (groups_in groups proc) g h) → IsTrue (is_immediate_group is_immediate groups (piece_numbered proc g))
 needed_immediate program is_immediate groups well is proc g h below apart feed =
     let z = any_has (λ z. list_any (feeds program proc z) (group_at (groups_in groups proc) h)) (group_at (groups_in groups proc) g) feed in
     let y = any_has (feeds program proc z.0) (group_at (groups_in groups proc) h) z.2 in
@@ -136,8 +136,8 @@ needed_immediate program is_immediate groups well is proc g h below apart feed =
       | inl e ↦ (let inside : Has z.0 (group_at (groups_in groups proc) h) = subst (λ k. Has k (group_at (groups_in groups proc) h)) (sym e) y.1 in
           let t : AreTogether (groups_in groups proc) z.0 z.0 = record { group = group_at (groups_in groups proc) g; is = has_row z.0 (groups_in groups proc) g z.1; one = z.1; other = z.1 } in
           absurd (apart (same_group program is_immediate groups (fit program is_immediate groups is) proc g h z.0 z.0 z.1 inside below t)))
-      | inr l ↦ has_any (λ x. is_immediate (id_of proc x)) (group_at (groups_in groups proc) g) z.0 z.1
-          ((is.least (id_of proc z.0)).1 (declared (present_from_now program (id_of proc z.0) l.1) l.1))
+      | inr l ↦ has_any (λ x. is_immediate (piece_numbered proc x)) (group_at (groups_in groups proc) g) z.0 z.1
+          ((is.least (piece_numbered proc z.0)).1 (declared (present_from_now program (piece_numbered proc z.0) l.1) l.1))
     ]
 
 -- each procedure has a group

@@ -7,7 +7,7 @@ use Rattle.roc_program.specs.declared.piece_id.PieceId.{PieceId}
 use Rattle.roc_conflict.specs.Immediate.{IsImmediate, declared}
 use Rattle.roc_conflict.specs.Contended.{has_conflict, is_contended}
 use Rattle.roc_conflict.proofs.Present.{present_from_now}
-use Rattle.roc_groups.specs.Groups.{id_of}
+use Rattle.roc_groups.specs.Groups.{piece_numbered}
 use Rattle.roc_groups.specs.Flow.{feeds, Leads, directly, onward}
 use Rattle.roc_groups.specs.Core.{InCore, contended, between}
 use Rattle.roc_groups.proofs.Forward.{now_before}
@@ -25,7 +25,7 @@ module _ (program : Workload) (is_immediate : PieceId → Bool) (proc : ℕ) whe
   Path x y = (x ≡ y) ⊎ Leads (feeds program proc) x y
 
   abbrev pub Meets : ℕ → Type 0
-  Meets x = IsTrue (is_contended program is_immediate (id_of proc x))
+  Meets x = IsTrue (is_contended program is_immediate (piece_numbered proc x))
 
   -- x leads to the core, and the core leads to it
   pub record IsAhead (x : ℕ) : Type 0 where
@@ -65,13 +65,13 @@ module _ (program : Workload) (is_immediate : PieceId → Bool) (proc : ℕ) whe
       on_both p.0 x q.0 p.1 q.1 (path_through p.0 b.core x p.2 b.path) (path_through x a.core q.0 a.path q.2)
 
   module _ (is : IsProgram program) (least : (id : PieceId) → IsTrue (is_immediate id) ↔ IsImmediate program id) where
-    meets_immediate : (x : ℕ) → Meets x → is_immediate (id_of proc x) ≡ true
-    meets_immediate x h = (and_parts (is_immediate (id_of proc x)) (has_conflict program (id_of proc x)) h).0
+    meets_immediate : (x : ℕ) → Meets x → is_immediate (piece_numbered proc x) ≡ true
+    meets_immediate x h = (and_parts (is_immediate (piece_numbered proc x)) (has_conflict program (piece_numbered proc x)) h).0
 
-    pub core_immediate : (x : ℕ) → In x → is_immediate (id_of proc x) ≡ true
+    pub core_immediate : (x : ℕ) → In x → is_immediate (piece_numbered proc x) ≡ true
     core_immediate _ (contended {x} h) = meets_immediate x h
     core_immediate _ (between {p} {x} {q} h k b) =
         elim (now_before program is proc x q b.before) [
-          | inl e ↦ ap (λ n. is_immediate (id_of proc n)) e ∙ meets_immediate q k
-          | inr now ↦ (least (id_of proc x)).1 (declared (present_from_now program (id_of proc x) now) now)
+          | inl e ↦ ap (λ n. is_immediate (piece_numbered proc n)) e ∙ meets_immediate q k
+          | inr now ↦ (least (piece_numbered proc x)).1 (declared (present_from_now program (piece_numbered proc x) now) now)
         ]

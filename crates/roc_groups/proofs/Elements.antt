@@ -1,5 +1,6 @@
 -- Elements of lists, their places, and lists that rise
-use Rattle.std.proofs.Common.{◌≡◌, ℕ, zero, suc, ◌+◌, ◌<◌, Bool, true, List, [], ◌∷◌, ◌++◌, length, get_or, refl, sym, subst, ◌∙◌, inl, inr, arith}
+use Rattle.std.proofs.Common.{◌≡◌, ℕ, zero, suc, ◌+◌, ◌<◌, ◌≤◌, Bool, true, List, [], ◌∷◌, ◌++◌, length, get_or, refl, sym, subst, ◌∙◌, inl, inr, arith}
+use Rattle.std.proofs.lemmas.Bool.{cases_lt}
 use Rattle.std.proofs.lemmas.Bool.Decides.{nat_tests}
 use Rattle.std.specs.Bool.{nat_lt}
 use Rattle.std.specs.List.{AllByRecursion, flat_map, range_with_len}
@@ -108,3 +109,17 @@ range_above b a (suc n) l = (grind (arith, nat_tests), range_above b (a + 1) n (
 pub range_rising : (a n : ℕ) → IsRising nat_lt (range_with_len a n)
 range_rising a zero = tt
 range_rising a (suc n) = (range_above a (a + 1) n (omega arith), range_rising (a + 1) n)
+
+-- which numbers these are
+pub has_range : (a n x : ℕ) → a ≤ x → x < a + n → Has x (range_with_len a n)
+has_range a zero x l m = absurd (omega arith)
+has_range a (suc n) x l m =
+    elim (cases_lt a x) [
+      | inl k ↦ inr (has_range (a + 1) n x (omega arith) (omega arith))
+      | inr k ↦ inl (omega arith)
+    ]
+
+pub from_has_range : (a n x : ℕ) → Has x (range_with_len a n) → (a ≤ x) × (x < a + n)
+from_has_range a zero x h = absurd h
+from_has_range a (suc n) x (inl e) = (omega arith, omega arith)
+from_has_range a (suc n) x (inr h) = let r = from_has_range (a + 1) n x h in let l = r.0 in let m = r.1 in (omega arith, omega arith)

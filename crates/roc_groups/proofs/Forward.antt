@@ -16,7 +16,7 @@ use Rattle.roc_program.specs.Pieces.{piece_of}
 use Rattle.roc_program.specs.Names.{uses, id_uses, statement_uses, piece_uses, binding, bindings_of, bindings, has_name}
 use Rattle.roc_program.specs.WellFormed.{IsOver, IsBody, IsPiece, known_behind, ArePieces, IsProcedure, IsProgram}
 use Rattle.roc_program.proofs.ValueLaws.{uses_known}
-use Rattle.roc_groups.specs.Groups.{id_of}
+use Rattle.roc_groups.specs.Groups.{piece_numbered}
 use Rattle.roc_groups.specs.Flow.{feeds, Leads, directly, onward}
 use Rattle.roc_groups.proofs.Elements.{rising_behind, rising_across, numbers_one_way, range_above, range_rising}
 
@@ -27,7 +27,7 @@ name_has names n h =
     let r = any_has (λ m. m == n) names h in
     subst (λ m. Has m names) (eqb-true r.0 n r.2) r.1
 
-either_name : (xs ys : List ℕ) (n : ℕ) → has_name (xs ++ ys) n ≡ true → (has_name xs n ≡ true) ⊎ (has_name ys n ≡ true)
+pub either_name : (xs ys : List ℕ) (n : ℕ) → has_name (xs ++ ys) n ≡ true → (has_name xs n ≡ true) ⊎ (has_name ys n ≡ true)
 either_name xs ys n h = or_cases (has_name xs n) (has_name ys n) (sym (list_any-append (λ m. m == n) xs ys) ∙ h)
 
 id_known : (known : List ℕ) (id : List Expression) (n : ℕ) → AllByRecursion (IsOver known) id → list_any (λ e. uses e n) id ≡ true → has_name known n ≡ true
@@ -120,12 +120,12 @@ pieces_from tables known (p ∷ ps) (suc y) n is h =
 
 -- ---- each name is bound once
 
-bound_in : (ps : List Piece) (z n : ℕ) → Has n (bindings_of (piece_at ps z)) → Has n (bindings ps)
+pub bound_in : (ps : List Piece) (z n : ℕ) → Has n (bindings_of (piece_at ps z)) → Has n (bindings ps)
 bound_in [] z n h = absurd h
 bound_in (p ∷ ps) zero n h = has_left n (bindings_of p) (bindings ps) h
 bound_in (p ∷ ps) (suc z) n h = has_right n (bindings_of p) (bindings ps) (bound_in ps z n h)
 
-bound_once : (ps : List Piece) (z y n : ℕ) → IsRising nat_lt (bindings ps) → Has n (bindings_of (piece_at ps z)) → Has n (bindings_of (piece_at ps y)) → z ≡ y
+pub bound_once : (ps : List Piece) (z y n : ℕ) → IsRising nat_lt (bindings ps) → Has n (bindings_of (piece_at ps z)) → Has n (bindings_of (piece_at ps y)) → z ≡ y
 bound_once [] z y n r h k = absurd h
 bound_once (p ∷ ps) zero zero n r h k = refl
 bound_once (p ∷ ps) zero (suc y) n r h k =
@@ -161,7 +161,7 @@ forward_in tables procedure z y is h =
 
 module _ (program : Workload) (is : IsProgram program) (proc : ℕ) where
   -- a piece that another needs stands before it and is declared `now`, unless the two are one
-  pub forward : (z y : ℕ) → feeds program proc z y ≡ true → (z ≡ y) ⊎ ((z < y) × ((piece_of program (id_of proc z)).is_now ≡ true))
+  pub forward : (z y : ℕ) → feeds program proc z y ≡ true → (z ≡ y) ⊎ ((z < y) × ((piece_of program (piece_numbered proc z)).is_now ≡ true))
   forward z y h =
       elim (cases_lt proc (length program.procedures)) [
         | inl l ↦ forward_in program.tables (get_or program.procedures proc no_procedure) z y (all_at (IsProcedure program.tables) program.procedures proc no_procedure is.procedures l) h
@@ -174,7 +174,7 @@ module _ (program : Workload) (is : IsProgram program) (proc : ℕ) where
   rises z _ (onward {by} {to} k h) = let first = rises z by k in elim (forward by to h) [ inl e ↦ omega arith | inr l ↦ (let k = l.0 in omega arith) ]
 
   -- what leads to another piece is declared `now`
-  pub now_before : (z y : ℕ) → Leads (feeds program proc) z y → (z ≡ y) ⊎ ((piece_of program (id_of proc z)).is_now ≡ true)
+  pub now_before : (z y : ℕ) → Leads (feeds program proc) z y → (z ≡ y) ⊎ ((piece_of program (piece_numbered proc z)).is_now ≡ true)
   now_before z _ (directly {to} h) = elim (forward z to h) [ inl e ↦ inl e | inr l ↦ inr l.1 ]
   now_before z _ (onward {by} {to} k h) =
       elim (now_before z by k) [

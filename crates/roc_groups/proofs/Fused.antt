@@ -9,7 +9,7 @@ use Rattle.roc_program.specs.LookUps.{no_piece, no_procedure}
 use Rattle.roc_program.specs.Pieces.{pieces_in, piece_of, HasPiece}
 use Rattle.roc_program.specs.Conflict.{collide, conflict, are_in_conflict}
 use Rattle.roc_program.specs.declared.piece_id.PieceId.{PieceId}
-use Rattle.roc_groups.specs.Groups.{id_of, groups_in, group_at}
+use Rattle.roc_groups.specs.Groups.{piece_numbered, groups_in, group_at}
 use Rattle.roc_groups.specs.Accepted.{fused, with_groups, over_groups}
 use Rattle.roc_groups.proofs.Elements.{has_flat_map, from_has_flat_map, row_of_has}
 
@@ -56,11 +56,11 @@ module _ (program : Workload) (groups : List (List (List ℕ))) (even : length g
   in_over : (proc : ℕ) → pieces_in (over_groups program groups) proc ≡ map (fused (get_or program.procedures proc no_procedure)) (groups_in groups proc)
   in_over proc = pieces_over program.procedures groups proc even
 
-  body_over : (id : PieceId) → (piece_of (over_groups program groups) id).body ≡ flat_map (λ x. (piece_of program (id_of id.proc x)).body) (members groups id)
+  body_over : (id : PieceId) → (piece_of (over_groups program groups) id).body ≡ flat_map (λ x. (piece_of program (piece_numbered id.proc x)).body) (members groups id)
   body_over id =
       ap (λ (ps : List Piece). (get_or ps id.piece no_piece).body) (in_over id.proc) ∙ fused_body (get_or program.procedures id.proc no_procedure) (groups_in groups id.proc) id.piece
 
-  pub now_over : (id : PieceId) → (piece_of (over_groups program groups) id).is_now ≡ list_any (λ x. (piece_of program (id_of id.proc x)).is_now) (members groups id)
+  pub now_over : (id : PieceId) → (piece_of (over_groups program groups) id).is_now ≡ list_any (λ x. (piece_of program (piece_numbered id.proc x)).is_now) (members groups id)
   now_over id =
       ap (λ (ps : List Piece). (get_or ps id.piece no_piece).is_now) (in_over id.proc) ∙ fused_now (get_or program.procedures id.proc no_procedure) (groups_in groups id.proc) id.piece
 
@@ -79,21 +79,21 @@ module _ (program : Workload) (groups : List (List (List ℕ))) (even : length g
 
   -- groups conflict where pieces of theirs do
   pub meets_from : (a b : PieceId) → are_in_conflict (over_groups program groups) a b ≡ true
-      → (x y : ℕ) × Has x (members groups a) × Has y (members groups b) × (are_in_conflict program (id_of a.proc x) (id_of b.proc y) ≡ true)
+      → (x y : ℕ) × Has x (members groups a) × Has y (members groups b) × (are_in_conflict program (piece_numbered a.proc x) (piece_numbered b.proc y) ≡ true)
   meets_from a b h =
-      let f : ℕ → List Statement = λ x. (piece_of program (id_of a.proc x)).body in
-      let g : ℕ → List Statement = λ y. (piece_of program (id_of b.proc y)).body in
+      let f : ℕ → List Statement = λ x. (piece_of program (piece_numbered a.proc x)).body in
+      let g : ℕ → List Statement = λ y. (piece_of program (piece_numbered b.proc y)).body in
       let r = conflict_from (piece_of (over_groups program groups) a) (piece_of (over_groups program groups) b) h in
       let one = from_has_flat_map f r.0 (members groups a) (subst (λ xs. Has r.0 xs) (body_over a) r.2) in
       let two = from_has_flat_map g r.1 (members groups b) (subst (λ xs. Has r.1 xs) (body_over b) r.3) in
-      (one.0, two.0, one.1, two.1, conflict_to (piece_of program (id_of a.proc one.0)) (piece_of program (id_of b.proc two.0)) r.0 r.1 one.2 two.2 r.4)
+      (one.0, two.0, one.1, two.1, conflict_to (piece_of program (piece_numbered a.proc one.0)) (piece_of program (piece_numbered b.proc two.0)) r.0 r.1 one.2 two.2 r.4)
 
-  pub meets_to : (a b : PieceId) (x y : ℕ) → Has x (members groups a) → Has y (members groups b) → are_in_conflict program (id_of a.proc x) (id_of b.proc y) ≡ true
+  pub meets_to : (a b : PieceId) (x y : ℕ) → Has x (members groups a) → Has y (members groups b) → are_in_conflict program (piece_numbered a.proc x) (piece_numbered b.proc y) ≡ true
       → are_in_conflict (over_groups program groups) a b ≡ true
   meets_to a b x y h k e =
-      let f : ℕ → List Statement = λ x. (piece_of program (id_of a.proc x)).body in
-      let g : ℕ → List Statement = λ y. (piece_of program (id_of b.proc y)).body in
-      let r = conflict_from (piece_of program (id_of a.proc x)) (piece_of program (id_of b.proc y)) e in
+      let f : ℕ → List Statement = λ x. (piece_of program (piece_numbered a.proc x)).body in
+      let g : ℕ → List Statement = λ y. (piece_of program (piece_numbered b.proc y)).body in
+      let r = conflict_from (piece_of program (piece_numbered a.proc x)) (piece_of program (piece_numbered b.proc y)) e in
       conflict_to (piece_of (over_groups program groups) a) (piece_of (over_groups program groups) b) r.0 r.1
       (subst (λ xs. Has r.0 xs) (sym (body_over a)) (has_flat_map f r.0 x (members groups a) h r.2))
       (subst (λ xs. Has r.1 xs) (sym (body_over b)) (has_flat_map g r.1 y (members groups b) k r.3)) r.4

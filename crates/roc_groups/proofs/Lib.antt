@@ -2,8 +2,12 @@ pub mod Elements
 mod Unique
 pub mod Forward
 mod Fused
-mod Fused_classes
-mod Cores
+pub mod Fused_classes
+pub mod Cores
 mod Circles
-mod Accepting
+pub mod Accepting
 pub mod Uses
+mod Each
+pub mod Parting
+pub mod Paths
+pub mod Tested

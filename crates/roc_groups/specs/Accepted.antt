@@ -8,7 +8,7 @@ use Rattle.roc_program.specs.declared.piece_id.PieceId.{PieceId}
 use Rattle.roc_conflict.specs.Immediate.{IsImmediate}
 use Rattle.roc_scgraph.specs.declared.vertex.Vertex.{Vertex}
 use Rattle.roc_scgraph.specs.Cycles.{IsUnreorderable}
-use Rattle.roc_groups.specs.Groups.{id_of, groups_in, group_at, first_piece}
+use Rattle.roc_groups.specs.Groups.{piece_numbered, groups_in, group_at, first_piece}
 use Rattle.roc_groups.specs.Flow.{feeds, Leads}
 use Rattle.roc_groups.specs.Core.{AreCoLocated}
 use Rattle.roc_groups.specs.Grouping.{AreTogether, IsGrouping}
@@ -31,8 +31,8 @@ abbrev pub over_groups : Workload → List (List (List ℕ)) → Workload
 over_groups program groups = record program { procedures = with_groups program.procedures groups }
 
 -- a group is immediate where a piece of it is
-abbrev pub is_group_immediate : (PieceId → Bool) → List (List (List ℕ)) → PieceId → Bool
-is_group_immediate is_immediate groups id = list_any (λ x. is_immediate (id_of id.proc x)) (group_at (groups_in groups id.proc) id.piece)
+abbrev pub is_immediate_group : (PieceId → Bool) → List (List (List ℕ)) → PieceId → Bool
+is_immediate_group is_immediate groups id = list_any (λ x. is_immediate (piece_numbered id.proc x)) (group_at (groups_in groups id.proc) id.piece)
 
 -- ---- what is asked of groups
 
@@ -44,7 +44,7 @@ group_feeds program proc groups g h = list_any (λ z. list_any (feeds program pr
 pub record IsAcceptedIn (program : Workload) (is_immediate : PieceId → Bool) (proc : ℕ) (groups : List (List ℕ)) : Type 0 where
   pub grouping : IsGrouping (length (pieces_in program proc)) groups
   pub co_located : (x y : ℕ) → x ≢ y → AreTogether groups x y → AreCoLocated program proc x y
-  pub immediate : (x y : ℕ) → x ≢ y → AreTogether groups x y → IsTrue (is_immediate (id_of proc x))
+  pub immediate : (x y : ℕ) → x ≢ y → AreTogether groups x y → IsTrue (is_immediate (piece_numbered proc x))
   pub no_circle : (g h : ℕ) → g ≢ h → Leads (group_feeds program proc groups) g h → ¬ Leads (group_feeds program proc groups) h g
 
 -- the same of each procedure; the classes are the least set, and the graph over groups has no unreorderable cycle
@@ -52,4 +52,4 @@ pub record IsAcceptedGrouping (program : Workload) (is_immediate : PieceId → B
   pub procedures : length groups ≡ length program.procedures
   pub each : (proc : ℕ) → proc < length program.procedures → IsAcceptedIn program is_immediate proc (groups_in groups proc)
   pub least : (id : PieceId) → IsTrue (is_immediate id) ↔ IsImmediate program id
-  pub no_cycle : (cycle : List Vertex) → ¬ IsUnreorderable (over_groups program groups) (is_group_immediate is_immediate groups) cycle
+  pub no_cycle : (cycle : List Vertex) → ¬ IsUnreorderable (over_groups program groups) (is_immediate_group is_immediate groups) cycle

@@ -4,11 +4,11 @@ use Rattle.std.specs.List.{list_any}
 use Rattle.roc_program.specs.Program.{Workload}
 use Rattle.roc_program.specs.Pieces.{piece_of}
 use Rattle.roc_program.specs.Names.{bindings_of, piece_uses}
-use Rattle.roc_groups.specs.Groups.{id_of}
+use Rattle.roc_groups.specs.Groups.{piece_numbered}
 
 -- y depends on z: it uses a name that z binds
 abbrev pub feeds : Workload → (proc z y : ℕ) → Bool
-feeds program proc z y = list_any (piece_uses (piece_of program (id_of proc y))) (bindings_of (piece_of program (id_of proc z)))
+feeds program proc z y = list_any (piece_uses (piece_of program (piece_numbered proc y))) (bindings_of (piece_of program (piece_numbered proc z)))
 
 -- a path of such steps, in one step or through others
 pub data Leads (feeds : ℕ → ℕ → Bool) (from : ℕ) : ℕ → Type 0 where

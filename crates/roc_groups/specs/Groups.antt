@@ -3,8 +3,8 @@ use Rattle.std.specs.Prelude.{ℕ, List, [], slice_index_or}
 use Rattle.roc_program.specs.declared.piece_id.PieceId.{PieceId}
 
 -- the piece of these numbers
-abbrev pub id_of : (proc piece : ℕ) → PieceId
-id_of proc piece = record { proc = proc; piece = piece }
+abbrev pub piece_numbered : (proc piece : ℕ) → PieceId
+piece_numbered proc piece = record { proc = proc; piece = piece }
 
 -- the groups of a procedure; one that is not there has none
 abbrev pub groups_in : List (List (List ℕ)) → ℕ → List (List ℕ)

@@ -1,1 +1,3 @@
 pub mod Uses
+pub mod Parts
+pub mod Paths

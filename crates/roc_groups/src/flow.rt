@@ -6,7 +6,7 @@ ghost use Rattle.roc_program.specs.Parts as view;
 ghost use Rattle.roc_program.specs.Pieces.{pieces_in, piece_of};
 ghost use Rattle.roc_groups.specs.Core.{AreCoLocated};
 ghost use Rattle.roc_groups.specs.Flow.{feeds};
-ghost use Rattle.roc_groups.specs.Groups.{id_of};
+ghost use Rattle.roc_groups.specs.Groups.{piece_numbered};
 ghost use Rattle.roc_groups.specs.Inner.Uses.{is_bound_for};
 
 use roc_program::{Access, Expression, Piece, Statement, Workload};
@@ -60,7 +60,8 @@ fn body_uses(body: &[Statement], name: u16) -> bool
     body.iter().any(|statement| statement_uses(statement, name))
 }
 
-fn piece_uses(piece: &Piece, name: u16) -> bool
+/// Whether a name occurs in a piece. Takes no memory.
+pub fn piece_uses(piece: &Piece, name: u16) -> bool
     ensures { result ≡ names.piece_uses (view.piece piece.now) name }
 {
     uses(&piece.place, name) || body_uses(&piece.body, name)
@@ -87,7 +88,7 @@ fn uses_any(piece: &Piece, body: &[Statement]) -> bool
 fn piece_at(workload: &Workload, proc: u16, piece: u16) -> &Piece
     requires procedure { proc < length workload.now.procedures }
     requires piece { piece < length (pieces_in workload.now proc) }
-    ensures { view.piece result.now ≡ piece_of workload.now (id_of proc piece) }
+    ensures { view.piece result.now ≡ piece_of workload.now (piece_numbered proc piece) }
 {
     &workload.procedures()[usize::from(proc)].pieces[usize::from(piece)]
 }

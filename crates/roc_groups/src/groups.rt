@@ -33,6 +33,16 @@ impl Groups {
         self.procedures.len()
     }
 
+    // The groups of a procedure; one that is not there has none.
+    pub(crate) fn of_procedure(&self, proc: u16) -> &[Vec<u16>]
+        ensures { map (λ group. group.items) result.now ≡ groups_in self.now proc }
+    {
+        match self.procedures.get(usize::from(proc)) {
+            Some(groups) => groups.as_slice(),
+            None => &[],
+        }
+    }
+
     /// How many groups a procedure has; one that is not there has none.
     pub fn group_count(&self, proc: u16) -> usize
         ensures { result ≡ length (groups_in self.now proc) }

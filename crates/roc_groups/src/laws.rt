@@ -9,10 +9,10 @@ ghost use Rattle.roc_conflict.specs.Immediate.{IsImmediate};
 ghost use Rattle.roc_conflict.specs.Contended.{is_contended};
 ghost use Rattle.roc_scgraph.specs.declared.vertex.Vertex.{Vertex};
 ghost use Rattle.roc_scgraph.specs.Cycles.{IsUnreorderable};
-ghost use Rattle.roc_groups.specs.Groups.{id_of, groups_in};
+ghost use Rattle.roc_groups.specs.Groups.{piece_numbered, groups_in};
 ghost use Rattle.roc_groups.specs.Core.{IsAcceptable};
 ghost use Rattle.roc_groups.specs.Grouping.{AreTogether, IsMerged};
-ghost use Rattle.roc_groups.specs.Accepted.{over_groups, is_group_immediate, group_feeds, IsAcceptedIn, IsAcceptedGrouping};
+ghost use Rattle.roc_groups.specs.Accepted.{over_groups, is_immediate_group, group_feeds, IsAcceptedIn, IsAcceptedGrouping};
 
 /// At most one grouping is the merged one.
 pub fn merged_groups_are_one()
@@ -33,25 +33,25 @@ pub fn cycles_are_between_contended_groups()
     ensures { (program : Workload) (is_immediate : PieceId → Bool) (groups : List (List (List ℕ)))
         → length groups ≡ length program.procedures → ((id : PieceId) → IsTrue (is_immediate id) ↔ IsImmediate program id)
         → ((proc : ℕ) → proc < length program.procedures → IsAcceptedIn program is_immediate proc (groups_in groups proc))
-        → ((cycle : List Vertex) → ¬ IsUnreorderable (over_groups program groups) (is_group_immediate is_immediate groups) cycle)
-        ↔ ((proc x y : ℕ) → IsTrue (is_contended program is_immediate (id_of proc x)) → IsTrue (is_contended program is_immediate (id_of proc y)) → AreTogether (groups_in groups proc) x y) }
+        → ((cycle : List Vertex) → ¬ IsUnreorderable (over_groups program groups) (is_immediate_group is_immediate groups) cycle)
+        ↔ ((proc x y : ℕ) → IsTrue (is_contended program is_immediate (piece_numbered proc x)) → IsTrue (is_contended program is_immediate (piece_numbered proc y)) → AreTogether (groups_in groups proc) x y) }
 {}
 
 /// Of accepted groups each procedure has at most one that is contended; groups in conflict are of one class; and two groups of a
 /// procedure, one of them immediate, never conflict. The same is said of their pieces.
 pub fn accepted_groups_meet_others_alone()
     ensures one_contended { (program : Workload) (is_immediate : PieceId → Bool) (groups : List (List (List ℕ))) → IsAcceptedGrouping program is_immediate groups
-        → (p q : PieceId) → p.proc ≡ q.proc → IsTrue (is_contended (over_groups program groups) (is_group_immediate is_immediate groups) p)
-        → IsTrue (is_contended (over_groups program groups) (is_group_immediate is_immediate groups) q) → p ≡ q }
+        → (p q : PieceId) → p.proc ≡ q.proc → IsTrue (is_contended (over_groups program groups) (is_immediate_group is_immediate groups) p)
+        → IsTrue (is_contended (over_groups program groups) (is_immediate_group is_immediate groups) q) → p ≡ q }
     ensures one_class { (program : Workload) (is_immediate : PieceId → Bool) (groups : List (List (List ℕ))) → IsAcceptedGrouping program is_immediate groups
-        → (p q : PieceId) → IsTrue (are_in_conflict (over_groups program groups) p q) → is_group_immediate is_immediate groups p ≡ is_group_immediate is_immediate groups q }
+        → (p q : PieceId) → IsTrue (are_in_conflict (over_groups program groups) p q) → is_immediate_group is_immediate groups p ≡ is_immediate_group is_immediate groups q }
     ensures siblings { (program : Workload) (is_immediate : PieceId → Bool) (groups : List (List (List ℕ))) → IsAcceptedGrouping program is_immediate groups
-        → (p q : PieceId) → p ≢ q → p.proc ≡ q.proc → IsTrue (is_group_immediate is_immediate groups p) → are_in_conflict (over_groups program groups) p q ≡ false }
+        → (p q : PieceId) → p ≢ q → p.proc ≡ q.proc → IsTrue (is_immediate_group is_immediate groups p) → are_in_conflict (over_groups program groups) p q ≡ false }
     ensures contended_pieces { (program : Workload) (is_immediate : PieceId → Bool) (groups : List (List (List ℕ))) → IsAcceptedGrouping program is_immediate groups
-        → (proc x y : ℕ) → IsTrue (is_contended program is_immediate (id_of proc x)) → IsTrue (is_contended program is_immediate (id_of proc y)) → AreTogether (groups_in groups proc) x y }
+        → (proc x y : ℕ) → IsTrue (is_contended program is_immediate (piece_numbered proc x)) → IsTrue (is_contended program is_immediate (piece_numbered proc y)) → AreTogether (groups_in groups proc) x y }
     ensures pieces_apart { (program : Workload) (is_immediate : PieceId → Bool) (groups : List (List (List ℕ))) → IsAcceptedGrouping program is_immediate groups
         → (proc : ℕ) (g h : List ℕ) (x y : ℕ) → Has g (groups_in groups proc) → Has h (groups_in groups proc) → g ≢ h → Has x g → Has y h
-        → IsTrue (is_immediate (id_of proc x)) → are_in_conflict program (id_of proc x) (id_of proc y) ≡ false }
+        → IsTrue (is_immediate (piece_numbered proc x)) → are_in_conflict program (piece_numbered proc x) (piece_numbered proc y) ≡ false }
 {}
 
 /// Of accepted groups of a well-formed program each procedure has one at least, and what a group needs of others comes from immediate
@@ -60,5 +60,5 @@ pub fn accepted_groups_need_immediate_ones()
     ensures some { (program : Workload) (is_immediate : PieceId → Bool) (groups : List (List (List ℕ))) → IsProgram program → IsAcceptedGrouping program is_immediate groups
         → (proc : ℕ) → proc < length program.procedures → 0 < length (groups_in groups proc) }
     ensures needed { (program : Workload) (is_immediate : PieceId → Bool) (groups : List (List (List ℕ))) → IsProgram program → IsAcceptedGrouping program is_immediate groups
-        → (proc g h : ℕ) → proc < length program.procedures → g ≢ h → IsTrue (group_feeds program proc (groups_in groups proc) g h) → IsTrue (is_group_immediate is_immediate groups (id_of proc g)) }
+        → (proc g h : ℕ) → proc < length program.procedures → g ≢ h → IsTrue (group_feeds program proc (groups_in groups proc) g h) → IsTrue (is_immediate_group is_immediate groups (piece_numbered proc g)) }
 {}

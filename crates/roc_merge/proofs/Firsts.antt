@@ -5,12 +5,13 @@ use Rattle.roc_program.specs.Program.{Workload}
 use Rattle.roc_program.specs.Pieces.{pieces_in}
 use Rattle.roc_program.specs.declared.piece_id.PieceId.{PieceId}
 use Rattle.roc_conflict.specs.Contended.{is_contended}
-use Rattle.roc_groups.specs.Groups.{id_of}
+use Rattle.roc_groups.specs.Groups.{piece_numbered}
 use Rattle.roc_groups.specs.Core.{InCore, contended, between, AreCoLocated, IsAcceptable}
 use Rattle.roc_groups.specs.Refusals.{IsUpTo, AreApart, IsApart, IsInTheWay, IsBlocked}
 use Rattle.roc_merge.specs.Inner.Tables.{AreContended, IsFlow, IsClearBy, IsJoinedBy}
 use Rattle.roc_merge.specs.Inner.Firsts.{IsJoined, IsClear, IsFirstBehind, IsFirstPair, IsFirstFrom, IsFirstThree}
-use Rattle.roc_merge.proofs.Flows.{contended_there, leads_there}
+use Rattle.roc_groups.proofs.Tested.{contended_there}
+use Rattle.roc_merge.proofs.Flows.{leads_there}
 
 -- the order of lists of numbers
 same_lists : (n m : ℕ) → IsUpTo (n ∷ []) (m ∷ []) → IsUpTo (m ∷ []) (n ∷ []) → n ≡ m
@@ -25,11 +26,11 @@ one_more n m xs ys (inr e) (inl k) = let f = e.0 in absurd (omega arith)
 one_more n m xs ys (inr e) (inr f) = (e.0, e.1, f.1)
 
 same_id : (a b : PieceId) → a.proc ≡ b.proc → a.piece ≡ b.piece → a ≡ b
-same_id a b e f = ap (λ n. id_of n a.piece) e ∙ ap (λ n. id_of b.proc n) f
+same_id a b e f = ap (λ n. piece_numbered n a.piece) e ∙ ap (λ n. piece_numbered b.proc n) f
 
 module _ (program : Workload) (is_immediate : PieceId → Bool) where
   abbrev Meets : ℕ → ℕ → Type 0
-  Meets proc x = IsTrue (is_contended program is_immediate (id_of proc x))
+  Meets proc x = IsTrue (is_contended program is_immediate (piece_numbered proc x))
 
   abbrev Joined : ℕ → ℕ → ℕ → Type 0
   Joined proc p q = IsJoined program is_immediate proc p q
@@ -42,7 +43,7 @@ module _ (program : Workload) (is_immediate : PieceId → Bool) where
   pub not_apart : (p q : PieceId) → Joined p.proc p.piece q.piece → ¬ AreApart program is_immediate p q
   not_apart p q joined are = are.unlike (joined are.in_order are.first (subst (λ n. Meets n q.piece) are.one_procedure are.second))
 
-  pub least_pair : (proc p q : ℕ) → IsFirstPair program is_immediate proc p q → ((a b c : ℕ) → a < proc → Joined a b c) → IsApart program is_immediate (id_of proc p) (id_of proc q)
+  pub least_pair : (proc p q : ℕ) → IsFirstPair program is_immediate proc p q → ((a b c : ℕ) → a < proc → Joined a b c) → IsApart program is_immediate (piece_numbered proc p) (piece_numbered proc q)
   least_pair proc p q is earlier = record {
     is = is.is;
     least = λ a b are. elim (cases_order a.proc proc) [
@@ -96,7 +97,7 @@ module _ (program : Workload) (is_immediate : PieceId → Bool) where
   not_in_the_way p q x clear is = is.unlike (clear is.first (subst (λ n. Meets n q.piece) is.one_procedure is.second) is.between)
 
   pub least_three : (proc p q x : ℕ) → IsFirstThree program is_immediate proc p q x → ((a b c d : ℕ) → a < proc → Clear a b c d)
-      → ((a b : PieceId) → ¬ AreApart program is_immediate a b) → IsBlocked program is_immediate (id_of proc p) (id_of proc q) (id_of proc x)
+      → ((a b : PieceId) → ¬ AreApart program is_immediate a b) → IsBlocked program is_immediate (piece_numbered proc p) (piece_numbered proc q) (piece_numbered proc x)
   least_three proc p q x is earlier none = record {
     none_apart = none;
     is = is.is;

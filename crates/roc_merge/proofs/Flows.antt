@@ -1,33 +1,22 @@
 -- The table of data flow, row by row
 use Rattle.std.proofs.Common.{◌≡◌, ◌↔◌, ℕ, ◌+◌, ◌<◌, Bool, true, false, IsTrue, List, [], length, get_or, set, refl, sym, ap, subst, ◌∙◌, ◌⊎◌, inl, inr, arith}
-use Rattle.std.proofs.lemmas.Bool.{cases_eq, cases_lt, false≢true, and_parts}
+use Rattle.std.proofs.lemmas.Bool.{cases_eq, cases_lt, false≢true}
 use Rattle.std.proofs.lemmas.List.{get_or_past, get_or-set_same, get_or-set_other}
 use Rattle.std.specs.List.{list_any}
 use Rattle.roc_sequence.proofs.Holds.{any_has}
 use Rattle.roc_program.specs.Program.{Workload, Piece}
 use Rattle.roc_program.specs.LookUps.{no_piece}
 use Rattle.roc_program.specs.Names.{bindings_of, piece_uses}
-use Rattle.roc_program.specs.Pieces.{pieces_in, piece_of, HasPiece, all_pieces}
-use Rattle.roc_program.specs.Conflict.{are_in_conflict}
+use Rattle.roc_program.specs.Pieces.{pieces_in, piece_of}
 use Rattle.roc_program.specs.WellFormed.{IsProgram}
 use Rattle.roc_program.specs.declared.piece_id.PieceId.{PieceId}
-use Rattle.roc_conflict.specs.Contended.{has_conflict, is_contended}
-use Rattle.roc_conflict.proofs.Members.{found_by_any}
-use Rattle.roc_conflict.proofs.Mirrored.{conflict_mirrored}
-use Rattle.roc_conflict.proofs.Present.{present_from_conflict}
-use Rattle.roc_groups.specs.Groups.{id_of}
+use Rattle.roc_groups.specs.Groups.{piece_numbered}
 use Rattle.roc_groups.specs.Flow.{feeds, Leads, directly, onward}
 use Rattle.roc_groups.specs.Core.{InCore, contended, between}
 use Rattle.roc_groups.proofs.Forward.{forward}
-use Rattle.roc_merge.specs.Inner.Tables.{holds, row_at, AreContended, IsFlow, IsCoreBy}
+use Rattle.roc_groups.proofs.Tested.{contended_there}
+use Rattle.roc_merge.specs.Inner.Tables.{holds, row_in, AreContended, IsFlow, IsCoreBy}
 use Rattle.roc_merge.proofs.Rows.{set_exact}
-
--- a contended piece is there
-pub contended_there : (program : Workload) (is_immediate : PieceId → Bool) (proc x : ℕ) → is_contended program is_immediate (id_of proc x) ≡ true → HasPiece program (id_of proc x)
-contended_there program is_immediate proc x h =
-    let id = id_of proc x in
-    let o = found_by_any (are_in_conflict program id) (all_pieces program) (and_parts (is_immediate id) (has_conflict program id) h).1 in
-    present_from_conflict program o.0 id (conflict_mirrored program o.0 id ∙ o.1)
 
 module _ (program : Workload) (proc : ℕ) where
   abbrev Path : ℕ → ℕ → Type 0
@@ -38,8 +27,8 @@ module _ (program : Workload) (proc : ℕ) where
   feeds_there z y h =
       elim (cases_lt y (length (pieces_in program proc))) [
         | inl l ↦ l
-        | inr past ↦ (let none : piece_of program (id_of proc y) ≡ no_piece = get_or_past (pieces_in program proc) y no_piece past in
-            let r = any_has (piece_uses no_piece) (bindings_of (piece_of program (id_of proc z))) (subst (λ (p : Piece). list_any (piece_uses p) (bindings_of (piece_of program (id_of proc z))) ≡ true) none h) in
+        | inr past ↦ (let none : piece_of program (piece_numbered proc y) ≡ no_piece = get_or_past (pieces_in program proc) y no_piece past in
+            let r = any_has (piece_uses no_piece) (bindings_of (piece_of program (piece_numbered proc z))) (subst (λ (p : Piece). list_any (piece_uses p) (bindings_of (piece_of program (piece_numbered proc z))) ≡ true) none h) in
             absurd (false≢true r.2))
       ]
 
@@ -135,11 +124,11 @@ module _ (program : Workload) (proc : ℕ) where
   pub flow_more : (table : List (List Bool)) (n : ℕ) (row : List Bool) → IsFlow program proc table n → n < length table → ((p : ℕ) → IsTrue (holds row p) ↔ Leads (feeds program proc) p n)
       → IsFlow program proc (set table n row) (n + 1)
   flow_more table n row is within new y below p =
-      let same : (r : List Bool) → row_at (set table n row) y ≡ r → (IsTrue (holds r p) ↔ Leads (feeds program proc) p y) → IsTrue (holds (row_at (set table n row) y) p) ↔ Leads (feeds program proc) p y =
+      let same : (r : List Bool) → row_in (set table n row) y ≡ r → (IsTrue (holds r p) ↔ Leads (feeds program proc) p y) → IsTrue (holds (row_in (set table n row) y) p) ↔ Leads (feeds program proc) p y =
       λ r e h. (λ k. h.0 (ap (λ (r : List Bool). holds r p) (sym e) ∙ k), λ l. ap (λ (r : List Bool). holds r p) e ∙ h.1 l) in
       elim (cases_eq y n) [
         | inl e ↦ same row (ap (λ k. get_or (set table n row) k []) e ∙ get_or-set_same table n row [] within) (subst (λ k. IsTrue (holds row p) ↔ Leads (feeds program proc) p k) (sym e) (new p))
-        | inr apart ↦ same (row_at table y) (get_or-set_other table n y row [] apart) (is y (omega arith) p)
+        | inr apart ↦ same (row_in table y) (get_or-set_other table n y row [] apart) (is y (omega arith) p)
       ]
 
 -- ---- the core

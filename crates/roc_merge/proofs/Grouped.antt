@@ -16,24 +16,12 @@ use Rattle.roc_program.specs.declared.piece_id.PieceId.{PieceId}
 use Rattle.roc_groups.specs.Groups.{first_piece}
 use Rattle.roc_groups.specs.Core.{InCore}
 use Rattle.roc_groups.specs.Grouping.{AreTogether, IsGrouping, IsMergedIn}
-use Rattle.roc_groups.proofs.Elements.{has_flat_map, from_has_flat_map, range_rising}
+use Rattle.roc_groups.proofs.Elements.{has_flat_map, from_has_flat_map, range_rising, has_range, from_has_range}
+use Rattle.roc_groups.proofs.Parting.{rising_filter}
 use Rattle.roc_merge.specs.Inner.Grouped.{group_from, grouped}
 use Rattle.roc_merge.proofs.Flows.{core_there}
 
 -- ---- numbers in a row
-
-pub has_range : (a n x : ℕ) → a ≤ x → x < a + n → Has x (range_with_len a n)
-has_range a zero x l m = absurd (omega arith)
-has_range a (suc n) x l m =
-    elim (cases_lt a x) [
-      | inl k ↦ inr (has_range (a + 1) n x (omega arith) (omega arith))
-      | inr k ↦ inl (omega arith)
-    ]
-
-from_has_range : (a n x : ℕ) → Has x (range_with_len a n) → (a ≤ x) × (x < a + n)
-from_has_range a zero x h = absurd h
-from_has_range a (suc n) x (inl e) = (omega arith, omega arith)
-from_has_range a (suc n) x (inr h) = let r = from_has_range (a + 1) n x h in let l = r.0 in let m = r.1 in (omega arith, omega arith)
 
 -- a test of the numbers below a bound
 pub any_below : (p : ℕ → Bool) (n m : ℕ) → n < m → p n ≡ true → list_any p (range_with_len 0 m) ≡ true
@@ -43,13 +31,6 @@ pub none_more : (p : ℕ → Bool) (n : ℕ) → list_any p (range_with_len 0 n)
 none_more p n h k =
     ap (list_any p) (range_more 0 n n (omega arith)) ∙ list_any-append p (range_with_len 0 n) (n ∷ [])
     ∙ or_from (list_any p (range_with_len 0 n)) (list_any p (n ∷ [])) h (or_from (p n) false k refl)
-
-rising_filter : {A : Type 0} (before : A → A → Bool) (p : A → Bool) (xs : List A) → IsRising before xs → IsRising before (filter p xs)
-rising_filter before p [] r = tt
-rising_filter before p (x ∷ xs) r =
-    let rest = rising_filter before p xs r.1 in
-    let all : AllByRecursion (λ y. before x y ≡ true) (filter p xs) = has_all (λ y. before x y ≡ true) (filter p xs) (λ a h. all_has (λ y. before x y ≡ true) a xs r.0 (from_has_filter p a xs h).0) in
-    elim (p x) as (λ b. IsRising before (cond b (x ∷ filter p xs) (filter p xs))) [ true ↦ (all, rest) | false ↦ rest ]
 
 -- the first of rising numbers is the least
 first_least : (xs : List ℕ) (x : ℕ) → IsRising nat_lt xs → Has x xs → first_piece xs ≤ x

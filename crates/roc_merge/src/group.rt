@@ -5,7 +5,7 @@ ghost use Rattle.roc_program.specs.Pieces.{pieces_in};
 ghost use Rattle.roc_conflict.specs.Classes.{is_immediate};
 ghost use Rattle.roc_groups.specs.Core.{InCore};
 ghost use Rattle.roc_groups.specs.Grouping.{IsMergedIn, IsMerged};
-ghost use Rattle.roc_merge.specs.Inner.Tables.{holds, row_at, IsCoreBy};
+ghost use Rattle.roc_merge.specs.Inner.Tables.{holds, row_in, IsCoreBy};
 ghost use Rattle.roc_merge.specs.Inner.Grouped.{group_from, grouped};
 
 use crate::tables::{contended_in, count_of, flow_in};
@@ -82,7 +82,7 @@ fn meet(one: &[bool; 16], other: &[bool; 16]) -> bool
 // The pieces that this one leads to.
 fn users(flow: &[[bool; 16]; 16], piece: u16) -> [bool; 16]
     requires { piece < 16 }
-    ensures { (q : ℕ) → IsTrue (holds result q) ↔ IsTrue (holds (row_at flow.now q) piece) }
+    ensures { (q : ℕ) → IsTrue (holds result q) ↔ IsTrue (holds (row_in flow.now q) piece) }
 {
     let mut row = [false; 16];
     for at in 0..16 {

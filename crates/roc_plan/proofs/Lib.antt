@@ -1,4 +1,16 @@
 pub mod Single
-pub mod Outlined
 pub mod Deferred
 pub mod Rows
+pub mod Sized
+pub mod Taken
+pub mod Grouped
+pub mod Counted
+pub mod Drawn
+pub mod Kept
+pub mod Values
+pub mod Placed
+pub mod Classed
+pub mod Sources
+pub mod Ordered
+pub mod Turned
+pub mod Meetings

@@ -1,7 +1,7 @@
 -- The rows of groups that a plan keeps
-use Rattle.std.proofs.Common.{◌≡◌, ◌∙◌, ℕ, zero, suc, ◌≤◌, Bool, true, false, not, List, [], ◌∷◌, length, map, Some, get_or, slice_get, refl, ap, arith}
+use Rattle.std.proofs.Common.{◌≡◌, ◌∙◌, ℕ, zero, suc, Bool, true, false, not, List, [], ◌∷◌, length, map, Some, get_or, slice_get, refl, ap, arith}
 use Rattle.std.proofs.lemmas.Bool.{eqb-true, and_parts}
-use Rattle.std.specs.List.{AllByRecursion, list_all}
+use Rattle.std.specs.List.{list_all}
 use Rattle.roc_program.specs.Program.{Procedure}
 use Rattle.roc_plan.specs.Groups.{Group}
 use Rattle.roc_plan.specs.Within.{thin_group}
@@ -54,8 +54,3 @@ thin_rows_from (row ∷ rows) (p ∷ ps) count e =
 pub thin_rows_pass : (ps : List Procedure) → list_all is_thin_row (map (λ _. thin_group ∷ []) ps) ≡ true
 thin_rows_pass [] = refl
 thin_rows_pass (p ∷ ps) = thin_rows_pass ps
-
--- what holds of a row at a place
-pub row_few : {Y X : Type 0} (f : Y → List X) (n : ℕ) (rows : List Y) → AllByRecursion (λ row. length row ≡ 1) (map f rows) → 1 ≤ n → AllByRecursion (λ row. length (f row) ≤ n) rows
-row_few f n [] all some = tt
-row_few f n (r ∷ rows) all some = (omega (arith, all.0), row_few f n rows all.1 some)

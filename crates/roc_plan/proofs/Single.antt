@@ -1,15 +1,13 @@
 -- Procedures of one piece, which is their one group
-use Rattle.std.proofs.Common.{◌≡◌, ◌∙◌, ℕ, zero, suc, ◌-◌, ◌<◌, Bool, true, false, not, ◌&&◌, ◌||◌, ◌==◌, ℤ, pos, List, [], ◌∷◌, ◌++◌, length, filter, get_or, replicate, cond, refl, sym, subst, arith, append_assoc}
+use Rattle.std.proofs.Common.{◌≡◌, ◌∙◌, ℕ, ◌<◌, Bool, true, false, not, ◌&&◌, ◌||◌, ◌==◌, List, [], ◌∷◌, ◌++◌, length, filter, get_or, cond, refl, sym, subst, arith, append_assoc}
 use Rattle.std.proofs.lemmas.Bool.{eq-eqb}
 use Rattle.std.specs.List.{list_any}
 use Rattle.roc_program.specs.Program.{Procedure, Piece}
-use Rattle.roc_program.specs.LookUps.{no_piece, no_procedure}
+use Rattle.roc_program.specs.LookUps.{no_procedure}
 use Rattle.roc_program.specs.Names.{piece_uses, bindings, has_name}
-use Rattle.roc_program.specs.Values.{Environment, value_of_name, with_arguments, value}
 use Rattle.roc_program.proofs.Rows.{row_there, each_same}
 use Rattle.roc_sequence.proofs.Holds.{all_at}
-use Rattle.roc_program.proofs.ValueLaws.{value_same}
-use Rattle.roc_plan.specs.Groups.{Group, Plan, no_group, inputs_in, place_in, procedure_of, groups_of, group_of, group_place}
+use Rattle.roc_plan.specs.Groups.{Group, Plan, no_group, inputs_in, procedure_of, groups_of, group_of}
 use Rattle.roc_plan.specs.Within.{thin_group, IsDeferred, IsWithin}
 
 -- ---- no inputs
@@ -43,21 +41,6 @@ inputs_in-one procedure one = go procedure.pieces one
     go (p ∷ []) e = none_missing (λ n. list_any (λ piece. piece_uses piece n) (p ∷ [])) (bindings (p ∷ [])) [] (bindings (p ∷ [])) refl
     go (p ∷ q ∷ ps) e = absurd (omega arith)
 
--- ---- the place
-
--- zeros behind the values change none
-zeros_behind : (xs : Environment) (k n : ℕ) → value_of_name (xs ++ replicate k (pos 0)) n ≡ value_of_name xs n
-zeros_behind [] zero n = refl
-zeros_behind [] (suc k) zero = refl
-zeros_behind [] (suc k) (suc n) = zeros_behind [] k n
-zeros_behind (x ∷ xs) k zero = refl
-zeros_behind (x ∷ xs) k (suc n) = zeros_behind xs k n
-
-pub place_in-one : (procedure : Procedure) (arguments inputs : List ℤ) → length procedure.pieces ≡ 1 → place_in procedure (0 ∷ []) arguments inputs ≡ value (get_or procedure.pieces 0 no_piece).place arguments
-place_in-one procedure arguments inputs one =
-    rw (inputs_in-one procedure one)
-    (value_same (get_or procedure.pieces 0 no_piece).place (with_arguments procedure arguments) arguments (λ n used. zeros_behind arguments (procedure.names - length arguments) n))
-
 -- ---- thin plans
 
 pub group_of-thin : (plan : Plan) (proc group : ℕ) → IsWithin plan → group < length (groups_of plan proc) → group_of plan proc group ≡ thin_group
@@ -72,8 +55,3 @@ procedure_within plan proc group thin within =
 
 pub one_piece : (plan : Plan) (proc : ℕ) → IsWithin plan → proc < length plan.program.procedures → length (procedure_of plan proc).pieces ≡ 1
 one_piece plan proc thin within = (all_at IsDeferred plan.program.procedures proc no_procedure thin.program.deferred within).one_piece
-
-pub group_place-thin : (plan : Plan) (proc group : ℕ) (arguments inputs : List ℤ) → IsWithin plan → group < length (groups_of plan proc) → group_place plan proc group arguments inputs ≡ value (get_or (procedure_of plan proc).pieces 0 no_piece).place arguments
-group_place-thin plan proc group arguments inputs thin within =
-    rw (group_of-thin plan proc group thin within)
-    (place_in-one (procedure_of plan proc) arguments inputs (one_piece plan proc thin (procedure_within plan proc group thin within)))

@@ -78,11 +78,11 @@ groups_of plan proc = slice_index_or plan.groups proc []
 abbrev pub group_of : Plan → ℕ → ℕ → Group
 group_of plan proc group = slice_index_or (groups_of plan proc) group no_group
 
-abbrev pub is_group_immediate : Plan → ℕ → ℕ → Bool
-is_group_immediate plan proc group = (group_of plan proc group).is_immediate
+abbrev pub is_immediate_of : Plan → ℕ → ℕ → Bool
+is_immediate_of plan proc group = (group_of plan proc group).is_immediate
 
 abbrev pub group_class : Plan → ℕ → ℕ → Class
-group_class plan proc group = if is_group_immediate plan proc group then Immediate else Deferrable
+group_class plan proc group = if is_immediate_of plan proc group then Immediate else Deferrable
 
 abbrev pub bound_of : Plan → ℕ → ℕ → List ℕ
 bound_of plan proc group = bound_in (procedure_of plan proc) (group_of plan proc group).pieces

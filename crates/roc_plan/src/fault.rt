@@ -6,7 +6,7 @@ use std::fmt;
 /// Why a workload has no plan.
 #[derive(Clone, Copy, Debug, PartialEq, Eq)]
 pub enum PlanFault {
-    /// There is not one shard, or a procedure is not one piece that was declared `later`.
+    /// The groups are none that the layers above may rely on, or the classes are not those of the workload.
     Unfit,
     NoMemory,
 }

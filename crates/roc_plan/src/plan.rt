@@ -3,14 +3,21 @@ ghost use Rattle.std.specs.Prelude.{◌≡◌, ◌↔◌, ◌<◌, length, map, 
 ghost use Rattle.std.specs.Str.{bytes_eq};
 ghost use Rattle.std.specs.String.{string_bytes};
 ghost use Rattle.roc_program.specs.LookUps.{procedure_named};
-ghost use Rattle.roc_plan.specs.Groups.{procedure_of, groups_of, group_of, group_class, bound_of, inputs_of, outs_of, group_place, shard_of};
-ghost use Rattle.roc_plan.specs.Within.{IsThinShaped, IsWithin};
+ghost use Rattle.roc_plan.specs.Groups.{procedure_of, groups_of, group_of, group_class, bound_of, inputs_in, inputs_of, outs_of, group_place, shard_of};
+ghost use Rattle.roc_conflict.specs.Classes.{is_immediate};
+ghost use Rattle.roc_groups.specs.Accepted.{IsAcceptedGrouping};
+ghost use Rattle.roc_plan.specs.Accepted.{grouped_plan, IsAccepted};
+ghost use Rattle.roc_plan.specs.Within.{IsWithin};
 ghost use Rattle.roc_plan.specs.Inner.Outlines.{row_of};
 
-use crate::outline::{Outline, singles};
+use crate::build::outlines_of;
+use crate::outline::Outline;
+use crate::place::names_with;
 use crate::thin::{are_thin_rows, is_thin};
 use crate::{Class, Input, Known, PlanFault};
 use roc_base::Shard;
+use roc_conflict::Classes;
+use roc_groups::{Groups, are_accepted};
 use roc_program::{Procedure, Workload};
 use std::alloc::Global;
 use std::marker::Model;
@@ -39,17 +46,22 @@ impl Model for Plan {
 }
 
 impl Plan {
-    /// The plan of a workload of one shard, each of whose procedures is one `later` piece, which is its one group. `Unfit`
-    /// comes exactly where the workload is another.
-    pub fn thin(alloc: Global, workload: Workload) -> Result<Plan, PlanFault>
-        ensures program { IfOk result (λ plan. plan.program ≡ workload) }
-        ensures within { IfOk result IsWithin }
-        ensures unfit { IsErrOf result PlanFault.Unfit ↔ ¬ IsThinShaped workload }
+    /// The plan of a workload whose pieces are put into these groups. `Unfit` comes exactly where the layers above may not rely on
+    /// the groups, or the classes are not those of the workload.
+    pub fn try_new(
+        alloc: Global,
+        workload: Workload,
+        classes: Classes,
+        groups: Groups,
+    ) -> Result<Plan, PlanFault>
+        ensures made { IfOk result (λ plan. plan ≡ grouped_plan workload (is_immediate classes) groups) }
+        ensures accepted { IfOk result (λ plan. IsAccepted plan) }
+        ensures unfit { IsErrOf result PlanFault.Unfit ↔ ¬ IsAcceptedGrouping workload (is_immediate classes) groups }
     {
-        if !is_thin(&workload) {
+        if !are_accepted(&workload, &classes, &groups) {
             return Err(PlanFault::Unfit);
         }
-        let outlines = singles(alloc, workload.procedures())?;
+        let outlines = outlines_of(alloc, &workload, &classes, &groups)?;
         Ok(Plan { workload, outlines })
     }
 
@@ -61,9 +73,10 @@ impl Plan {
         is_thin(&self.workload) && are_thin_rows(&self.outlines)
     }
 
-    /// The workload that the plan is of.
+    /// The workload that the plan is of. Whoever reads it is told that the plan is accepted, as each is.
     pub fn workload(&self) -> &Workload
-        ensures { result.now ≡ self.now.program }
+        ensures program { result.now ≡ self.now.program }
+        ensures accepted { IsAccepted self.now }
     {
         &self.workload
     }
@@ -133,6 +146,14 @@ impl Plan {
         outline_at(&self.outlines, proc, group).inputs.as_slice()
     }
 
+    /// The names that these values have, by number.
+    pub fn input_names(&self, proc: u16, group: u16) -> &[u16]
+        requires { group < length (groups_of self.now proc) }
+        ensures { result.now ≡ inputs_in (procedure_of self.now proc) (group_of self.now proc group).pieces }
+    {
+        outline_at(&self.outlines, proc, group).names.as_slice()
+    }
+
     /// The places in the reply of what a group adds to it, in program order.
     pub fn outs(&self, proc: u16, group: u16) -> &[u16]
         requires { group < length (groups_of self.now proc) }
@@ -143,15 +164,20 @@ impl Plan {
 
     /// The place of a group, where it is known what the group runs with.
     pub fn place(&self, proc: u16, group: u16, known: &Known) -> i64
-        requires within { IsWithin self.now }
         requires exists { group < length (groups_of self.now proc) }
         requires args { length known.now.args ≡ (procedure_of self.now proc).arguments }
         requires inputs { length known.now.inputs ≡ length (inputs_of self.now proc group) }
         ensures { result ≡ group_place self.now proc group known.now.args known.now.inputs }
     {
-        // A group is the one piece of its procedure, and takes no inputs.
-        let place = &self.workload.procedures()[proc as usize].pieces[0].place;
-        place.value(known.args.as_slice())
+        let outline = outline_at(&self.outlines, proc, group);
+        let names = names_with(
+            known.args.as_slice(),
+            &outline.names,
+            known.inputs.as_slice(),
+        );
+        let first = outline.pieces[0];
+        let procedure = &self.workload.procedures()[usize::from(proc)];
+        procedure.pieces[usize::from(first)].place.value(&names)
     }
 
     /// The shard that keeps the rows of a place: the place modulo the number of shards.

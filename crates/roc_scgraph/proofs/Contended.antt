@@ -15,7 +15,7 @@ use Rattle.roc_conflict.proofs.Present.{some_conflict}
 use Rattle.roc_conflict.proofs.Least.{present_from_immediate}
 use Rattle.roc_scgraph.specs.declared.vertex.Vertex.{Vertex}
 use Rattle.roc_scgraph.specs.Graph.{piece_id, are_siblings}
-use Rattle.roc_scgraph.specs.Cycles.{neighbours, first, IsUnreorderable, HasTwoContended}
+use Rattle.roc_scgraph.specs.Cycles.{neighbours, first_instance, IsUnreorderable, HasTwoContended}
 use Rattle.roc_scgraph.proofs.Vertices.{siblings_share, same_piece}
 use Rattle.roc_scgraph.proofs.Crossings.{Meets, AreTwo}
 use Rattle.roc_scgraph.proofs.Turned.{two_contended}
@@ -46,7 +46,7 @@ only program is_immediate least cycle a b is has inside =
 
 pub each : (program : Workload) (is_immediate : PieceId → Bool) → AreLeast program is_immediate
     → (p q : PieceId) → p ≢ q → p.proc ≡ q.proc → IsTrue (is_contended program is_immediate p) → IsTrue (is_contended program is_immediate q)
-    → (between : List Vertex) × IsUnreorderable program is_immediate (first p ∷ (between ++ first q ∷ [])) × (length between ≤ 4)
+    → (between : List Vertex) × IsUnreorderable program is_immediate (first_instance p ∷ (between ++ first_instance q ∷ [])) × (length between ≤ 4)
 each program is_immediate least p q apart same cp cq =
     let of_p = and_parts (is_immediate p) (has_conflict program p) cp in
     let of_q = and_parts (is_immediate q) (has_conflict program q) cq in

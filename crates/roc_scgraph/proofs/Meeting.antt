@@ -6,7 +6,7 @@ use Rattle.roc_program.specs.Pieces.{HasPiece}
 use Rattle.roc_program.specs.Conflict.{are_in_conflict}
 use Rattle.roc_program.specs.declared.piece_id.PieceId.{PieceId}
 use Rattle.roc_scgraph.specs.Graph.{edge}
-use Rattle.roc_scgraph.specs.Cycles.{is_fixed, first, IsUnreorderable}
+use Rattle.roc_scgraph.specs.Cycles.{is_fixed, first_instance, IsUnreorderable}
 use Rattle.roc_scgraph.proofs.Vertices.{siblings_from, not_siblings, edge-siblings, edge-conflict}
 use Rattle.roc_scgraph.proofs.Middles.{second, through, same_id_parts}
 
@@ -22,7 +22,7 @@ pub record CycleThrough (program : Workload) (immediate : PieceId → Bool) (p q
   pub next : PieceId
   pub more : List PieceId
   pub few : length more ≤ 3
-  pub is : IsUnreorderable program immediate (first p ∷ (map second (next ∷ more) ++ first q ∷ []))
+  pub is : IsUnreorderable program immediate (first_instance p ∷ (map second (next ∷ more) ++ first_instance q ∷ []))
 
 module _ (program : Workload) (immediate : PieceId → Bool) (mirrored : (one other : PieceId) → are_in_conflict program one other ≡ are_in_conflict program other one)
     (there : (id : PieceId) → immediate id ≡ true → HasPiece program id) (closed : (one other : PieceId) → immediate one ≡ true → are_in_conflict program one other ≡ true → immediate other ≡ true) where
@@ -41,7 +41,7 @@ module _ (program : Workload) (immediate : PieceId → Bool) (mirrored : (one ot
 
   module _ (p q x y : PieceId) (apart : p ≢ q) (same : p.proc ≡ q.proc) (ip : immediate p ≡ true) (iq : immediate q ≡ true) (px : are_in_conflict program p x ≡ true) (qy : are_in_conflict program q y ≡ true) where
     abbrev By : PieceId → List PieceId → Type 0
-    By m ms = IsUnreorderable program immediate (first p ∷ (map second (m ∷ ms) ++ first q ∷ []))
+    By m ms = IsUnreorderable program immediate (first_instance p ∷ (map second (m ∷ ms) ++ first_instance q ∷ []))
 
     ix : immediate x ≡ true
     ix = closed p x ip px

@@ -49,8 +49,8 @@ pub record IsUnreorderable (program : Workload) (is_immediate : PieceId → Bool
   pub some_conflict : IsTrue (list_any (λ n. is_conflict_edge (edge program is_immediate n.0 n.1)) (neighbours cycle))
 
 -- the first instance of a piece
-abbrev pub first : PieceId → Vertex
-first p = record { proc = p.proc; piece = p.piece; instance = First }
+abbrev pub first_instance : PieceId → Vertex
+first_instance p = record { proc = p.proc; piece = p.piece; instance = First }
 
 -- two pieces of a procedure are contended
 pub record HasTwoContended (program : Workload) (is_immediate : PieceId → Bool) (proc : ℕ) : Type 0 where

@@ -4,10 +4,10 @@ use Rattle.std.proofs.lemmas.Bool.{cases_lt}
 use Rattle.std.specs.Option.{option_map}
 use Rattle.roc_program.specs.declared.piece_id.PieceId.{PieceId}
 use Rattle.roc_scgraph.specs.declared.vertex.Vertex.{Vertex}
-use Rattle.roc_scgraph.specs.Cycles.{first}
-use Rattle.roc_witness.specs.Order.{comes_before}
+use Rattle.roc_scgraph.specs.Cycles.{first_instance}
+use Rattle.roc_witness.specs.Order.{stands_before}
 use Rattle.roc_witness.specs.Inner.Vertices.{open_vertices}
-use Rattle.roc_witness.specs.Inner.Walks.{leads, IsShortestWalk, HasNoShortWalk}
+use Rattle.roc_witness.specs.Inner.Walks.{may_step, IsShortestWalk, HasNoShortWalk}
 use Rattle.roc_witness.specs.Inner.Candidates.{is_better, better_of, IsBest, sibling, lead, LeavesFrom, LeavesBelow}
 use Rattle.roc_witness.proofs.Ordered.{comes_front, comes_back, from_neither, better_swap, better_between}
 
@@ -76,35 +76,35 @@ module _ (all : List Vertex) (table : List (List Bool)) (p q : PieceId) where
     Start = sibling p piece
 
     abbrev Open : List Vertex
-    Open = open_vertices all (first p) Start (first q)
+    Open = open_vertices all (first_instance p) Start (first_instance q)
 
-    not_better_than : (c d : List Vertex) → IsShortestWalk (leads table Start) Open Start (first q) (lead p piece) c → From piece d → is_better d c ≡ false
+    not_better_than : (c d : List Vertex) → IsShortestWalk (may_step table Start) Open Start (first_instance q) (lead p piece) c → From piece d → is_better d c ≡ false
     not_better_than c d h r =
         from_neither d c
         (omega (arith, h.shortest r.way r.walk, long_of d r.way r.is, long_of c h.way h.is))
-        (λ e. ap (λ (vs : List Vertex). comes_before vs c) r.is ∙ ap (comes_before ((lead p piece ++ r.way) ++ first q ∷ [])) h.is ∙ among r.way h.way (omega (arith, e, long_of d r.way r.is, long_of c h.way h.is))
+        (λ e. ap (λ (vs : List Vertex). stands_before vs c) r.is ∙ ap (stands_before ((lead p piece ++ r.way) ++ first_instance q ∷ [])) h.is ∙ among r.way h.way (omega (arith, e, long_of d r.way r.is, long_of c h.way h.is))
         ∙ h.least r.way r.walk (omega (arith, e, long_of d r.way r.is, long_of c h.way h.is)))
       where
-        long_of : (vs way : List Vertex) → vs ≡ (lead p piece ++ way) ++ first q ∷ [] → length vs ≡ length (lead p piece) + length way + 1
-        long_of vs way e = omega (arith, ap (λ (us : List Vertex). length us) e, length-append (lead p piece ++ way) (first q ∷ []), length-append (lead p piece) way)
+        long_of : (vs way : List Vertex) → vs ≡ (lead p piece ++ way) ++ first_instance q ∷ [] → length vs ≡ length (lead p piece) + length way + 1
+        long_of vs way e = omega (arith, ap (λ (us : List Vertex). length us) e, length-append (lead p piece ++ way) (first_instance q ∷ []), length-append (lead p piece) way)
 
-        among : (ws way : List Vertex) → length ws ≡ length way → comes_before ((lead p piece ++ ws) ++ first q ∷ []) ((lead p piece ++ way) ++ first q ∷ []) ≡ comes_before ws way
+        among : (ws way : List Vertex) → length ws ≡ length way → stands_before ((lead p piece ++ ws) ++ first_instance q ∷ []) ((lead p piece ++ way) ++ first_instance q ∷ []) ≡ stands_before ws way
         among ws way e =
-            comes_back (lead p piece ++ ws) (lead p piece ++ way) (first q ∷ []) (omega (arith, e, length-append (lead p piece) ws, length-append (lead p piece) way))
+            comes_back (lead p piece ++ ws) (lead p piece ++ way) (first_instance q ∷ []) (omega (arith, e, length-append (lead p piece) ws, length-append (lead p piece) way))
             ∙ comes_front (lead p piece) ws way
 
-    found_here : (o : Found) → MatchOption o (HasNoShortWalk (leads table Start) Open Start (first q) 6) (λ c. IsShortestWalk (leads table Start) Open Start (first q) (lead p piece) c.items) → IsBest (From piece) (option_map (λ c. c.items) o)
+    found_here : (o : Found) → MatchOption o (HasNoShortWalk (may_step table Start) Open Start (first_instance q) 6) (λ c. IsShortestWalk (may_step table Start) Open Start (first_instance q) (lead p piece) c.items) → IsBest (From piece) (option_map (λ c. c.items) o)
     found_here None h = λ d r. h r.way r.walk r.short
     found_here (Some c) h = (record { other = other; way = h.way; short = h.few; walk = h.walk; is = h.is }, λ d r. not_better_than c.items d h r)
 
     abbrev pub Searched : Found → (fst start goal : Vertex) (vs front : List Vertex) → Type 0
-    Searched o fst start goal vs front = MatchOption o (HasNoShortWalk (leads table start) vs start goal 6) (λ c. IsShortestWalk (leads table start) vs start goal front c.items)
+    Searched o fst start goal vs front = MatchOption o (HasNoShortWalk (may_step table start) vs start goal 6) (λ c. IsShortestWalk (may_step table start) vs start goal front c.items)
 
-    pub found_from : (o : Found) (fst start goal : Vertex) (vs front : List Vertex) → fst ≡ first p → start ≡ Start → goal ≡ first q → vs ≡ open_vertices all fst start goal → front ≡ lead p piece
+    pub found_from : (o : Found) (fst start goal : Vertex) (vs front : List Vertex) → fst ≡ first_instance p → start ≡ Start → goal ≡ first_instance q → vs ≡ open_vertices all fst start goal → front ≡ lead p piece
         → Searched o fst start goal vs front → IsBest (From piece) (option_map (λ c. c.items) o)
     found_from o fst start goal vs front f s g v l h =
         let a = subst (λ x. Searched o fst start goal vs x) l h in
         let b = subst (λ x. Searched o fst start goal x (lead p piece)) v a in
         let c = subst (λ x. Searched o fst start goal (open_vertices all x start goal) (lead p piece)) f b in
-        let d = subst (λ x. Searched o fst x goal (open_vertices all (first p) x goal) (lead p piece)) s c in
-        found_here o (subst (λ x. Searched o fst Start x (open_vertices all (first p) Start x) (lead p piece)) g d)
+        let d = subst (λ x. Searched o fst x goal (open_vertices all (first_instance p) x goal) (lead p piece)) s c in
+        found_here o (subst (λ x. Searched o fst Start x (open_vertices all (first_instance p) Start x) (lead p piece)) g d)

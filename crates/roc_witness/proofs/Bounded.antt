@@ -15,7 +15,7 @@ use Rattle.roc_conflict.proofs.Present.{present_from_conflict}
 use Rattle.roc_scgraph.specs.declared.vertex.Vertex.{Vertex}
 use Rattle.roc_scgraph.specs.declared.vertex.Instance.TheVariants.{First}
 use Rattle.roc_scgraph.specs.Graph.{piece_id, is_vertex, edge}
-use Rattle.roc_scgraph.specs.Cycles.{steps_to, is_fixed, first, IsUnreorderable}
+use Rattle.roc_scgraph.specs.Cycles.{steps_to, is_fixed, first_instance, IsUnreorderable}
 use Rattle.roc_scgraph.proofs.Vertices.{siblings_share, siblings_from, same_vertex, same_piece, is_vertex-true, is_vertex-same, not_siblings, edge-siblings, edge-conflict}
 use Rattle.roc_scgraph.proofs.Crossings.{Meets, AreTwo}
 use Rattle.roc_scgraph.proofs.Middles.{second, same_id_parts, first≢second}
@@ -23,7 +23,7 @@ use Rattle.roc_scgraph.proofs.Turned.{two_contended, steps-append}
 use Rattle.roc_witness.specs.Shortest.{IsCycleOf}
 use Rattle.roc_witness.specs.Inner.Table.{IsTableOf}
 use Rattle.roc_witness.specs.Inner.Vertices.{vertices, open_vertices}
-use Rattle.roc_witness.specs.Inner.Walks.{leads, IsWalk}
+use Rattle.roc_witness.specs.Inner.Walks.{may_step, IsWalk}
 use Rattle.roc_witness.specs.Inner.Candidates.{sibling}
 use Rattle.roc_witness.proofs.Leaving.{Fixed, IsVisitable, walk_from}
 
@@ -50,7 +50,7 @@ module _ (program : Workload) (immediate : PieceId → Bool) (table : List (List
   record Tail (u a : Vertex) (most : ℕ) : Type 0 where
     way : List Vertex
     few : length way ≤ most
-    fixed : Fixed program immediate table exact p q same a way (first q)
+    fixed : Fixed program immediate table exact p q same a way (first_instance q)
     visit : AllByRecursion (IsVisitable program immediate table exact p q same u) way
 
   pub record IsShort : Type 0 where
@@ -59,10 +59,10 @@ module _ (program : Workload) (immediate : PieceId → Bool) (table : List (List
     pub other : piece ≢ q.piece
     pub way : List Vertex
     pub few : length way ≤ 5
-    pub walk : IsWalk (leads table (sibling p piece)) (open_vertices (vertices program) (first p) (sibling p piece) (first q)) (sibling p piece) (first q) way
+    pub walk : IsWalk (may_step table (sibling p piece)) (open_vertices (vertices program) (first_instance p) (sibling p piece) (first_instance q)) (sibling p piece) (first_instance q) way
 
   module _ (last : HasPiece program q) (u v : Vertex) (u_first : u.instance ≡ First) (v_first : v.instance ≡ First) (u_of : u.proc ≡ q.proc) (v_of : v.proc ≡ q.proc) (u_meets : Meets program immediate u) (v_meets : Meets program immediate v)
-      (apart : u ≢ v) (u_apart : u ≢ first q) (v_apart : v ≢ first p) where
+      (apart : u ≢ v) (u_apart : u ≢ first_instance q) (v_apart : v ≢ first_instance p) where
     abbrev x : PieceId
     x = u_meets.other
 
@@ -101,7 +101,7 @@ module _ (program : Workload) (immediate : PieceId → Bool) (table : List (List
       where
         go : (piece_id v ≡ q) ⊎ (piece_id v ≢ q) → Tail u (second y) 1
         go (inl e) =
-            let is : v ≡ first q = same_piece v (first q) e v_first in
+            let is : v ≡ first_instance q = same_piece v (first_instance q) e v_first in
             record { way = []; few = omega arith; fixed = (subst (λ w. is_fixed (edge program immediate (second y) w) ≡ true) is (land v y v_first v_meets.conflict v_meets.at_start v_meets.other_at_start), tt); visit = tt }
         go (inr n) =
             record {
@@ -109,7 +109,7 @@ module _ (program : Workload) (immediate : PieceId → Bool) (table : List (List
               few = omega arith;
               fixed = (
                 land v y v_first v_meets.conflict v_meets.at_start v_meets.other_at_start,
-                (ap is_fixed (edge-siblings program immediate v (first q) (siblings_from v (first q) v_of v_first) (λ e. n (same_id_parts (piece_id v) q v_of e))), tt),
+                (ap is_fixed (edge-siblings program immediate v (first_instance q) (siblings_from v (first_instance q) v_of v_first) (λ e. n (same_id_parts (piece_id v) q v_of e))), tt),
               );
               visit = (
                 record {
@@ -171,10 +171,10 @@ module _ (program : Workload) (immediate : PieceId → Bool) (table : List (List
         record {
           piece = u.piece;
           below = subst (λ n. u.piece < length (pieces_in program n)) (u_of ∙ sym same) there.piece;
-          other = λ e. u_apart (same_vertex u (first q) u_of e u_first);
+          other = λ e. u_apart (same_vertex u (first_instance q) u_of e u_first);
           way = second x ∷ turn.way;
           few = omega (arith, turn.few);
-          walk = subst (λ w. IsWalk (leads table w) (open_vertices (vertices program) (first p) w (first q)) w (first q) (second x ∷ turn.way)) is
+          walk = subst (λ w. IsWalk (may_step table w) (open_vertices (vertices program) (first_instance p) w (first_instance q)) w (first_instance q) (second x ∷ turn.way)) is
               (walk_from program immediate table exact p q same u (second x) turn.way there last (visit_second x (present_from_conflict program (piece_id u) x u_meets.conflict), turn.visit)
               (not_siblings u (second x) (inr (λ e. first≢second (sym u_first ∙ e)))) (leap u x u_first u_meets.conflict u_meets.at_start u_meets.other_at_start, turn.fixed));
         }
@@ -184,41 +184,41 @@ module _ (program : Workload) (immediate : PieceId → Bool) (table : List (List
 
   -- of each cycle
   pub bounded : (d : List Vertex) → IsCycleOf program immediate p q d → IsShort
-  bounded d is = go (vertex_or_not two.one (first q) one_first) (vertex_or_not two.other (first p) other_first)
+  bounded d is = go (vertex_or_not two.one (first_instance q) one_first) (vertex_or_not two.other (first_instance p) other_first)
     where
-      cycle : IsUnreorderable program immediate (first p ∷ (is.between ++ first q ∷ []))
+      cycle : IsUnreorderable program immediate (first_instance p ∷ (is.between ++ first_instance q ∷ []))
       cycle = subst (IsUnreorderable program immediate) is.ends is.unreorderable
 
-      closing : Has (first q, first p) (steps_to (first p) (is.between ++ first q ∷ []) (first p))
+      closing : Has (first_instance q, first_instance p) (steps_to (first_instance p) (is.between ++ first_instance q ∷ []) (first_instance p))
       closing =
-          subst (λ steps. Has (first q, first p) steps) (sym (steps-append (first p) is.between (first q) [] (first p)))
-          (has_right (first q, first p) (steps_to (first p) is.between (first q)) ((first q, first p) ∷ []) (inl refl))
+          subst (λ steps. Has (first_instance q, first_instance p) steps) (sym (steps-append (first_instance p) is.between (first_instance q) [] (first_instance p)))
+          (has_right (first_instance q, first_instance p) (steps_to (first_instance p) is.between (first_instance q)) ((first_instance q, first_instance p) ∷ []) (inl refl))
 
-      two : AreTwo program immediate (first q)
-      two = two_contended program immediate (conflict_mirrored program) (first p ∷ (is.between ++ first q ∷ [])) (first q) (first p) cycle closing (siblings_from (first q) (first p) (sym same) refl)
+      two : AreTwo program immediate (first_instance q)
+      two = two_contended program immediate (conflict_mirrored program) (first_instance p ∷ (is.between ++ first_instance q ∷ [])) (first_instance q) (first_instance p) cycle closing (siblings_from (first_instance q) (first_instance p) (sym same) refl)
 
       one_of : two.one.proc ≡ q.proc
-      one_of = sym (siblings_share (first q) two.one two.one_inside).0
+      one_of = sym (siblings_share (first_instance q) two.one two.one_inside).0
 
       one_first : two.one.instance ≡ First
-      one_first = sym (siblings_share (first q) two.one two.one_inside).1
+      one_first = sym (siblings_share (first_instance q) two.one two.one_inside).1
 
       other_of : two.other.proc ≡ q.proc
-      other_of = sym (siblings_share (first q) two.other two.other_inside).0
+      other_of = sym (siblings_share (first_instance q) two.other two.other_inside).0
 
       other_first : two.other.instance ≡ First
-      other_first = sym (siblings_share (first q) two.other two.other_inside).1
+      other_first = sym (siblings_share (first_instance q) two.other two.other_inside).1
 
       there : HasPiece program q
-      there = all_has (λ v. HasPiece program (piece_id v)) (first q) (is.between ++ first q ∷ []) cycle.present.1 (has_right (first q) is.between (first q ∷ []) (inl refl))
+      there = all_has (λ v. HasPiece program (piece_id v)) (first_instance q) (is.between ++ first_instance q ∷ []) cycle.present.1 (has_right (first_instance q) is.between (first_instance q ∷ []) (inl refl))
 
-      ends_apart : first p ≢ first q
-      ends_apart e = cycle.distinct.0 (has_listed is_vertex is_vertex-true is_vertex-same (is.between ++ first q ∷ []) (first p) (subst (λ v. Has v (is.between ++ first q ∷ [])) (sym e) (has_right (first q) is.between (first q ∷ []) (inl refl))))
+      ends_apart : first_instance p ≢ first_instance q
+      ends_apart e = cycle.distinct.0 (has_listed is_vertex is_vertex-true is_vertex-same (is.between ++ first_instance q ∷ []) (first_instance p) (subst (λ v. Has v (is.between ++ first_instance q ∷ [])) (sym e) (has_right (first_instance q) is.between (first_instance q ∷ []) (inl refl))))
 
-      swapped : two.other ≢ first q → two.one ≢ first p → IsShort
+      swapped : two.other ≢ first_instance q → two.one ≢ first_instance p → IsShort
       swapped n m = whole there two.other two.one other_first one_first other_of one_of two.other_meets two.one_meets (λ e. two.apart (sym e)) n m
 
-      go : (two.one ≡ first q) ⊎ (two.one ≢ first q) → (two.other ≡ first p) ⊎ (two.other ≢ first p) → IsShort
+      go : (two.one ≡ first_instance q) ⊎ (two.one ≢ first_instance q) → (two.other ≡ first_instance p) ⊎ (two.other ≢ first_instance p) → IsShort
       go (inl e) t = swapped (λ f. two.apart (e ∙ sym f)) (λ f. ends_apart (sym f ∙ e))
       go (inr n) (inl f) = swapped (λ e. ends_apart (sym f ∙ e)) (λ e. two.apart (e ∙ sym f))
       go (inr n) (inr m) = whole there two.one two.other one_first other_first one_of other_of two.one_meets two.other_meets two.apart n m

@@ -12,13 +12,13 @@ use Rattle.roc_program.specs.Pieces.{HasPiece, pieces_in}
 use Rattle.roc_program.specs.declared.piece_id.PieceId.{PieceId}
 use Rattle.roc_scgraph.specs.declared.vertex.Vertex.{Vertex}
 use Rattle.roc_scgraph.specs.Graph.{piece_id, is_vertex}
-use Rattle.roc_scgraph.specs.Cycles.{first, IsUnreorderable}
+use Rattle.roc_scgraph.specs.Cycles.{first_instance, IsUnreorderable}
 use Rattle.roc_scgraph.proofs.Vertices.{is_vertex-true, is_vertex-same}
-use Rattle.roc_witness.specs.Order.{comes_before}
+use Rattle.roc_witness.specs.Order.{stands_before}
 use Rattle.roc_witness.specs.Shortest.{IsCycleOf}
 use Rattle.roc_witness.specs.Inner.Table.{IsTableOf}
 use Rattle.roc_witness.specs.Inner.Vertices.{vertices, open_vertices}
-use Rattle.roc_witness.specs.Inner.Walks.{leads, IsWalk}
+use Rattle.roc_witness.specs.Inner.Walks.{may_step, IsWalk}
 use Rattle.roc_witness.specs.Inner.Candidates.{is_better, IsBest, sibling, lead, LeavesBelow}
 use Rattle.roc_witness.proofs.Ordered.{not_better_long, not_better_comes}
 use Rattle.roc_witness.proofs.Simple.{shortest_once}
@@ -30,21 +30,21 @@ use Rattle.roc_witness.proofs.Sound.{sound}
 lead_long : (p : PieceId) (piece : ℕ) → (1 ≤ length (lead p piece)) × (length (lead p piece) ≤ 2)
 lead_long p piece = go (p.piece == piece)
   where
-    go : (t : Bool) → (1 ≤ length (cond t (first p ∷ []) (first p ∷ sibling p piece ∷ []))) × (length (cond t (first p ∷ []) (first p ∷ sibling p piece ∷ [])) ≤ 2)
+    go : (t : Bool) → (1 ≤ length (cond t (first_instance p ∷ []) (first_instance p ∷ sibling p piece ∷ []))) × (length (cond t (first_instance p ∷ []) (first_instance p ∷ sibling p piece ∷ [])) ≤ 2)
     go true = (omega arith, omega arith)
     go false = (omega arith, omega arith)
 
-cycle_long : (p q : PieceId) (piece : ℕ) (way : List Vertex) → length ((lead p piece ++ way) ++ first q ∷ []) ≡ length (lead p piece) + length way + 1
-cycle_long p q piece way = omega (arith, length-append (lead p piece ++ way) (first q ∷ []), length-append (lead p piece) way)
+cycle_long : (p q : PieceId) (piece : ℕ) (way : List Vertex) → length ((lead p piece ++ way) ++ first_instance q ∷ []) ≡ length (lead p piece) + length way + 1
+cycle_long p q piece way = omega (arith, length-append (lead p piece ++ way) (first_instance q ∷ []), length-append (lead p piece) way)
 
 -- the ends of a cycle are different pieces of the program
 pub ends_of : (program : Workload) (immediate : PieceId → Bool) (p q : PieceId) (d : List Vertex) → IsCycleOf program immediate p q d → (p ≢ q) × HasPiece program p × HasPiece program q
 ends_of program immediate p q d is =
-    let cycle : IsUnreorderable program immediate (first p ∷ (is.between ++ first q ∷ [])) = subst (IsUnreorderable program immediate) is.ends is.unreorderable in
-    let last : Has (first q) (is.between ++ first q ∷ []) = has_right (first q) is.between (first q ∷ []) (inl refl) in (
-      λ e. cycle.distinct.0 (has_listed is_vertex is_vertex-true is_vertex-same (is.between ++ first q ∷ []) (first p) (subst (λ v. Has v (is.between ++ first q ∷ [])) (sym (ap first e)) last)),
+    let cycle : IsUnreorderable program immediate (first_instance p ∷ (is.between ++ first_instance q ∷ [])) = subst (IsUnreorderable program immediate) is.ends is.unreorderable in
+    let last : Has (first_instance q) (is.between ++ first_instance q ∷ []) = has_right (first_instance q) is.between (first_instance q ∷ []) (inl refl) in (
+      λ e. cycle.distinct.0 (has_listed is_vertex is_vertex-true is_vertex-same (is.between ++ first_instance q ∷ []) (first_instance p) (subst (λ v. Has v (is.between ++ first_instance q ∷ [])) (sym (ap first_instance e)) last)),
       cycle.present.0,
-      all_has (λ v. HasPiece program (piece_id v)) (first q) (is.between ++ first q ∷ []) cycle.present.1 last,
+      all_has (λ v. HasPiece program (piece_id v)) (first_instance q) (is.between ++ first_instance q ∷ []) cycle.present.1 last,
     )
 
 module _ (program : Workload) (immediate : PieceId → Bool) (table : List (List Bool)) (exact : IsTableOf program immediate table) (p q : PieceId) (same : p.proc ≡ q.proc) (apart : p ≢ q)
@@ -56,7 +56,7 @@ module _ (program : Workload) (immediate : PieceId → Bool) (table : List (List
   IsCandidate d = LeavesBelow all table p q count d
 
   candidate : (piece : ℕ) (way : List Vertex) → piece < length (pieces_in program p.proc) → piece ≢ q.piece → length way ≤ 6
-      → IsWalk (leads table (sibling p piece)) (open_vertices (vertices program) (first p) (sibling p piece) (first q)) (sibling p piece) (first q) way → IsCandidate ((lead p piece ++ way) ++ first q ∷ [])
+      → IsWalk (may_step table (sibling p piece)) (open_vertices (vertices program) (first_instance p) (sibling p piece) (first_instance q)) (sibling p piece) (first_instance q) way → IsCandidate ((lead p piece ++ way) ++ first_instance q ∷ [])
   candidate piece way below other few walk =
       record {
         piece = piece;
@@ -65,7 +65,7 @@ module _ (program : Workload) (immediate : PieceId → Bool) (table : List (List
           other = other;
           way = way;
           short = few;
-          walk = subst (λ vs. IsWalk (leads table (sibling p piece)) (open_vertices vs (first p) (sibling p piece) (first q)) (sibling p piece) (first q) way) (sym all_is) walk;
+          walk = subst (λ vs. IsWalk (may_step table (sibling p piece)) (open_vertices vs (first_instance p) (sibling p piece) (first_instance q)) (sibling p piece) (first_instance q) way) (sym all_is) walk;
           is = refl;
         };
       }
@@ -74,13 +74,13 @@ module _ (program : Workload) (immediate : PieceId → Bool) (table : List (List
   bounded_candidate : (d : List Vertex) → IsCycle d → (e : List Vertex) × IsCandidate e × (length e ≤ 8)
   bounded_candidate d is =
       let r : IsShort program immediate table exact p q same = bounded program immediate table exact p q same d is in
-      ((lead p r.piece ++ r.way) ++ first q ∷ [], candidate r.piece r.way r.below r.other (omega (arith, r.few)) r.walk, omega (arith, r.few, (lead_long p r.piece).1, cycle_long p q r.piece r.way))
+      ((lead p r.piece ++ r.way) ++ first_instance q ∷ [], candidate r.piece r.way r.below r.other (omega (arith, r.few)) r.walk, omega (arith, r.few, (lead_long p r.piece).1, cycle_long p q r.piece r.way))
 
   -- a candidate that is a short cycle or shorter than it
   early_candidate : (d : List Vertex) → IsCycle d → length d ≤ 8 → (e : List Vertex) × IsCandidate e × ((e ≡ d) ⊎ (length e < length d))
   early_candidate d is few =
       let r : IsEarly program immediate table exact p q same d = early program immediate table exact p q same d is in
-      let e : List Vertex = (lead p r.piece ++ r.way) ++ first q ∷ [] in
+      let e : List Vertex = (lead p r.piece ++ r.way) ++ first_instance q ∷ [] in
       let short : length r.way ≤ 6 = elim r.near [
         | inl f ↦ omega (arith, ap (λ (vs : List Vertex). length vs) f, few, (lead_long p r.piece).0, cycle_long p q r.piece r.way)
         | inr l ↦ omega (arith, l, few, (lead_long p r.piece).0, cycle_long p q r.piece r.way)
@@ -92,17 +92,17 @@ module _ (program : Workload) (immediate : PieceId → Bool) (table : List (List
     candidate_is =
         subst IsCycle (sym is.leaves.is)
         (sound program immediate table exact p q same apart p_there q_there is.piece is.leaves.other (record { procedure = p_there.procedure; piece = omega (arith, is.below, count_is) }) is.leaves.way walk
-        (shortest_once (leads table (sibling p is.piece)) (open_vertices (vertices program) (first p) (sibling p is.piece) (first q)) (first q) (sibling p is.piece) is.leaves.way walk no_shorter))
+        (shortest_once (may_step table (sibling p is.piece)) (open_vertices (vertices program) (first_instance p) (sibling p is.piece) (first_instance q)) (first_instance q) (sibling p is.piece) is.leaves.way walk no_shorter))
       where
-        walk : IsWalk (leads table (sibling p is.piece)) (open_vertices (vertices program) (first p) (sibling p is.piece) (first q)) (sibling p is.piece) (first q) is.leaves.way
-        walk = subst (λ vs. IsWalk (leads table (sibling p is.piece)) (open_vertices vs (first p) (sibling p is.piece) (first q)) (sibling p is.piece) (first q) is.leaves.way) all_is is.leaves.walk
+        walk : IsWalk (may_step table (sibling p is.piece)) (open_vertices (vertices program) (first_instance p) (sibling p is.piece) (first_instance q)) (sibling p is.piece) (first_instance q) is.leaves.way
+        walk = subst (λ vs. IsWalk (may_step table (sibling p is.piece)) (open_vertices vs (first_instance p) (sibling p is.piece) (first_instance q)) (sibling p is.piece) (first_instance q) is.leaves.way) all_is is.leaves.walk
 
-        no_shorter : (other : List Vertex) → IsWalk (leads table (sibling p is.piece)) (open_vertices (vertices program) (first p) (sibling p is.piece) (first q)) (sibling p is.piece) (first q) other → length is.leaves.way ≤ length other
+        no_shorter : (other : List Vertex) → IsWalk (may_step table (sibling p is.piece)) (open_vertices (vertices program) (first_instance p) (sibling p is.piece) (first_instance q)) (sibling p is.piece) (first_instance q) other → length is.leaves.way ≤ length other
         no_shorter other w =
             elim (cases_lt (length other) 7) [
               | inr long ↦ omega (arith, long, is.leaves.short)
               | inl few ↦
-                  (let d : List Vertex = (lead p is.piece ++ other) ++ first q ∷ [] in
+                  (let d : List Vertex = (lead p is.piece ++ other) ++ first_instance q ∷ [] in
                   let l = not_better_long d c (best d (candidate is.piece other (omega (arith, is.below, count_is)) is.leaves.other (omega arith) w)) in
                   omega (arith, l, ap (λ (vs : List Vertex). length vs) is.leaves.is, cycle_long p q is.piece other, cycle_long p q is.piece is.leaves.way))
             ]
@@ -114,7 +114,7 @@ module _ (program : Workload) (immediate : PieceId → Bool) (table : List (List
           | inr many ↦ (let r = bounded_candidate d of in let l = not_better_long r.0 c (best r.0 r.1) in omega (arith, l, r.2))
         ]
 
-    none_less : (d : List Vertex) → IsCycle d → length d ≡ length c → comes_before d c ≡ false
+    none_less : (d : List Vertex) → IsCycle d → length d ≡ length c → stands_before d c ≡ false
     none_less d of long =
         elim (cases_lt (length d) 9) [
           | inl few ↦
@@ -140,7 +140,7 @@ module _ (program : Workload) (immediate : PieceId → Bool) (table : List (List
   found_shortest None h = tt
   found_shortest (Some c) h = none_shorter c.items h.0 h.1
 
-  pub found_least : (o : Found) → IsBest IsCandidate (option_map (λ c. c.items) o) → IfSome o (λ c. (d : List Vertex) → IsCycle d → length d ≡ length c.items → ¬ IsTrue (comes_before d c.items))
+  pub found_least : (o : Found) → IsBest IsCandidate (option_map (λ c. c.items) o) → IfSome o (λ c. (d : List Vertex) → IsCycle d → length d ≡ length c.items → ¬ IsTrue (stands_before d c.items))
   found_least None h = tt
   found_least (Some c) h = λ d of long t. false≢true (sym (none_less c.items h.0 h.1 d of long) ∙ t)
 

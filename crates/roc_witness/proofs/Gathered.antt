@@ -14,8 +14,8 @@ use Rattle.roc_program.proofs.Ranges.{map_pushed}
 use Rattle.roc_conflict.proofs.Present.{present_or_none}
 use Rattle.roc_sequence.proofs.Holds.{all_at}
 use Rattle.roc_witness.specs.declared.columns.Columns.{Columns}
-use Rattle.roc_witness.specs.Inner.Columns.{column_of, is_at, touches, writes, marks, columns_of, collides, AreColumns}
-use Rattle.roc_witness.specs.Inner.Table.{piece_at}
+use Rattle.roc_witness.specs.Inner.Columns.{column_of, is_at, touches, writes, marks, gathered_columns, collides, AreColumns}
+use Rattle.roc_witness.specs.Inner.Table.{numbered_piece}
 use Rattle.roc_witness.proofs.Joined.{quotient, remainder}
 
 any_seen : {A B : Type 0} (p : B → Bool) (seen : A → B) (xs : List A) → list_any p (map seen xs) ≡ list_any (λ x. p (seen x)) xs
@@ -91,17 +91,17 @@ module _ (program : Workload) (id : PieceId) where
   mark_at : (test : ℕ → Statement → Bool) (a : Access) → a.table < length program.tables → a.column < 16 → get_or (marks test body (16 * length program.tables)) (column_of a) false ≡ list_any (test (column_of a)) body
   mark_at test a table column = get_or-map-range_with_len (λ n. list_any (test n) body) 0 (16 * length program.tables) (column_of a) (column_of a) false (omega arith) (omega arith)
 
-  collides_is : (s : Statement) → InTables program.tables s → collides (columns_of program id) s ≡ list_any (collide s) body
+  collides_is : (s : Statement) → InTables program.tables s → collides (gathered_columns program id) s ≡ list_any (collide s) body
   collides_is (Get number a) h = mark_at writes a h.0 h.1 ∙ any_same (writes (column_of a)) (collide (Get number a)) (writes_collide number a h.1) body
   collides_is (Set a value) h = mark_at touches a h.0 h.1 ∙ any_same (touches (column_of a)) (collide (Set a value)) (touches_collide a value h.1) body
   collides_is (Out value) h = none_collide value body
 
-  each_collides : (ss : List Statement) → AllByRecursion (InTables program.tables) ss → list_any (collides (columns_of program id)) ss ≡ list_any (λ s. list_any (collide s) body) ss
+  each_collides : (ss : List Statement) → AllByRecursion (InTables program.tables) ss → list_any (collides (gathered_columns program id)) ss ≡ list_any (λ s. list_any (collide s) body) ss
   each_collides [] h = refl
   each_collides (s ∷ ss) h =
-      ap (λ b. b || list_any (collides (columns_of program id)) ss) (collides_is s h.0) ∙ ap (λ b. list_any (collide s) body || b) (each_collides ss h.1)
+      ap (λ b. b || list_any (collides (gathered_columns program id)) ss) (collides_is s h.0) ∙ ap (λ b. list_any (collide s) body || b) (each_collides ss h.1)
 
-  pub conflict_is : IsProgram program → (one : PieceId) (statements : List code.Statement) (columns : Columns) (r : Bool) → columns ≡ columns_of program id → map view.statement statements ≡ (piece_of program one).body
+  pub conflict_is : IsProgram program → (one : PieceId) (statements : List code.Statement) (columns : Columns) (r : Bool) → columns ≡ gathered_columns program id → map view.statement statements ≡ (piece_of program one).body
       → r ≡ list_any (λ s. collides columns (view.statement s)) statements → r ≡ are_in_conflict program one id
   conflict_is formed one statements columns r known is h =
       h ∙ sym (any_seen (collides columns) view.statement statements) ∙ ap (list_any (collides columns)) is
@@ -109,17 +109,17 @@ module _ (program : Workload) (id : PieceId) where
 
 -- ---- those of all pieces
 
-pub column_at : (program : Workload) (all : List Columns) (i : ℕ) (x : Columns) → AreColumns program all → i < length all → x ≡ get_or all i x → x ≡ columns_of program (piece_at i)
+pub column_at : (program : Workload) (all : List Columns) (i : ℕ) (x : Columns) → AreColumns program all → i < length all → x ≡ get_or all i x → x ≡ gathered_columns program (numbered_piece i)
 column_at program all i x are within is =
-    is ∙ ap (λ (l : List Columns). get_or l i x) are ∙ get_or-map-range_with_len (λ n. columns_of program (piece_at n)) 0 (length all) i i x within (omega arith)
+    is ∙ ap (λ (l : List Columns). get_or l i x) are ∙ get_or-map-range_with_len (λ n. gathered_columns program (numbered_piece n)) 0 (length all) i i x within (omega arith)
 
 -- the columns that are read are those of the piece that they name
-pub own_columns : (program : Workload) (id : PieceId) (x : Columns) → x ≡ columns_of program id → x ≡ columns_of program x.piece
-own_columns program id x e = e ∙ ap (columns_of program) (sym (ap (λ (c : Columns). c.piece) e))
+pub own_columns : (program : Workload) (id : PieceId) (x : Columns) → x ≡ gathered_columns program id → x ≡ gathered_columns program x.piece
+own_columns program id x e = e ∙ ap (gathered_columns program) (sym (ap (λ (c : Columns). c.piece) e))
 
-pub how_many : (program : Workload) (all : List Columns) (n : ℕ) → all ≡ map (λ k. columns_of program (piece_at k)) (range_with_len 0 n) → length all ≡ n
-how_many program all n e = ap (λ (l : List Columns). length l) e ∙ length-map-range_with_len (λ k. columns_of program (piece_at k)) 0 n
+pub how_many : (program : Workload) (all : List Columns) (n : ℕ) → all ≡ map (λ k. gathered_columns program (numbered_piece k)) (range_with_len 0 n) → length all ≡ n
+how_many program all n e = ap (λ (l : List Columns). length l) e ∙ length-map-range_with_len (λ k. gathered_columns program (numbered_piece k)) 0 n
 
-pub are_columns : (program : Workload) (all : List Columns) (n : ℕ) → all ≡ map (λ k. columns_of program (piece_at k)) (range_with_len 0 n) → AreColumns program all
+pub are_columns : (program : Workload) (all : List Columns) (n : ℕ) → all ≡ map (λ k. gathered_columns program (numbered_piece k)) (range_with_len 0 n) → AreColumns program all
 are_columns program all n e =
-    e ∙ ap (λ (m : ℕ). map (λ k. columns_of program (piece_at k)) (range_with_len 0 m)) (sym (how_many program all n e))
+    e ∙ ap (λ (m : ℕ). map (λ k. gathered_columns program (numbered_piece k)) (range_with_len 0 m)) (sym (how_many program all n e))

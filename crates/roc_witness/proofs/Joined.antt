@@ -13,7 +13,7 @@ use Rattle.roc_scgraph.specs.declared.vertex.Kind.TheVariants.{S, C}
 use Rattle.roc_scgraph.specs.Graph.{piece_id, are_siblings, edge}
 use Rattle.roc_scgraph.specs.Cycles.{is_fixed}
 use Rattle.roc_scgraph.proofs.Middles.{same_id_parts}
-use Rattle.roc_witness.specs.Inner.Table.{number_of, piece_at, meet, row_of, table_of, joins, IsTableOf}
+use Rattle.roc_witness.specs.Inner.Table.{piece_number, numbered_piece, meet, row_for, table_of, joins, IsTableOf}
 
 pub quotient : (m k : ℕ) → k < 16 → (16 * m + k) / 16 ≡ m
 quotient m k h = omega arith
@@ -27,19 +27,19 @@ module _ (program : Workload) (formed : IsProgram program) where
       let one : IsProcedure program.tables (get_or program.procedures id.proc no_procedure) = all_at (IsProcedure program.tables) program.procedures id.proc no_procedure formed.procedures there.procedure in
       omega (arith, one.few_pieces, there.piece)
 
-  at_number : (id : PieceId) → HasPiece program id → piece_at (number_of id) ≡ id
-  at_number id there = same_id_parts (piece_at (number_of id)) id (quotient id.proc id.piece (small id there)) (remainder id.proc id.piece (small id there))
+  at_number : (id : PieceId) → HasPiece program id → numbered_piece (piece_number id) ≡ id
+  at_number id there = same_id_parts (numbered_piece (piece_number id)) id (quotient id.proc id.piece (small id there)) (remainder id.proc id.piece (small id there))
 
-  within : (id : PieceId) → HasPiece program id → number_of id < 16 * length program.procedures
+  within : (id : PieceId) → HasPiece program id → piece_number id < 16 * length program.procedures
   within id there = omega (arith, small id there, there.procedure)
 
   pub table_is : (is_immediate : PieceId → Bool) (table : List (List Bool)) → table ≡ table_of program is_immediate → IsTableOf program is_immediate table
   table_is is_immediate table is a b a_there b_there =
       let count = 16 * length program.procedures in
-      ap (λ (t : List (List Bool)). get_or (get_or t (number_of a) []) (number_of b) false) is
-      ∙ ap (λ (r : List Bool). get_or r (number_of b) false) (get_or-map-range_with_len (λ n. row_of program is_immediate (piece_at n) count) 0 count (number_of a) (number_of a) [] (within a a_there) (omega arith))
-      ∙ get_or-map-range_with_len (λ n. meet program is_immediate (piece_at (number_of a)) (piece_at n)) 0 count (number_of b) (number_of b) false (within b b_there) (omega arith)
-      ∙ ap (λ (p : PieceId). meet program is_immediate p (piece_at (number_of b))) (at_number a a_there)
+      ap (λ (t : List (List Bool)). get_or (get_or t (piece_number a) []) (piece_number b) false) is
+      ∙ ap (λ (r : List Bool). get_or r (piece_number b) false) (get_or-map-range_with_len (λ n. row_for program is_immediate (numbered_piece n) count) 0 count (piece_number a) (piece_number a) [] (within a a_there) (omega arith))
+      ∙ get_or-map-range_with_len (λ n. meet program is_immediate (numbered_piece (piece_number a)) (numbered_piece n)) 0 count (piece_number b) (piece_number b) false (within b b_there) (omega arith)
+      ∙ ap (λ (p : PieceId). meet program is_immediate p (numbered_piece (piece_number b))) (at_number a a_there)
       ∙ ap (meet program is_immediate a) (at_number b b_there)
 
 by_cases : (s t i c : Bool) → cond s (not t) (i && c) ≡ is_fixed (cond s (cond t None (Some S)) (cond c (Some (C i)) None))

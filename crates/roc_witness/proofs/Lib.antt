@@ -12,3 +12,4 @@ pub mod Sound
 pub mod Best
 pub mod Final
 pub mod Gathered
+pub mod Single

@@ -7,7 +7,7 @@ use Rattle.roc_scgraph.specs.declared.vertex.Instance.{Instance}
 use Rattle.roc_scgraph.specs.declared.vertex.Instance.TheVariants.{First, Second}
 use Rattle.roc_scgraph.specs.Graph.{is_vertex}
 use Rattle.roc_scgraph.proofs.Vertices.{same_vertex, is_vertex-true, is_vertex-same}
-use Rattle.roc_witness.specs.Order.{is_earlier_instance, is_before, comes_before}
+use Rattle.roc_witness.specs.Order.{is_earlier_instance, is_before, stands_before}
 use Rattle.roc_witness.specs.Inner.Candidates.{is_better}
 
 -- ---- vertices
@@ -89,37 +89,51 @@ compared a b = go (is_before a b) (is_before b a) refl refl
 -- ---- lists
 
 -- behind the same vertex
-comes_behind : (a : Vertex) (xs ys : List Vertex) → comes_before (a ∷ xs) (a ∷ ys) ≡ comes_before xs ys
+comes_behind : (a : Vertex) (xs ys : List Vertex) → stands_before (a ∷ xs) (a ∷ ys) ≡ stands_before xs ys
 comes_behind a xs ys =
-    ap (λ (t : Bool). t || (is_vertex a a && comes_before xs ys)) (before_self a) ∙ ap (λ (t : Bool). t && comes_before xs ys) (is_vertex-same a)
+    ap (λ (t : Bool). t || (is_vertex a a && stands_before xs ys)) (before_self a) ∙ ap (λ (t : Bool). t && stands_before xs ys) (is_vertex-same a)
 
-comes_at : (a b : Vertex) (xs ys : List Vertex) → is_before a b ≡ true → comes_before (a ∷ xs) (b ∷ ys) ≡ true
+comes_at : (a b : Vertex) (xs ys : List Vertex) → is_before a b ≡ true → stands_before (a ∷ xs) (b ∷ ys) ≡ true
 comes_at a b xs ys h = or_left (is_before a b) _ h
 
 -- a list that begins with a later vertex does not come before
-pub comes_not : (a b : Vertex) (xs ys : List Vertex) → is_before b a ≡ true → comes_before (a ∷ xs) (b ∷ ys) ≡ false
-comes_not a b xs ys h = or_from (is_before a b) (is_vertex a b && comes_before xs ys) (before_swap b a h) (go (is_vertex a b) refl)
+pub comes_not : (a b : Vertex) (xs ys : List Vertex) → is_before b a ≡ true → stands_before (a ∷ xs) (b ∷ ys) ≡ false
+comes_not a b xs ys h = or_from (is_before a b) (is_vertex a b && stands_before xs ys) (before_swap b a h) (go (is_vertex a b) refl)
   where
-    go : (t : Bool) → is_vertex a b ≡ t → (t && comes_before xs ys) ≡ false
+    go : (t : Bool) → is_vertex a b ≡ t → (t && stands_before xs ys) ≡ false
     go true e = absurd (false≢true (sym (before_self b) ∙ ap (is_before b) (sym (is_vertex-true a b e)) ∙ h))
     go false e = refl
 
-pub comes_same : (a b : Vertex) (xs ys : List Vertex) → a ≡ b → comes_before (a ∷ xs) (b ∷ ys) ≡ comes_before xs ys
-comes_same a b xs ys e = subst (λ c. comes_before (a ∷ xs) (c ∷ ys) ≡ comes_before xs ys) e (comes_behind a xs ys)
+pub comes_same : (a b : Vertex) (xs ys : List Vertex) → a ≡ b → stands_before (a ∷ xs) (b ∷ ys) ≡ stands_before xs ys
+comes_same a b xs ys e = subst (λ c. stands_before (a ∷ xs) (c ∷ ys) ≡ stands_before xs ys) e (comes_behind a xs ys)
 
-comes_swap : (xs ys : List Vertex) → comes_before xs ys ≡ true → comes_before ys xs ≡ false
+comes_swap : (xs ys : List Vertex) → stands_before xs ys ≡ true → stands_before ys xs ≡ false
 comes_swap [] [] h = refl
 comes_swap [] (y ∷ ys) h = refl
 comes_swap (x ∷ xs) [] h = absurd (false≢true h)
 comes_swap (x ∷ xs) (y ∷ ys) h = go (compared x y) (comes_swap xs ys)
   where
-    go : Compared x y → (comes_before xs ys ≡ true → comes_before ys xs ≡ false) → comes_before (y ∷ ys) (x ∷ xs) ≡ false
+    go : Compared x y → (stands_before xs ys ≡ true → stands_before ys xs ≡ false) → stands_before (y ∷ ys) (x ∷ xs) ≡ false
     go (below b) further = comes_not y x ys xs b
     go (same e) further = comes_same y x ys xs (sym e) ∙ further (sym (comes_same x y xs ys e) ∙ h)
     go (above b) further = absurd (false≢true (sym (comes_not x y xs ys b) ∙ h))
 
+-- two lists as long as each other, of which neither comes before the other, are one
+pub one_of_two : (xs ys : List Vertex) → length xs ≡ length ys → stands_before xs ys ≡ false → stands_before ys xs ≡ false → xs ≡ ys
+one_of_two [] [] e h k = refl
+one_of_two [] (y ∷ ys) e h k = absurd (false≢true (sym h))
+one_of_two (x ∷ xs) [] e h k = absurd (false≢true (sym k))
+one_of_two (x ∷ xs) (y ∷ ys) e h k = go (compared x y) (one_of_two xs ys (omega arith))
+  where
+    go : Compared x y → (stands_before xs ys ≡ false → stands_before ys xs ≡ false → xs ≡ ys) → (x ∷ xs) ≡ (y ∷ ys)
+    go (below b) further = absurd (false≢true (sym h ∙ comes_at x y xs ys b))
+    go (same f) further =
+        let r : xs ≡ ys = further (sym (comes_same x y xs ys f) ∙ h) (sym (comes_same y x ys xs (sym f)) ∙ k) in
+        cc
+    go (above b) further = absurd (false≢true (sym k ∙ comes_at y x ys xs b))
+
 -- what comes before one of two lists comes before the other, or the other comes before that one
-comes_between : (xs ys zs : List Vertex) → comes_before xs zs ≡ true → (comes_before xs ys ≡ true) ⊎ (comes_before ys zs ≡ true)
+comes_between : (xs ys zs : List Vertex) → stands_before xs zs ≡ true → (stands_before xs ys ≡ true) ⊎ (stands_before ys zs ≡ true)
 comes_between [] [] [] h = absurd (false≢true h)
 comes_between [] (y ∷ ys) [] h = absurd (false≢true h)
 comes_between [] [] (z ∷ zs) h = inr refl
@@ -129,8 +143,8 @@ comes_between (x ∷ xs) (y ∷ ys) [] h = absurd (false≢true h)
 comes_between (x ∷ xs) [] (z ∷ zs) h = inr refl
 comes_between (x ∷ xs) (y ∷ ys) (z ∷ zs) h = go (compared x z) (compared x y) (comes_between xs ys zs)
   where
-    go : Compared x z → Compared x y → (comes_before xs zs ≡ true → (comes_before xs ys ≡ true) ⊎ (comes_before ys zs ≡ true))
-        → (comes_before (x ∷ xs) (y ∷ ys) ≡ true) ⊎ (comes_before (y ∷ ys) (z ∷ zs) ≡ true)
+    go : Compared x z → Compared x y → (stands_before xs zs ≡ true → (stands_before xs ys ≡ true) ⊎ (stands_before ys zs ≡ true))
+        → (stands_before (x ∷ xs) (y ∷ ys) ≡ true) ⊎ (stands_before (y ∷ ys) (z ∷ zs) ≡ true)
     go (above b) d further = absurd (false≢true (sym (comes_not x z xs zs b) ∙ h))
     go (below b) (below d) further = inl (comes_at x y xs ys d)
     go (below b) (same e) further = inr (comes_at y z ys zs (subst (λ v. is_before v z ≡ true) e b))
@@ -144,15 +158,15 @@ comes_between (x ∷ xs) (y ∷ ys) (z ∷ zs) h = go (compared x z) (compared x
         ]
 
 -- two lists behind one, and before one where they are equally long
-pub comes_front : (front xs ys : List Vertex) → comes_before (front ++ xs) (front ++ ys) ≡ comes_before xs ys
+pub comes_front : (front xs ys : List Vertex) → stands_before (front ++ xs) (front ++ ys) ≡ stands_before xs ys
 comes_front [] xs ys = refl
 comes_front (a ∷ front) xs ys = comes_behind a (front ++ xs) (front ++ ys) ∙ comes_front front xs ys
 
-comes_self : (xs : List Vertex) → comes_before xs xs ≡ false
+comes_self : (xs : List Vertex) → stands_before xs xs ≡ false
 comes_self [] = refl
 comes_self (x ∷ xs) = comes_behind x xs xs ∙ comes_self xs
 
-pub comes_back : (xs ys back : List Vertex) → length xs ≡ length ys → comes_before (xs ++ back) (ys ++ back) ≡ comes_before xs ys
+pub comes_back : (xs ys back : List Vertex) → length xs ≡ length ys → stands_before (xs ++ back) (ys ++ back) ≡ stands_before xs ys
 comes_back [] [] back e = comes_self back
 comes_back [] (y ∷ ys) back e = absurd (omega arith)
 comes_back (x ∷ xs) [] back e = absurd (omega arith)
@@ -164,19 +178,19 @@ comes_back (x ∷ xs) (y ∷ ys) back e = ap (λ (t : Bool). is_before x y || (i
 pub not_better_long : (xs ys : List Vertex) → is_better xs ys ≡ false → length ys ≤ length xs
 not_better_long xs ys h = grind (arith, nat_tests)
 
-pub not_better_comes : (xs ys : List Vertex) → is_better xs ys ≡ false → length xs ≡ length ys → comes_before xs ys ≡ false
+pub not_better_comes : (xs ys : List Vertex) → is_better xs ys ≡ false → length xs ≡ length ys → stands_before xs ys ≡ false
 not_better_comes xs ys h e = grind (arith, nat_tests)
 
 by_three : (m n : ℕ) (t : Bool) → n ≤ m → (m ≡ n → t ≡ false) → (nat_lt m n || ((m == n) && t)) ≡ false
 by_three m n t h k = grind (arith, nat_tests)
 
-pub from_neither : (xs ys : List Vertex) → length ys ≤ length xs → (length xs ≡ length ys → comes_before xs ys ≡ false) → is_better xs ys ≡ false
-from_neither xs ys h k = by_three (length xs) (length ys) (comes_before xs ys) h k
+pub from_neither : (xs ys : List Vertex) → length ys ≤ length xs → (length xs ≡ length ys → stands_before xs ys ≡ false) → is_better xs ys ≡ false
+from_neither xs ys h k = by_three (length xs) (length ys) (stands_before xs ys) h k
 
-better_parts : (xs ys : List Vertex) → is_better xs ys ≡ true → (length xs < length ys) ⊎ ((length xs ≡ length ys) × (comes_before xs ys ≡ true))
+better_parts : (xs ys : List Vertex) → is_better xs ys ≡ true → (length xs < length ys) ⊎ ((length xs ≡ length ys) × (stands_before xs ys ≡ true))
 better_parts xs ys h = elim (or_cases (nat_lt (length xs) (length ys)) _ h) [
   | inl k ↦ inl (grind (arith, nat_tests))
-  | inr k ↦ (let p = and_parts (length xs == length ys) (comes_before xs ys) k in inr (grind (arith, nat_tests), p.1))
+  | inr k ↦ (let p = and_parts (length xs == length ys) (stands_before xs ys) k in inr (grind (arith, nat_tests), p.1))
 ]
 
 -- where neither is better than a third one, the third is not made worse by the better of two

@@ -9,10 +9,10 @@ use Rattle.roc_scgraph.specs.declared.vertex.Vertex.{Vertex}
 use Rattle.roc_scgraph.specs.Graph.{are_siblings, is_vertex}
 use Rattle.roc_scgraph.proofs.Vertices.{is_vertex-same}
 use Rattle.roc_witness.specs.Inner.Table.{joins}
-use Rattle.roc_witness.specs.Inner.Walks.{leads, HasNoWalk, reaching, level, AreLevels, HasNoShortWalk}
+use Rattle.roc_witness.specs.Inner.Walks.{may_step, HasNoWalk, reaching, level, AreLevels, HasNoShortWalk}
 
 -- from its start a walk leads to no sibling
-pub leads_out : (table : List (List Bool)) (start goal : Vertex) → are_siblings start goal ≡ true → leads table start start goal ≡ false
+pub leads_out : (table : List (List Bool)) (start goal : Vertex) → are_siblings start goal ≡ true → may_step table start start goal ≡ false
 leads_out table start goal h = go (joins table start goal)
   where
     inside : not (is_vertex start start && are_siblings start goal) ≡ false
@@ -22,13 +22,13 @@ leads_out table start goal h = go (joins table start goal)
     go true = inside
     go false = refl
 
-module _ (leads : Vertex → Vertex → Bool) (vertices : List Vertex) (goal : Vertex) where
-  pub levels_start : AreLevels leads vertices goal ((goal ∷ []) ∷ [])
+module _ (may_step : Vertex → Vertex → Bool) (vertices : List Vertex) (goal : Vertex) where
+  pub levels_start : AreLevels may_step vertices goal ((goal ∷ []) ∷ [])
   levels_start zero within = refl
   levels_start (suc k) within = absurd (omega arith)
 
-  pub levels_more : (levels more : List (List Vertex)) (count : ℕ) (target next : List Vertex) → AreLevels leads vertices goal levels → length levels ≡ count + 1 → target ≡ level leads vertices goal count
-      → next ≡ reaching leads vertices target → more ≡ levels ++ next ∷ [] → AreLevels leads vertices goal more
+  pub levels_more : (levels more : List (List Vertex)) (count : ℕ) (target next : List Vertex) → AreLevels may_step vertices goal levels → length levels ≡ count + 1 → target ≡ level may_step vertices goal count
+      → next ≡ reaching may_step vertices target → more ≡ levels ++ next ∷ [] → AreLevels may_step vertices goal more
   levels_more levels more count target next known long is made e k within =
       let size : length more ≡ count + 2 = omega (arith, ap (λ (ls : List (List Vertex)). length ls) e, length-append levels (next ∷ []), long) in
       ap (λ (ls : List (List Vertex)). get_or ls k []) e
@@ -37,20 +37,20 @@ module _ (leads : Vertex → Vertex → Bool) (vertices : List Vertex) (goal : V
         | inr past ↦
             (let last : k ≡ suc count = omega arith in
             let here : k ≡ length levels = omega arith in
-            ap (λ (n : ℕ). get_or (levels ++ next ∷ []) n []) here ∙ get_or-append_seam levels next [] [] ∙ made ∙ ap (reaching leads vertices) is ∙ ap (level leads vertices goal) (sym last))
+            ap (λ (n : ℕ). get_or (levels ++ next ∷ []) n []) here ∙ get_or-append_seam levels next [] [] ∙ made ∙ ap (reaching may_step vertices) is ∙ ap (level may_step vertices goal) (sym last))
       ]
 
   module _ (start : Vertex) where
-    pub none_at_once : leads start goal ≡ false → HasNoShortWalk leads vertices start goal 0
+    pub none_at_once : may_step start goal ≡ false → HasNoShortWalk may_step vertices start goal 0
     none_at_once h [] walk few = false≢true (sym h ∙ walk.joined.0)
     none_at_once h (w ∷ ws) walk few = absurd (omega arith)
 
     -- nor any where no vertex can be reached
-    pub none_out : leads start goal ≡ false → list_any (leads start) vertices ≡ false → (most : ℕ) → HasNoShortWalk leads vertices start goal most
+    pub none_out : may_step start goal ≡ false → list_any (may_step start) vertices ≡ false → (most : ℕ) → HasNoShortWalk may_step vertices start goal most
     none_out h none most [] walk few = false≢true (sym h ∙ walk.joined.0)
-    none_out h none most (w ∷ ws) walk few = false≢true (sym none ∙ has_any (leads start) vertices w walk.within.0 walk.joined.0)
+    none_out h none most (w ∷ ws) walk few = false≢true (sym none ∙ has_any (may_step start) vertices w walk.within.0 walk.joined.0)
 
-    pub none_more : (count : ℕ) → HasNoShortWalk leads vertices start goal count → HasNoWalk leads vertices start goal (count + 1) → HasNoShortWalk leads vertices start goal (count + 1)
+    pub none_more : (count : ℕ) → HasNoShortWalk may_step vertices start goal count → HasNoWalk may_step vertices start goal (count + 1) → HasNoShortWalk may_step vertices start goal (count + 1)
     none_more count short long other walk few =
         elim (cases_lt count (length other)) [
           | inl above ↦ long other walk (omega arith)

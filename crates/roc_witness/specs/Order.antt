@@ -16,8 +16,8 @@ abbrev pub is_before : Vertex → Vertex → Bool
 is_before a b = nat_lt a.proc b.proc || ((a.proc == b.proc) && (nat_lt a.piece b.piece || ((a.piece == b.piece) && is_earlier_instance a.instance b.instance)))
 
 -- by the first place at which they differ; a list comes before one that begins with it
-abbrev pub comes_before : List Vertex → List Vertex → Bool
-comes_before [] [] = false
-comes_before [] (b ∷ bs) = true
-comes_before (a ∷ rest) [] = false
-comes_before (a ∷ rest) (b ∷ bs) = is_before a b || (is_vertex a b && comes_before rest bs)
+abbrev pub stands_before : List Vertex → List Vertex → Bool
+stands_before [] [] = false
+stands_before [] (b ∷ bs) = true
+stands_before (a ∷ rest) [] = false
+stands_before (a ∷ rest) (b ∷ bs) = is_before a b || (is_vertex a b && stands_before rest bs)

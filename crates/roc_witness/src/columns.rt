@@ -30,7 +30,7 @@ impl Columns {
         workload: &Workload,
         piece: PieceId,
     ) -> Result<Columns, NoMemory>
-        ensures { IfOk result (λ c. c ≡ spec.columns_of workload.now piece) }
+        ensures { IfOk result (λ c. c ≡ spec.gathered_columns workload.now piece) }
     {
         let body = body_of(workload, piece);
         let count = numbers(workload);
@@ -43,7 +43,7 @@ impl Columns {
 
     /// Whether a piece conflicts with the one that has these columns.
     pub(crate) fn conflict(&self, workload: &Workload, one: PieceId) -> bool
-        requires { self.now ≡ spec.columns_of workload.now self.now.piece }
+        requires { self.now ≡ spec.gathered_columns workload.now self.now.piece }
         ensures { result ≡ are_in_conflict workload.now one self.now.piece }
     {
         self.collide_with_any(body_of(workload, one))

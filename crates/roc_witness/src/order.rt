@@ -1,7 +1,7 @@
 //! The order of vertices, and of lists of them.
 ghost use Rattle.std.specs.Prelude.{◌≡◌};
 ghost use Rattle.roc_scgraph.specs.Graph.{is_vertex};
-ghost use Rattle.roc_witness.specs.Order.{is_before, comes_before};
+ghost use Rattle.roc_witness.specs.Order.{is_before, stands_before};
 ghost use Rattle.roc_witness.specs.Inner.Candidates.{is_better};
 
 use roc_scgraph::Vertex;
@@ -20,7 +20,7 @@ fn is_before(one: Vertex, other: Vertex) -> bool
 
 // Whether a list comes before another by the first place at which they differ.
 fn comes_before(one: &[Vertex], other: &[Vertex]) -> bool
-    ensures { result ≡ comes_before one.now other.now }
+    ensures { result ≡ stands_before one.now other.now }
 {
     let (mut left, mut right) = (one, other);
     while let (Some((a, rest)), Some((b, behind))) = (left.split_first(), right.split_first()) {

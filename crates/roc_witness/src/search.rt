@@ -5,8 +5,8 @@ ghost use Rattle.roc_program.specs.Pieces.{HasPiece};
 ghost use Rattle.roc_conflict.specs.Classes.{is_immediate};
 ghost use Rattle.roc_sequence.specs.Rising.{IsRising};
 ghost use Rattle.roc_scgraph.specs.declared.vertex.Vertex.{Vertex};
-ghost use Rattle.roc_scgraph.specs.Cycles.{first};
-ghost use Rattle.roc_witness.specs.Order.{is_before, comes_before};
+ghost use Rattle.roc_scgraph.specs.Cycles.{first_instance};
+ghost use Rattle.roc_witness.specs.Order.{is_before, stands_before};
 ghost use Rattle.roc_witness.specs.Shortest.{IsCycleOf};
 ghost use Rattle.roc_witness.specs.Inner.Candidates as spec;
 
@@ -34,7 +34,7 @@ pub fn shortest(
     requires { p.proc ≡ q.proc }
     ensures is { IfOk result (λ o. IfSome o (λ c. IsCycleOf workload.now (is_immediate classes.now) p q c.items)) }
     ensures shortest { IfOk result (λ o. IfSome o (λ c. (d : List Vertex) → IsCycleOf workload.now (is_immediate classes.now) p q d → length c.items ≤ length d)) }
-    ensures least { IfOk result (λ o. IfSome o (λ c. (d : List Vertex) → IsCycleOf workload.now (is_immediate classes.now) p q d → length d ≡ length c.items → ¬ IsTrue (comes_before d c.items))) }
+    ensures least { IfOk result (λ o. IfSome o (λ c. (d : List Vertex) → IsCycleOf workload.now (is_immediate classes.now) p q d → length d ≡ length c.items → ¬ IsTrue (stands_before d c.items))) }
     ensures none { IfOk result (λ o. IfNone o ((d : List Vertex) → IsCycleOf workload.now (is_immediate classes.now) p q d → ⊥)) }
 {
     if !are_ends(workload, p, q) {
@@ -113,7 +113,7 @@ fn leaving_from(
 
 // The first instance of a piece.
 fn first(id: PieceId) -> Vertex
-    ensures { result ≡ first id }
+    ensures { result ≡ first_instance id }
 {
     Vertex {
         proc: id.proc,

@@ -4,8 +4,8 @@ ghost use Rattle.std.specs.List.{range_with_len};
 ghost use Rattle.roc_program.specs.WellFormed.{IsProgram};
 ghost use Rattle.roc_conflict.specs.Classes.{is_immediate};
 ghost use Rattle.roc_scgraph.specs.Graph.{are_siblings};
-ghost use Rattle.roc_witness.specs.Inner.Columns.{columns_of, AreColumns};
-ghost use Rattle.roc_witness.specs.Inner.Table.{number_of, piece_at, meet, row_of, are_met, joins, IsTableOf};
+ghost use Rattle.roc_witness.specs.Inner.Columns.{gathered_columns, AreColumns};
+ghost use Rattle.roc_witness.specs.Inner.Table.{piece_number, numbered_piece, meet, row_for, are_met, joins, IsTableOf};
 
 use crate::columns::Columns;
 use roc_base::NoMemory;
@@ -79,7 +79,7 @@ pub(crate) fn are_siblings(one: Vertex, other: Vertex) -> bool
 }
 
 fn number_of(id: PieceId) -> usize
-    ensures { result ≡ number_of id }
+    ensures { result ≡ piece_number id }
 {
     usize::from(PIECES) * usize::from(id.proc) + usize::from(id.piece)
 }
@@ -93,7 +93,7 @@ fn numbers(workload: &Workload) -> u16
 }
 
 fn piece_at(number: u16) -> PieceId
-    ensures { result ≡ piece_at number }
+    ensures { result ≡ numbered_piece number }
 {
     PieceId {
         proc: number / PIECES,
@@ -102,7 +102,7 @@ fn piece_at(number: u16) -> PieceId
 }
 
 fn meet(workload: &Workload, classes: &Classes, one: PieceId, other: &Columns) -> bool
-    requires { other.now ≡ columns_of workload.now other.now.piece }
+    requires { other.now ≡ gathered_columns workload.now other.now.piece }
     ensures { result ≡ meet workload.now (is_immediate classes.now) one other.now.piece }
 {
     classes.is_immediate(one) && classes.is_immediate(other.piece) && other.conflict(workload, one)
@@ -116,7 +116,7 @@ fn row(
     others: &[Columns],
 ) -> Result<Sequence<bool>, NoMemory>
     requires { AreColumns workload.now others.now }
-    ensures { IfOk result (λ r. r ≡ row_of workload.now (is_immediate classes.now) one (length others.now)) }
+    ensures { IfOk result (λ r. r ≡ row_for workload.now (is_immediate classes.now) one (length others.now)) }
 {
     let mut row = Vec::new(alloc);
     for other in others {
@@ -145,7 +145,7 @@ fn rows(
     columns: &[Columns],
 ) -> Result<Vec<Sequence<bool>>, NoMemory>
     requires { AreColumns workload.now columns.now }
-    ensures { IfOk result (λ rows. rows.items ≡ map (λ n. row_of workload.now (is_immediate classes.now) (piece_at n) (length columns.now)) (range_with_len 0 (length columns.now))) }
+    ensures { IfOk result (λ rows. rows.items ≡ map (λ n. row_for workload.now (is_immediate classes.now) (numbered_piece n) (length columns.now)) (range_with_len 0 (length columns.now))) }
 {
     let mut rows = Vec::new(alloc);
     for one in columns {

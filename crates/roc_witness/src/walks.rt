@@ -39,8 +39,8 @@ impl Walks {
         requires siblings { IsTrue (are_siblings self.now.start self.now.goal) }
         requires rising { IsRising is_before self.now.vertices }
         ensures { IfOk result (λ o. MatchOption o
-            (spec.HasNoShortWalk (spec.leads table.now self.now.start) self.now.vertices self.now.start self.now.goal 6)
-            (λ c. spec.IsShortestWalk (spec.leads table.now self.now.start) self.now.vertices self.now.start self.now.goal front.now c.items)) }
+            (spec.HasNoShortWalk (spec.may_step table.now self.now.start) self.now.vertices self.now.start self.now.goal 6)
+            (λ c. spec.IsShortestWalk (spec.may_step table.now self.now.start) self.now.vertices self.now.start self.now.goal front.now c.items)) }
     {
         if !leads_to_any(table, self.start, self.start, self.vertices.as_slice()) {
             return Ok(None);
@@ -65,9 +65,9 @@ impl Walks {
         table: &Table,
         levels: &mut Vec<Sequence<Vertex>>,
     ) -> Result<(), NoMemory>
-        requires levels { spec.AreLevels (spec.leads table.now self.now.start) self.now.vertices self.now.goal levels.old.items }
+        requires levels { spec.AreLevels (spec.may_step table.now self.now.start) self.now.vertices self.now.goal levels.old.items }
         requires some { 0 < length levels.old.items }
-        ensures levels { OnOk result (spec.AreLevels (spec.leads table.now self.now.start) self.now.vertices self.now.goal levels.new.items) }
+        ensures levels { OnOk result (spec.AreLevels (spec.may_step table.now self.now.start) self.now.vertices self.now.goal levels.new.items) }
         ensures more { OnOk result (length levels.new.items ≡ length levels.old.items + 1) }
     {
         let highest = levels.len() - 1;
@@ -86,10 +86,10 @@ impl Walks {
         way: &mut Vec<Vertex>,
     ) -> Result<bool, NoMemory>
         requires rising { IsRising is_before self.now.vertices }
-        requires levels { spec.AreLevels (spec.leads table.now self.now.start) self.now.vertices self.now.goal levels.now }
+        requires levels { spec.AreLevels (spec.may_step table.now self.now.start) self.now.vertices self.now.goal levels.now }
         requires high { left < length levels.now }
-        ensures found { IfOk result (λ b. IsTrue b → spec.IsLeastAdded (spec.leads table.now self.now.start) self.now.vertices from self.now.goal left way.old.items way.new.items) }
-        ensures none { IfOk result (λ b. b ≡ false → spec.HasNoWalk (spec.leads table.now self.now.start) self.now.vertices from self.now.goal left) }
+        ensures found { IfOk result (λ b. IsTrue b → spec.IsLeastAdded (spec.may_step table.now self.now.start) self.now.vertices from self.now.goal left way.old.items way.new.items) }
+        ensures none { IfOk result (λ b. b ≡ false → spec.HasNoWalk (spec.may_step table.now self.now.start) self.now.vertices from self.now.goal left) }
     {
         if left == 0 {
             return Ok(leads(table, self.start, from, self.goal));
@@ -110,7 +110,7 @@ impl Walks {
         table: &Table,
         targets: &[Vertex],
     ) -> Result<Sequence<Vertex>, NoMemory>
-        ensures { IfOk result (λ vs. vs ≡ spec.reaching (spec.leads table.now self.now.start) self.now.vertices targets.now) }
+        ensures { IfOk result (λ vs. vs ≡ spec.reaching (spec.may_step table.now self.now.start) self.now.vertices targets.now) }
     {
         let reaching = self
             .vertices
@@ -125,13 +125,13 @@ impl Walks {
 
 // Whether a walk may step from a vertex to another: a fixed edge joins them, and from its start a walk leaves the instance.
 fn leads(table: &Table, start: Vertex, from: Vertex, to: Vertex) -> bool
-    ensures { result ≡ spec.leads table.now start from to }
+    ensures { result ≡ spec.may_step table.now start from to }
 {
     table.joins(from, to) && !(is_same(start, from) && are_siblings(from, to))
 }
 
 fn leads_to_any(table: &Table, start: Vertex, from: Vertex, targets: &[Vertex]) -> bool
-    ensures { result ≡ list_any (spec.leads table.now start from) targets.now }
+    ensures { result ≡ list_any (spec.may_step table.now start from) targets.now }
 {
     targets.iter().any(|to| leads(table, start, from, *to))
 }
@@ -142,7 +142,7 @@ fn first_led<'a>(
     from: Vertex,
     targets: &'a [Vertex],
 ) -> Option<&'a Vertex>
-    ensures { option_copied result ≡ find (spec.leads table.now start from) targets.now }
+    ensures { option_copied result ≡ find (spec.may_step table.now start from) targets.now }
 {
     targets.iter().find(|to| leads(table, start, from, **to))
 }

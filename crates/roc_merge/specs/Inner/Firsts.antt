@@ -3,7 +3,7 @@ use Rattle.std.specs.Prelude.{ℕ, Bool, ◌<◌, IsTrue, List}
 use Rattle.roc_program.specs.Program.{Workload}
 use Rattle.roc_program.specs.declared.piece_id.PieceId.{PieceId}
 use Rattle.roc_conflict.specs.Contended.{is_contended}
-use Rattle.roc_groups.specs.Groups.{id_of}
+use Rattle.roc_groups.specs.Groups.{piece_numbered}
 use Rattle.roc_groups.specs.Flow.{IsBetween}
 use Rattle.roc_groups.specs.Core.{AreCoLocated}
 use Rattle.roc_groups.specs.Refusals.{AreApart, IsInTheWay}
@@ -12,12 +12,12 @@ use Rattle.roc_merge.specs.Inner.Tables.{IsWayBy, IsClearBy, IsApartBy, IsJoined
 -- p and q are not apart
 abbrev pub IsJoined : Workload → (PieceId → Bool) → (proc p q : ℕ) → Type 0
 IsJoined program is_immediate proc p q =
-    p < q → IsTrue (is_contended program is_immediate (id_of proc p)) → IsTrue (is_contended program is_immediate (id_of proc q)) → AreCoLocated program proc p q
+    p < q → IsTrue (is_contended program is_immediate (piece_numbered proc p)) → IsTrue (is_contended program is_immediate (piece_numbered proc q)) → AreCoLocated program proc p q
 
 -- x is not in the way of p and q
 abbrev pub IsClear : Workload → (PieceId → Bool) → (proc p q x : ℕ) → Type 0
 IsClear program is_immediate proc p q x =
-    IsTrue (is_contended program is_immediate (id_of proc p)) → IsTrue (is_contended program is_immediate (id_of proc q)) → IsBetween program proc p x q → AreCoLocated program proc p x
+    IsTrue (is_contended program is_immediate (piece_numbered proc p)) → IsTrue (is_contended program is_immediate (piece_numbered proc q)) → IsBetween program proc p x q → AreCoLocated program proc p x
 
 -- the first q behind p
 pub record IsFirstBehind (program : Workload) (proc : ℕ) (contended : List Bool) (p q : ℕ) : Type 0 where
@@ -27,7 +27,7 @@ pub record IsFirstBehind (program : Workload) (proc : ℕ) (contended : List Boo
 
 -- the first two of a procedure
 pub record IsFirstPair (program : Workload) (is_immediate : PieceId → Bool) (proc p q : ℕ) : Type 0 where
-  pub is : AreApart program is_immediate (id_of proc p) (id_of proc q)
+  pub is : AreApart program is_immediate (piece_numbered proc p) (piece_numbered proc q)
   pub qs : (b : ℕ) → b < q → IsJoined program is_immediate proc p b
   pub ps : (a b : ℕ) → a < p → IsJoined program is_immediate proc a b
 
@@ -43,7 +43,7 @@ pub record IsFirstFrom (program : Workload) (proc : ℕ) (contended : List Bool)
 
 -- the first three of a procedure
 pub record IsFirstThree (program : Workload) (is_immediate : PieceId → Bool) (proc p q x : ℕ) : Type 0 where
-  pub is : IsInTheWay program is_immediate (id_of proc p) (id_of proc q) (id_of proc x)
+  pub is : IsInTheWay program is_immediate (piece_numbered proc p) (piece_numbered proc q) (piece_numbered proc x)
   pub xs : (c : ℕ) → c < x → IsClear program is_immediate proc p q c
   pub qs : (b c : ℕ) → b < q → IsClear program is_immediate proc p b c
   pub ps : (a b c : ℕ) → a < p → IsClear program is_immediate proc a b c

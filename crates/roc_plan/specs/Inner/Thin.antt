@@ -1,8 +1,6 @@
 -- The tests of what the protocol reaches
-use Rattle.std.specs.Prelude.{◌≡◌, ℕ, ◌≤◌, Bool, false, not, ◌&&◌, ◌==◌, List, [], ◌∷◌, length}
-use Rattle.std.specs.List.{AllByRecursion}
-use Rattle.roc_lang.specs.Grammar.{standard}
-use Rattle.roc_program.specs.Program.{Piece, Procedure}
+use Rattle.std.specs.Prelude.{ℕ, Bool, false, not, ◌&&◌, ◌==◌, List, [], ◌∷◌}
+use Rattle.roc_program.specs.Program.{Piece}
 use Rattle.roc_plan.specs.Groups.{Group}
 
 -- one piece, declared `later`
@@ -26,8 +24,3 @@ abbrev pub is_thin_row : List Group → Bool
 is_thin_row [] = false
 is_thin_row (g ∷ []) = is_thin_group g
 is_thin_row (g ∷ h ∷ rest) = false
-
--- the one piece is within the limits
-pub record IsSinglePiece (procedure : Procedure) : Type 0 where
-  pub one_piece : length procedure.pieces ≡ 1
-  pub statements : AllByRecursion (λ piece. length piece.body ≤ standard.statements) procedure.pieces

@@ -2,14 +2,14 @@
 use Rattle.std.specs.Prelude.{◌≡◌, ◌≢◌, ℕ, ◌<◌, ◌≤◌, Bool, false, ◌&&◌, ◌||◌, ◌==◌, nat_lt, List, [], ◌∷◌, ◌++◌, length, Option, Some, None, MatchOption, if◌then◌else◌}
 use Rattle.roc_program.specs.declared.piece_id.PieceId.{PieceId}
 use Rattle.roc_scgraph.specs.declared.vertex.Vertex.{Vertex}
-use Rattle.roc_scgraph.specs.Cycles.{first}
-use Rattle.roc_witness.specs.Order.{comes_before}
+use Rattle.roc_scgraph.specs.Cycles.{first_instance}
+use Rattle.roc_witness.specs.Order.{stands_before}
 use Rattle.roc_witness.specs.Inner.Vertices.{open_vertices}
-use Rattle.roc_witness.specs.Inner.Walks.{leads, IsWalk}
+use Rattle.roc_witness.specs.Inner.Walks.{may_step, IsWalk}
 
 -- shorter, or as long and before it
 abbrev pub is_better : List Vertex → List Vertex → Bool
-is_better a b = nat_lt (length a) (length b) || ((length a == length b) && comes_before a b)
+is_better a b = nat_lt (length a) (length b) || ((length a == length b) && stands_before a b)
 
 -- the better of two, the first where neither is
 abbrev pub better_of : Option (List Vertex) → Option (List Vertex) → Option (List Vertex)
@@ -23,19 +23,19 @@ IsBest Is found = MatchOption found ((d : List Vertex) → Is d → ⊥) (λ c. 
 
 -- a piece of the procedure of p, in the first instance
 abbrev pub sibling : PieceId → ℕ → Vertex
-sibling p piece = first (record { proc = p.proc; piece = piece })
+sibling p piece = first_instance (record { proc = p.proc; piece = piece })
 
 -- p, and behind it the vertex from which the cycle leaves their instance, where that is another
 abbrev pub lead : PieceId → ℕ → List Vertex
-lead p piece = if p.piece == piece then first p ∷ [] else first p ∷ sibling p piece ∷ []
+lead p piece = if p.piece == piece then first_instance p ∷ [] else first_instance p ∷ sibling p piece ∷ []
 
 -- a cycle that leaves the instance from this piece, which is not q, with a walk of at most six vertices to q
 pub record LeavesFrom (vertices : List Vertex) (table : List (List Bool)) (p q : PieceId) (piece : ℕ) (cycle : List Vertex) : Type 0 where
   pub other : piece ≢ q.piece
   pub way : List Vertex
   pub short : length way ≤ 6
-  pub walk : IsWalk (leads table (sibling p piece)) (open_vertices vertices (first p) (sibling p piece) (first q)) (sibling p piece) (first q) way
-  pub is : cycle ≡ (lead p piece ++ way) ++ first q ∷ []
+  pub walk : IsWalk (may_step table (sibling p piece)) (open_vertices vertices (first_instance p) (sibling p piece) (first_instance q)) (sibling p piece) (first_instance q) way
+  pub is : cycle ≡ (lead p piece ++ way) ++ first_instance q ∷ []
 
 -- one that leaves from one of the first pieces
 pub record LeavesBelow (vertices : List Vertex) (table : List (List Bool)) (p q : PieceId) (count : ℕ) (cycle : List Vertex) : Type 0 where

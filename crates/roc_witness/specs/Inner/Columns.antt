@@ -5,7 +5,7 @@ use Rattle.roc_program.specs.Program.{Access, Statement, Get, Set, Out, Workload
 use Rattle.roc_program.specs.Pieces.{piece_of}
 use Rattle.roc_program.specs.declared.piece_id.PieceId.{PieceId}
 use Rattle.roc_witness.specs.declared.columns.Columns.{Columns}
-use Rattle.roc_witness.specs.Inner.Table.{piece_at}
+use Rattle.roc_witness.specs.Inner.Table.{numbered_piece}
 
 -- columns by one number: sixteen for each table
 abbrev pub column_of : Access → ℕ
@@ -29,8 +29,8 @@ abbrev pub marks : (ℕ → Statement → Bool) → List Statement → ℕ → L
 marks test body count = map (λ n. list_any (test n) body) (range_with_len 0 count)
 
 -- of each column whether a piece accesses it, and whether it writes it
-abbrev pub columns_of : Workload → PieceId → Columns
-columns_of program id =
+abbrev pub gathered_columns : Workload → PieceId → Columns
+gathered_columns program id =
     let body = (piece_of program id).body in
     let count = 16 * length program.tables in
     record { piece = id; touched = marks touches body count; written = marks writes body count }
@@ -43,4 +43,4 @@ collides columns (Out value) = false
 
 -- those of the pieces of the first numbers
 abbrev pub AreColumns : Workload → List Columns → Type 0
-AreColumns program all = all ≡ map (λ n. columns_of program (piece_at n)) (range_with_len 0 (length all))
+AreColumns program all = all ≡ map (λ n. gathered_columns program (numbered_piece n)) (range_with_len 0 (length all))

@@ -9,28 +9,28 @@ use Rattle.roc_scgraph.specs.declared.vertex.Vertex.{Vertex}
 use Rattle.roc_scgraph.specs.Graph.{piece_id, are_siblings}
 
 -- pieces by one number: sixteen for each procedure
-abbrev pub number_of : PieceId → ℕ
-number_of id = 16 * id.proc + id.piece
+abbrev pub piece_number : PieceId → ℕ
+piece_number id = 16 * id.proc + id.piece
 
-abbrev pub piece_at : ℕ → PieceId
-piece_at n = record { proc = n / 16; piece = n % 16 }
+abbrev pub numbered_piece : ℕ → PieceId
+numbered_piece n = record { proc = n / 16; piece = n % 16 }
 
 -- immediate pieces that conflict
 abbrev pub meet : Workload → (PieceId → Bool) → PieceId → PieceId → Bool
 meet program is_immediate a b = (is_immediate a && is_immediate b) && are_in_conflict program a b
 
 -- of each piece whether it meets each other one
-abbrev pub row_of : Workload → (PieceId → Bool) → PieceId → ℕ → List Bool
-row_of program is_immediate a count = map (λ n. meet program is_immediate a (piece_at n)) (range_with_len 0 count)
+abbrev pub row_for : Workload → (PieceId → Bool) → PieceId → ℕ → List Bool
+row_for program is_immediate a count = map (λ n. meet program is_immediate a (numbered_piece n)) (range_with_len 0 count)
 
 abbrev pub table_of : Workload → (PieceId → Bool) → List (List Bool)
 table_of program is_immediate =
     let count = 16 * length program.procedures in
-    map (λ n. row_of program is_immediate (piece_at n) count) (range_with_len 0 count)
+    map (λ n. row_for program is_immediate (numbered_piece n) count) (range_with_len 0 count)
 
 -- what the table says of two pieces
 abbrev pub are_met : List (List Bool) → PieceId → PieceId → Bool
-are_met table a b = slice_index_or (slice_index_or table (number_of a) []) (number_of b) false
+are_met table a b = slice_index_or (slice_index_or table (piece_number a) []) (piece_number b) false
 
 -- what it says of an edge between two vertices
 abbrev pub joins : List (List Bool) → Vertex → Vertex → Bool

@@ -1,7 +1,7 @@
 use Rattle.std.proofs.Common.{◌≡◌, map}
 use Rattle.std.specs.List.{range_with_len}
-use Rattle.roc_conflict.specs.Inner.Found.{has_id}
+use Rattle.roc_conflict.specs.Classes.{is_immediate}
 use Rattle.roc_conflict.proofs.classes.row.Given as goal
 
 abbrev pub invariant-loop-piece : goal.invariant-loop-piece
-invariant-loop-piece l = l.classes.items ≡ map (λ k. has_id l.immediate (record { proc = l.proc; piece = k })) (range_with_len 0 l.piece)
+invariant-loop-piece l = l.classes.items ≡ map (λ k. is_immediate l.marks (record { proc = l.proc; piece = k })) (range_with_len 0 l.piece)

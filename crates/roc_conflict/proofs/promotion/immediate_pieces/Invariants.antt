@@ -1,9 +1,9 @@
-use Rattle.std.proofs.Common.{◌+◌, ◌-◌, length}
-use Rattle.roc_conflict.proofs.Walk.{IsWalk}
+use Rattle.roc_conflict.specs.Inner.Marks.{open_marks}
+use Rattle.roc_conflict.proofs.Promoting.{IsWalk}
 use Rattle.roc_conflict.proofs.promotion.immediate_pieces.Given as goal
 
 abbrev pub invariant-walk : goal.invariant-walk
-invariant-walk l = IsWalk l.workload l.immediate.items l.others.items l.taken
+invariant-walk l = IsWalk l.workload l.promoted l.taken
 
 abbrev pub decreases-walk : goal.decreases-walk
-decreases-walk l = (length l.immediate.items + length l.others.items) - l.taken
+decreases-walk l = open_marks l.taken

@@ -5,7 +5,7 @@ use Rattle.std.specs.Option.{option_map}
 use Rattle.roc_conflict.specs.Classes.{is_immediate}
 use Rattle.roc_sequence.specs.Rising.{IsRising}
 use Rattle.roc_scgraph.specs.declared.vertex.Vertex.{Vertex}
-use Rattle.roc_witness.specs.Order.{is_before, comes_before}
+use Rattle.roc_witness.specs.Order.{is_before, stands_before}
 use Rattle.roc_witness.specs.Shortest.{IsCycleOf}
 use Rattle.roc_witness.specs.Inner.Candidates.{IsBest, LeavesBelow}
 use Rattle.roc_witness.proofs.Listed.{rising_vertices}
@@ -39,7 +39,7 @@ pub returns-clause-least : goal.returns-clause-least
 returns-clause-least c =
     let ends = c.are_ends.ensures.0 c.if-not-are_ends.false in
     IfOk-weaker c.best.result (λ o. IsBest (LeavesBelow c.deref.result.now c.in_ok-table.table c.args.p c.args.q c.piece_count.result) (option_map (λ c. c.items) o))
-    (λ o. IfSome o (λ c'. (d : List Vertex) → IsCycleOf c.args.workload.now (is_immediate c.args.classes.now) c.args.p c.args.q d → length d ≡ length c'.items → ¬ IsTrue (comes_before d c'.items)))
+    (λ o. IfSome o (λ c'. (d : List Vertex) → IsCycleOf c.args.workload.now (is_immediate c.args.classes.now) c.args.p c.args.q d → length d ≡ length c'.items → ¬ IsTrue (stands_before d c'.items)))
     (found_least c.args.workload.now (is_immediate c.args.classes.now) c.in_ok-table.table c.in_ok-table.ensures c.args.p c.args.q c.requires ends.0 ends.1 ends.2
     c.deref.result.now (c.deref.ensures.value ∙ c.in_ok-vertices.ensures) c.piece_count.result c.piece_count.ensures) c.best.ensures
 

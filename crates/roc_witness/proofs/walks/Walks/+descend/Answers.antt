@@ -1,13 +1,13 @@
 use Rattle.std.proofs.Common.{◌≡◌, suc, ◌-◌, Bool, false, List, IsTrue, arith}
 use Rattle.std.proofs.lemmas.Result.{IfOk-weaker}
 use Rattle.roc_scgraph.specs.declared.vertex.Vertex.{Vertex}
-use Rattle.roc_witness.specs.Inner.Walks.{leads, HasNoWalk, IsLeastAdded}
+use Rattle.roc_witness.specs.Inner.Walks.{may_step, HasNoWalk, IsLeastAdded}
 use Rattle.roc_witness.proofs.Walked.{read_level, nothing_led, goes_on_from, least_added}
 use Rattle.roc_witness.proofs.walks.Walks.+descend.Goals as goal
 
 pub returns-in_ok-push-in-Some-clause-found : goal.returns-in_ok-push-in-Some-clause-found
 returns-in_ok-push-in-Some-clause-found t c =
-    let L : Vertex → Vertex → Bool = leads c.args.table.now c.args.self.now.start in
+    let L : Vertex → Vertex → Bool = may_step c.args.table.now c.args.self.now.start in
     let V : List Vertex = c.args.self.now.vertices in
     let goal : Vertex = c.args.self.now.goal in
     let down : c.args.left ≡ suc (c.args.left - 1) = omega arith in
@@ -20,7 +20,7 @@ returns-in_ok-push-in-Some-clause-found t c =
 
 pub returns-in_ok-push-in-Some-clause-none : goal.returns-in_ok-push-in-Some-clause-none
 returns-in_ok-push-in-Some-clause-none t c =
-    let L : Vertex → Vertex → Bool = leads c.args.table.now c.args.self.now.start in
+    let L : Vertex → Vertex → Bool = may_step c.args.table.now c.args.self.now.start in
     let V : List Vertex = c.args.self.now.vertices in
     let goal : Vertex = c.args.self.now.goal in
     let down : c.args.left ≡ suc (c.args.left - 1) = omega arith in
@@ -31,7 +31,7 @@ returns-in_ok-push-in-Some-clause-none t c =
 
 pub returns-in-None-clause-none : goal.returns-in-None-clause-none
 returns-in-None-clause-none t c =
-    let L : Vertex → Vertex → Bool = leads c.args.table.now c.args.self.now.start in
+    let L : Vertex → Vertex → Bool = may_step c.args.table.now c.args.self.now.start in
     let V : List Vertex = c.args.self.now.vertices in
     let goal : Vertex = c.args.self.now.goal in
     let down : c.args.left ≡ suc (c.args.left - 1) = omega arith in

@@ -1,13 +1,13 @@
 use Rattle.std.proofs.Common.{◌≡◌, ◌-◌, Bool, List, length, rules, arith}
 use Rattle.roc_scgraph.specs.declared.vertex.Vertex.{Vertex}
-use Rattle.roc_witness.specs.Inner.Walks.{leads}
+use Rattle.roc_witness.specs.Inner.Walks.{may_step}
 use Rattle.roc_witness.proofs.Raised.{levels_more}
 use Rattle.roc_witness.proofs.Walked.{read_level}
 use Rattle.roc_witness.proofs.walks.Walks.raise.Goals as goal
 
 pub returns-clause-levels : goal.returns-clause-levels
 returns-clause-levels c =
-    let L : Vertex → Vertex → Bool = leads c.args.table.now c.args.self.now.start in
+    let L : Vertex → Vertex → Bool = may_step c.args.table.now c.args.self.now.start in
     let V : List Vertex = c.args.self.now.vertices in
     let goal : Vertex = c.args.self.now.goal in
     let levels : List (List Vertex) = c.args.levels.now.items in

@@ -1,8 +1,0 @@
-use Rattle.std.proofs.Common.{◌≡◌, map}
-use Rattle.std.specs.List.{range_with_len}
-use Rattle.roc_program.specs.Pieces.{piece_ids}
-use Rattle.roc_conflict.specs.Inner.Found.{has_id}
-use Rattle.roc_conflict.proofs.classes.Classes.where_immediate.Given as goal
-
-abbrev pub invariant-loop-proc : goal.invariant-loop-proc
-invariant-loop-proc l = map (λ v. v.items) l.procedures.items ≡ map (λ proc. map (has_id l.immediate) (piece_ids l.workload proc)) (range_with_len 0 l.proc)

@@ -1,0 +1,6 @@
+use Rattle.std.proofs.Common.{ℕ, ◌<◌, IsTrue, map}
+use Rattle.roc_conflict.specs.Inner.Marks.{is_marked_at}
+use Rattle.roc_conflict.proofs.classes.are_rows_among.Given as goal
+
+abbrev pub invariant-loop-proc : goal.invariant-loop-proc
+invariant-loop-proc l = (proc piece : ℕ) → proc < l.proc → IsTrue (is_marked_at (map (λ row. row.items) l.rows) proc piece) → IsTrue (is_marked_at l.marks proc piece)
