@@ -1,5 +1,5 @@
 -- The start round: docs/PROTOCOL.md, "Coordinator"
-use Rattle.std.specs.Prelude.{ℕ, ℤ, pos, Bool, ◌&&◌, ◌==◌, List, ◌++◌, Option, Some, None, is_some, is_none, length, map, filter, if◌then◌else◌, slice_index_or}
+use Rattle.std.specs.Prelude.{ℕ, ℤ, pos, Bool, ◌&&◌, ◌==◌, List, [], ◌++◌, Option, Some, None, is_some, is_none, length, map, filter, if◌then◌else◌, slice_index_or}
 use Rattle.std.specs.List.{list_any, list_all, flat_map, range_with_len}
 use Rattle.roc_base.specs.declared.id.TxnId.{TxnId}
 use Rattle.roc_base.specs.declared.node.Shard.{Shard}
@@ -76,9 +76,9 @@ shards_below count starts = filter (λ shard. list_any (λ start. start.shard.0 
 abbrev pub shards_of : Transaction → List Shard
 shards_of x = shards_below 64 x.starts
 
--- a commit to one of its shards
+-- a commit to one of its shards, with which no known list travels
 abbrev pub commit_to : TxnId → List Dependency → Shard → Outgoing
-commit_to id edges shard = record { to = Server shard; msg = Commit id edges }
+commit_to id edges shard = record { to = Server shard; msg = Commit id edges [] }
 
 abbrev pub commits_of : Transaction → List Outgoing
 commits_of x = map (commit_to x.id (all_edges x)) (shards_of x)

@@ -5,7 +5,7 @@ use Rattle.roc_base.specs.declared.id.TxnId.{TxnId}
 use Rattle.roc_base.specs.declared.node.Shard.{Shard}
 use Rattle.roc_base.specs.TxnId.{is_txn}
 use Rattle.roc_msg.specs.declared.msg.Msg.{Msg}
-use Rattle.roc_msg.specs.declared.msg.Msg.TheVariants.{Start, StartOk, Commit, CommitOk}
+use Rattle.roc_msg.specs.declared.msg.Msg.TheVariants.{Start, StartOk, Commit, CommitOk, Fetch, Known, Stop}
 use Rattle.roc_msg.specs.declared.outbox.Outbox.{Outbox}
 use Rattle.roc_msg.specs.declared.outbox.Outgoing.{Outgoing}
 use Rattle.roc_msg.specs.declared.reason.Reason.{Reason}
@@ -108,8 +108,11 @@ after_commitok plan s (Some x) ok =
 
 -- what comes of a message
 abbrev pub after_message : Plan → CoordState → Msg → CoordStep
-after_message plan s (StartOk id group shard bound outs edges) =
+after_message plan s (StartOk id group shard bound outs edges facts) =
     after_startok plan s (find_transaction id s.pending) (record { group = group; bound = bound; outs = outs; edges = edges }) shard
 after_message plan s (CommitOk id shard outs) = after_commitok plan s (find_transaction id s.pending) (record { shard = shard; outs = outs })
 after_message plan s (Start id proc group args inputs) = ignored s Foreign
-after_message plan s (Commit id edges) = ignored s Foreign
+after_message plan s (Commit id edges facts) = ignored s Foreign
+after_message plan s (Fetch id asker) = ignored s Foreign
+after_message plan s (Known id edges) = ignored s Foreign
+after_message plan s Stop = ignored s Foreign

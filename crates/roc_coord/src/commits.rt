@@ -8,7 +8,7 @@ ghost use Rattle.roc_coord.specs.Commits.{all_committed};
 
 use crate::{SentStart, TakenCommit, TakenStart, Transaction};
 use roc_base::{Edges, NoMemory, Node, Shard, TxnId};
-use roc_msg::{Msg, Outbox};
+use roc_msg::{Facts, Msg, Outbox};
 use roc_sequence::Sequence;
 use std::alloc::{AllocError, Global};
 
@@ -54,12 +54,22 @@ fn shards_below(
 }
 
 // Sends a commit to each shard.
-fn send_each(id: TxnId, edges: &Edges, shards: &[Shard], out: &mut Outbox) -> Result<(), NoMemory>
+fn send_each(
+    alloc: Global,
+    id: TxnId,
+    edges: &Edges,
+    shards: &[Shard],
+    out: &mut Outbox,
+) -> Result<(), NoMemory>
     ensures { OnOk result (out.new ≡ record out.old { messages = out.old.messages ++ map (commit_to id edges.now) shards.now }) }
 {
     for shard in shards {
-        let edges = edges.clone()?;
-        out.send(Node::Server(*shard), Msg::Commit { id, edges })?;
+        let commit = Msg::Commit {
+            id,
+            edges: edges.clone()?,
+            facts: Facts::new(alloc),
+        };
+        out.send(Node::Server(*shard), commit)?;
     }
     Ok(())
 }
@@ -77,7 +87,7 @@ pub(crate) fn send_commits(
 {
     let edges = all_edges(alloc, x.startoks.as_slice())?;
     let shards = shards_below(alloc, x.starts.as_slice(), SHARDS)?;
-    send_each(x.id, &edges, shards.as_slice(), out)?;
+    send_each(alloc, x.id, &edges, shards.as_slice(), out)?;
     x.asked = shards;
     Ok(())
 }

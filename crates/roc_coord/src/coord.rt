@@ -191,6 +191,7 @@ impl Coord {
                 bound,
                 outs,
                 edges,
+                ..
             } => {
                 let ok = TakenStart {
                     group: *group,
@@ -207,7 +208,11 @@ impl Coord {
                 };
                 self.pending.commitok(self.alloc, plan, *id, ok)
             }
-            Msg::Start { .. } | Msg::Commit { .. } => Ok(Handled::Ignored(Reason::Foreign)),
+            Msg::Start { .. }
+            | Msg::Commit { .. }
+            | Msg::Fetch { .. }
+            | Msg::Known { .. }
+            | Msg::Stop => Ok(Handled::Ignored(Reason::Foreign)),
         }
     }
 }

@@ -1,2 +1,4 @@
+pub mod InPlace
+pub mod Facts
 pub mod Msg
 pub mod Reason

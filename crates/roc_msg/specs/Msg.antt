@@ -1,26 +1,25 @@
 -- What is read of a message: docs/PROTOCOL.md, "Messages"
-use Rattle.std.specs.Prelude.{ℕ, List, Option, Some, codes}
+use Rattle.std.specs.Prelude.{ℕ, Option, Some, None}
 use Rattle.roc_base.specs.declared.id.TxnId.{TxnId}
 use Rattle.roc_msg.specs.declared.msg.Msg.{Msg}
-use Rattle.roc_msg.specs.declared.msg.Msg.TheVariants.{Start, StartOk, Commit, CommitOk}
+use Rattle.roc_msg.specs.declared.msg.Msg.TheVariants.{Start, StartOk, Commit, CommitOk, Fetch, Known, Stop}
 
 -- the transaction that a message is of
 abbrev pub id_of : Msg → Option TxnId
 id_of (Start id proc group args inputs) = Some id
-id_of (StartOk id group shard bound outs edges) = Some id
-id_of (Commit id edges) = Some id
+id_of (StartOk id group shard bound outs edges facts) = Some id
+id_of (Commit id edges facts) = Some id
 id_of (CommitOk id shard outs) = Some id
+id_of (Fetch id asker) = Some id
+id_of (Known id edges) = Some id
+id_of Stop = None
 
 -- the number of a message's kind
 abbrev pub kind_of : Msg → ℕ
 kind_of (Start id proc group args inputs) = 1
-kind_of (StartOk id group shard bound outs edges) = 2
-kind_of (Commit id edges) = 3
+kind_of (StartOk id group shard bound outs edges facts) = 2
+kind_of (Commit id edges facts) = 3
 kind_of (CommitOk id shard outs) = 4
-
--- the word of a message's kind
-abbrev pub word_of : Msg → List ℕ
-word_of (Start id proc group args inputs) = codes "start"
-word_of (StartOk id group shard bound outs edges) = codes "startok"
-word_of (Commit id edges) = codes "commit"
-word_of (CommitOk id shard outs) = codes "commitok"
+kind_of (Fetch id asker) = 5
+kind_of (Known id edges) = 6
+kind_of Stop = 7

@@ -1,5 +1,6 @@
 //! A message, and a message on its way.
 
+use crate::Facts;
 use roc_base::{Edges, NoMemory, Node, Nums, Shard, TxnId};
 
 /// What nodes tell one another, as in the start and commit rounds of ROCOCO (OSDI 2014).
@@ -15,7 +16,8 @@ pub enum Msg {
         /// The values of names that other groups bind, in the order in which they are bound.
         inputs: Nums,
     },
-    /// A group has started. What an immediate one gave, and the transactions that come before.
+    /// A group has started. What an immediate one gave, the transactions that come before, and lists
+    /// that are known of these and of their ancestors.
     StartOk {
         id: TxnId,
         group: u16,
@@ -25,11 +27,14 @@ pub enum Msg {
         /// What it adds to the reply.
         outs: Nums,
         edges: Edges,
+        facts: Facts,
     },
-    /// All groups have started, and this is all that comes before the transaction.
+    /// All groups have started, and this is all that comes before the transaction. The facts are
+    /// lists of others, as the startoks told them.
     Commit {
         id: TxnId,
         edges: Edges,
+        facts: Facts,
     },
     /// The buffered groups here have run: what they add to the reply, in group order.
     CommitOk {
@@ -37,13 +42,26 @@ pub enum Msg {
         shard: Shard,
         outs: Nums,
     },
+    /// A shard asks another one for the list of a transaction.
+    Fetch {
+        id: TxnId,
+        /// The shard that asks.
+        asker: Shard,
+    },
+    /// The list of a transaction, for a shard that asked for it.
+    Known {
+        id: TxnId,
+        edges: Edges,
+    },
+    /// The server is to end.
+    Stop,
 }
 
 impl Msg {
     ghost use Rattle.std.specs.Prelude.{◌≡◌, IfOk};
-    ghost use Rattle.roc_msg.specs.Msg.{id_of, kind_of, word_of};
+    ghost use Rattle.roc_msg.specs.Msg.{id_of, kind_of};
 
-    /// The transaction that the message is of.
+    /// The transaction that the message is of: none for a stop alone. Takes no memory.
     pub fn id(&self) -> Option<TxnId>
         ensures { result ≡ id_of self.now }
     {
@@ -51,11 +69,15 @@ impl Msg {
             Msg::Start { id, .. }
             | Msg::StartOk { id, .. }
             | Msg::Commit { id, .. }
-            | Msg::CommitOk { id, .. } => Some(*id),
+            | Msg::CommitOk { id, .. }
+            | Msg::Fetch { id, .. }
+            | Msg::Known { id, .. } => Some(*id),
+            Msg::Stop => None,
         }
     }
 
-    /// The number of its kind: 1 for a start, 2 for a startok, 3 for a commit, 4 for a commitok.
+    /// The number of its kind, in the order of the kinds: 1 for a start, 7 for a stop. Takes no
+    /// memory.
     pub fn kind(&self) -> u8
         ensures { result ≡ kind_of self.now }
     {
@@ -64,18 +86,9 @@ impl Msg {
             Msg::StartOk { .. } => 2,
             Msg::Commit { .. } => 3,
             Msg::CommitOk { .. } => 4,
-        }
-    }
-
-    /// The word of its kind, as reports name it.
-    pub fn word(&self) -> &'static str
-        ensures { result.now ≡ word_of self.now }
-    {
-        match self {
-            Msg::Start { .. } => "start",
-            Msg::StartOk { .. } => "startok",
-            Msg::Commit { .. } => "commit",
-            Msg::CommitOk { .. } => "commitok",
+            Msg::Fetch { .. } => 5,
+            Msg::Known { .. } => 6,
+            Msg::Stop => 7,
         }
     }
 
@@ -104,6 +117,7 @@ impl Msg {
                 bound,
                 outs,
                 edges,
+                facts,
             } => Msg::StartOk {
                 id: *id,
                 group: *group,
@@ -111,16 +125,27 @@ impl Msg {
                 bound: bound.clone()?,
                 outs: outs.clone()?,
                 edges: edges.clone()?,
+                facts: facts.clone()?,
             },
-            Msg::Commit { id, edges } => Msg::Commit {
+            Msg::Commit { id, edges, facts } => Msg::Commit {
                 id: *id,
                 edges: edges.clone()?,
+                facts: facts.clone()?,
             },
             Msg::CommitOk { id, shard, outs } => Msg::CommitOk {
                 id: *id,
                 shard: *shard,
                 outs: outs.clone()?,
             },
+            Msg::Fetch { id, asker } => Msg::Fetch {
+                id: *id,
+                asker: *asker,
+            },
+            Msg::Known { id, edges } => Msg::Known {
+                id: *id,
+                edges: edges.clone()?,
+            },
+            Msg::Stop => Msg::Stop,
         })
     }
 }

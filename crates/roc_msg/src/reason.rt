@@ -18,12 +18,13 @@ pub enum Reason {
     BadGroup,
     /// A start with another count of arguments or inputs than the plan has.
     BadInputs,
-    /// A start whose place is another shard's, or a commit of a transaction without a group here.
+    /// A start whose place is another shard's, a commit or a fetch of a transaction without a group
+    /// here, or a known of one that this shard never asked for.
     NotHere,
     /// A start of a new group of a transaction whose dependency list is known here.
     Late,
     /// A start with another procedure or other arguments than an earlier group of the transaction
-    /// here, or a commit with another list than the known one.
+    /// here, or a commit or a known with another list than the one that is known.
     Differs,
     /// An answer that was taken before, or of a transaction that is not waited for.
     Stale,

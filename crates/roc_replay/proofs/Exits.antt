@@ -11,14 +11,14 @@ use Rattle.roc_plan.specs.Groups.{Plan}
 use Rattle.roc_plan.specs.Within.{IsWithin}
 use Rattle.roc_world.specs.World.{World}
 use Rattle.roc_world.specs.Reads.{cells_of, unanswered_of}
-use Rattle.roc_sched.specs.declared.line.Act.{Act}
-use Rattle.roc_sched.specs.declared.line.Act.TheVariants as act
-use Rattle.roc_sched.specs.declared.line.Line.{Line}
-use Rattle.roc_sched.specs.Thin.{IsThinSchedule}
+use Rattle.roc_world.specs.declared.event.Event.{Event}
+use Rattle.roc_world.specs.declared.event.Event.TheVariants as event
 use Rattle.roc_report.specs.Line.{Row, Pending}
 use Rattle.roc_report.specs.Text.{line_text, lines_text}
 use Rattle.roc_replay.specs.declared.ended.Ended.{Ended}
 use Rattle.roc_replay.specs.declared.ended.Ended.TheVariants.{Done, Text, SinkFault, NoMemory}
+use Rattle.roc_replay.specs.declared.asked.Asked.{Asked}
+use Rattle.roc_replay.specs.Thin.{IsThinSchedule}
 use Rattle.roc_replay.specs.Cells.{by_cell}
 use Rattle.roc_replay.specs.Inner.Closed.{IsClosed, asks_unsent}
 use Rattle.roc_replay.specs.Ended.{IsUnsent, IsCut, at_line, at_end, IsUnfinished, behind_lines}
@@ -54,15 +54,15 @@ none_counted p f none (x ∷ xs) = ap (λ b. fold (λ n y. n + cond (p y) 1 0) (
 
 -- ---- the ends
 
-module _ (plan : Plan) (schedule : List ℕ) (lines : List Line) (of : IsThinSchedule plan.program schedule lines) where
+module _ (plan : Plan) (schedule : List ℕ) (lines : List Asked) (of : IsThinSchedule plan.program schedule lines) where
   -- the next line asks for a message that was not sent
-  pub unsent_end : (i : ℕ) (line : Line) (w : World) (busy : ℕ) (old now : Option (List ℕ)) → i < length lines → line ≡ get_or lines i line
-      → IsSoFar plan (take i lines) w busy old now → asks_unsent line.act (length w.sent) ≡ true → IsUnsent plan schedule line.number old now
-  unsent_end i line w busy old now within is so asks = go line.act refl asks
+  pub unsent_end : (i : ℕ) (line : Asked) (w : World) (busy : ℕ) (old now : Option (List ℕ)) → i < length lines → line ≡ get_or lines i line
+      → IsSoFar plan (take i lines) w busy old now → asks_unsent line.event (length w.sent) ≡ true → IsUnsent plan schedule line.number old now
+  unsent_end i line w busy old now within is so asks = go line.event refl asks
     where
-      go : (a : Act) → line.act ≡ a → asks_unsent a (length w.sent) ≡ true → IsUnsent plan schedule line.number old now
-      go (act.Submit coord proc args) e t = absurd (false≢true t)
-      go (act.Deliver k) e t = record {
+      go : (a : Event) → line.event ≡ a → asks_unsent a (length w.sent) ≡ true → IsUnsent plan schedule line.number old now
+      go (event.Submit coord proc args) e t = absurd (false≢true t)
+      go (event.Deliver k) e t = record {
         before = take i lines;
         line = line;
         behind = drop (suc i) lines;
@@ -83,8 +83,8 @@ module _ (plan : Plan) (schedule : List ℕ) (lines : List Line) (of : IsThinSch
       behind_lines (take i lines) (drop i lines) so.steps w (subst (IsThinSchedule plan.program schedule) (sym (take-append-drop i lines)) of) so.played so.taken
 
   -- the sink failed at the text of a line
-  pub failed_end : (i : ℕ) (line : Line) (w after : World) (text : List ℕ) (busy more : ℕ) (old now then : Option (List ℕ)) → i < length lines → line ≡ get_or lines i line
-      → IsSoFar plan (take i lines) w busy old now → IsPlayedLine plan line.act w after text more → AddsFront now then text → IsCut plan schedule old then
+  pub failed_end : (i : ℕ) (line : Asked) (w after : World) (text : List ℕ) (busy more : ℕ) (old now then : Option (List ℕ)) → i < length lines → line ≡ get_or lines i line
+      → IsSoFar plan (take i lines) w busy old now → IsPlayedLine plan line.event w after text more → AddsFront now then text → IsCut plan schedule old then
   failed_end i line w after text busy more old now then within is so next front =
       at_line (take i lines) line (drop (suc i) lines) so.steps w after text more
       (subst (IsThinSchedule plan.program schedule) (sym (parts_at lines i line within is)) of) so.played next

@@ -4,3 +4,4 @@ pub mod OneReport
 pub mod Rising
 pub mod Shows
 pub mod SoFar
+pub mod ThinSchedules

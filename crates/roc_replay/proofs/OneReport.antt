@@ -5,29 +5,29 @@ use Rattle.roc_plan.specs.Groups.{Plan}
 use Rattle.roc_world.specs.World.{World}
 use Rattle.roc_world.specs.Happens.{Stepped}
 use Rattle.roc_world.proofs.One_run.{one_run}
-use Rattle.roc_sched.specs.declared.line.Line.{Line}
-use Rattle.roc_report.specs.Line.{Line as ReportLine, End}
+use Rattle.roc_replay.specs.declared.asked.Asked.{Asked}
+use Rattle.roc_report.specs.Line.{Line, End}
 use Rattle.roc_replay.specs.declared.ended.Summary.{Summary}
 use Rattle.roc_replay.specs.Ended.{IsReplayed}
-use Rattle.roc_replay.specs.Events.{events_of}
+use Rattle.roc_replay.specs.Thin.{events_of}
 use Rattle.roc_replay.specs.Played.{coordinators, IsPlayed}
 use Rattle.roc_replay.specs.Report.{end_line, busy_in, report}
 
-pub one_played : (plan : Plan) (lines others : List Line) (steps same : List Stepped) (w v : World)
+pub one_played : (plan : Plan) (lines others : List Asked) (steps same : List Stepped) (w v : World)
     → events_of lines ≡ events_of others → IsPlayed plan lines steps w → IsPlayed plan others same v → (steps ≡ same) × (w ≡ v)
 one_played plan lines others steps same w v e p q = one_run plan coordinators p.run q.run (p.events ∙ e ∙ sym q.events)
 
 -- ---- summaries
 
-answered_of : ReportLine → ℕ
+answered_of : Line → ℕ
 answered_of (End answered pending messages) = answered
 answered_of _ = 0
 
-pending_of : ReportLine → ℕ
+pending_of : Line → ℕ
 pending_of (End answered pending messages) = pending
 pending_of _ = 0
 
-messages_of : ReportLine → ℕ
+messages_of : Line → ℕ
 messages_of (End answered pending messages) = messages
 messages_of _ = 0
 

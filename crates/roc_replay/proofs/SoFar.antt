@@ -16,19 +16,17 @@ use Rattle.roc_world.specs.World.{World, first_world}
 use Rattle.roc_world.specs.Happens.{Stepped, IsRun, begun, goes_on}
 use Rattle.roc_world.specs.Fits.{FitsWorld}
 use Rattle.roc_world.specs.Reached.{IsEventOf}
-use Rattle.roc_sched.specs.declared.line.Act.{Act}
-use Rattle.roc_sched.specs.declared.line.Act.TheVariants as act
-use Rattle.roc_sched.specs.declared.line.Line.{Line}
-use Rattle.roc_sched.specs.Thin.{FitsProgram}
+use Rattle.roc_world.specs.declared.event.Event.TheVariants as event
 use Rattle.roc_report.specs.Text.{line_text, lines_text}
 use Rattle.roc_replay.specs.Inner.Closed.{asks_unsent}
-use Rattle.roc_replay.specs.Events.{event_of}
+use Rattle.roc_replay.specs.declared.asked.Asked.{Asked}
+use Rattle.roc_replay.specs.Thin.{FitsProgram}
 use Rattle.roc_replay.specs.Played.{coordinators, IsPlayed, IsPlayedLine}
 use Rattle.roc_replay.specs.Report.{is_busy, busy_in, first_lines, send_lines, answer_lines, step_lines, steps_lines}
 use Rattle.roc_replay.proofs.Growing.{run_lines}
 
 -- the first lines were played, and the sink took their text
-pub record IsSoFar (plan : Plan) (lines : List Line) (w : World) (busy : ℕ) (old now : Option (List ℕ)) : Type 0 where
+pub record IsSoFar (plan : Plan) (lines : List Asked) (w : World) (busy : ℕ) (old now : Option (List ℕ)) : Type 0 where
   pub steps : List Stepped
   pub played : IsPlayed plan lines steps w
   pub fits : FitsWorld plan w
@@ -75,17 +73,17 @@ busy_in-step before step =
     omega arith
 
 -- a run with one line more
-module _ (plan : Plan) (lines : List Line) (line : Line) (steps : List Stepped) (w after : World) (text : List ℕ) (more : ℕ)
-    (played : IsPlayed plan lines steps w) (next : IsPlayedLine plan line.act w after text more) where
+module _ (plan : Plan) (lines : List Asked) (line : Asked) (steps : List Stepped) (w after : World) (text : List ℕ) (more : ℕ)
+    (played : IsPlayed plan lines steps w) (next : IsPlayedLine plan line.event w after text more) where
   pub step : Stepped
-  step = record { event = event_of line.act; outcome = record { seen = next.seen; world = after } }
+  step = record { event = line.event; outcome = record { seen = next.seen; world = after } }
 
   pub played_more : IsPlayed plan (lines ++ line ∷ []) (steps ++ step ∷ []) after
   unfolding step
   played_more = record {
-    run = goes_on (event_of line.act) (record { seen = next.seen; world = after }) played.run next.happens;
-    events = (map-append (λ (s : Stepped). s.event) steps (step ∷ []) ∙ ap (λ (es : List Event). es ++ event_of line.act ∷ []) played.events)
-        ∙ sym (map-append (λ (l : Line). event_of l.act) lines (line ∷ []));
+    run = goes_on line.event (record { seen = next.seen; world = after }) played.run next.happens;
+    events = (map-append (λ (s : Stepped). s.event) steps (step ∷ []) ∙ ap (λ (es : List Event). es ++ line.event ∷ []) played.events)
+        ∙ sym (map-append (λ (l : Asked). l.event) lines (line ∷ []));
   }
 
   pub lines_more : steps_lines [] (steps ++ step ∷ []) ≡ steps_lines [] steps ++ step_lines w.sent step
@@ -105,8 +103,8 @@ module _ (plan : Plan) (lines : List Line) (line : Line) (steps : List Stepped) 
       ∙ count_by-append is_busy (steps_lines [] steps) (step_lines w.sent step)
       ∙ ap (λ (n : ℕ). busy_in (steps_lines [] steps) + n) (busy_in-step w.sent step ∙ sym next.refused)
 
-pub one_more : (plan : Plan) (lines : List Line) (line : Line) (w after : World) (text : List ℕ) (busy more : ℕ) (old now then : Option (List ℕ))
-    → IsSoFar plan lines w busy old now → IsPlayedLine plan line.act w after text more → FitsWorld plan after → length after.coords ≡ length w.coords → more ≤ 1 → Adds now then text
+pub one_more : (plan : Plan) (lines : List Asked) (line : Asked) (w after : World) (text : List ℕ) (busy more : ℕ) (old now then : Option (List ℕ))
+    → IsSoFar plan lines w busy old now → IsPlayedLine plan line.event w after text more → FitsWorld plan after → length after.coords ≡ length w.coords → more ≤ 1 → Adds now then text
     → IsSoFar plan (lines ++ line ∷ []) after (busy + more) old then
 one_more plan lines line w after text busy more old now then so next fits coords few adds =
     let s : Stepped = step plan lines line so.steps w after text more so.played next in
@@ -122,6 +120,6 @@ one_more plan lines line w after text busy more old now then so next fits coords
 
 -- ---- the event that a line asks for
 
-pub event_fits : (plan : Plan) (w : World) (a : Act) → FitsProgram plan.program a → length w.coords ≡ coordinators → asks_unsent a (length w.sent) ≡ false → IsEventOf plan w (event_of a)
-event_fits plan w (act.Submit coord proc args) fits coords sent = (omega arith, fits.1, fits.2)
-event_fits plan w (act.Deliver k) fits coords sent = (fits.0, ltb-false (length w.sent) k sent)
+pub event_fits : (plan : Plan) (w : World) (a : Event) → FitsProgram plan.program a → length w.coords ≡ coordinators → asks_unsent a (length w.sent) ≡ false → IsEventOf plan w a
+event_fits plan w (event.Submit coord proc args) fits coords sent = (omega arith, fits.1, fits.2)
+event_fits plan w (event.Deliver k) fits coords sent = (fits.0, ltb-false (length w.sent) k sent)

@@ -5,17 +5,17 @@ use Rattle.roc_program.specs.Program.{Workload}
 use Rattle.roc_plan.specs.Groups.{Plan}
 use Rattle.roc_world.specs.World.{World}
 use Rattle.roc_world.specs.Happens.{Stepped}
+use Rattle.roc_world.specs.declared.event.Event.TheVariants as event
 use Rattle.roc_sched.specs.declared.fault.What.{What}
 use Rattle.roc_sched.specs.declared.fault.What.TheVariants as what
-use Rattle.roc_sched.specs.declared.line.Line.{Line}
-use Rattle.roc_sched.specs.declared.line.Act.TheVariants as act
-use Rattle.roc_sched.specs.Thin.{IsThinSchedule}
 use Rattle.roc_report.specs.Line.{End}
 use Rattle.roc_report.specs.Text.{lines_text}
+use Rattle.roc_replay.specs.declared.asked.Asked.{Asked}
 use Rattle.roc_replay.specs.declared.ended.Ended.{Ended}
 use Rattle.roc_replay.specs.declared.ended.Ended.TheVariants.{Done, Text, SinkFault, NoMemory}
 use Rattle.roc_replay.specs.declared.ended.Summary.{Summary}
 use Rattle.roc_replay.specs.Report.{steps_lines, closing_lines, end_line, busy_in, report}
+use Rattle.roc_replay.specs.Thin.{IsThinSchedule}
 use Rattle.roc_replay.specs.Told.{IsExplained}
 use Rattle.roc_replay.specs.Played.{IsPlayed, IsPlayedLine}
 
@@ -34,6 +34,8 @@ IfMessage _ P = Unit {0}
 -- where the text has another fault
 abbrev pub IfRefused : Ended → (ℕ → What → Type 0) → Type 0
 IfRefused (Text line what.Limit) P = P line what.Limit
+IfRefused (Text line what.Word) P = P line what.Word
+IfRefused (Text line what.Node) P = P line what.Node
 IfRefused _ P = Unit {0}
 
 -- where the sink failed
@@ -55,7 +57,7 @@ is_sink_fault _ = false
 
 -- the sink took the report of the run of exactly this schedule, which explains itself, and the summary has the numbers of its end line
 pub record IsReplayed (plan : Plan) (schedule : List ℕ) (summary : Summary) (old new : Option (List ℕ)) : Type 0 where
-  pub lines : List Line
+  pub lines : List Asked
   pub of_schedule : IsThinSchedule plan.program schedule lines
   pub steps : List Stepped
   pub world : World
@@ -67,13 +69,13 @@ pub record IsReplayed (plan : Plan) (schedule : List ℕ) (summary : Summary) (o
 
 -- the line of this number is the first that asks for a message that was not sent yet, and the sink took the lines of what was before it
 pub record IsUnsent (plan : Plan) (schedule : List ℕ) (number : ℕ) (old new : Option (List ℕ)) : Type 0 where
-  pub before : List Line
-  pub line : Line
-  pub behind : List Line
+  pub before : List Asked
+  pub line : Asked
+  pub behind : List Asked
   pub of_schedule : IsThinSchedule plan.program schedule (before ++ line ∷ behind)
   pub numbered : line.number ≡ number
   pub message : ℕ
-  pub asks : line.act ≡ act.Deliver message
+  pub asks : line.event ≡ event.Deliver message
   pub steps : List Stepped
   pub world : World
   pub played : IsPlayed plan before steps world
@@ -84,19 +86,19 @@ pub record IsUnsent (plan : Plan) (schedule : List ℕ) (number : ℕ) (old new 
 pub record IsNoSchedule (program : Workload) (schedule : List ℕ) (number : ℕ) (fault : What) (old new : Option (List ℕ)) : Type 0 where
   pub first : number ≡ 1
   pub limit : fault ≡ what.Limit
-  pub none : (lines : List Line) → IsThinSchedule program schedule lines → ⊥
+  pub none : (lines : List Asked) → IsThinSchedule program schedule lines → ⊥
   pub untouched : new ≡ old
 
 -- the sink failed at the text of a line of the schedule, or at the closing lines: it took all that was to be written before, and a front of this
 pub data IsCut (plan : Plan) (schedule : List ℕ) (old new : Option (List ℕ)) : Type 0 where
-  at_line : (before : List Line) (line : Line) (behind : List Line) (steps : List Stepped) (w after : World) (text : List ℕ) (busy : ℕ)
-      → IsThinSchedule plan.program schedule (before ++ line ∷ behind) → IsPlayed plan before steps w → IsPlayedLine plan line.act w after text busy
+  at_line : (before : List Asked) (line : Asked) (behind : List Asked) (steps : List Stepped) (w after : World) (text : List ℕ) (busy : ℕ)
+      → IsThinSchedule plan.program schedule (before ++ line ∷ behind) → IsPlayed plan before steps w → IsPlayedLine plan line.event w after text busy
       → AddsThenFront old new (lines_text plan.program (steps_lines [] steps)) text → IsCut plan schedule old new
-  at_end : (lines : List Line) (steps : List Stepped) (w : World) → IsThinSchedule plan.program schedule lines → IsPlayed plan lines steps w
+  at_end : (lines : List Asked) (steps : List Stepped) (w : World) → IsThinSchedule plan.program schedule lines → IsPlayed plan lines steps w
       → AddsThenFront old new (lines_text plan.program (steps_lines [] steps)) (lines_text plan.program (closing_lines w)) → IsCut plan schedule old new
 
 -- memory ran out: the sink took nothing, or the whole text of some first lines of the schedule
 pub data IsUnfinished (plan : Plan) (schedule : List ℕ) (old new : Option (List ℕ)) : Type 0 where
   at_start : new ≡ old → IsUnfinished plan schedule old new
-  behind_lines : (before behind : List Line) (steps : List Stepped) (w : World) → IsThinSchedule plan.program schedule (before ++ behind) → IsPlayed plan before steps w
+  behind_lines : (before behind : List Asked) (steps : List Stepped) (w : World) → IsThinSchedule plan.program schedule (before ++ behind) → IsPlayed plan before steps w
       → Adds old new (lines_text plan.program (steps_lines [] steps)) → IsUnfinished plan schedule old new

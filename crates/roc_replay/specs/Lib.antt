@@ -1,7 +1,7 @@
 pub mod Cells
 pub mod Ended
-pub mod Events
 pub mod Inner
 pub mod Played
 pub mod Report
+pub mod Thin
 pub mod Told

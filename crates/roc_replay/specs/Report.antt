@@ -10,6 +10,7 @@ use Rattle.roc_world.specs.declared.event.Seen.TheVariants as seen
 use Rattle.roc_world.specs.World.{World}
 use Rattle.roc_world.specs.Happens.{Stepped}
 use Rattle.roc_world.specs.Reads.{cells_of, unanswered_of}
+use Rattle.roc_report.specs.Shown.{shown_message}
 use Rattle.roc_report.specs.Line.{Line, Submit, Busy, Spent, Deliver, Ignored, Send, Answer, Order, Row, Pending, End}
 use Rattle.roc_replay.specs.Cells.{by_cell}
 
@@ -41,7 +42,7 @@ first_lines (event.Deliver number) seen = Deliver number ∷ ignored_lines seen
 -- the messages that were sent, the first of them with this number
 abbrev pub send_lines : ℕ → List Sent → List Line
 send_lines number [] = []
-send_lines number (sent ∷ rest) = Send number sent ∷ send_lines (number + 1) rest
+send_lines number (sent ∷ rest) = Send number (shown_message sent) ∷ send_lines (number + 1) rest
 
 -- the reply, if a transaction has it now
 abbrev pub answer_lines : Seen → List Line

@@ -8,12 +8,11 @@ ghost use Rattle.roc_world.specs.World.{World};
 ghost use Rattle.roc_world.specs.Happens.{Stepped, IsRun};
 ghost use Rattle.roc_rows.specs.declared.cell.Cell.{Cell};
 ghost use Rattle.roc_rows.specs.Cells.{cell_cmp};
-ghost use Rattle.roc_sched.specs.declared.line.Line.{Line};
-ghost use Rattle.roc_sched.specs.Thin.{IsThinSchedule};
+ghost use Rattle.roc_replay.specs.declared.asked.Asked.{Asked};
 ghost use Rattle.roc_replay.specs.declared.ended.Summary.{Summary};
 ghost use Rattle.roc_replay.specs.Cells.{by_cell};
 ghost use Rattle.roc_replay.specs.Ended.{IsReplayed};
-ghost use Rattle.roc_replay.specs.Events.{events_of};
+ghost use Rattle.roc_replay.specs.Thin.{IsThinSchedule, events_of};
 ghost use Rattle.roc_replay.specs.Played.{IsPlayed};
 ghost use Rattle.roc_replay.specs.Report.{report};
 ghost use Rattle.roc_replay.specs.Told.{IsExplained};
@@ -34,9 +33,9 @@ pub fn rising_cells_stay()
 /// Lines that ask for the same events have one run: the same steps lead to the same world. So schedules with the same lines,
 /// however they are written, have one report and one summary.
 pub fn report_is_one()
-    ensures run { (plan : Plan) (lines others : List Line) (steps same : List Stepped) (w v : World)
+    ensures run { (plan : Plan) (lines others : List Asked) (steps same : List Stepped) (w v : World)
         → events_of lines ≡ events_of others → IsPlayed plan lines steps w → IsPlayed plan others same v → (steps ≡ same) × (w ≡ v) }
-    ensures schedules { (plan : Plan) (some other : List ℕ) (lines : List Line) → IsThinSchedule plan.program some lines → IsThinSchedule plan.program other lines
+    ensures schedules { (plan : Plan) (some other : List ℕ) (lines : List Asked) → IsThinSchedule plan.program some lines → IsThinSchedule plan.program other lines
         → (s t : Summary) (o n p q : Option (List ℕ)) (r : IsReplayed plan some s o n) (z : IsReplayed plan other t p q)
         → (report r.steps r.world ≡ report z.steps z.world) × (s ≡ t) }
 {

@@ -1,15 +1,13 @@
 //! The text of an event's lines.
 ghost use Rattle.std.specs.Prelude.{◌≡◌, ◌+◌, ◌^◌, ◌<◌, ◌≤◌, ◌++◌, drop, length, IfOk, OnOk};
 ghost use Rattle.roc_report.specs.Text.{lines_text};
-ghost use Rattle.roc_replay.specs.Events.{event_of};
 ghost use Rattle.roc_replay.specs.Report.{first_lines, ignored_lines, send_lines, answer_lines};
 
 use roc_base::NoMemory;
 use roc_msg::Sent;
 use roc_program::Workload;
 use roc_report::{ReportLine, append};
-use roc_sched::Act;
-use roc_world::Seen;
+use roc_world::{Event, Seen};
 use std::alloc::Global;
 
 /// The text of the lines of an event: what happened, the messages that were sent, which are those
@@ -17,17 +15,17 @@ use std::alloc::Global;
 pub fn event_text(
     alloc: Global,
     workload: &Workload,
-    act: &Act,
+    event: &Event,
     seen: &Seen,
     sent: &[Sent],
     before: usize,
 ) -> Result<Vec<u8>, NoMemory>
     requires { before ≤ length sent.now }
     ensures { IfOk result (λ text. text.items
-        ≡ lines_text (workload.now) (first_lines (event_of act.now) seen.now ++ (send_lines (before + 1) (drop before sent.now) ++ answer_lines seen.now))) }
+        ≡ lines_text (workload.now) (first_lines event.now seen.now ++ (send_lines (before + 1) (drop before sent.now) ++ answer_lines seen.now))) }
 {
     let mut text = Vec::new(alloc);
-    push_first(alloc, &mut text, workload, act, seen)?;
+    push_first(alloc, &mut text, workload, event, seen)?;
     push_sends(
         alloc,
         &mut text,
@@ -45,13 +43,13 @@ fn push_first(
     alloc: Global,
     text: &mut Vec<u8>,
     workload: &Workload,
-    act: &Act,
+    event: &Event,
     seen: &Seen,
 ) -> Result<(), NoMemory>
-    ensures { OnOk result (text.new.items ≡ text.old.items ++ lines_text (workload.now) (first_lines (event_of act.now) seen.now)) }
+    ensures { OnOk result (text.new.items ≡ text.old.items ++ lines_text (workload.now) (first_lines event.now seen.now)) }
 {
-    match act {
-        Act::Submit { coord, proc, args } => {
+    match event {
+        Event::Submit { coord, proc, args } => {
             let line = match seen {
                 Seen::Submitted(id) => ReportLine::Submit {
                     id: *id,
@@ -64,7 +62,7 @@ fn push_first(
             };
             append(alloc, text, workload, &line)
         }
-        Act::Deliver(number) => {
+        Event::Deliver(number) => {
             append(alloc, text, workload, &ReportLine::Deliver(*number))?;
             push_ignored(alloc, text, workload, seen)
         }

@@ -10,10 +10,10 @@ ghost use Rattle.roc_replay.specs.Told.{IsExplained};
 
 use crate::Ended;
 use crate::play::play;
+use crate::thin::parse_thin;
 use roc_io::Sink;
 use roc_plan::Plan;
-use roc_sched::laws::lines_fit;
-use roc_sched::{TextFault, parse_thin};
+use roc_sched::TextFault;
 use std::alloc::Global;
 
 /// Replays a schedule of a plan on the real nodes, from the first world with 16 coordinators on,
@@ -37,11 +37,10 @@ pub fn replay<S: Sink>(alloc: Global, plan: &Plan, schedule: &[u8], sink: &mut S
     // Where memory ran out, the sink took the text of the lines before, and of no line a part.
     ensures unfinished { OnNoMemory result (IsUnfinished plan.now schedule.now (S.taken sink.old) (S.taken sink.new)) }
 {
-    let lines = match parse_thin(alloc, plan, schedule) {
-        Ok(lines) => lines,
+    let asked = match parse_thin(alloc, plan, schedule) {
+        Ok(asked) => asked,
         Err(TextFault::At { line, what }) => return Ended::Text { line, what },
         Err(TextFault::NoMemory) => return Ended::NoMemory,
     };
-    lines_fit();
-    play(alloc, plan, lines.as_slice(), sink)
+    play(alloc, plan, asked.as_slice(), sink)
 }

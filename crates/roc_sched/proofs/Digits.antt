@@ -9,7 +9,7 @@ use Rattle.std.proofs.lemmas.Bool.{leb-true, leb-false, false≢true}
 use Rattle.std.proofs.lemmas.Option.{same_Some, none-some}
 use Rattle.roc_lang.specs.Tokens.{decimal}
 use Rattle.roc_sched.specs.Numbers.{is_decimal, number_up_to}
-use Rattle.roc_sched.specs.Reading.{with_digit, digits_onto, begins_number}
+use Rattle.roc_sched.specs.Inner.Reading.{with_digit, digits_onto, begins_number}
 
 -- the element at a place, and what follows
 pub at_place : (bytes : List ℕ) (i : ℕ) → i < length bytes → drop i bytes ≡ get_or bytes i 0 ∷ drop (i + 1) bytes

@@ -1,28 +1,28 @@
--- What each line of a thin schedule keeps to.
-use Rattle.std.proofs.Common.{◌≡◌, ℕ, ◌^◌, ◌<◌, ◌≤◌, Bool, true, false, ◌&&◌, ◌==◌, cond, List, [], ◌∷◌, length, Option, Some, None, refl, ap, ◌∙◌, subst, arith}
-use Rattle.std.specs.Prelude.{nat_le, nat_lt}
+-- What each line of a schedule and each request keeps to.
+use Rattle.std.proofs.Common.{◌≡◌, ℕ, zero, suc, ◌^◌, ◌<◌, ◌≤◌, ℤ, pos, Bool, true, false, ◌&&◌, ◌==◌, cond, List, [], ◌∷◌, Option, Some, None, Ok, Err, FitsSigned, w64, refl, ◌∙◌, subst, arith, rules}
+use Rattle.std.specs.Prelude.{nat_le, nat_lt, neg_ℤ}
 use Rattle.std.specs.Option.{option_map}
 use Rattle.std.specs.Str.{bytes_eq}
 use Rattle.std.specs.List.{AllByRecursion}
 use lib.Chars.{codes}
-use Rattle.std.proofs.lemmas.Bool.{leb-true, ltb-true, eqb-true}
+use Rattle.std.proofs.lemmas.Bool.{leb-true, ltb-true}
 use Rattle.std.proofs.lemmas.Option.{same_Some, none-some, option_and_then_some}
-use Rattle.std.proofs.lemmas.List.Quantifiers.{position-Some}
+use Rattle.roc_base.specs.declared.node.Node.{Node}
+use Rattle.roc_base.specs.declared.node.Node.TheVariants.{Server, Coord}
 use Rattle.roc_lang.specs.Tokens.{decimal}
-use Rattle.roc_program.specs.Program.{Workload}
-use Rattle.roc_program.specs.LookUps.{no_procedure, procedure_named}
+use Rattle.roc_lang.specs.Grammar.{minus}
+use Rattle.roc_sched.specs.declared.fault.What.TheVariants as what
 use Rattle.roc_sched.specs.declared.line.Act.{Act}
-use Rattle.roc_sched.specs.declared.line.Act.TheVariants as act
+use Rattle.roc_sched.specs.declared.line.Act.TheVariants.{Submit, Deliver, Any, Tick}
 use Rattle.roc_sched.specs.declared.line.Line.{Line}
+use Rattle.roc_sched.specs.declared.line.Request.{Request}
 use Rattle.roc_sched.specs.Each.{◌>>=◌, each}
 use Rattle.roc_sched.specs.Lines.{lines_of}
 use Rattle.roc_sched.specs.Words.{words_of}
-use Rattle.roc_sched.specs.Numbers.{is_decimal, number_up_to, integer_of, is_name, coordinator_of, positive, message_of}
-use Rattle.roc_sched.specs.Acts.{Written, Submit, Deliver, submission_of, delivery_of, act_of}
-use Rattle.roc_sched.specs.Schedule.{numbered, act_at}
-use Rattle.roc_sched.specs.Thin.{arguments_of, call_of, line_of, IsThinSchedule, FitsProgram}
-use Rattle.roc_sched.specs.Reading.{asked_at}
-use Rattle.roc_sched.proofs.ThinTexts.{asked_acts}
+use Rattle.roc_sched.specs.Numbers.{is_decimal, number_up_to, node_number, integer_of, is_name, positive, message_of, choice_number}
+use Rattle.roc_sched.specs.Acts.{submission_of, delivery_of, choice_of, node_of, tick_of, act_of, is_there, has_node, or_word, or_node, numbered_line, line_at, request_of, request_at}
+use Rattle.roc_sched.specs.Schedule.{item_of, numbered, IsSchedule, AreRequests}
+use Rattle.roc_sched.specs.Fits.{IsWrittenCall, IsNodeFor, IsActFor}
 
 -- a value that was chosen
 chosen : {A : Type 0} (b : Bool) (x : Option A) (y : A) → cond b x None ≡ Some y → (b ≡ true) × (x ≡ Some y)
@@ -32,6 +32,16 @@ chosen false x y e = absurd (none-some y e)
 mapped : {A B P : Type 0} (f : A → B) (o : Option A) (y : B) → option_map f o ≡ Some y → ((x : A) → o ≡ Some x → f x ≡ y → P) → P
 mapped f (Some x) y e k = k x refl (same_Some (f x) y e)
 mapped f None y e k = absurd (none-some y e)
+
+-- ---- lists
+
+each_keeps : {A B : Type 0} (f : A → Option B) (P : B → Type 0) → ((x : A) (y : B) → f x ≡ Some y → P y) → (xs : List A) (ys : List B) → each f xs ≡ Some ys → AllByRecursion P ys
+each_keeps f P keeps [] ys e = subst (AllByRecursion P) (same_Some [] ys e) tt
+each_keeps f P keeps (x ∷ xs) ys e =
+    option_and_then_some (λ y. each f xs >>= λ zs. Some (y ∷ zs)) (f x) ys e
+    (λ y given others.
+    option_and_then_some (λ zs. Some (y ∷ zs)) (each f xs) ys others
+    (λ zs rest is. subst (AllByRecursion P) (same_Some (y ∷ zs) ys is) (keeps x y given, each_keeps f P keeps xs zs rest)))
 
 -- ---- numbers
 
@@ -58,71 +68,111 @@ message_fits word n e =
     let fits = number_fits 4294967295 word m read in
     (omega (arith, same, some), omega (arith, same, fits)))
 
--- ---- acts as they are written
+plain_fits : (n : ℕ) → n < 2 ^ 63 → FitsSigned w64 (pos n)
+plain_fits n h = search rules
 
-FitsWritten : Written → Type 0
-FitsWritten (Submit coord name args) = coord < 16
-FitsWritten (Deliver message) = (0 < message) × (message < 2 ^ 32)
+negated_fits : (n : ℕ) → n ≤ 2 ^ 63 → FitsSigned w64 (neg_ℤ (pos n))
+negated_fits zero h = search rules
+negated_fits (suc n) h = search rules
 
-submission_fits : (words : List (List ℕ)) (w : Written) → submission_of words ≡ Some w → FitsWritten w
-unfolding FitsWritten
-submission_fits [] w e = absurd (none-some w e)
-submission_fits (coord ∷ []) w e = absurd (none-some w e)
-submission_fits (coord ∷ name ∷ args) w e =
-    let named = chosen (is_name name) (coordinator_of coord >>= λ c. each integer_of args >>= λ numbers. Some (Submit c name numbers)) w e in
-    option_and_then_some (λ c. each integer_of args >>= λ numbers. Some (Submit c name numbers)) (coordinator_of coord) w named.1
-    (λ c read others.
-    let fits = number_fits 15 coord c read in
-    option_and_then_some (λ numbers. Some (Submit c name numbers)) (each integer_of args) w others
-    (λ numbers all is. subst FitsWritten (same_Some (Submit c name numbers) w is) (omega (arith, fits))))
-
-delivery_fits : (words : List (List ℕ)) (w : Written) → delivery_of words ≡ Some w → FitsWritten w
-unfolding FitsWritten
-delivery_fits [] w e = absurd (none-some w e)
-delivery_fits (message ∷ []) w e = mapped Deliver (message_of message) w e (λ m read is. subst FitsWritten is (message_fits message m read))
-delivery_fits (message ∷ other ∷ others) w e = absurd (none-some w e)
-
-act_fits : (words : List (List ℕ)) (w : Written) → act_of words ≡ Some w → FitsWritten w
-unfolding act_of
-act_fits [] w e = absurd (none-some w e)
-act_fits (word ∷ words) w e = go (bytes_eq word (codes "submit")) (bytes_eq word (codes "deliver")) e
+integer_fits : (word : List ℕ) (z : ℤ) → integer_of word ≡ Some z → FitsSigned w64 z
+unfolding integer_of
+integer_fits [] z e = absurd (none-some z e)
+integer_fits (b ∷ bs) z e = go (b == minus) e
   where
-    go : (p q : Bool) → cond p (submission_of words) (cond q (delivery_of words) None) ≡ Some w → FitsWritten w
-    go true q is = submission_fits words w is
-    go false true is = delivery_fits words w is
-    go false false is = absurd (none-some w is)
+    go : (t : Bool) → cond t (option_map (λ n. neg_ℤ (pos n)) (number_up_to 9223372036854775808 bs)) (option_map pos (number_up_to 9223372036854775807 (b ∷ bs))) ≡ Some z → FitsSigned w64 z
+    go true e = mapped (λ n. neg_ℤ (pos n)) (number_up_to 9223372036854775808 bs) z e (λ n read is. let fits = number_fits 9223372036854775808 bs n read in subst (FitsSigned w64) is (negated_fits n (omega (arith, fits))))
+    go false e = mapped pos (number_up_to 9223372036854775807 (b ∷ bs)) z e (λ n read is. let fits = number_fits 9223372036854775807 (b ∷ bs) n read in subst (FitsSigned w64) is (plain_fits n (omega (arith, fits))))
 
--- ---- calls
+-- ---- acts, whichever nodes there are
 
-call_fits : (program : Workload) (w : Written) (a : Act) → FitsWritten w → call_of program w ≡ Some a → FitsProgram program a
-unfolding FitsWritten
-call_fits program (Submit coord name args) a fits e =
-    option_and_then_some (λ proc. cond (length args == arguments_of program proc) (Some (act.Submit coord proc args)) None) (procedure_named program name) a e
-    (λ proc found is.
-    let c = chosen (length args == arguments_of program proc) (Some (act.Submit coord proc args)) a is in
-    let place = position-Some (λ procedure. bytes_eq procedure.name name) program.procedures proc no_procedure found in
-    let count = eqb-true (length args) (arguments_of program proc) c.0 in
-    subst (FitsProgram program) (same_Some (act.Submit coord proc args) a c.1) (fits, place.0, count))
-call_fits program (Deliver message) a fits e = subst (FitsProgram program) (same_Some (act.Deliver message) a e) fits
+-- all but the nodes
+abbrev FitsAct : Act → Type 0
+FitsAct (Submit coord name args) = IsWrittenCall name args
+FitsAct (Deliver message) = (0 < message) × (message < 2 ^ 32)
+FitsAct (Any place) = place < 2 ^ 32
+FitsAct (Tick node) = Unit {0}
 
-asked_fits : (program : Workload) (line : ℕ × List ℕ) (l : Line) → asked_at program line ≡ Some l → FitsProgram program l.act
-asked_fits program line l e =
-    mapped (λ a. record { number = line.0; act = a }) (act_of (words_of line.1) >>= call_of program) l e
-    (λ a asked is.
-    option_and_then_some (call_of program) (act_of (words_of line.1)) a asked
-    (λ w written called. subst (λ (m : Line). FitsProgram program m.act) is (call_fits program w a (act_fits (words_of line.1) w written) called)))
+submission_fits : (words : List (List ℕ)) (a : Act) → submission_of words ≡ Some a → FitsAct a
+submission_fits [] a e = absurd (none-some a e)
+submission_fits (coord ∷ []) a e = absurd (none-some a e)
+submission_fits (coord ∷ name ∷ args) a e =
+    let named = chosen (is_name name) (node_number coord >>= λ c. each integer_of args >>= λ numbers. Some (Submit c name numbers)) a e in
+    option_and_then_some (λ c. each integer_of args >>= λ numbers. Some (Submit c name numbers)) (node_number coord) a named.1
+    (λ c read others.
+    option_and_then_some (λ numbers. Some (Submit c name numbers)) (each integer_of args) a others
+    (λ numbers all is. subst FitsAct (same_Some (Submit c name numbers) a is) (named.0, each_keeps integer_of (FitsSigned w64) integer_fits args numbers all)))
 
--- ---- lists
+delivery_fits : (words : List (List ℕ)) (a : Act) → delivery_of words ≡ Some a → FitsAct a
+delivery_fits [] a e = absurd (none-some a e)
+delivery_fits (message ∷ []) a e = mapped Deliver (message_of message) a e (λ m read is. subst FitsAct is (message_fits message m read))
+delivery_fits (message ∷ other ∷ others) a e = absurd (none-some a e)
 
-each_keeps : {A B : Type 0} (f : A → Option B) (P : B → Type 0) → ((x : A) (y : B) → f x ≡ Some y → P y) → (xs : List A) (ys : List B) → each f xs ≡ Some ys → AllByRecursion P ys
-each_keeps f P keeps [] ys e = subst (AllByRecursion P) (same_Some [] ys e) tt
-each_keeps f P keeps (x ∷ xs) ys e =
-    option_and_then_some (λ y. each f xs >>= λ zs. Some (y ∷ zs)) (f x) ys e
-    (λ y given others.
-    option_and_then_some (λ zs. Some (y ∷ zs)) (each f xs) ys others
-    (λ zs rest is. subst (AllByRecursion P) (same_Some (y ∷ zs) ys is) (keeps x y given, each_keeps f P keeps xs zs rest)))
+choice_fits : (words : List (List ℕ)) (a : Act) → choice_of words ≡ Some a → FitsAct a
+choice_fits [] a e = absurd (none-some a e)
+choice_fits (place ∷ []) a e = mapped Any (choice_number place) a e (λ n read is. let fits = number_fits 4294967295 place n read in subst FitsAct is (omega (arith, fits)))
+choice_fits (place ∷ other ∷ others) a e = absurd (none-some a e)
 
-pub thin_lines_fit : (program : Workload) (text : List ℕ) (lines : List Line) → IsThinSchedule program text lines → AllByRecursion (λ line. FitsProgram program line.act) lines
-thin_lines_fit program text lines s =
-    let acts : (each act_at (numbered 1 (lines_of text)) >>= each (line_of program)) ≡ Some lines = ap (λ written. written >>= each (line_of program)) s.schedule.written ∙ s.calls in
-    each_keeps (asked_at program) (λ line. FitsProgram program line.act) (asked_fits program) (numbered 1 (lines_of text)) lines (asked_acts program (numbered 1 (lines_of text)) ∙ acts)
+tick_fits : (words : List (List ℕ)) (a : Act) → tick_of words ≡ Some a → FitsAct a
+tick_fits [] a e = absurd (none-some a e)
+tick_fits (node ∷ []) a e = mapped Tick (node_of node) a e (λ n read is. subst FitsAct is tt)
+tick_fits (node ∷ other ∷ others) a e = absurd (none-some a e)
+
+act_fits : (words : List (List ℕ)) (a : Act) → act_of words ≡ Some a → FitsAct a
+unfolding act_of
+act_fits [] a e = absurd (none-some a e)
+act_fits (word ∷ words) a e = go (bytes_eq word (codes "submit")) (bytes_eq word (codes "deliver")) (bytes_eq word (codes "any")) (bytes_eq word (codes "tick")) e
+  where
+    go : (p q r s : Bool) → cond p (submission_of words) (cond q (delivery_of words) (cond r (choice_of words) (cond s (tick_of words) None))) ≡ Some a → FitsAct a
+    go true q r s is = submission_fits words a is
+    go false true r s is = delivery_fits words a is
+    go false false true s is = choice_fits words a is
+    go false false false true is = tick_fits words a is
+    go false false false false is = absurd (none-some a is)
+
+-- ---- nodes
+
+node_there : (shards : ℕ) (node : Node) → is_there shards node ≡ true → IsNodeFor shards node
+node_there shards (Server shard) h = ltb-true shard.0 shards h
+node_there shards (Coord number) h = ltb-true number 16 h
+
+act_there : (shards : ℕ) (a : Act) → FitsAct a → has_node shards a ≡ true → IsActFor shards a
+act_there shards (Submit coord name args) fits h = (node_there shards (Coord coord) h, fits)
+act_there shards (Deliver message) fits h = fits
+act_there shards (Any place) fits h = fits
+act_there shards (Tick node) fits h = node_there shards node h
+
+-- ---- lines and requests
+
+line_fits : (shards : ℕ) (line : ℕ × List ℕ) (l : Line) → item_of (line_at shards line.0 (words_of line.1)) ≡ Some l → IsActFor shards l.act
+line_fits shards line l e = go (act_of (words_of line.1)) refl e
+  where
+    judged : (b : Bool) (a : Act) → has_node shards a ≡ b → FitsAct a → item_of (numbered_line line.0 (cond b (Ok a) (Err what.Node))) ≡ Some l → IsActFor shards l.act
+    judged true a h fits e = let same : record { number = line.0; act = a } ≡ l = same_Some _ l e in subst (λ (m : Line). IsActFor shards m.act) same (act_there shards a fits h)
+    judged false a h fits e = absurd (none-some l e)
+
+    go : (o : Option Act) → act_of (words_of line.1) ≡ o → item_of (numbered_line line.0 (or_node shards (or_word o))) ≡ Some l → IsActFor shards l.act
+    go None h e = absurd (none-some l e)
+    go (Some a) h e = judged (has_node shards a) a refl (act_fits (words_of line.1) a h) e
+
+request_fits : (number : ℕ) (words : List (List ℕ)) (r : Request) → request_of number words ≡ Some r → IsWrittenCall r.name r.args
+request_fits number [] r e = absurd (none-some r e)
+request_fits number (name ∷ args) r e =
+    let named = chosen (is_name name) (option_map (λ numbers. record { line = number; name = name; args = numbers }) (each integer_of args)) r e in
+    mapped (λ numbers. record { line = number; name = name; args = numbers }) (each integer_of args) r named.1
+    (λ numbers all is. subst (λ (q : Request). IsWrittenCall q.name q.args) is (named.0, each_keeps integer_of (FitsSigned w64) integer_fits args numbers all))
+
+asked_fits : (line : ℕ × List ℕ) (r : Request) → item_of (request_at line.0 (words_of line.1)) ≡ Some r → IsWrittenCall r.name r.args
+asked_fits line r e = go (request_of line.0 (words_of line.1)) refl e
+  where
+    go : (o : Option Request) → request_of line.0 (words_of line.1) ≡ o → item_of (or_word o) ≡ Some r → IsWrittenCall r.name r.args
+    go None h e = absurd (none-some r e)
+    go (Some q) h e = request_fits line.0 (words_of line.1) r (h ∙ e)
+
+pub schedule_fits : (shards : ℕ) (text : List ℕ) (lines : List Line) → IsSchedule shards text lines → AllByRecursion (λ line. IsActFor shards line.act) lines
+schedule_fits shards text lines is =
+    each_keeps (λ line. item_of (line_at shards line.0 (words_of line.1))) (λ line. IsActFor shards line.act) (line_fits shards) (numbered 1 (lines_of text)) lines is.written
+
+pub requests_fit : (text : List ℕ) (requests : List Request) → AreRequests text requests → AllByRecursion (λ request. IsWrittenCall request.name request.args) requests
+requests_fit text requests is =
+    each_keeps (λ line. item_of (request_at line.0 (words_of line.1))) (λ request. IsWrittenCall request.name request.args) asked_fits (numbered 1 (lines_of text)) requests is.written

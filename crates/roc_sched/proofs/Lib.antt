@@ -1,7 +1,7 @@
 pub mod Cuts
 pub mod Digits
 pub mod Loops
-pub mod ReadLines
-pub mod ThinTexts
+pub mod Items
+pub mod Texts
 pub mod Fits
 pub mod NameLemmas

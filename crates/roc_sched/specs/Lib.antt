@@ -4,7 +4,7 @@ pub mod Words
 pub mod Numbers
 pub mod Acts
 pub mod Schedule
-pub mod Thin
+pub mod Fits
 pub mod Answer
-pub mod Reading
 pub mod FaultText
+pub mod Inner

@@ -1,4 +1,4 @@
--- Words that are numbers and names: docs/FORMATS.md, "Schedule".
+-- Words that are numbers and names: docs/FORMATS.md, "Schedule" and "Requests".
 use Rattle.std.specs.Prelude.{ℕ, ℤ, pos, neg_ℤ, nat_lt, nat_le, Bool, false, not, ◌&&◌, ◌||◌, ◌==◌, if◌then◌else◌, List, [], ◌∷◌, length, Option, Some, None}
 use Rattle.std.specs.List.{list_all}
 use Rattle.std.specs.Option.{option_map}
@@ -24,9 +24,9 @@ integer_of (b ∷ bs) =
     if b == minus then option_map (λ n. neg_ℤ (pos n)) (number_up_to 9223372036854775808 bs)
     else option_map pos (number_up_to 9223372036854775807 (b ∷ bs))
 
--- 0 to 15
-abbrev pub coordinator_of : (word : List ℕ) → Option ℕ
-coordinator_of word = number_up_to 15 word
+-- 0 to 9223372036854775807
+abbrev pub node_number : (word : List ℕ) → Option ℕ
+node_number word = number_up_to 9223372036854775807 word
 
 -- a number but 0
 abbrev pub positive : ℕ → Option ℕ
@@ -35,6 +35,10 @@ positive n = if nat_lt 0 n then Some n else None
 -- 1 to 4294967295
 unfoldable pub message_of : (word : List ℕ) → Option ℕ
 message_of word = number_up_to 4294967295 word >>= positive
+
+-- 0 to 4294967295
+abbrev pub choice_number : (word : List ℕ) → Option ℕ
+choice_number word = number_up_to 4294967295 word
 
 -- a name of the language of workloads: a letter, then letters, digits and _, 1 to 32 bytes, and no word of the grammar
 unfoldable pub is_name : (word : List ℕ) → Bool

@@ -1,7 +1,9 @@
-//! Why a text is no schedule.
+//! Why a text is no schedule and no request file.
 
 ghost use Rattle.std.specs.Prelude.{◌≡◌, Some};
 ghost use Rattle.roc_sched.specs.FaultText.{fault_text, what_text};
+ghost use Rattle.roc_sched.specs.Inner.Reading.{with_line_number};
+ghost use Rattle.roc_sched.specs.declared.fault.LineFault.TheVariants as line;
 ghost use Rattle.roc_sched.specs.declared.fault.TextFault.TheVariants.{NoMemory};
 
 use roc_base::NoMemory;
@@ -9,22 +11,30 @@ use std::alloc::{AllocError, AllocFailed};
 use std::error::Error;
 use std::fmt;
 
-/// What is wrong at a line of a schedule.
+/// What is wrong at a line. Of several faults of one line the first of `Limit`, `Word` and `Node`
+/// is named.
 #[derive(Clone, Copy, Debug, PartialEq, Eq)]
 pub enum What {
-    /// The text is not within what is taken.
+    /// A line, or the text, is past what is taken.
     Limit,
-    /// A delivery of a message that was not sent.
+    /// The line has no form of those that there are.
+    Word,
+    /// It names a coordinator or a shard that is not there.
+    Node,
+    /// A delivery of a message that was not sent. No reader of a text tells it: it is for the layer
+    /// that delivers.
     Message,
 }
 
 impl What {
-    /// The word that is printed for it: `limit` or `message`.
+    /// The word that is printed for it.
     pub fn as_str(self) -> &'static str
         ensures { result.now ≡ what_text self }
     {
         match self {
             What::Limit => "limit",
+            What::Word => "word",
+            What::Node => "node",
             What::Message => "message",
         }
     }
@@ -38,24 +48,47 @@ impl fmt::Display for What {
     }
 }
 
+/// Why words are no line.
+#[derive(Debug, Drop)]
+pub(crate) enum LineFault {
+    Is(What),
+    NoMemory,
+}
+
+impl LineFault {
+    /// The fault at its line.
+    pub(crate) fn at(self, line: u32) -> TextFault
+        ensures { result ≡ with_line_number line self }
+    {
+        match self {
+            LineFault::Is(what) => TextFault::At { line, what },
+            LineFault::NoMemory => TextFault::NoMemory,
+        }
+    }
+}
+
+impl From<NoMemory> for LineFault {
+    ghost from_gives = { λ _ e. e ≡ line.NoMemory };
+
+    fn from(_e: NoMemory) -> LineFault {
+        LineFault::NoMemory
+    }
+}
+
+impl From<AllocError> for LineFault {
+    ghost from_gives = { λ _ e. e ≡ line.NoMemory };
+
+    fn from(_e: AllocError) -> LineFault {
+        LineFault::NoMemory
+    }
+}
+
 /// Why there are no lines.
 #[derive(Debug, Drop)]
 pub enum TextFault {
     /// The first fault of a text, with its line, counted from 1.
     At { line: u32, what: What },
     NoMemory,
-}
-
-impl TextFault {
-    /// What every text is answered that is no thin schedule, until all schedules are taken.
-    pub(crate) fn not_thin() -> Self
-        ensures { result ≡ TextFault.At 1 What.Limit }
-    {
-        TextFault::At {
-            line: 1,
-            what: What::Limit,
-        }
-    }
 }
 
 impl fmt::Display for TextFault {

@@ -1,26 +1,43 @@
-//! Laws of schedules, over all texts. Each is the contract of a function that does nothing.
+//! Laws of schedules and request files, over all texts. Each is the contract of a function that does nothing.
 
-ghost use Rattle.std.specs.Prelude.{◌≡◌, ℕ, List, IsTrue, IsFalse};
+ghost use Rattle.std.specs.Prelude.{◌≡◌, ℕ, List, IsTrue, IsFalse, ◌⊎◌};
 ghost use Rattle.std.specs.List.{AllByRecursion};
 ghost use Rattle.roc_lang.specs.Tokens.{IsWord};
 ghost use Rattle.roc_lang.specs.Grammar.{is_reserved};
-ghost use Rattle.roc_program.specs.Program.{Workload};
+ghost use Rattle.roc_sched.specs.declared.fault.What.{What};
 ghost use Rattle.roc_sched.specs.declared.line.Line.{Line};
-ghost use Rattle.roc_sched.specs.Thin.{IsThinSchedule, FitsProgram};
+ghost use Rattle.roc_sched.specs.declared.line.Request.{Request};
+ghost use Rattle.roc_sched.specs.Schedule.{IsSchedule, IsScheduleFault, AreRequests, IsRequestFault};
+ghost use Rattle.roc_sched.specs.Fits.{IsWrittenCall, IsActFor};
 ghost use Rattle.roc_sched.specs.Numbers.{is_name};
 
-/// Bytes are a thin schedule of at most one list of lines.
+/// Bytes are a schedule of at most one list of lines, and a request file of at most one list of requests.
 pub fn lines_are_unique()
-    ensures { (program : Workload) (text : List ℕ) (some others : List Line) → IsThinSchedule program text some → IsThinSchedule program text others → some ≡ others }
+    ensures schedules { (shards : ℕ) (text : List ℕ) (some others : List Line) → IsSchedule shards text some → IsSchedule shards text others → some ≡ others }
+    ensures requests { (text : List ℕ) (some others : List Request) → AreRequests text some → AreRequests text others → some ≡ others }
 {}
 
-/// Each submission of a thin schedule is at one of sixteen coordinators and of a procedure of the program, with its count of
-/// arguments, and each message has a number of 32 bits that is not 0.
+/// Bytes have at most one first fault.
+pub fn first_faults_are_unique()
+    ensures schedules { (shards : ℕ) (text : List ℕ) (line other : ℕ) (what cause : What) → IsScheduleFault shards text line what → IsScheduleFault shards text other cause → (line ≡ other) × (what ≡ cause) }
+    ensures requests { (text : List ℕ) (line other : ℕ) (what cause : What) → IsRequestFault text line what → IsRequestFault text other cause → (line ≡ other) × (what ≡ cause) }
+{}
+
+/// Bytes are a schedule or have a first fault, and not both; and so with request files.
+pub fn texts_are_right_or_wrong()
+    ensures schedules { (shards : ℕ) (text : List ℕ) → ((lines : List Line) × IsSchedule shards text lines) ⊎ ((line : ℕ) × (what : What) × IsScheduleFault shards text line what) }
+    ensures one_of_both { (shards : ℕ) (text : List ℕ) (lines : List Line) (line : ℕ) (what : What) → IsSchedule shards text lines → IsScheduleFault shards text line what → ⊥ }
+    ensures requests { (text : List ℕ) → ((requests : List Request) × AreRequests text requests) ⊎ ((line : ℕ) × (what : What) × IsRequestFault text line what) }
+    ensures one_of_each { (text : List ℕ) (requests : List Request) (line : ℕ) (what : What) → AreRequests text requests → IsRequestFault text line what → ⊥ }
+{}
+
+/// Nodes of a schedule are there, its numbers are within their bounds, and names are names.
 pub fn lines_fit()
-    ensures { (program : Workload) (text : List ℕ) (lines : List Line) → IsThinSchedule program text lines → AllByRecursion (λ line. FitsProgram program line.act) lines }
+    ensures schedules { (shards : ℕ) (text : List ℕ) (lines : List Line) → IsSchedule shards text lines → AllByRecursion (λ line. IsActFor shards line.act) lines }
+    ensures requests { (text : List ℕ) (requests : List Request) → AreRequests text requests → AllByRecursion (λ request. IsWrittenCall request.name request.args) requests }
 {}
 
-/// A name in a schedule is a name of the language of workloads: a word that is none of the grammar's.
+/// A name is a name of the language of workloads: a word that is none of the grammar's.
 pub fn names_are_those_of_workloads()
     ensures word { (word : List ℕ) → IsTrue (is_name word) → IsWord word × IsFalse (is_reserved word) }
     ensures name { (word : List ℕ) → IsWord word → IsFalse (is_reserved word) → IsTrue (is_name word) }

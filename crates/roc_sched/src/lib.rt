@@ -1,20 +1,21 @@
-//! Schedules: the lines of a text, and `parse_thin`, which reads them.
+//! Schedules and request files: the lines of a text, and [`parse_schedule`] and [`parse_requests`], which read them.
 //!
-//! The contract of `parse_thin` cites `IsThinSchedule` of `specs/Thin.antt`: what is taken is a thin schedule of
-//! the lines that are given, each thin schedule is taken unless memory runs out, and a fault comes only where the bytes
-//! are none. What a schedule is stands in `specs/Lines.antt`, `Words.antt`, `Numbers.antt`, `Acts.antt` and
-//! `Schedule.antt`, and in words in `docs/FORMATS.md`. The layers above may rely on these definitions, and on
-//! what `laws` says of the lines of a thin schedule.
+//! Their contracts cite `IsSchedule`, `AreRequests` and the first fault of other bytes, of `specs/Schedule.antt`: bytes
+//! are taken exactly where they are such a text, unless memory runs out, and else their first fault is named. What a line asks for
+//! stands in `specs/Acts.antt`, on `specs/Lines.antt`, `Words.antt` and `Numbers.antt`, and in words in `docs/FORMATS.md`.
+//! The layers above may rely on these definitions, and on what `laws` says of them. `specs/Inner/` is of this crate alone.
 #![tactic(auto)]
 
 mod act;
 mod fault;
 pub mod laws;
 mod line;
+mod name;
 mod number;
 mod parts;
-mod thin;
+mod schedule;
 
 pub use fault::{TextFault, What};
-pub use line::{Act, Line};
-pub use thin::parse_thin;
+pub use line::{Act, Line, Request};
+pub use name::ProcedureName;
+pub use schedule::{parse_requests, parse_schedule};

@@ -1,19 +1,37 @@
-//! The lines of a schedule.
+//! The lines of a schedule, and those of a request file.
 
-use roc_base::Nums;
+use crate::ProcedureName;
+use roc_base::{Node, Nums};
 
-/// What a line asks for.
+/// What a line of a schedule asks for.
 #[derive(Debug, Drop)]
 pub enum Act {
-    /// The procedure of this number is submitted at a coordinator.
-    Submit { coord: u16, proc: u16, args: Nums },
+    /// The procedure of this name is submitted at a coordinator.
+    Submit {
+        coord: u16,
+        name: ProcedureName,
+        args: Nums,
+    },
     /// The message of this number comes to its receiver.
     Deliver(u64),
+    /// A message that was never delivered comes to its receiver: of these, by number rising, the
+    /// one at this place, which is counted round.
+    Any(u32),
+    /// A node's tick.
+    Tick(Node),
 }
 
-/// A line that is not skipped. Its number counts from 1, skipped lines too.
+/// A line of a schedule that is not skipped. Its number counts from 1, skipped lines too.
 #[derive(Debug, Drop)]
 pub struct Line {
     pub number: u32,
     pub act: Act,
+}
+
+/// A line of a request file that is not skipped: the call of a procedure, with the line's number.
+#[derive(Debug, Drop)]
+pub struct Request {
+    pub line: u32,
+    pub name: ProcedureName,
+    pub args: Nums,
 }

@@ -7,11 +7,8 @@ ghost use Rattle.std.specs.Str.{bytes_eq};
 ghost use Rattle.std.specs.Char.{is_ascii_digit};
 ghost use Rattle.roc_lang.specs.Grammar.{is_reserved};
 ghost use Rattle.roc_lang.specs.Tokens.{is_word_byte};
-ghost use Rattle.roc_sched.specs.Numbers.{number_up_to, integer_of, coordinator_of, message_of, is_name};
-ghost use Rattle.roc_sched.specs.Reading.{begins_number, digits_onto};
-
-/// The greatest number of a coordinator.
-const LAST_COORDINATOR: u64 = 15;
+ghost use Rattle.roc_sched.specs.Numbers.{number_up_to, integer_of, node_number, message_of, choice_number, is_name};
+ghost use Rattle.roc_sched.specs.Inner.Reading.{begins_number, digits_onto};
 
 /// The greatest number of a message.
 const LAST_MESSAGE: u64 = 4_294_967_295;
@@ -100,12 +97,19 @@ pub(crate) fn integer_of(word: &[u8]) -> Option<i64>
     }
 }
 
-/// The number of a coordinator.
-pub(crate) fn coordinator_of(word: &[u8]) -> Option<u16>
-    ensures { result ≡ coordinator_of word.now }
+/// The number of a node, whether it is there or not.
+pub(crate) fn node_number(word: &[u8]) -> Option<u64>
+    ensures { result ≡ node_number word.now }
 {
-    match number_up_to(word, LAST_COORDINATOR) {
-        Some(n) => Some(n as u16),
+    number_up_to(word, (1 << 63) - 1)
+}
+
+/// A place among messages.
+pub(crate) fn choice_number(word: &[u8]) -> Option<u32>
+    ensures { result ≡ choice_number word.now }
+{
+    match number_up_to(word, u64::from(u32::MAX)) {
+        Some(n) => Some(n as u32),
         None => None,
     }
 }

@@ -1,13 +1,16 @@
 //! The lines of a text, and the words of a line.
 
-ghost use Rattle.std.specs.Prelude.{◌≡◌, ◌<◌, ◌∷◌, ◌==◌, length, position, filter, not, IfSome, IfOk, Some};
+ghost use Rattle.std.specs.Prelude.{◌≡◌, ◌<◌, ◌≤◌, ◌+◌, ◌∷◌, ◌==◌, length, position, filter, take, not, IfSome, IfOk};
 ghost use Rattle.std.specs.List.{list_all};
 ghost use Rattle.roc_sched.specs.Lines.{is_empty, parts_of, lines_of, without_return};
 ghost use Rattle.roc_sched.specs.Words.{space, words_of, is_comment, is_skipped};
-ghost use Rattle.roc_sched.specs.Reading.{Gives, views, parts_behind, IsShorter, lines_from};
+ghost use Rattle.roc_sched.specs.Schedule.{most_lines};
+ghost use Rattle.roc_sched.specs.Inner.Reading.{views, parts_behind, IsShorter, lines_from};
 
-use crate::fault::TextFault;
 use std::alloc::{AllocError, Global};
+
+/// How many lines a text may have, skipped ones too.
+pub(crate) const LINE_LIMIT: u32 = 65_536;
 
 fn first_at(text: &[u8], separator: u8) -> Option<usize>
     ensures { result ≡ position (λ b. b == separator) text.now }
@@ -37,7 +40,7 @@ fn without_return(line: &[u8]) -> &[u8]
 }
 
 /// The first line of a text, and the bytes behind it.
-pub(crate) fn first_line(text: &[u8]) -> Option<(&[u8], &[u8])>
+fn first_line(text: &[u8]) -> Option<(&[u8], &[u8])>
     ensures lines { lines_of text.now ≡ lines_from result }
     ensures shorter { IfSome result (λ x. length x.1.now < length text.now) }
 {
@@ -52,6 +55,25 @@ pub(crate) fn first_line(text: &[u8]) -> Option<(&[u8], &[u8])>
             }
         }
     }
+}
+
+/// The lines of a text: all of them, or the first ones where there is one too many.
+pub(crate) fn lines_of(alloc: Global, text: &[u8]) -> Result<Vec<&[u8]>, AllocError>
+    ensures first { IfOk result (λ lines. views lines.items ≡ take (most_lines + 1) (lines_of text.now)) }
+    ensures few { IfOk result (λ lines. length lines.items ≤ most_lines + 1) }
+{
+    let mut lines = Vec::new(alloc);
+    let mut rest = text;
+    while lines.len() <= LINE_LIMIT as usize {
+        match first_line(rest) {
+            Some((line, behind)) => {
+                lines.push(line)?;
+                rest = behind;
+            }
+            None => break,
+        }
+    }
+    Ok(lines)
 }
 
 fn is_comment(line: &[u8]) -> bool
@@ -86,8 +108,8 @@ fn parts_between_spaces(alloc: Global, line: &[u8]) -> Result<Vec<&[u8]>, AllocE
 
 /// The words of a line.
 #[tactic(auto, unfolding(crate::specs::Words::words_of))]
-pub(crate) fn words_of(alloc: Global, line: &[u8]) -> Result<Vec<&[u8]>, TextFault>
-    ensures { Gives (λ v. views v.items) result (Some (words_of line.now)) }
+pub(crate) fn words_of(alloc: Global, line: &[u8]) -> Result<Vec<&[u8]>, AllocError>
+    ensures { IfOk result (λ v. views v.items ≡ words_of line.now) }
 {
-    Ok(parts_between_spaces(alloc, line)?)
+    parts_between_spaces(alloc, line)
 }

@@ -13,8 +13,9 @@ use Rattle.roc_base.proofs.Ids.{is_txn-eq}
 use Rattle.roc_base.specs.Inner.Equalities.{is_txn-true}
 use Rattle.roc_base.specs.Edge.{Dependency}
 use Rattle.roc_base.specs.Edges.{united}
+use Rattle.roc_depgraph.specs.declared.known.KnownList.{KnownList}
 use Rattle.roc_msg.specs.declared.msg.Msg.{Msg}
-use Rattle.roc_msg.specs.declared.msg.Msg.TheVariants.{Start, StartOk, Commit, CommitOk}
+use Rattle.roc_msg.specs.declared.msg.Msg.TheVariants.{Start, StartOk, Commit, CommitOk, Fetch, Known, Stop}
 use Rattle.roc_msg.specs.declared.outbox.Outgoing.{Outgoing}
 use Rattle.roc_msg.specs.declared.reason.Reason.{Reason}
 use Rattle.roc_msg.specs.declared.reason.Reason.TheVariants.{Stale, Unfit}
@@ -47,14 +48,14 @@ pub record Coordinates (h : List Entry) (started : List StartedGroup) (number : 
   -- a transaction that it holds was there, or was asked to commit
   pub kept : (y : Transaction) → Has y r.state.pending → Has y c.pending ⊎ (y.asked ≡ only ∷ [])
   -- and who is told to commit was asked to
-  pub commits : (o : Outgoing) (t : TxnId) (edges : List Dependency) → Has o r.sends → o.msg ≡ Commit t edges → (y : Transaction) → Has y r.state.pending → y.id ≡ t → y.asked ≡ only ∷ []
+  pub commits : (o : Outgoing) (t : TxnId) (edges : List Dependency) (facts : List KnownList) → Has o r.sends → o.msg ≡ Commit t edges facts → (y : Transaction) → Has y r.state.pending → y.id ≡ t → y.asked ≡ only ∷ []
   -- and is of this coordinator
-  pub own : (o : Outgoing) (t : TxnId) (edges : List Dependency) → Has o r.sends → o.msg ≡ Commit t edges → t.coord ≡ number
+  pub own : (o : Outgoing) (t : TxnId) (edges : List Dependency) (facts : List KnownList) → Has o r.sends → o.msg ≡ Commit t edges facts → t.coord ≡ number
   pub answers : (e : Entry) → Has e (answer_entries r.answer) → (t : TxnId) × (reply : List ℤ) × (e ≡ entry.Answered t reply) × HasRun started t reply
 
 module _ (plan : Plan) (thin : IsWithin plan) (h : List Entry) (coords : List CoordState) (submissions : AreSubmissions plan h coords) (started : List StartedGroup) (are : AreStarted h started) (number : ℕ) (c : CoordState) (is : IsCoord h started number c) where
   pub ignored_coordinates : (reason : Reason) → Coordinates h started number c (ignored c reason)
-  ignored_coordinates reason = record { is_coord = is; next = refl; sends = λ o i. elim i [ ]; kept = λ y i. inl i; commits = λ o t es i. elim i [ ]; own = λ o t es i. elim i [ ]; answers = λ e i. elim i [ ] }
+  ignored_coordinates reason = record { is_coord = is; next = refl; sends = λ o i. elim i [ ]; kept = λ y i. inl i; commits = λ o t es fs i. elim i [ ]; own = λ o t es fs i. elim i [ ]; answers = λ e i. elim i [ ] }
 
   -- one of the transactions is changed
   changed : (x : Transaction) → IsPending h started c x → IsCoord h started number (with_transaction c x)
@@ -111,12 +112,12 @@ module _ (plan : Plan) (thin : IsWithin plan) (h : List Entry) (coords : List Co
         ∙ ap (λ (b : Bool). cond b (record told { asked = shards_of told }) told) whole
         ∙ ap (λ (shards : List Shard). record told { asked = shards }) (shards_of-one told pending.starts)
 
-    one_commit : commits_of told ≡ (record { to = Server only; msg = Commit x.id edges }) ∷ []
+    one_commit : commits_of told ≡ (record { to = Server only; msg = Commit x.id edges [] }) ∷ []
     one_commit =
         ap (λ (shards : List Shard). map (commit_to told.id (all_edges told)) shards) (shards_of-one told pending.starts)
-        ∙ ap (λ (es : List Dependency). (record { to = Server only; msg = Commit x.id es }) ∷ []) union
+        ∙ ap (λ (es : List Dependency). (record { to = Server only; msg = Commit x.id es [] }) ∷ []) union
 
-    all_sends : starts_of plan told ++ commits_for plan (with_starts plan told) ≡ (record { to = Server only; msg = Commit x.id edges }) ∷ []
+    all_sends : starts_of plan told ++ commits_for plan (with_starts plan told) ≡ (record { to = Server only; msg = Commit x.id edges [] }) ∷ []
     all_sends =
         ap (λ (os : List Outgoing). os ++ commits_for plan (with_starts plan told)) (starts_of-none plan thin told there pending.starts)
         ∙ ap (commits_for plan) no_starts
@@ -138,21 +139,21 @@ module _ (plan : Plan) (thin : IsWithin plan) (h : List Entry) (coords : List Co
       next = refl;
       sends = λ o i.
           let j = subst (λ (os : List Outgoing). Has o os) all_sends i in
-          subst (λ (y : Outgoing). IsMeant h started y.msg y.to) (sym (has_one o (record { to = Server only; msg = Commit x.id edges }) j))
+          subst (λ (y : Outgoing). IsMeant h started y.msg y.to) (sym (has_one o (record { to = Server only; msg = Commit x.id edges [] }) j))
           (refl, subst (λ (t : TxnId). HasStarted started t edges) (sym of) message);
       kept = λ y i. elim (among y i) [ inl j ↦ inr (ap (λ (z : Transaction). z.asked) j) | inr j ↦ inl j.0 ];
-      commits = λ o t es i m y j of_y. elim (among y j) [
+      commits = λ o t es fs i m y j of_y. elim (among y j) [
         | inl n ↦ ap (λ (z : Transaction). z.asked) n
-        | inr n ↦ absurd (false≢true (sym n.1 ∙ is_txn-eq y.id x.id (of_y ∙ its_id o t es i m)))
+        | inr n ↦ absurd (false≢true (sym n.1 ∙ is_txn-eq y.id x.id (of_y ∙ its_id o t es fs i m)))
       ];
-      own = λ o t es i m. ap (λ (u : TxnId). u.coord) (its_id o t es i m) ∙ pending.coord ∙ is.is_number;
+      own = λ o t es fs i m. ap (λ (u : TxnId). u.coord) (its_id o t es fs i m) ∙ pending.coord ∙ is.is_number;
       answers = λ e i. elim i [ ];
     }
       where
-        its_id : (o : Outgoing) (t : TxnId) (es : List Dependency) → Has o (starts_of plan told ++ commits_for plan (with_starts plan told)) → o.msg ≡ Commit t es → t ≡ x.id
-        its_id o t es i m =
-            let k = has_one o (record { to = Server only; msg = Commit x.id edges }) (subst (λ (os : List Outgoing). Has o os) all_sends i) in
-            let told_to : o.msg ≡ Commit x.id edges = ap (λ (z : Outgoing). z.msg) k in
+        its_id : (o : Outgoing) (t : TxnId) (es : List Dependency) (fs : List KnownList) → Has o (starts_of plan told ++ commits_for plan (with_starts plan told)) → o.msg ≡ Commit t es fs → t ≡ x.id
+        its_id o t es fs i m =
+            let k = has_one o (record { to = Server only; msg = Commit x.id edges [] }) (subst (λ (os : List Outgoing). Has o os) all_sends i) in
+            let told_to : o.msg ≡ Commit x.id edges [] = ap (λ (z : Outgoing). z.msg) k in
             cc
 
         among : (y : Transaction) → Has y (with_transaction c (with_commits plan (with_starts plan told))).pending → (y ≡ record told { asked = only ∷ [] }) ⊎ (Has y c.pending × (is_txn y.id x.id ≡ false))
@@ -279,8 +280,8 @@ module _ (plan : Plan) (thin : IsWithin plan) (h : List Entry) (coords : List Co
       next = refl;
       sends = λ o i. elim i [ ];
       kept = λ y i. inl (left y i);
-      commits = λ o t es i. elim i [ ];
-      own = λ o t es i. elim i [ ];
+      commits = λ o t es fs i. elim i [ ];
+      own = λ o t es fs i. elim i [ ];
       answers = λ e i. (id, outs, has_one e (entry.Answered done.id (reply_of plan done)) i ∙ (λ j. entry.Answered (of j) (reply_is j)), message);
     })
 
@@ -306,10 +307,13 @@ module _ (plan : Plan) (thin : IsWithin plan) (h : List Entry) (coords : List Co
 
   pub message_coordinates : (m : Msg) (to : Node) → IsMeant h started m to → to ≡ Coord number → Coordinates h started number c (after_message plan c m)
   message_coordinates (Start id proc group args inputs) to t e = ignored_coordinates _
-  message_coordinates (Commit id edges) to t e = ignored_coordinates _
-  message_coordinates (StartOk id group shard bound outs edges) to (is_to, first, on, no_bound, no_outs, message) e =
+  message_coordinates (Commit id edges facts) to t e = ignored_coordinates _
+  message_coordinates (StartOk id group shard bound outs edges facts) to (is_to, first, on, no_bound, no_outs, message) e =
       subst (λ (s : Shard). Coordinates h started number c (after_startok plan c (find_transaction id c.pending) (record { group = group; bound = bound; outs = outs; edges = edges }) s)) (sym on)
       (subst (λ (ok : TakenStart). Coordinates h started number c (after_startok plan c (find_transaction id c.pending) ok only)) (λ i. record { group = (sym first) i; bound = (sym no_bound) i; outs = (sym no_outs) i; edges = edges })
       (after_startok_coordinates id edges message))
   message_coordinates (CommitOk id shard outs) to (is_to, on, message) e =
       subst (λ (s : Shard). Coordinates h started number c (after_commitok plan c (find_transaction id c.pending) (record { shard = s; outs = outs }))) (sym on) (after_commitok_coordinates id outs message)
+  message_coordinates (Fetch id asker) to t e = absurd t
+  message_coordinates (Known id edges) to t e = absurd t
+  message_coordinates Stop to t e = absurd t

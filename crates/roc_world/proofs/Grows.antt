@@ -10,7 +10,7 @@ use Rattle.roc_base.specs.TxnId.{is_txn}
 use Rattle.roc_base.specs.Inner.Equalities.{is_txn-same}
 use Rattle.roc_base.specs.Edge.{Dependency}
 use Rattle.roc_msg.specs.declared.msg.Msg.{Msg}
-use Rattle.roc_msg.specs.declared.msg.Msg.TheVariants.{Start, StartOk, Commit, CommitOk}
+use Rattle.roc_msg.specs.declared.msg.Msg.TheVariants.{Start, StartOk, Commit, CommitOk, Fetch, Known, Stop}
 use Rattle.roc_whole.specs.Serial.{Call}
 use Rattle.roc_server.specs.declared.started.StartedGroup.{StartedGroup}
 use Rattle.roc_coord.specs.declared.transaction.Transaction.{Transaction}
@@ -85,9 +85,12 @@ coord_later old new es fs number c e g i = record { is_number = i.is_number; eac
 
 pub tells_later : (old new : List Entry) (es fs : List StartedGroup) (m : Msg) (to : Node) → Extends old new → Grows es fs → IsMeant old es m to → IsMeant new fs m to
 tells_later old new es fs (Start id proc group args inputs) to e g (a, b, c, d) = (a, b, c, has_later old new _ e d)
-tells_later old new es fs (StartOk id group shard bound outs edges) to e g (a, b, c, d, i, j) = (a, b, c, d, i, started_later es fs id edges g j)
-tells_later old new es fs (Commit id edges) to e g (a, b) = (a, started_later es fs id edges g b)
+tells_later old new es fs (StartOk id group shard bound outs edges facts) to e g (a, b, c, d, i, j) = (a, b, c, d, i, started_later es fs id edges g j)
+tells_later old new es fs (Commit id edges facts) to e g (a, b) = (a, started_later es fs id edges g b)
 tells_later old new es fs (CommitOk id shard outs) to e g (a, b, c) = (a, b, run_later es fs id outs g c)
+tells_later old new es fs (Fetch id asker) to e g t = t
+tells_later old new es fs (Known id edges) to e g t = t
+tells_later old new es fs Stop to e g t = t
 
 pub group_later : (old new : List Entry) (e : StartedGroup) → Extends old new → IsGroupOf old e → IsGroupOf new e
 group_later old new e x i = record { submitted = has_later old new _ x i.submitted; group = i.group; inputs = i.inputs; edges = i.edges }

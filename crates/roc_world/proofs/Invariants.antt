@@ -13,7 +13,7 @@ use Rattle.roc_base.specs.Edges.{united}
 use Rattle.roc_depgraph.specs.declared.known.KnownList.{KnownList}
 use Rattle.roc_depgraph.specs.Deps.{IsDecided}
 use Rattle.roc_msg.specs.declared.msg.Msg.{Msg}
-use Rattle.roc_msg.specs.declared.msg.Msg.TheVariants.{Start, StartOk, Commit, CommitOk}
+use Rattle.roc_msg.specs.declared.msg.Msg.TheVariants.{Start, StartOk, Commit, CommitOk, Fetch, Known, Stop}
 use Rattle.roc_msg.specs.declared.msg.Sent.{Sent}
 use Rattle.roc_plan.specs.Groups.{Plan, procedure_of, outs_of}
 use Rattle.roc_whole.specs.Serial.{serial_store, start_store}
@@ -121,9 +121,13 @@ pub record IsCoord (h : List Entry) (started : List StartedGroup) (number : ℕ)
 -- what a message tells
 abbrev pub IsMeant : List Entry → List StartedGroup → Msg → Node → Type 0
 IsMeant h started (Start id proc group args inputs) to = (to ≡ Server only) × (group ≡ 0) × (inputs ≡ []) × Has (Submitted id proc args) h
-IsMeant h started (StartOk id group shard bound outs edges) to = (to ≡ Coord id.coord) × (group ≡ 0) × (shard ≡ only) × (bound ≡ []) × (outs ≡ []) × HasStarted started id edges
-IsMeant h started (Commit id edges) to = (to ≡ Server only) × HasStarted started id edges
+IsMeant h started (StartOk id group shard bound outs edges facts) to = (to ≡ Coord id.coord) × (group ≡ 0) × (shard ≡ only) × (bound ≡ []) × (outs ≡ []) × HasStarted started id edges
+IsMeant h started (Commit id edges facts) to = (to ≡ Server only) × HasStarted started id edges
 IsMeant h started (CommitOk id shard outs) to = (to ≡ Coord id.coord) × (shard ≡ only) × HasRun started id outs
+-- no other message is sent
+IsMeant h started (Fetch id asker) to = ⊥
+IsMeant h started (Known id edges) to = ⊥
+IsMeant h started Stop to = ⊥
 
 -- each pending transaction of this id was asked to commit
 abbrev pub IsAsked : List CoordState → TxnId → Type 0
@@ -131,7 +135,7 @@ IsAsked coords t = (number : ℕ) (c : CoordState) (x : Transaction) → slice_g
 
 -- who is told to commit, or did, was asked to by its coordinator
 pub record AreAsked (coords : List CoordState) (sent : List Sent) (known : List KnownList) : Type 0 where
-  pub by_commit : (m : Sent) (t : TxnId) (edges : List Dependency) → Has m sent → m.msg ≡ Commit t edges → IsAsked coords t
+  pub by_commit : (m : Sent) (t : TxnId) (edges : List Dependency) (facts : List KnownList) → Has m sent → m.msg ≡ Commit t edges facts → IsAsked coords t
   pub by_list : (k : KnownList) → Has k known → IsAsked coords k.of
 
 -- ---- histories

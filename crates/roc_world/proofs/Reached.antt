@@ -13,7 +13,7 @@ use Rattle.roc_base.specs.declared.node.Node.{Node}
 use Rattle.roc_base.specs.declared.node.Node.TheVariants.{Server, Coord}
 use Rattle.roc_base.specs.TxnId.{is_txn}
 use Rattle.roc_msg.specs.declared.msg.Msg.{Msg}
-use Rattle.roc_msg.specs.declared.msg.Msg.TheVariants.{Start, StartOk, Commit, CommitOk}
+use Rattle.roc_msg.specs.declared.msg.Msg.TheVariants.{Start, StartOk, Commit, CommitOk, Fetch, Known, Stop}
 use Rattle.roc_msg.specs.declared.msg.Sent.{Sent}
 use Rattle.roc_program.specs.Program.{Init}
 use Rattle.roc_plan.specs.Groups.{Plan, procedure_of, shard_of}
@@ -81,7 +81,7 @@ module _ (plan : Plan) (thin : IsWithin plan) where
     coords = λ number c e. (let is = first_coords 0 coords number c e in
         subst (IsCoord [] [] number) (sym is) (record { is_number = omega arith; each = λ x i. elim i [ ] }));
     messages = λ m i. elim i [ ];
-    asked = record { by_commit = λ m t edges i e. elim i [ ]; by_list = λ k i. elim i [ ] };
+    asked = record { by_commit = λ m t edges facts i e. elim i [ ]; by_list = λ k i. elim i [ ] };
     history = record { answered = λ t reply i. elim i [ ]; in_time = λ t u b l. elim b [ ] };
   }
 
@@ -124,9 +124,12 @@ module _ (plan : Plan) (thin : IsWithin plan) where
     where
       go : (msg : Msg) → IsMeant w.history is.server.started msg m.to → shard ≡ only
       go (Start id proc group args inputs) t = let e = t.0 in cc
-      go (Commit id edges) t = let e = t.0 in cc
-      go (StartOk id group s bound outs edges) t = absurd (let e = t.0 in cc)
+      go (Commit id edges facts) t = let e = t.0 in cc
+      go (StartOk id group s bound outs edges facts) t = absurd (let e = t.0 in cc)
       go (CommitOk id s outs) t = absurd (let e = t.0 in cc)
+      go (Fetch id asker) t = absurd t
+      go (Known id edges) t = absurd t
+      go Stop t = absurd t
 
   comes_sound : (w : World) → IsSound plan w → (k : ℕ) (m : Sent) → Has m w.sent → (o : Outcome) → Comes plan w k m.msg m.to o → IsSound plan o.world
   comes_sound w is k m has o c = go m.to refl c

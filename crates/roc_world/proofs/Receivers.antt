@@ -6,7 +6,7 @@ use Rattle.roc_base.specs.declared.id.TxnId.{TxnId}
 use Rattle.roc_base.specs.declared.node.Node.{Node}
 use Rattle.roc_base.specs.declared.node.Node.TheVariants.{Server, Coord}
 use Rattle.roc_msg.specs.declared.msg.Msg.{Msg}
-use Rattle.roc_msg.specs.declared.msg.Msg.TheVariants.{Start, StartOk, Commit, CommitOk}
+use Rattle.roc_msg.specs.declared.msg.Msg.TheVariants.{Start, StartOk, Commit, CommitOk, Fetch, Known, Stop}
 use Rattle.roc_plan.specs.Groups.{Plan}
 use Rattle.roc_plan.specs.Within.{IsWithin}
 use Rattle.roc_server.specs.declared.started.StartedGroup.{StartedGroup}
@@ -35,9 +35,12 @@ module _ (plan : Plan) (w : World) (is : IsSound plan w) where
 
   is_node : (msg : Msg) (to : Node) → IsMeant w.history is.server.started msg to → IsNodeOf w to
   is_node (Start id proc group args inputs) to t = to_server to t.0
-  is_node (Commit id edges) to t = to_server to t.0
-  is_node (StartOk id group shard bound outs edges) to (at, g, s, b, o, h) = to_coord to h.entry id h.has h.of at
+  is_node (Commit id edges facts) to t = to_server to t.0
+  is_node (StartOk id group shard bound outs edges facts) to (at, g, s, b, o, h) = to_coord to h.entry id h.has h.of at
   is_node (CommitOk id shard outs) to (at, s, h) = to_coord to h.entry id h.has h.of at
+  is_node (Fetch id asker) to t = absurd t
+  is_node (Known id edges) to t = absurd t
+  is_node Stop to t = absurd t
 
 pub receivers : (plan : Plan) (w : World) → IsWithin plan → IsReached plan w → HaveReceivers w
 receivers plan w thin reached =

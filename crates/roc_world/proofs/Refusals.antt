@@ -14,7 +14,7 @@ use Rattle.roc_base.specs.Equality.{is_nums}
 use Rattle.roc_depgraph.specs.declared.known.KnownList.{KnownList}
 use Rattle.roc_depgraph.specs.Deps.{list_of, is_known}
 use Rattle.roc_msg.specs.declared.msg.Msg.{Msg}
-use Rattle.roc_msg.specs.declared.msg.Msg.TheVariants.{Start, StartOk, Commit, CommitOk}
+use Rattle.roc_msg.specs.declared.msg.Msg.TheVariants.{Start, StartOk, Commit, CommitOk, Fetch, Known, Stop}
 use Rattle.roc_msg.specs.declared.reason.Reason.{Reason}
 use Rattle.roc_plan.specs.Groups.{Plan, procedure_of, groups_of, inputs_of, shard_of, group_place}
 use Rattle.roc_plan.specs.Within.{IsWithin}
@@ -114,6 +114,9 @@ module _ (plan : Plan) (thin : IsWithin plan) (h : List Entry) (coords : List Co
 
   pub message_is_taken : (m : Msg) → IsMeant h s.started m (Server only) → (r : ServerStep) → Handles plan s m r → r.answer ≡ Done
   message_is_taken (Start id proc group args inputs) (to, first, none, submitted) r i = ap (λ (x : ServerStep). x.answer) i ∙ start_is_taken id (record { proc = proc; group = group; args = args; inputs = inputs }) first none submitted
-  message_is_taken (Commit id edges) (to, started) r i = commit_is_taken id edges started r i
-  message_is_taken (StartOk id group shard bound outs edges) t r i = absurd (let e = t.0 in cc)
+  message_is_taken (Commit id edges facts) (to, started) r i = commit_is_taken id edges started r i
+  message_is_taken (StartOk id group shard bound outs edges facts) t r i = absurd (let e = t.0 in cc)
   message_is_taken (CommitOk id shard outs) t r i = absurd (let e = t.0 in cc)
+  message_is_taken (Fetch id asker) t r i = absurd t
+  message_is_taken (Known id edges) t r i = absurd t
+  message_is_taken Stop t r i = absurd t

@@ -19,7 +19,7 @@ use Rattle.roc_depgraph.specs.Deps.{list_of, learnt, IsKnown, IsDecided}
 use Rattle.roc_depgraph.proofs.Laws.{learnt_keeps, decided_stays}
 use Rattle.roc_depgraph.proofs.Listed.{has_listed}
 use Rattle.roc_msg.specs.declared.msg.Msg.{Msg}
-use Rattle.roc_msg.specs.declared.msg.Msg.TheVariants.{Start, StartOk, Commit, CommitOk}
+use Rattle.roc_msg.specs.declared.msg.Msg.TheVariants.{Start, StartOk, Commit, CommitOk, Fetch, Known, Stop}
 use Rattle.roc_msg.specs.declared.outbox.Outgoing.{Outgoing}
 use Rattle.roc_msg.specs.declared.reason.Reason.{Reason}
 use Rattle.roc_plan.specs.Groups.{Plan}
@@ -239,6 +239,9 @@ module _ (plan : Plan) (thin : IsWithin plan) (h : List Entry) (coords : List Co
 
   pub message_serves : (m : Msg) → IsMeant h s.started m (Server only) → (r : ServerStep) → Handles plan s m r → Serves plan h order s r
   message_serves (Start id proc group args inputs) (to, first, none, submitted) r i = subst (Serves plan h order s) (sym i) (start_serves id (record { proc = proc; group = group; args = args; inputs = inputs }) first none submitted)
-  message_serves (Commit id edges) (to, started) r i = commit_serves id edges started r i
-  message_serves (StartOk id group shard bound outs edges) t r i = subst (Serves plan h order s) (sym i) (ignored_serves _)
+  message_serves (Commit id edges facts) (to, started) r i = commit_serves id edges started r i
+  message_serves (StartOk id group shard bound outs edges facts) t r i = subst (Serves plan h order s) (sym i) (ignored_serves _)
   message_serves (CommitOk id shard outs) t r i = subst (Serves plan h order s) (sym i) (ignored_serves _)
+  message_serves (Fetch id asker) t r i = absurd t
+  message_serves (Known id edges) t r i = absurd t
+  message_serves Stop t r i = absurd t

@@ -12,7 +12,7 @@ use Rattle.roc_base.specs.TxnId.{is_txn}
 use Rattle.roc_base.specs.Inner.Equalities.{is_txn-true}
 use Rattle.roc_base.specs.Edge.{Dependency}
 use Rattle.roc_msg.specs.declared.msg.Msg.{Msg}
-use Rattle.roc_msg.specs.declared.msg.Msg.TheVariants.{Start, StartOk, Commit, CommitOk}
+use Rattle.roc_msg.specs.declared.msg.Msg.TheVariants.{Start, StartOk, Commit, CommitOk, Fetch, Known, Stop}
 use Rattle.roc_msg.specs.declared.reason.Reason.{Reason}
 use Rattle.roc_msg.specs.declared.reason.Reason.TheVariants.{Stale, Unfit}
 use Rattle.roc_plan.specs.Groups.{Plan, group_of, outs_of}
@@ -139,10 +139,13 @@ module _ (plan : Plan) (thin : IsWithin plan) (w : World) (is : IsSound plan w) 
   pub message_is_stale : (m : Msg) (to : Node) → IsMeant w.history is.server.started m to → to ≡ Coord number → (reason : Reason) → (after_message plan c m).answer ≡ Ignored reason → reason ≡ Stale
   unfolding IsTaken
   message_is_stale (Start id proc group args inputs) to t e reason k = absurd (let f = t.0 in cc)
-  message_is_stale (Commit id edges) to t e reason k = absurd (let f = t.0 in cc)
-  message_is_stale (StartOk id group shard bound outs edges) to (is_to, first, on, no_bound, no_outs, message) e reason k =
+  message_is_stale (Commit id edges facts) to t e reason k = absurd (let f = t.0 in cc)
+  message_is_stale (StartOk id group shard bound outs edges facts) to (is_to, first, on, no_bound, no_outs, message) e reason k =
       startok_taken-answer id edges reason
       (subst (λ (ok : TakenStart). (after_startok plan c (find_transaction id c.pending) ok only).answer ≡ Ignored reason) (λ i. record { group = first i; bound = no_bound i; outs = no_outs i; edges = edges })
       (subst (λ (s : Shard). (after_startok plan c (find_transaction id c.pending) (record { group = group; bound = bound; outs = outs; edges = edges }) s).answer ≡ Ignored reason) on k))
   message_is_stale (CommitOk id shard outs) to (is_to, on, message) e reason k =
       commitok_taken-answer id outs message reason (subst (λ (s : Shard). (after_commitok plan c (find_transaction id c.pending) (record { shard = s; outs = outs })).answer ≡ Ignored reason) on k)
+  message_is_stale (Fetch id asker) to t e reason k = absurd t
+  message_is_stale (Known id edges) to t e reason k = absurd t
+  message_is_stale Stop to t e reason k = absurd t

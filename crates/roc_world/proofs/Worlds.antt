@@ -13,6 +13,7 @@ use Rattle.roc_base.specs.declared.node.Node.{Node}
 use Rattle.roc_base.specs.declared.node.Node.TheVariants.{Server, Coord}
 use Rattle.roc_base.specs.TxnId.{is_txn}
 use Rattle.roc_base.specs.Edge.{Dependency}
+use Rattle.roc_depgraph.specs.declared.known.KnownList.{KnownList}
 use Rattle.roc_msg.specs.declared.msg.Msg.{Msg}
 use Rattle.roc_msg.specs.declared.msg.Msg.TheVariants.{Start, Commit}
 use Rattle.roc_msg.specs.declared.msg.Sent.{Sent}
@@ -191,13 +192,13 @@ module _ (plan : Plan) (thin : IsWithin plan) (w : World) (is : IsSound plan w) 
         let g = is.is_server.started.each s.entry s.has in
         unused s.entry.proc s.entry.args (subst (λ (v : TxnId). Has (Submitted v s.entry.proc s.entry.args) w.history) (s.of ∙ same) g.submitted)
 
-    commit_started : (m : Sent) (t : TxnId) (edges : List Dependency) → Has m w.sent → m.msg ≡ Commit t edges → HasStarted is.server.started t edges
-    commit_started m t edges i e = (subst (λ (msg : Msg). IsMeant w.history is.server.started msg m.to) e (is.messages m i)).1
+    commit_started : (m : Sent) (t : TxnId) (edges : List Dependency) (facts : List KnownList) → Has m w.sent → m.msg ≡ Commit t edges facts → HasStarted is.server.started t edges
+    commit_started m t edges facts i e = (subst (λ (msg : Msg). IsMeant w.history is.server.started msg m.to) e (is.messages m i)).1
 
     asked_submitted : AreAsked (slice_set w.coords coord result.state) (w.sent ++ map (sent_by (Coord coord)) result.sends) is.server.known
     asked_submitted = record {
-      by_commit = λ m t edges i e. elim (has_append m w.sent (map (sent_by (Coord coord)) result.sends) i) [
-        | inl j ↦ asked_after t (is.asked.by_commit m t edges j e) (not_started t edges (commit_started m t edges j e))
+      by_commit = λ m t edges facts i e. elim (has_append m w.sent (map (sent_by (Coord coord)) result.sends) i) [
+        | inl j ↦ asked_after t (is.asked.by_commit m t edges facts j e) (not_started t edges (commit_started m t edges facts j e))
         | inr j ↦ absurd (let r = from_has_map (sent_by (Coord coord)) m result.sends j in
             let o = has_one r.0 (record { to = Server only; msg = Start x.id proc 0 args [] }) (subst (λ (os : List Outgoing). Has r.0 os) (starts_of-first plan thin x known refl) r.1) in
             let is_start : m.msg ≡ Start x.id proc 0 args [] = ap (λ (y : Sent). y.msg) r.2 ∙ ap (λ (y : Outgoing). y.msg) o in cc)
@@ -265,14 +266,14 @@ module _ (plan : Plan) (thin : IsWithin plan) (w : World) (is : IsSound plan w) 
           (λ n i. tells_later w.history w.history is.server.started r.state.started n.msg n.to (Extends-same w.history) serves.grows (is.messages n i))
           serves.sends;
       asked = record {
-        by_commit = λ n t edges i e. elim (has_append n w.sent (map (sent_by (Server only)) r.sends) i) [
-          | inl j ↦ is.asked.by_commit n t edges j e
+        by_commit = λ n t edges facts i e. elim (has_append n w.sent (map (sent_by (Server only)) r.sends) i) [
+          | inl j ↦ is.asked.by_commit n t edges facts j e
           | inr j ↦ absurd (let x = from_has_map (sent_by (Server only)) n r.sends j in
-              sends_no_commit plan is.server m.msg r step x.0 t edges x.1 (sym (ap (λ (y : Sent). y.msg) x.2) ∙ e))
+              sends_no_commit plan is.server m.msg r step x.0 t edges facts x.1 (sym (ap (λ (y : Sent). y.msg) x.2) ∙ e))
         ];
         by_list = λ l i. elim (learns plan is.server m.msg r step l i) [
           | inl j ↦ is.asked.by_list l j
-          | inr e ↦ is.asked.by_commit m l.of l.edges has e
+          | inr e ↦ is.asked.by_commit m l.of l.edges e.0 has e.1
         ];
       };
       history = record {
@@ -365,11 +366,11 @@ module _ (plan : Plan) (thin : IsWithin plan) (w : World) (is : IsSound plan w) 
         ]
 
     -- a transaction is told to commit by its own coordinator alone
-    asked_new : (o : Outgoing) (t : TxnId) (edges : List Dependency) → Has o r.sends → o.msg ≡ Commit t edges → IsAsked (slice_set w.coords number r.state) t
-    asked_new o t edges i e n d y f j of =
+    asked_new : (o : Outgoing) (t : TxnId) (edges : List Dependency) (facts : List KnownList) → Has o r.sends → o.msg ≡ Commit t edges facts → IsAsked (slice_set w.coords number r.state) t
+    asked_new o t edges facts i e n d y f j of =
         elim (get-set_cases w.coords number n c r.state d there f) [
-          | inl q ↦ coordinates.commits o t edges i e y (subst (λ (v : CoordState). Has y v.pending) q.1 j) of
-          | inr q ↦ absurd (q.0 (sym (coordinates.own o t edges i e) ∙ sym (ap (λ (u : TxnId). u.coord) of) ∙ ((is.coords n d q.1).each y j).coord ∙ (is.coords n d q.1).is_number))
+          | inl q ↦ coordinates.commits o t edges facts i e y (subst (λ (v : CoordState). Has y v.pending) q.1 j) of
+          | inr q ↦ absurd (q.0 (sym (coordinates.own o t edges facts i e) ∙ sym (ap (λ (u : TxnId). u.coord) of) ∙ ((is.coords n d q.1).each y j).coord ∙ (is.coords n d q.1).is_number))
         ]
 
     pub coord_sound : IsSound plan (came_to_coord w k number r).world
@@ -387,9 +388,9 @@ module _ (plan : Plan) (thin : IsWithin plan) (w : World) (is : IsSound plan w) 
           (λ n i. tells_later w.history longer' is.server.started is.server.started n.msg n.to grown' (Grows-same is.server.started) (is.messages n i))
           (λ o i. tells_later w.history longer' is.server.started is.server.started o.msg o.to grown' (Grows-same is.server.started) (coordinates.sends o i));
       asked = record {
-        by_commit = λ n t edges i e. elim (has_append n w.sent (map (sent_by (Coord number)) r.sends) i) [
-          | inl j ↦ asked_still t (is.asked.by_commit n t edges j e)
-          | inr j ↦ (let q = from_has_map (sent_by (Coord number)) n r.sends j in asked_new q.0 t edges q.1 (sym (ap (λ (y : Sent). y.msg) q.2) ∙ e))
+        by_commit = λ n t edges facts i e. elim (has_append n w.sent (map (sent_by (Coord number)) r.sends) i) [
+          | inl j ↦ asked_still t (is.asked.by_commit n t edges facts j e)
+          | inr j ↦ (let q = from_has_map (sent_by (Coord number)) n r.sends j in asked_new q.0 t edges facts q.1 (sym (ap (λ (y : Sent). y.msg) q.2) ∙ e))
         ];
         by_list = λ l i. asked_still l.of (is.asked.by_list l i);
       };

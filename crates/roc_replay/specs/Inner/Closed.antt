@@ -3,8 +3,8 @@ use Rattle.std.specs.Prelude.{◌≡◌, ℕ, nat_lt, Bool, false, List, Option}
 use Rattle.roc_io.specs.Told.{Adds, AddsFront}
 use Rattle.roc_program.specs.Program.{Workload}
 use Rattle.roc_world.specs.World.{World}
-use Rattle.roc_sched.specs.declared.line.Act.{Act}
-use Rattle.roc_sched.specs.declared.line.Act.TheVariants as act
+use Rattle.roc_world.specs.declared.event.Event.{Event}
+use Rattle.roc_world.specs.declared.event.Event.TheVariants as event
 use Rattle.roc_report.specs.Line.{End}
 use Rattle.roc_report.specs.Text.{lines_text}
 use Rattle.roc_replay.specs.declared.ended.Ended.{Ended}
@@ -18,7 +18,7 @@ IsClosed program w busy SinkFault old new = AddsFront old new (lines_text progra
 IsClosed program w busy NoMemory old new = new ≡ old
 IsClosed program w busy (Text line what) old new = ⊥
 
--- the act asks for a message that was not sent, where so many were
-abbrev pub asks_unsent : Act → ℕ → Bool
-asks_unsent (act.Deliver number) sent = nat_lt sent number
-asks_unsent (act.Submit coord proc args) sent = false
+-- the event is the delivery of a message that was not sent, where so many were
+abbrev pub asks_unsent : Event → ℕ → Bool
+asks_unsent (event.Deliver number) sent = nat_lt sent number
+asks_unsent (event.Submit coord proc args) sent = false

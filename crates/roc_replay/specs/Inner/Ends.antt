@@ -10,5 +10,7 @@ abbrev pub IsEnd : Plan → List ℕ → Ended → (old new : Option (List ℕ))
 IsEnd plan schedule (Done summary) old new = IsReplayed plan schedule summary old new
 IsEnd plan schedule (Text line what.Message) old new = IsUnsent plan schedule line old new
 IsEnd plan schedule (Text line what.Limit) old new = IsNoSchedule plan.program schedule line what.Limit old new
+IsEnd plan schedule (Text line what.Word) old new = ⊥
+IsEnd plan schedule (Text line what.Node) old new = ⊥
 IsEnd plan schedule SinkFault old new = IsCut plan schedule old new
 IsEnd plan schedule NoMemory old new = IsUnfinished plan schedule old new

@@ -1,7 +1,7 @@
 -- What is so far, goes on with each line, and what it comes to at each end.
 use Rattle.std.proofs.Common.{◌≡◌, ◌+◌, List, length, take, true, refl, subst, ◌∙◌}
 use Rattle.roc_io.specs.Told.{Adds, AddsFront}
-use Rattle.roc_sched.specs.declared.line.Line.{Line}
+use Rattle.roc_replay.specs.declared.asked.Asked.{Asked}
 use Rattle.roc_replay.specs.Inner.Closed.{asks_unsent}
 use Rattle.roc_replay.proofs.Exits.{unsent_end, stopped_end, failed_end, closed_end, front_more, take_all}
 use Rattle.roc_replay.proofs.Rising.{cells_rise}
@@ -13,7 +13,7 @@ loop-line-init g c = (refl, nothing_so_far c.args.plan.now c.in-Ok.world _ c.in-
 
 pub returns-then-is_unsent-clause-ends : goal.returns-then-is_unsent-clause-ends
 returns-then-is_unsent-clause-ends g c schedule of =
-    let asks : asks_unsent c.line-item.result.act (length c.loop-line.world.sent) ≡ true = cc in
+    let asks : asks_unsent c.line-item.result.event (length c.loop-line.world.sent) ≡ true = cc in
     unsent_end c.args.plan.now schedule c.args.lines.now of c.loop-line.line-index c.line-item.result c.loop-line.world c.loop-line.busy _ _ c.loop-line-test.true c.line-item.is c.loop-line.invariant.1 asks
 
 pub returns-in_default-play_line-clause-ends : goal.returns-in_default-play_line-clause-ends
@@ -29,7 +29,7 @@ returns-in-Failed-clause-ends g c schedule of =
 pub loop-line-preserved : goal.loop-line-preserved
 loop-line-preserved g c = (
   c.in_default-write.ensures.cause ∙ c.loop-line.invariant.0,
-  subst (λ (lines : List Line). IsSoFar c.args.plan.now lines c.play_line.new.world (c.loop-line.busy + c.in-Ok-play_line.played.busy) (g.S.Sink.taken c.args.sink.now) (g.S.Sink.taken c.write.new.self))
+  subst (λ (lines : List Asked). IsSoFar c.args.plan.now lines c.play_line.new.world (c.loop-line.busy + c.in-Ok-play_line.played.busy) (g.S.Sink.taken c.args.sink.now) (g.S.Sink.taken c.write.new.self))
       (front_more c.args.lines.now c.loop-line.line-index c.line-item.result c.loop-line-test.true c.line-item.is)
       (one_more c.args.plan.now (take c.loop-line.line-index c.args.lines.now) c.line-item.result c.loop-line.world c.play_line.new.world _ c.loop-line.busy c.in-Ok-play_line.played.busy _ _ _
       c.loop-line.invariant.1 c.in-Ok-play_line.ensures.played c.in-Ok-play_line.ensures.fits c.in-Ok-play_line.ensures.coords c.in-Ok-play_line.ensures.few
@@ -42,5 +42,5 @@ close-requires g c = let so = c.loop-line.invariant.1 in cells_rise c.args.plan.
 pub returns-clause-ends : goal.returns-clause-ends
 returns-clause-ends g c schedule of =
     closed_end c.args.plan.now schedule c.args.lines.now of c.requires.within c.loop-line.world c.loop-line.busy _ _ _
-    (subst (λ (lines : List Line). IsSoFar c.args.plan.now lines c.loop-line.world c.loop-line.busy (g.S.Sink.taken c.args.sink.now) (g.S.Sink.taken c.loop-line.sink)) (take_all c.args.lines.now c.loop-line.line-index c.loop-line-test.false) c.loop-line.invariant.1)
+    (subst (λ (lines : List Asked). IsSoFar c.args.plan.now lines c.loop-line.world c.loop-line.busy (g.S.Sink.taken c.args.sink.now) (g.S.Sink.taken c.loop-line.sink)) (take_all c.args.lines.now c.loop-line.line-index c.loop-line-test.false) c.loop-line.invariant.1)
     c.close.result c.close.ensures.closed

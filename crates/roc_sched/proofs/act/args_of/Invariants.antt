@@ -1,7 +1,7 @@
 use Rattle.std.proofs.Common.{◌≡◌, drop}
 use Rattle.roc_sched.specs.Each.{each}
 use Rattle.roc_sched.specs.Numbers.{integer_of}
-use Rattle.roc_sched.specs.Reading.{views}
+use Rattle.roc_sched.specs.Inner.Reading.{views}
 use Rattle.roc_sched.proofs.Loops.{with_front}
 use Rattle.roc_sched.proofs.act.args_of.Given as goal
 

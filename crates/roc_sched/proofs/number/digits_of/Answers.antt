@@ -1,5 +1,5 @@
 use Rattle.std.proofs.Common.{◌≡◌, ◌+◌, get_or, drop, sym, ap, ◌∙◌, rules, None}
-use Rattle.roc_sched.specs.Reading.{digits_onto}
+use Rattle.roc_sched.specs.Inner.Reading.{digits_onto}
 use Rattle.roc_sched.proofs.Digits.{at_place, digit_stops}
 use Rattle.roc_sched.proofs.number.digits_of.Goals as goal
 

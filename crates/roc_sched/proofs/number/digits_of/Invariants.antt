@@ -1,5 +1,5 @@
 use Rattle.std.proofs.Common.{◌≡◌, ◌≤◌, drop}
-use Rattle.roc_sched.specs.Reading.{digits_onto}
+use Rattle.roc_sched.specs.Inner.Reading.{digits_onto}
 use Rattle.roc_sched.proofs.number.digits_of.Given as goal
 
 abbrev pub invariant-loop-digit : goal.invariant-loop-digit

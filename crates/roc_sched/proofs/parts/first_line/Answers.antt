@@ -1,6 +1,6 @@
 use Rattle.std.proofs.Common.{◌∷◌, sym, ap, ◌∙◌, rules, tests}
 use Rattle.roc_sched.specs.Lines.{lines_of}
-use Rattle.roc_sched.specs.Reading.{parts_behind}
+use Rattle.roc_sched.specs.Inner.Reading.{parts_behind}
 use Rattle.roc_sched.proofs.Cuts.{lines_more, lines_last, lines_end}
 use Rattle.roc_sched.proofs.parts.first_line.Goals as goal
 

@@ -1,0 +1,6 @@
+use Rattle.roc_sched.specs.Acts.{line_at, request_at}
+use Rattle.roc_sched.proofs.Texts.{faults_are_one}
+use Rattle.roc_sched.proofs.laws.first_faults_are_unique.Goals as goal
+
+pub returns : goal.returns
+returns c = record { schedules = λ shards. faults_are_one (line_at shards); requests = faults_are_one request_at }

@@ -1,0 +1,8 @@
+use Rattle.std.proofs.Common.{◌≡◌, ◌+◌, drop}
+use Rattle.roc_sched.specs.Acts.{request_at}
+use Rattle.roc_sched.specs.Inner.Reading.{views, line_items}
+use Rattle.roc_sched.proofs.Items.{with_items}
+use Rattle.roc_sched.proofs.schedule.all_requests.Given as goal
+
+abbrev pub invariant-loop-index : goal.invariant-loop-index
+invariant-loop-index l = with_items l.read.items (line_items request_at (l.index + 1) (views (drop l.index l.lines))) ≡ line_items request_at 1 (views l.lines)
