@@ -7,7 +7,7 @@ use Rattle.std.specs.List.{flat_map, range_with_len}
 use Rattle.roc_program.specs.Program.{Workload}
 use Rattle.roc_program.specs.Conflict.{are_in_conflict}
 use Rattle.roc_program.specs.declared.piece_id.PieceId.{PieceId}
-use Rattle.roc_report.specs.Check.{conflict_lines}
+use Rattle.roc_check.specs.Lines.{conflict_lines}
 use Rattle.roc_report.specs.Line.{Line, Conflict}
 use Rattle.roc_report.specs.Text.{line_text, lines_text}
 use Rattle.roc_program.proofs.Ranges.{flat_map-range_more}
@@ -27,13 +27,27 @@ module _ (program : Workload) (start old new : List ℕ) where
       → new ≡ start ++ lines_text program (flat_map f (range_with_len 0 (n + 1)))
   number_added f n h e = added (flat_map f (range_with_len 0 n)) (f n) h e ∙ ap (λ ls. start ++ lines_text program ls) (sym (flat_map-range_more f n))
 
-  -- the line of one more number, behind a first line
-  pub numbered_line_added : {A : Type 0} (first : Line) (f : A → Line) (g : ℕ → A) (n : ℕ) → old ≡ start ++ lines_text program (first ∷ map f (map g (range_with_len 0 n))) → new ≡ old ++ line_text program (f (g n))
-      → new ≡ start ++ lines_text program (first ∷ map f (map g (range_with_len 0 (n + 1))))
-  numbered_line_added first f g n h e =
-      one_added (first ∷ map f (map g (range_with_len 0 n))) (f (g n)) h e
-      ∙ ap (λ ls. start ++ lines_text program (first ∷ ls))
+  -- the line of one more number
+  pub line_added : (f : ℕ → Line) (n : ℕ) → old ≡ start ++ lines_text program (map f (range_with_len 0 n)) → new ≡ old ++ line_text program (f n)
+      → new ≡ start ++ lines_text program (map f (range_with_len 0 (n + 1)))
+  line_added f n h e =
+      one_added (map f (range_with_len 0 n)) (f n) h e
+      ∙ ap (λ ls. start ++ lines_text program ls) (sym (ap (map f) (range_more 0 n n (omega arith)) ∙ map-append f (range_with_len 0 n) (n ∷ [])))
+
+  -- the same, where a number gives what the line is of
+  pub numbered_line_added : {A : Type 0} (f : A → Line) (g : ℕ → A) (n : ℕ) → old ≡ start ++ lines_text program (map f (map g (range_with_len 0 n))) → new ≡ old ++ line_text program (f (g n))
+      → new ≡ start ++ lines_text program (map f (map g (range_with_len 0 (n + 1))))
+  numbered_line_added f g n h e =
+      one_added (map f (map g (range_with_len 0 n))) (f (g n)) h e
+      ∙ ap (λ ls. start ++ lines_text program ls)
       (sym (ap (λ ns. map f (map g ns)) (range_more 0 n n (omega arith)) ∙ ap (map f) (map-append g (range_with_len 0 n) (n ∷ [])) ∙ map-append f (map g (range_with_len 0 n)) (g n ∷ [])))
+
+-- a line, and two lists of lines behind it
+pub procedure_added : (program : Workload) (start one two three : List ℕ) (line : Line) (xs ys : List Line) → one ≡ start ++ line_text program line
+    → two ≡ one ++ lines_text program xs → three ≡ two ++ lines_text program ys → three ≡ start ++ lines_text program (line ∷ xs ++ ys)
+procedure_added program start one two three line xs ys e f g =
+    let h : one ≡ start ++ lines_text program (line ∷ []) = e ∙ ap (λ t. start ++ t) (sym (append-nil (line_text program line))) in
+    added program start two three (line ∷ xs) ys (added program start one two (line ∷ []) xs h f) g
 
 -- the conflicts of one more piece, where all lead to this text
 pub conflicts_added : (program : Workload) (old new end : List ℕ) (pieces : List PieceId) (at : ℕ) (d : PieceId) → at < length pieces

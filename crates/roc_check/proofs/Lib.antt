@@ -1,2 +1,5 @@
 pub mod Added
+pub mod Thin
+pub mod Judging
 pub mod Unique
+pub mod Witnessed

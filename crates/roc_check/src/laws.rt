@@ -1,15 +1,30 @@
-//! The law of the text of `check`. It is the contract of a function that does nothing.
-ghost use Rattle.std.specs.Prelude.{◌≡◌, ◌↔◌, Bool, IsTrue};
+//! Laws of the check of a text. Each is the contract of a function that does nothing.
+ghost use Rattle.std.specs.Prelude.{◌≡◌, ℕ, List};
 ghost use Rattle.roc_program.specs.Program.{Workload};
-ghost use Rattle.roc_program.specs.declared.piece_id.PieceId.{PieceId};
-ghost use Rattle.roc_conflict.specs.Immediate.{IsImmediate};
-ghost use Rattle.roc_report.specs.Check.{check_lines};
+ghost use Rattle.roc_program.specs.WellFormed.{IsProgram};
+ghost use Rattle.roc_plan.specs.Groups.{Plan};
+ghost use Rattle.roc_plan.specs.Within.{IsThinShaped, IsWithin};
+ghost use Rattle.roc_report.specs.Line.{Line};
+ghost use Rattle.roc_check.specs.Lines.{check_lines};
+ghost use Rattle.roc_check.specs.Checked.{IsPlanOf, IsPlanOfText, IsRefusedBy, IsRefusedText};
 
-/// A program has one text of `check`: whatever tells its immediate pieces gives the same lines. So the text is a function of
-/// the workload alone.
-pub fn check_lines_are_unique()
-    ensures { (program : Workload) (one other : PieceId → Bool)
-        → ((id : PieceId) → IsTrue (one id) ↔ IsImmediate program id)
-        → ((id : PieceId) → IsTrue (other id) ↔ IsImmediate program id)
-        → check_lines program one ≡ check_lines program other }
+use roc_groups::laws::merged_groups_are_one;
+
+/// A text has at most one plan, and so one text of `check`.
+pub fn plans_are_unique()
+    ensures plan { (bytes : List ℕ) (one other : Plan) → IsPlanOfText bytes one → IsPlanOfText bytes other → one ≡ other }
+    ensures lines { (bytes : List ℕ) (one other : Plan) → IsPlanOfText bytes one → IsPlanOfText bytes other → check_lines one ≡ check_lines other }
+{
+    merged_groups_are_one();
+}
+
+/// A program is refused by at most one line, and by none where it has a plan.
+pub fn refusals_are_unique()
+    ensures line { (program : Workload) (one other : Line) → IsRefusedBy program one → IsRefusedBy program other → one ≡ other }
+    ensures no_plan { (program : Workload) (plan : Plan) (line : Line) → IsPlanOf program plan → IsRefusedBy program line → ⊥ }
+{}
+
+/// The protocol reaches the plan of each thin workload.
+pub fn thin_workloads_are_within_reach()
+    ensures { (program : Workload) (plan : Plan) → IsProgram program → IsThinShaped program → IsPlanOf program plan → IsWithin plan }
 {}

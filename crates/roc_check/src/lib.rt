@@ -1,11 +1,19 @@
-//! The text of `check`: what a workload's pieces are, and which of them conflict.
+//! The check of a workload: from its text to the plan that the protocol may rely on, or to the reason why there is none.
 //!
-//! The layers above may rely on this: the text of [`check_text`] is exactly that of the lines of
-//! `specs/Check.antt` of `roc_report`, for the classes that it is given; `roc_conflict` finds those of a workload. A
-//! workload has one such text ([`laws`]).
+//! [`check`] parses, resolves, promotes and merges, in this order; `specs/Checked.antt` says what each answer means: the plan of
+//! the text, or the fault of the first step that finds one. A refusal names the first pieces that cannot be merged and shows the
+//! shortest cycle through two of them (`docs/CHECKER.md`). [`check_text`] writes what is known of a plan, line by line
+//! (`specs/Lines.antt`).
+//!
+//! The layers above may rely on this: a plan comes exactly of a text in scope whose pieces may be merged, unless memory runs out,
+//! and is accepted; a text has one plan or one refusal ([`laws`]).
 #![tactic(auto)]
 
+mod checking;
+mod fault;
 pub mod laws;
 mod text;
 
+pub use checking::check;
+pub use fault::CheckFault;
 pub use text::check_text;

@@ -1,22 +1,23 @@
 -- What each step of a command tells of its end
-use Rattle.std.proofs.Common.{◌≡◌, inl, inr, ℕ, List, Option, IfSome, Result, Ok, Err, codes, refl, sym, subst, length, ◌<◌, ap, ◌≤◌}
+use Rattle.std.proofs.Common.{◌≡◌, inl, inr, ℕ, List, Option, Result, Ok, Err, codes, refl, sym, subst, length, ap, ◌≤◌}
+use Rattle.std.proofs.Math.Path.{fun_ext}
 use Rattle.roc_lang.specs.Grammar.{text_limit}
 use Rattle.roc_lang.specs.FaultText.{what_text}
 use Rattle.roc_scope.specs.FaultText.{what_text as scope_text}
 use Rattle.roc_scope.specs.Fault.{kind}
-use Rattle.roc_program.specs.Program.{Workload}
 use Rattle.roc_plan.specs.Groups.{Plan}
+use Rattle.roc_plan.specs.Within.{IsWithin}
 use Rattle.roc_sched.specs.Schedule.{most_bytes}
 use Rattle.roc_cli.specs.declared.fault.Fault.{Fault}
-use Rattle.roc_cli.specs.declared.fault.Fault.TheVariants.{TooLong, At, Scope, Unfit, Memory, File, Sink}
+use Rattle.roc_cli.specs.declared.fault.Fault.TheVariants.{TooLong, At, Scope, Rejected, Memory, File, Sink}
 use Rattle.roc_cli.specs.Call.{Call, TakesNothing}
 use Rattle.roc_cli.specs.Words.{IsReplay, IsPrint, IsCheck, AreReplayWords, ArePrintWords, AreCheckWords, AreCommandWords, NamesProgram, NamesWorkload}
-use Rattle.roc_cli.specs.Held.{Holds, HoldsMore, HoldsProgram, HoldsPlan}
+use Rattle.roc_cli.specs.Held.{Holds, HoldsPlan}
 use Rattle.roc_cli.specs.Says.{long_line, fault_line}
 use Rattle.roc_cli.specs.Done.{IsReplayOf}
-use Rattle.roc_cli.specs.Stopped.{the_workload, the_schedule, with_nothing, with_lines, in_report, in_text, in_check}
-use Rattle.roc_cli.specs.Refused.{IsRefused, long_workload, no_text, out_of_scope, no_plan, long_schedule, no_schedule, not_sent}
-use Rattle.roc_cli.specs.Inner.Input.{HoldsWithin, IsReadFault, IsProgramFault, IsPlanFault}
+use Rattle.roc_cli.specs.Stopped.{the_workload, the_schedule, with_nothing, with_lines, in_report, in_text, in_check, in_rejection}
+use Rattle.roc_cli.specs.Refused.{IsRefused, long_workload, no_text, out_of_scope, long_schedule, no_schedule, not_sent}
+use Rattle.roc_cli.specs.Inner.Input.{HoldsWithin, IsReadFault, IsProgramFault, PlanFails}
 use Rattle.roc_cli.specs.Inner.Ends.{Fails, Ends, ReplayEnds, PrintEnds, CheckEnds, Blames}
 
 -- words that name a workload, whose names have to be in scope, are those of a command
@@ -63,23 +64,21 @@ module _ (call : Call) where
   program_fails workload fault names same blames h = workload_unread workload fault (inl names) same blames h
 
   -- the workload gave no plan
-  pub plan_fails : (workload schedule : List ℕ) (fault : Fault) → IsReplay call.words workload schedule → TakesNothing call → Blames call.failed_before call.failed_after fault
-      → IsPlanFault call.content workload fault → Fails call fault
-  plan_fails workload schedule (Unfit file) given same blames (e, held) =
-      subst (λ n. IsRefused call (fault_line n 1 (codes "limit"))) (sym e) (no_plan workload schedule given held same)
-  plan_fails workload schedule fault given same blames h = program_fails workload fault (inl (schedule, given)) same blames h
+  pub plan_fails : (workload : List ℕ) (fault : Fault) → NamesProgram call.words workload → Blames call.failed_before call.failed_after fault
+      → PlanFails call.content workload call.out_before call.out_after fault → Fails call fault
+  plan_fails workload Rejected names blames h = record { workload = workload; named = names; program = h.0; said = h.1; held = h.2; taken = h.3 }
+  plan_fails workload Sink names blames h = in_rejection workload h.0 h.1 names h.2 h.3
+  plan_fails workload fault names blames h = program_fails workload fault names h.1 blames h.0
 
-  -- the schedule gave no bytes: what it holds, and which reads had failed, are as they were before the workload was read
-  pub schedule_unread : (later : List ℕ → Option (List ℕ)) (between : Option (List (List ℕ))) (workload schedule : List ℕ) (plan : Plan) (fault : Fault)
-      → ((name : List ℕ) → later name ≡ call.content name) → between ≡ call.failed_before → IsReplay call.words workload schedule → HoldsPlan call.content workload plan
-      → TakesNothing call → Blames between call.failed_after fault → IsReadFault later schedule most_bytes fault → Fails call fault
-  schedule_unread later between workload schedule plan (TooLong file) held before given planned same blames (e, more) =
-      let here : HoldsMore call.content schedule most_bytes = subst (λ o. IfSome o (λ held. most_bytes < length held)) (held schedule) more in
-      subst (λ n. IsRefused call (long_line n)) (sym e) (long_schedule workload schedule plan given planned here same)
-  schedule_unread later between workload schedule plan (File file) held before given planned same blames e =
-      record { input = the_schedule workload plan (subst (IsReplay call.words workload) (sym e) given) planned; only = subst (λ (o : Option (List (List ℕ))). Blames o call.failed_after (File file)) before blames; untouched = same }
-  schedule_unread later between workload schedule plan Memory held before given planned same blames h = with_nothing (inl (workload, schedule, given)) same
-  schedule_unread later between workload schedule plan _ held before given planned same blames h = absurd h
+  -- the schedule gave no bytes
+  pub schedule_unread : (workload schedule : List ℕ) (plan : Plan) (fault : Fault) → IsReplay call.words workload schedule → HoldsPlan call.content workload plan → IsWithin plan
+      → TakesNothing call → Blames call.failed_before call.failed_after fault → IsReadFault call.content schedule most_bytes fault → Fails call fault
+  schedule_unread workload schedule plan (TooLong file) given planned within same blames (e, more) =
+      subst (λ n. IsRefused call (long_line n)) (sym e) (long_schedule workload schedule plan given planned within more same)
+  schedule_unread workload schedule plan (File file) given planned within same blames e =
+      record { input = the_schedule workload plan (subst (IsReplay call.words workload) (sym e) given) planned within; only = blames; untouched = same }
+  schedule_unread workload schedule plan Memory given planned within same blames h = with_nothing (inl (workload, schedule, given)) same
+  schedule_unread workload schedule plan _ given planned within same blames h = absurd h
 
   -- ---- replay
 
@@ -96,13 +95,13 @@ module _ (call : Call) where
   replay_ends plan bytes (Err _) asked h = absurd h
 
   -- both files were read, and the replay ended
-  pub files_end : (later : List ℕ → Option (List ℕ)) (workload schedule : List ℕ) (plan : Plan) (bytes taken : List ℕ) (result : Result Unit Fault)
-      → ((name : List ℕ) → later name ≡ call.content name) → IsReplay call.words workload schedule → HoldsPlan call.content workload plan
-      → HoldsWithin later schedule most_bytes bytes → taken ≡ bytes → ReplayEnds plan taken schedule call.out_before call.out_after result → Ends call result
-  files_end later workload schedule plan bytes taken result same given planned held e ends =
-      let is_held : Holds call.content schedule taken = subst (Holds call.content schedule) (sym e) (subst (λ o. IfSome o (λ held. held ≡ bytes)) (same schedule) held.held) in
+  pub files_end : (workload schedule : List ℕ) (plan : Plan) (bytes taken : List ℕ) (result : Result Unit Fault)
+      → IsReplay call.words workload schedule → HoldsPlan call.content workload plan → IsWithin plan
+      → HoldsWithin call.content schedule most_bytes bytes → taken ≡ bytes → ReplayEnds plan taken schedule call.out_before call.out_after result → Ends call result
+  files_end workload schedule plan bytes taken result given planned within held e ends =
+      let is_held : Holds call.content schedule taken = subst (Holds call.content schedule) (sym e) held.held in
       let is_few : length taken ≤ most_bytes = subst (λ n. n ≤ most_bytes) (sym (ap length e)) held.few in
-      replay_ends plan taken result (record { workload = workload; schedule = schedule; given = given; of_workload = planned; of_schedule = is_held; size = is_few }) ends
+      replay_ends plan taken result (record { workload = workload; schedule = schedule; given = given; of_workload = planned; within = within; of_schedule = is_held; size = is_few }) ends
 
   -- ---- print and check
 
@@ -119,11 +118,25 @@ module _ (call : Call) where
       in_text workload tree given (record { bytes = taken; held = subst (Holds call.content workload) (sym e) held.held; is = is }) front
   print_ends workload bytes taken (Err _) given held e h = absurd h
 
-  -- the program was found, and its check ended
-  pub check_ends : (workload : List ℕ) (program : Workload) (result : Result Unit Fault) → IsCheck call.words workload → HoldsProgram call.content workload program
-      → CheckEnds program call.out_before call.out_after result → Ends call result
-  check_ends workload program (Ok done) given held (immediate, are, adds) =
-      inr (inr (record { workload = workload; given = given; program = program; held = held; immediate = immediate; are_immediate = are; taken = adds }))
-  check_ends workload program (Err Memory) given held same = with_nothing (inr (inr (workload, given))) same
-  check_ends workload program (Err Sink) given held (immediate, are, front) = in_check workload program immediate given held are front
-  check_ends workload program (Err _) given held h = absurd h
+  -- the plan was found, and its text was written or not
+  written : (workload : List ℕ) (plan : Plan) (result : Result Unit Fault) → IsCheck call.words workload → HoldsPlan call.content workload plan
+      → CheckEnds plan call.out_before call.out_after result → Ends call result
+  written workload plan (Ok done) given held adds = inr (inr (record { workload = workload; given = given; plan = plan; held = held; taken = adds }))
+  written workload plan (Err Memory) given held same = with_nothing (inr (inr (workload, given))) same
+  written workload plan (Err Sink) given held front = in_check workload plan given held front
+  written workload plan (Err _) given held h = absurd h
+
+  pub check_ends : (workload : List ℕ) (plan : Plan) (middle : Option (List ℕ)) (result : Result Unit Fault) → IsCheck call.words workload → HoldsPlan call.content workload plan
+      → middle ≡ call.out_before → CheckEnds plan middle call.out_after result → Ends call result
+  check_ends workload plan middle result given held untouched ends =
+      written workload plan result given held (subst (λ (o : Option (List ℕ)). CheckEnds plan o call.out_after result) untouched ends)
+
+-- the end of what was done behind a first step that left all as it was
+pub behind : (words : List (List ℕ)) (later content : List ℕ → Option (List ℕ)) (between before after : Option (List (List ℕ))) (middle old new : Option (List ℕ)) (result : Result Unit Fault)
+    → ((name : List ℕ) → later name ≡ content name) → between ≡ before → middle ≡ old
+    → Ends (record { words = words; content = later; failed_before = between; failed_after = after; out_before = middle; out_after = new }) result
+    → Ends (record { words = words; content = content; failed_before = before; failed_after = after; out_before = old; out_after = new }) result
+behind words later content between before after middle old new result same failed untouched ends =
+    subst (λ (o : Option (List ℕ)). Ends (record { words = words; content = content; failed_before = before; failed_after = after; out_before = o; out_after = new }) result) untouched
+    (subst (λ (f : Option (List (List ℕ))). Ends (record { words = words; content = content; failed_before = f; failed_after = after; out_before = middle; out_after = new }) result) failed
+    (subst (λ (c : List ℕ → Option (List ℕ)). Ends (record { words = words; content = c; failed_before = between; failed_after = after; out_before = middle; out_after = new }) result) (fun_ext same) ends))

@@ -4,13 +4,13 @@ use Rattle.roc_io.specs.Cause.{HasCause}
 use Rattle.roc_replay.specs.Ended.{behind_lines}
 use Rattle.roc_replay.specs.Report.{report}
 use Rattle.roc_cli.specs.declared.fault.Fault.{Fault}
-use Rattle.roc_cli.specs.declared.fault.Fault.TheVariants.{Words, Memory, File, Sink}
+use Rattle.roc_cli.specs.declared.fault.Fault.TheVariants.{Rejected, Words, Memory, File, Sink}
 use Rattle.roc_cli.specs.Call.{Call, Errors, TakesNothing, ReadsAll}
 use Rattle.roc_cli.specs.Words.{IsReplay, IsPrint, IsCheck, AreReplayWords, ArePrintWords, AreCheckWords, AreCommandWords}
 use Rattle.roc_cli.specs.Says.{Says, word_line, file_line}
-use Rattle.roc_cli.specs.Done.{Replays, Explains, Prints, Checks}
-use Rattle.roc_cli.specs.Stopped.{IsInput, the_workload, the_schedule, IsUnread, RunsOut, with_nothing, with_lines, CutsOutput, in_report, in_text, in_check}
-use Rattle.roc_cli.specs.Refused.{IsRefused, long_workload, no_text, out_of_scope, no_plan, long_schedule, no_schedule, not_sent}
+use Rattle.roc_cli.specs.Done.{Replays, Explains, Prints, Checks, Rejects}
+use Rattle.roc_cli.specs.Stopped.{IsInput, the_workload, the_schedule, IsUnread, RunsOut, with_nothing, with_lines, CutsOutput, in_report, in_text, in_check, in_rejection}
+use Rattle.roc_cli.specs.Refused.{IsRefused, long_workload, no_text, out_of_scope, out_of_reach, long_schedule, no_schedule, not_sent}
 use Rattle.roc_cli.specs.Status.{Answers}
 use Rattle.roc_cli.specs.Inner.Fault.{IsTold, EndsWith, line_of, blames_file, blames_sink}
 use Rattle.roc_cli.specs.Inner.Ends.{Fails, Ends, Blames}
@@ -24,14 +24,14 @@ module _ (call : Call) where
   refused_words _ (long_workload workload names more same) = workload_words call.words workload names
   refused_words _ (no_text workload line what names held same) = workload_words call.words workload names
   refused_words _ (out_of_scope workload fault names held same) = program_words call.words workload names
-  refused_words _ (no_plan workload schedule given held same) = inl (workload, schedule, given)
-  refused_words _ (long_schedule workload schedule plan given planned more same) = inl (workload, schedule, given)
+  refused_words _ (out_of_reach workload schedule plan given held none same) = inl (workload, schedule, given)
+  refused_words _ (long_schedule workload schedule plan given planned within more same) = inl (workload, schedule, given)
   refused_words _ (no_schedule plan bytes asked none same) = inl (asked.workload, asked.schedule, asked.given)
   refused_words _ (not_sent plan bytes asked number h) = inl (asked.workload, asked.schedule, asked.given)
 
   input_words : (name : List ℕ) → IsInput call name → AreCommandWords call.words
   input_words name (the_workload names) = workload_words call.words name names
-  input_words name (the_schedule workload plan given planned) = inl (workload, name, given)
+  input_words name (the_schedule workload plan given planned within) = inl (workload, name, given)
 
   out_words : RunsOut call → AreCommandWords call.words
   out_words (with_nothing are same) = are
@@ -40,15 +40,16 @@ module _ (call : Call) where
   cut_words : CutsOutput call → AreCommandWords call.words
   cut_words (in_report plan bytes asked h) = inl (asked.workload, asked.schedule, asked.given)
   cut_words (in_text workload tree given held front) = inr (inl (workload, given))
-  cut_words (in_check workload program immediate given held are front) = inr (inr (workload, given))
+  cut_words (in_check workload plan given held front) = inr (inr (workload, given))
+  cut_words (in_rejection workload program said names held front) = program_words call.words workload names
 
   -- where a file is refused, and there is no memory to say so, memory ran out
   refused_out : (line : List ℕ) → IsRefused call line → RunsOut call
   refused_out _ (long_workload workload names more same) = with_nothing (workload_words call.words workload names) same
   refused_out _ (no_text workload line what names held same) = with_nothing (workload_words call.words workload names) same
   refused_out _ (out_of_scope workload fault names held same) = with_nothing (program_words call.words workload names) same
-  refused_out _ (no_plan workload schedule given held same) = with_nothing (inl (workload, schedule, given)) same
-  refused_out _ (long_schedule workload schedule plan given planned more same) = with_nothing (inl (workload, schedule, given)) same
+  refused_out _ (out_of_reach workload schedule plan given held none same) = with_nothing (inl (workload, schedule, given)) same
+  refused_out _ (long_schedule workload schedule plan given planned within more same) = with_nothing (inl (workload, schedule, given)) same
   refused_out _ (no_schedule plan bytes asked none same) = with_nothing (inl (asked.workload, asked.schedule, asked.given)) same
   refused_out _ (not_sent plan bytes asked number h) =
       with_lines plan bytes asked (behind_lines h.before (h.line ∷ h.behind) h.steps h.world h.of_schedule h.played h.taken)
@@ -57,21 +58,25 @@ module _ (call : Call) where
 
 -- what a call failed by, with its status and the line on standard error: one rule for each status
 data IsFailure (call : Call) : (status : ℕ) → (line : List ℕ) → Type 0 where
+  rejected : Rejects call → ReadsAll call → IsFailure call 1 (line_of Rejected)
   no_words : (AreCommandWords call.words → ⊥) → TakesNothing call → ReadsAll call → IsFailure call 2 (word_line (codes "words"))
   refused : (line : List ℕ) → IsRefused call line → ReadsAll call → IsFailure call 3 line
   memory : RunsOut call → ReadsAll call → IsFailure call 4 (word_line (codes "memory"))
   unread : (name : List ℕ) → IsUnread call name → IsFailure call 6 (file_line name)
   cut : CutsOutput call → ReadsAll call → IsFailure call 7 (word_line (codes "sink"))
 
--- a failure that was said
+-- a failure that was said, but for that of status 1, which is not said on standard error
+abbrev SaysUnlessRejected : Errors → (status : ℕ) → (line : List ℕ) → Type 0
+SaysUnlessRejected err status line = (status ≡ 1 → ⊥) → Says err line
+
 record IsSaid (call : Call) (err : Errors) (status : ℕ) : Type 0 where
   line : List ℕ
   is : IsFailure call status line
-  says : Says err line
+  says : SaysUnlessRejected err status line
 
 module _ (call : Call) (err : Errors) where
   ended : (status n : ℕ) (line : List ℕ) → status ≡ n → Says err line → IsFailure call n line → IsSaid call err status
-  ended status n line e says is = record { line = line; is = subst (λ (m : ℕ). IsFailure call m line) (sym e) is; says = says }
+  ended status n line e says is = record { line = line; is = subst (λ (m : ℕ). IsFailure call m line) (sym e) is; says = λ _. says }
 
   -- a refused file, told, if only as want of memory
   said_refused : (status : ℕ) (line : List ℕ) → IsRefused call line → ReadsAll call → EndsWith 3 line status err ⊎ EndsWith 4 (line_of Memory) status err → IsSaid call err status
@@ -80,6 +85,7 @@ module _ (call : Call) (err : Errors) where
 
   -- each fault, told
   said : (fault : Fault) (status : ℕ) → Fails call fault → Blames call.failed_before call.failed_after fault → IsTold fault status err → IsSaid call err status
+  said Rejected status h read e = record { line = line_of Rejected; is = subst (λ (m : ℕ). IsFailure call m (line_of Rejected)) (sym e) (rejected h read); says = λ other. absurd (other e) }
   said Words status (none, same) read (e, says) = ended status 2 (line_of Words) e says (no_words none same read)
   said Memory status h read (e, says) = ended status 4 (line_of Memory) e says (memory h read)
   said (File file) status h only (e, says) = ended status 6 (line_of (File file)) e says (unread file.now h)
@@ -88,14 +94,16 @@ module _ (call : Call) (err : Errors) where
 
   -- ---- what each status says of a failure
 
-  known : (status : ℕ) (line : List ℕ) → IsFailure call status line → (status ≡ 0) ⊎ ((status ≡ 2) ⊎ ((status ≡ 3) ⊎ ((status ≡ 4) ⊎ ((status ≡ 6) ⊎ (status ≡ 7)))))
-  known _ _ (no_words none same read) = inr (inl refl)
-  known _ _ (refused line h read) = inr (inr (inl refl))
-  known _ _ (memory h read) = inr (inr (inr (inl refl)))
-  known _ _ (unread name h) = inr (inr (inr (inr (inl refl))))
-  known _ _ (cut h read) = inr (inr (inr (inr (inr refl))))
+  known : (status : ℕ) (line : List ℕ) → IsFailure call status line → (status ≡ 0) ⊎ ((status ≡ 1) ⊎ ((status ≡ 2) ⊎ ((status ≡ 3) ⊎ ((status ≡ 4) ⊎ ((status ≡ 6) ⊎ (status ≡ 7))))))
+  known _ _ (rejected h read) = inr (inl refl)
+  known _ _ (no_words none same read) = inr (inr (inl refl))
+  known _ _ (refused line h read) = inr (inr (inr (inl refl)))
+  known _ _ (memory h read) = inr (inr (inr (inr (inl refl))))
+  known _ _ (unread name h) = inr (inr (inr (inr (inr (inl refl)))))
+  known _ _ (cut h read) = inr (inr (inr (inr (inr (inr refl)))))
 
   of_words : (status : ℕ) (line : List ℕ) → IsFailure call status line → (status ≡ 2) ↔ (AreCommandWords call.words → ⊥)
+  of_words _ _ (rejected h read) = (λ e. absurd (omega arith), λ none. absurd (none (program_words call.words h.workload h.named)))
   of_words _ _ (no_words none same read) = (λ _. none, λ _. refl)
   of_words _ _ (refused line h read) = (λ e. absurd (omega arith), λ none. absurd (none (refused_words call line h)))
   of_words _ _ (memory h read) = (λ e. absurd (omega arith), λ none. absurd (none (out_words call h)))
@@ -106,27 +114,32 @@ module _ (call : Call) (err : Errors) where
   not_done A _ _ (no_words none same read) e = absurd (omega arith)
   not_done A _ _ _ e = absurd (omega arith)
 
-  at_words : (status : ℕ) (line : List ℕ) → IsFailure call status line → Says err line → status ≡ 2 → TakesNothing call × Says err (word_line (codes "words"))
-  at_words _ _ (no_words none same read) says e = (same, says)
+  at_rejected : (status : ℕ) (line : List ℕ) → IsFailure call status line → status ≡ 1 → Rejects call
+  at_rejected _ _ (rejected h read) e = h
+  at_rejected _ _ _ e = absurd (omega arith)
+
+  at_words : (status : ℕ) (line : List ℕ) → IsFailure call status line → SaysUnlessRejected err status line → status ≡ 2 → TakesNothing call × Says err (word_line (codes "words"))
+  at_words _ _ (no_words none same read) says e = (same, says (λ f. absurd (omega arith)))
   at_words _ _ _ says e = absurd (omega arith)
 
-  at_refused : (status : ℕ) (line : List ℕ) → IsFailure call status line → Says err line → status ≡ 3 → (said : List ℕ) × IsRefused call said × Says err said
-  at_refused _ _ (refused line h read) says e = (line, h, says)
+  at_refused : (status : ℕ) (line : List ℕ) → IsFailure call status line → SaysUnlessRejected err status line → status ≡ 3 → (said : List ℕ) × IsRefused call said × Says err said
+  at_refused _ _ (refused line h read) says e = (line, h, says (λ f. absurd (omega arith)))
   at_refused _ _ _ says e = absurd (omega arith)
 
-  at_memory : (status : ℕ) (line : List ℕ) → IsFailure call status line → Says err line → status ≡ 4 → RunsOut call × Says err (word_line (codes "memory"))
-  at_memory _ _ (memory h read) says e = (h, says)
+  at_memory : (status : ℕ) (line : List ℕ) → IsFailure call status line → SaysUnlessRejected err status line → status ≡ 4 → RunsOut call × Says err (word_line (codes "memory"))
+  at_memory _ _ (memory h read) says e = (h, says (λ f. absurd (omega arith)))
   at_memory _ _ _ says e = absurd (omega arith)
 
-  at_unread : (status : ℕ) (line : List ℕ) → IsFailure call status line → Says err line → status ≡ 6 → (name : List ℕ) × IsUnread call name × Says err (file_line name)
-  at_unread _ _ (unread name h) says e = (name, h, says)
+  at_unread : (status : ℕ) (line : List ℕ) → IsFailure call status line → SaysUnlessRejected err status line → status ≡ 6 → (name : List ℕ) × IsUnread call name × Says err (file_line name)
+  at_unread _ _ (unread name h) says e = (name, h, says (λ f. absurd (omega arith)))
   at_unread _ _ _ says e = absurd (omega arith)
 
-  at_cut : (status : ℕ) (line : List ℕ) → IsFailure call status line → Says err line → status ≡ 7 → CutsOutput call × Says err (word_line (codes "sink"))
-  at_cut _ _ (cut h read) says e = (h, says)
+  at_cut : (status : ℕ) (line : List ℕ) → IsFailure call status line → SaysUnlessRejected err status line → status ≡ 7 → CutsOutput call × Says err (word_line (codes "sink"))
+  at_cut _ _ (cut h read) says e = (h, says (λ f. absurd (omega arith)))
   at_cut _ _ _ says e = absurd (omega arith)
 
   at_others : (status : ℕ) (line : List ℕ) → IsFailure call status line → (status ≡ 6 → ⊥) → ReadsAll call
+  at_others _ _ (rejected h read) other = read
   at_others _ _ (no_words none same read) other = read
   at_others _ _ (refused line h read) other = read
   at_others _ _ (memory h read) other = read
@@ -142,6 +155,7 @@ module _ (call : Call) (err : Errors) where
         explained = not_done (AreReplayWords call.words → Explains call) status h.line h.is;
         printed = not_done (ArePrintWords call.words → Prints call) status h.line h.is;
         checked = not_done (AreCheckWords call.words → Checks call) status h.line h.is;
+        rejected = at_rejected status h.line h.is;
         words = of_words status h.line h.is;
         no_words = at_words status h.line h.is h.says;
         refused = at_refused status h.line h.is h.says;
@@ -206,6 +220,7 @@ module _ (call : Call) where
     explained = λ _ are. replay_explains (replay_done done are);
     printed = λ _ are. print_done done are;
     checked = λ _ are. check_done done are;
+    rejected = λ e. absurd (omega arith);
     words = (λ e. absurd (omega arith), λ none. absurd (none (done_words done)));
     no_words = λ e. absurd (omega arith);
     refused = λ e. absurd (omega arith);
@@ -228,6 +243,7 @@ refusal_counted line status wanted err old new f g (inl (e, says)) h = counted_a
 refusal_counted line status wanted err old new f g (inr (e, says)) h = counted_at status 4 wanted false old new e g h
 
 pub file_counted : (fault : Fault) (status : ℕ) (err : Errors) (old new : ℕ) → IsTold fault status err → HasCause (blames_file fault) old new → HasCause (status == 6) old new
+file_counted Rejected status err old new e h = counted_at status 1 6 false old new e refl h
 file_counted Words status err old new (e, says) h = counted_at status 2 6 false old new e refl h
 file_counted Memory status err old new (e, says) h = counted_at status 4 6 false old new e refl h
 file_counted (File file) status err old new (e, says) h = counted_at status 6 6 true old new e refl h
@@ -235,6 +251,7 @@ file_counted Sink status err old new (e, says) h = counted_at status 7 6 false o
 file_counted fault status err old new told h = refusal_counted (line_of fault) status 6 err old new refl refl told h
 
 pub sink_counted : (fault : Fault) (status : ℕ) (err : Errors) (old new : ℕ) → IsTold fault status err → HasCause (blames_sink fault) old new → HasCause (status == 7) old new
+sink_counted Rejected status err old new e h = counted_at status 1 7 false old new e refl h
 sink_counted Words status err old new (e, says) h = counted_at status 2 7 false old new e refl h
 sink_counted Memory status err old new (e, says) h = counted_at status 4 7 false old new e refl h
 sink_counted (File file) status err old new (e, says) h = counted_at status 6 7 false old new e refl h

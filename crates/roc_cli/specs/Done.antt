@@ -1,31 +1,32 @@
--- What was done, and what standard output took: docs/FORMATS.md, "Report" and "Text of check", and docs/LANGUAGE.md, "Canonical text"
-use Rattle.std.specs.Prelude.{◌↔◌, ℕ, ◌≤◌, Bool, IsTrue, List, length}
+-- What was done, and what standard output took: docs/FORMATS.md, "Report", "Text of check" and "Refusals", and docs/LANGUAGE.md, "Canonical text"
+use Rattle.std.specs.Prelude.{ℕ, ◌≤◌, List, length}
 use Rattle.roc_io.specs.Told.{Adds}
 use Rattle.roc_lang.specs.Syntax.{Tree}
 use Rattle.roc_print.specs.Canonical.{canonical}
-use Rattle.roc_program.specs.declared.piece_id.PieceId.{PieceId}
 use Rattle.roc_program.specs.Program.{Workload}
 use Rattle.roc_plan.specs.Groups.{Plan}
-use Rattle.roc_conflict.specs.Immediate.{IsImmediate}
+use Rattle.roc_plan.specs.Within.{IsWithin}
 use Rattle.roc_report.specs.Line.{Line}
-use Rattle.roc_report.specs.Text.{lines_text}
-use Rattle.roc_report.specs.Check.{check_lines}
+use Rattle.roc_report.specs.Text.{line_text, lines_text}
+use Rattle.roc_check.specs.Lines.{check_lines}
 use Rattle.roc_sched.specs.Schedule.{most_bytes}
 use Rattle.roc_replay.specs.declared.ended.Summary.{Summary}
 use Rattle.roc_replay.specs.Told.{IsExplained}
 use Rattle.roc_replay.specs.Ended.{IsReplayed}
 use Rattle.roc_cli.specs.Call.{Call}
-use Rattle.roc_cli.specs.Words.{IsReplay, IsPrint, IsCheck}
-use Rattle.roc_cli.specs.Held.{Holds, HoldsPlan, HoldsText, HoldsProgram}
+use Rattle.roc_cli.specs.Words.{IsReplay, IsPrint, IsCheck, NamesProgram}
+use Rattle.roc_cli.specs.Held.{Holds, HoldsPlan, HoldsText, HoldsRejected}
 
 -- ---- replay
 
--- the words ask for the replay of a schedule of these bytes, which are not too many, and name a workload that has this plan
+-- the words ask for the replay of a schedule of these bytes, which are not too many, and name a workload that has this plan, which the
+-- protocol reaches
 pub record IsReplayOf (call : Call) (plan : Plan) (bytes : List ℕ) : Type 0 where
   pub workload : List ℕ
   pub schedule : List ℕ
   pub given : IsReplay call.words workload schedule
   pub of_workload : HoldsPlan call.content workload plan
+  pub within : IsWithin plan
   pub of_schedule : Holds call.content schedule bytes
   pub size : length bytes ≤ most_bytes
 
@@ -58,20 +59,25 @@ pub record Prints (call : Call) : Type 0 where
 
 -- ---- check
 
--- these are the immediate pieces of a program: the least set that is closed under conflict and holds those declared `now`
-abbrev pub AreImmediate : Workload → (PieceId → Bool) → Type 0
-AreImmediate program immediate = (id : PieceId) → IsTrue (immediate id) ↔ IsImmediate program id
-
 -- the text of `check`
-abbrev pub check_text : Workload → (PieceId → Bool) → List ℕ
-check_text program immediate = lines_text program (check_lines program immediate)
+abbrev pub check_text : Plan → List ℕ
+check_text plan = lines_text plan.program (check_lines plan)
 
--- standard output took the text of the check of the named workload
+-- standard output took the text of the check of the named workload, which has this plan
 pub record Checks (call : Call) : Type 0 where
   pub workload : List ℕ
   pub given : IsCheck call.words workload
+  pub plan : Plan
+  pub held : HoldsPlan call.content workload plan
+  pub taken : Adds call.out_before call.out_after (check_text plan)
+
+-- ---- a workload that is not acceptable
+
+-- standard output took the one line that says why the named workload is not acceptable
+pub record Rejects (call : Call) : Type 0 where
+  pub workload : List ℕ
+  pub named : NamesProgram call.words workload
   pub program : Workload
-  pub held : HoldsProgram call.content workload program
-  pub immediate : PieceId → Bool
-  pub are_immediate : AreImmediate program immediate
-  pub taken : Adds call.out_before call.out_after (check_text program immediate)
+  pub said : Line
+  pub held : HoldsRejected call.content workload program said
+  pub taken : Adds call.out_before call.out_after (line_text program said)

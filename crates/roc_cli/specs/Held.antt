@@ -1,5 +1,5 @@
 -- What a named file holds, as far as that is told: docs/FORMATS.md, "The program"
-use Rattle.std.specs.Prelude.{◌≡◌, ℕ, ◌<◌, ◌≤◌, List, [], length, Option, Some, IfSome}
+use Rattle.std.specs.Prelude.{◌≡◌, ℕ, ◌<◌, ◌≤◌, List, length, Option, Some, IfSome}
 use Rattle.roc_lang.specs.Syntax.{Tree}
 use Rattle.roc_lang.specs.Grammar.{text_limit}
 use Rattle.roc_lang.specs.Scope.{Fault, faults}
@@ -8,8 +8,8 @@ use Rattle.roc_scope.specs.Fault.{first}
 use Rattle.roc_parse.specs.Fault.{IsWorkloadText, IsFirstFault}
 use Rattle.roc_program.specs.Program.{Workload}
 use Rattle.roc_plan.specs.Groups.{Plan}
-use Rattle.roc_program.specs.Resolve.{resolved}
-use Rattle.roc_plan.specs.Within.{IsWithin, IsThinShaped}
+use Rattle.roc_report.specs.Line.{Line}
+use Rattle.roc_check.specs.Checked.{IsPlanOfText, IsRefusedText}
 
 -- these are the bytes that the name holds, where they are told
 abbrev pub Holds : (List ℕ → Option (List ℕ)) → List ℕ → List ℕ → Type 0
@@ -38,20 +38,14 @@ pub record HoldsMisuse (content : List ℕ → Option (List ℕ)) (name : List �
   pub of : HoldsText content name tree
   pub is : first (faults tree) ≡ Some fault
 
--- the name holds a workload text in scope, of this program
-pub record HoldsProgram (content : List ℕ → Option (List ℕ)) (name : List ℕ) (program : Workload) : Type 0 where
-  pub tree : Tree
-  pub of : HoldsText content name tree
-  pub in_scope : faults tree ≡ []
-  pub is : program ≡ resolved tree
-
--- the name holds a program that has this plan, which the protocol reaches
+-- the name holds a workload text in scope, of a program that has this plan
 pub record HoldsPlan (content : List ℕ → Option (List ℕ)) (name : List ℕ) (plan : Plan) : Type 0 where
-  pub program : HoldsProgram content name plan.program
-  pub within : IsWithin plan
+  pub bytes : List ℕ
+  pub held : Holds content name bytes
+  pub is : IsPlanOfText bytes plan
 
--- the name holds a program that has no such plan
-pub record HoldsUnfit (content : List ℕ → Option (List ℕ)) (name : List ℕ) : Type 0 where
-  pub program : Workload
-  pub of : HoldsProgram content name program
-  pub unfit : IsThinShaped program → ⊥
+-- the name holds a workload text in scope, of this program, which is not acceptable: this line says why
+pub record HoldsRejected (content : List ℕ → Option (List ℕ)) (name : List ℕ) (program : Workload) (said : Line) : Type 0 where
+  pub bytes : List ℕ
+  pub held : Holds content name bytes
+  pub is : IsRefusedText bytes program said

@@ -6,13 +6,14 @@ use Rattle.roc_lang.specs.Scope.{Fault}
 use Rattle.roc_lang.specs.declared.fault.What.{What}
 use Rattle.roc_scope.specs.FaultText.{kind_text}
 use Rattle.roc_plan.specs.Groups.{Plan}
+use Rattle.roc_plan.specs.Within.{IsWithin}
 use Rattle.roc_sched.specs.Schedule.{most_bytes}
-use Rattle.roc_sched.specs.declared.line.Line.{Line}
-use Rattle.roc_sched.specs.Thin.{IsThinSchedule}
+use Rattle.roc_replay.specs.declared.asked.Asked.{Asked}
+use Rattle.roc_replay.specs.Thin.{IsThinSchedule}
 use Rattle.roc_replay.specs.Ended.{IsUnsent}
 use Rattle.roc_cli.specs.Call.{Call, TakesNothing}
 use Rattle.roc_cli.specs.Words.{IsReplay, NamesProgram, NamesWorkload}
-use Rattle.roc_cli.specs.Held.{HoldsMore, HoldsFault, HoldsMisuse, HoldsUnfit, HoldsPlan}
+use Rattle.roc_cli.specs.Held.{HoldsMore, HoldsFault, HoldsMisuse, HoldsPlan}
 use Rattle.roc_cli.specs.Done.{IsReplayOf}
 use Rattle.roc_cli.specs.Says.{long_line, fault_line}
 
@@ -24,11 +25,11 @@ pub data IsRefused (call : Call) : List ℕ → Type 0 where
       → IsRefused call (fault_line workload line (what_text what))
   out_of_scope : (workload : List ℕ) (fault : Fault) → NamesProgram call.words workload → HoldsMisuse call.content workload fault → TakesNothing call
       → IsRefused call (fault_line workload fault.line (kind_text fault.kind))
-  no_plan : (workload schedule : List ℕ) → IsReplay call.words workload schedule → HoldsUnfit call.content workload → TakesNothing call
+  out_of_reach : (workload schedule : List ℕ) (plan : Plan) → IsReplay call.words workload schedule → HoldsPlan call.content workload plan → ¬ IsWithin plan → TakesNothing call
       → IsRefused call (fault_line workload 1 (codes "limit"))
-  long_schedule : (workload schedule : List ℕ) (plan : Plan) → IsReplay call.words workload schedule → HoldsPlan call.content workload plan → HoldsMore call.content schedule most_bytes → TakesNothing call
+  long_schedule : (workload schedule : List ℕ) (plan : Plan) → IsReplay call.words workload schedule → HoldsPlan call.content workload plan → IsWithin plan → HoldsMore call.content schedule most_bytes → TakesNothing call
       → IsRefused call (long_line schedule)
-  no_schedule : (plan : Plan) (bytes : List ℕ) (asked : IsReplayOf call plan bytes) → ((lines : List Line) → IsThinSchedule plan.program bytes lines → ⊥) → TakesNothing call
+  no_schedule : (plan : Plan) (bytes : List ℕ) (asked : IsReplayOf call plan bytes) → ((events : List Asked) → IsThinSchedule plan.program bytes events → ⊥) → TakesNothing call
       → IsRefused call (fault_line asked.schedule 1 (codes "limit"))
   not_sent : (plan : Plan) (bytes : List ℕ) (asked : IsReplayOf call plan bytes) (number : ℕ) → IsUnsent plan bytes number call.out_before call.out_after
       → IsRefused call (fault_line asked.schedule number (codes "message"))

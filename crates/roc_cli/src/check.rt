@@ -6,24 +6,20 @@ ghost use Rattle.roc_cli.specs.Inner.Ends.{CheckEnds, fails_by};
 
 use crate::fault::Fault;
 use roc_check::check_text;
-use roc_conflict::promote;
 use roc_io::{Sink, Written};
-use roc_program::Workload;
+use roc_plan::Plan;
 use std::alloc::Global;
 
-/// Writes the text of the check of a workload.
-pub(crate) fn check_workload<'a, S: Sink>(
+/// Writes the text of the check of an accepted workload.
+pub(crate) fn write_check<'a, S: Sink>(
     alloc: Global,
-    workload: &Workload,
+    plan: &Plan,
     out: &mut S,
 ) -> Result<(), Fault<'a>>
-    ensures ends { CheckEnds workload.now (S.taken out.old) (S.taken out.new) result }
+    ensures ends { CheckEnds plan.now (S.taken out.old) (S.taken out.new) result }
     ensures faults { HasCause (fails_by blames_sink result) (S.faults out.old) (S.faults out.new) }
 {
-    let Ok(classes) = promote(alloc, workload) else {
-        return Err(Fault::Memory);
-    };
-    let Ok(text) = check_text(alloc, workload, &classes) else {
+    let Ok(text) = check_text(alloc, plan) else {
         return Err(Fault::Memory);
     };
     match out.write(&text) {

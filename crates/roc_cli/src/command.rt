@@ -1,15 +1,16 @@
 //! What the program does for its words.
-ghost use Rattle.std.specs.Prelude.{◌≡◌, ℕ, ◌==◌, List, map, string_bytes};
+ghost use Rattle.std.specs.Prelude.{◌≡◌, ℕ, ◌<◌, ◌==◌, List, map, string_bytes};
 ghost use Rattle.roc_io.specs.Cause.{HasCause};
 ghost use Rattle.roc_plan.specs.Within.{IsWithin};
 ghost use Rattle.roc_cli.specs.Words.{IsReplay, IsPrint, IsCheck};
+ghost use Rattle.roc_cli.specs.Held.{HoldsPlan};
 ghost use Rattle.roc_cli.specs.Status.{Answers};
 ghost use Rattle.roc_cli.specs.Inner.Fault.{blames_file, blames_sink};
 ghost use Rattle.roc_cli.specs.Inner.Ends.{Ends, ReplayEnds, ReadsBut, fails_by};
 
-use crate::check::check_workload;
+use crate::check::write_check;
 use crate::fault::Fault;
-use crate::input::{bytes_of, plan_of, workload_of};
+use crate::input::{bytes_of, plan_of};
 use crate::text::print_text;
 use crate::words::{check_name, print_name, replay_names};
 use roc_io::{Files, Link, Sink, Spawner};
@@ -24,7 +25,8 @@ const MOST_SCHEDULE_BYTES: usize = 8_388_608;
 /// Does what the words behind the program's name ask for, and answers the status with which the program is to end. The commands
 /// are `replay WORKLOAD SCHEDULE`, which reads both files, in this order, and writes the report of the schedule's run to `out`;
 /// `print WORKLOAD`, which writes the workload's canonical text; and `check WORKLOAD`, which writes which of its pieces are
-/// immediate and which conflict. Nothing but `err` is told of what went wrong, in one line; whether `err` takes it changes no
+/// immediate, how they are grouped and which conflict. Of a workload that is not acceptable, `replay` and `check` write the one line
+/// that says why to `out`. Nothing but `err` is told of all else that went wrong, in one line; whether `err` takes it changes no
 /// status. The link and the children are for commands to come.
 ///
 /// The status is 4 where memory runs out, which no clause gives a cause.
@@ -49,7 +51,7 @@ pub fn run<F: Files, S: Sink, E: Sink, L: Link, P: Spawner>(
         })
         (record { before = E.taken err.old; after = E.taken err.new; faults_before = E.faults err.old; faults_after = E.faults err.new })
         result }
-    ensures silent { result ≡ 0 → err.new ≡ err.old }
+    ensures silent { result < 2 → err.new ≡ err.old }
 
     // A count of faults rises exactly at the status that blames it.
     ensures file_faults { HasCause (result == 6) (F.faults files.old) (F.faults files.new) }
@@ -103,12 +105,32 @@ fn replay_files<'a, F: Files, S: Sink>(
     ensures sink_faults { HasCause (fails_by blames_sink result) (S.faults out.old) (S.faults out.new) }
     ensures content { (name : List ℕ) → F.content files.new name ≡ F.content files.old name }
 {
-    let plan = match plan_of(alloc, files, workload) {
-        Ok(plan) => plan,
-        Err(fault) => return Err(fault),
-    };
+    match plan_of(alloc, files, workload, out) {
+        Ok(plan) => replay_schedule(alloc, &plan, workload, schedule, files, out),
+        Err(fault) => Err(fault),
+    }
+}
+
+// Replays a schedule under this plan, where the protocol reaches it.
+fn replay_schedule<'a, F: Files, S: Sink>(
+    alloc: Global,
+    plan: &Plan,
+    workload: &'a str,
+    schedule: &'a str,
+    files: &mut F,
+    out: &mut S,
+) -> Result<(), Fault<'a>>
+    ensures ends { (words : List (List ℕ)) → IsReplay words workload.entry.now schedule.entry.now → HoldsPlan (F.content files.old) workload.entry.now plan.now → Ends (record { words = words; content = F.content files.old; failed_before = F.failed_names files.old; failed_after = F.failed_names files.new; out_before = S.taken out.old; out_after = S.taken out.new }) result }
+    ensures failed { ReadsBut (F.failed_names files.old) (F.failed_names files.new) result }
+    ensures file_faults { HasCause (fails_by blames_file result) (F.faults files.old) (F.faults files.new) }
+    ensures sink_faults { HasCause (fails_by blames_sink result) (S.faults out.old) (S.faults out.new) }
+    ensures content { (name : List ℕ) → F.content files.new name ≡ F.content files.old name }
+{
+    if !plan.within() {
+        return Err(Fault::OutOfReach(workload));
+    }
     match bytes_of(alloc, files, schedule, MOST_SCHEDULE_BYTES) {
-        Ok(bytes) => replay_file(alloc, &plan, schedule, &bytes, out),
+        Ok(bytes) => replay_file(alloc, plan, schedule, &bytes, out),
         Err(fault) => Err(fault),
     }
 }
@@ -145,8 +167,8 @@ fn check_file<'a, F: Files, S: Sink>(
     ensures sink_faults { HasCause (fails_by blames_sink result) (S.faults out.old) (S.faults out.new) }
     ensures content { (name : List ℕ) → F.content files.new name ≡ F.content files.old name }
 {
-    match workload_of(alloc, files, name) {
-        Ok(workload) => check_workload(alloc, &workload, out),
+    match plan_of(alloc, files, name, out) {
+        Ok(plan) => write_check(alloc, &plan, out),
         Err(fault) => Err(fault),
     }
 }

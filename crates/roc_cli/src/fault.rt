@@ -1,4 +1,5 @@
 //! Why the program ends without having done what it was asked: its status, and its line on standard error.
+ghost use Rattle.std.specs.Prelude.{◌≡◌, ◌<◌};
 ghost use Rattle.roc_cli.specs.Inner.Fault.{IsTold};
 
 use roc_io::{Sink, Written, write_all};
@@ -24,8 +25,10 @@ pub(crate) enum Fault<'a> {
         line: u32,
         what: ScopeWhat,
     },
-    /// A workload has no plan.
-    Unfit(&'a str),
+    /// A workload is not acceptable. Standard output took the line that says why.
+    Rejected,
+    /// The protocol does not reach the plan of a workload.
+    OutOfReach(&'a str),
     /// There is no memory.
     Memory,
     /// A file could not be read.
@@ -35,11 +38,13 @@ pub(crate) enum Fault<'a> {
 }
 
 impl Fault<'_> {
-    /// Writes the fault's line, and answers the status with which the program ends.
+    /// Writes the fault's line, if it has one, and answers the status with which the program ends.
     pub fn tell<E: Sink>(self, alloc: Global, err: &mut E) -> u8
-        ensures { IsTold self.entry result (record { before = E.taken err.old; after = E.taken err.new; faults_before = E.faults err.old; faults_after = E.faults err.new }) }
+        ensures silent { result < 2 → err.new ≡ err.old }
+        ensures told { IsTold self.entry result (record { before = E.taken err.old; after = E.taken err.new; faults_before = E.faults err.old; faults_after = E.faults err.new }) }
     {
         match self {
+            Fault::Rejected => 1,
             Fault::Words => {
                 err.write(b"words\n");
                 2
@@ -50,7 +55,7 @@ impl Fault<'_> {
             }
             Fault::At { file, line, what } => tell_line(alloc, err, file, line, what),
             Fault::Scope { file, line, what } => tell_misuse(alloc, err, file, line, what),
-            Fault::Unfit(file) => tell_line(alloc, err, file, 1, "limit"),
+            Fault::OutOfReach(file) => tell_line(alloc, err, file, 1, "limit"),
             Fault::Memory => {
                 err.write(b"memory\n");
                 4

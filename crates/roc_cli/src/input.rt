@@ -1,18 +1,20 @@
 //! The files that the words name.
 ghost use Rattle.std.specs.Prelude.{◌≡◌, ℕ, List, IfOk, IfErr};
 ghost use Rattle.roc_io.specs.Cause.{HasCause};
-ghost use Rattle.roc_cli.specs.Held.{HoldsProgram, HoldsPlan};
-ghost use Rattle.roc_cli.specs.Inner.Input.{HoldsWithin, IsReadFault, IsProgramFault, IsPlanFault, TellsError, TellsMisuse};
-ghost use Rattle.roc_cli.specs.Inner.Fault.{blames_file};
+ghost use Rattle.roc_report.specs.Shown.{shown_check};
+ghost use Rattle.roc_check.specs.Checked.{IsCheckFault};
+ghost use Rattle.roc_cli.specs.Inner.Input.{HoldsWithin, IsReadFault, PlanEnds, TextEnds, TextFails, RejectionEnds, TellsError, TellsMisuse};
+ghost use Rattle.roc_cli.specs.Inner.Fault.{blames_file, blames_sink};
 ghost use Rattle.roc_cli.specs.Inner.Ends.{fails_by, ReadsBut};
 
 use crate::fault::Fault;
-use roc_io::{Files, Read};
+use roc_check::{CheckFault, check};
+use roc_io::{Files, Read, Sink, Written};
 use roc_lang::LangError;
 use roc_lang::limits::TEXT_BYTES;
-use roc_parse::parse;
-use roc_plan::{Plan, PlanFault};
-use roc_program::{Workload, resolve};
+use roc_plan::Plan;
+use roc_program::Workload;
+use roc_report::{CheckLine, append_check};
 use roc_scope::ScopeFault;
 use std::alloc::Global;
 
@@ -38,48 +40,99 @@ pub(crate) fn bytes_of<'a, F: Files>(
     }
 }
 
-/// The workload that a file holds, whose names are in scope.
-pub(crate) fn workload_of<'a, F: Files>(
+/// The plan of the workload that a file holds. Where it is not acceptable, standard output is told why.
+pub(crate) fn plan_of<'a, F: Files, S: Sink>(
     alloc: Global,
     files: &mut F,
     name: &'a str,
-) -> Result<Workload, Fault<'a>>
-    ensures held { IfOk result (λ workload. HoldsProgram (F.content files.old) name.entry.now workload) }
-    ensures fault { IfErr result (IsProgramFault (F.content files.old) name.entry.now) }
-    ensures cause { HasCause (fails_by blames_file result) (F.faults files.old) (F.faults files.new) }
+    out: &mut S,
+) -> Result<Plan, Fault<'a>>
+    ensures ends { PlanEnds (F.content files.old) name.entry.now (S.taken out.old) (S.taken out.new) result }
     ensures failed { ReadsBut (F.failed_names files.old) (F.failed_names files.new) result }
+    ensures file_faults { HasCause (fails_by blames_file result) (F.faults files.old) (F.faults files.new) }
+    ensures sink_faults { HasCause (fails_by blames_sink result) (S.faults out.old) (S.faults out.new) }
     ensures unchanged { (other : List ℕ) → F.content files.new other ≡ F.content files.old other }
 {
-    let bytes = bytes_of(alloc, files, name, TEXT_BYTES)?;
-    match parse(alloc, &bytes) {
-        Ok(source) => match resolve(alloc, source) {
-            Ok(workload) => Ok(workload),
-            Err(fault) => Err(misuse_of(name, fault)),
-        },
-        Err(error) => Err(fault_of(name, error)),
+    match bytes_of(alloc, files, name, TEXT_BYTES) {
+        Ok(bytes) => checked(alloc, name, &bytes, out),
+        Err(fault) => Err(fault),
     }
 }
 
-/// The plan of the workload that a file holds.
-pub(crate) fn plan_of<'a, F: Files>(
+// The plan of the workload of these bytes, of the file of this name.
+fn checked<'a, S: Sink>(
     alloc: Global,
-    files: &mut F,
     name: &'a str,
+    bytes: &[u8],
+    out: &mut S,
 ) -> Result<Plan, Fault<'a>>
-    ensures held { IfOk result (HoldsPlan (F.content files.old) name.entry.now) }
-    ensures fault { IfErr result (IsPlanFault (F.content files.old) name.entry.now) }
-    ensures cause { HasCause (fails_by blames_file result) (F.faults files.old) (F.faults files.new) }
-    ensures failed { ReadsBut (F.failed_names files.old) (F.failed_names files.new) result }
-    ensures unchanged { (other : List ℕ) → F.content files.new other ≡ F.content files.old other }
+    ensures ends { TextEnds bytes.now name.entry.now (S.taken out.old) (S.taken out.new) result }
+    ensures faults { HasCause (fails_by blames_sink result) (S.faults out.old) (S.faults out.new) }
 {
-    let workload = match workload_of(alloc, files, name) {
-        Ok(workload) => workload,
-        Err(fault) => return Err(fault),
-    };
-    match Plan::thin(alloc, workload) {
+    match check(alloc, bytes) {
         Ok(plan) => Ok(plan),
-        Err(PlanFault::Unfit) => Err(Fault::Unfit(name)),
-        Err(PlanFault::NoMemory) => Err(Fault::Memory),
+        Err(fault) => Err(fault_of_check(alloc, name, fault, out)),
+    }
+}
+
+// A fault of the check, with the file's name; a refusal is written.
+fn fault_of_check<'a, S: Sink>(
+    alloc: Global,
+    name: &'a str,
+    fault: CheckFault,
+    out: &mut S,
+) -> Fault<'a>
+    ensures ends { (bytes : List ℕ) → IsCheckFault bytes fault → TextFails bytes name.entry.now (S.taken out.old) (S.taken out.new) result }
+    ensures faults { HasCause (blames_sink result) (S.faults out.old) (S.faults out.new) }
+{
+    match fault {
+        CheckFault::Lang(error) => fault_of(name, error),
+        CheckFault::Scope(fault) => misuse_of(name, fault),
+        CheckFault::Apart {
+            workload,
+            p,
+            q,
+            cycle,
+        } => {
+            let cycle = cycle.as_slice();
+            reject(alloc, &workload, &CheckLine::Apart { p, q, cycle }, out)
+        }
+        CheckFault::Blocked {
+            workload,
+            p,
+            q,
+            x,
+            cycle,
+        } => {
+            let cycle = cycle.as_slice();
+            reject(
+                alloc,
+                &workload,
+                &CheckLine::Blocked { p, q, x, cycle },
+                out,
+            )
+        }
+        CheckFault::NoMemory => Fault::Memory,
+    }
+}
+
+// Writes the line that says why a workload is not acceptable.
+fn reject<'a, S: Sink>(
+    alloc: Global,
+    workload: &Workload,
+    line: &CheckLine,
+    out: &mut S,
+) -> Fault<'a>
+    ensures ends { RejectionEnds workload.now (shown_check line.now) (S.taken out.old) (S.taken out.new) result }
+    ensures faults { HasCause (blames_sink result) (S.faults out.old) (S.faults out.new) }
+{
+    let mut text = Vec::new(alloc);
+    let Ok(()) = append_check(alloc, &mut text, workload, line) else {
+        return Fault::Memory;
+    };
+    match out.write(&text) {
+        Written::Ok => Fault::Rejected,
+        Written::Failed => Fault::Sink,
     }
 }
 

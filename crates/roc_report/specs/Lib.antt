@@ -2,4 +2,5 @@ pub mod Standing
 pub mod Line
 pub mod Shown
 pub mod Text
-pub mod Check
+pub mod ReportLine
+pub mod Names

@@ -1,17 +1,62 @@
 -- The line that a line of the code shows, without what it borrows from
+use Rattle.std.specs.Prelude.{List, [], map}
+use Rattle.roc_base.specs.declared.id.TxnId.{TxnId}
+use Rattle.roc_base.specs.Edge.{Dependency}
+use Rattle.roc_msg.specs.declared.msg.Msg.{Msg}
+use Rattle.roc_msg.specs.declared.msg.Msg.TheVariants as msg
+use Rattle.roc_msg.specs.declared.msg.Sent.{Sent}
+use Rattle.roc_msg.specs.Msg.{id_of}
 use Rattle.roc_report.specs.declared.line.ReportLine.{ReportLine}
-use Rattle.roc_report.specs.declared.line.ReportLine.TheVariants.{Submit, Busy, Spent, Deliver, Ignored, Send, Answer, Order, Row, Pending, End}
+use Rattle.roc_report.specs.declared.line.ReportLine.TheVariants.{Submit, Busy, Spent, Deliver, Nothing, Tick, Ignored, Send, Answer, Order, Row, Pending, End}
 use Rattle.roc_report.specs.declared.line.CheckLine.{CheckLine}
-use Rattle.roc_report.specs.declared.line.CheckLine.TheVariants.{Shards, Proc, Piece, Conflict}
+use Rattle.roc_report.specs.declared.line.CheckLine.TheVariants.{Shards, Proc, Piece, Group, Conflict, Accepted, Apart, Blocked}
 use Rattle.roc_report.specs.Line as pure
+
+-- ---- messages
+
+abbrev pub message_kind : Msg → pure.MessageKind
+message_kind (msg.Start id proc group args inputs) = pure.Start
+message_kind (msg.StartOk id group shard bound outs edges facts) = pure.StartOk
+message_kind (msg.Commit id edges facts) = pure.Commit
+message_kind (msg.CommitOk id shard outs) = pure.CommitOk
+message_kind (msg.Fetch id asker) = pure.Fetch
+message_kind (msg.Known id edges) = pure.Known
+message_kind msg.Stop = pure.Stop
+
+-- the edges that a message tells of its own transaction
+abbrev pub edges_of : Msg → List Dependency
+edges_of (msg.StartOk id group shard bound outs edges facts) = edges
+edges_of (msg.Commit id edges facts) = edges
+edges_of (msg.Known id edges) = edges
+edges_of (msg.Start id proc group args inputs) = []
+edges_of (msg.CommitOk id shard outs) = []
+edges_of (msg.Fetch id asker) = []
+edges_of msg.Stop = []
+
+-- the transactions whose lists travel along
+abbrev pub facts_of : Msg → List TxnId
+facts_of (msg.StartOk id group shard bound outs edges facts) = map (λ fact. fact.of) facts
+facts_of (msg.Commit id edges facts) = map (λ fact. fact.of) facts
+facts_of (msg.Known id edges) = []
+facts_of (msg.Start id proc group args inputs) = []
+facts_of (msg.CommitOk id shard outs) = []
+facts_of (msg.Fetch id asker) = []
+facts_of msg.Stop = []
+
+abbrev pub shown_message : Sent → pure.ShownMessage
+shown_message s = record { kind = message_kind s.msg; id = id_of s.msg; from = s.from; to = s.to; edges = edges_of s.msg; facts = facts_of s.msg }
+
+-- ---- lines
 
 abbrev pub shown : ReportLine → pure.Line
 shown (Submit id proc args) = pure.Submit id proc args.now
 shown (Busy coord) = pure.Busy coord
 shown (Spent coord) = pure.Spent coord
 shown (Deliver number) = pure.Deliver number
+shown Nothing = pure.Nothing
+shown (Tick node) = pure.Tick node
 shown (Ignored reason) = pure.Ignored reason
-shown (Send number sent) = pure.Send number sent.now
+shown (Send number sent) = pure.Send number (shown_message sent.now)
 shown (Answer id reply) = pure.Answer id reply.now
 shown (Order ids) = pure.Order ids.now
 shown (Row cell value) = pure.Row cell.now value
@@ -22,4 +67,8 @@ abbrev pub shown_check : CheckLine → pure.Line
 shown_check (Shards count) = pure.Shards count
 shown_check (Proc proc) = pure.Proc proc
 shown_check (Piece id standing) = pure.Piece id standing
+shown_check (Group proc number is_immediate pieces) = pure.Group proc number is_immediate pieces.now
 shown_check (Conflict first second) = pure.Conflict first second
+shown_check Accepted = pure.Accepted
+shown_check (Apart p q cycle) = pure.Apart p q cycle.now
+shown_check (Blocked p q x cycle) = pure.Blocked p q x cycle.now

@@ -7,17 +7,17 @@ use Rattle.roc_base.specs.declared.id.TxnId.{TxnId}
 use Rattle.roc_base.specs.TxnId.{txn_text}
 use Rattle.roc_base.specs.Node.{node_text}
 use Rattle.roc_base.specs.Edge.{Dependency}
-use Rattle.roc_msg.specs.declared.msg.Msg.{Msg}
-use Rattle.roc_msg.specs.declared.msg.Msg.TheVariants as msg
-use Rattle.roc_msg.specs.declared.msg.Sent.{Sent}
-use Rattle.roc_msg.specs.Msg.{id_of, word_of}
 use Rattle.roc_msg.specs.Reason.{reason_text}
 use Rattle.roc_program.specs.Program.{Workload}
 use Rattle.roc_program.specs.LookUps.{procedure_name, table_name, column_name}
 use Rattle.roc_program.specs.Pieces.{piece_of}
 use Rattle.roc_program.specs.declared.piece_id.PieceId.{PieceId}
 use Rattle.roc_rows.specs.declared.cell.Cell.{Cell}
-use Rattle.roc_report.specs.Line.{Line, Submit, Busy, Spent, Deliver, Ignored, Send, Answer, Order, Row, Pending, End, Shards, Proc, Piece, Conflict}
+use Rattle.roc_scgraph.specs.declared.vertex.Vertex.{Vertex}
+use Rattle.roc_scgraph.specs.declared.vertex.Instance.{Instance}
+use Rattle.roc_scgraph.specs.declared.vertex.Instance.TheVariants.{First, Second}
+use Rattle.roc_scgraph.specs.Graph.{piece_id}
+use Rattle.roc_report.specs.Line.{MessageKind, Start, StartOk, Commit, CommitOk, Fetch, Known, Stop, ShownMessage, Line, Submit, Busy, Spent, Deliver, Nothing, Tick, Ignored, Send, Answer, Order, Row, Pending, End, Shards, Proc, Piece, Group, Conflict, Accepted, Apart, Blocked}
 use Rattle.roc_report.specs.Standing.{standing_text}
 
 -- a space, and a word behind it
@@ -41,16 +41,22 @@ edge_text d = txn_text d.from ++ codes "/" ++ tags_text d.imm d.def ++ codes "@"
 abbrev pub edges_text : List Dependency → List ℕ
 edges_text edges = flat_map (λ d. spaced (edge_text d)) edges
 
--- the predecessors that a message tells
-abbrev pub edges_of : Msg → List Dependency
-edges_of (msg.Start id proc group args inputs) = []
-edges_of (msg.StartOk id group shard bound outs edges) = edges
-edges_of (msg.Commit id edges) = edges
-edges_of (msg.CommitOk id shard outs) = []
+-- the transactions of facts, each behind a +
+abbrev pub facts_text : List TxnId → List ℕ
+facts_text facts = flat_map (λ id. spaced (43 ∷ txn_text id)) facts
 
--- KIND C.S FROM TO EDGES
-abbrev pub sent_text : Sent → List ℕ
-sent_text s = word_of s.msg ++ ids_text (option_to_list (id_of s.msg)) ++ spaced (node_text s.from) ++ spaced (node_text s.to) ++ edges_text (edges_of s.msg)
+abbrev pub message_kind_text : MessageKind → List ℕ
+message_kind_text Start = codes "start"
+message_kind_text StartOk = codes "startok"
+message_kind_text Commit = codes "commit"
+message_kind_text CommitOk = codes "commitok"
+message_kind_text Fetch = codes "fetch"
+message_kind_text Known = codes "known"
+message_kind_text Stop = codes "stop"
+
+-- KIND C.S FROM TO EDGES FACTS
+abbrev pub message_text : ShownMessage → List ℕ
+message_text m = message_kind_text m.kind ++ ids_text (option_to_list m.id) ++ spaced (node_text m.from) ++ spaced (node_text m.to) ++ edges_text m.edges ++ facts_text m.facts
 
 -- the integers of an id, a comma before each
 abbrev pub key_text : List ℤ → List ℕ
@@ -64,14 +70,36 @@ cell_text program c = table_name program c.table ++ codes "[" ++ signed_decimal 
 abbrev pub piece_text : Workload → PieceId → List ℕ
 piece_text program id = procedure_name program id.proc ++ codes "." ++ (piece_of program id).name
 
+-- the class of a group
+abbrev pub class_text : Bool → List ℕ
+class_text is_immediate = if is_immediate then codes "immediate" else codes "deferrable"
+
+-- the names of pieces of a procedure, a space before each
+abbrev pub names_text : Workload → (proc : ℕ) → List ℕ → List ℕ
+names_text program proc pieces = flat_map (λ k. spaced (piece_of program (record { proc = proc; piece = k })).name) pieces
+
+abbrev pub instance_text : Instance → List ℕ
+instance_text First = codes "1"
+instance_text Second = codes "2"
+
+-- PROCEDURE.PIECE#INSTANCE
+abbrev pub vertex_text : Workload → Vertex → List ℕ
+vertex_text program v = piece_text program (piece_id v) ++ codes "#" ++ instance_text v.instance
+
+-- the vertices of a cycle, behind a colon and with a space before each
+abbrev pub cycle_text : Workload → List Vertex → List ℕ
+cycle_text program cycle = codes ":" ++ flat_map (λ v. spaced (vertex_text program v)) cycle
+
 -- a line without its end. What the program does not have has no name.
 abbrev pub words_of : Workload → Line → List ℕ
 words_of program (Submit id proc args) = codes "submit " ++ txn_text id ++ spaced (procedure_name program proc) ++ numbers_text args
 words_of program (Busy coord) = codes "busy " ++ decimal coord
 words_of program (Spent coord) = codes "spent " ++ decimal coord
 words_of program (Deliver number) = codes "deliver " ++ decimal number
+words_of program Nothing = codes "none"
+words_of program (Tick node) = codes "tick " ++ node_text node
 words_of program (Ignored reason) = codes "ignored " ++ reason_text reason
-words_of program (Send number sent) = codes "send " ++ decimal number ++ spaced (sent_text sent)
+words_of program (Send number message) = codes "send " ++ decimal number ++ spaced (message_text message)
 words_of program (Answer id reply) = codes "answer " ++ txn_text id ++ numbers_text reply
 words_of program (Order ids) = codes "order" ++ ids_text ids
 words_of program (Row cell value) = codes "row " ++ cell_text program cell ++ spaced (signed_decimal value)
@@ -81,7 +109,12 @@ words_of program (End answered pending messages) =
 words_of program (Shards count) = codes "shards " ++ decimal count
 words_of program (Proc proc) = codes "proc " ++ procedure_name program proc
 words_of program (Piece id standing) = codes "piece " ++ (piece_of program id).name ++ spaced (standing_text standing)
+words_of program (Group proc number is_immediate pieces) = codes "group " ++ decimal number ++ spaced (class_text is_immediate) ++ names_text program proc pieces
 words_of program (Conflict first second) = codes "conflict " ++ piece_text program first ++ spaced (piece_text program second)
+words_of program Accepted = codes "accepted"
+words_of program (Apart p q cycle) = codes "refused apart " ++ piece_text program p ++ spaced (piece_text program q) ++ cycle_text program cycle
+words_of program (Blocked p q x cycle) =
+    codes "refused blocked " ++ piece_text program p ++ spaced (piece_text program q) ++ codes " by " ++ piece_text program x ++ cycle_text program cycle
 
 -- a line, which ends with a line feed
 abbrev pub line_text : Workload → Line → List ℕ

@@ -1,12 +1,14 @@
 //! The lines that the program writes, and the exact text of each.
 //!
-//! A [`ReportLine`] lends what it shows, and a [`CheckLine`] is a line of the text of `check`. `specs/Line.antt` has lines as
-//! plain data, `specs/Shown.antt` what a line of the code is of these, and `specs/Text.antt` the text of each line, as
-//! `docs/FORMATS.md` describes it; `specs/Check.antt` has the lines of the text of `check`. The layers above may rely on this:
-//! `append` and `append_check` add exactly the text of a line, or leave what is there as it was.
+//! A [`ReportLine`] and a [`CheckLine`], a line that `check` writes, lend what they show. `specs/Line.antt` has lines as plain
+//! data, `specs/Shown.antt` what a line of the code is of these, and `specs/Text.antt` the text of each line, as
+//! `docs/FORMATS.md` describes it. The layers above may rely on this: `append` and `append_check` add exactly the text of a
+//! line, or leave what is there as it was; and [`laws`] says that a report's text is of one list of lines
+//! (`specs/ReportLine.antt`).
 #![tactic(auto)]
 
 mod check;
+pub mod laws;
 mod line;
 mod text;
 

@@ -1,9 +1,10 @@
 //! A line of a report, as data.
 
-use roc_base::{Nums, TxnId};
+use roc_base::{Node, Nums, TxnId};
 use roc_msg::{Reason, Sent};
 use roc_program::PieceId;
 use roc_rows::Cell;
+use roc_scgraph::Vertex;
 use std::fmt;
 
 /// When the pieces of a transaction may run, once pieces in conflict with immediate ones were
@@ -48,6 +49,10 @@ pub enum ReportLine<'a> {
     Spent(u16),
     /// The delivery of a message, by its number.
     Deliver(u64),
+    /// No message was left to be delivered.
+    Nothing,
+    /// A node's tick.
+    Tick(Node),
     /// The message was ignored.
     Ignored(Reason),
     /// A message that was sent, with its number.
@@ -78,15 +83,40 @@ pub enum ReportLine<'a> {
     },
 }
 
-/// One line of the text of `check`.
+/// One line that `check` writes: of the text of a workload, or why it is refused. It lends its lists from where they are kept.
 #[derive(Clone, Copy, Debug)]
-pub enum CheckLine {
+pub enum CheckLine<'a> {
     /// How many shards the workload has.
     Shards(u8),
     /// A procedure, by its number.
     Proc(u16),
     /// A piece of a procedure.
-    Piece { id: PieceId, standing: Standing },
+    Piece {
+        id: PieceId,
+        standing: Standing,
+    },
+    /// A group of a procedure, by its number: whether it is immediate, and its pieces, by number.
+    Group {
+        proc: u16,
+        number: u16,
+        immediate: bool,
+        pieces: &'a [u16],
+    },
     /// Two pieces in static conflict.
     Conflict(PieceId, PieceId),
+    /// The workload is accepted.
+    Accepted,
+    /// The workload is refused: two pieces that may not be cut apart are at different places. A cycle shows why.
+    Apart {
+        p: PieceId,
+        q: PieceId,
+        cycle: &'a [Vertex],
+    },
+    /// The workload is refused: a piece between two that may not be cut apart is at another place. A cycle of the two shows why.
+    Blocked {
+        p: PieceId,
+        q: PieceId,
+        x: PieceId,
+        cycle: &'a [Vertex],
+    },
 }

@@ -1,14 +1,15 @@
 //! The text of a line.
-ghost use Rattle.std.specs.Prelude.{◌≡◌, ◌∷◌, ◌++◌, OnOk, OnErr, codes};
+ghost use Rattle.std.specs.Prelude.{◌≡◌, ◌∷◌, ◌++◌, map, OnOk, OnErr, codes};
 ghost use Rattle.std.specs.Fmt.{decimal};
 ghost use Rattle.std.specs.String.{string_bytes};
 ghost use Rattle.roc_program.specs.LookUps.{procedure_name, table_name, column_name};
 ghost use Rattle.roc_report.specs.Line.{Row};
-ghost use Rattle.roc_report.specs.Shown.{shown};
-ghost use Rattle.roc_report.specs.Text.{numbers_text, ids_text, tags_text, edges_text, edges_of, spaced, sent_text, key_text, cell_text, words_of, line_text};
+ghost use Rattle.roc_report.specs.Shown.{message_kind, edges_of, facts_of, shown_message, shown};
+ghost use Rattle.roc_report.specs.Text.{numbers_text, ids_text, tags_text, edges_text, facts_text, message_kind_text, spaced, message_text, key_text, cell_text, words_of, line_text};
 
 use crate::ReportLine;
 use roc_base::{Edge, NoMemory, Shard, TxnId};
+use roc_depgraph::KnownList;
 use roc_msg::{Msg, Sent};
 use roc_program::Workload;
 use roc_rows::Cell;
@@ -44,6 +45,8 @@ fn push_words(text: &mut String, workload: &Workload, line: &ReportLine) -> Resu
         ReportLine::Busy(coord) => write!(text, "busy {coord}"),
         ReportLine::Spent(coord) => write!(text, "spent {coord}"),
         ReportLine::Deliver(number) => write!(text, "deliver {number}"),
+        ReportLine::Nothing => text.push_str("none"),
+        ReportLine::Tick(node) => write!(text, "tick {node}"),
         ReportLine::Ignored(reason) => write!(text, "ignored {reason}"),
         ReportLine::Send { number, sent } => push_sent(text, *number, sent),
         ReportLine::Answer { id, reply } => {
@@ -110,29 +113,70 @@ fn tags(edge: Edge) -> &'static str
     }
 }
 
-// The predecessors that a message tells.
+// Adds the transactions of facts, a space and a + before each.
+fn push_facts(text: &mut String, facts: &[KnownList]) -> Result<(), AllocError>
+    ensures { OnOk result (string_bytes text.new ≡ string_bytes text.old ++ facts_text (map (λ fact. fact.of) facts.now)) }
+{
+    for fact in facts {
+        let id = fact.of;
+        write!(text, " +{id}")?;
+    }
+    Ok(())
+}
+
+// The word of a message's kind.
+fn message_kind_text(msg: &Msg) -> &'static str
+    ensures { result.now ≡ message_kind_text (message_kind msg.now) }
+{
+    match msg {
+        Msg::Start { .. } => "start",
+        Msg::StartOk { .. } => "startok",
+        Msg::Commit { .. } => "commit",
+        Msg::CommitOk { .. } => "commitok",
+        Msg::Fetch { .. } => "fetch",
+        Msg::Known { .. } => "known",
+        Msg::Stop => "stop",
+    }
+}
+
+// The predecessors that a message tells of its own transaction.
 fn edges_of(msg: &Msg) -> &[Edge]
     ensures { result.now ≡ edges_of msg.now }
 {
     match msg {
-        Msg::StartOk { edges, .. } => edges.as_slice(),
-        Msg::Commit { edges, .. } => edges.as_slice(),
-        Msg::Start { .. } => &[],
-        Msg::CommitOk { .. } => &[],
+        Msg::StartOk { edges, .. } | Msg::Commit { edges, .. } | Msg::Known { edges, .. } => {
+            edges.as_slice()
+        }
+        Msg::Start { .. } | Msg::CommitOk { .. } | Msg::Fetch { .. } | Msg::Stop => &[],
     }
 }
 
-// Adds a message: its number, what it is, its id, sender and receiver, and its predecessors.
+// The lists that travel along with a message.
+fn facts_of(msg: &Msg) -> &[KnownList]
+    ensures { map (λ fact. fact.of) result.now ≡ facts_of msg.now }
+{
+    match msg {
+        Msg::StartOk { facts, .. } | Msg::Commit { facts, .. } => facts.as_slice(),
+        Msg::Start { .. }
+        | Msg::CommitOk { .. }
+        | Msg::Fetch { .. }
+        | Msg::Known { .. }
+        | Msg::Stop => &[],
+    }
+}
+
+// Adds a message: its number, what it is, its id, sender and receiver, its predecessors and facts.
 fn push_sent(text: &mut String, number: u64, sent: &Sent) -> Result<(), AllocError>
-    ensures { OnOk result (string_bytes text.new ≡ string_bytes text.old ++ codes "send " ++ decimal number ++ spaced (sent_text sent.now)) }
+    ensures { OnOk result (string_bytes text.new ≡ string_bytes text.old ++ codes "send " ++ decimal number ++ spaced (message_text (shown_message sent.now))) }
 {
     let (from, to) = (sent.from, sent.to);
-    write!(text, "send {number} {}", sent.msg.word())?;
+    write!(text, "send {number} {}", message_kind_text(&sent.msg))?;
     if let Some(id) = sent.msg.id() {
         write!(text, " {id}")?;
     }
     write!(text, " {from} {to}")?;
-    push_edges(text, edges_of(&sent.msg))
+    push_edges(text, edges_of(&sent.msg))?;
+    push_facts(text, facts_of(&sent.msg))
 }
 
 // Adds a cell and its value.

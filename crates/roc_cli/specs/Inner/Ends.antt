@@ -6,18 +6,16 @@ use Rattle.roc_lang.specs.FaultText.{what_text}
 use Rattle.roc_lang.specs.declared.fault.What.{What}
 use Rattle.roc_parse.specs.Fault.{IsWorkloadText, IsFirstFault}
 use Rattle.roc_print.specs.Canonical.{canonical}
-use Rattle.roc_program.specs.declared.piece_id.PieceId.{PieceId}
-use Rattle.roc_program.specs.Program.{Workload}
 use Rattle.roc_plan.specs.Groups.{Plan}
-use Rattle.roc_sched.specs.declared.line.Line.{Line}
-use Rattle.roc_sched.specs.Thin.{IsThinSchedule}
+use Rattle.roc_replay.specs.declared.asked.Asked.{Asked}
+use Rattle.roc_replay.specs.Thin.{IsThinSchedule}
 use Rattle.roc_replay.specs.declared.ended.Summary.{Summary}
 use Rattle.roc_replay.specs.Ended.{IsReplayed, IsUnsent, IsCut, IsUnfinished}
 use Rattle.roc_cli.specs.declared.fault.Fault.{Fault}
-use Rattle.roc_cli.specs.declared.fault.Fault.TheVariants.{Words, At, Memory, File, Sink}
+use Rattle.roc_cli.specs.declared.fault.Fault.TheVariants.{Words, At, Rejected, Memory, File, Sink}
 use Rattle.roc_cli.specs.Call.{Call, TakesNothing}
 use Rattle.roc_cli.specs.Words.{AreCommandWords}
-use Rattle.roc_cli.specs.Done.{Replays, Prints, Checks, AreImmediate, check_text}
+use Rattle.roc_cli.specs.Done.{Replays, Prints, Checks, Rejects, check_text}
 use Rattle.roc_cli.specs.Refused.{IsRefused}
 use Rattle.roc_cli.specs.Stopped.{IsUnread, RunsOut, CutsOutput}
 use Rattle.roc_cli.specs.Inner.Fault.{line_of}
@@ -36,22 +34,23 @@ PrintEnds bytes name old new _ = ⊥
 abbrev pub ReplayEnds : Plan → (bytes name : List ℕ) → (old new : Option (List ℕ)) → Result Unit Fault → Type 0
 ReplayEnds plan bytes name old new (Ok done) = (summary : Summary) × IsReplayed plan bytes summary old new
 ReplayEnds plan bytes name old new (Err (At file line what)) =
-    (file.now ≡ name) × (((line ≡ 1) × (what.now ≡ codes "limit") × ((lines : List Line) → IsThinSchedule plan.program bytes lines → ⊥) × (new ≡ old)) ⊎ ((what.now ≡ codes "message") × IsUnsent plan bytes line old new))
+    (file.now ≡ name) × (((line ≡ 1) × (what.now ≡ codes "limit") × ((events : List Asked) → IsThinSchedule plan.program bytes events → ⊥) × (new ≡ old)) ⊎ ((what.now ≡ codes "message") × IsUnsent plan bytes line old new))
 ReplayEnds plan bytes name old new (Err Memory) = IsUnfinished plan bytes old new
 ReplayEnds plan bytes name old new (Err Sink) = IsCut plan bytes old new
 ReplayEnds plan bytes name old new _ = ⊥
 
--- how the check of a program ends
-abbrev pub CheckEnds : Workload → (old new : Option (List ℕ)) → Result Unit Fault → Type 0
-CheckEnds program old new (Ok done) = (immediate : PieceId → Bool) × AreImmediate program immediate × Adds old new (check_text program immediate)
-CheckEnds program old new (Err Memory) = new ≡ old
-CheckEnds program old new (Err Sink) = (immediate : PieceId → Bool) × AreImmediate program immediate × AddsFront old new (check_text program immediate)
-CheckEnds program old new _ = ⊥
+-- how the text of the check of a plan ends
+abbrev pub CheckEnds : Plan → (old new : Option (List ℕ)) → Result Unit Fault → Type 0
+CheckEnds plan old new (Ok done) = Adds old new (check_text plan)
+CheckEnds plan old new (Err Memory) = new ≡ old
+CheckEnds plan old new (Err Sink) = AddsFront old new (check_text plan)
+CheckEnds plan old new _ = ⊥
 
 -- ---- any command
 
 -- what each fault means
 abbrev pub Fails : Call → Fault → Type 0
+Fails call Rejected = Rejects call
 Fails call Words = (AreCommandWords call.words → ⊥) × TakesNothing call
 Fails call Memory = RunsOut call
 Fails call (File file) = IsUnread call file.now

@@ -1,5 +1,5 @@
 use Rattle.std.proofs.Common.{◌≡◌, ◌++◌, drop}
-use Rattle.roc_report.specs.Check.{conflict_lines}
+use Rattle.roc_check.specs.Lines.{conflict_lines}
 use Rattle.roc_report.specs.Text.{lines_text}
 use Rattle.roc_check.proofs.text.push_conflicts.Given as goal
 

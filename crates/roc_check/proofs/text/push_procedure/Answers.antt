@@ -1,17 +1,17 @@
-use Rattle.std.proofs.Common.{ℕ, ◌++◌, ap, ◌∙◌}
-use Rattle.roc_program.specs.declared.piece_id.PieceId.{PieceId}
-use Rattle.roc_conflict.specs.Classes.{is_immediate}
-use Rattle.roc_report.specs.Check.{standing_of}
-use Rattle.roc_report.specs.Line.{Line, Proc, Piece}
+use Rattle.std.proofs.Common.{◌++◌, ap, ◌∙◌}
+use Rattle.std.proofs.lemmas.Result.{on_ok_weaker}
+use Rattle.roc_report.specs.Line.{Proc}
 use Rattle.roc_report.specs.Text.{line_text}
-use Rattle.roc_check.proofs.Added.{numbered_line_added}
+use Rattle.roc_check.specs.Lines.{piece_lines, group_lines}
+use Rattle.roc_check.proofs.Added.{procedure_added}
 use Rattle.roc_check.proofs.text.push_procedure.Goals as goal
 
-pub loop-piece-preserved : goal.loop-piece-preserved
-loop-piece-preserved c =
-    let p = c.args.workload.now in
-    let line : PieceId → Line = λ id. Piece id (standing_of p (is_immediate c.args.classes.now) id) in
-    let id : ℕ → PieceId = λ k. record { proc = c.args.proc; piece = k } in
-    numbered_line_added p c.args.text.now.items c.loop-piece.text.items c.append_check-in-loop-piece.new.into.items (Proc c.args.proc) line id c.loop-piece.piece
-    c.loop-piece.invariant
-    (c.in_ok-append_check-2.ensures.ok ∙ ap (λ s. c.loop-piece.text.items ++ line_text p (Piece (id c.loop-piece.piece) s)) c.standing-standing.ensures)
+pub returns : goal.returns
+returns c =
+    let plan = c.args.plan.now in
+    let start = c.args.text.now.items in
+    let line = Proc c.args.proc in
+    on_ok_weaker c.push_groups.result
+    (procedure_added plan.program start _ _ c.push_groups.new.text.items line (piece_lines plan c.args.proc) (group_lines plan c.args.proc)
+    (c.in_ok-append_check.ensures.ok ∙ ap (λ w. start ++ line_text w line) c.workload.ensures.program) c.in_ok-push_pieces.ensures)
+    c.push_groups.ensures

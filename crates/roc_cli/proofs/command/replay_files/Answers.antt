@@ -1,19 +1,14 @@
-use Rattle.std.proofs.Common.{refl}
-use Rattle.roc_cli.proofs.Faults.{plan_fails, schedule_unread, files_end}
+use Rattle.std.proofs.Common.{inl}
+use Rattle.roc_cli.proofs.Faults.{plan_fails, behind}
+use Rattle.roc_cli.proofs.Reading.{held_later}
 use Rattle.roc_cli.proofs.command.replay_files.Goals as goal
+
+-- the replay
+pub returns-in-Ok-clause-ends : goal.returns-in-Ok-clause-ends
+returns-in-Ok-clause-ends g c words given =
+    behind words _ _ _ _ _ _ _ _ _ c.in-Ok.ensures.unchanged c.in-Ok.ensures.failed c.in-Ok.ensures.ends.1
+    (c.replay_schedule.ensures.ends words given (held_later _ _ _ c.in-Ok.plan (c.in-Ok.ensures.unchanged _) c.in-Ok.ensures.ends.0))
 
 -- the workload
 pub returns-in-Err-clause-ends : goal.returns-in-Err-clause-ends
-returns-in-Err-clause-ends g c words given = plan_fails _ _ _ c.in-Err.fault given refl c.in-Err.ensures.failed c.in-Err.ensures.fault
-
--- the replay
-pub returns-in-Ok-bytes_of-clause-ends : goal.returns-in-Ok-bytes_of-clause-ends
-returns-in-Ok-bytes_of-clause-ends g c words given =
-    files_end _ _ _ _ _ _ _ _ c.in-Ok.ensures.unchanged given c.in-Ok.ensures.held c.in-Ok-bytes_of.ensures.held
-    c.deref.ensures.value c.replay_file.ensures.ends
-
--- the schedule
-pub returns-clause-ends : goal.returns-clause-ends
-returns-clause-ends g c words given =
-    schedule_unread _ _ _ _ _ _ c.in-Err-bytes_of.fault c.in-Ok.ensures.unchanged c.in-Ok.ensures.failed given c.in-Ok.ensures.held refl
-    c.in-Err-bytes_of.ensures.failed c.in-Err-bytes_of.ensures.fault
+returns-in-Err-clause-ends g c words given = plan_fails _ _ c.in-Err.fault (inl (_, given)) c.in-Err.ensures.failed c.in-Err.ensures.ends

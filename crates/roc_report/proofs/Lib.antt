@@ -1,0 +1,4 @@
+pub mod Apart
+pub mod Distinct
+pub mod Parts
+pub mod Lines

@@ -1,0 +1,77 @@
+-- The lines of a report of a program, and names that tell its parts apart: docs/FORMATS.md, "Report"
+use Rattle.std.specs.Prelude.{◌≡◌, ℕ, ◌<◌, ◌^◌, ℤ, FitsSigned, IfSome, List, length}
+use Rattle.std.specs.List.{AllByRecursion}
+use Rattle.std.specs.Int.{w64}
+use Rattle.roc_base.specs.declared.id.TxnId.{TxnId}
+use Rattle.roc_base.specs.declared.node.Node.{Node}
+use Rattle.roc_base.specs.declared.node.Node.TheVariants.{Server, Coord}
+use Rattle.roc_base.specs.Edge.{Dependency}
+use Rattle.roc_lang.specs.Tokens.{IsWord}
+use Rattle.roc_program.specs.Program.{Workload}
+use Rattle.roc_program.specs.LookUps.{procedure_name, table_name, columns_of, column_name}
+use Rattle.roc_rows.specs.declared.cell.Cell.{Cell}
+use Rattle.roc_report.specs.Line.{ShownMessage, Line, Submit, Busy, Spent, Deliver, Nothing, Tick, Ignored, Send, Answer, Order, Row, Pending, End}
+
+-- ---- names
+
+-- the parts with numbers below a count have words as names, and no two of them have one name
+pub record AreNames (count : ℕ) (name : ℕ → List ℕ) : Type 0 where
+  pub words : (n : ℕ) → n < count → IsWord (name n)
+  pub once : (n m : ℕ) → n < count → m < count → name n ≡ name m → n ≡ m
+
+-- procedures, tables, and the columns of each table are told apart by their names
+pub record HasNames (program : Workload) : Type 0 where
+  pub procedures : AreNames (length program.procedures) (procedure_name program)
+  pub tables : AreNames (length program.tables) (table_name program)
+  pub columns : (table : ℕ) → table < length program.tables → AreNames (length (columns_of program table)) (column_name program table)
+
+-- ---- numbers of at most 64 bits
+
+abbrev pub IsSmall : ℕ → Type 0
+IsSmall n = n < 2 ^ 64
+
+abbrev pub AreSmallIntegers : List ℤ → Type 0
+AreSmallIntegers numbers = AllByRecursion (FitsSigned w64) numbers
+
+abbrev pub IsSmallId : TxnId → Type 0
+IsSmallId id = IsSmall id.coord × IsSmall id.seq
+
+abbrev pub IsSmallNode : Node → Type 0
+IsSmallNode (Server shard) = IsSmall shard.0
+IsSmallNode (Coord number) = IsSmall number
+
+abbrev pub IsSmallEdge : Dependency → Type 0
+IsSmallEdge d = IsSmallId d.from × IsSmall d.at.0
+
+pub record IsSmallMessage (m : ShownMessage) : Type 0 where
+  pub id : IfSome m.id IsSmallId
+  pub from : IsSmallNode m.from
+  pub to : IsSmallNode m.to
+  pub edges : AllByRecursion IsSmallEdge m.edges
+  pub facts : AllByRecursion IsSmallId m.facts
+
+-- a column that the program has, of a row with such numbers
+pub record IsSmallCell (program : Workload) (cell : Cell) : Type 0 where
+  pub table : cell.table < length program.tables
+  pub column : cell.column < length (columns_of program cell.table)
+  pub place : FitsSigned w64 cell.place
+  pub id : AreSmallIntegers cell.id
+
+-- ---- lines
+
+-- a line of a report: what it names is in the program, and its numbers have at most 64 bits. No line of the text of `check` is one
+abbrev pub IsReportLine : Workload → Line → Type 0
+IsReportLine program (Submit id proc args) = IsSmallId id × (proc < length program.procedures) × AreSmallIntegers args
+IsReportLine program (Busy coord) = IsSmall coord
+IsReportLine program (Spent coord) = IsSmall coord
+IsReportLine program (Deliver number) = IsSmall number
+IsReportLine program Nothing = Unit {0}
+IsReportLine program (Tick node) = IsSmallNode node
+IsReportLine program (Ignored reason) = Unit {0}
+IsReportLine program (Send number message) = IsSmall number × IsSmallMessage message
+IsReportLine program (Answer id reply) = IsSmallId id × AreSmallIntegers reply
+IsReportLine program (Order ids) = AllByRecursion IsSmallId ids
+IsReportLine program (Row cell value) = IsSmallCell program cell × FitsSigned w64 value
+IsReportLine program (Pending id) = IsSmallId id
+IsReportLine program (End answered pending messages) = IsSmall answered × IsSmall pending × IsSmall messages
+IsReportLine program _ = ⊥
