@@ -1,5 +1,13 @@
 pub mod Thin
 pub mod Known_uses
-pub mod Read
-pub mod Ran
 pub mod Effects
+pub mod Touches
+pub mod Alike
+pub mod Starts
+pub mod GroupStarts
+pub mod Grouped
+pub mod Covered
+pub mod Placed
+pub mod Steady
+pub mod Ran
+pub mod Read

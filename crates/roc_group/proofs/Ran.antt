@@ -1,30 +1,55 @@
--- What was run and listed, as the definitions say it
-use Rattle.std.proofs.Common.{◌≡◌, ◌<◌, List, [], ◌∷◌, length, ℤ, Result, Ok, Err, IfOk, sym, ap, ◌∙◌}
-use Rattle.std.specs.List.{flat_map}
+-- Runs of pieces, and what they use and bind, one after another
+use Rattle.std.proofs.Common.{◌≡◌, ℤ, true, false, Option, Some, None, Result, Ok, Err, OnOk, List, [], ◌∷◌, ◌++◌, refl, sym, ap, ◌∙◌, append_assoc, append-nil}
+use Rattle.std.specs.List.{filter_map, cons_option}
+use Rattle.roc_program.specs.Program.{Statement, Get, Set, Out, Piece}
+use Rattle.roc_base.specs.declared.memory.NoMemory.{NoMemory}
 use Rattle.roc_rows.specs.Store.{Store}
-use Rattle.roc_program.specs.Program.{Piece}
-use Rattle.roc_plan.specs.Groups.{Plan, groups_of}
 use Rattle.roc_program.specs.Values.{Environment, value}
-use Rattle.roc_plan.specs.Within.{IsWithin}
-use Rattle.roc_whole.specs.Run.{Progress, progress, behind, after_piece, after_pieces}
-use Rattle.roc_whole.proofs.Replies.{after_pieces-said}
-use Rattle.roc_group.specs.declared.access.Access.{Access}
-use Rattle.roc_group.specs.Accesses.{uses_of}
-use Rattle.roc_group.specs.Group_run.{Call, group_pieces, begin, group_run, group_uses}
-use Rattle.roc_group.proofs.Thin.{group_uses-thin}
+use Rattle.roc_whole.specs.Run.{Progress, progress, behind, access_cell, after_statement, after_piece, after_pieces}
+use Rattle.roc_whole.proofs.Replies.{after_piece-behind}
+use Rattle.roc_group.specs.Accesses.{access, uses_of_body, uses_of_piece, uses_of_pieces}
 
--- the run of the one piece, behind what was said before
-pub group_ran : (plan : Plan) (c : Call) (store : Store) (names : Environment) (said : List ℤ) (piece : Piece) (end : Progress) → end ≡ after_piece (progress store names said) piece → names ≡ (begin plan c store).environment → group_pieces plan c ≡ piece ∷ []
-    → end ≡ behind said (group_run plan c store)
-group_ran plan c store names said piece end ran from is =
-    let env = (begin plan c store).environment in
-    ran
-    ∙ ap (λ e. after_piece (progress store e said) piece) from
-    ∙ ap (λ ps. after_pieces (progress store env said) ps) (sym is)
-    ∙ after_pieces-said store env said (group_pieces plan c)
+pub after_pieces-append : (p : Progress) (xs ys : List Piece) → after_pieces p (xs ++ ys) ≡ after_pieces (after_pieces p xs) ys
+after_pieces-append p [] ys = refl
+after_pieces-append p (x ∷ xs) ys = after_pieces-append (after_piece p x) xs ys
 
-pub uses_listed : {E : Type 0} (r : Result (List Access) E) (plan : Plan) (c : Call) (names : Environment) (piece : Piece) → IsWithin plan → c.group < length (groups_of plan c.proc) → group_pieces plan c ≡ piece ∷ [] → ((store : Store) → names ≡ (begin plan c store).environment)
-    → IfOk r (λ uses. uses ≡ flat_map (uses_of (value piece.place names) names) piece.body) → IfOk r (λ uses. (store : Store) → uses ≡ group_uses plan c store)
-uses_listed (Err e) plan c names piece thin within is from listed = tt
-uses_listed (Ok uses) plan c names piece thin within is from listed = λ store.
-    listed ∙ ap (λ e. flat_map (uses_of (value piece.place e) e) piece.body) (from store) ∙ sym (group_uses-thin plan c store piece thin within is)
+pub uses_of_pieces-append : (p : Progress) (xs ys : List Piece) → uses_of_pieces p (xs ++ ys) ≡ uses_of_pieces p xs ++ uses_of_pieces (after_pieces p xs) ys
+uses_of_pieces-append p [] ys = refl
+uses_of_pieces-append p (x ∷ xs) ys = ap (λ us. uses_of_piece p x ++ us) (uses_of_pieces-append (after_piece p x) xs ys) ∙ sym (append_assoc (uses_of_piece p x) _ _)
+
+-- what was said before changes nothing of what is used
+uses_of_body-behind : (said : List ℤ) (place : ℤ) (p : Progress) (ss : List Statement) → uses_of_body place (behind said p) ss ≡ uses_of_body place p ss
+uses_of_body-behind said place p [] = refl
+uses_of_body-behind said place p (Get number from ∷ ss) = ap (λ us. access (access_cell place p.environment from) false ∷ us) (uses_of_body-behind said place (after_statement place p (Get number from)) ss)
+uses_of_body-behind said place p (Set to v ∷ ss) = ap (λ us. access (access_cell place p.environment to) true ∷ us) (uses_of_body-behind said place (after_statement place p (Set to v)) ss)
+uses_of_body-behind said place p (Out v ∷ ss) =
+    (λ i. uses_of_body place (progress p.store p.environment (append_assoc said p.reply (value v p.environment ∷ []) i)) ss) ∙ uses_of_body-behind said place (after_statement place p (Out v)) ss
+
+pub uses_of_pieces-behind : (said : List ℤ) (p : Progress) (ps : List Piece) → uses_of_pieces (behind said p) ps ≡ uses_of_pieces p ps
+uses_of_pieces-behind said p [] = refl
+uses_of_pieces-behind said p (piece ∷ ps) =
+    let one = uses_of_body-behind said (value piece.place p.environment) p piece.body in
+    let rest = ap (λ q. uses_of_pieces q ps) (after_piece-behind said p piece) ∙ uses_of_pieces-behind said (after_piece p piece) ps in
+    λ i. one i ++ rest i
+
+-- one more at the end
+pub filter_map_behind : {A B : Type 0} (f : A → Option B) (xs : List A) (x : A) → filter_map f (xs ++ x ∷ []) ≡ filter_map f xs ++ filter_map f (x ∷ [])
+filter_map_behind f [] x = refl
+filter_map_behind {B = B} f (y ∷ xs) x = go (f y) (filter_map_behind f xs x)
+  where
+    go : (o : Option B) → filter_map f (xs ++ x ∷ []) ≡ filter_map f xs ++ filter_map f (x ∷ []) → cons_option o (filter_map f (xs ++ x ∷ [])) ≡ cons_option o (filter_map f xs) ++ filter_map f (x ∷ [])
+    go None h = h
+    go (Some b) h = ap (λ bs. b ∷ bs) h
+
+pub uses_said : (store : Store) (env : Environment) (said : List ℤ) (ps : List Piece) → uses_of_pieces (progress store env said) ps ≡ uses_of_pieces (progress store env []) ps
+uses_said store env said ps = ap (λ r. uses_of_pieces (progress store env r) ps) (sym (append-nil said)) ∙ uses_of_pieces-behind said (progress store env []) ps
+
+-- ---- what holds where a call succeeded
+
+pub ok_then : {P Q : Type 0} (result : Result (Unit {0}) NoMemory) → OnOk result P → (P → Q) → OnOk result Q
+ok_then (Ok done) p f = f p
+ok_then (Err fault) p f = tt
+
+pub ok_both : {P Q R : Type 0} (result : Result (Unit {0}) NoMemory) → OnOk result P → OnOk result Q → (P → Q → R) → OnOk result R
+ok_both (Ok done) p q f = f p q
+ok_both (Err fault) p q f = tt

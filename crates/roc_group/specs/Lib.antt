@@ -1,2 +1,3 @@
 pub mod Accesses
 pub mod Group_run
+pub mod Inner

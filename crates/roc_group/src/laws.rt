@@ -1,17 +1,30 @@
 //! Laws of groups, each the contract of a function that does nothing.
-ghost use Rattle.std.specs.Prelude.{◌≡◌, ◌<◌, false, length};
+ghost use Rattle.std.specs.Prelude.{◌≡◌, ◌<◌, true, false, length};
+ghost use Rattle.std.specs.List.{AllByRecursion};
 ghost use Rattle.roc_rows.specs.declared.cell.Cell.{Cell};
 ghost use Rattle.roc_rows.specs.Store.{Store, read};
-ghost use Rattle.roc_plan.specs.Groups.{Plan, procedure_of, groups_of};
+ghost use Rattle.roc_plan.specs.Groups.{Plan, procedure_of, groups_of, is_immediate_of, group_place};
 ghost use Rattle.roc_plan.specs.Within.{IsWithin};
 ghost use Rattle.roc_whole.specs.Run.{whole_run};
-ghost use Rattle.roc_group.specs.Accesses.{do_write, AgreeOnReads, RunAlike};
+ghost use Rattle.roc_plan.specs.Accepted.{IsAccepted};
+ghost use Rattle.roc_plan.specs.Turns.{may_meet};
+ghost use Rattle.roc_group.specs.Accesses.{do_conflict, do_write, AgreeOnReads, RunAlike};
 ghost use Rattle.roc_group.specs.Group_run.{Call, group_pieces, begin, group_run, group_uses};
 
-/// The cells that a group uses follow from what it is given: they are the same on every store. So it is of the plans that
-/// the protocol reaches, whose groups are deferrable.
+/// The cells that a deferrable group uses follow from what it is given: they are the same on every store.
 pub fn cells_follow_from_what_is_given()
-    ensures { (plan : Plan) (c : Call) (s t : Store) → IsWithin plan → c.group < length (groups_of plan c.proc) → group_uses plan c s ≡ group_uses plan c t }
+    ensures { (plan : Plan) (c : Call) (s t : Store) → IsAccepted plan → c.proc < length plan.program.procedures → is_immediate_of plan c.proc c.group ≡ false → group_uses plan c s ≡ group_uses plan c t }
+{}
+
+/// All cells that a group uses are at the group's place, so that they are on one shard.
+pub fn cells_are_at_the_place()
+    ensures { (plan : Plan) (c : Call) (s : Store) → IsAccepted plan → c.proc < length plan.program.procedures
+        → AllByRecursion (λ a. a.cell.place ≡ group_place plan c.proc c.group c.args c.inputs) (group_uses plan c s) }
+{}
+
+/// Groups that use a cell in common which one of the two writes may meet by static conflict.
+pub fn conflicts_are_static()
+    ensures { (plan : Plan) (b c : Call) (s t : Store) → do_conflict (group_uses plan b s) (group_uses plan c t) ≡ true → may_meet plan b.proc b.group c.proc c.group ≡ true }
 {}
 
 /// What a group does depends on nothing but the numbers in the cells that it reads, and it changes

@@ -11,9 +11,11 @@
 mod access;
 pub mod laws;
 mod names;
+mod outputs;
 mod run;
 mod uses;
 
 pub use access::{Access, conflict};
+pub use outputs::Outputs;
 pub use run::run_group;
 pub use uses::cells;

@@ -1,21 +1,20 @@
 //! The cells that a group uses.
-ghost use Rattle.std.specs.Prelude.{◌≡◌, ◌++◌, ◌∷◌, [], ◌<◌, length, IfOk, OnOk};
-ghost use Rattle.std.specs.List.{flat_map};
+ghost use Rattle.std.specs.Prelude.{◌≡◌, ◌++◌, ◌∷◌, [], ◌<◌, false, length, IfOk, OnOk};
+ghost use Rattle.std.specs.List.{AllByRecursion, flat_map};
 ghost use Rattle.roc_rows.specs.Store.{Store};
-ghost use Rattle.roc_plan.specs.Groups.{procedure_of, groups_of, inputs_of};
-ghost use Rattle.roc_program.specs.Values.{value};
+ghost use Rattle.roc_plan.specs.Groups.{procedure_of, groups_of, inputs_of, is_immediate_of, pieces_at};
+ghost use Rattle.roc_group.specs.Inner.Steady.{uses_with};
 ghost use Rattle.roc_program.specs.Keys.{IsKey, HasKey, HasKeys};
 ghost use Rattle.roc_program.specs.Parts as pure;
 ghost use Rattle.roc_whole.specs.Run.{access_cell};
 ghost use Rattle.roc_group.specs.Accesses.{access, uses_of};
-ghost use Rattle.roc_plan.specs.Within.{IsWithin};
 ghost use Rattle.roc_group.specs.Group_run.{call, group_uses};
 
 use crate::Access;
-use crate::names::{names_before, only_piece};
+use crate::names::names_before;
 use roc_base::NoMemory;
 use roc_plan::{Known, Plan};
-use roc_program::{Piece, Statement};
+use roc_program::{Piece, Procedure, Statement};
 use roc_rows::Cell;
 use roc_sequence::Sequence;
 use std::alloc::Global;
@@ -30,28 +29,49 @@ pub fn cells(
     group: u16,
     known: &Known,
 ) -> Result<Sequence<Access>, NoMemory>
-    requires within { IsWithin plan.now }
     requires exists { group < length (groups_of plan.now proc) }
+    requires deferrable { is_immediate_of plan.now proc group ≡ false }
     requires args { length known.now.args ≡ (procedure_of plan.now proc).arguments }
     requires inputs { length known.now.inputs ≡ length (inputs_of plan.now proc group) }
     ensures { IfOk result (λ uses. (store : Store) → uses ≡ group_uses plan.now (call proc group known.now.args known.now.inputs) store) }
 {
-    let piece = only_piece(plan, proc, group);
+    let procedure = &plan.workload().procedures()[proc as usize];
     let names = names_before(alloc, plan, proc, group, known)?;
-    uses_of_piece(alloc, piece, names.as_slice())
+    uses_of_pieces(alloc, procedure, plan.pieces(proc, group), names.as_slice())
 }
 
-// What the statements of a piece use, where the names have these values.
-fn uses_of_piece(alloc: Global, piece: &Piece, names: &[i64]) -> Result<Sequence<Access>, NoMemory>
-    requires { HasKeys (pure.piece piece.now) }
-    ensures { IfOk result (λ uses. uses ≡ flat_map (uses_of (value (pure.piece piece.now).place names.now) names.now) (pure.piece piece.now).body) }
+// What pieces use, where the names have these values as each begins.
+fn uses_of_pieces(
+    alloc: Global,
+    procedure: &Procedure,
+    pieces: &[u16],
+    names: &[i64],
+) -> Result<Sequence<Access>, NoMemory>
+    requires there { AllByRecursion (λ k. k < length (pure.procedure procedure.now).pieces) pieces.now }
+    requires keys { AllByRecursion HasKeys (pure.procedure procedure.now).pieces }
+    ensures { IfOk result (λ uses. uses ≡ flat_map (uses_with names.now) (pieces_at (pure.procedure procedure.now) pieces.now)) }
 {
-    let place = piece.place.value(names);
     let mut uses = Sequence::new(alloc);
-    for statement in &piece.body {
-        push_use(place, names, statement, &mut uses)?;
+    for piece in pieces {
+        push_uses(&procedure.pieces[usize::from(*piece)], names, &mut uses)?;
     }
     Ok(uses)
+}
+
+// Adds what the statements of a piece use, where the names have these values.
+pub(crate) fn push_uses(
+    piece: &Piece,
+    names: &[i64],
+    uses: &mut Sequence<Access>,
+) -> Result<(), NoMemory>
+    requires { HasKeys (pure.piece piece.now) }
+    ensures { OnOk result (uses.new ≡ uses.old ++ uses_with names.now (pure.piece piece.now)) }
+{
+    let place = piece.place.value(names);
+    for statement in &piece.body {
+        push_use(place, names, statement, uses)?;
+    }
+    Ok(())
 }
 
 // Adds what a statement uses.

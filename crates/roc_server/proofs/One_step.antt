@@ -7,7 +7,7 @@ use Rattle.roc_depgraph.specs.declared.known.KnownList.{KnownList}
 use Rattle.roc_depgraph.specs.Deps.{list_of, learnt, IsDecided}
 use Rattle.roc_component.proofs.Alike.{one_by_members}
 use Rattle.roc_msg.specs.declared.msg.Msg.{Msg}
-use Rattle.roc_msg.specs.declared.msg.Msg.TheVariants.{Start, StartOk, Commit, CommitOk}
+use Rattle.roc_msg.specs.declared.msg.Msg.TheVariants.{Start, StartOk, Commit, CommitOk, Fetch, Known, Stop}
 use Rattle.roc_plan.specs.Groups.{Plan}
 use Rattle.roc_server.specs.State.{ServerState, ServerStep, is_here}
 use Rattle.roc_server.specs.New.{AreNew}
@@ -57,6 +57,9 @@ module _ (plan : Plan) (s : ServerState) (id : TxnId) (edges : List Dependency) 
 
 pub one_step : (plan : Plan) (s : ServerState) (msg : Msg) (r other : ServerStep) → Handles plan s msg r → Handles plan s msg other → r ≡ other
 one_step plan s (Start id proc group args inputs) r other h k = h ∙ sym k
-one_step plan s (Commit id edges) r other h k = one_commit plan s id edges h k
-one_step plan s (StartOk id group shard bound outs edges) r other h k = h ∙ sym k
+one_step plan s (Commit id edges facts) r other h k = one_commit plan s id edges h k
+one_step plan s (StartOk id group shard bound outs edges facts) r other h k = h ∙ sym k
 one_step plan s (CommitOk id shard outs) r other h k = h ∙ sym k
+one_step plan s (Fetch id asker) r other h k = h ∙ sym k
+one_step plan s (Known id edges) r other h k = h ∙ sym k
+one_step plan s Stop r other h k = h ∙ sym k

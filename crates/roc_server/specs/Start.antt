@@ -67,9 +67,9 @@ new_group plan s id c =
     let cells = group_uses plan c s.store in
     record { id = id; proc = c.proc; group = c.group; args = c.args; inputs = c.inputs; cells = cells; edges = edges_for s.shard id cells s.started; outs = None }
 
--- what its coordinator is told. It has not run: it binds nothing and adds nothing to the reply yet
+-- what its coordinator is told. It has not run: it binds nothing and adds nothing to the reply yet, and no known list travels along
 abbrev pub startok_of : Shard → StartedGroup → Outgoing
-startok_of shard e = record { to = Coord e.id.coord; msg = StartOk e.id e.group shard [] [] e.edges }
+startok_of shard e = record { to = Coord e.id.coord; msg = StartOk e.id e.group shard [] [] e.edges [] }
 
 abbrev pub start_new : ServerState → StartedGroup → ServerStep
 start_new s e = record { answer = Done; state = record s { started = s.started ++ e ∷ [] }; sends = startok_of s.shard e ∷ []; decided = [] }

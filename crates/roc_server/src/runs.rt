@@ -13,7 +13,7 @@ ghost use Rattle.roc_server.specs.State.{find_group, ServerState};
 use crate::StartedGroup;
 use crate::groups::{count_of_groups, find_group, place_of_group};
 use roc_base::{NoMemory, Nums, TxnId};
-use roc_group::run_group;
+use roc_group::{Outputs, run_group};
 use roc_plan::{Known, Plan};
 use roc_rows::Rows;
 use std::alloc::Global;
@@ -99,10 +99,10 @@ fn run_at(
         inputs: group.inputs.clone()?,
     };
     let (proc, number) = (group.proc, group.group);
-    let mut outs = Nums::new(alloc);
-    run_group(alloc, plan, proc, number, &known, rows, &mut outs)?;
+    let mut out = Outputs::new(alloc);
+    run_group(alloc, plan, proc, number, &known, rows, &mut out)?;
     let group = &mut started[at];
-    group.outs = Some(outs);
+    group.outs = Some(out.outs);
     Ok(())
 }
 

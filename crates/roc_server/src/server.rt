@@ -146,7 +146,11 @@ fn take(
             };
             take_start(alloc, plan, shard, kept, request, out)
         }
-        Msg::Commit { id, edges } => take_commit(alloc, plan, shard, kept, *id, edges, out),
-        Msg::StartOk { .. } | Msg::CommitOk { .. } => Ok(Handled::Ignored(Reason::Foreign)),
+        Msg::Commit { id, edges, .. } => take_commit(alloc, plan, shard, kept, *id, edges, out),
+        Msg::StartOk { .. }
+        | Msg::CommitOk { .. }
+        | Msg::Fetch { .. }
+        | Msg::Known { .. }
+        | Msg::Stop => Ok(Handled::Ignored(Reason::Foreign)),
     }
 }

@@ -14,7 +14,7 @@ use crate::kept::Kept;
 use crate::{Handled, StartedGroup};
 use roc_base::{Edge, Edges, NoMemory, Node, Nums, Shard, TxnId};
 use roc_group::{Access, cells, conflict};
-use roc_msg::{Msg, Outbox, Reason};
+use roc_msg::{Facts, Msg, Outbox, Reason};
 use roc_plan::{Known, Plan};
 use std::alloc::Global;
 
@@ -172,6 +172,7 @@ fn send_startok(
         bound: Nums::new(alloc),
         outs: Nums::new(alloc),
         edges: e.edges.clone()?,
+        facts: Facts::new(alloc),
     };
     out.send(Node::Coord(e.id.coord), startok)
 }

@@ -1,9 +1,20 @@
-use Rattle.std.proofs.Common.{◌∙◌, length, ap}
-use Rattle.roc_group.proofs.Read.{names_read}
+use Rattle.std.proofs.Common.{◌≡◌, ◌∙◌, ◌<◌, List, ℕ, length, sym, ap, subst}
+use Rattle.std.specs.List.{AllByRecursion}
+use Rattle.roc_plan.specs.Groups.{procedure_of}
+use Rattle.roc_program.specs.Values.{with_arguments}
+use Rattle.roc_group.proofs.Read.{names_read, taken_within}
 use Rattle.roc_group.proofs.names.names_before.Goals as goal
 
-pub returns : goal.returns
-returns c =
-    names_read c.workload.result.now c.procedures.result.now c.args.plan.now c.args.proc c.args.group c.index-procedures-proc.result c.workload.ensures c.procedures.ensures.value c.requires.within c.requires.exists c.index-procedures-proc.is
-    c.args.known.now.args c.args.known.now.inputs c.in_ok-names.names.items c.resize.new.self.items c.in_ok-names.names.len c.requires.args
+-- the names' values before any is taken
+filled : (c : goal.After-as_slice-2) → c.resize.new.self.items ≡ with_arguments (procedure_of c.args.plan.now c.args.proc) c.args.known.now.args
+filled c =
+    names_read c.workload.result.now c.procedures.result.now c.args.plan.now c.args.proc c.args.group c.index-procedures-proc.result c.workload.ensures.program c.procedures.ensures.value c.workload.ensures.accepted c.requires.exists c.index-procedures-proc.is
+    c.args.known.now.args c.in_ok-names.names.items c.resize.new.self.items c.in_ok-names.names.len c.requires.args
     (c.in_ok-names.ensures.items ∙ c.as_slice.ensures) (c.in_ok-names.ensures.len ∙ ap length c.as_slice.ensures) c.in_ok-resize.ensures.items
+
+pub set_values-requires-clause-known : goal.set_values-requires-clause-known
+set_values-requires-clause-known c =
+    let P : List ℕ → Type 0 = AllByRecursion (λ number. number < length c.resize.new.self.items) in
+    subst P (sym c.input_names.ensures)
+    (taken_within c.workload.result.now c.procedures.result.now c.args.plan.now c.args.proc c.args.group c.index-procedures-proc.result c.workload.ensures.program c.procedures.ensures.value c.workload.ensures.accepted c.requires.exists c.index-procedures-proc.is
+    c.args.known.now.args c.resize.new.self.items (filled c))

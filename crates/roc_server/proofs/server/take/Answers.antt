@@ -10,10 +10,19 @@ returns-in_ok-clone-in-Start-2-clause-step c =
 
 pub returns-in-Commit-clause-step : goal.returns-in-Commit-clause-step
 returns-in-Commit-clause-step c =
-    commit_comes c.take_commit.result c.args.plan.now (state_of c.args.shard c.args.kept.now false) (state_of c.args.shard c.take_commit.new.kept false) c.args.msg.now c.in-Commit.id c.in-Commit.edges c.args.out.now c.take_commit.new.out c.in-Commit.is c.take_commit.ensures.step
+    commit_comes c.take_commit.result c.args.plan.now (state_of c.args.shard c.args.kept.now false) (state_of c.args.shard c.take_commit.new.kept false) c.args.msg.now c.in-Commit.id c.in-Commit.edges c.in-Commit.facts c.args.out.now c.take_commit.new.out c.in-Commit.is c.take_commit.ensures.step
 
 pub returns-in-StartOk-clause-step : goal.returns-in-StartOk-clause-step
 returns-in-StartOk-clause-step c = foreign_comes c.args.plan.now (state_of c.args.shard c.args.kept.now false) c.args.out.now c.args.msg.now c.in-StartOk.is
 
 pub returns-in-StartOk-2-clause-step : goal.returns-in-StartOk-2-clause-step
 returns-in-StartOk-2-clause-step c = foreign_comes c.args.plan.now (state_of c.args.shard c.args.kept.now false) c.args.out.now c.args.msg.now c.in-StartOk.is
+
+pub returns-in-StartOk-3-clause-step : goal.returns-in-StartOk-3-clause-step
+returns-in-StartOk-3-clause-step c = foreign_comes c.args.plan.now (state_of c.args.shard c.args.kept.now false) c.args.out.now c.args.msg.now c.in-StartOk.is
+
+pub returns-in-StartOk-4-clause-step : goal.returns-in-StartOk-4-clause-step
+returns-in-StartOk-4-clause-step c = foreign_comes c.args.plan.now (state_of c.args.shard c.args.kept.now false) c.args.out.now c.args.msg.now c.in-StartOk.is
+
+pub returns-in-StartOk-5-clause-step : goal.returns-in-StartOk-5-clause-step
+returns-in-StartOk-5-clause-step c = foreign_comes c.args.plan.now (state_of c.args.shard c.args.kept.now false) c.args.out.now c.args.msg.now c.in-StartOk.is

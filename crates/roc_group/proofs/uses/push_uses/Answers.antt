@@ -4,7 +4,7 @@ use Rattle.roc_program.specs.Keys.{HasKey}
 use Rattle.roc_program.specs.Parts as pure
 use Rattle.roc_program.specs.declared.parts.Statement.{Statement}
 use Rattle.roc_program.proofs.Rows.{all_read}
-use Rattle.roc_group.proofs.uses.uses_of_piece.Goals as goal
+use Rattle.roc_group.proofs.uses.push_uses.Goals as goal
 
 pub push_use-requires : goal.push_use-requires
 push_use-requires c =

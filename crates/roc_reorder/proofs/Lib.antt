@@ -1,0 +1,10 @@
+mod Commuting
+mod Moving
+pub mod Sorting
+mod Stages
+mod GroupRuns
+mod Replies
+mod Turned
+mod Apart
+mod Whole
+pub mod InTurn
