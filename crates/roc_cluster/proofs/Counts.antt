@@ -5,7 +5,7 @@ use Rattle.std.proofs.lemmas.List.Sums.{sum_by-append}
 use Rattle.std.proofs.lemmas.Bool.Decides.{nat_tests}
 use Rattle.toml.specs.Data.{Members, get_member, as_integer}
 use Rattle.roc_cluster.specs.declared.entry.Entry.{Entry}
-use Rattle.roc_cluster.specs.Entries.{AreEntries, below, number_of, has_number, times}
+use Rattle.roc_cluster.specs.Entries.{AreEntries, below, number_of, has_number, how_often}
 
 -- the entry is of the shard of this number
 abbrev pub is_at : ℕ → Entry → Bool
@@ -28,7 +28,7 @@ number_below shards table n e = go (option_and_then as_integer (get_member (code
 pub count_more : {A : Type 0} (p : A → Bool) (x : A) (xs : List A) → count_by p (x ∷ xs) ≡ cond (p x) 1 0 + count_by p xs
 count_more p x xs = sum_by-append (λ y. cond (p y) 1 0) (x ∷ []) xs ∙ ap (λ k. k + count_by p xs) (zero-add (cond (p x) 1 0))
 
-pub times_of_entries : (shards : ℕ) (tables : List Members) (entries : List Entry) (n : ℕ) → AreEntries shards tables entries → times shards tables n ≡ count_by (is_at n) entries
+pub times_of_entries : (shards : ℕ) (tables : List Members) (entries : List Entry) (n : ℕ) → AreEntries shards tables entries → how_often shards tables n ≡ count_by (is_at n) entries
 times_of_entries shards [] [] n all = refl
 times_of_entries shards [] (e ∷ es) n all = absurd all
 times_of_entries shards (t ∷ ts) [] n all = absurd all
@@ -74,27 +74,27 @@ found_some p (x ∷ xs) y e = rw (count_more p x xs) (go (p x) e (found_some p x
 -- ---- one table more
 
 -- of a number that no table has, the next table has it at most once; of any other number there are as many as before
-pub one_more : (shards : ℕ) (tables : List Members) (table : Members) (m n : ℕ) → number_of shards table ≡ Some m → times shards tables m ≡ 0 → times shards tables n ≤ 1 → times shards (tables ++ table ∷ []) n ≤ 1
+pub one_more : (shards : ℕ) (tables : List Members) (table : Members) (m n : ℕ) → number_of shards table ≡ Some m → how_often shards tables m ≡ 0 → how_often shards tables n ≤ 1 → how_often shards (tables ++ table ∷ []) n ≤ 1
 one_more shards tables table m n number none few =
     let count = sum_by-append (λ t. cond (has_number shards n t) 1 0) tables (table ∷ []) in
     let own : has_number shards n table ≡ (m == n) = rw number in
     go (m == n) refl own count
   where
-    go : (b : Bool) → (m == n) ≡ b → has_number shards n table ≡ b → times shards (tables ++ table ∷ []) n ≡ times shards tables n + (0 + cond (has_number shards n table) 1 0) → times shards (tables ++ table ∷ []) n ≤ 1
+    go : (b : Bool) → (m == n) ≡ b → has_number shards n table ≡ b → how_often shards (tables ++ table ∷ []) n ≡ how_often shards tables n + (0 + cond (has_number shards n table) 1 0) → how_often shards (tables ++ table ∷ []) n ≤ 1
     go true e own count =
         let same : m ≡ n = eqb-true m n e in
-        let none_here : times shards tables n ≡ 0 = rw (← same) none in
-        let more : times shards (tables ++ table ∷ []) n ≡ times shards tables n + (0 + 1) = rw own at count in
+        let none_here : how_often shards tables n ≡ 0 = rw (← same) none in
+        let more : how_often shards (tables ++ table ∷ []) n ≡ how_often shards tables n + (0 + 1) = rw own at count in
         omega arith
     go false e own count =
-        let more : times shards (tables ++ table ∷ []) n ≡ times shards tables n + (0 + 0) = rw own at count in
+        let more : how_often shards (tables ++ table ∷ []) n ≡ how_often shards tables n + (0 + 0) = rw own at count in
         omega arith
 
 -- a table whose number an earlier one has makes two
-pub two_of : (shards : ℕ) (earlier rest : List Members) (table : Members) (n : ℕ) → number_of shards table ≡ Some n → 0 < times shards earlier n → 1 < times shards (earlier ++ table ∷ rest) n
+pub two_of : (shards : ℕ) (earlier rest : List Members) (table : Members) (n : ℕ) → number_of shards table ≡ Some n → 0 < how_often shards earlier n → 1 < how_often shards (earlier ++ table ∷ rest) n
 two_of shards earlier rest table n number some =
     let own : has_number shards n table ≡ true = rw number (search rules) in
     let head : cond {A = ℕ} (has_number shards n table) 1 0 ≡ 1 = rw own refl in
-    let here : times shards (table ∷ rest) n ≡ cond (has_number shards n table) 1 0 + times shards rest n = count_more (has_number shards n) table rest in
-    let all : times shards (earlier ++ table ∷ rest) n ≡ times shards earlier n + times shards (table ∷ rest) n = sum_by-append (λ t. cond (has_number shards n t) 1 0) earlier (table ∷ rest) in
+    let here : how_often shards (table ∷ rest) n ≡ cond (has_number shards n table) 1 0 + how_often shards rest n = count_more (has_number shards n) table rest in
+    let all : how_often shards (earlier ++ table ∷ rest) n ≡ how_often shards earlier n + how_often shards (table ∷ rest) n = sum_by-append (λ t. cond (has_number shards n t) 1 0) earlier (table ∷ rest) in
     omega arith

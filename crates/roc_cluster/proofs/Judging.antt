@@ -2,22 +2,22 @@
 use Rattle.std.proofs.Common.{ℕ, List, [], ◌∷◌, ◌++◌, inl, inr}
 use Rattle.roc_cluster.specs.declared.fault.ClusterFault.{ClusterFault}
 use Rattle.roc_cluster.specs.declared.fault.ClusterFault.TheVariants.{Toml, Field, Twice, Gap, NoMemory}
-use Rattle.roc_cluster.specs.Rules.{Rule, IsFirstFault}
+use Rattle.roc_cluster.specs.Rules.{Rule, IsFirstBroken}
 use Rattle.roc_cluster.specs.Inner.Judged.{AreKept, Names}
 
 -- the first fault stands behind what is kept
-pub behind_kept : (shards : ℕ) (xs ys : List Rule) (fault : ClusterFault) → AreKept shards xs → IsFirstFault shards ys fault → IsFirstFault shards (xs ++ ys) fault
+pub behind_kept : (shards : ℕ) (xs ys : List Rule) (fault : ClusterFault) → AreKept shards xs → IsFirstBroken shards ys fault → IsFirstBroken shards (xs ++ ys) fault
 behind_kept shards [] ys fault kept first = first
 behind_kept shards (x ∷ xs) ys fault kept first = inr (kept.0, behind_kept shards xs ys fault kept.1 first)
 
 -- more rules behind it change nothing
-pub before_more : (shards : ℕ) (xs ys : List Rule) (fault : ClusterFault) → IsFirstFault shards xs fault → IsFirstFault shards (xs ++ ys) fault
+pub before_more : (shards : ℕ) (xs ys : List Rule) (fault : ClusterFault) → IsFirstBroken shards xs fault → IsFirstBroken shards (xs ++ ys) fault
 before_more shards [] ys fault first = absurd first
 before_more shards (x ∷ xs) ys fault (inl broken) = inl broken
 before_more shards (x ∷ xs) ys fault (inr r) = inr (r.0, before_more shards xs ys fault r.1)
 
 -- where all are kept, there is none
-pub kept_has_none : (shards : ℕ) (xs : List Rule) (fault : ClusterFault) → AreKept shards xs → ¬ IsFirstFault shards xs fault
+pub kept_has_none : (shards : ℕ) (xs : List Rule) (fault : ClusterFault) → AreKept shards xs → ¬ IsFirstBroken shards xs fault
 kept_has_none shards [] fault kept first = first
 kept_has_none shards (x ∷ xs) fault kept (inl broken) = kept.0 fault broken
 kept_has_none shards (x ∷ xs) fault kept (inr r) = kept_has_none shards xs fault kept.1 r.1

@@ -7,13 +7,13 @@ use Rattle.toml.specs.Data.{Members}
 use Rattle.roc_cluster.specs.declared.fault.ClusterFault.TheVariants.{Gap}
 use Rattle.roc_io.specs.declared.link.Addr.{Addr}
 use Rattle.roc_cluster.specs.declared.entry.Entry.{Entry}
-use Rattle.roc_cluster.specs.Entries.{AreEntries, times}
+use Rattle.roc_cluster.specs.Entries.{AreEntries, how_often}
 use Rattle.roc_cluster.specs.File.{addr_in}
-use Rattle.roc_cluster.specs.Rules.{present, IsFirstFault, rules_of_shards}
+use Rattle.roc_cluster.specs.Rules.{present, IsFirstBroken, rules_of_shards}
 use Rattle.roc_cluster.specs.Inner.Judged.{AreKept, Seats}
 use Rattle.roc_cluster.proofs.Counts.{is_at, times_of_entries, not_found_none, found_some}
 
-gap_from : (shards : ℕ) (tables : List Members) (start count n : ℕ) → start ≤ n → n < start + count → ((k : ℕ) → k < n → 0 < times shards tables k) → times shards tables n ≡ 0 → IsFirstFault shards (map (present tables) (range_with_len start count)) (Gap (record { 0 = n }))
+gap_from : (shards : ℕ) (tables : List Members) (start count n : ℕ) → start ≤ n → n < start + count → ((k : ℕ) → k < n → 0 < how_often shards tables k) → how_often shards tables n ≡ 0 → IsFirstBroken shards (map (present tables) (range_with_len start count)) (Gap (record { 0 = n }))
 gap_from shards tables start zero n low high some none = absurd (omega arith)
 gap_from shards tables start (suc count) n low high some none =
     elim (cases_lt start n) [
@@ -22,15 +22,15 @@ gap_from shards tables start (suc count) n low high some none =
     ]
 
 -- the least shard without an entry is the first fault
-pub gap_at : (shards : ℕ) (tables : List Members) (n : ℕ) → n < shards → ((k : ℕ) → k < n → 0 < times shards tables k) → times shards tables n ≡ 0 → IsFirstFault shards (rules_of_shards shards tables) (Gap (record { 0 = n }))
+pub gap_at : (shards : ℕ) (tables : List Members) (n : ℕ) → n < shards → ((k : ℕ) → k < n → 0 < how_often shards tables k) → how_often shards tables n ≡ 0 → IsFirstBroken shards (rules_of_shards shards tables) (Gap (record { 0 = n }))
 gap_at shards tables n high some none = gap_from shards tables 0 shards n (omega arith) (omega arith) some none
 
-kept_from : (shards : ℕ) (tables : List Members) (start count : ℕ) → ((k : ℕ) → k < start + count → 0 < times shards tables k) → AreKept shards (map (present tables) (range_with_len start count))
+kept_from : (shards : ℕ) (tables : List Members) (start count : ℕ) → ((k : ℕ) → k < start + count → 0 < how_often shards tables k) → AreKept shards (map (present tables) (range_with_len start count))
 kept_from shards tables start zero some = tt
 kept_from shards tables start (suc count) some =
     (λ fault b. (let here = some start (omega arith) in let gone = b.0 in omega arith), kept_from shards tables (start + 1) count (λ k low. some k (omega arith)))
 
-pub shards_kept : (shards : ℕ) (tables : List Members) → ((k : ℕ) → k < shards → 0 < times shards tables k) → AreKept shards (rules_of_shards shards tables)
+pub shards_kept : (shards : ℕ) (tables : List Members) → ((k : ℕ) → k < shards → 0 < how_often shards tables k) → AreKept shards (rules_of_shards shards tables)
 shards_kept shards tables some = kept_from shards tables 0 shards (λ k low. some k (omega arith))
 
 -- lists that read alike at every place are one
@@ -75,6 +75,6 @@ seats_more n entries addrs entry s found = record {
 }
 
 -- the next shard has none
-pub gap_told : (shards : ℕ) (entries : List Entry) (tables : List Members) (addrs : List Addr) (n : ℕ) → n < shards → Seats n entries addrs → find (is_at n) entries ≡ None → AreEntries shards tables entries → IsFirstFault shards (rules_of_shards shards tables) (Gap (record { 0 = n }))
+pub gap_told : (shards : ℕ) (entries : List Entry) (tables : List Members) (addrs : List Addr) (n : ℕ) → n < shards → Seats n entries addrs → find (is_at n) entries ≡ None → AreEntries shards tables entries → IsFirstBroken shards (rules_of_shards shards tables) (Gap (record { 0 = n }))
 gap_told shards entries tables addrs n low s none are =
     gap_at shards tables n low (λ k before. rw (times_of_entries shards tables entries k are) (s.some k before)) (times_of_entries shards tables entries n are ∙ not_found_none (is_at n) entries none)

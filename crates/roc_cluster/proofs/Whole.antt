@@ -10,11 +10,11 @@ use Rattle.roc_io.specs.declared.link.Addr.{Addr}
 use Rattle.roc_cluster.specs.declared.entry.Entry.{Entry}
 use Rattle.roc_cluster.specs.declared.fault.ClusterFault.{ClusterFault}
 use Rattle.roc_cluster.specs.declared.fault.ClusterFault.TheVariants.{Toml, Field, Twice, Gap, NoMemory}
-use Rattle.roc_cluster.specs.Entries.{top_keys, has_only, entries_of, HasHost, AreEntries, IsEntry}
+use Rattle.roc_cluster.specs.Entries.{top_keys, has_only, listed_tables, HasHost, AreEntries, IsEntry}
 use Rattle.roc_cluster.specs.File.{IsDocument, IsClusterOf, IsClusterFile, addr_in}
-use Rattle.roc_cluster.specs.Rules.{Rule, top, listed, number, host, port, keys, fresh, present, IsBroken, IsKept, IsFirstFault, rules_of_entries, rules_of_shards, rules_of_listed, rules_of}
-use Rattle.roc_cluster.specs.Answer.{IsReadAs, IsFirstIn, IsFaultOf}
-use Rattle.roc_cluster.specs.Inner.Judged.{AreKept, Names, NoTables, NoDocument, Reads, Seats}
+use Rattle.roc_cluster.specs.Rules.{Rule, top, listed, number, host, port, keys, fresh, present, Breaks, IsKept, IsFirstBroken, rules_of_entries, rules_of_shards, rules_of_listed, rules_of}
+use Rattle.roc_cluster.specs.Answer.{IsReadAs, IsFirstIn, IsClusterFault}
+use Rattle.roc_cluster.specs.Inner.Judged.{AreKept, Names, NoTables, NoDocument, AreRead, Seats}
 use Rattle.roc_cluster.proofs.Judging.{kept_has_none, names_behind, names_before}
 use Rattle.roc_cluster.proofs.Counts.{times_of_entries}
 use Rattle.roc_cluster.proofs.EntryRules.{entries_kept, reads_kept}
@@ -22,7 +22,7 @@ use Rattle.roc_cluster.proofs.Seating.{shards_kept, same_list}
 
 -- ---- the cluster of a document
 
-pub cluster_of_parts : (shards : ℕ) (document : Members) (tables : List Members) (entries : List Entry) (cluster : List Addr) → has_only top_keys document ≡ true → entries_of document ≡ Some tables → Reads shards tables entries → Seats shards entries cluster → IsClusterOf shards document cluster
+pub cluster_of_parts : (shards : ℕ) (document : Members) (tables : List Members) (entries : List Entry) (cluster : List Addr) → has_only top_keys document ≡ true → listed_tables document ≡ Some tables → AreRead shards tables entries → Seats shards entries cluster → IsClusterOf shards document cluster
 cluster_of_parts shards document tables entries cluster only found r s = record {
   only = only;
   tables = tables;
@@ -36,25 +36,25 @@ cluster_of_parts shards document tables entries cluster only found r s = record 
 
 -- ---- faults of a document
 
-top_kept : (shards : ℕ) (document : Members) (tables : List Members) → has_only top_keys document ≡ true → entries_of document ≡ Some tables → AreKept shards (top document ∷ listed document ∷ [])
+top_kept : (shards : ℕ) (document : Members) (tables : List Members) → has_only top_keys document ≡ true → listed_tables document ≡ Some tables → AreKept shards (top document ∷ listed document ∷ [])
 top_kept shards document tables only some =
     (λ fault b. (let other = b.0 in cc), (λ fault b. (let none = b.0 in cc), tt))
 
 -- a fault behind the first two rules
-behind_top : (shards : ℕ) (document : Members) (tables : List Members) (fault : ClusterFault) → has_only top_keys document ≡ true → entries_of document ≡ Some tables → Names shards (rules_of_entries [] tables ++ rules_of_shards shards tables) fault → Names shards (rules_of shards document) fault
+behind_top : (shards : ℕ) (document : Members) (tables : List Members) (fault : ClusterFault) → has_only top_keys document ≡ true → listed_tables document ≡ Some tables → Names shards (rules_of_entries [] tables ++ rules_of_shards shards tables) fault → Names shards (rules_of shards document) fault
 behind_top shards document tables fault only some named =
     let P : Option (List Members) → Type 0 = λ found. Names shards (top document ∷ listed document ∷ rules_of_listed shards found) fault in
     subst P (sym some) (names_behind shards (top document ∷ listed document ∷ []) (rules_of_listed shards (Some tables)) fault (top_kept shards document tables only some) named)
 
-pub named_entries : (shards : ℕ) (document : Members) (tables : List Members) (fault : ClusterFault) → has_only top_keys document ≡ true → entries_of document ≡ Some tables → Names shards (rules_of_entries [] tables) fault → Names shards (rules_of shards document) fault
+pub named_entries : (shards : ℕ) (document : Members) (tables : List Members) (fault : ClusterFault) → has_only top_keys document ≡ true → listed_tables document ≡ Some tables → Names shards (rules_of_entries [] tables) fault → Names shards (rules_of shards document) fault
 named_entries shards document tables fault only some named =
     behind_top shards document tables fault only some (names_before shards (rules_of_entries [] tables) (rules_of_shards shards tables) fault named)
 
-pub named_shards : (shards : ℕ) (document : Members) (tables : List Members) (entries : List Entry) (fault : ClusterFault) → has_only top_keys document ≡ true → entries_of document ≡ Some tables → Reads shards tables entries → Names shards (rules_of_shards shards tables) fault → Names shards (rules_of shards document) fault
+pub named_shards : (shards : ℕ) (document : Members) (tables : List Members) (entries : List Entry) (fault : ClusterFault) → has_only top_keys document ≡ true → listed_tables document ≡ Some tables → AreRead shards tables entries → Names shards (rules_of_shards shards tables) fault → Names shards (rules_of shards document) fault
 named_shards shards document tables entries fault only some r named =
     behind_top shards document tables fault only some (names_behind shards (rules_of_entries [] tables) (rules_of_shards shards tables) fault (reads_kept shards tables entries r) named)
 
-pub named_tables : (shards : ℕ) (document : Members) (fault : ClusterFault) → has_only top_keys document ≡ true → NoTables (entries_of document) fault → Names shards (rules_of shards document) fault
+pub named_tables : (shards : ℕ) (document : Members) (fault : ClusterFault) → has_only top_keys document ≡ true → NoTables (listed_tables document) fault → Names shards (rules_of shards document) fault
 named_tables shards document NoMemory only none = tt
 named_tables shards document Toml only none = absurd none
 named_tables shards document (Field name) only none = inr ((λ fault b. (let other = b.0 in cc)), inl (none.0, ap Field none.1))
@@ -130,14 +130,14 @@ file_once shards bytes some other s o =
     cluster_once shards s.document some other s.is_cluster (subst (λ (d : Members). IsClusterOf shards d other) same o.is_cluster)
 
 -- a cluster file has no first fault
-pub file_has_none : (shards : ℕ) (bytes : List ℕ) (cluster : List Addr) (document : Members) (fault : ClusterFault) → IsClusterFile shards bytes cluster → IsDocument bytes document → ¬ IsFirstFault shards (rules_of shards document) fault
+pub file_has_none : (shards : ℕ) (bytes : List ℕ) (cluster : List Addr) (document : Members) (fault : ClusterFault) → IsClusterFile shards bytes cluster → IsDocument bytes document → ¬ IsFirstBroken shards (rules_of shards document) fault
 file_has_none shards bytes cluster document fault file is first =
     let same = document_once bytes document file.document is file.is_document in
     kept_has_none shards (rules_of shards document) fault (cluster_kept shards document cluster (subst (λ (d : Members). IsClusterOf shards d cluster) same file.is_cluster)) first
 
 -- ---- one first fault
 
-broken_once : (shards : ℕ) (rule : Rule) (a b : ClusterFault) → IsBroken shards rule a → IsBroken shards rule b → a ≡ b
+broken_once : (shards : ℕ) (rule : Rule) (a b : ClusterFault) → Breaks shards rule a → Breaks shards rule b → a ≡ b
 broken_once shards (top document) a b s o = s.1 ∙ sym o.1
 broken_once shards (listed document) a b s o = s.1 ∙ sym o.1
 broken_once shards (number entry) a b s o = s.1 ∙ sym o.1
@@ -151,7 +151,7 @@ broken_once shards (fresh earlier entry) a b s o =
     s.3 ∙ ap (λ n. Twice (record { 0 = n })) same ∙ sym o.3
 broken_once shards (present entries n) a b s o = s.1 ∙ sym o.1
 
-first_once : (shards : ℕ) (rules : List Rule) (a b : ClusterFault) → IsFirstFault shards rules a → IsFirstFault shards rules b → a ≡ b
+first_once : (shards : ℕ) (rules : List Rule) (a b : ClusterFault) → IsFirstBroken shards rules a → IsFirstBroken shards rules b → a ≡ b
 first_once shards [] a b s o = absurd s
 first_once shards (x ∷ xs) a b (inl s) (inl o) = broken_once shards x a b s o
 first_once shards (x ∷ xs) a b (inl s) (inr o) = absurd (o.0 a s)
@@ -161,18 +161,18 @@ first_once shards (x ∷ xs) a b (inr s) (inr o) = first_once shards xs a b s.1 
 pub fault_once : (shards : ℕ) (bytes : List ℕ) (a b : ClusterFault) → IsFirstIn shards bytes a → IsFirstIn shards bytes b → a ≡ b
 fault_once shards bytes a b s o =
     let same = document_once bytes s.0 o.0 s.1 o.1 in
-    first_once shards (rules_of shards s.0) a b s.2 (subst (λ (d : Members). IsFirstFault shards (rules_of shards d) b) same o.2)
+    first_once shards (rules_of shards s.0) a b s.2 (subst (λ (d : Members). IsFirstBroken shards (rules_of shards d) b) same o.2)
 
 -- ---- what `parse_cluster` answers
 
-pub fault_of_document : (shards : ℕ) (bytes : List ℕ) (document : Members) (fault : ClusterFault) → IsDocument bytes document → Names shards (rules_of shards document) fault → IsFaultOf shards bytes fault
+pub fault_of_document : (shards : ℕ) (bytes : List ℕ) (document : Members) (fault : ClusterFault) → IsDocument bytes document → Names shards (rules_of shards document) fault → IsClusterFault shards bytes fault
 fault_of_document shards bytes document NoMemory is named = tt
 fault_of_document shards bytes document Toml is named = absurd named
 fault_of_document shards bytes document (Field name) is named = (document, is, named)
 fault_of_document shards bytes document (Twice shard) is named = (document, is, named)
 fault_of_document shards bytes document (Gap shard) is named = (document, is, named)
 
-pub fault_of_none : (shards : ℕ) (bytes : List ℕ) (fault : ClusterFault) → NoDocument bytes fault → IsFaultOf shards bytes fault
+pub fault_of_none : (shards : ℕ) (bytes : List ℕ) (fault : ClusterFault) → NoDocument bytes fault → IsClusterFault shards bytes fault
 fault_of_none shards bytes NoMemory none = tt
 fault_of_none shards bytes Toml none = none
 fault_of_none shards bytes (Field name) none = absurd none
@@ -197,10 +197,10 @@ only_of_document shards bytes document (Err (Gap shard)) is ok err cluster file 
 
 -- ---- the last step of a document
 
-pub whole_ok : (shards : ℕ) (document : Members) (tables : List Members) (entries : List Entry) (result : Result (List Addr) ClusterFault) → has_only top_keys document ≡ true → entries_of document ≡ Some tables → Reads shards tables entries → IfOk result (Seats shards entries) → IfOk result (IsClusterOf shards document)
+pub whole_ok : (shards : ℕ) (document : Members) (tables : List Members) (entries : List Entry) (result : Result (List Addr) ClusterFault) → has_only top_keys document ≡ true → listed_tables document ≡ Some tables → AreRead shards tables entries → IfOk result (Seats shards entries) → IfOk result (IsClusterOf shards document)
 whole_ok shards document tables entries (Ok cluster) only found r s = cluster_of_parts shards document tables entries cluster only found r s
 whole_ok shards document tables entries (Err fault) only found r s = tt
 
-pub whole_err : (shards : ℕ) (document : Members) (tables : List Members) (entries : List Entry) (result : Result (List Addr) ClusterFault) → has_only top_keys document ≡ true → entries_of document ≡ Some tables → Reads shards tables entries → IfErr result (λ fault. (ts : List Members) → AreEntries shards ts entries → Names shards (rules_of_shards shards ts) fault) → IfErr result (Names shards (rules_of shards document))
+pub whole_err : (shards : ℕ) (document : Members) (tables : List Members) (entries : List Entry) (result : Result (List Addr) ClusterFault) → has_only top_keys document ≡ true → listed_tables document ≡ Some tables → AreRead shards tables entries → IfErr result (λ fault. (ts : List Members) → AreEntries shards ts entries → Names shards (rules_of_shards shards ts) fault) → IfErr result (Names shards (rules_of shards document))
 whole_err shards document tables entries (Ok cluster) only found r h = tt
 whole_err shards document tables entries (Err fault) only found r h = named_shards shards document tables entries fault only found r (h tables r.read)

@@ -25,8 +25,8 @@ tables_of no_items = Some []
 tables_of (item value rest) = option_and_then (λ table. option_and_then (λ tables. Some (table ∷ tables)) (tables_of rest)) (as_table value)
 
 -- the entries of a document: the array of tables under `shard`
-abbrev pub entries_of : Members → Option (List Members)
-entries_of document = option_and_then tables_of (option_and_then as_array (get_member (codes "shard") document))
+abbrev pub listed_tables : Members → Option (List Members)
+listed_tables document = option_and_then tables_of (option_and_then as_array (get_member (codes "shard") document))
 
 -- the number, where it is below how many shards there are
 abbrev pub below : ℕ → ℤ → Option ℕ
@@ -73,5 +73,5 @@ abbrev pub has_number : ℕ → ℕ → Members → Bool
 has_number shards n table = is_some_number n (number_of shards table)
 
 -- how many of the tables have this number
-abbrev pub times : ℕ → List Members → ℕ → ℕ
-times shards tables n = count_by (has_number shards n) tables
+abbrev pub how_often : ℕ → List Members → ℕ → ℕ
+how_often shards tables n = count_by (has_number shards n) tables

@@ -4,7 +4,7 @@ use Rattle.toml.specs.Data.{Members}
 use Rattle.toml.specs.Parse.{parse_document}
 use Rattle.roc_io.specs.declared.link.Addr.{Addr}
 use Rattle.roc_cluster.specs.declared.entry.Entry.{Entry}
-use Rattle.roc_cluster.specs.Entries.{top_keys, has_only, entries_of, AreEntries, times}
+use Rattle.roc_cluster.specs.Entries.{top_keys, has_only, listed_tables, AreEntries, how_often}
 
 -- the bytes are UTF-8 text that is this document
 pub record IsDocument (bytes : List ℕ) (document : Members) : Type 0 where
@@ -19,10 +19,10 @@ addr_in entries n = option_map (λ entry. entry.addr) (find (λ entry. entry.sha
 pub record IsClusterOf (shards : ℕ) (document : Members) (cluster : List Addr) : Type 0 where
   pub only : has_only top_keys document ≡ true
   pub tables : List Members
-  pub listed : entries_of document ≡ Some tables
+  pub listed : listed_tables document ≡ Some tables
   pub entries : List Entry
   pub read : AreEntries shards tables entries
-  pub once : (n : ℕ) → n < shards → times shards tables n ≡ 1
+  pub once : (n : ℕ) → n < shards → how_often shards tables n ≡ 1
   pub each : length cluster ≡ shards
   pub addrs : (n : ℕ) → n < shards → slice_get cluster n ≡ addr_in entries n
 

@@ -5,7 +5,7 @@ use Rattle.toml.specs.Data.{Members}
 use Rattle.roc_cluster.specs.declared.fault.ClusterFault.{ClusterFault}
 use Rattle.roc_cluster.specs.declared.fault.ClusterFault.TheVariants.{Field, Twice, Gap}
 use Rattle.roc_cluster.specs.declared.fault.FieldName.TheVariants as field
-use Rattle.roc_cluster.specs.Entries.{top_keys, entry_keys, has_only, entries_of, number_of, HasHost, port_of, times}
+use Rattle.roc_cluster.specs.Entries.{top_keys, entry_keys, has_only, listed_tables, number_of, HasHost, port_of, how_often}
 
 -- one rule, with what it is about
 pub data Rule : Type 0 where
@@ -24,23 +24,23 @@ pub data Rule : Type 0 where
   present : List Members → ℕ → Rule
 
 -- the rule is broken, and this is the fault
-abbrev pub IsBroken : ℕ → Rule → ClusterFault → Type 0
-IsBroken shards (top document) fault = (has_only top_keys document ≡ false) × (fault ≡ Field field.Other)
-IsBroken shards (listed document) fault = (entries_of document ≡ None) × (fault ≡ Field field.Shard)
-IsBroken shards (number entry) fault = (number_of shards entry ≡ None) × (fault ≡ Field field.Number)
-IsBroken shards (host entry) fault = ((bytes : List ℕ) → ¬ HasHost entry bytes) × (fault ≡ Field field.Host)
-IsBroken shards (port entry) fault = (port_of entry ≡ None) × (fault ≡ Field field.Port)
-IsBroken shards (keys entry) fault = (has_only entry_keys entry ≡ false) × (fault ≡ Field field.Other)
-IsBroken shards (fresh earlier entry) fault = (n : ℕ) × (number_of shards entry ≡ Some n) × (0 < times shards earlier n) × (fault ≡ Twice (record { 0 = n }))
-IsBroken shards (present entries n) fault = (times shards entries n ≡ 0) × (fault ≡ Gap (record { 0 = n }))
+abbrev pub Breaks : ℕ → Rule → ClusterFault → Type 0
+Breaks shards (top document) fault = (has_only top_keys document ≡ false) × (fault ≡ Field field.Other)
+Breaks shards (listed document) fault = (listed_tables document ≡ None) × (fault ≡ Field field.Shard)
+Breaks shards (number entry) fault = (number_of shards entry ≡ None) × (fault ≡ Field field.Number)
+Breaks shards (host entry) fault = ((bytes : List ℕ) → ¬ HasHost entry bytes) × (fault ≡ Field field.Host)
+Breaks shards (port entry) fault = (port_of entry ≡ None) × (fault ≡ Field field.Port)
+Breaks shards (keys entry) fault = (has_only entry_keys entry ≡ false) × (fault ≡ Field field.Other)
+Breaks shards (fresh earlier entry) fault = (n : ℕ) × (number_of shards entry ≡ Some n) × (0 < how_often shards earlier n) × (fault ≡ Twice (record { 0 = n }))
+Breaks shards (present entries n) fault = (how_often shards entries n ≡ 0) × (fault ≡ Gap (record { 0 = n }))
 
 abbrev pub IsKept : ℕ → Rule → Type 0
-IsKept shards rule = (fault : ClusterFault) → ¬ IsBroken shards rule fault
+IsKept shards rule = (fault : ClusterFault) → ¬ Breaks shards rule fault
 
 -- the first of the rules that is broken has this fault
-abbrev pub IsFirstFault : ℕ → List Rule → ClusterFault → Type 0
-IsFirstFault shards [] fault = ⊥
-IsFirstFault shards (rule ∷ rules) fault = IsBroken shards rule fault ⊎ (IsKept shards rule × IsFirstFault shards rules fault)
+abbrev pub IsFirstBroken : ℕ → List Rule → ClusterFault → Type 0
+IsFirstBroken shards [] fault = ⊥
+IsFirstBroken shards (rule ∷ rules) fault = Breaks shards rule fault ⊎ (IsKept shards rule × IsFirstBroken shards rules fault)
 
 -- the rules of the fields of an entry
 abbrev pub rules_of_fields : Members → List Rule
@@ -62,4 +62,4 @@ rules_of_listed shards (Some entries) = rules_of_entries [] entries ++ rules_of_
 
 -- all rules, in order
 abbrev pub rules_of : ℕ → Members → List Rule
-rules_of shards document = top document ∷ listed document ∷ rules_of_listed shards (entries_of document)
+rules_of shards document = top document ∷ listed document ∷ rules_of_listed shards (listed_tables document)

@@ -5,8 +5,8 @@ ghost use Rattle.std.specs.List.{list_any};
 ghost use Rattle.std.specs.Str.{bytes_eq};
 ghost use Rattle.toml.specs.Data.{get_member, as_array};
 ghost use Rattle.toml.specs.View.{array_view, items_view, table_view};
-ghost use Rattle.roc_cluster.specs.Entries.{top_keys, has_only, tables_of, entries_of};
-ghost use Rattle.roc_cluster.specs.Inner.Judged.{views, NoTables};
+ghost use Rattle.roc_cluster.specs.Entries.{top_keys, has_only, tables_of, listed_tables};
+ghost use Rattle.roc_cluster.specs.Inner.Judged.{table_views, NoTables};
 
 use crate::fault::{ClusterFault, FieldName};
 use std::alloc::Global;
@@ -36,7 +36,7 @@ fn array_at<'a>(document: &'a Table, key: &str) -> Option<&'a Array>
 
 /// The tables that the items are.
 fn all_tables(alloc: Global, items: &[Value]) -> Result<Vec<&Table>, ClusterFault>
-    ensures ok { IfOk result (λ tables. tables_of (items_view items.now) ≡ Some (views tables.items)) }
+    ensures ok { IfOk result (λ tables. tables_of (items_view items.now) ≡ Some (table_views tables.items)) }
     ensures err { IfErr result (NoTables (tables_of (items_view items.now))) }
 {
     let mut tables = Vec::new(alloc);
@@ -51,8 +51,8 @@ fn all_tables(alloc: Global, items: &[Value]) -> Result<Vec<&Table>, ClusterFaul
 
 /// The tables under `shard`.
 pub(crate) fn listed(alloc: Global, document: &Table) -> Result<Vec<&Table>, ClusterFault>
-    ensures ok { IfOk result (λ tables. entries_of (table_view document.now) ≡ Some (views tables.items)) }
-    ensures err { IfErr result (NoTables (entries_of (table_view document.now))) }
+    ensures ok { IfOk result (λ tables. listed_tables (table_view document.now) ≡ Some (table_views tables.items)) }
+    ensures err { IfErr result (NoTables (listed_tables (table_view document.now))) }
 {
     match array_at(document, "shard") {
         Some(items) => all_tables(alloc, items.as_slice()),

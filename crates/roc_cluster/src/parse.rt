@@ -6,7 +6,7 @@ ghost use Rattle.toml.specs.View.{table_view};
 ghost use Rattle.roc_io.specs.declared.link.Addr.{Addr};
 ghost use Rattle.roc_cluster.specs.File.{IsDocument, IsClusterOf, IsClusterFile};
 ghost use Rattle.roc_cluster.specs.Rules.{rules_of};
-ghost use Rattle.roc_cluster.specs.Answer.{IsReadAs, IsFaultOf};
+ghost use Rattle.roc_cluster.specs.Answer.{IsReadAs, IsClusterFault};
 ghost use Rattle.roc_cluster.specs.Inner.Judged.{Names, NoDocument};
 
 use crate::cluster::Cluster;
@@ -54,7 +54,7 @@ pub fn parse_cluster(alloc: Global, text: &[u8], shards: u8) -> Result<Cluster, 
     // A cluster file is taken, unless memory runs out.
     ensures only { (cluster : List Addr) → IsClusterFile shards text.now cluster → IsReadAs cluster result }
     // A fault is the first of the bytes.
-    ensures fault { IfErr result (IsFaultOf shards text.now) }
+    ensures fault { IfErr result (IsClusterFault shards text.now) }
 {
     let document = document_of(alloc, text)?;
     cluster_in(alloc, &document, shards)

@@ -5,7 +5,7 @@ ghost use Rattle.std.specs.List.{list_any};
 ghost use Rattle.toml.specs.Data.{Members};
 ghost use Rattle.roc_cluster.specs.Entries.{AreEntries};
 ghost use Rattle.roc_cluster.specs.Rules.{rules_of_entries, rules_of_shards};
-ghost use Rattle.roc_cluster.specs.Inner.Judged.{Names, views, Reads, Seats};
+ghost use Rattle.roc_cluster.specs.Inner.Judged.{Names, table_views, AreRead, Seats};
 
 use crate::cluster::Cluster;
 use crate::entry::{Entry, entry_of};
@@ -33,8 +33,8 @@ pub(crate) fn entries_of(
     tables: &[&Table],
     shards: u8,
 ) -> Result<Sequence<Entry>, ClusterFault>
-    ensures ok { IfOk result (Reads shards (views tables.now)) }
-    ensures err { IfErr result (Names shards (rules_of_entries [] (views tables.now))) }
+    ensures ok { IfOk result (AreRead shards (table_views tables.now)) }
+    ensures err { IfErr result (Names shards (rules_of_entries [] (table_views tables.now))) }
 {
     let mut entries = Sequence::new(alloc);
     for table in tables {

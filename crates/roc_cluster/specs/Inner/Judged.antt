@@ -12,9 +12,9 @@ use Rattle.roc_io.specs.declared.link.Addr.{Addr}
 use Rattle.toml.specs.Data.{Members}
 use Rattle.toml.specs.View.{table_view}
 use Rattle.toml.specs.declared.value.Value.{Value}
-use Rattle.roc_cluster.specs.Entries.{AreEntries, times}
+use Rattle.roc_cluster.specs.Entries.{AreEntries, how_often}
 use Rattle.roc_cluster.specs.File.{IsDocument, addr_in}
-use Rattle.roc_cluster.specs.Rules.{Rule, IsKept, IsFirstFault}
+use Rattle.roc_cluster.specs.Rules.{Rule, IsKept, IsFirstBroken}
 
 abbrev pub AreKept : ℕ → List Rule → Type 0
 AreKept shards rules = AllByRecursion (IsKept shards) rules
@@ -23,13 +23,13 @@ AreKept shards rules = AllByRecursion (IsKept shards) rules
 abbrev pub Names : ℕ → List Rule → ClusterFault → Type 0
 Names shards rules NoMemory = Unit {0}
 Names shards rules Toml = ⊥
-Names shards rules (Field name) = IsFirstFault shards rules (Field name)
-Names shards rules (Twice shard) = IsFirstFault shards rules (Twice shard)
-Names shards rules (Gap shard) = IsFirstFault shards rules (Gap shard)
+Names shards rules (Field name) = IsFirstBroken shards rules (Field name)
+Names shards rules (Twice shard) = IsFirstBroken shards rules (Twice shard)
+Names shards rules (Gap shard) = IsFirstBroken shards rules (Gap shard)
 
 -- what tables say, without where they lie in memory
-abbrev pub views : List (Bor (BTreeMap (String Global) Value)) → List Members
-views tables = map (λ table. table_view table.now) tables
+abbrev pub table_views : List (Bor (BTreeMap (String Global) Value)) → List Members
+table_views tables = map (λ table. table_view table.now) tables
 
 -- there are no tables
 abbrev pub NoTables : Option (List Members) → ClusterFault → Type 0
@@ -48,9 +48,9 @@ NoDocument bytes (Twice shard) = ⊥
 NoDocument bytes (Gap shard) = ⊥
 
 -- the tables are these entries, and no two have one number
-pub record Reads (shards : ℕ) (tables : List Members) (entries : List Entry) : Type 0 where
+pub record AreRead (shards : ℕ) (tables : List Members) (entries : List Entry) : Type 0 where
   pub read : AreEntries shards tables entries
-  pub once : (n : ℕ) → times shards tables n ≤ 1
+  pub once : (n : ℕ) → how_often shards tables n ≤ 1
 
 -- each shard has an entry, and this is its address
 pub record Seats (shards : ℕ) (entries : List Entry) (cluster : List Addr) : Type 0 where
