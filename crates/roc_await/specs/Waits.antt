@@ -1,0 +1,50 @@
+-- Lists that a server asked others for, and who asked it: docs/PROTOCOL.md, "Fetches"
+use Rattle.std.specs.Prelude.{Bool, not, ◌&&◌, ◌||◌, nat_lt, List, [], ◌∷◌, filter}
+use Rattle.std.specs.List.{list_any}
+use Rattle.roc_base.specs.declared.id.TxnId.{TxnId}
+use Rattle.roc_base.specs.declared.node.Shard.{Shard}
+use Rattle.roc_base.specs.TxnId.{is_txn, txn_lt}
+use Rattle.roc_msg.specs.InPlace.{in_place}
+use Rattle.roc_await.specs.declared.waits.Asked.{Asked}
+use Rattle.roc_await.specs.declared.waits.Asker.{Asker}
+
+pub record Waiting : Type 0 where
+  -- the transactions whose lists were asked for, each with the shard that was asked, rising by id
+  pub asked : List Asked
+  -- who asked for the list of a transaction that is not known here, rising by id and shard
+  pub askers : List Asker
+
+abbrev pub none_waiting : Waiting
+none_waiting = record { asked = []; askers = [] }
+
+-- the order in which each is kept
+abbrev pub is_asked_before : Asked → Asked → Bool
+is_asked_before a b = txn_lt a.id b.id
+
+abbrev pub is_asker_before : Asker → Asker → Bool
+is_asker_before a b = txn_lt a.id b.id || (is_txn a.id b.id && nat_lt a.shard.0 b.shard.0)
+
+-- the list of a transaction was asked for
+abbrev pub was_asked_for : TxnId → List Asked → Bool
+was_asked_for id asked = list_any (λ a. is_txn a.id id) asked
+
+-- one more is asked for
+abbrev pub with_asked : Asked → List Asked → List Asked
+with_asked a asked = in_place is_asked_before a asked
+
+-- several more, one after another
+abbrev pub with_all_asked : List Asked → List Asked → List Asked
+with_all_asked [] asked = asked
+with_all_asked (a ∷ more) asked = with_all_asked more (with_asked a asked)
+
+-- one more has asked; it is kept once
+abbrev pub with_asker : Asker → List Asker → List Asker
+with_asker a askers = in_place is_asker_before a askers
+
+-- who asked for the list of a transaction
+abbrev pub askers_of : TxnId → List Asker → List Asker
+askers_of id askers = filter (λ a. is_txn a.id id) askers
+
+-- the others
+abbrev pub without_askers_of : TxnId → List Asker → List Asker
+without_askers_of id askers = filter (λ a. not (is_txn a.id id)) askers

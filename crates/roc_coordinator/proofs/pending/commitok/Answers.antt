@@ -1,0 +1,80 @@
+use Rattle.std.proofs.Common.{Bool, List, set, sym, ap, subst, ◌∙◌}
+use Rattle.std.specs.List.{position, remove, AllByRecursion}
+use Rattle.roc_base.specs.TxnId.{is_txn, txn_lt}
+use Rattle.roc_coordinator.specs.declared.handled.Handled.TheVariants.{Done, Answered}
+use Rattle.roc_coordinator.specs.declared.transaction.Transaction.{Transaction}
+use Rattle.roc_coordinator.specs.Ids.{ids_of}
+use Rattle.roc_sequence.specs.Rising.{IsRising}
+use Rattle.roc_coordinator.specs.Fits.{IsTransactionOf}
+use Rattle.roc_coordinator.specs.State.{find_transaction}
+use Rattle.roc_coordinator.specs.Step.{IsOutcome, after_commitok, commitok_refusal}
+use Rattle.roc_coordinator.proofs.Among.{ids_of-set, ids_of-remove, place_found}
+use Rattle.roc_sequence.proofs.Rising.{rising_remove}
+use Rattle.roc_sequence.proofs.Holds.{same_element, all_set, all_remove}
+use Rattle.roc_coordinator.proofs.Outcomes.{commitok_absent, commitok_refused, commitok_done, commitok_answered}
+use Rattle.roc_coordinator.proofs.pending.commitok.Goals as goal
+
+pub returns-in_default-clause-step : goal.returns-in_default-clause-step
+returns-in_default-clause-step c =
+    let is_own : Transaction → Bool = λ x. is_txn x.id c.args.id in
+    let place = ap (position is_own) (sym c.deref.ensures.value) ∙ sym c.place_of.ensures ∙ c.in_default.is in
+    λ s out same. commitok_absent c.args.plan.now c.args.transactions.now.items s same c.args.id c.args.ok out place
+
+pub returns-in-Some-2-clause-step : goal.returns-in-Some-2-clause-step
+returns-in-Some-2-clause-step c =
+    let is_own : Transaction → Bool = λ x. is_txn x.id c.args.id in
+    let place = ap (position is_own) (sym c.deref.ensures.value) ∙ sym c.place_of.ensures ∙ c.in-Some.is in
+    λ s out same.
+    commitok_refused c.args.plan.now c.args.transactions.now.items s same c.args.id c.in-Some.at place c.index.result.now c.index.ensures c.args.ok out c.in-Some-2.reason (sym c.in_ok-reason.ensures ∙ c.in-Some-2.is)
+
+pub returns-in_err-take_commitok-clause-ids : goal.returns-in_err-take_commitok-clause-ids
+returns-in_err-take_commitok-clause-ids c =
+    c.requires.ids ∙ sym (ids_of-set c.args.transactions.now.items c.in-Some.at c.index_mut.result.now c.take_commitok.new.x c.index_mut.ensures.value c.take_commitok.ensures.id)
+
+pub returns-in-None-clause-step : goal.returns-in-None-clause-step
+returns-in-None-clause-step c =
+    let is_own : Transaction → Bool = λ x. is_txn x.id c.args.id in
+    let xs = c.args.transactions.now.items in
+    let place = ap (position is_own) (sym c.deref.ensures.value) ∙ sym c.place_of.ensures ∙ c.in-Some.is in
+    let one = same_element xs c.in-Some.at c.index_mut.result.now c.index.result.now ((place_found is_own xs c.in-Some.at place).within) c.index_mut.ensures.value c.index.ensures in
+    let none = ap (λ x. commitok_refusal c.args.plan.now x c.args.ok) one ∙ sym c.in_ok-reason.ensures ∙ c.in_default-2.is in
+    λ s out same.
+    subst (λ y. IsOutcome (after_commitok c.args.plan.now s (find_transaction c.args.id xs) c.args.ok) Done (record s { pending = set xs c.in-Some.at y }) out out) (sym c.in_ok-take_commitok.ensures.kept)
+    (commitok_done c.args.plan.now xs s same c.args.id c.in-Some.at place c.index_mut.result.now c.index_mut.ensures.value c.args.ok out (subst (IsRising txn_lt) c.requires.ids c.requires.rising) none (sym c.in_ok-take_commitok.ensures.reply ∙ c.in-None.is))
+
+pub returns-in-None-clause-ids : goal.returns-in-None-clause-ids
+returns-in-None-clause-ids c =
+    c.requires.ids ∙ sym (ids_of-set c.args.transactions.now.items c.in-Some.at c.index_mut.result.now c.take_commitok.new.x c.index_mut.ensures.value c.take_commitok.ensures.id)
+
+pub returns-in-Some-3-clause-step : goal.returns-in-Some-3-clause-step
+returns-in-Some-3-clause-step c =
+    let is_own : Transaction → Bool = λ x. is_txn x.id c.args.id in
+    let xs = c.args.transactions.now.items in
+    let at = c.in-Some.at in
+    let place = ap (position is_own) (sym c.deref.ensures.value) ∙ sym c.place_of.ensures ∙ c.in-Some.is in
+    let one = same_element xs at c.index_mut.result.now c.index.result.now ((place_found is_own xs at place).within) c.index_mut.ensures.value c.index.ensures in
+    let none = ap (λ x. commitok_refusal c.args.plan.now x c.args.ok) one ∙ sym c.in_ok-reason.ensures ∙ c.in_default-2.is in
+    let without : Transaction → List Transaction = λ y. remove (set xs at y) at in
+    λ s out same.
+    subst (λ rest. IsOutcome (after_commitok c.args.plan.now s (find_transaction c.args.id xs) c.args.ok) (Answered c.args.id c.in-Some-3.reply) (record s { pending = rest }) out out)
+    (ap without (sym c.in_ok-take_commitok.ensures.kept) ∙ sym c.remove.ensures.items)
+    (commitok_answered c.args.plan.now xs s same c.args.id at place c.index_mut.result.now c.index_mut.ensures.value c.args.ok out c.in-Some-3.reply (subst (IsRising txn_lt) c.requires.ids c.requires.rising) none
+    (sym c.in_ok-take_commitok.ensures.reply ∙ c.in-Some-3.is))
+
+pub returns-in-Some-3-clause-ids : goal.returns-in-Some-3-clause-ids
+returns-in-Some-3-clause-ids c =
+    let xs = c.args.transactions.now.items in
+    let at = c.in-Some.at in
+    let kept = ids_of-set xs at c.index_mut.result.now c.take_commitok.new.x c.index_mut.ensures.value c.take_commitok.ensures.id in
+    let rest = ap ids_of c.remove.ensures.items ∙ ids_of-remove (set xs at c.take_commitok.new.x) at ∙ ap (λ ids. remove ids at) (kept ∙ sym c.requires.ids) in
+    c.remove-in-Some-3.ensures.items ∙ sym rest
+
+pub returns-in-Some-3-clause-rising : goal.returns-in-Some-3-clause-rising
+returns-in-Some-3-clause-rising c = subst (IsRising txn_lt) (sym c.remove-in-Some-3.ensures.items) (rising_remove txn_lt c.args.ids.now.items c.in-Some.at c.requires.rising)
+
+pub returns-in-Some-3-clause-fits : goal.returns-in-Some-3-clause-fits
+returns-in-Some-3-clause-fits c =
+    let is_of : Transaction → Type 0 = λ x. IsTransactionOf c.args.plan.now x in
+    let are_of : List Transaction → Type 0 = λ xs. AllByRecursion is_of xs in
+    let changed = set c.args.transactions.now.items c.in-Some.at c.take_commitok.new.x in
+    subst are_of (sym c.remove.ensures.items) (all_remove is_of changed c.in-Some.at (all_set is_of c.args.transactions.now.items c.in-Some.at c.take_commitok.new.x c.requires.fits c.take_commitok.ensures.fits))

@@ -1,0 +1,11 @@
+use Rattle.std.proofs.Common.{ℕ, ◌<◌, List, length, subst, sym, ◌∙◌, All}
+use Rattle.roc_plan.specs.Groups.{groups_of}
+use Rattle.roc_coordinator.specs.Commits.{waits_on}
+use Rattle.roc_coordinator.proofs.Ranges.{All-filter_range}
+use Rattle.roc_coordinator.proofs.reply.places_on.Goals as goal
+
+pub places_of-requires : goal.places_of-requires
+places_of-requires c =
+    let count : ℕ = length (groups_of c.args.plan.now c.args.x.now.proc) in
+    let are_below : List ℕ → Type 0 = λ groups. All (λ g. g < count) groups in
+    subst are_below (sym (c.deref.ensures.value ∙ c.in_ok-groups.ensures)) (All-filter_range (waits_on c.args.plan.now c.args.x.now c.args.shard) count)

@@ -1,0 +1,11 @@
+use Rattle.std.proofs.Common.{◌≡◌, ◌++◌, map, take}
+use Rattle.roc_coordinator.specs.Fits.{IsTransactionOf}
+use Rattle.roc_coordinator.specs.Starts.{sent_start, start_for}
+use Rattle.roc_coordinator.proofs.starts.send_each.Given as goal
+
+abbrev pub invariant-loop-group : goal.invariant-loop-group
+invariant-loop-group l = record {
+  kept : l.x ≡ record l.initial.x { starts = l.initial.x.starts ++ map (sent_start l.plan l.initial.x) (take l.group-index l.ready) };
+  sent : l.out ≡ record l.initial.out { messages = l.initial.out.messages ++ map (start_for l.plan l.initial.x) (take l.group-index l.ready) };
+  fits : IsTransactionOf l.plan l.x;
+}

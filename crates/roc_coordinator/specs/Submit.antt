@@ -1,0 +1,80 @@
+-- A submission: docs/PROTOCOL.md, "Coordinator"
+use Rattle.std.specs.Prelude.{◌≡◌, ℕ, ℤ, not, ◌+◌, ◌==◌, nat_le, nat_lt, List, [], ◌∷◌, ◌++◌, Option, Some, None, Result, Ok, Err, length, if◌then◌else◌}
+use Rattle.roc_base.specs.declared.id.TxnId.{TxnId}
+use Rattle.roc_msg.specs.declared.outbox.Outbox.{Outbox}
+use Rattle.roc_msg.specs.declared.outbox.Outgoing.{Outgoing}
+use Rattle.roc_plan.specs.Groups.{Plan, procedure_of}
+use Rattle.roc_coordinator.specs.declared.handled.SubmitFault.{SubmitFault}
+use Rattle.roc_coordinator.specs.declared.handled.SubmitFault.TheVariants.{Stopped, NoProc, Args, Spent, Busy, NoMemory}
+use Rattle.roc_coordinator.specs.declared.transaction.Transaction.{Transaction}
+use Rattle.roc_coordinator.specs.State.{CoordState}
+use Rattle.roc_coordinator.specs.Starts.{with_starts, starts_of}
+
+-- how many transactions a coordinator may submit, and how many of them may be unanswered at a time
+abbrev pub most_transactions : ℕ
+most_transactions = 4294967295
+
+abbrev pub most_pending : ℕ
+most_pending = 16
+
+-- what comes of a submission: the transaction's id or why there is none, the state after it, and what is sent
+pub record Submission : Type 0 where
+  pub answer : Result TxnId SubmitFault
+  pub state : CoordState
+  pub sends : List Outgoing
+
+-- a refused submission changes nothing and sends nothing
+abbrev pub refused : CoordState → SubmitFault → Submission
+refused s fault = record { answer = Err fault; state = s; sends = [] }
+
+abbrev pub next_id : CoordState → TxnId
+next_id s = record { coord = s.number; seq = s.next }
+
+-- a transaction of which nothing was sent
+abbrev pub unstarted : TxnId → ℕ → List ℤ → Transaction
+unstarted id proc args = record { id = id; proc = proc; args = args; starts = []; startoks = []; asked = []; commitoks = [] }
+
+abbrev pub new_transaction : CoordState → ℕ → List ℤ → Transaction
+new_transaction s proc args = unstarted (next_id s) proc args
+
+abbrev pub accepted : Plan → CoordState → Transaction → Submission
+accepted plan s x =
+    record {
+      answer = Ok x.id;
+      state = record s { next = s.next + 1; pending = s.pending ++ with_starts plan x ∷ [] };
+      sends = starts_of plan x;
+    }
+
+-- why a submission is refused: the first reason that holds
+abbrev pub refusal_of : Plan → CoordState → ℕ → List ℤ → Option SubmitFault
+refusal_of plan s proc args =
+    if not (nat_lt proc (length plan.program.procedures)) then Some NoProc
+    else if not (length args == (procedure_of plan proc).arguments) then Some Args
+    else if nat_le most_transactions s.next then Some Spent
+    else if nat_le most_pending (length s.pending) then Some Busy
+    else None
+
+-- where there is a reason to, a submission is refused
+abbrev pub refused_or_accepted : Plan → CoordState → ℕ → List ℤ → Option SubmitFault → Submission
+refused_or_accepted plan s proc args (Some fault) = refused s fault
+refused_or_accepted plan s proc args None = accepted plan s (new_transaction s proc args)
+
+-- what comes of a submission
+abbrev pub after_submit : Plan → CoordState → ℕ → List ℤ → Submission
+after_submit plan s proc args = refused_or_accepted plan s proc args (refusal_of plan s proc args)
+
+-- this was answered, the state is now this one, and an outbox has gained what is sent
+pub record IsSubmitted (submission : Submission) (answered : Result TxnId SubmitFault) (reached : CoordState) (before after : Outbox) : Type 0 where
+  pub answer : answered ≡ submission.answer
+  pub state : reached ≡ submission.state
+  pub sent : after ≡ record before { messages = before.messages ++ submission.sends }
+
+-- the coordinator found no memory, in the call or before it; or else the fact holds
+abbrev pub UnlessStopped : Result TxnId SubmitFault → Type 0 → Type 0
+UnlessStopped (Ok id) fact = fact
+UnlessStopped (Err Stopped) fact = Unit {0}
+UnlessStopped (Err NoMemory) fact = Unit {0}
+UnlessStopped (Err NoProc) fact = fact
+UnlessStopped (Err Args) fact = fact
+UnlessStopped (Err Spent) fact = fact
+UnlessStopped (Err Busy) fact = fact

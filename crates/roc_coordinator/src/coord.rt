@@ -1,0 +1,266 @@
+//! A coordinator: submissions and the answers to its requests.
+ghost use Rattle.std.specs.Prelude.{◌≡◌, ◌<◌, ◌++◌, ◌↔◌, length, true, None, IfOk, OnOk};
+ghost use Rattle.roc_plan.specs.Groups.{procedure_of};
+ghost use Rattle.roc_coordinator.specs.State.{first_coord};
+ghost use Rattle.roc_coordinator.specs.Ids.{ids_of};
+ghost use Rattle.roc_sequence.specs.Rising.{IsRising};
+ghost use Rattle.roc_base.specs.TxnId.{txn_lt};
+ghost use Rattle.roc_coordinator.specs.Fits.{IsTransactionOf, CoordFits};
+ghost use Rattle.roc_coordinator.specs.Starts.{with_starts, starts_of};
+ghost use Rattle.roc_coordinator.specs.Submit.{after_submit, refusal_of, unstarted, IsSubmitted, UnlessStopped};
+ghost use Rattle.roc_coordinator.specs.Step.{after_message, IsOutcome};
+ghost use Rattle.roc_coordinator.specs.Tick.{tick_sends};
+
+use crate::pending::Pending;
+use crate::starts::send_starts;
+use crate::{Handled, SubmitFault, TakenCommit, TakenStart, Transaction};
+use roc_base::{NoMemory, Nums, TxnId};
+use roc_msg::{Msg, NodeFault, Outbox, Reason};
+use roc_plan::Plan;
+use roc_sequence::Sequence;
+use std::alloc::Global;
+use std::marker::Model;
+
+/// How many transactions a coordinator may submit.
+const MOST_TRANSACTIONS: u32 = 4_294_967_295;
+
+/// How many of a coordinator's transactions may be unanswered at a time.
+const MOST_PENDING: usize = 16;
+
+/// A coordinator of a plan's transactions, after ROCOCO (OSDI 2014).
+#[derive(Debug, Drop)]
+pub struct Coord {
+    alloc: Global,
+    number: u16,
+    next: u32,
+    pending: Pending,
+    stopped: bool,
+}
+
+impl Model for Coord {
+    ghost use Rattle.roc_coordinator.specs.State.{CoordState};
+    ghost use Rattle.roc_coordinator.specs.Ids.{ids_of};
+    ghost use Rattle.roc_coordinator.specs.Inner.Given.{AreGiven};
+
+    ghost Value = { CoordState };
+
+    ghost view = { λ c. record { number = c.number; next = c.next; pending = c.pending; stopped = c.stopped } };
+
+    ghost invariant = { λ c. AreGiven c.number c.next (ids_of c.pending) };
+}
+
+impl Coord {
+    /// The coordinator of a number, before any submission. Takes no memory.
+    pub fn new(alloc: Global, number: u16) -> Coord
+        ensures { result ≡ first_coord number }
+    {
+        Coord {
+            alloc,
+            number,
+            next: 0,
+            pending: Pending::new(alloc),
+            stopped: false,
+        }
+    }
+
+    /// Submits a transaction: a call of a procedure with its arguments. It gets the next id, and
+    /// the starts of the groups whose inputs are known go to the outbox. A refused submission
+    /// leaves all as it was.
+    pub fn submit(
+        &mut self,
+        plan: &Plan,
+        proc: u16,
+        args: &[i64],
+        out: &mut Outbox,
+    ) -> Result<TxnId, SubmitFault>
+        requires fits { CoordFits plan.now self.old }
+        ensures step { UnlessStopped result (IsSubmitted (after_submit plan.now self.old proc args.now) result self.new out.old out.new) }
+
+        // Stopped comes exactly where the coordinator found no memory before, and changes nothing.
+        ensures stopped { (result ≡ Err SubmitFault.Stopped) ↔ (self.old.stopped ≡ true) }
+        ensures unchanged { result ≡ Err SubmitFault.Stopped → (self.new ≡ self.old) × (out.new ≡ out.old) }
+
+        // Nothing else is promised where there is no memory.
+        ensures no_memory { result ≡ Err SubmitFault.NoMemory → self.new.stopped ≡ true }
+        ensures fits { CoordFits plan.now self.new }
+    {
+        if self.stopped {
+            return Err(SubmitFault::Stopped);
+        }
+        if let Some(fault) = self.refusal(plan, proc, args) {
+            return Err(fault);
+        }
+        match self.accept(plan, proc, args, out) {
+            Ok(id) => Ok(id),
+            Err(NoMemory) => {
+                self.stopped = true;
+                Err(SubmitFault::NoMemory)
+            }
+        }
+    }
+
+    /// Handles a message: what becomes of it, and what goes to the outbox. An ignored message
+    /// leaves all as it was.
+    pub fn handle(&mut self, plan: &Plan, msg: &Msg, out: &mut Outbox) -> Result<Handled, NodeFault>
+        requires fits { CoordFits plan.now self.old }
+        ensures step { IfOk result (λ answer. IsOutcome (after_message plan.now self.old msg.now) answer self.new out.old out.new) }
+
+        // Stopped comes exactly where the coordinator found no memory before, and changes nothing.
+        ensures stopped { (result ≡ Err NodeFault.Stopped) ↔ (self.old.stopped ≡ true) }
+        ensures unchanged { result ≡ Err NodeFault.Stopped → (self.new ≡ self.old) × (out.new ≡ out.old) }
+
+        // Nothing else is promised where there is no memory.
+        ensures no_memory { result ≡ Err NodeFault.NoMemory → self.new.stopped ≡ true }
+        ensures fits { CoordFits plan.now self.new }
+    {
+        if self.stopped {
+            return Err(NodeFault::Stopped);
+        }
+        match self.take(plan, msg, out) {
+            Ok(answer) => Ok(answer),
+            Err(NoMemory) => {
+                self.stopped = true;
+                Err(NodeFault::NoMemory)
+            }
+        }
+    }
+
+    /// Sends again, for each transaction without a reply, the starts without a startok, or the commits without a commitok. It changes
+    /// nothing but that `NoMemory`, which promises nothing of `out`, stops the coordinator.
+    pub fn tick(&mut self, plan: &Plan, out: &mut Outbox) -> Result<(), NodeFault>
+        requires { CoordFits plan.now self.old }
+        ensures sent { OnOk result (out.new ≡ record out.old { messages = out.old.messages ++ tick_sends plan.now self.old }) }
+        ensures same { OnOk result (self.new ≡ self.old) }
+        ensures stopped { (result ≡ Err NodeFault.Stopped) ↔ (self.old.stopped ≡ true) }
+        ensures unchanged { result ≡ Err NodeFault.Stopped → (self.new ≡ self.old) × (out.new ≡ out.old) }
+        ensures no_memory { result ≡ Err NodeFault.NoMemory → self.new.stopped ≡ true }
+        ensures fits { CoordFits plan.now self.new }
+    {
+        if self.stopped {
+            return Err(NodeFault::Stopped);
+        }
+        match self.pending.send_again(self.alloc, plan, out) {
+            Ok(()) => Ok(()),
+            Err(NoMemory) => {
+                self.stopped = true;
+                Err(NodeFault::NoMemory)
+            }
+        }
+    }
+
+    /// The ids of the transactions without a reply, rising. Takes no memory.
+    pub fn unanswered(&self) -> &[TxnId]
+        ensures ids { result.now ≡ ids_of self.now.pending }
+        ensures rising { IsRising txn_lt result.now }
+    {
+        self.pending.ids()
+    }
+
+    // Why a submission is refused, if it is.
+    fn refusal(&self, plan: &Plan, proc: u16, args: &[i64]) -> Option<SubmitFault>
+        ensures { result ≡ refusal_of plan.now self.now proc args.now }
+    {
+        if proc >= plan.procedures() {
+            Some(SubmitFault::NoProc)
+        } else if args.len() != usize::from(plan.args(proc)) {
+            Some(SubmitFault::Args)
+        } else if self.next >= MOST_TRANSACTIONS {
+            Some(SubmitFault::Spent)
+        } else if self.pending.len() >= MOST_PENDING {
+            Some(SubmitFault::Busy)
+        } else {
+            None
+        }
+    }
+
+    // Accepts a submission.
+    fn accept(
+        &mut self,
+        plan: &Plan,
+        proc: u16,
+        args: &[i64],
+        out: &mut Outbox,
+    ) -> Result<TxnId, NoMemory>
+        requires fits { CoordFits plan.now self.old }
+        requires accepted { refusal_of plan.now self.old proc args.now ≡ None }
+        ensures step { IfOk result (λ id. IsSubmitted (after_submit plan.now self.old proc args.now) (Ok id) self.new out.old out.new) }
+        ensures fits { CoordFits plan.now self.new }
+    {
+        let id = TxnId {
+            coord: self.number,
+            seq: self.next,
+        };
+        let x = started(self.alloc, plan, id, proc, args, out)?;
+        self.pending.push(x)?;
+        self.next += 1;
+        Ok(id)
+    }
+
+    // Takes a message, or ignores it.
+    fn take(&mut self, plan: &Plan, msg: &Msg, out: &mut Outbox) -> Result<Handled, NoMemory>
+        requires fits { CoordFits plan.now self.old }
+        ensures step { IfOk result (λ answer. IsOutcome (after_message plan.now self.old msg.now) answer self.new out.old out.new) }
+        ensures fits { CoordFits plan.now self.new }
+    {
+        match msg {
+            Msg::StartOk {
+                id,
+                group,
+                shard,
+                bound,
+                outs,
+                edges,
+                facts,
+            } => {
+                let ok = TakenStart {
+                    group: *group,
+                    bound: bound.clone()?,
+                    outs: outs.clone()?,
+                    edges: edges.clone()?,
+                    facts: facts.clone()?,
+                };
+                self.pending.startok(self.alloc, plan, *id, ok, *shard, out)
+            }
+            Msg::CommitOk { id, shard, outs } => {
+                let ok = TakenCommit {
+                    shard: *shard,
+                    outs: outs.clone()?,
+                };
+                self.pending.commitok(self.alloc, plan, *id, ok)
+            }
+            Msg::Start { .. }
+            | Msg::Commit { .. }
+            | Msg::Fetch { .. }
+            | Msg::Known { .. }
+            | Msg::Stop => Ok(Handled::Ignored(Reason::Foreign)),
+        }
+    }
+}
+
+// A new transaction, with the starts of its ready groups sent.
+fn started(
+    alloc: Global,
+    plan: &Plan,
+    id: TxnId,
+    proc: u16,
+    args: &[i64],
+    out: &mut Outbox,
+) -> Result<Transaction, NoMemory>
+    requires proc { proc < length plan.now.program.procedures }
+    requires args { length args.now ≡ (procedure_of plan.now proc).arguments }
+    ensures kept { IfOk result (λ x. x ≡ with_starts plan.now (unstarted id proc args.now)) }
+    ensures sent { OnOk result (out.new ≡ record out.old { messages = out.old.messages ++ starts_of plan.now (unstarted id proc args.now) }) }
+    ensures fits { IfOk result (IsTransactionOf plan.now) }
+{
+    let mut x = Transaction {
+        id,
+        proc,
+        args: Nums::from_slice(alloc, args)?,
+        starts: Sequence::new(alloc),
+        startoks: Sequence::new(alloc),
+        asked: Sequence::new(alloc),
+        commitoks: Sequence::new(alloc),
+    };
+    send_starts(alloc, plan, &mut x, out)?;
+    Ok(x)
+}

@@ -1,0 +1,90 @@
+-- In every world who is told of a list has asked for it
+use Rattle.std.proofs.Common.{ℕ, ℤ, ◌-◌, List, [], ◌∷◌, Option, Some, None, sym, ap, subst, ◌∙◌, arith}
+use Rattle.roc_sequence.specs.Lists.{Has}
+use Rattle.roc_sequence.proofs.Members.{has_at}
+use Rattle.roc_base.specs.declared.id.TxnId.{TxnId}
+use Rattle.roc_base.specs.declared.node.Node.{Node}
+use Rattle.roc_base.specs.declared.node.Node.TheVariants.{Server, Coord}
+use Rattle.roc_base.specs.Edge.{Dependency}
+use Rattle.roc_msg.specs.declared.msg.Msg.{Msg}
+use Rattle.roc_msg.specs.declared.msg.Msg.TheVariants.{Start, StartOk, Commit, CommitOk, Fetch, Known, Stop}
+use Rattle.roc_msg.specs.declared.outbox.Outgoing.{Outgoing}
+use Rattle.roc_plan.specs.Groups.{Plan}
+use Rattle.roc_shard.specs.First.{first_server}
+use Rattle.roc_shard.specs.State.{answered, ServerState}
+use Rattle.roc_shard.specs.Step as server
+use Rattle.roc_coordinator.specs.declared.transaction.Transaction.{Transaction}
+use Rattle.roc_coordinator.specs.declared.transaction.TakenStart.{TakenStart}
+use Rattle.roc_coordinator.specs.State.{CoordState}
+use Rattle.roc_coordinator.specs.Step.{after_message}
+use Rattle.roc_coordinator.specs.Submit.{new_transaction, next_id, accepted}
+use Rattle.roc_coordinator.specs.Tick as coord
+use Rattle.roc_audit.specs.declared.entry.Entry.TheVariants.{Submitted}
+use Rattle.roc_protocol.specs.declared.event.Event.{Event}
+use Rattle.roc_protocol.specs.declared.event.Event.TheVariants.{Submit, Deliver, Tick}
+use Rattle.roc_protocol.specs.World.{World, comes}
+use Rattle.roc_protocol.specs.Happens.{Outcome, answer_entries, Receives}
+use Rattle.roc_protocol.specs.Run.{Stepped, Comes, IsRun, begun, goes_on}
+use Rattle.roc_protocol.proofs.Fetches.{FetchedFor, message_fetches, tick_fetches, IsAskedFor, HasAsked, served_asked, coordinated_asked, comes_asked}
+use Rattle.roc_protocol.proofs.Gathered.{IsGathered, IsRound, Tells, message_gathered, tick_gathered, submission_gathered}
+use Rattle.roc_protocol.proofs.Firsts.{found_at}
+use Rattle.roc_protocol.proofs.Worlds.{Submitting, is_refused, is_accepted, submitting}
+
+-- ---- what a coordinator sends, whatever it was told
+
+module _ (plan : Plan) (s : CoordState) where
+  abbrev any_list : TxnId → List Dependency → Type 0
+  any_list t es = Unit {0}
+
+  abbrev any_ok : TxnId → TakenStart → Type 0
+  any_ok t ok = Unit {0}
+
+  abbrev any_call : TxnId → ℕ → Type 0
+  any_call t p = Unit {0}
+
+  any_gathered : (x : Transaction) → IsGathered plan any_list any_ok any_call (λ t ok h k j. tt) x
+  any_gathered x = record { calls = tt; startoks = λ ok h. tt }
+
+  any_tells : (msg : Msg) → Tells plan any_list any_ok any_call (λ t ok h k j. tt) s (λ x h. any_gathered x) (λ x g all. tt) msg
+  any_tells (StartOk id group shard bound outs edges facts) = tt
+  any_tells (Start id proc group args inputs) = tt
+  any_tells (Commit id edges facts) = tt
+  any_tells (CommitOk id shard outs) = tt
+  any_tells (Fetch id asker) = tt
+  any_tells (Known id edges) = tt
+  any_tells Stop = tt
+
+  pub message_round : (msg : Msg) (out : Outgoing) → Has out (after_message plan s msg).sends → IsRound out.msg
+  message_round msg out h = ((message_gathered plan any_list any_ok any_call (λ t ok h k j. tt) s (λ x h. any_gathered x) (λ x g all. tt) msg (any_tells msg)).sends out h).1
+
+  pub tick_round : (out : Outgoing) → Has out (coord.tick_sends plan s) → IsRound out.msg
+  tick_round out h = ((tick_gathered plan any_list any_ok any_call (λ t ok h k j. tt) s (λ x h. any_gathered x) (λ x g all. tt)).sends out h).1
+
+  pub submission_round : (proc : ℕ) (args : List ℤ) (out : Outgoing) → Has out (accepted plan s (new_transaction s proc args)).sends → IsRound out.msg
+  submission_round proc args out h = ((submission_gathered plan any_list any_ok any_call (λ t ok h k j. tt) s (λ x h. any_gathered x) (λ x g all. tt) proc args tt).sends out h).1
+
+-- ---- worlds
+
+step_asked : (plan : Plan) (w : World) → HasAsked w → (e : Option Event) (v : Outcome) → Comes plan w e v → HasAsked v.world
+step_asked plan w o None v h = subst (λ (v : Outcome). HasAsked v.world) (sym h) o
+step_asked plan w o (Some (Submit n proc args)) v (s, there, h) = go (submitting plan w n proc args s v h)
+  where
+    go : Submitting plan w n proc args s v → HasAsked v.world
+    go (is_refused e) = subst HasAsked (sym e) o
+    go (is_accepted known counted e) = subst HasAsked (sym e) (coordinated_asked plan w o n (accepted plan s (new_transaction s proc args)).state (accepted plan s (new_transaction s proc args)).sends (Submitted (next_id s) proc args ∷ []) (submission_round plan s proc args))
+step_asked plan w o (Some (Deliver k)) v (m, some, there, h) = go m.to (o.sent m (has_at w.sent (k - 1) m there)) h
+  where
+    go : (to : Node) → FetchedFor (IsAskedFor w.servers) m.msg to → Receives plan (comes w k) m.msg to v → HasAsked v.world
+    go (Server shard) f (s, r, at, step, e) = subst (λ (v : Outcome). HasAsked v.world) (sym e) (served_asked plan (comes w k) (comes_asked plan w o k) shard.0 s at r (message_fetches plan (IsAskedFor w.servers) s ((comes_asked plan w o k).askers shard.0 s at) m.msg (Server shard) r step f))
+    go (Coord n) f (s, at, e) = subst (λ (v : Outcome). HasAsked v.world) (sym e) (coordinated_asked plan (comes w k) (comes_asked plan w o k) n (after_message plan s m.msg).state (after_message plan s m.msg).sends (answer_entries (after_message plan s m.msg).answer) (message_round plan s m.msg))
+step_asked plan w o (Some (Tick (Server shard))) v (s, there, e) = subst (λ (v : Outcome). HasAsked v.world) (sym e) (served_asked plan w o shard.0 s there (answered s (server.tick_sends s)) (tick_fetches plan (IsAskedFor w.servers) s (o.askers shard.0 s there)))
+step_asked plan w o (Some (Tick (Coord n))) v (s, there, e) = subst (λ (v : Outcome). HasAsked v.world) (sym e) (coordinated_asked plan w o n s (coord.tick_sends plan s) [] (tick_round plan s))
+
+pub run_asked : (plan : Plan) (coords : ℕ) (steps : List Stepped) (w : World) → IsRun plan coords steps w → HasAsked w
+run_asked plan coords steps w begun =
+    record {
+      numbers = λ n s h. (let e = found_at (λ n. first_server plan (record { 0 = n })) 0 plan.program.shards n s h in ap (λ (s : ServerState). s.shard.0) e ∙ (omega arith));
+      sent = λ m h. absurd h;
+      askers = λ n s h a j. elim (subst (λ (s : ServerState). Has a s.lists.waiting.askers) (found_at (λ n. first_server plan (record { 0 = n })) 0 plan.program.shards n s h) j) [ ];
+    }
+run_asked plan coords steps w (goes_on {w = v} e o r h) = step_asked plan v (run_asked plan coords _ v r) e o h

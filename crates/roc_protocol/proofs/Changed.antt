@@ -1,0 +1,137 @@
+-- Lists changed at one place, and what a changed world keeps
+use Rattle.std.proofs.Common.{◌≡◌, ◌≢◌, ℕ, ℤ, zero, suc, Bool, true, false, not, cond, List, [], ◌∷◌, ◌++◌, Some, map, refl, sym, ap, subst, ◌∙◌, ◌⊎◌, inl, inr, append-nil, append_assoc}
+use Rattle.std.proofs.lemmas.Bool.{cases_eq, cond-true, cond-false, not_from_false}
+use Rattle.std.specs.Prelude.{slice_get, slice_set}
+use Rattle.roc_sequence.specs.Lists.{Has}
+use Rattle.roc_sequence.specs.Places.{is_listed, NoneTwice}
+use Rattle.roc_sequence.proofs.Places.{listed_test, unlisted_test, listed_true, listed_false}
+use Rattle.roc_sequence.proofs.Appended.{listed_front, listed_either}
+use Rattle.roc_sequence.proofs.Members.{has_append, from_has_map}
+use Rattle.roc_base.specs.declared.id.TxnId.{TxnId}
+use Rattle.roc_base.specs.declared.node.Node.{Node}
+use Rattle.roc_base.specs.declared.node.Node.TheVariants.{Server, Coord}
+use Rattle.roc_base.specs.TxnId.{is_txn}
+use Rattle.roc_rows.specs.Store.{Store}
+use Rattle.roc_depgraph.proofs.Listed.{listed_one, has_listed}
+use Rattle.roc_msg.specs.declared.msg.Sent.{Sent}
+use Rattle.roc_msg.specs.declared.outbox.Outgoing.{Outgoing}
+use Rattle.roc_plan.specs.Groups.{Plan}
+use Rattle.roc_whole.specs.Serial as whole
+use Rattle.roc_execution.specs.Scheme.{Scheme}
+use Rattle.roc_execution.specs.Log.{Log}
+use Rattle.roc_execution.specs.Steps.{IsReachedLog, new_in}
+use Rattle.roc_execution.specs.Invariants.{LogInvariants, LogGrows}
+use Rattle.roc_shard.specs.State.{ServerState, ServerStep}
+use Rattle.roc_coordinator.specs.declared.transaction.Transaction.{Transaction}
+use Rattle.roc_coordinator.specs.State.{CoordState}
+use Rattle.roc_audit.specs.declared.entry.Entry.{Entry}
+use Rattle.roc_audit.specs.declared.entry.Entry.TheVariants.{Answered}
+use Rattle.roc_audit.specs.Order.{noted}
+use Rattle.roc_protocol.specs.Asked.{IsSchemeOf}
+use Rattle.roc_protocol.specs.World.{World, sent_by, comes, at_server, at_coord}
+use Rattle.roc_protocol.proofs.Means.{Means, ServerMeans, TxnMeans, AnswerMeans, WorldMeans}
+use Rattle.roc_protocol.proofs.Grows.{means_grow, txn_grows, answer_grows}
+
+-- ---- lists changed at one place
+
+pub get-set_here : {A : Type 0} (xs : List A) (i : ℕ) (a b : A) → slice_get xs i ≡ Some a → slice_get (slice_set xs i b) i ≡ Some b
+get-set_here [] i a b e = absurd (cc)
+get-set_here (x ∷ xs) zero a b e = refl
+get-set_here (x ∷ xs) (suc i) a b e = get-set_here xs i a b e
+
+pub get-set_other : {A : Type 0} (xs : List A) (i j : ℕ) (b : A) → i ≢ j → slice_get (slice_set xs i b) j ≡ slice_get xs j
+get-set_other [] i j b n = refl
+get-set_other (x ∷ xs) zero zero b n = absurd (n refl)
+get-set_other (x ∷ xs) zero (suc j) b n = refl
+get-set_other (x ∷ xs) (suc i) zero b n = refl
+get-set_other (x ∷ xs) (suc i) (suc j) b n = get-set_other xs i j b (λ e. n (ap suc e))
+
+-- what is found after a change is the change, or was there
+pub get-set_cases : {A : Type 0} (xs : List A) (i j : ℕ) (a b c : A) → slice_get xs i ≡ Some a → slice_get (slice_set xs i b) j ≡ Some c → ((i ≡ j) × (c ≡ b)) ⊎ ((i ≢ j) × (slice_get xs j ≡ Some c))
+get-set_cases xs i j a b c e f = elim (cases_eq i j) [
+  | inl same ↦
+      (let here : slice_get (slice_set xs i b) i ≡ Some c = subst (λ (n : ℕ). slice_get (slice_set xs i b) n ≡ Some c) (sym same) f in
+      let is = get-set_here xs i a b e in
+      inl (same, cc))
+  | inr other ↦ inr (other, sym (get-set_other xs i j b other) ∙ f)
+]
+
+-- ---- an order that grows
+
+pub noted-new : (order ts : List TxnId) → NoneTwice is_txn ts → noted order ts ≡ order ++ new_in order ts
+noted-new order [] once = sym (append-nil order)
+noted-new order (t ∷ ts) once = go (is_listed is_txn order t) refl (λ o. noted-new o ts once.1)
+  where
+    alike : (order : List TxnId) (t : TxnId) (ts : List TxnId) → ((u : TxnId) → Has u ts → u ≢ t) → new_in (order ++ t ∷ []) ts ≡ new_in order ts
+    alike order t [] h = refl
+    alike order t (u ∷ ts) h = two (is_listed is_txn order u) refl (alike order t ts (λ v k. h v (inr k)))
+      where
+        two : (b : Bool) → is_listed is_txn order u ≡ b → new_in (order ++ t ∷ []) ts ≡ new_in order ts → cond (not (is_listed is_txn (order ++ t ∷ []) u)) (u ∷ new_in (order ++ t ∷ []) ts) (new_in (order ++ t ∷ []) ts) ≡ cond (not b) (u ∷ new_in order ts) (new_in order ts)
+        two true e ih =
+            cond-false (not (is_listed is_txn (order ++ t ∷ []) u)) (u ∷ new_in (order ++ t ∷ []) ts) (new_in (order ++ t ∷ []) ts) (ap not (listed_test is_txn (order ++ t ∷ []) u (listed_front is_txn order (t ∷ []) u (listed_true is_txn order u e)))) ∙ ih
+        two false e ih =
+            cond-true (not (is_listed is_txn (order ++ t ∷ []) u)) (u ∷ new_in (order ++ t ∷ []) ts) (new_in (order ++ t ∷ []) ts)
+            (not_from_false (is_listed is_txn (order ++ t ∷ []) u) (unlisted_test is_txn (order ++ t ∷ []) u (λ k. elim (listed_either is_txn order (t ∷ []) u k) [ inl a ↦ listed_false is_txn order u e a | inr a ↦ h u (inl refl) (listed_one t u a.1) ])))
+            ∙ ap (λ l. u ∷ l) ih
+
+    go : (b : Bool) → is_listed is_txn order t ≡ b → ((o : List TxnId) → noted o ts ≡ o ++ new_in o ts) → noted (order ++ cond b [] (t ∷ [])) ts ≡ order ++ cond (not b) (t ∷ new_in order ts) (new_in order ts)
+    go true e ih = ap (λ o. noted o ts) (append-nil order) ∙ ih order
+    go false e ih =
+        ih (order ++ t ∷ [])
+        ∙ (append_assoc order (t ∷ []) (new_in (order ++ t ∷ []) ts) ∙ ap (λ l. order ++ t ∷ l) (alike order t ts (λ u h same. once.0 (has_listed ts t (subst (λ u. Has u ts) same h)))))
+
+-- ---- worlds
+
+module _ (plan : Plan) (asked : TxnId → whole.Call) (S : Scheme) (start : Store) (is : IsSchemeOf plan asked S) where
+  -- a message comes
+  pub comes_means : (c : Log) (w : World) (k : ℕ) → WorldMeans plan asked S start c w → WorldMeans plan asked S start c (comes w k)
+  comes_means c w k o = record { reached = o.reached; order = o.order; servers = o.servers; messages = o.messages; coords = o.coords; answered = o.answered }
+
+  messages_after : (c : Log) (sent : List Sent) (from : Node) (outs : List Outgoing) → ((m : Sent) → Has m sent → Means plan asked S start c m.msg m.to) → ((o : Outgoing) → Has o outs → Means plan asked S start c o.msg o.to)
+      → (m : Sent) → Has m (sent ++ map (sent_by from) outs) → Means plan asked S start c m.msg m.to
+  messages_after c sent from outs f g m h = elim (has_append m sent (map (sent_by from) outs) h) [
+    | inl k ↦ f m k
+    | inr k ↦ (let r = from_has_map (sent_by from) m outs k in subst (λ (m : Sent). Means plan asked S start c m.msg m.to) (sym r.2) (g r.0 r.1))
+  ]
+
+  -- a server takes a step, and the log one that agrees with it
+  pub server_means :
+      (c d : Log) (i : LogInvariants S start c) (j : LogInvariants S start d) (g : LogGrows S start c d) → IsReachedLog S start d
+      → (w : World) → WorldMeans plan asked S start c w → (n : ℕ) (s : ServerState) (r : ServerStep) → slice_get w.servers n ≡ Some s
+      → ServerMeans plan asked S start d n r.state
+      → ((m : ℕ) → n ≢ m → (v : ServerState) → slice_get w.servers m ≡ Some v → ServerMeans plan asked S start d m v)
+      → ((o : Outgoing) → Has o r.sends → Means plan asked S start d o.msg o.to)
+      → noted w.order r.decided ≡ d.order
+      → WorldMeans plan asked S start d (at_server w n r)
+  server_means c d i j g reached w o n s r there mine others sends order =
+      record {
+        reached = reached;
+        order = order;
+        servers = λ m v h. elim (get-set_cases w.servers n m s r.state v there h) [
+          | inl k ↦ subst (λ m. ServerMeans plan asked S start d m v) k.0 (subst (ServerMeans plan asked S start d n) (sym k.1) mine)
+          | inr k ↦ others m k.0 v k.1
+        ];
+        messages = messages_after d w.sent (Server (record { 0 = n })) r.sends (λ m h. means_grow plan asked S start is c d i j g m.msg m.to (o.messages m h)) sends;
+        coords = λ m v h x k. txn_grows plan asked S start is c d i j g x (o.coords m v h x k);
+        answered = λ t reply h. answer_grows plan asked S start is c d i j g t reply (o.answered t reply h);
+      }
+
+  -- a coordinator does, and the log none
+  pub coord_means :
+      (c : Log) (w : World) → WorldMeans plan asked S start c w → (n : ℕ) (s after : CoordState) (outs : List Outgoing) (told : List Entry) → slice_get w.coords n ≡ Some s
+      → ((x : Transaction) → Has x after.pending → TxnMeans plan asked S start c x)
+      → ((o : Outgoing) → Has o outs → Means plan asked S start c o.msg o.to)
+      → ((t : TxnId) (reply : List ℤ) → Has (Answered t reply) told → AnswerMeans plan asked S start c t reply)
+      → WorldMeans plan asked S start c (at_coord w n after outs told)
+  coord_means c w o n s after outs told there mine sends replies =
+      record {
+        reached = o.reached;
+        order = o.order;
+        servers = o.servers;
+        messages = messages_after c w.sent (Coord n) outs o.messages sends;
+        coords = λ m v h x k. elim (get-set_cases w.coords n m s after v there h) [
+          | inl e ↦ mine x (subst (λ (v : CoordState). Has x v.pending) e.1 k)
+          | inr e ↦ o.coords m v e.1 x k
+        ];
+        answered = λ t reply h. elim (has_append (Answered t reply) w.history told h) [ inl k ↦ o.answered t reply k | inr k ↦ replies t reply k ];
+      }

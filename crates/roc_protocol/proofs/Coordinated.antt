@@ -1,0 +1,241 @@
+-- What comes of a message, a tick and a submission at a coordinator
+use Rattle.std.proofs.Common.{◌≡◌, ℕ, ℤ, ◌==◌, Bool, true, false, not, cond, ◌&&◌, List, [], ◌∷◌, Option, Some, None, length, map, refl, sym, subst, ◌⊎◌, inl, inr, is_some}
+use Rattle.std.proofs.lemmas.Bool.{false≢true, and_parts, and_from, eq-eqb}
+use Rattle.std.specs.Prelude.{slice_get, filter, is_none, if◌then◌else◌}
+use Rattle.roc_sequence.specs.Lists.{Has}
+use Rattle.roc_sequence.specs.Places.{IsListed}
+use Rattle.roc_sequence.proofs.Found.{found_has}
+use Rattle.roc_sequence.proofs.Holds.{any_has, has_any}
+use Rattle.roc_sequence.proofs.Members.{has_append, has_one, from_has_map, from_has_filter}
+use Rattle.roc_base.specs.declared.id.TxnId.{TxnId}
+use Rattle.roc_base.specs.declared.node.Node.{Node}
+use Rattle.roc_base.specs.declared.node.Shard.{Shard}
+use Rattle.roc_base.specs.TxnId.{is_txn}
+use Rattle.roc_base.specs.Inner.Equalities.{is_txn-true}
+use Rattle.roc_rows.specs.Store.{Store}
+use Rattle.roc_msg.specs.declared.msg.Msg.{Msg}
+use Rattle.roc_msg.specs.declared.msg.Msg.TheVariants.{Start, StartOk, Commit, CommitOk, Fetch, Known, Stop}
+use Rattle.roc_msg.specs.declared.outbox.Outgoing.{Outgoing}
+use Rattle.roc_msg.specs.declared.reason.Reason.TheVariants.{Stale, Unfit}
+use Rattle.roc_plan.specs.Groups.{Plan}
+use Rattle.roc_whole.specs.Serial as whole
+use Rattle.roc_execution.specs.Scheme.{Scheme}
+use Rattle.roc_execution.specs.Log.{Log}
+use Rattle.roc_execution.specs.Invariants.{LogInvariants}
+use Rattle.roc_coordinator.specs.declared.transaction.Transaction.{Transaction}
+use Rattle.roc_coordinator.specs.declared.transaction.SentStart.{SentStart}
+use Rattle.roc_coordinator.specs.declared.transaction.TakenStart.{TakenStart}
+use Rattle.roc_coordinator.specs.declared.transaction.TakenCommit.{TakenCommit}
+use Rattle.roc_coordinator.specs.State.{find_transaction, with_transaction, find_start, find_startok, was_asked, has_commitok, CoordState}
+use Rattle.roc_coordinator.specs.Starts.{group_numbers, can_start, is_ready, ready_groups, start_for, with_starts, starts_of, all_started, commits_of, commit_to, shards_of, bound_count, out_count}
+use Rattle.roc_coordinator.specs.Commits.{all_committed, reply_of, places_on}
+use Rattle.roc_coordinator.specs.Step.{unless_refused, is_fit_startok, with_commits, commits_for, with_startok, sends_after, startok_taken, after_startok, is_asked, is_fit_commitok, with_commitok, reply_now, without_transaction, commitok_taken, after_commitok, after_message}
+use Rattle.roc_coordinator.specs.Submit.{next_id, new_transaction, accepted}
+use Rattle.roc_coordinator.specs.Tick.{awaits_startok, starts_again, commits_again, sent_again, tick_sends}
+use Rattle.roc_audit.specs.declared.entry.Entry.{Entry}
+use Rattle.roc_audit.specs.declared.entry.Entry.TheVariants as entry
+use Rattle.roc_protocol.specs.Asked.{IsSchemeOf}
+use Rattle.roc_protocol.specs.World.{World, at_coord}
+use Rattle.roc_protocol.specs.Happens.{answer_entries}
+use Rattle.roc_protocol.proofs.Means.{run_of, place, Means, ToldMeans, DoneMeans, TxnMeans, AnswerMeans, WorldMeans}
+use Rattle.roc_protocol.proofs.Flat.{from_has_flat}
+use Rattle.roc_protocol.proofs.Coordinators.{starts_mean, commits_mean, commits_for-mean}
+use Rattle.roc_protocol.proofs.Rounds.{shards_begun, told, first_means, starts_means, commits_means, commitok_means, startok_means}
+use Rattle.roc_protocol.proofs.Replies.{answer_means}
+use Rattle.roc_protocol.proofs.Changed.{coord_means}
+use Rattle.roc_protocol.proofs.Served.{StartsAre}
+
+module _ (plan : Plan) (asked : TxnId → whole.Call) (S : Scheme) (start : Store) (is : IsSchemeOf plan asked S) (c : Log) (i : LogInvariants S start c) (w : World) (o : WorldMeans plan asked S start c w) (n : ℕ) (s : CoordState) (there : slice_get w.coords n ≡ Some s) (Of : TxnId → Type 0) (of : (x : Transaction) → Has x s.pending → Of x.id) where
+  -- what a coordinator does is explained by the log as it is, and what it starts and holds is of these transactions
+  pub record IsCoordinated (after : CoordState) (outs : List Outgoing) (tells : List Entry) : Type 0 where
+    pub means : WorldMeans plan asked S start c (at_coord w n after outs tells)
+    pub starts : (out : Outgoing) → Has out outs → StartsAre Of out.msg
+    pub pending : (x : Transaction) → Has x after.pending → Of x.id
+
+  means : (x : Transaction) → Has x s.pending → TxnMeans plan asked S start c x
+  means = o.coords n s there
+
+  -- it changes nothing
+  same : (outs : List Outgoing) → ((out : Outgoing) → Has out outs → Means plan asked S start c out.msg out.to) → ((out : Outgoing) → Has out outs → StartsAre Of out.msg) → IsCoordinated s outs []
+  same outs sends starts = record { means = coord_means plan asked S start is c w o n s s outs [] there means sends (λ t reply h. absurd h); starts = starts; pending = of }
+
+  ignores : IsCoordinated s [] []
+  ignores = same [] (λ out h. absurd h) (λ out h. absurd h)
+
+  -- ---- one of its transactions changes
+
+  kept : (x : Transaction) (z : Transaction) → Has z (with_transaction s x).pending → (z ≡ x) ⊎ Has z s.pending
+  kept x z h =
+      let q = from_has_map (λ (y : Transaction). if is_txn y.id x.id then x else y) z s.pending h in
+      go q.0 q.1 (is_txn q.0.id x.id) q.2
+    where
+      go : (y : Transaction) → Has y s.pending → (b : Bool) → z ≡ cond b x y → (z ≡ x) ⊎ Has z s.pending
+      go y k true e = inl e
+      go y k false e = inr (subst (λ z. Has z s.pending) (sym e) k)
+
+  changes : (x : Transaction) → TxnMeans plan asked S start c x → Of x.id → (outs : List Outgoing) → ((out : Outgoing) → Has out outs → Means plan asked S start c out.msg out.to) → ((out : Outgoing) → Has out outs → StartsAre Of out.msg) → IsCoordinated (with_transaction s x) outs []
+  changes x m k outs sends starts =
+      record {
+        means = coord_means plan asked S start is c w o n s (with_transaction s x) outs [] there (λ z h. elim (kept x z h) [ inl e ↦ subst (TxnMeans plan asked S start c) (sym e) m | inr j ↦ means z j ]) sends (λ t reply h. absurd h);
+        starts = starts;
+        pending = λ z h. elim (kept x z h) [ inl e ↦ subst (λ (z : Transaction). Of z.id) (sym e) k | inr j ↦ of z j ];
+      }
+
+  -- what is sent of a transaction is of it
+  starts_of-it : (x : Transaction) → Of x.id → (gs : List ℕ) (out : Outgoing) → Has out (map (start_for plan x) gs) → StartsAre Of out.msg
+  starts_of-it x k gs out h = let q = from_has_map (start_for plan x) out gs h in subst (λ (out : Outgoing). StartsAre Of out.msg) (sym q.2) k
+
+  commits_start-none : (x : Transaction) (shards : List Shard) (out : Outgoing) → Has out (map (commit_to x) shards) → StartsAre Of out.msg
+  commits_start-none x shards out h = let q = from_has_map (commit_to x) out shards h in subst (λ (out : Outgoing). StartsAre Of out.msg) (sym q.2) tt
+
+  -- ---- a startok
+
+  module _ (x : Transaction) (m : TxnMeans plan asked S start c x) (k : Of x.id) where
+    new_mean : (out : Outgoing) → Has out (starts_of plan x) → Means plan asked S start c out.msg out.to
+    new_mean out h = starts_mean plan asked S start is c i x (told plan asked S start is c i x m) (can_start plan x) (λ g l e. (and_parts (is_ready plan x g) (is_none (find_start g x.starts)) e).0) out h
+
+    round : IsCoordinated (with_transaction s (with_commits plan (with_starts plan x))) (sends_after plan x) []
+    round =
+        let y = with_starts plan x in
+        let my = starts_means plan asked S start is c i x m in
+        changes (with_commits plan y) (commits_means plan asked S start is c i y my) (of_commits y (all_started plan y)) (sends_after plan x)
+        (λ out h. elim (has_append out (starts_of plan x) (commits_for plan y) h) [ inl j ↦ new_mean out j | inr j ↦ commits_for-mean plan asked S start is c i y (told plan asked S start is c i y my) (shards_begun plan asked S start is c i y my) out j ])
+        (λ out h. elim (has_append out (starts_of plan x) (commits_for plan y) h) [ inl j ↦ starts_of-it x k (ready_groups plan x) out j | inr j ↦ none y out (all_started plan y) j ])
+      where
+        of_commits : (y : Transaction) (b : Bool) → Of (cond b (record (with_starts plan x) { asked = shards_of y }) (with_starts plan x)).id
+        of_commits y true = k
+        of_commits y false = k
+
+        none : (y : Transaction) (out : Outgoing) (b : Bool) → Has out (cond b (commits_of y) []) → StartsAre Of out.msg
+        none y out true h = commits_start-none y (shards_of y) out h
+        none y out false h = absurd h
+
+  startok_explained : (ok : TakenStart) (shard : Shard) (id : TxnId) → ToldMeans plan asked S start c (run_of id ok.group) ok.bound ok.outs ok.edges ok.facts → shard.0 ≡ place plan asked S start c (run_of id ok.group)
+      → (x : Option Transaction) → find_transaction id s.pending ≡ x
+      → IsCoordinated (after_startok plan s x ok shard).state (after_startok plan s x ok shard).sends (answer_entries (after_startok plan s x ok shard).answer)
+  startok_explained ok shard id d on None e = ignores
+  startok_explained ok shard id d on (Some x) e = fresh (is_some (find_startok ok.group x.startoks))
+    where
+      found : Has x s.pending × (is_txn x.id id ≡ true)
+      found = found_has (λ (x : Transaction). is_txn x.id id) s.pending x e
+
+      same_id : id ≡ x.id
+      same_id = sym (is_txn-true x.id id found.1)
+
+      unfit : (b : Bool) → is_fit_startok plan x ok shard ≡ b → IsCoordinated (unless_refused s (if not b then Some Unfit else None) (startok_taken plan s (with_startok x ok))).state (unless_refused s (if not b then Some Unfit else None) (startok_taken plan s (with_startok x ok))).sends (answer_entries (unless_refused s (if not b then Some Unfit else None) (startok_taken plan s (with_startok x ok))).answer)
+      unfit false f = ignores
+      unfit true f =
+          let was = (and_parts (was_asked x ok.group shard) (length ok.bound == bound_count plan x.proc ok.group) (and_parts (was_asked x ok.group shard && length ok.bound == bound_count plan x.proc ok.group) (length ok.outs == out_count plan x.proc ok.group) f).0).0 in
+          round (with_startok x ok)
+          (startok_means plan asked S start is c i x (means x found.0) ok shard was
+          (subst (λ t. shard.0 ≡ place plan asked S start c (run_of t ok.group)) same_id on)
+          (subst (λ t. ToldMeans plan asked S start c (run_of t ok.group) ok.bound ok.outs ok.edges ok.facts) same_id d))
+          (of x found.0)
+
+      fresh : (b : Bool) → IsCoordinated (unless_refused s (if b then Some Stale else (if not (is_fit_startok plan x ok shard) then Some Unfit else None)) (startok_taken plan s (with_startok x ok))).state (unless_refused s (if b then Some Stale else (if not (is_fit_startok plan x ok shard) then Some Unfit else None)) (startok_taken plan s (with_startok x ok))).sends (answer_entries (unless_refused s (if b then Some Stale else (if not (is_fit_startok plan x ok shard) then Some Unfit else None)) (startok_taken plan s (with_startok x ok))).answer)
+      fresh true = ignores
+      fresh false = unfit (is_fit_startok plan x ok shard) refl
+
+  -- ---- a commitok
+
+  commitok_explained : (ok : TakenCommit) (id : TxnId) → DoneMeans plan asked S start c id ok.shard.0 ok.outs → (x : Option Transaction) → find_transaction id s.pending ≡ x
+      → IsCoordinated (after_commitok plan s x ok).state (after_commitok plan s x ok).sends (answer_entries (after_commitok plan s x ok).answer)
+  commitok_explained ok id d None e = ignores
+  commitok_explained ok id d (Some x) e = fresh (has_commitok ok.shard x.commitoks)
+    where
+      found : Has x s.pending × (is_txn x.id id ≡ true)
+      found = found_has (λ (x : Transaction). is_txn x.id id) s.pending x e
+
+      same_id : id ≡ x.id
+      same_id = sym (is_txn-true x.id id found.1)
+
+      d2 : DoneMeans plan asked S start c x.id ok.shard.0 ok.outs
+      d2 = subst (λ t. DoneMeans plan asked S start c t ok.shard.0 ok.outs) same_id d
+
+      m : TxnMeans plan asked S start c (with_commitok x ok)
+      m = commitok_means plan asked S start is c i x (means x found.0) ok d2
+
+      decided : IsListed is_txn (c.decided ok.shard.0) x.id
+      decided = d2.decided
+
+      answers : (a : Shard) → Has a x.asked → (b : Bool) → all_committed (with_commitok x ok) ≡ b
+          → IsCoordinated (commitok_taken s (with_commitok x ok) (if b then Some (reply_of plan (with_commitok x ok)) else None)).state (commitok_taken s (with_commitok x ok) (if b then Some (reply_of plan (with_commitok x ok)) else None)).sends (answer_entries (commitok_taken s (with_commitok x ok) (if b then Some (reply_of plan (with_commitok x ok)) else None)).answer)
+      answers a h false f = changes (with_commitok x ok) m (of x found.0) [] (λ out h. absurd h) (λ out h. absurd h)
+      answers a h true f =
+          let rest = λ (z : Transaction) (k : Has z (without_transaction s x.id).pending). (from_has_filter (λ (x2 : Transaction). not (is_txn x2.id x.id)) z s.pending k).0 in
+          let all = m.asked_whole a h in
+          record {
+            means = coord_means plan asked S start is c w o n s (without_transaction s x.id) [] (entry.Answered x.id (reply_of plan (with_commitok x ok)) ∷ []) there (λ z k. means z (rest z k)) (λ out k. absurd k)
+                (λ t reply k.
+                let z = has_one (entry.Answered t reply) (entry.Answered x.id (reply_of plan (with_commitok x ok))) k in
+                answer t reply z (answer_means plan asked S start is c i (with_commitok x ok) m all.0 all.1 f (i.in_order ok.shard.0 x.id decided)));
+            starts = λ out k. absurd k;
+            pending = λ z k. of z (rest z k);
+          }
+        where
+          answer : (t : TxnId) (reply : List ℤ) → entry.Answered t reply ≡ entry.Answered x.id (reply_of plan (with_commitok x ok)) → AnswerMeans plan asked S start c x.id (reply_of plan (with_commitok x ok)) → AnswerMeans plan asked S start c t reply
+          answer t reply e k =
+              let a : t ≡ x.id = cc in
+              let b : reply ≡ reply_of plan (with_commitok x ok) = cc in
+              subst (λ t. AnswerMeans plan asked S start c t reply) (sym a) (subst (AnswerMeans plan asked S start c x.id) (sym b) k)
+
+      unfit : (b : Bool) → is_fit_commitok plan x ok ≡ b
+          → IsCoordinated (unless_refused s (if not b then Some Unfit else None) (commitok_taken s (with_commitok x ok) (reply_now plan (with_commitok x ok)))).state (unless_refused s (if not b then Some Unfit else None) (commitok_taken s (with_commitok x ok) (reply_now plan (with_commitok x ok)))).sends (answer_entries (unless_refused s (if not b then Some Unfit else None) (commitok_taken s (with_commitok x ok) (reply_now plan (with_commitok x ok)))).answer)
+      unfit false f = ignores
+      unfit true f =
+          let a = any_has (λ (a : Shard). a.0 == ok.shard.0) x.asked (and_parts (is_asked x ok.shard) (length ok.outs == length (places_on plan x ok.shard)) f).0 in
+          answers a.0 a.1 (all_committed (with_commitok x ok)) refl
+
+      fresh : (b : Bool) → IsCoordinated (unless_refused s (if b then Some Stale else (if not (is_fit_commitok plan x ok) then Some Unfit else None)) (commitok_taken s (with_commitok x ok) (reply_now plan (with_commitok x ok)))).state (unless_refused s (if b then Some Stale else (if not (is_fit_commitok plan x ok) then Some Unfit else None)) (commitok_taken s (with_commitok x ok) (reply_now plan (with_commitok x ok)))).sends (answer_entries (unless_refused s (if b then Some Stale else (if not (is_fit_commitok plan x ok) then Some Unfit else None)) (commitok_taken s (with_commitok x ok) (reply_now plan (with_commitok x ok)))).answer)
+      fresh true = ignores
+      fresh false = unfit (is_fit_commitok plan x ok) refl
+
+  -- ---- any message, a tick, a submission
+
+  pub message_coordinated : (msg : Msg) (to : Node) → Means plan asked S start c msg to → IsCoordinated (after_message plan s msg).state (after_message plan s msg).sends (answer_entries (after_message plan s msg).answer)
+  message_coordinated (StartOk id group shard bound outs edges facts) to m = startok_explained (record { group = group; bound = bound; outs = outs; edges = edges; facts = facts }) shard id m.0 m.1 (find_transaction id s.pending) refl
+  message_coordinated (CommitOk id shard outs) to m = commitok_explained (record { shard = shard; outs = outs }) id m.0 (find_transaction id s.pending) refl
+  message_coordinated (Start id proc group args inputs) to m = ignores
+  message_coordinated (Commit id edges facts) to m = ignores
+  message_coordinated (Fetch id asker) to m = ignores
+  message_coordinated (Known id edges) to m = ignores
+  message_coordinated Stop to m = ignores
+
+  pub tick_coordinated : IsCoordinated s (tick_sends plan s) []
+  tick_coordinated =
+      same (tick_sends plan s)
+      (λ out h. let q = from_has_flat (sent_again plan) out s.pending h in again_mean q.0 (means q.0 q.1) out (all_started plan q.0) refl q.2)
+      (λ out h. let q = from_has_flat (sent_again plan) out s.pending h in again_of q.0 (of q.0 q.1) out (all_started plan q.0) q.2)
+    where
+      ready : (x : Transaction) → TxnMeans plan asked S start c x → (g : ℕ) → awaits_startok x g ≡ true → is_ready plan x g ≡ true
+      ready x m g e = go (find_start g x.starts) refl (and_parts (is_some (find_start g x.starts)) (is_none (find_startok g x.startoks)) e).0
+        where
+          go : (z : Option SentStart) → find_start g x.starts ≡ z → is_some z ≡ true → is_ready plan x g ≡ true
+          go None k e = absurd (false≢true e)
+          go (Some z) k e =
+              let f = found_has (λ (z : SentStart). z.group == g) x.starts z k in
+              m.ready g z.shard (has_any (λ (y : SentStart). y.group == g && y.shard.0 == z.shard.0) x.starts z f.0 (and_from (z.group == g) (z.shard.0 == z.shard.0) f.1 (eq-eqb z.shard.0 z.shard.0 refl)))
+
+      again_mean : (x : Transaction) → TxnMeans plan asked S start c x → (out : Outgoing) → (b : Bool) → all_started plan x ≡ b → Has out (if b then commits_again x else starts_again plan x) → Means plan asked S start c out.msg out.to
+      again_mean x m out true e h = commits_mean plan asked S start is c i x (told plan asked S start is c i x m) e (filter (λ (shard : Shard). not (has_commitok shard x.commitoks)) x.asked)
+          (λ s k. let a = (from_has_filter (λ (shard : Shard). not (has_commitok shard x.commitoks)) s x.asked k).0 in shards_begun plan asked S start is c i x m e s (subst (Has s) (m.asked_whole s a).1 a)) out h
+      again_mean x m out false e h = starts_mean plan asked S start is c i x (told plan asked S start is c i x m) (awaits_startok x) (λ g l e. ready x m g e) out h
+
+      again_of : (x : Transaction) → Of x.id → (out : Outgoing) → (b : Bool) → Has out (if b then commits_again x else starts_again plan x) → StartsAre Of out.msg
+      again_of x k out true h = commits_start-none x (filter (λ (shard : Shard). not (has_commitok shard x.commitoks)) x.asked) out h
+      again_of x k out false h = starts_of-it x k (filter (awaits_startok x) (group_numbers plan x.proc)) out h
+
+  pub submission_coordinated : (proc : ℕ) (args : List ℤ) (tells : List Entry) → ((t : TxnId) (reply : List ℤ) → ¬ Has (entry.Answered t reply) tells)
+      → proc ≡ (asked (next_id s)).procedure → args ≡ (asked (next_id s)).arguments → Of (next_id s)
+      → IsCoordinated (accepted plan s (new_transaction s proc args)).state (accepted plan s (new_transaction s proc args)).sends tells
+  submission_coordinated proc args tells none p a k =
+      let x = new_transaction s proc args in
+      let m = first_means plan asked S start is c i (next_id s) proc args p a in
+      record {
+        means = coord_means plan asked S start is c w o n s (accepted plan s x).state (accepted plan s x).sends tells there
+            (λ z h. elim (has_append z s.pending (with_starts plan x ∷ []) h) [ inl j ↦ means z j | inr j ↦ subst (TxnMeans plan asked S start c) (sym (has_one z (with_starts plan x) j)) (starts_means plan asked S start is c i x m) ])
+            (new_mean x m k)
+            (λ t reply h. absurd (none t reply h));
+        starts = starts_of-it x k (ready_groups plan x);
+        pending = λ z h. elim (has_append z s.pending (with_starts plan x ∷ []) h) [ inl j ↦ of z j | inr j ↦ subst (λ (z : Transaction). Of z.id) (sym (has_one z (with_starts plan x) j)) k ];
+      }

@@ -1,0 +1,91 @@
+-- What a start leaves out is earlier in the order
+use Rattle.std.proofs.Common.{◌≡◌, ℕ, ℤ, List, [], ◌∷◌, ◌++◌, Option, Some, None, length, sym, ap, subst, ◌∙◌, inl, inr, append-nil, append_assoc}
+use Rattle.std.proofs.lemmas.Bool.{cases_lt, false≢true}
+use Rattle.std.specs.Prelude.{slice_get, if◌then◌else◌}
+use Rattle.roc_sequence.specs.Lists.{Has}
+use Rattle.roc_sequence.specs.Places.{IsListed, is_listed}
+use Rattle.roc_base.specs.declared.id.TxnId.{TxnId}
+use Rattle.roc_base.specs.declared.node.Node.{Node}
+use Rattle.roc_base.specs.declared.node.Node.TheVariants.{Server, Coord}
+use Rattle.roc_base.specs.TxnId.{is_txn}
+use Rattle.roc_depgraph.specs.declared.known.KnownList.{KnownList}
+use Rattle.roc_depgraph.specs.Deps.{IsDecided}
+use Rattle.roc_msg.specs.declared.msg.Msg.TheVariants.{Start}
+use Rattle.roc_msg.specs.declared.msg.Sent.{Sent}
+use Rattle.roc_plan.specs.Groups.{Plan}
+use Rattle.roc_whole.specs.Serial.{start_store}
+use Rattle.roc_execution.specs.Scheme.{Scheme, IsSoundScheme}
+use Rattle.roc_execution.specs.Invariants.{Continues}
+use Rattle.roc_shard.specs.State.{find_group, ServerState}
+use Rattle.roc_audit.specs.Order.{noted}
+use Rattle.roc_protocol.specs.declared.event.Event.{Event}
+use Rattle.roc_protocol.specs.declared.event.Event.TheVariants.{Submit, Deliver, Tick}
+use Rattle.roc_protocol.specs.Asked.{HasSchemes}
+use Rattle.roc_protocol.specs.World.{World, comes}
+use Rattle.roc_protocol.specs.Happens.{Outcome, Receives}
+use Rattle.roc_protocol.specs.Run.{Stepped, Comes, IsRun}
+use Rattle.roc_protocol.specs.Inner.Given.{LogLaws, StoreLaws}
+use Rattle.roc_protocol.proofs.Means.{run_of, Means}
+use Rattle.roc_protocol.proofs.Starting.{shard_number}
+use Rattle.roc_protocol.proofs.Idle.{run_idle}
+use Rattle.roc_protocol.proofs.Worlds.{Submitting, is_refused, is_accepted, submitting}
+use Rattle.roc_protocol.proofs.Serial.{S, asked, logged, sound}
+
+-- ---- the order grows at its end
+
+noted_goes_on : (order ts : List TxnId) → Continues order (noted order ts)
+noted_goes_on order [] = ([], sym (append-nil order))
+noted_goes_on order (t ∷ ts) = go (if is_listed is_txn order t then [] else t ∷ []) (λ o. noted_goes_on o ts)
+  where
+    go : (one : List TxnId) → ((o : List TxnId) → Continues o (noted o ts)) → Continues order (noted (order ++ one) ts)
+    go one ih = let r = ih (order ++ one) in (one ++ r.0, r.1 ∙ append_assoc order one r.0)
+
+same_order : (w : World) → Continues w.order w.order
+same_order w = ([], sym (append-nil w.order))
+
+pub order_goes_on : (plan : Plan) (w : World) (e : Option Event) (o : Outcome) → Comes plan w e o → Continues w.order o.world.order
+order_goes_on plan w None o h = subst (λ (o : Outcome). Continues w.order o.world.order) (sym h) (same_order w)
+order_goes_on plan w (Some (Submit n proc args)) o (s, there, h) = go (submitting plan w n proc args s o h)
+  where
+    go : Submitting plan w n proc args s o → Continues w.order o.world.order
+    go (is_refused e) = subst (λ (v : World). Continues w.order v.order) (sym e) (same_order w)
+    go (is_accepted known counted e) = subst (λ (v : World). Continues w.order v.order) (sym e) (same_order w)
+order_goes_on plan w (Some (Deliver k)) o (m, some, there, h) = go m.to h
+  where
+    go : (to : Node) → Receives plan (comes w k) m.msg to o → Continues w.order o.world.order
+    go (Server shard) (s, r, at, step, e) = subst (λ (o : Outcome). Continues w.order o.world.order) (sym e) (noted_goes_on w.order r.decided)
+    go (Coord n) (s, at, e) = subst (λ (o : Outcome). Continues w.order o.world.order) (sym e) (same_order w)
+order_goes_on plan w (Some (Tick (Server shard))) o (s, there, e) = subst (λ (o : Outcome). Continues w.order o.world.order) (sym e) (same_order w)
+order_goes_on plan w (Some (Tick (Coord n))) o (s, there, e) = subst (λ (o : Outcome). Continues w.order o.world.order) (sym e) (same_order w)
+
+-- ---- what is decided, and what is yet to start
+
+module _ (plan : Plan) (schemes : HasSchemes plan) (laws : (S : Scheme) → IsSoundScheme S → LogLaws S (start_store plan.program)) (stores : StoreLaws) (coords : ℕ) (steps : List Stepped) (w : World) (run : IsRun plan coords steps w) where
+  pub decided_ordered : (n : ℕ) (s : ServerState) → slice_get w.servers n ≡ Some s → (t : TxnId) → IsDecided s.lists.known t → IsListed is_txn w.order t
+  decided_ordered n s there t d = elim (cases_lt 0 (length plan.program.procedures)) [
+    | inl some ↦
+        (let x = logged plan schemes laws stores coords steps w run some in
+        let i = (laws (S plan schemes laws stores coords steps w run some) (sound plan schemes laws stores coords steps w run some)).holds x.0 x.1.means.reached in
+        subst (λ l. IsListed is_txn l t) (sym x.1.means.order) (i.in_order n t (((x.1.means.servers n s there).decided t).1 d)))
+    | inr none ↦ absurd (nothing s.lists.known ((run_idle plan none coords steps w run).known n s there) d)
+  ]
+    where
+      nothing : (known : List KnownList) → known ≡ [] → IsDecided known t → ⊥
+      nothing known e d = let d2 : IsDecided [] t = subst (λ k. IsDecided k t) e d in false≢true d2.own
+
+  pub starting_unordered : (n : ℕ) (s : ServerState) → slice_get w.servers n ≡ Some s → (m : Sent) → Has m w.sent → m.to ≡ Server (record { 0 = n }) → (id : TxnId) (proc group : ℕ) (args inputs : List ℤ) → m.msg ≡ Start id proc group args inputs
+      → find_group id group s.started ≡ None → ¬ IsListed is_txn w.order id
+  starting_unordered n s there m has to id proc group args inputs msg none h = elim (cases_lt 0 (length plan.program.procedures)) [
+    | inl some ↦
+        (let x = logged plan schemes laws stores coords steps w run some in
+        let T = S plan schemes laws stores coords steps w run some in
+        let i = (laws T (sound plan schemes laws stores coords steps w run some)).holds x.0 x.1.means.reached in
+        let k = subst (λ msg. Means plan (asked plan schemes laws stores coords steps w run some) T (start_store plan.program) x.0 msg m.to) msg (x.1.means.messages m has) in
+        let began = i.whole id (subst (λ l. IsListed is_txn l id) x.1.means.order h) group k.means.listed in
+        let f = (x.1.means.servers n s there).groups.finds (run_of id group) began (ap shard_number (sym k.to ∙ to)) in
+        clash f.0 f.1)
+    | inr none ↦ subst (Has m) (run_idle plan none coords steps w run).sent has
+  ]
+    where
+      clash : (e : _) → find_group id group s.started ≡ Some e → ⊥
+      clash e f = let g = none in cc

@@ -1,0 +1,115 @@
+-- What is seen of a submission, by its coordinator's state; and of a message that comes to a server
+use Rattle.std.proofs.Common.{sym, if◌then◌else◌, ◌≡◌, ℕ, ℤ, ◌-◌, ◌<◌, ◌≤◌, Bool, true, false, not, ◌==◌, List, Some, None, length, refl, ap, subst, ◌∙◌, arith, inl, inr}
+use Rattle.std.proofs.lemmas.Bool.Decides.{nat_tests}
+use Rattle.std.proofs.lemmas.Bool.{cases_lt}
+use Rattle.std.specs.Prelude.{nat_lt, nat_le, slice_get}
+use Rattle.roc_sequence.specs.Lists.{Has}
+use Rattle.roc_sequence.proofs.Members.{has_at}
+use Rattle.roc_base.specs.declared.node.Shard.{Shard}
+use Rattle.roc_base.specs.declared.node.Node.{Node}
+use Rattle.roc_base.specs.declared.node.Node.TheVariants.{Server, Coord}
+use Rattle.roc_msg.specs.declared.msg.Sent.{Sent}
+use Rattle.roc_plan.specs.Groups.{Plan, procedure_of}
+use Rattle.roc_whole.specs.Serial.{start_store}
+use Rattle.roc_execution.specs.Scheme.{Scheme, IsSoundScheme}
+use Rattle.roc_coordinator.specs.declared.handled.SubmitFault.TheVariants as fault
+use Rattle.roc_coordinator.specs.State.{CoordState}
+use Rattle.roc_coordinator.specs.Submit.{Submission, refused_or_accepted, after_submit, most_transactions, most_pending}
+use Rattle.roc_protocol.specs.declared.event.Event.TheVariants.{Deliver}
+use Rattle.roc_protocol.specs.declared.event.Seen.TheVariants as seen
+use Rattle.roc_protocol.specs.Asked.{HasSchemes}
+use Rattle.roc_protocol.specs.World.{World, comes}
+use Rattle.roc_protocol.specs.Happens.{Outcome, IsSubmissionOf, Receives, Happens, server_seen, coord_seen}
+use Rattle.roc_protocol.specs.Run.{Stepped, IsRun}
+use Rattle.roc_protocol.specs.Inner.Given.{LogLaws, StoreLaws}
+use Rattle.roc_protocol.proofs.AskedFor.{run_asked}
+use Rattle.roc_msg.specs.declared.reason.Reason.{Reason}
+use Rattle.roc_msg.specs.declared.reason.Reason.TheVariants.{Stale}
+use Rattle.roc_coordinator.specs.declared.handled.Handled.{Handled as CoordHandled}
+use Rattle.roc_coordinator.specs.declared.handled.Handled.TheVariants as coord_answer
+use Rattle.roc_coordinator.specs.Step.{after_message}
+use Rattle.roc_protocol.proofs.PendingRuns.{run_pending}
+use Rattle.roc_protocol.proofs.Staleness.{message_stale}
+use Rattle.roc_protocol.proofs.Refusals.{message_taken}
+use Rattle.roc_protocol.proofs.Idle.{run_idle}
+use Rattle.roc_protocol.proofs.Finals.{networked}
+use Rattle.roc_protocol.proofs.Serial as serial
+
+-- ---- a submission
+
+-- which of the three ends it has
+pub data Ends (c : CoordState) (o : Outcome) : Type 0 where
+  spent : most_transactions ≤ c.next → o.seen ≡ seen.Spent → Ends c o
+  busy : c.next < most_transactions → most_pending ≤ length c.pending → o.seen ≡ seen.Busy → Ends c o
+  taken : c.next < most_transactions → length c.pending < most_pending → o.seen ≡ seen.Submitted (record { coord = c.number; seq = c.next }) → Ends c o
+
+pub submission_ends : (plan : Plan) (w : World) (coord proc : ℕ) (args : List ℤ) (d c : CoordState) (o : Outcome) → slice_get w.coords coord ≡ Some d → slice_get w.coords coord ≡ Some c
+    → IsSubmissionOf w coord proc args (after_submit plan d proc args) o → Ends c o
+submission_ends plan w coord proc args d c o e f s = let same : d ≡ c = cc in subst (λ (x : CoordState). Ends x o) same (procedure (nat_lt proc (length plan.program.procedures)) s)
+  where
+    Of : Submission → Type 0
+    Of r = IsSubmissionOf w coord proc args r o
+
+    free : (b : Bool) → nat_le most_pending (length d.pending) ≡ b → d.next < most_transactions → Of (refused_or_accepted plan d proc args (if b then Some fault.Busy else None)) → Ends d o
+    free true k l r = busy l (grind (arith, nat_tests)) (ap (λ (x : Outcome). x.seen) r)
+    free false k l r = taken l (grind (arith, nat_tests)) (ap (λ (x : Outcome). x.seen) r)
+
+    unspent : (b : Bool) → nat_le most_transactions d.next ≡ b → Of (refused_or_accepted plan d proc args (if b then Some fault.Spent else if nat_le most_pending (length d.pending) then Some fault.Busy else None)) → Ends d o
+    unspent true k r = spent (grind (arith, nat_tests)) (ap (λ (x : Outcome). x.seen) r)
+    unspent false k r = free (nat_le most_pending (length d.pending)) refl (grind (arith, nat_tests)) r
+
+    arguments : (b : Bool) → Of (refused_or_accepted plan d proc args (if not b then Some fault.Args else if nat_le most_transactions d.next then Some fault.Spent else if nat_le most_pending (length d.pending) then Some fault.Busy else None)) → Ends d o
+    arguments true r = unspent (nat_le most_transactions d.next) refl r
+    arguments false r = elim r [ ]
+
+    procedure : (b : Bool) → Of (refused_or_accepted plan d proc args (if not b then Some fault.NoProc else if not (length args == (procedure_of plan proc).arguments) then Some fault.Args else if nat_le most_transactions d.next then Some fault.Spent else if nat_le most_pending (length d.pending) then Some fault.Busy else None)) → Ends d o
+    procedure true r = arguments (length args == (procedure_of plan proc).arguments) r
+    procedure false r = elim r [ ]
+
+-- ---- a delivery
+
+module _ (plan : Plan) (schemes : HasSchemes plan) (laws : (S : Scheme) → IsSoundScheme S → LogLaws S (start_store plan.program)) (stores : StoreLaws) (coords : ℕ) (steps : List Stepped) (w : World) (run : IsRun plan coords steps w) where
+  pub server_takes : (k : ℕ) (m : Sent) (shard : Shard) (o : Outcome) → slice_get w.sent (k - 1) ≡ Some m → m.to ≡ Server shard → Happens plan w (Deliver k) o → o.seen ≡ seen.Done
+  server_takes k m shard o there to (b, first, at, h) = elim (cases_lt 0 (length plan.program.procedures)) [
+    | inl some ↦ taken_by some b at (let same : b ≡ m = cc in ap (λ (m : Sent). m.to) same ∙ to) h
+    | inr none ↦ absurd (subst (Has m) (run_idle plan none coords steps w run).sent (has_at w.sent (k - 1) m there))
+  ]
+    where
+      taken_by : 0 < length plan.program.procedures → (b : Sent) → slice_get w.sent (k - 1) ≡ Some b → b.to ≡ Server shard → Receives plan (comes w k) b.msg b.to o → o.seen ≡ seen.Done
+      taken_by some b at to h = go b.to refl to h
+        where
+          go : (t : Node) → b.to ≡ t → t ≡ Server shard → Receives plan (comes w k) b.msg t o → o.seen ≡ seen.Done
+          go (Coord c) is e x = absurd (cc)
+          go (Server s) is e (v, r, found, step, is_o) =
+              let x = serial.logged plan schemes laws stores coords steps w run some in
+              let subs = serial.submissions plan schemes laws stores coords steps w run some in
+              let S = serial.S plan schemes laws stores coords steps w run some in
+              let done = message_taken plan (serial.asked plan schemes laws stores coords steps w run some) S (serial.is plan schemes laws stores coords steps w run some) (laws S (serial.sound plan schemes laws stores coords steps w run some))
+              w x.0 x.1 (networked plan schemes laws stores coords steps w run some) (run_asked plan coords steps w run) subs (serial.agrees plan w subs) (serial.known plan schemes laws stores coords steps w run some)
+              s.0 v found b (has_at w.sent (k - 1) b at) is r step in
+              ap (λ (x : Outcome). x.seen) is_o ∙ ap server_seen done
+
+  -- ---- a delivery to a coordinator
+
+  pub coordinator_ignores : (k : ℕ) (o : Outcome) (why : Reason) → Happens plan w (Deliver k) o → o.seen ≡ seen.Ignored why → why ≡ Stale
+  coordinator_ignores k o why (b, first, at, h) ignored = elim (cases_lt 0 (length plan.program.procedures)) [
+    | inl some ↦ by_node some b.to refl h
+    | inr none ↦ absurd (subst (Has b) (run_idle plan none coords steps w run).sent (has_at w.sent (k - 1) b at))
+  ]
+    where
+      was_ignored : (a : CoordHandled) → coord_seen a ≡ seen.Ignored why → a ≡ coord_answer.Ignored why
+      was_ignored coord_answer.Done e = absurd (cc)
+      was_ignored (coord_answer.Answered id reply) e = absurd (cc)
+      was_ignored (coord_answer.Ignored reason) e = let same : reason ≡ why = cc in ap coord_answer.Ignored same
+
+      by_node : 0 < length plan.program.procedures → (t : Node) → b.to ≡ t → Receives plan (comes w k) b.msg t o → why ≡ Stale
+      by_node some (Server s) to x = absurd (let done = server_takes k b s o at to (b, first, at, subst (λ t. Receives plan (comes w k) b.msg t o) (sym to) x) in cc)
+      by_node some (Coord n) to (s, found, e) =
+          let x = serial.logged plan schemes laws stores coords steps w run some in
+          let subs = serial.submissions plan schemes laws stores coords steps w run some in
+          let S = serial.S plan schemes laws stores coords steps w run some in
+          let asked = serial.asked plan schemes laws stores coords steps w run some in
+          let is = serial.is plan schemes laws stores coords steps w run some in
+          let l = laws S (serial.sound plan schemes laws stores coords steps w run some) in
+          message_stale plan asked S is l w x.0 x.1 (networked plan schemes laws stores coords steps w run some) (run_pending plan asked S is l stores coords steps w run (serial.agrees plan w subs)) n s found b (has_at w.sent (k - 1) b at) to why
+          (was_ignored (after_message plan s b.msg).answer (sym (ap (λ (o : Outcome). o.seen) e) ∙ ignored))

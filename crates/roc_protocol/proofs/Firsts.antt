@@ -1,0 +1,91 @@
+-- The first world
+use Rattle.std.proofs.Common.{◌≡◌, ℕ, zero, suc, ◌+◌, ◌==◌, Bool, true, false, cond, List, [], ◌∷◌, Some, map, refl, sym, ap, subst, ◌∙◌, arith}
+use Rattle.std.proofs.lemmas.Bool.{false≢true, eq-eqb}
+use Rattle.std.specs.Prelude.{slice_get, filter}
+use Rattle.std.specs.List.{range_with_len}
+use Rattle.roc_sequence.specs.Lists.{Has}
+use Rattle.roc_base.specs.declared.id.TxnId.{TxnId}
+use Rattle.roc_rows.specs.declared.cell.Cell.{Cell}
+use Rattle.roc_rows.specs.Store.{Store, read, write, empty}
+use Rattle.roc_rows.specs.Cells.{is_cell}
+use Rattle.roc_rows.specs.Inner.Cells.{is_cell-true, is_cell-false}
+use Rattle.roc_program.specs.Program.{Init}
+use Rattle.roc_plan.specs.Groups.{Plan, shard_of}
+use Rattle.roc_whole.specs.Serial.{after_inits, init_cell, start_store}
+use Rattle.roc_whole.specs.Serial as whole
+use Rattle.roc_execution.specs.Scheme.{Scheme}
+use Rattle.roc_execution.specs.Log.{first_log}
+use Rattle.roc_execution.specs.Steps.{no_steps}
+use Rattle.roc_shard.specs.First.{first_server}
+use Rattle.roc_coordinator.specs.State.{first_coord, CoordState}
+use Rattle.roc_protocol.specs.Asked.{IsSchemeOf}
+use Rattle.roc_protocol.specs.World.{first_world}
+use Rattle.roc_protocol.proofs.Means.{ServerMeans, WorldMeans}
+use Rattle.roc_protocol.specs.Inner.Given.{StoreLaws}
+use Rattle.roc_protocol.proofs.Submissions.{AreSubmissions}
+
+-- each of numbered things
+pub found_at : {A : Type 0} (f : ℕ → A) (a n number : ℕ) (x : A) → slice_get (map f (range_with_len a n)) number ≡ Some x → x ≡ f (a + number)
+found_at f a zero number x e = absurd (cc)
+found_at f a (suc n) zero x e = let same : a + 0 ≡ a = omega arith in let is : f a ≡ x = cc in sym is ∙ ap f (sym same)
+found_at f a (suc n) (suc number) x e = let same : (a + 1) + number ≡ a + suc number = omega arith in found_at f (a + 1) n number x e ∙ ap f same
+
+module _ (laws : StoreLaws) (plan : Plan) (n : ℕ) where
+  -- a shard's start cells are those of its places
+  start_cells : (inits : List Init) (s t : Store) (x : Cell) → shard_of plan x.place ≡ n → read s x ≡ read t x → read (after_inits s (filter (λ i. shard_of plan i.place == n) inits)) x ≡ read (after_inits t inits) x
+  start_cells [] s t x e h = h
+  start_cells (i ∷ inits) s t x e h = go (shard_of plan i.place == n) refl (start_cells inits)
+    where
+      written : (s t : Store) → read s x ≡ read t x → read (write s (init_cell i) i.value) x ≡ read (write t (init_cell i) i.value) x
+      written s t h = two (is_cell (init_cell i) x) refl
+        where
+          two : (b : Bool) → is_cell (init_cell i) x ≡ b → read (write s (init_cell i) i.value) x ≡ read (write t (init_cell i) i.value) x
+          two true f = subst (λ y. read (write s (init_cell i) i.value) y ≡ read (write t (init_cell i) i.value) y) (is_cell-true (init_cell i) x f) (laws.same s (init_cell i) i.value ∙ sym (laws.same t (init_cell i) i.value))
+          two false f = laws.other s (init_cell i) i.value x (is_cell-false (init_cell i) x f) ∙ (h ∙ sym (laws.other t (init_cell i) i.value x (is_cell-false (init_cell i) x f)))
+
+      go : (b : Bool) → shard_of plan i.place == n ≡ b → ((s t : Store) (x : Cell) → shard_of plan x.place ≡ n → read s x ≡ read t x → read (after_inits s (filter (λ i. shard_of plan i.place == n) inits)) x ≡ read (after_inits t inits) x)
+          → read (after_inits s (cond b (i ∷ filter (λ i. shard_of plan i.place == n) inits) (filter (λ i. shard_of plan i.place == n) inits))) x ≡ read (after_inits t (i ∷ inits)) x
+      go true f ih = ih (write s (init_cell i) i.value) (write t (init_cell i) i.value) x e (written s t h)
+      go false f ih = ih s (write t (init_cell i) i.value) x e (h ∙ sym (laws.other t (init_cell i) i.value x (λ k. false≢true (sym f ∙ eq-eqb (shard_of plan i.place) n (ap (λ (c : Cell). shard_of plan c.place) k ∙ e)))))
+
+module _ (laws : StoreLaws) (plan : Plan) (asked : TxnId → whole.Call) (S : Scheme) (is : IsSchemeOf plan asked S) (coords : ℕ) where
+  first_server_means : (n : ℕ) → ServerMeans plan asked S (start_store plan.program) first_log n (first_server plan (record { 0 = n }))
+  first_server_means n =
+      record {
+        number = refl;
+        groups = record { entries = λ e h. absurd h; finds = λ r h p. absurd (omega arith) };
+        part = record {
+          cells = λ x e. start_cells laws plan n plan.program.inits empty empty x (sym (is.cell_shard x) ∙ e) refl;
+          later = λ e h. absurd h;
+          at_once = λ e h. absurd h;
+        };
+        known = λ k h. absurd h;
+        fetched = λ a h. absurd h;
+        decided = λ t. (λ h. absurd (omega arith), λ d. absurd (false≢true d.own));
+      }
+
+  first_pending : (n : ℕ) (c : CoordState) → slice_get (first_world plan coords).coords n ≡ Some c → c.pending ≡ []
+  first_pending n c h = ap (λ (c : CoordState). c.pending) (found_at first_coord 0 coords n c h)
+
+  pub first_means : WorldMeans plan asked S (start_store plan.program) first_log (first_world plan coords)
+  first_means =
+      record {
+        reached = no_steps;
+        order = refl;
+        servers = λ n s h. (let e = found_at (λ n. first_server plan (record { 0 = n })) 0 plan.program.shards n s h in
+            let same : 0 + n ≡ n = omega arith in
+            subst (ServerMeans plan asked S (start_store plan.program) first_log n) (sym (e ∙ ap (λ n. first_server plan (record { 0 = n })) same)) (first_server_means n));
+        messages = λ m h. absurd h;
+        coords = λ n c h x k. elim (subst (Has x) (first_pending n c h) k) [ ];
+        answered = λ t reply h. absurd h;
+      }
+
+pub first_submissions : (plan : Plan) (coords : ℕ) → AreSubmissions plan [] (first_world plan coords).coords
+first_submissions plan coords =
+    record {
+      numbers = λ n c h. (let e = found_at first_coord 0 coords n c h in ap (λ (c : CoordState). c.number) e ∙ (omega arith));
+      procedure = λ t p a h. absurd h;
+      arguments = λ t p a h. absurd h;
+      numbered = λ t p a h. absurd h;
+      one = λ t p q a b h k. absurd h;
+    }

@@ -1,0 +1,257 @@
+-- Startoks in the network, and lists made of them
+use Rattle.std.proofs.Common.{◌≡◌, ℕ, ℤ, ◌<◌, ◌==◌, true, List, [], ◌∷◌, ◌++◌, Option, Some, None, length, map, refl, sym, ap, subst, ◌∙◌, inl, inr, arith, is_some}
+use Rattle.std.proofs.lemmas.Bool.{false≢true, eqb-true, eq-eqb, cases_eq}
+use Rattle.std.specs.Prelude.{slice_get, slice_set, flat_map}
+use Rattle.std.specs.List.{range_with_len}
+use Rattle.roc_sequence.specs.Lists.{Has}
+use Rattle.roc_sequence.proofs.Holds.{every_has, all_has}
+use Rattle.roc_sequence.proofs.Ranges.{range_below}
+use Rattle.roc_sequence.proofs.Found.{found_has, none_found}
+use Rattle.roc_sequence.proofs.Members.{has_append, has_left, from_has_map}
+use Rattle.roc_base.specs.declared.id.TxnId.{TxnId}
+use Rattle.roc_base.specs.declared.node.Node.{Node}
+use Rattle.roc_base.specs.declared.node.Node.TheVariants.{Server}
+use Rattle.roc_base.specs.declared.node.Shard.{Shard}
+use Rattle.roc_base.specs.Edge.{Dependency}
+use Rattle.roc_base.specs.Edges.{united}
+use Rattle.roc_depgraph.specs.declared.known.KnownList.{KnownList}
+use Rattle.roc_rows.specs.Store.{Store}
+use Rattle.roc_msg.specs.declared.msg.Msg.{Msg}
+use Rattle.roc_msg.specs.declared.msg.Msg.TheVariants.{Start, StartOk, Commit, CommitOk, Fetch, Known, Stop}
+use Rattle.roc_msg.specs.declared.msg.Sent.{Sent}
+use Rattle.roc_msg.specs.declared.outbox.Outgoing.{Outgoing}
+use Rattle.roc_plan.specs.Groups.{Plan, groups_of}
+use Rattle.roc_whole.specs.Serial as whole
+use Rattle.roc_whole.specs.Serial.{start_store}
+use Rattle.roc_execution.specs.Scheme.{Scheme}
+use Rattle.roc_execution.specs.Log.{Log}
+use Rattle.roc_execution.specs.Invariants.{LogInvariants}
+use Rattle.roc_shard.specs.declared.started.StartedGroup.{StartedGroup}
+use Rattle.roc_shard.specs.State.{is_here, find_group, ServerState, ServerStep}
+use Rattle.roc_coordinator.specs.declared.transaction.Transaction.{Transaction}
+use Rattle.roc_coordinator.specs.declared.transaction.TakenStart.{TakenStart}
+use Rattle.roc_coordinator.specs.State.{find_startok, CoordState}
+use Rattle.roc_coordinator.specs.Starts.{group_numbers, all_started, all_edges}
+use Rattle.roc_protocol.specs.Asked.{IsSchemeOf}
+use Rattle.roc_protocol.specs.World.{World, sent_by, at_server}
+use Rattle.roc_protocol.specs.Quiet.{IsToldIn}
+use Rattle.roc_protocol.specs.Final.{lists_in, IsUnionIn}
+use Rattle.roc_protocol.specs.Inner.Given.{LogLaws}
+use Rattle.roc_protocol.proofs.Means.{run_of, place, Means, ToldMeans}
+use Rattle.roc_protocol.proofs.Changed.{get-set_here, get-set_other, get-set_cases}
+use Rattle.roc_protocol.proofs.Carried.{IsToldBy, HoldsGood, KeepsGood}
+use Rattle.roc_protocol.proofs.Gathered.{IsGathered}
+use Rattle.roc_protocol.proofs.Flat.{has_flat, from_has_flat}
+use Rattle.roc_protocol.proofs.Coordinators.{there}
+use Rattle.roc_protocol.proofs.Replies.{in_range}
+use Rattle.roc_protocol.proofs.Unions.{same_members}
+use Rattle.roc_protocol.proofs.Worlds.{IsLogged}
+
+-- what is in the network stays there
+pub told_more : (sent more : List Sent) (t : TxnId) (g : ℕ) (es : List Dependency) (fs : List KnownList) → IsToldIn sent t g es fs → IsToldIn (sent ++ more) t g es fs
+told_more sent more t g es fs k = record { message = k.message; has = has_left k.message sent more k.has; shard = k.shard; bound = k.bound; outs = k.outs; is = k.is }
+
+pub union_more : (sent more : List Sent) (n : ℕ) (t : TxnId) (es : List Dependency) → IsUnionIn sent n t es → IsUnionIn (sent ++ more) n t es
+union_more sent more n t es u = record { told = u.told; in_network = λ g l. (let k = u.in_network g l in (k.0, told_more sent more t g (u.told g) k.0 k.1)); is_union = u.is_union }
+
+-- the server of a shard keeps what a startok told
+abbrev pub IsToldHere : List ServerState → Msg → Type 0
+IsToldHere servers (StartOk id group at bound outs edges facts) = (s : ServerState) × (slice_get servers at.0 ≡ Some s) × IsToldBy at s.started (StartOk id group at bound outs edges facts)
+IsToldHere servers (Start id proc group args inputs) = Unit {0}
+IsToldHere servers (Commit id edges facts) = Unit {0}
+IsToldHere servers (CommitOk id at outs) = (s : ServerState) × (slice_get servers at.0 ≡ Some s) × (is_here id s.started ≡ true)
+IsToldHere servers (Fetch id asker) = Unit {0}
+IsToldHere servers (Known id edges) = Unit {0}
+IsToldHere servers Stop = Unit {0}
+
+module _ (plan : Plan) (asked : TxnId → whole.Call) (S : Scheme) (is : IsSchemeOf plan asked S) (laws : LogLaws S (start_store plan.program)) where
+  abbrev start : Store
+  start = start_store plan.program
+
+  abbrev pub count : TxnId → ℕ
+  count t = length (groups_of plan (asked t).procedure)
+
+  abbrev pub Good : List Sent → TxnId → List Dependency → Type 0
+  Good sent t es = IsUnionIn sent (count t) t es
+
+  abbrev pub Told : List Sent → TxnId → TakenStart → Type 0
+  Told sent t ok = IsToldIn sent t ok.group ok.edges ok.facts × ((k : KnownList) → Has k ok.facts → Good sent k.of k.edges)
+
+  -- nothing is asked of where groups are
+  abbrev pub Anywhere : TxnId → ℕ → Type 0
+  Anywhere t g = Unit {0}
+
+  abbrev pub Calls : TxnId → ℕ → Type 0
+  Calls t proc = proc ≡ (asked t).procedure
+
+  pub told_facts : (sent : List Sent) (t : TxnId) (ok : TakenStart) → Told sent t ok → (k : KnownList) → Has k ok.facts → Good sent k.of k.edges
+  told_facts sent t ok k = k.1
+
+  abbrev pub IsTold : List Sent → Transaction → Type 0
+  IsTold sent x = IsGathered plan (Good sent) (Told sent) Calls (told_facts sent) x
+
+  pub record IsNetworked (w : World) : Type 0 where
+    pub told : (m : Sent) → Has m w.sent → IsToldHere w.servers m.msg
+    pub lists : (m : Sent) → Has m w.sent → (k : KnownList) → Has k (lists_in m.msg) → Good w.sent k.of k.edges
+    pub servers : (n : ℕ) (s : ServerState) → slice_get w.servers n ≡ Some s → HoldsGood (Good w.sent) Anywhere s
+    pub taken : (n : ℕ) (c : CoordState) → slice_get w.coords n ≡ Some c → (x : Transaction) → Has x c.pending → IsTold w.sent x
+
+  module _ (w : World) (log : Log) (o : IsLogged plan asked S is laws w log) (nw : IsNetworked w) where
+    i : LogInvariants S start log
+    i = laws.holds log o.means.reached
+
+    -- ---- one startok of each group
+
+    -- it comes from the shard of its group
+    from_place : (m : Sent) → Has m w.sent → (t : TxnId) (g : ℕ) (shard : Shard) (bound outs : List ℤ) (es : List Dependency) (fs : List KnownList) → m.msg ≡ StartOk t g shard bound outs es fs
+        → ToldMeans plan asked S start log (run_of t g) bound outs es fs × (shard.0 ≡ place plan asked S start log (run_of t g))
+    from_place m h t g shard bound outs es fs e = let k = subst (λ msg. Means plan asked S start log msg m.to) e (o.means.messages m h) in (k.0, k.1)
+
+    pub one_startok : (m k : Sent) → Has m w.sent → Has k w.sent → (t : TxnId) (g : ℕ) (shard other : Shard) (bound outs values gave : List ℤ) (es ds : List Dependency) (fs hs : List KnownList)
+        → m.msg ≡ StartOk t g shard bound outs es fs → k.msg ≡ StartOk t g other values gave ds hs → m.msg ≡ k.msg
+    one_startok m k h l t g shard other bound outs values gave es ds fs hs e f =
+        let p = (from_place m h t g shard bound outs es fs e).1 in
+        let q = (from_place k l t g other values gave ds hs f).1 in
+        let a = subst (IsToldHere w.servers) e (nw.told m h) in
+        let b = subst (IsToldHere w.servers) f (nw.told k l) in
+        let same : shard.0 ≡ other.0 = p ∙ sym q in
+        let servers : a.0 ≡ b.0 = (let x = subst (λ n. slice_get w.servers n ≡ Some a.0) same a.1 in let y = b.1 in cc) in
+        let x : find_group t g b.0.started ≡ Some a.2.1 = subst (λ (s : ServerState). find_group t g s.started ≡ Some a.2.1) servers a.2.2 in
+        let entries : a.2.1 ≡ b.2.1 = (let y = b.2.2 in cc) in
+        let to_shard : ℕ → Shard = λ n. record { 0 = n } in
+        e
+        ∙ ((λ j. StartOk t g (ap to_shard same j) ((sym a.2.3 ∙ (ap (λ (e : StartedGroup). e.bound) entries ∙ b.2.3)) j) ((sym a.2.4 ∙ (ap (λ (e : StartedGroup). e.outs) entries ∙ b.2.4)) j)
+        ((sym a.2.5 ∙ (ap (λ (e : StartedGroup). e.edges) entries ∙ b.2.5)) j) ((sym a.2.6 ∙ (ap (λ (e : StartedGroup). e.facts) entries ∙ b.2.6)) j))
+        ∙ sym f)
+
+    told_one : (t : TxnId) (g : ℕ) (es ds : List Dependency) (fs hs : List KnownList) → IsToldIn w.sent t g es fs → IsToldIn w.sent t g ds hs → es ≡ ds
+    told_one t g es ds fs hs a b =
+        let e = one_startok a.message b.message a.has b.has t g a.shard b.shard a.bound a.outs b.bound b.outs es ds fs hs a.is b.is in
+        ap edges_in (sym a.is ∙ (e ∙ b.is))
+      where
+        edges_in : Msg → List Dependency
+        edges_in (StartOk id group at bound outs edges facts) = edges
+        edges_in (Start id proc group args inputs) = []
+        edges_in (Commit id edges facts) = []
+        edges_in (CommitOk id at outs) = []
+        edges_in (Fetch id asker) = []
+        edges_in (Known id edges) = []
+        edges_in Stop = []
+
+    -- so the union is one
+    pub one_union : (t : TxnId) (es ds : List Dependency) → Good w.sent t es → Good w.sent t ds → es ≡ ds
+    one_union t es ds a b = a.is_union ∙ (ap united (all_same (range_with_len 0 (count t)) (λ g h. below g h)) ∙ sym b.is_union)
+      where
+        below : (g : ℕ) → Has g (range_with_len 0 (count t)) → g < count t
+        below g h = all_has (λ g. g < count t) g (range_with_len 0 (count t)) (range_below 0 (count t) (count t) (omega arith)) h
+
+        all_same : (gs : List ℕ) → ((g : ℕ) → Has g gs → g < count t) → flat_map a.told gs ≡ flat_map b.told gs
+        all_same [] h = refl
+        all_same (g ∷ gs) h =
+            let x = a.in_network g (h g (inl refl)) in
+            let y = b.in_network g (h g (inl refl)) in
+            let e = told_one t g (a.told g) (b.told g) x.0 y.0 x.1 y.1 in
+            let r = all_same gs (λ g k. h g (inr k)) in
+            λ j. e j ++ r j
+
+    -- ---- what a coordinator gathers
+
+    edges_of : Option TakenStart → List Dependency
+    edges_of None = []
+    edges_of (Some ok) = ok.edges
+
+    pub gathered_good : (x : Transaction) → IsTold w.sent x → all_started plan x ≡ true → Good w.sent x.id (all_edges x)
+    unfolding edges_of
+    gathered_good x g all =
+        record {
+          told = λ h. edges_of (find_startok h x.startoks);
+          in_network = λ h l. network h (find_startok h x.startoks) refl (every_has (λ h. is_some (find_startok h x.startoks)) (group_numbers plan x.proc) all h (subst (Has h) (ap (group_numbers plan) (sym g.calls)) (in_range 0 (count x.id) h (omega arith) (omega arith))));
+          is_union = same_members (flat_map (λ (ok : TakenStart). ok.edges) x.startoks) (flat_map (λ h. edges_of (find_startok h x.startoks)) (range_with_len 0 (count x.id))) (λ d. (to_told d, from_told d));
+        }
+      where
+        network : (h : ℕ) (ok : Option TakenStart) → find_startok h x.startoks ≡ ok → is_some ok ≡ true → (fs : List KnownList) × IsToldIn w.sent x.id h (edges_of ok) fs
+        network h None e k = absurd (false≢true k)
+        network h (Some ok) e k =
+            let f = found_has (λ (ok : TakenStart). ok.group == h) x.startoks ok e in
+            (ok.facts, subst (λ h. IsToldIn w.sent x.id h ok.edges ok.facts) (eqb-true ok.group h f.1) (g.startoks ok f.0).0)
+
+        to_told : (d : Dependency) → Has d (flat_map (λ (ok : TakenStart). ok.edges) x.startoks) → Has d (flat_map (λ h. edges_of (find_startok h x.startoks)) (range_with_len 0 (count x.id)))
+        to_told d k =
+            let a = from_has_flat (λ (ok : TakenStart). ok.edges) d x.startoks k in
+            let t = (g.startoks a.0 a.1).0 in
+            let began = (from_place t.message t.has x.id a.0.group t.shard t.bound t.outs a.0.edges a.0.facts t.is).0.began in
+            let l = (is.groups x.id a.0.group).0 (i.are_groups (run_of x.id a.0.group) began) in
+            has_flat (λ h. edges_of (find_startok h x.startoks)) d a.0.group (range_with_len 0 (count x.id)) (in_range 0 (count x.id) a.0.group (omega arith) (omega arith))
+            (first a.0 a.1 a.2 (find_startok a.0.group x.startoks) refl)
+          where
+            first : (ok : TakenStart) → Has ok x.startoks → Has d ok.edges → (o : Option TakenStart) → find_startok ok.group x.startoks ≡ o → Has d (edges_of o)
+            first ok h k None e = absurd (false≢true (sym (none_found (λ (b : TakenStart). b.group == ok.group) x.startoks e ok h) ∙ eq-eqb ok.group ok.group refl))
+            first ok h k (Some b) e =
+                let f = found_has (λ (b : TakenStart). b.group == ok.group) x.startoks b e in
+                let same = told_one x.id ok.group ok.edges b.edges ok.facts b.facts (g.startoks ok h).0 (subst (λ h. IsToldIn w.sent x.id h b.edges b.facts) (eqb-true b.group ok.group f.1) (g.startoks b f.0).0) in
+                subst (Has d) same k
+
+        from_told : (d : Dependency) → Has d (flat_map (λ h. edges_of (find_startok h x.startoks)) (range_with_len 0 (count x.id))) → Has d (flat_map (λ (ok : TakenStart). ok.edges) x.startoks)
+        from_told d k =
+            let a = from_has_flat (λ h. edges_of (find_startok h x.startoks)) d (range_with_len 0 (count x.id)) k in
+            back a.0 (find_startok a.0 x.startoks) refl a.2
+          where
+            back : (h : ℕ) (o : Option TakenStart) → find_startok h x.startoks ≡ o → Has d (edges_of o) → Has d (flat_map (λ (ok : TakenStart). ok.edges) x.startoks)
+            back h None e k = absurd k
+            back h (Some b) e k = has_flat (λ (ok : TakenStart). ok.edges) d b x.startoks (found_has (λ (b : TakenStart). b.group == h) x.startoks b e).0 k
+
+    -- ---- events
+
+    pub lists_after : (from : Node) (outs : List Outgoing) → ((out : Outgoing) → Has out outs → (k : KnownList) → Has k (lists_in out.msg) → Good w.sent k.of k.edges) → (m : Sent) → Has m (w.sent ++ map (sent_by from) outs) → (k : KnownList) → Has k (lists_in m.msg) → Good (w.sent ++ map (sent_by from) outs) k.of k.edges
+    lists_after from outs f m h k j = union_more w.sent (map (sent_by from) outs) (count k.of) k.of k.edges (elim (has_append m w.sent (map (sent_by from) outs) h) [
+      | inl l ↦ nw.lists m l k j
+      | inr l ↦ (let q = from_has_map (sent_by from) m outs l in f q.0 q.1 k (subst (λ (m : Sent). Has k (lists_in m.msg)) q.2 j))
+    ])
+
+    pub told_later : (more : List Sent) (x : Transaction) → IsTold w.sent x → IsTold (w.sent ++ more) x
+    told_later more x g = record { calls = g.calls; startoks = λ ok h. (let t = g.startoks ok h in (told_more w.sent more x.id ok.group ok.edges ok.facts t.0, λ k j. union_more w.sent more (count k.of) k.of k.edges (t.1 k j))) }
+
+    pub holds_later : (more : List Sent) (s : ServerState) → HoldsGood (Good w.sent) Anywhere s → HoldsGood (Good (w.sent ++ more)) Anywhere s
+    holds_later more s g = record { groups = g.groups; known = λ k h. union_more w.sent more (count k.of) k.of k.edges (g.known k h); facts = λ e h k j. union_more w.sent more (count k.of) k.of k.edges (g.facts e h k j) }
+
+    pub served_networked : (n : ℕ) (s : ServerState) (there : slice_get w.servers n ≡ Some s) (r : ServerStep) → KeepsGood plan (Good w.sent) Anywhere s r → IsNetworked (at_server w n r)
+    served_networked n s there r g =
+        let more = map (sent_by (Server (record { 0 = n }))) r.sends in
+        record {
+          told = λ m h. elim (has_append m w.sent more h) [ inl k ↦ still m.msg (nw.told m k) | inr k ↦ (let q = from_has_map (sent_by (Server (record { 0 = n }))) m r.sends k in subst (λ (m : Sent). IsToldHere (slice_set w.servers n r.state) m.msg) (sym q.2) (new q.0.msg (g.told q.0 q.1))) ];
+          lists = lists_after (Server (record { 0 = n })) r.sends g.sends;
+          servers = λ m v h. holds_later more v (elim (get-set_cases w.servers n m s r.state v there h) [ inl k ↦ subst (HoldsGood (Good w.sent) Anywhere) (sym k.1) g.state | inr k ↦ nw.servers m v k.1 ]);
+          taken = λ m c e x h. told_later more x (nw.taken m c e x h);
+        }
+      where
+        number : s.shard.0 ≡ n
+        number = (o.means.servers n s there).number
+
+        new : (msg : Msg) → IsToldBy s.shard r.state.started msg → IsToldHere (slice_set w.servers n r.state) msg
+        new (StartOk id group at bound outs edges facts) k = (r.state, subst (λ m. slice_get (slice_set w.servers n r.state) m ≡ Some r.state) (sym (ap (λ (s : Shard). s.0) k.0 ∙ number)) (get-set_here w.servers n s r.state there), (refl, k.1, k.2, k.3, k.4, k.5, k.6))
+        new (Start id proc group args inputs) k = tt
+        new (Commit id edges facts) k = tt
+        new (CommitOk id at outs) k = (r.state, subst (λ m. slice_get (slice_set w.servers n r.state) m ≡ Some r.state) (sym (ap (λ (s : Shard). s.0) k.0 ∙ number)) (get-set_here w.servers n s r.state there), k.1)
+        new (Fetch id asker) k = tt
+        new (Known id edges) k = tt
+        new Stop k = tt
+
+        still : (msg : Msg) → IsToldHere w.servers msg → IsToldHere (slice_set w.servers n r.state) msg
+        still (StartOk id group at bound outs edges facts) (v, e, k) = elim (cases_eq n at.0) [
+          | inl same ↦
+              (let mine : v ≡ s = (let a = subst (λ m. slice_get w.servers m ≡ Some v) (sym same) e in let b = there in cc) in
+              let f = g.kept id group k.1 (subst (λ (v : ServerState). find_group id group v.started ≡ Some k.1) mine k.2) in
+              (r.state, subst (λ m. slice_get (slice_set w.servers n r.state) m ≡ Some r.state) same (get-set_here w.servers n s r.state there), (refl, f.0, f.1, ap (λ (e : StartedGroup). e.bound) f.2 ∙ k.3, ap (λ (e : StartedGroup). e.outs) f.2 ∙ k.4, ap (λ (e : StartedGroup). e.edges) f.2 ∙ k.5, ap (λ (e : StartedGroup). e.facts) f.2 ∙ k.6)))
+          | inr other ↦ (v, get-set_other w.servers n at.0 r.state other ∙ e, k)
+        ]
+        still (Start id proc group args inputs) k = tt
+        still (Commit id edges facts) k = tt
+        still (CommitOk id at outs) (v, e, k) = elim (cases_eq n at.0) [
+          | inl same ↦
+              (let mine : v ≡ s = (let a = subst (λ m. slice_get w.servers m ≡ Some v) (sym same) e in let b = there in cc) in
+              (r.state, subst (λ m. slice_get (slice_set w.servers n r.state) m ≡ Some r.state) same (get-set_here w.servers n s r.state there), g.here id (subst (λ (v : ServerState). is_here id v.started ≡ true) mine k)))
+          | inr other ↦ (v, get-set_other w.servers n at.0 r.state other ∙ e, k)
+        ]
+        still (Fetch id asker) k = tt
+        still (Known id edges) k = tt
+        still Stop k = tt

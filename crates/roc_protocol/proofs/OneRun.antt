@@ -1,0 +1,107 @@
+-- What comes of an event is one, and so is the run of a list of events
+use Rattle.std.proofs.Common.{◌≡◌, ℕ, ℤ, ◌-◌, List, [], ◌∷◌, ◌++◌, map, Some, None, Option, Result, Ok, Err, refl, sym, ap, subst, ◌∙◌}
+use Rattle.std.proofs.lemmas.List.{map-append}
+use Rattle.std.specs.Prelude.{slice_get}
+use Rattle.roc_base.specs.declared.id.TxnId.{TxnId}
+use Rattle.roc_base.specs.declared.node.Node.{Node}
+use Rattle.roc_base.specs.declared.node.Node.TheVariants.{Server, Coord}
+use Rattle.roc_msg.specs.declared.msg.Msg.{Msg}
+use Rattle.roc_msg.specs.declared.msg.Sent.{Sent}
+use Rattle.roc_msg.specs.declared.outbox.Outgoing.{Outgoing}
+use Rattle.roc_plan.specs.Groups.{Plan}
+use Rattle.roc_shard.specs.State.{answered, ServerState, ServerStep}
+use Rattle.roc_shard.specs.Step as server
+use Rattle.roc_shard.specs.Step.{Handles}
+use Rattle.roc_coordinator.specs.declared.handled.SubmitFault.{SubmitFault}
+use Rattle.roc_coordinator.specs.declared.handled.SubmitFault.TheVariants as fault
+use Rattle.roc_coordinator.specs.State.{CoordState}
+use Rattle.roc_coordinator.specs.Step.{after_message}
+use Rattle.roc_coordinator.specs.Submit.{after_submit}
+use Rattle.roc_coordinator.specs.Tick as coord
+use Rattle.roc_protocol.specs.declared.event.Event.{Event}
+use Rattle.roc_protocol.specs.declared.event.Event.TheVariants.{Submit, Deliver, Tick}
+use Rattle.roc_protocol.specs.declared.event.Seen.TheVariants as seen
+use Rattle.roc_protocol.specs.World.{World, comes, at_coord}
+use Rattle.roc_protocol.specs.Happens.{Outcome, undecided, Submits, IsSubmissionOf, served, coordinated, Receives, Ticks, Happens}
+use Rattle.roc_protocol.specs.Run.{Stepped, Comes, IsRun, begun, goes_on}
+
+-- what is found at a place is one
+same_there : {A : Type 0} (xs : List A) (i : ℕ) (a b : A) → slice_get xs i ≡ Some a → slice_get xs i ≡ Some b → a ≡ b
+same_there xs i a b h k = let both : Some a ≡ Some b = sym h ∙ k in cc
+
+module _ (plan : Plan) (one : (s : ServerState) (msg : Msg) (r other : ServerStep) → Handles plan s msg r → Handles plan s msg other → r ≡ other) where
+  module _ (w : World) where
+    one_submission : (n proc : ℕ) (args : List ℤ) (after : CoordState) (outs : List Outgoing) (answer : Result TxnId SubmitFault) (o other : Outcome) → Submits w n proc args after outs answer o → Submits w n proc args after outs answer other → o ≡ other
+    one_submission n proc args after outs (Ok id) o other h k = h ∙ sym k
+    one_submission n proc args after outs (Err fault.Spent) o other h k = h ∙ sym k
+    one_submission n proc args after outs (Err fault.Busy) o other h k = h ∙ sym k
+    one_submission n proc args after outs (Err fault.Stopped) o other h k = absurd h
+    one_submission n proc args after outs (Err fault.NoProc) o other h k = absurd h
+    one_submission n proc args after outs (Err fault.Args) o other h k = absurd h
+    one_submission n proc args after outs (Err fault.NoMemory) o other h k = absurd h
+
+    one_delivery : (msg : Msg) (to : Node) (o other : Outcome) → Receives plan w msg to o → Receives plan w msg to other → o ≡ other
+    one_delivery msg (Server shard) o other (s, r, there, handles, is) (t, q, there2, handles2, is2) =
+        let same : s ≡ t = same_there w.servers shard.0 s t there there2 in
+        let step : r ≡ q = one t msg r q (subst (λ (u : ServerState). Handles plan u msg r) same handles) handles2 in
+        is ∙ (ap (served w shard.0) step ∙ sym is2)
+    one_delivery msg (Coord n) o other (s, there, is) (t, there2, is2) =
+        let same : s ≡ t = same_there w.coords n s t there there2 in
+        is ∙ (ap (λ (u : CoordState). coordinated w n (after_message plan u msg)) same ∙ sym is2)
+
+    one_tick : (node : Node) (o other : Outcome) → Ticks plan w node o → Ticks plan w node other → o ≡ other
+    one_tick (Server shard) o other (s, there, is) (t, there2, is2) =
+        let same : s ≡ t = same_there w.servers shard.0 s t there there2 in
+        is ∙ (ap (λ (u : ServerState). served w shard.0 (answered u (server.tick_sends u))) same ∙ sym is2)
+    one_tick (Coord n) o other (s, there, is) (t, there2, is2) =
+        let same : s ≡ t = same_there w.coords n s t there there2 in
+        is ∙ (ap (λ (u : CoordState). undecided seen.Done (at_coord w n u (coord.tick_sends plan u) [])) same ∙ sym is2)
+
+  pub one_event : (w : World) (e : Event) (o other : Outcome) → Happens plan w e o → Happens plan w e other → o ≡ other
+  one_event w (Submit n proc args) o other (s, there, h) (t, there2, k) =
+      let same : s ≡ t = same_there w.coords n s t there there2 in
+      one_submission w n proc args (after_submit plan t proc args).state (after_submit plan t proc args).sends (after_submit plan t proc args).answer o other (subst (λ (u : CoordState). IsSubmissionOf w n proc args (after_submit plan u proc args) o) same h) k
+  one_event w (Deliver k) o other (m, some, there, c) (n, some2, there2, d) =
+      let same : m ≡ n = same_there w.sent (k - 1) m n there there2 in
+      one_delivery (comes w k) n.msg n.to o other (subst (λ (x : Sent). Receives plan (comes w k) x.msg x.to o) same c) d
+  one_event w (Tick node) o other h k = one_tick w node o other h k
+
+  pub one_step : (w : World) (e : Option Event) (o other : Outcome) → Comes plan w e o → Comes plan w e other → o ≡ other
+  one_step w None o other h k = h ∙ sym k
+  one_step w (Some e) o other h k = one_event w e o other h k
+
+-- lists with one more at the end
+empty_more : {A : Type 0} (xs : List A) (x : A) → ¬ ([] ≡ xs ++ x ∷ [])
+empty_more [] x e = cc
+empty_more (y ∷ ys) x e = cc
+
+same_more : {A : Type 0} (xs ys : List A) (x y : A) → xs ++ x ∷ [] ≡ ys ++ y ∷ [] → (xs ≡ ys) × (x ≡ y)
+same_more [] [] x y e = (refl, cc)
+same_more [] (z ∷ zs) x y e = absurd (empty_more zs y (cc))
+same_more (z ∷ zs) [] x y e = absurd (empty_more zs x (cc))
+same_more {A} (a ∷ xs) (b ∷ ys) x y e =
+    let head : a ≡ b = cc in
+    let tail : xs ++ x ∷ [] ≡ ys ++ y ∷ [] = cc in
+    let r = same_more xs ys x y tail in
+    let both : A → List A → List A = λ c cs. c ∷ cs in
+    ((λ i. both (head i) (r.0 i)), r.1)
+
+abbrev events : List Stepped → List (Option Event)
+events steps = map (λ s. s.event) steps
+
+module _ (plan : Plan) (one : (s : ServerState) (msg : Msg) (r other : ServerStep) → Handles plan s msg r → Handles plan s msg other → r ≡ other) (coords : ℕ) where
+  pub one_run : {steps others : List Stepped} {w v : World} → IsRun plan coords steps w → IsRun plan coords others v → events steps ≡ events others → (steps ≡ others) × (w ≡ v)
+  one_run begun begun e = (refl, refl)
+  one_run begun (goes_on {steps = ys} f p q h) e = absurd (empty_more (events ys) f (e ∙ map-append (λ (s : Stepped). s.event) ys (record { event = f; outcome = p } ∷ [])))
+  one_run (goes_on {steps = xs} d o r h) begun e = absurd (empty_more (events xs) d (sym e ∙ map-append (λ (s : Stepped). s.event) xs (record { event = d; outcome = o } ∷ [])))
+  one_run (goes_on {steps = xs} {w = w} d o r h) (goes_on {steps = ys} {w = v} f p q k) e =
+      let ends = same_more (events xs) (events ys) d f (sym (map-append (λ (s : Stepped). s.event) xs (record { event = d; outcome = o } ∷ [])) ∙ e ∙ map-append (λ (s : Stepped). s.event) ys (record { event = f; outcome = p } ∷ [])) in
+      go (one_run r q ends.0) ends.1
+    where
+      go : (xs ≡ ys) × (w ≡ v) → d ≡ f → (xs ++ (record { event = d; outcome = o }) ∷ [] ≡ ys ++ (record { event = f; outcome = p }) ∷ []) × (o.world ≡ p.world)
+      go front same =
+          let P : World → Option Event → Type 0 = λ u x. Comes plan u x o in
+          let moved : Comes plan v f o = subst (P v) same (subst (λ (u : World). P u d) front.1 h) in
+          let out : o ≡ p = one_step plan one v f o p moved k in
+          let more : List Stepped → Option Event → Outcome → List Stepped = λ zs x y. zs ++ (record { event = x; outcome = y }) ∷ [] in
+          ((λ i. more (front.0 i) (same i) (out i)), ap (λ (y : Outcome). y.world) out)

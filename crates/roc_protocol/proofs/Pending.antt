@@ -1,0 +1,181 @@
+-- Pending transactions in every world: what started was asked for, and whose list is known is asked to commit
+use Rattle.std.proofs.Common.{◌≡◌, ℕ, true, List, Some, map, refl, sym, subst, ◌∙◌, inl, inr}
+use Rattle.std.specs.Prelude.{slice_get, slice_set}
+use Rattle.roc_sequence.specs.Lists.{Has}
+use Rattle.roc_sequence.proofs.Members.{has_append, has_one, from_has_map}
+use Rattle.roc_base.specs.declared.id.TxnId.{TxnId}
+use Rattle.roc_base.specs.declared.node.Node.{Node}
+use Rattle.roc_base.specs.declared.node.Node.TheVariants.{Server, Coord}
+use Rattle.roc_base.specs.Edge.{Dependency}
+use Rattle.roc_depgraph.specs.declared.known.KnownList.{KnownList}
+use Rattle.roc_msg.specs.declared.msg.Msg.{Msg}
+use Rattle.roc_msg.specs.declared.msg.Msg.TheVariants.{Start, StartOk, Commit, CommitOk, Fetch, Known, Stop}
+use Rattle.roc_msg.specs.declared.msg.Sent.{Sent}
+use Rattle.roc_msg.specs.declared.outbox.Outgoing.{Outgoing}
+use Rattle.roc_plan.specs.Groups.{Plan}
+use Rattle.roc_whole.specs.Serial as whole
+use Rattle.roc_whole.specs.Serial.{start_store}
+use Rattle.roc_execution.specs.Scheme.{Scheme}
+use Rattle.roc_execution.specs.Log.{Log}
+use Rattle.roc_shard.specs.State.{ServerState, ServerStep}
+use Rattle.roc_coordinator.specs.declared.transaction.Transaction.{Transaction}
+use Rattle.roc_coordinator.specs.State.{was_asked, CoordState}
+use Rattle.roc_coordinator.specs.Starts.{all_started, shards_of}
+use Rattle.roc_audit.specs.declared.entry.Entry.{Entry}
+use Rattle.roc_audit.specs.declared.entry.Entry.TheVariants.{Submitted}
+use Rattle.roc_audit.specs.History.{WasSubmitted}
+use Rattle.roc_protocol.specs.Asked.{IsSchemeOf}
+use Rattle.roc_protocol.specs.Final.{lists_in}
+use Rattle.roc_protocol.specs.World.{World, sent_by, at_server, at_coord}
+use Rattle.roc_protocol.specs.Inner.Given.{LogLaws}
+use Rattle.roc_protocol.proofs.Means.{run_of, Means, ListMeans}
+use Rattle.roc_protocol.proofs.Changed.{get-set_cases}
+use Rattle.roc_protocol.proofs.Carried.{StartsHere, HoldsGood, KeepsGood}
+use Rattle.roc_protocol.proofs.Served.{StartsAre}
+use Rattle.roc_protocol.proofs.Held.{GoesOn, Advances}
+use Rattle.roc_protocol.proofs.Submissions.{AreSubmissions, unused}
+use Rattle.roc_protocol.proofs.Worlds.{IsLogged}
+
+-- each pending transaction of this id was asked to start the group on the shard
+abbrev pub AskedBy : List CoordState → TxnId → ℕ → ℕ → Type 0
+AskedBy coords t g n = (c : CoordState) (x : Transaction) → slice_get coords t.coord ≡ Some c → Has x c.pending → x.id ≡ t → was_asked x g (record { 0 = n }) ≡ true
+
+-- and has started whole, and asked its shards to commit
+abbrev pub IsWholeAt : Plan → List CoordState → TxnId → Type 0
+IsWholeAt plan coords t = (c : CoordState) (x : Transaction) → slice_get coords t.coord ≡ Some c → Has x c.pending → x.id ≡ t → (all_started plan x ≡ true) × (x.asked ≡ shards_of x)
+
+abbrev pub StartsOn : List CoordState → Msg → Node → Type 0
+StartsOn coords (Start id proc group args inputs) (Server shard) = AskedBy coords id group shard.0
+StartsOn coords (Start id proc group args inputs) (Coord n) = Unit {0}
+StartsOn coords (StartOk id group at bound outs edges facts) to = Unit {0}
+StartsOn coords (Commit id edges facts) to = Unit {0}
+StartsOn coords (CommitOk id at outs) to = Unit {0}
+StartsOn coords (Fetch id asker) to = Unit {0}
+StartsOn coords (Known id edges) to = Unit {0}
+StartsOn coords Stop to = Unit {0}
+
+pub record IsPending (plan : Plan) (w : World) : Type 0 where
+  pub own : (n : ℕ) (c : CoordState) → slice_get w.coords n ≡ Some c → (x : Transaction) → Has x c.pending → x.id.coord ≡ n
+  pub once : (n : ℕ) (c : CoordState) → slice_get w.coords n ≡ Some c → (y z : Transaction) → Has y c.pending → Has z c.pending → y.id ≡ z.id → y ≡ z
+  pub starts : (m : Sent) → Has m w.sent → StartsOn w.coords m.msg m.to
+  pub lists : (m : Sent) → Has m w.sent → (k : KnownList) → Has k (lists_in m.msg) → IsWholeAt plan w.coords k.of
+  pub servers : (n : ℕ) (s : ServerState) → slice_get w.servers n ≡ Some s → HoldsGood (λ t es. IsWholeAt plan w.coords t) (λ t g. AskedBy w.coords t g n) s
+
+-- ---- a step of a server
+
+pub starts_here : (coords : List CoordState) (msg : Msg) (n : ℕ) → StartsOn coords msg (Server (record { 0 = n })) → StartsHere (λ t g. AskedBy coords t g n) msg
+starts_here coords (Start id proc group args inputs) n k = k
+starts_here coords (StartOk id group at bound outs edges facts) n k = tt
+starts_here coords (Commit id edges facts) n k = tt
+starts_here coords (CommitOk id at outs) n k = tt
+starts_here coords (Fetch id asker) n k = tt
+starts_here coords (Known id edges) n k = tt
+starts_here coords Stop n k = tt
+
+no_start_on : (coords : List CoordState) (msg : Msg) (to : Node) → StartsAre (λ t. ⊥) msg → StartsOn coords msg to
+no_start_on coords (Start id proc group args inputs) to k = absurd k
+no_start_on coords (StartOk id group at bound outs edges facts) to k = tt
+no_start_on coords (Commit id edges facts) to k = tt
+no_start_on coords (CommitOk id at outs) to k = tt
+no_start_on coords (Fetch id asker) to k = tt
+no_start_on coords (Known id edges) to k = tt
+no_start_on coords Stop to k = tt
+
+pub served_pending : (plan : Plan) (w : World) → IsPending plan w → (n : ℕ) (s : ServerState) (there : slice_get w.servers n ≡ Some s) (r : ServerStep)
+    → KeepsGood plan (λ t es. IsWholeAt plan w.coords t) (λ t g. AskedBy w.coords t g n) s r → ((out : Outgoing) → Has out r.sends → StartsAre (λ t. ⊥) out.msg) → IsPending plan (at_server w n r)
+served_pending plan w o n s there r k none =
+    let more = map (sent_by (Server (record { 0 = n }))) r.sends in
+    record {
+      own = o.own;
+      once = o.once;
+      starts = λ m h. elim (has_append m w.sent more h) [
+        | inl j ↦ o.starts m j
+        | inr j ↦ (let q = from_has_map (sent_by (Server (record { 0 = n }))) m r.sends j in subst (λ (m : Sent). StartsOn w.coords m.msg m.to) (sym q.2) (no_start_on w.coords q.0.msg q.0.to (none q.0 q.1)))
+      ];
+      lists = λ m h l i. elim (has_append m w.sent more h) [
+        | inl j ↦ o.lists m j l i
+        | inr j ↦ (let q = from_has_map (sent_by (Server (record { 0 = n }))) m r.sends j in k.sends q.0 q.1 l (subst (λ (m : Sent). Has l (lists_in m.msg)) q.2 i))
+      ];
+      servers = λ m v h. elim (get-set_cases w.servers n m s r.state v there h) [
+        | inl e ↦ subst (λ m. HoldsGood (λ t es. IsWholeAt plan w.coords t) (λ t g. AskedBy w.coords t g m) v) e.0 (subst (HoldsGood (λ t es. IsWholeAt plan w.coords t) (λ t g. AskedBy w.coords t g n)) (sym e.1) k.state)
+        | inr e ↦ o.servers m v e.1
+      ];
+    }
+
+-- ---- a step of a coordinator
+
+module _ (plan : Plan) (asked : TxnId → whole.Call) (S : Scheme) (is : IsSchemeOf plan asked S) (laws : LogLaws S (start_store plan.program)) (w : World) (log : Log) (l : IsLogged plan asked S is laws w log) (subs : AreSubmissions plan w.history w.coords) (o : IsPending plan w) (n : ℕ) (s : CoordState) (there : slice_get w.coords n ≡ Some s) (after : CoordState) (a : Advances plan s after) where
+  abbrev coords : List CoordState
+  coords = slice_set w.coords n after
+
+  old_or_new : (t : TxnId) → WasSubmitted w.history t → (c : CoordState) (x : Transaction) → slice_get coords t.coord ≡ Some c → Has x c.pending → x.id ≡ t
+      → (d : CoordState) × (y : Transaction) × (slice_get w.coords t.coord ≡ Some d) × Has y d.pending × (y.id ≡ t) × GoesOn plan y x
+  old_or_new t was c x e h same = elim (get-set_cases w.coords n t.coord s after c there e) [
+    | inl k ↦ elim (a.from x (subst (λ (c : CoordState). Has x c.pending) k.1 h)) [
+      | inl j ↦ (s, j.0, subst (λ m. slice_get w.coords m ≡ Some s) k.0 there, j.1, sym j.2.id ∙ same, j.2)
+      | inr j ↦ absurd (unused plan w.history w.coords subs n s there was.0 was.1 (subst (λ t. Has (Submitted t was.0 was.1) w.history) (sym same ∙ j) was.2))
+    ]
+    | inr k ↦ (c, x, k.1, h, same, record { id = refl; asked = λ g s k. k; whole = λ a b. (a, b) })
+  ]
+
+  asked_later : (t : TxnId) (g m : ℕ) → WasSubmitted w.history t → AskedBy w.coords t g m → AskedBy coords t g m
+  asked_later t g m was k c x e h same = let q = old_or_new t was c x e h same in q.5.asked g (record { 0 = m }) (k q.0 q.1 q.2 q.3 q.4)
+
+  pub whole_later : (t : TxnId) → WasSubmitted w.history t → IsWholeAt plan w.coords t → IsWholeAt plan coords t
+  whole_later t was k c x e h same = let q = old_or_new t was c x e h same in let z = k q.0 q.1 q.2 q.3 q.4 in q.5.whole z.0 z.1
+
+  -- whose list is spoken of was submitted
+  list_submitted : (t : TxnId) (es : List Dependency) → ListMeans plan asked S (start_store plan.program) log t es → WasSubmitted w.history t
+  list_submitted t es m = l.began (run_of t 0) (m.is_whole 0 ((is.groups t 0).1 (is.some t)))
+
+  carried_submitted : (msg : Msg) (to : Node) → Means plan asked S (start_store plan.program) log msg to → (k : KnownList) → Has k (lists_in msg) → WasSubmitted w.history k.of
+  carried_submitted (StartOk id group at bound outs edges facts) to m k h = list_submitted k.of k.edges (m.0.facts k h)
+  carried_submitted (Commit id edges facts) to m k h = list_submitted k.of k.edges (m.0 k h)
+  carried_submitted (Known id edges) to m k h = subst (λ (k : KnownList). WasSubmitted w.history k.of) (sym (has_one k (record { of = id; edges = edges }) h)) (list_submitted id edges m.0)
+  carried_submitted (Start id proc group args inputs) to m k h = absurd h
+  carried_submitted (CommitOk id at outs) to m k h = absurd h
+  carried_submitted (Fetch id asker) to m k h = absurd h
+  carried_submitted Stop to m k h = absurd h
+
+  starts_later : (msg : Msg) (to : Node) → StartsAre (WasSubmitted w.history) msg → StartsOn w.coords msg to → StartsOn coords msg to
+  starts_later (Start id proc group args inputs) (Server shard) f k = asked_later id group shard.0 f k
+  starts_later (Start id proc group args inputs) (Coord n) f k = tt
+  starts_later (StartOk id group at bound outs edges facts) to f k = tt
+  starts_later (Commit id edges facts) to f k = tt
+  starts_later (CommitOk id at outs) to f k = tt
+  starts_later (Fetch id asker) to f k = tt
+  starts_later (Known id edges) to f k = tt
+  starts_later Stop to f k = tt
+
+  pub lists_later : (m : Sent) → Has m w.sent → (k : KnownList) → Has k (lists_in m.msg) → IsWholeAt plan coords k.of
+  lists_later m h k j = whole_later k.of (carried_submitted m.msg m.to (l.means.messages m h) k j) (o.lists m h k j)
+
+  pub coordinated_pending :
+      (outs : List Outgoing) (tells : List Entry) → ((x : Transaction) → Has x after.pending → x.id.coord ≡ n)
+      → ((out : Outgoing) → Has out outs → StartsOn coords out.msg out.to) → ((out : Outgoing) → Has out outs → (k : KnownList) → Has k (lists_in out.msg) → IsWholeAt plan coords k.of)
+      → IsPending plan (at_coord w n after outs tells)
+  coordinated_pending outs tells own starts lists =
+      let more = map (sent_by (Coord n)) outs in
+      record {
+        own = λ m c e x h. elim (get-set_cases w.coords n m s after c there e) [ inl k ↦ own x (subst (λ (c : CoordState). Has x c.pending) k.1 h) ∙ k.0 | inr k ↦ o.own m c k.1 x h ];
+        once = λ m c e y z h k f. elim (get-set_cases w.coords n m s after c there e) [
+          | inl j ↦ a.once y z (subst (λ (c : CoordState). Has y c.pending) j.1 h) (subst (λ (c : CoordState). Has z c.pending) j.1 k) f
+          | inr j ↦ o.once m c j.1 y z h k f
+        ];
+        starts = λ m h. elim (has_append m w.sent more h) [
+          | inl j ↦ starts_later m.msg m.to (l.starts m j) (o.starts m j)
+          | inr j ↦ (let q = from_has_map (sent_by (Coord n)) m outs j in subst (λ (m : Sent). StartsOn coords m.msg m.to) (sym q.2) (starts q.0 q.1))
+        ];
+        lists = λ m h k i. elim (has_append m w.sent more h) [
+          | inl j ↦ lists_later m j k i
+          | inr j ↦ (let q = from_has_map (sent_by (Coord n)) m outs j in lists q.0 q.1 k (subst (λ (m : Sent). Has k (lists_in m.msg)) q.2 i))
+        ];
+        servers = λ m v h.
+            (let g = o.servers m v h in
+            let means = l.means.servers m v h in
+            record {
+              groups = λ e k. asked_later e.id e.group m (l.began (run_of e.id e.group) (means.groups.entries e k).told.began) (g.groups e k);
+              known = λ k j. whole_later k.of (list_submitted k.of k.edges (means.known k j)) (g.known k j);
+              facts = λ e h k j. whole_later k.of (list_submitted k.of k.edges ((means.groups.entries e h).told.facts k j)) (g.facts e h k j);
+            });
+      }

@@ -1,0 +1,283 @@
+-- What comes of a message at a server
+use Rattle.std.proofs.Common.{append-nil, ◌==◌, ◌≡◌, ℕ, ℤ, Bool, true, false, not, cond, List, [], ◌∷◌, ◌++◌, Option, Some, None, map, refl, sym, ap, subst, ◌∙◌, ◌⊎◌, inl, inr}
+use Rattle.std.proofs.lemmas.Bool.{cond-true, eq-eqb}
+use Rattle.std.specs.Prelude.{slice_get, filter, flat_map, if◌then◌else◌}
+use Rattle.roc_sequence.specs.Lists.{Has}
+use Rattle.roc_sequence.specs.Places.{IsListed, is_listed}
+use Rattle.roc_sequence.proofs.Places.{listed_true}
+use Rattle.roc_sequence.proofs.Found.{found_has}
+use Rattle.roc_sequence.proofs.Members.{has_append, has_one, from_has_map, from_has_filter}
+use Rattle.roc_base.specs.declared.id.TxnId.{TxnId}
+use Rattle.roc_base.specs.declared.node.Node.TheVariants.{Server}
+use Rattle.roc_base.specs.declared.node.Shard.{Shard}
+use Rattle.roc_base.specs.TxnId.{is_txn}
+use Rattle.roc_base.specs.Inner.Equalities.{is_txn-true}
+use Rattle.roc_base.specs.Edge.{Dependency}
+use Rattle.roc_rows.specs.Store.{Store}
+use Rattle.roc_depgraph.specs.declared.known.KnownList.{KnownList}
+use Rattle.roc_depgraph.specs.Deps.{list_of, is_known, IsKnown, IsDecided}
+use Rattle.roc_depgraph.proofs.Listed.{has_listed}
+use Rattle.roc_await.specs.declared.waits.Asked.{Asked}
+use Rattle.roc_await.specs.Waits.{askers_of}
+use Rattle.roc_msg.specs.declared.msg.Msg.{Msg}
+use Rattle.roc_msg.specs.declared.msg.Msg.TheVariants.{Start, StartOk, Commit, CommitOk, Fetch, Known, Stop}
+use Rattle.roc_msg.specs.declared.outbox.Outgoing.{Outgoing}
+use Rattle.roc_msg.specs.declared.reason.Reason.{Reason}
+use Rattle.roc_msg.specs.declared.reason.Reason.TheVariants.{NotHere, Foreign}
+use Rattle.roc_msg.specs.Facts.{is_fact_before}
+use Rattle.roc_plan.specs.Groups.{Plan}
+use Rattle.roc_whole.specs.Serial as whole
+use Rattle.roc_group.specs.Group_run.{call}
+use Rattle.roc_serial.specs.Behaviour.{TxnGroup}
+use Rattle.roc_execution.specs.Scheme.{Scheme}
+use Rattle.roc_execution.specs.Log.{Log}
+use Rattle.roc_execution.specs.Steps.{LogSteps, no_steps, one_step_more, new_in}
+use Rattle.roc_execution.specs.Invariants.{LogInvariants, LogGrows}
+use Rattle.roc_shard.specs.declared.started.StartedGroup.{StartedGroup}
+use Rattle.roc_shard.specs.State.{ignored, answered, is_group, is_here, find_group, ServerState, ServerStep}
+use Rattle.roc_shard.specs.New.{AreNew}
+use Rattle.roc_shard.specs.Start.{start_fault, start_taken, start_judged, startok_of, new_group, start_new}
+use Rattle.roc_shard.specs.Runs.{commitok_of, outs_here}
+use Rattle.roc_shard.specs.Lists.{list_with, carried, unknown_of, known_to, knowns_for, fetch_from, missing_from, taught, commit_fault, commit_taken, after_commit, fetch_taken, after_fetch, known_fault, after_known}
+use Rattle.roc_shard.specs.Step.{Findings, Finds, unless_ignored, after_message, Handles, tick_sends}
+use Rattle.roc_audit.specs.Order.{noted}
+use Rattle.roc_protocol.specs.Asked.{IsSchemeOf}
+use Rattle.roc_protocol.specs.World.{World, at_server}
+use Rattle.roc_protocol.specs.Inner.Given.{LogLaws}
+use Rattle.roc_protocol.proofs.Means.{Began, Means, ListMeans, AllMean, StartIs, DoneMeans, ServerMeans, WorldMeans}
+use Rattle.roc_protocol.proofs.Grows.{begun_grows, list_grows, decided_grows}
+use Rattle.roc_protocol.proofs.Buffered.{outs_told}
+use Rattle.roc_protocol.proofs.Flat.{from_has_flat}
+use Rattle.roc_protocol.proofs.Changed.{noted-new, server_means}
+use Rattle.roc_protocol.proofs.Elsewhere.{server_elsewhere}
+use Rattle.roc_protocol.proofs.Starting as starting
+use Rattle.roc_protocol.proofs.Deciding as deciding
+
+-- a list that is found is among the known ones
+pub list_has : (known : List KnownList) (id : TxnId) (edges : List Dependency) → list_of id known ≡ Some edges → (k : KnownList) × Has k known × (k.of ≡ id) × (k.edges ≡ edges)
+list_has [] id edges h = absurd (cc)
+list_has (k ∷ known) id edges h = go (is_txn k.of id) refl h (list_has known id edges)
+  where
+    go : (b : Bool) → is_txn k.of id ≡ b → cond b (Some k.edges) (list_of id known) ≡ Some edges → (list_of id known ≡ Some edges → (k : KnownList) × Has k known × (k.of ≡ id) × (k.edges ≡ edges)) → (j : KnownList) × Has j (k ∷ known) × (j.of ≡ id) × (j.edges ≡ edges)
+    go true e m ih = (k, inl refl, is_txn-true k.of id e, cc)
+    go false e m ih = let r = ih m in (r.0, inr r.1, r.2, r.3)
+
+-- of what a start is
+abbrev pub StartsAre : (TxnId → Type 0) → Msg → Type 0
+StartsAre Of (Start id proc group args inputs) = Of id
+StartsAre Of (StartOk id group shard bound outs edges facts) = Unit {0}
+StartsAre Of (Commit id edges facts) = Unit {0}
+StartsAre Of (CommitOk id shard outs) = Unit {0}
+StartsAre Of (Fetch id asker) = Unit {0}
+StartsAre Of (Known id edges) = Unit {0}
+StartsAre Of Stop = Unit {0}
+
+module _ (plan : Plan) (asked : TxnId → whole.Call) (S : Scheme) (start : Store) (is : IsSchemeOf plan asked S) (laws : LogLaws S start) (c : Log) (w : World) (o : WorldMeans plan asked S start c w) (n : ℕ) (s : ServerState) (there : slice_get w.servers n ≡ Some s) (Fresh : TxnId → Type 0) where
+  -- some steps of the log explain the world after a step of the server
+  pub record IsExplained (r : ServerStep) : Type 0 where
+    pub log : Log
+    pub steps : LogSteps S start c log
+    pub means : WorldMeans plan asked S start log (at_server w n r)
+    -- the shard decided what the step says
+    pub decides : log.decided n ≡ c.decided n ++ r.decided
+    -- what starts is fresh
+    pub began : (q : TxnGroup) → Began plan asked S start log q → Began plan asked S start c q ⊎ Fresh q.txn
+
+  mine : ServerMeans plan asked S start c n s
+  mine = o.servers n s there
+
+  i : LogInvariants S start c
+  i = laws.holds c o.reached
+
+  -- the log does nothing
+  still : (r : ServerStep) → ServerMeans plan asked S start c n r.state → ((out : Outgoing) → Has out r.sends → Means plan asked S start c out.msg out.to) → r.decided ≡ [] → IsExplained r
+  still r after sends none =
+      record {
+        log = c;
+        steps = no_steps;
+        means = server_means plan asked S start is c c i i (laws.grows c c i no_steps) o.reached w o n s r there after (λ m apart v h. o.servers m v h) sends (ap (noted w.order) none ∙ o.order);
+        decides = sym (append-nil (c.decided n)) ∙ ap (λ ts. c.decided n ++ ts) (sym none);
+        began = λ q h. inl h;
+      }
+
+  ignores : (why : Reason) → IsExplained (ignored s why)
+  ignores why = still (ignored s why) mine (λ out h. absurd h) refl
+
+  -- ---- a start
+
+  startok_means : (e : StartedGroup) → Has e s.started → (out : Outgoing) → Has out (startok_of s.shard e ∷ []) → Means plan asked S start c out.msg out.to
+  startok_means e h out k =
+      let m = mine.groups.entries e h in
+      subst (λ (out : Outgoing). Means plan asked S start c out.msg out.to) (sym (has_one out (startok_of s.shard e) k)) (m.told, mine.number ∙ sym m.on, refl)
+
+  module _ (f : Findings) (id : TxnId) (proc group : ℕ) (args inputs : List ℤ) (found : Finds plan s (Start id proc group args inputs) f) (m : StartIs plan asked S start c id proc group args inputs (Server (record { 0 = n }))) (fresh : Fresh id) where
+    led : (u : TxnId) → IsListed is_txn f.reached u → IsKnown s.lists.known u
+    led u h = (found.reached.sound u h).0
+
+    module _ (none : find_group id group s.started ≡ None) where
+      abbrev d : Log
+      d = starting.d plan asked S start is laws c o.reached n s mine id proc group args inputs m none f.before f.reached found.before.sound led
+
+      abbrev e : StartedGroup
+      e = new_group plan f.before f.reached s id (call proc group args inputs)
+
+      j : LogInvariants S start d
+      j = starting.j plan asked S start is laws c o.reached n s mine id proc group args inputs m none f.before f.reached found.before.sound led
+
+      g : LogGrows S start c d
+      g = starting.g plan asked S start is laws c o.reached n s mine id proc group args inputs m none f.before f.reached found.before.sound led
+
+      started_explained : IsExplained (start_new plan s (call proc group args inputs) e)
+      started_explained =
+          record {
+            log = d;
+            steps = one_step_more no_steps (starting.step plan asked S start is laws c o.reached n s mine id proc group args inputs m none f.before f.reached found.before.sound led);
+            means = server_means plan asked S start is c d i j g
+                (starting.reached_after plan asked S start is laws c o.reached n s mine id proc group args inputs m none f.before f.reached found.before.sound led)
+                w o n s (start_new plan s (call proc group args inputs) e) there
+                (starting.server_start plan asked S start is laws c o.reached n s mine id proc group args inputs m none f.before f.reached found.before.sound led)
+                (λ k apart v h. server_elsewhere plan asked S start is c d i j g k (starting.quiet_elsewhere plan asked S start is laws c o.reached n s mine id proc group args inputs m none f.before f.reached found.before.sound led k apart) v (o.servers k v h))
+                (λ out h. subst (λ (out : Outgoing). Means plan asked S start d out.msg out.to) (sym (has_one out (startok_of s.shard e) h)) (
+                  starting.told_start plan asked S start is laws c o.reached n s mine id proc group args inputs m none f.before f.reached found.before.sound led,
+                  mine.number ∙ sym (starting.place_new plan asked S start is laws c o.reached n s mine id proc group args inputs m none f.before f.reached found.before.sound led),
+                  refl,
+                ))
+                o.order;
+            decides = sym (append-nil (c.decided n));
+            began = λ q h. elim (starting.begun_cases plan asked S start is laws c o.reached n s mine id proc group args inputs m none f.before f.reached found.before.sound led q h) [ inl k ↦ inl k | inr k ↦ inr (subst (λ (q : TxnGroup). Fresh q.txn) (sym k) fresh) ];
+          }
+
+    start_explained : IsExplained (start_judged plan f.before f.reached s id (call proc group args inputs) (start_fault plan s id (call proc group args inputs)))
+    start_explained = judged (start_fault plan s id (call proc group args inputs))
+      where
+        taken : (x : Option StartedGroup) → find_group id group s.started ≡ x → IsExplained (start_taken plan f.before f.reached s id (call proc group args inputs) x)
+        taken (Some e) k = still (answered s (startok_of s.shard e ∷ [])) mine (startok_means e (found_has (is_group id group) s.started e k).0) refl
+        taken None k = started_explained k
+
+        judged : (x : Option Reason) → IsExplained (start_judged plan f.before f.reached s id (call proc group args inputs) x)
+        judged (Some why) = ignores why
+        judged None = taken (find_group id group s.started) refl
+
+  -- ---- lists that are taught
+
+  module _ (news : List KnownList) (lists : AllMean plan asked S start c news) (ts : List TxnId) (new : AreNew (IsDecided s.lists.known) (s.lists.known ++ news) ts) where
+    abbrev d2 : Log
+    d2 = deciding.d plan asked S start is laws c o.reached n s mine news lists ts new
+
+    abbrev after : ServerState
+    after = (taught plan s news ts).state
+
+    j2 : LogInvariants S start d2
+    j2 = deciding.j plan asked S start is laws c o.reached n s mine news lists ts new
+
+    g2 : LogGrows S start c d2
+    g2 = deciding.g plan asked S start is laws c o.reached n s mine news lists ts new
+
+    server2 : ServerMeans plan asked S start d2 n after
+    server2 = deciding.server_after plan asked S start is laws c o.reached n s mine news lists ts new
+
+    commitok_means : (t : TxnId) → IsListed is_txn (d2.decided n) t → Means plan asked S start d2 (commitok_of plan after t).msg (commitok_of plan after t).to
+    commitok_means t h = (subst (λ k. DoneMeans plan asked S start d2 t k (outs_here plan t after.started)) (sym server2.number) (outs_told plan asked S start is d2 j2 n after server2 t h), refl)
+
+    taught_mean : (out : Outgoing) → Has out (taught plan s news ts).sends → Means plan asked S start d2 out.msg out.to
+    taught_mean out h = elim (has_append out (flat_map (knowns_for s.lists.waiting.askers) news) (map (commitok_of plan after) (filter (λ t. is_here t s.started) ts) ++ map (fetch_from s.shard) (missing_from s (s.lists.known ++ news))) h) [
+      | inl k ↦
+          (let p = from_has_flat (knowns_for s.lists.waiting.askers) out news k in
+          let q = from_has_map (known_to p.0) out (askers_of p.0.of s.lists.waiting.askers) p.2 in
+          subst (λ (out : Outgoing). Means plan asked S start d2 out.msg out.to) (sym q.2) (list_grows plan asked S start is c d2 i j2 g2 p.0.of p.0.edges (lists p.0 p.1), tt))
+      | inr k ↦ elim (has_append out (map (commitok_of plan after) (filter (λ t. is_here t s.started) ts)) (map (fetch_from s.shard) (missing_from s (s.lists.known ++ news))) k) [
+        | inl l ↦
+            (let q = from_has_map (commitok_of plan after) out (filter (λ t. is_here t s.started) ts) l in
+            let f = from_has_filter (λ t. is_here t s.started) q.0 ts q.1 in
+            subst (λ (out : Outgoing). Means plan asked S start d2 out.msg out.to) (sym q.2) (commitok_means q.0 (deciding.taken_decided plan asked S start is laws c o.reached n s mine news lists ts new q.0 (has_listed ts q.0 f.0))))
+        | inr l ↦ (let q = from_has_map (fetch_from s.shard) out (missing_from s (s.lists.known ++ news)) l in subst (λ (out : Outgoing). Means plan asked S start d2 out.msg out.to) (sym q.2) (begun_grows plan asked S start is c d2 i j2 g2 q.0.id q.0.at.0 (deciding.missing_begun plan asked S start is laws c o.reached n s mine news lists ts new q.0 q.1)))
+      ]
+    ]
+
+    taught_explained : (r : ServerStep) → r.state ≡ after → r.decided ≡ ts → ((out : Outgoing) → Has out r.sends → Means plan asked S start d2 out.msg out.to) → IsExplained r
+    taught_explained r state decided sends =
+        record {
+          log = d2;
+          steps = one_step_more no_steps (deciding.step plan asked S start is laws c o.reached n s mine news lists ts new);
+          means = server_means plan asked S start is c d2 i j2 g2 (deciding.reached_after plan asked S start is laws c o.reached n s mine news lists ts new) w o n s r there
+              (subst (ServerMeans plan asked S start d2 n) (sym state) server2)
+              (λ k apart v h. server_elsewhere plan asked S start is c d2 i j2 g2 k (deciding.quiet_elsewhere plan asked S start is laws c o.reached n s mine news lists ts new k apart) v (o.servers k v h))
+              sends
+              (ap (noted w.order) decided ∙ (noted-new w.order ts new.ordered.once ∙ ap (λ l. l ++ new_in l ts) o.order));
+          decides = cond-true (n == n) (c.decided n ++ ts) (c.decided n) (eq-eqb n n refl) ∙ ap (λ ts. c.decided n ++ ts) (sym decided);
+          began = λ q h. inl h;
+        }
+
+  -- ---- any message
+
+  commit_explained : (f : Findings) (id : TxnId) (edges : List Dependency) (facts : List KnownList) → Finds plan s (Commit id edges facts) f → AllMean plan asked S start c (list_with id edges ∷ facts) → IsExplained (after_commit plan f.before f.decided s id edges facts (commit_fault s id edges facts))
+  commit_explained f id edges facts found m = judged (commit_fault s id edges facts) found.decided
+    where
+      judged : (x : Option Reason) → AreNew (IsDecided s.lists.known) (s.lists.known ++ unless_ignored x (unknown_of s.lists.known (carried id edges facts))) f.decided → IsExplained (after_commit plan f.before f.decided s id edges facts x)
+      judged (Some why) new = ignores why
+      judged None new =
+          let lists : AllMean plan asked S start c (unknown_of s.lists.known (carried id edges facts)) = λ k h. m k (from_carried k (from_has_filter (λ k. not (is_known s.lists.known k.of)) k (carried id edges facts) h).0) in
+          taught_explained (unknown_of s.lists.known (carried id edges facts)) lists f.decided new (commit_taken plan f.before s id (taught plan s (unknown_of s.lists.known (carried id edges facts)) f.decided)) refl refl
+          (λ out h. elim (has_append out (taught plan s (unknown_of s.lists.known (carried id edges facts)) f.decided).sends (if is_listed is_txn f.before id then commitok_of plan (taught plan s (unknown_of s.lists.known (carried id edges facts)) f.decided).state id ∷ [] else []) h) [
+            | inl k ↦ taught_mean (unknown_of s.lists.known (carried id edges facts)) lists f.decided new out k
+            | inr k ↦ again lists new out (is_listed is_txn f.before id) refl k
+          ])
+        where
+          from_carried : (k : KnownList) → Has k (carried id edges facts) → Has k (list_with id edges ∷ facts)
+          from_carried k h = elim (has_append k (filter (λ x. is_fact_before x (list_with id edges)) facts) (list_with id edges ∷ filter (λ x. is_fact_before (list_with id edges) x) facts) h) [
+            | inl a ↦ inr (from_has_filter (λ x. is_fact_before x (list_with id edges)) k facts a).0
+            | inr b ↦ elim b [ inl e ↦ inl e | inr a ↦ inr (from_has_filter (λ x. is_fact_before (list_with id edges) x) k facts a).0 ]
+          ]
+
+          again :
+              (lists : AllMean plan asked S start c (unknown_of s.lists.known (carried id edges facts))) (new : AreNew (IsDecided s.lists.known) (s.lists.known ++ unknown_of s.lists.known (carried id edges facts)) f.decided)
+              (out : Outgoing) (b : Bool) → is_listed is_txn f.before id ≡ b → Has out (cond b (commitok_of plan (taught plan s (unknown_of s.lists.known (carried id edges facts)) f.decided).state id ∷ []) [])
+              → Means plan asked S start (d2 (unknown_of s.lists.known (carried id edges facts)) lists f.decided new) out.msg out.to
+          again lists new out true e k =
+              let known = unknown_of s.lists.known (carried id edges facts) in
+              subst (λ (out : Outgoing). Means plan asked S start (d2 known lists f.decided new) out.msg out.to) (sym (has_one out (commitok_of plan (taught plan s known f.decided).state id) k))
+              (commitok_means known lists f.decided new id (decided_grows plan asked S start is c (d2 known lists f.decided new) i (j2 known lists f.decided new) (g2 known lists f.decided new) n id ((mine.decided id).1 (found.before.sound id (listed_true is_txn f.before id e)))))
+          again lists new out false e k = absurd k
+
+  fetch_explained : (id : TxnId) (asker : Shard) → IsExplained (after_fetch s id asker)
+  fetch_explained id asker = here (is_here id s.started)
+    where
+      taken : (x : Option (List Dependency)) → list_of id s.lists.known ≡ x → IsExplained (fetch_taken s id asker x)
+      taken (Some edges) e =
+          let k = list_has s.lists.known id edges e in
+          still (answered s (known_to (list_with id edges) (record { id = id; shard = asker }) ∷ [])) mine
+          (λ out h. subst (λ (out : Outgoing). Means plan asked S start c out.msg out.to) (sym (has_one out (known_to (list_with id edges) (record { id = id; shard = asker })) h)) (subst (λ es. ListMeans plan asked S start c id es) k.3 (subst (λ t. ListMeans plan asked S start c t k.0.edges) k.2 (mine.known k.0 k.1)), tt))
+          refl
+      taken None e = still (fetch_taken s id asker None) (record { number = mine.number; groups = mine.groups; part = mine.part; known = mine.known; decided = mine.decided; fetched = mine.fetched }) (λ out h. absurd h) refl
+
+      here : (b : Bool) → IsExplained (if b then fetch_taken s id asker (list_of id s.lists.known) else ignored s NotHere)
+      here true = taken (list_of id s.lists.known) refl
+      here false = ignores NotHere
+
+  known_explained : (f : Findings) (id : TxnId) (edges : List Dependency) → Finds plan s (Known id edges) f → ListMeans plan asked S start c id edges → IsExplained (after_known plan f.decided s id edges (known_fault s id edges))
+  known_explained f id edges found m = judged (known_fault s id edges) found.decided
+    where
+      judged : (x : Option Reason) → AreNew (IsDecided s.lists.known) (s.lists.known ++ unless_ignored x (unknown_of s.lists.known (list_with id edges ∷ []))) f.decided → IsExplained (after_known plan f.decided s id edges x)
+      judged (Some why) new = ignores why
+      judged None new =
+          let lists : AllMean plan asked S start c (unknown_of s.lists.known (list_with id edges ∷ [])) = λ k h. subst (λ (k : KnownList). ListMeans plan asked S start c k.of k.edges) (sym (has_one k (list_with id edges) (from_has_filter (λ k. not (is_known s.lists.known k.of)) k (list_with id edges ∷ []) h).0)) m in
+          taught_explained (unknown_of s.lists.known (list_with id edges ∷ [])) lists f.decided new (taught plan s (unknown_of s.lists.known (list_with id edges ∷ [])) f.decided) refl refl
+          (taught_mean (unknown_of s.lists.known (list_with id edges ∷ [])) lists f.decided new)
+
+  pub message_explained : (msg : Msg) (r : ServerStep) → Handles plan s msg r → Means plan asked S start c msg (Server (record { 0 = n })) → StartsAre Fresh msg → IsExplained r
+  message_explained msg r h m k = subst IsExplained (sym h.is) (go msg h.findings h.found m k)
+    where
+      go : (msg : Msg) (f : Findings) → Finds plan s msg f → Means plan asked S start c msg (Server (record { 0 = n })) → StartsAre Fresh msg → IsExplained (after_message plan s f msg)
+      go (Start id proc group args inputs) f found m k = start_explained f id proc group args inputs found m k
+      go (Commit id edges facts) f found m k = commit_explained f id edges facts found m.0
+      go (Fetch id asker) f found m k = fetch_explained id asker
+      go (Known id edges) f found m k = known_explained f id edges found m.0
+      go (StartOk id group shard bound outs edges facts) f found m k = ignores Foreign
+      go (CommitOk id shard outs) f found m k = ignores Foreign
+      go Stop f found m k = ignores Foreign
+
+  pub tick_explained : IsExplained (answered s (tick_sends s))
+  tick_explained =
+      still (answered s (tick_sends s)) mine
+      (λ out h. let q = from_has_map (fetch_from s.shard) out (filter (λ (a : Asked). not (is_known s.lists.known a.id)) s.lists.waiting.asked) h in subst (λ (out : Outgoing). Means plan asked S start c out.msg out.to) (sym q.2) (mine.fetched q.0 (from_has_filter (λ (a : Asked). not (is_known s.lists.known a.id)) q.0 s.lists.waiting.asked q.1).0))
+      refl

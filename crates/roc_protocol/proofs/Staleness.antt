@@ -1,0 +1,202 @@
+-- A coordinator ignores only what is stale
+use Rattle.std.proofs.Common.{◌≡◌, ℕ, ℤ, ◌<◌, ◌==◌, Bool, true, false, not, ◌&&◌, List, Option, Some, None, length, refl, sym, ap, subst, ◌∙◌, is_some}
+use Rattle.std.proofs.lemmas.Bool.{false≢true, and_parts, and_from, eq-eqb, eqb-true}
+use Rattle.std.proofs.lemmas.List.{length-map}
+use Rattle.std.specs.Prelude.{slice_get, filter, if◌then◌else◌}
+use Rattle.std.specs.List.{range_with_len}
+use Rattle.roc_sequence.specs.Lists.{Has}
+use Rattle.roc_sequence.proofs.Holds.{any_has, has_any}
+use Rattle.roc_sequence.proofs.Found.{found_has}
+use Rattle.roc_base.specs.declared.id.TxnId.{TxnId}
+use Rattle.roc_base.specs.declared.node.Node.{Node}
+use Rattle.roc_base.specs.declared.node.Node.TheVariants.{Server, Coord}
+use Rattle.roc_base.specs.declared.node.Shard.{Shard}
+use Rattle.roc_base.specs.TxnId.{is_txn}
+use Rattle.roc_base.specs.Inner.Equalities.{is_txn-true}
+use Rattle.roc_base.specs.Edge.{Dependency}
+use Rattle.roc_program.specs.Values.{value_of_name}
+use Rattle.roc_depgraph.specs.declared.known.KnownList.{KnownList}
+use Rattle.roc_msg.specs.declared.msg.Msg.{Msg}
+use Rattle.roc_msg.specs.declared.msg.Msg.TheVariants.{Start, StartOk, Commit, CommitOk, Fetch, Known, Stop}
+use Rattle.roc_msg.specs.declared.msg.Sent.{Sent}
+use Rattle.roc_msg.specs.declared.reason.Reason.{Reason}
+use Rattle.roc_msg.specs.declared.reason.Reason.TheVariants.{Stale, Unfit}
+use Rattle.roc_plan.specs.Groups.{Plan, groups_of, bound_of, outs_of, is_immediate_of}
+use Rattle.roc_whole.specs.Serial as whole
+use Rattle.roc_whole.specs.Serial.{start_store}
+use Rattle.roc_group.specs.Group_run.{group_run}
+use Rattle.roc_serial.specs.Behaviour.{TxnGroup, Yield}
+use Rattle.roc_serial.specs.Runs.{inputs_at, first_stage, after_groups, groups_before}
+use Rattle.roc_serial.proofs.Stages.{yielded_at}
+use Rattle.roc_execution.specs.Scheme.{Scheme}
+use Rattle.roc_execution.specs.Log.{Log}
+use Rattle.roc_execution.specs.Invariants.{LogInvariants}
+use Rattle.roc_shard.specs.declared.started.StartedGroup.{StartedGroup}
+use Rattle.roc_shard.specs.State.{is_group, is_here, ServerState}
+use Rattle.roc_coordinator.specs.declared.handled.Handled.TheVariants.{Ignored}
+use Rattle.roc_coordinator.specs.declared.transaction.Transaction.{Transaction}
+use Rattle.roc_coordinator.specs.declared.transaction.SentStart.{SentStart}
+use Rattle.roc_coordinator.specs.State.{find_transaction, find_startok, was_asked, has_commitok, CoordState}
+use Rattle.roc_coordinator.specs.Starts.{all_started, shards_of, bound_count, out_count}
+use Rattle.roc_coordinator.specs.Commits.{places_on}
+use Rattle.roc_coordinator.specs.Step.{unless_refused, is_fit_startok, with_startok, startok_taken, after_startok, is_asked, is_fit_commitok, with_commitok, reply_now, commitok_taken, after_commitok, after_message}
+use Rattle.roc_protocol.specs.Asked.{called, IsSchemeOf}
+use Rattle.roc_protocol.specs.World.{World}
+use Rattle.roc_protocol.specs.Inner.Given.{LogLaws}
+use Rattle.roc_protocol.proofs.Means.{run_of, Ran, stage, Means, DoneMeans, TxnMeans, waits_at}
+use Rattle.roc_protocol.proofs.Facts.{known_has}
+use Rattle.roc_protocol.proofs.Replies.{count_given, places_are, counts_at, lengths_of_flat, few_place, shard_listed}
+use Rattle.roc_protocol.proofs.Networks.{IsToldHere, IsNetworked}
+use Rattle.roc_protocol.proofs.Pending.{AskedBy, IsWholeAt, IsPending}
+use Rattle.roc_protocol.proofs.Worlds.{IsLogged}
+
+module _ (plan : Plan) (asked : TxnId → whole.Call) (S : Scheme) (is : IsSchemeOf plan asked S) (laws : LogLaws S (start_store plan.program)) (w : World) (log : Log) (l : IsLogged plan asked S is laws w log) (nw : IsNetworked plan asked S is laws w) (o : IsPending plan w) (n : ℕ) (s : CoordState) (there : slice_get w.coords n ≡ Some s) where
+  i : LogInvariants S (start_store plan.program) log
+  i = laws.holds log l.means.reached
+
+  -- what ran bound as many values as it binds names
+  count_bound : (r : TxnGroup) → Ran plan asked S (start_store plan.program) log r → length ((stage plan asked S (start_store plan.program) log).yielded r).bound ≡ length (bound_of plan (asked r.txn).procedure r.group)
+  count_bound r h =
+      let before = after_groups S.behaviour (first_stage (start_store plan.program)) (groups_before r log.past.ran) in
+      let given = inputs_at S.behaviour before r in
+      ap (λ (y : Yield). length y.bound) (yielded_at S.behaviour log.past.ran (first_stage (start_store plan.program)) r i.ran_once h)
+      ∙ (ap (λ (y : Yield). length y.bound) (is.yields r given before.store)
+      ∙ length-map (bound_of plan (asked r.txn).procedure r.group) (value_of_name (group_run plan (called plan asked r given) before.store).environment))
+
+  -- ---- a startok
+
+  module _ (m : Sent) (has : Has m w.sent) (to : m.to ≡ Coord n) (id : TxnId) (g : ℕ) (shard : Shard) (bound outs : List ℤ) (edges : List Dependency) (facts : List KnownList) (msg : m.msg ≡ StartOk id g shard bound outs edges facts) (x : Transaction) (pending : Has x s.pending) (same : x.id ≡ id) where
+    means : Means plan asked S (start_store plan.program) log (StartOk id g shard bound outs edges facts) m.to
+    means = subst (λ msg. Means plan asked S (start_store plan.program) log msg m.to) msg (l.means.messages m has)
+
+    mine : TxnMeans plan asked S (start_store plan.program) log x
+    mine = l.means.coords n s there x pending
+
+    at : slice_get w.coords id.coord ≡ Some s
+    at = subst (λ m. slice_get w.coords m ≡ Some s) (ap number (sym to ∙ means.2)) there
+      where
+        number : Node → ℕ
+        number (Server shard) = 0
+        number (Coord n) = n
+
+    was : was_asked x g shard ≡ true
+    was =
+        let h = subst (IsToldHere w.servers) msg (nw.told m has) in
+        let f = found_has (is_group id g) h.0.started h.2.1 h.2.2 in
+        let p = and_parts (is_txn h.2.1.id id) (h.2.1.group == g) f.1 in
+        let k = (o.servers shard.0 h.0 h.1).groups h.2.1 f.0 in
+        (subst (λ t. AskedBy w.coords t g shard.0) (is_txn-true h.2.1.id id p.0) (subst (λ g. AskedBy w.coords h.2.1.id g shard.0) (eqb-true h.2.1.group g p.1) k)) s x at pending same
+
+    proc : x.proc ≡ (asked id).procedure
+    proc = mine.proc ∙ ap (λ t. (asked t).procedure) same
+
+    counted : (length bound ≡ bound_count plan x.proc g) × (length outs ≡ out_count plan x.proc g)
+    counted = subst (λ p. (length bound ≡ bound_count plan p g) × (length outs ≡ out_count plan p g)) (sym proc) (go (is_immediate_of plan (asked id).procedure g) (is.immediate (run_of id g)))
+      where
+        go : (b : Bool) → S.is_immediate (run_of id g) ≡ b
+            → (length bound ≡ (if b then length (bound_of plan (asked id).procedure g) else 0)) × (length outs ≡ (if b then length (outs_of plan (asked id).procedure g) else 0))
+        go true e =
+            let ran = i.now_ran (run_of id g) means.0.began e in
+            (ap length (means.0.bound_now e) ∙ count_bound (run_of id g) ran, ap length (means.0.outs_now e) ∙ count_given plan asked S (start_store plan.program) is log i (run_of id g) ran)
+        go false e = (ap length (means.0.bound_later e), ap length (means.0.outs_later e))
+
+    startok_fit : is_fit_startok plan x (record { group = g; bound = bound; outs = outs; edges = edges; facts = facts }) shard ≡ true
+    startok_fit =
+        and_from (was_asked x g shard && length bound == bound_count plan x.proc g) (length outs == out_count plan x.proc g)
+        (and_from (was_asked x g shard) (length bound == bound_count plan x.proc g) was (eq-eqb (length bound) (bound_count plan x.proc g) counted.0))
+        (eq-eqb (length outs) (out_count plan x.proc g) counted.1)
+
+  -- ---- a commitok
+
+  module _ (m : Sent) (has : Has m w.sent) (to : m.to ≡ Coord n) (id : TxnId) (shard : Shard) (outs : List ℤ) (msg : m.msg ≡ CommitOk id shard outs) (x : Transaction) (pending : Has x s.pending) (same : x.id ≡ id) where
+    done : Means plan asked S (start_store plan.program) log (CommitOk id shard outs) m.to
+    done = subst (λ msg. Means plan asked S (start_store plan.program) log msg m.to) msg (l.means.messages m has)
+
+    held : TxnMeans plan asked S (start_store plan.program) log x
+    held = l.means.coords n s there x pending
+
+    found_at : slice_get w.coords id.coord ≡ Some s
+    found_at = subst (λ m. slice_get w.coords m ≡ Some s) (ap number (sym to ∙ done.1)) there
+      where
+        number : Node → ℕ
+        number (Server shard) = 0
+        number (Coord n) = n
+
+    from : (v : ServerState) × (slice_get w.servers shard.0 ≡ Some v) × (is_here id v.started ≡ true)
+    from = subst (IsToldHere w.servers) msg (nw.told m has)
+
+    is_whole : (all_started plan x ≡ true) × (x.asked ≡ shards_of x)
+    is_whole =
+        let v = l.means.servers shard.0 from.0 from.1 in
+        let k = known_has from.0.lists.known id ((v.decided id).0 done.0.decided).own in
+        (subst (IsWholeAt plan w.coords) k.2 ((o.servers shard.0 from.0 from.1).known k.0 k.1)) s x found_at pending same
+
+    asked_shard : is_asked x shard ≡ true
+    asked_shard =
+        let e = any_has (λ (e : StartedGroup). is_txn e.id id) from.0.started from.2 in
+        let k = (o.servers shard.0 from.0 from.1).groups e.0 e.1 in
+        let was = (subst (λ t. AskedBy w.coords t e.0.group shard.0) (is_txn-true e.0.id id e.2) k) s x found_at pending same in
+        let z = any_has (λ (z : SentStart). z.group == e.0.group && z.shard.0 == shard.0) x.starts was in
+        let zp = and_parts (z.0.group == e.0.group) (z.0.shard.0 == shard.0) z.2 in
+        let few : shard.0 < 64 = subst (λ n. n < 64) ((l.means.servers shard.0 from.0 from.1).groups.entries e.0 e.1).on (few_place plan asked S (start_store plan.program) is log i (run_of e.0.id e.0.group)) in
+        let listed = shard_listed x.starts shard z.0 z.1 zp.1 few in
+        has_any (λ (a : Shard). a.0 == shard.0) x.asked shard (subst (Has shard) (sym is_whole.1) listed) (eq-eqb shard.0 shard.0 refl)
+
+    many : length outs ≡ length (places_on plan x shard)
+    many =
+        let d : DoneMeans plan asked S (start_store plan.program) log x.id shard.0 outs = subst (λ t. DoneMeans plan asked S (start_store plan.program) log t shard.0 outs) (sym same) done.0 in
+        let gs = filter (waits_at plan asked S (start_store plan.program) log shard.0 x.id) (range_with_len 0 (length (groups_of plan (asked x.id).procedure))) in
+        ap length d.is
+        ∙ (lengths_of_flat (outs_of plan (asked x.id).procedure) (λ g. ((stage plan asked S (start_store plan.program) log).yielded (run_of x.id g)).outs) gs (counts_at plan asked S (start_store plan.program) is log i x held is_whole.0 shard.0 d.decided)
+        ∙ sym (ap length (places_are plan asked S (start_store plan.program) is log i x held is_whole.0 shard)))
+
+    commitok_fit : is_fit_commitok plan x (record { shard = shard; outs = outs }) ≡ true
+    commitok_fit = and_from (is_asked x shard) (length outs == length (places_on plan x shard)) asked_shard (eq-eqb (length outs) (length (places_on plan x shard)) many)
+
+  -- ---- any message
+
+  pub message_stale : (m : Sent) → Has m w.sent → m.to ≡ Coord n → (why : Reason) → (after_message plan s m.msg).answer ≡ Ignored why → why ≡ Stale
+  message_stale m has to why e = go m.msg refl e
+    where
+      only : Ignored Stale ≡ Ignored why → why ≡ Stale
+      only e = cc
+
+      startok : (id : TxnId) (g : ℕ) (shard : Shard) (bound outs : List ℤ) (edges : List Dependency) (facts : List KnownList) → m.msg ≡ StartOk id g shard bound outs edges facts → (x : Option Transaction) → find_transaction id s.pending ≡ x
+          → (after_startok plan s x (record { group = g; bound = bound; outs = outs; edges = edges; facts = facts }) shard).answer ≡ Ignored why → why ≡ Stale
+      startok id g shard bound outs edges facts msg None f e = only e
+      startok id g shard bound outs edges facts msg (Some x) f e =
+          let q = found_has (λ (x : Transaction). is_txn x.id id) s.pending x f in
+          judged (is_some (find_startok g x.startoks)) (is_fit_startok plan x (record { group = g; bound = bound; outs = outs; edges = edges; facts = facts }) shard)
+          (startok_fit m has to id g shard bound outs edges facts msg x q.0 (is_txn-true x.id id q.1)) e
+        where
+          judged : (a b : Bool) → b ≡ true → (unless_refused s (if a then Some Stale else (if not b then Some Unfit else None)) (startok_taken plan s (with_startok x (record { group = g; bound = bound; outs = outs; edges = edges; facts = facts })))).answer ≡ Ignored why → why ≡ Stale
+          judged true b fit e = only e
+          judged false true fit e = absurd (cc)
+          judged false false fit e = absurd (false≢true fit)
+
+      commitok : (id : TxnId) (shard : Shard) (outs : List ℤ) → m.msg ≡ CommitOk id shard outs → (x : Option Transaction) → find_transaction id s.pending ≡ x → (after_commitok plan s x (record { shard = shard; outs = outs })).answer ≡ Ignored why → why ≡ Stale
+      commitok id shard outs msg None f e = only e
+      commitok id shard outs msg (Some x) f e =
+          let q = found_has (λ (x : Transaction). is_txn x.id id) s.pending x f in
+          judged (has_commitok shard x.commitoks) (is_fit_commitok plan x (record { shard = shard; outs = outs })) (commitok_fit m has to id shard outs msg x q.0 (is_txn-true x.id id q.1)) (reply_now plan (with_commitok x (record { shard = shard; outs = outs }))) e
+        where
+          judged : (a b : Bool) → b ≡ true → (reply : Option (List ℤ)) → (unless_refused s (if a then Some Stale else (if not b then Some Unfit else None)) (commitok_taken s (with_commitok x (record { shard = shard; outs = outs })) reply)).answer ≡ Ignored why → why ≡ Stale
+          judged true b fit reply e = only e
+          judged false true fit None e = absurd (cc)
+          judged false true fit (Some reply) e = absurd (cc)
+          judged false false fit reply e = absurd (false≢true fit)
+
+      to_server : (v : Shard) → m.to ≡ Server v → ⊥
+      to_server v e = let f = to in cc
+
+      server_alone : (msg : Msg) → m.msg ≡ msg → Means plan asked S (start_store plan.program) log msg (Coord n)
+      server_alone msg e = subst (λ to. Means plan asked S (start_store plan.program) log msg to) to (subst (λ msg. Means plan asked S (start_store plan.program) log msg m.to) e (l.means.messages m has))
+
+      go : (msg : Msg) → m.msg ≡ msg → (after_message plan s msg).answer ≡ Ignored why → why ≡ Stale
+      go (StartOk id g shard bound outs edges facts) f e = startok id g shard bound outs edges facts f (find_transaction id s.pending) refl e
+      go (CommitOk id shard outs) f e = commitok id shard outs f (find_transaction id s.pending) refl e
+      go (Start id proc group args inputs) f e = let k = (server_alone (Start id proc group args inputs) f).to in absurd (cc)
+      go (Commit id edges facts) f e = absurd ((server_alone (Commit id edges facts) f).1)
+      go (Fetch id asker) f e = absurd (server_alone (Fetch id asker) f)
+      go (Known id edges) f e = absurd ((server_alone (Known id edges) f).1)
+      go Stop f e = absurd (server_alone Stop f)

@@ -1,0 +1,140 @@
+-- The order is a serial witness of the history
+use Rattle.std.proofs.Common.{◌≡◌, ℕ, ℤ, pos, suc, ◌<◌, List, [], ◌∷◌, ◌++◌, Option, Some, None, length, map, refl, sym, ap, subst, ◌∙◌, inl, inr, arith, append-nil}
+use Rattle.std.specs.Prelude.{slice_get, slice_index_or, zip}
+use Rattle.std.specs.List.{cons_option}
+use Rattle.roc_sequence.specs.Lists.{Has}
+use Rattle.roc_sequence.specs.Places.{IsListed, NoneTwice}
+use Rattle.roc_base.specs.declared.id.TxnId.{TxnId}
+use Rattle.roc_base.specs.declared.node.Node.{Node}
+use Rattle.roc_base.specs.declared.node.Node.TheVariants.{Server, Coord}
+use Rattle.roc_base.specs.TxnId.{is_txn}
+use Rattle.roc_depgraph.proofs.Listed.{has_listed}
+use Rattle.roc_rows.specs.Store.{Store}
+use Rattle.roc_plan.specs.Groups.{Plan, outs_of}
+use Rattle.roc_whole.specs.Serial as whole
+use Rattle.roc_whole.specs.Serial.{start_store, serial_run}
+use Rattle.roc_serial.specs.Behaviour.{TxnGroup, Yield}
+use Rattle.roc_serial.specs.Runs.{first_stage, stage_behind, account_at, Account}
+use Rattle.roc_serial.specs.Orders.{one_by_one}
+use Rattle.roc_serial.proofs.Stages.{yielded_at}
+use Rattle.roc_execution.specs.Scheme.{Scheme}
+use Rattle.roc_execution.specs.Log.{Log, first_log}
+use Rattle.roc_execution.specs.Invariants.{LogInvariants}
+use Rattle.roc_audit.specs.declared.entry.Entry.{Entry}
+use Rattle.roc_audit.specs.declared.entry.Entry.TheVariants.{Submitted}
+use Rattle.roc_audit.specs.History.{WasSubmitted}
+use Rattle.roc_audit.specs.Witness.{submitted_call, submitted_calls, reply_in, IsSerialWitness}
+use Rattle.roc_coordinator.specs.State.{CoordState}
+use Rattle.roc_coordinator.specs.Step.{after_message}
+use Rattle.roc_coordinator.specs.Submit.{next_id}
+use Rattle.roc_protocol.specs.declared.event.Event.{Event}
+use Rattle.roc_protocol.specs.declared.event.Event.TheVariants.{Submit, Deliver, Tick}
+use Rattle.roc_protocol.specs.Asked.{IsSchemeOf, IsWholeReply}
+use Rattle.roc_protocol.specs.World.{World, first_world, comes}
+use Rattle.roc_protocol.specs.Happens.{Outcome, Receives, answer_entries}
+use Rattle.roc_protocol.specs.Run.{Stepped, Comes, IsRun, begun, goes_on}
+use Rattle.roc_protocol.specs.Inner.Given.{LogLaws}
+use Rattle.roc_protocol.proofs.Means.{run_of, Ran, stage, AnswerMeans}
+use Rattle.roc_protocol.specs.Inner.Given.{SerialLaws, StoreLaws}
+use Rattle.roc_protocol.proofs.Firsts.{first_means, found_at}
+use Rattle.roc_protocol.proofs.Worlds.{Submitting, is_refused, is_accepted, submitting, run_submissions, Agrees, agrees_before, IsLogged, step_logged, ordered_submitted}
+
+-- ---- a history grows at its end
+
+pub record Extends (old new : List Entry) : Type 0 where
+  pub more : List Entry
+  pub is : new ≡ old ++ more
+
+by_none : (h : List Entry) → Extends h h
+by_none h = record { more = []; is = sym (append-nil h) }
+
+pub step_extends : (plan : Plan) (w : World) (e : Option Event) (o : Outcome) → Comes plan w e o → Extends w.history o.world.history
+step_extends plan w None o h = subst (λ (o : Outcome). Extends w.history o.world.history) (sym h) (by_none w.history)
+step_extends plan w (Some (Submit n proc args)) o (s, there, h) = go (submitting plan w n proc args s o h)
+  where
+    go : Submitting plan w n proc args s o → Extends w.history o.world.history
+    go (is_refused e) = subst (λ (v : World). Extends w.history v.history) (sym e) (by_none w.history)
+    go (is_accepted known counted e) = subst (λ (v : World). Extends w.history v.history) (sym e) (record { more = Submitted (next_id s) proc args ∷ []; is = refl })
+step_extends plan w (Some (Deliver k)) o (m, some, there, h) = go m.to h
+  where
+    go : (to : Node) → Receives plan (comes w k) m.msg to o → Extends w.history o.world.history
+    go (Server shard) (s, r, at, step, e) = subst (λ (o : Outcome). Extends w.history o.world.history) (sym e) (by_none w.history)
+    go (Coord n) (s, at, e) = subst (λ (o : Outcome). Extends w.history o.world.history) (sym e) (record { more = answer_entries (after_message plan s m.msg).answer; is = refl })
+step_extends plan w (Some (Tick (Server shard))) o (s, there, e) = subst (λ (o : Outcome). Extends w.history o.world.history) (sym e) (by_none w.history)
+step_extends plan w (Some (Tick (Coord n))) o (s, there, e) = subst (λ (o : Outcome). Extends w.history o.world.history) (sym e) (record { more = []; is = refl })
+
+module _ (plan : Plan) (asked : TxnId → whole.Call) (S : Scheme) (is : IsSchemeOf plan asked S) (laws : LogLaws S (start_store plan.program)) (stores : StoreLaws) where
+  pub run_logged : (coords : ℕ) (steps : List Stepped) (w : World) → IsRun plan coords steps w → Agrees asked w.history → (log : Log) × IsLogged plan asked S is laws w log
+  run_logged coords steps w begun agrees = (
+    first_log,
+    record {
+      means = first_means stores plan asked S is coords;
+      began = λ r h. absurd (omega arith);
+      starts = λ m h. absurd h;
+      pending = λ n c e x h. elim (nothing n c e x h) [ ];
+      in_time = λ t u b l. absurd b;
+    },
+  )
+    where
+      nothing : (n : ℕ) (c : CoordState) → slice_get (first_world plan coords).coords n ≡ Some c → (x : _) → Has x c.pending → ⊥
+      nothing n c e x h = subst (λ (c : CoordState). Has x c.pending) (found_at _ 0 coords n c e) h
+  run_logged coords steps w (goes_on {w = v} e o r h) agrees =
+      let x = step_extends plan v e o h in
+      let before = run_logged coords _ v r (agrees_before asked v.history x.more (subst (Agrees asked) x.is agrees)) in
+      step_logged plan asked S is laws v before.0 (run_submissions plan coords _ v r) before.1 e o h agrees
+
+-- ---- replies
+
+same_list : (xs ys : List ℤ) → length xs ≡ length ys → ((at : ℕ) → at < length xs → slice_index_or xs at (pos 0) ≡ slice_index_or ys at (pos 0)) → xs ≡ ys
+same_list [] [] e h = refl
+same_list [] (y ∷ ys) e h = absurd (omega arith)
+same_list (x ∷ xs) [] e h = absurd (omega arith)
+same_list (x ∷ xs) (y ∷ ys) e h = let first = h 0 (omega arith) in let rest = same_list xs ys (omega arith) (λ at l. h (suc at) (omega arith)) in λ i. first i ∷ rest i
+
+calls_are : (asked : TxnId → whole.Call) (h : List Entry) (order : List TxnId) → ((t : TxnId) → Has t order → submitted_call t h ≡ Some (asked t)) → submitted_calls h order ≡ map asked order
+calls_are asked h [] e = refl
+calls_are asked h (t ∷ order) e = let a = e t (inl refl) in let b = calls_are asked h order (λ u k. e u (inr k)) in λ i. cons_option (a i) (b i)
+
+module _ (plan : Plan) (asked : TxnId → whole.Call) (S : Scheme) (is : IsSchemeOf plan asked S) (laws : LogLaws S (start_store plan.program)) (serials : SerialLaws S (start_store plan.program)) where
+  abbrev start : Store
+  start = start_store plan.program
+
+  module _ (w : World) (log : Log) (o : IsLogged plan asked S is laws w log) where
+    i : LogInvariants S start log
+    i = laws.holds log o.means.reached
+
+    gave_same : (r : TxnGroup) → Ran plan asked S start log r → IsListed is_txn log.order r.txn → (stage_behind S.behaviour start (one_by_one S.behaviour log.order)).yielded r ≡ (stage plan asked S start log).yielded r
+    unfolding account_at
+    gave_same r h l =
+        let once = (serials.stand log.order).once i.order.once in
+        let in_turn = (serials.stand log.order).all r l (i.are_groups r (i.ran_started r h)) in
+        yielded_at S.behaviour (one_by_one S.behaviour log.order) (first_stage start) r once in_turn
+        ∙ (ap (λ (a : Account). a.yield) (serials.serial log o.means.reached r h l)
+        ∙ sym (yielded_at S.behaviour log.past.ran (first_stage start) r i.ran_once h))
+
+    reply_same : (t : TxnId) (reply : List ℤ) → AnswerMeans plan asked S start log t reply → (other : List ℤ) → IsWholeReply plan asked S log.order t other → other ≡ reply
+    reply_same t reply a other x =
+        same_list other reply (x.count ∙ sym a.count)
+        (λ at l.
+        let g = a.given at (subst (λ n. at < n) (x.count ∙ sym a.count) l) in
+        let r = run_of t g.group in
+        x.given g.group at (slice_index_or reply at (pos 0)) ((is.groups t g.group).0 (i.are_groups r (i.ran_started r g.ran)))
+        (subst (λ (y : Yield). Has (at, slice_index_or reply at (pos 0)) (zip (outs_of plan (asked t).procedure g.group) y.outs)) (sym (gave_same r g.ran a.ordered)) g.gave))
+
+    pub witness : (calls : (t : TxnId) → WasSubmitted w.history t → submitted_call t w.history ≡ Some (asked t))
+        → ((t : TxnId) → IsListed is_txn log.order t → (reply : List ℤ) × IsWholeReply plan asked S log.order t reply)
+        → IsSerialWitness plan.program w.history w.order
+    witness calls wholes =
+        record {
+          once = subst (NoneTwice is_txn) (sym o.means.order) i.order.once;
+          submitted = ordered_submitted plan asked S is laws w log o;
+          answered = λ t reply h. subst (λ l. IsListed is_txn l t) (sym o.means.order) (o.means.answered t reply h).ordered;
+          replies = λ t reply h.
+              (let a = o.means.answered t reply h in
+              let x = wholes t a.ordered in
+              let same = reply_same t reply a x.0 x.1 in
+              let l : submitted_calls w.history w.order ≡ map asked log.order =
+              calls_are asked w.history w.order (λ u k. calls u (ordered_submitted plan asked S is laws w log o u (has_listed w.order u k))) ∙ ap (map asked) o.means.order in
+              ap (λ cs. reply_in t (serial_run plan.program cs)) l ∙ (x.1.is ∙ ap (λ r. Some r) same));
+          real_time = o.in_time;
+        }

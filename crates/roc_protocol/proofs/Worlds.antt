@@ -1,0 +1,285 @@
+-- Each event keeps what holds in every world
+use Rattle.std.proofs.Common.{◌≡◌, ℕ, ℤ, ◌-◌, ◌<◌, ◌==◌, Bool, true, false, not, List, [], ◌∷◌, ◌++◌, Option, Some, None, length, map, refl, sym, ap, subst, ◌∙◌, ◌⊎◌, inl, inr, arith, append-nil}
+use Rattle.std.proofs.lemmas.Bool.{eqb-true}
+use Rattle.std.proofs.lemmas.Bool.Decides.{nat_tests}
+use Rattle.std.specs.Prelude.{slice_get, if◌then◌else◌, nat_lt, nat_le}
+use Rattle.roc_sequence.specs.Lists.{Has}
+use Rattle.roc_sequence.specs.Places.{IsListed, IsListedBefore}
+use Rattle.roc_sequence.proofs.Members.{has_append, has_one, has_left, has_right, has_at, from_has_map}
+use Rattle.roc_sequence.proofs.Places.{listed_or_not}
+use Rattle.roc_sequence.proofs.Appended.{before_front, before_new}
+use Rattle.roc_base.specs.declared.id.TxnId.{TxnId}
+use Rattle.roc_base.specs.declared.node.Node.{Node}
+use Rattle.roc_base.specs.declared.node.Node.TheVariants.{Server, Coord}
+use Rattle.roc_base.specs.TxnId.{is_txn}
+use Rattle.roc_rows.specs.Store.{Store}
+use Rattle.roc_msg.specs.declared.msg.Msg.{Msg}
+use Rattle.roc_msg.specs.declared.msg.Msg.TheVariants.{Start, StartOk, Commit, CommitOk, Fetch, Known, Stop}
+use Rattle.roc_msg.specs.declared.msg.Sent.{Sent}
+use Rattle.roc_msg.specs.declared.outbox.Outgoing.{Outgoing}
+use Rattle.roc_plan.specs.Groups.{Plan, procedure_of}
+use Rattle.roc_whole.specs.Serial as whole
+use Rattle.roc_whole.specs.Serial.{start_store}
+use Rattle.roc_serial.specs.Behaviour.{TxnGroup}
+use Rattle.roc_execution.specs.Scheme.{Scheme}
+use Rattle.roc_execution.specs.Log.{Log}
+use Rattle.roc_execution.specs.Invariants.{LogInvariants, LogGrows}
+use Rattle.roc_shard.specs.State.{answered, ServerState, ServerStep}
+use Rattle.roc_shard.specs.Step as server
+use Rattle.roc_coordinator.specs.declared.handled.Handled.{Handled}
+use Rattle.roc_coordinator.specs.declared.handled.Handled.TheVariants as answer
+use Rattle.roc_coordinator.specs.declared.handled.SubmitFault.TheVariants as fault
+use Rattle.roc_coordinator.specs.declared.transaction.Transaction.{Transaction}
+use Rattle.roc_coordinator.specs.State.{CoordState}
+use Rattle.roc_coordinator.specs.Step.{after_message}
+use Rattle.roc_coordinator.specs.Submit.{next_id, new_transaction, accepted, refused_or_accepted, after_submit, most_transactions, most_pending}
+use Rattle.roc_coordinator.specs.Tick as coord
+use Rattle.roc_audit.specs.declared.entry.Entry.{Entry}
+use Rattle.roc_audit.specs.declared.entry.Entry.TheVariants.{Submitted, Answered}
+use Rattle.roc_audit.specs.History.{WasSubmitted, WasAnswered, IsAnsweredBefore}
+use Rattle.roc_audit.specs.Order.{noted}
+use Rattle.roc_audit.proofs.Histories.{submitted_front, before_cases, answered_by_before}
+use Rattle.roc_protocol.specs.declared.event.Event.{Event}
+use Rattle.roc_protocol.specs.declared.event.Event.TheVariants.{Submit, Deliver, Tick}
+use Rattle.roc_protocol.specs.Asked.{IsSchemeOf}
+use Rattle.roc_protocol.specs.World.{World, sent_by, comes, at_server, at_coord}
+use Rattle.roc_protocol.specs.Happens.{Outcome, IsSubmissionOf, answer_entries, Receives, Ticks}
+use Rattle.roc_protocol.specs.Run.{Stepped, Comes, IsRun, begun, goes_on}
+use Rattle.roc_protocol.specs.Inner.Given.{LogLaws}
+use Rattle.roc_protocol.proofs.Means.{run_of, Began, Means, WorldMeans}
+use Rattle.roc_protocol.proofs.Changed.{get-set_cases, comes_means}
+use Rattle.roc_protocol.proofs.Served.{StartsAre, IsExplained, message_explained, tick_explained}
+use Rattle.roc_protocol.proofs.NoStarts.{no_starts, no_starts_at_tick}
+use Rattle.roc_protocol.proofs.Coordinated.{IsCoordinated, message_coordinated, tick_coordinated, submission_coordinated}
+use Rattle.roc_protocol.proofs.Submissions.{AreSubmissions, submissions_kept, submissions_message, submissions_more, unused}
+use Rattle.roc_protocol.proofs.Firsts.{first_submissions}
+
+-- ---- what an accepted submission is
+
+-- a submission is refused, or accepted
+pub data Submitting (plan : Plan) (w : World) (n proc : ℕ) (args : List ℤ) (s : CoordState) (o : Outcome) : Type 0 where
+  is_refused : o.world ≡ w → Submitting plan w n proc args s o
+  is_accepted : proc < length plan.program.procedures → length args ≡ (procedure_of plan proc).arguments → o.world ≡ at_coord w n (accepted plan s (new_transaction s proc args)).state (accepted plan s (new_transaction s proc args)).sends (Submitted (next_id s) proc args ∷ []) → Submitting plan w n proc args s o
+
+pub submitting : (plan : Plan) (w : World) (n proc : ℕ) (args : List ℤ) (s : CoordState) (o : Outcome) → IsSubmissionOf w n proc args (after_submit plan s proc args) o → Submitting plan w n proc args s o
+submitting plan w n proc args s o h = procedure (nat_lt proc (length plan.program.procedures)) refl h
+  where
+    free : (b : Bool) → proc < length plan.program.procedures → length args ≡ (procedure_of plan proc).arguments → IsSubmissionOf w n proc args (refused_or_accepted plan s proc args (if b then Some fault.Busy else None)) o → Submitting plan w n proc args s o
+    free true known counted r = is_refused (ap (λ (o : Outcome). o.world) r)
+    free false known counted r = is_accepted known counted (ap (λ (o : Outcome). o.world) r)
+
+    unspent : (b : Bool) → proc < length plan.program.procedures → length args ≡ (procedure_of plan proc).arguments
+        → IsSubmissionOf w n proc args (refused_or_accepted plan s proc args (if b then Some fault.Spent else if nat_le most_pending (length s.pending) then Some fault.Busy else None)) o → Submitting plan w n proc args s o
+    unspent true known counted r = is_refused (ap (λ (o : Outcome). o.world) r)
+    unspent false known counted r = free (nat_le most_pending (length s.pending)) known counted r
+
+    arguments : (b : Bool) → (length args == (procedure_of plan proc).arguments) ≡ b → proc < length plan.program.procedures
+        → IsSubmissionOf w n proc args (refused_or_accepted plan s proc args (if not b then Some fault.Args else if nat_le most_transactions s.next then Some fault.Spent else if nat_le most_pending (length s.pending) then Some fault.Busy else None)) o → Submitting plan w n proc args s o
+    arguments true e known r = unspent (nat_le most_transactions s.next) known (eqb-true (length args) (procedure_of plan proc).arguments e) r
+    arguments false e known r = elim r [ ]
+
+    procedure : (b : Bool) → nat_lt proc (length plan.program.procedures) ≡ b
+        → IsSubmissionOf w n proc args (refused_or_accepted plan s proc args (if not b then Some fault.NoProc else if not (length args == (procedure_of plan proc).arguments) then Some fault.Args else if nat_le most_transactions s.next then Some fault.Spent else if nat_le most_pending (length s.pending) then Some fault.Busy else None)) o → Submitting plan w n proc args s o
+    procedure true e r = arguments (length args == (procedure_of plan proc).arguments) refl (grind (arith, nat_tests)) r
+    procedure false e r = elim r [ ]
+
+-- ---- submissions
+
+pub submissions_step : (plan : Plan) (w : World) → AreSubmissions plan w.history w.coords → (e : Option Event) (o : Outcome) → Comes plan w e o → AreSubmissions plan o.world.history o.world.coords
+submissions_step plan w a None o h = subst (λ (o : Outcome). AreSubmissions plan o.world.history o.world.coords) (sym h) a
+submissions_step plan w a (Some (Submit n proc args)) o (s, there, h) = go (submitting plan w n proc args s o h)
+  where
+    go : Submitting plan w n proc args s o → AreSubmissions plan o.world.history o.world.coords
+    go (is_refused e) = subst (λ (v : World). AreSubmissions plan v.history v.coords) (sym e) a
+    go (is_accepted known counted e) = subst (λ (v : World). AreSubmissions plan v.history v.coords) (sym e) (submissions_more plan w.history w.coords a n s there (accepted plan s (new_transaction s proc args)).state refl refl proc args known counted)
+submissions_step plan w a (Some (Deliver k)) o (m, some, there, h) = go m.to h
+  where
+    go : (to : Node) → Receives plan (comes w k) m.msg to o → AreSubmissions plan o.world.history o.world.coords
+    go (Server shard) (s, r, at, step, e) = subst (λ (o : Outcome). AreSubmissions plan o.world.history o.world.coords) (sym e) a
+    go (Coord n) (s, at, e) = subst (λ (o : Outcome). AreSubmissions plan o.world.history o.world.coords) (sym e) (submissions_message plan w.history w.coords a n s at m.msg)
+submissions_step plan w a (Some (Tick (Server shard))) o (s, there, e) = subst (λ (o : Outcome). AreSubmissions plan o.world.history o.world.coords) (sym e) a
+submissions_step plan w a (Some (Tick (Coord n))) o (s, there, e) = subst (λ (o : Outcome). AreSubmissions plan o.world.history o.world.coords) (sym e) (submissions_kept plan w.history w.coords a n s there s refl (omega arith) [] (λ t p x h. h))
+
+pub run_submissions : (plan : Plan) (coords : ℕ) (steps : List Stepped) (w : World) → IsRun plan coords steps w → AreSubmissions plan w.history w.coords
+run_submissions plan coords steps w begun = first_submissions plan coords
+run_submissions plan coords steps w (goes_on {w = v} e o r h) = submissions_step plan v (run_submissions plan coords _ v r) e o h
+
+-- ---- all of it
+
+-- what is asked is what was submitted
+pub record Agrees (asked : TxnId → whole.Call) (h : List Entry) : Type 0 where
+  pub proc : (t : TxnId) (p : ℕ) (a : List ℤ) → Has (Submitted t p a) h → p ≡ (asked t).procedure
+  pub args : (t : TxnId) (p : ℕ) (a : List ℤ) → Has (Submitted t p a) h → a ≡ (asked t).arguments
+
+pub agrees_before : (asked : TxnId → whole.Call) (h more : List Entry) → Agrees asked (h ++ more) → Agrees asked h
+agrees_before asked h more g = record { proc = λ t p a k. g.proc t p a (has_left (Submitted t p a) h more k); args = λ t p a k. g.args t p a (has_left (Submitted t p a) h more k) }
+
+module _ (plan : Plan) (asked : TxnId → whole.Call) (S : Scheme) (is : IsSchemeOf plan asked S) (laws : LogLaws S (start_store plan.program)) where
+  abbrev start : Store
+  start = start_store plan.program
+
+  pub record IsLogged (w : World) (log : Log) : Type 0 where
+    pub means : WorldMeans plan asked S start log w
+    -- what started, is pending or is to be started was submitted
+    pub began : (r : TxnGroup) → Began plan asked S start log r → WasSubmitted w.history r.txn
+    pub starts : (m : Sent) → Has m w.sent → StartsAre (WasSubmitted w.history) m.msg
+    pub pending : (n : ℕ) (c : CoordState) → slice_get w.coords n ≡ Some c → (x : Transaction) → Has x c.pending → WasSubmitted w.history x.id
+    -- who was answered before another's submission stands before it
+    pub in_time : (t u : TxnId) → IsAnsweredBefore w.history t u → IsListed is_txn w.order u → IsListedBefore is_txn w.order t u
+
+  -- the order has only submitted ones
+  pub ordered_submitted : (w : World) (log : Log) → IsLogged w log → (t : TxnId) → IsListed is_txn w.order t → WasSubmitted w.history t
+  ordered_submitted w log o t h =
+      let i = laws.holds log o.means.reached in
+      o.began (run_of t 0) (i.whole t (subst (λ l. IsListed is_txn l t) o.means.order h) 0 ((is.groups t 0).1 (is.some t)))
+
+  starts_later : (h more : List Entry) (m : Msg) → StartsAre (WasSubmitted h) m → StartsAre (WasSubmitted (h ++ more)) m
+  starts_later h more (Start id proc group args inputs) k = submitted_front h more id k
+  starts_later h more (StartOk id group shard bound outs edges facts) k = tt
+  starts_later h more (Commit id edges facts) k = tt
+  starts_later h more (CommitOk id shard outs) k = tt
+  starts_later h more (Fetch id asker) k = tt
+  starts_later h more (Known id edges) k = tt
+  starts_later h more Stop k = tt
+
+  starts_after : (h : List Entry) (sent : List Sent) (from : Node) (outs : List Outgoing) → ((m : Sent) → Has m sent → StartsAre (WasSubmitted h) m.msg) → ((out : Outgoing) → Has out outs → StartsAre (WasSubmitted h) out.msg) → (m : Sent) → Has m (sent ++ map (sent_by from) outs) → StartsAre (WasSubmitted h) m.msg
+  starts_after h sent from outs f g m k = elim (has_append m sent (map (sent_by from) outs) k) [
+    | inl j ↦ f m j
+    | inr j ↦ (let q = from_has_map (sent_by from) m outs j in subst (λ (m : Sent). StartsAre (WasSubmitted h) m.msg) (sym q.2) (g q.0 q.1))
+  ]
+
+  -- ---- a step of a server
+
+  module _ (w : World) (log : Log) (o : IsLogged w log) where
+    i : LogInvariants S start log
+    i = laws.holds log o.means.reached
+
+    answered_listed : (t : TxnId) (reply : List ℤ) → WasAnswered w.history t reply → IsListed is_txn w.order t
+    answered_listed t reply h = subst (λ l. IsListed is_txn l t) (sym o.means.order) (o.means.answered t reply h).ordered
+
+    -- ---- a step of a server
+
+    served_logged : (n : ℕ) (s : ServerState) (there : slice_get w.servers n ≡ Some s) (r : ServerStep)
+        → IsExplained plan asked S start is laws log w o.means n s there (WasSubmitted w.history) r → ((out : Outgoing) → Has out r.sends → StartsAre (WasSubmitted w.history) out.msg)
+        → (later : Log) × IsLogged (at_server w n r) later
+    served_logged n s there r x none = (
+      x.log,
+      record {
+        means = x.means;
+        began = λ q h. elim (x.began q h) [ inl k ↦ o.began q k | inr k ↦ k ];
+        starts = starts_after w.history w.sent (Server (record { 0 = n })) r.sends o.starts none;
+        pending = o.pending;
+        in_time = λ t u b l. later t u b (listed_or_not is_txn w.order u);
+      },
+    )
+      where
+        g : LogGrows S start log x.log
+        g = laws.grows log x.log i x.steps
+
+        grown : noted w.order r.decided ≡ w.order ++ g.order.0
+        grown = x.means.order ∙ (g.order.1 ∙ ap (λ l. l ++ g.order.0) (sym o.means.order))
+
+        later : (t u : TxnId) → IsAnsweredBefore w.history t u → IsListed is_txn w.order u ⊎ (¬ IsListed is_txn w.order u) → IsListedBefore is_txn (noted w.order r.decided) t u
+        later t u b (inl l) = subst (λ l. IsListedBefore is_txn l t u) (sym grown) (before_front is_txn w.order g.order.0 t u (o.in_time t u b l))
+        later t u b (inr l) =
+            let a = answered_by_before w.history t u b in
+            subst (λ l. IsListedBefore is_txn l t u) (sym grown) (before_new is_txn w.order g.order.0 t u (answered_listed t a.0 a.1) l)
+
+    -- ---- a step of a coordinator
+
+    coordinated_logged : (n : ℕ) (s : CoordState) (there : slice_get w.coords n ≡ Some s) (after : CoordState) (outs : List Outgoing) (tells : List Entry)
+        → IsCoordinated plan asked S start is log i w o.means n s there (WasSubmitted (w.history ++ tells)) (λ x h. submitted_front w.history tells x.id (o.pending n s there x h)) after outs tells
+        → ((t u : TxnId) → IsAnsweredBefore (w.history ++ tells) t u → IsListed is_txn w.order u → IsListedBefore is_txn w.order t u)
+        → IsLogged (at_coord w n after outs tells) log
+    coordinated_logged n s there after outs tells x time =
+        record {
+          means = x.means;
+          began = λ r h. submitted_front w.history tells r.txn (o.began r h);
+          starts = starts_after (w.history ++ tells) w.sent (Coord n) outs (λ m h. starts_later w.history tells m.msg (o.starts m h)) x.starts;
+          pending = λ m c e y h. elim (get-set_cases w.coords n m s after c there e) [
+            | inl k ↦ x.pending y (subst (λ (c : CoordState). Has y c.pending) k.1 h)
+            | inr k ↦ submitted_front w.history tells y.id (o.pending m c k.1 y h)
+          ];
+          in_time = time;
+        }
+
+    -- an answer at the end is before no submission
+    answers_last : (a : Handled) (t u : TxnId) → IsAnsweredBefore (w.history ++ answer_entries a) t u → IsAnsweredBefore w.history t u
+    answers_last a t u b = elim (before_cases w.history (answer_entries a) t u b) [
+      | inl k ↦ k
+      | inr k ↦ elim k [ inl m ↦ absurd (none a u m.2) | inr m ↦ absurd (nobody a t u m) ]
+    ]
+      where
+        none : (a : Handled) (u : TxnId) → ¬ WasSubmitted (answer_entries a) u
+        none (answer.Answered id reply) u (p, x, inl e) = absurd (cc)
+        none (answer.Answered id reply) u (p, x, inr e) = e
+        none answer.Done u (p, x, e) = e
+        none (answer.Ignored why) u (p, x, e) = e
+
+        nobody : (a : Handled) (t u : TxnId) → ¬ IsAnsweredBefore (answer_entries a) t u
+        nobody (answer.Answered id reply) t u (inl (r, e, s)) = s.2
+        nobody (answer.Answered id reply) t u (inr b) = b
+        nobody answer.Done t u b = b
+        nobody (answer.Ignored why) t u b = b
+
+    -- ---- any event
+
+    pub comes_logged : (k : ℕ) → IsLogged (comes w k) log
+    comes_logged k = record { means = comes_means plan asked S start is log w k o.means; began = o.began; starts = o.starts; pending = o.pending; in_time = o.in_time }
+
+    tick_logged : (node : Node) (v : Outcome) → Ticks plan w node v → (later : Log) × IsLogged v.world later
+    tick_logged (Server shard) v (s, there, e) = subst (λ (v : Outcome). (later : Log) × IsLogged v.world later) (sym e)
+        (served_logged shard.0 s there (answered s (server.tick_sends s)) (tick_explained plan asked S start is laws log w o.means shard.0 s there (WasSubmitted w.history)) (no_starts_at_tick plan s (WasSubmitted w.history)))
+    tick_logged (Coord n) v (s, there, e) = subst (λ (v : Outcome). (later : Log) × IsLogged v.world later) (sym e)
+        (log, coordinated_logged n s there s (coord.tick_sends plan s) [] (tick_coordinated plan asked S start is log i w o.means n s there (WasSubmitted (w.history ++ [])) (λ x h. submitted_front w.history [] x.id (o.pending n s there x h))) (λ t u b. o.in_time t u (subst (λ h. IsAnsweredBefore h t u) (append-nil w.history) b)))
+
+    receive_logged : (m : Msg) (to : Node) (v : Outcome) → Means plan asked S start log m to → StartsAre (WasSubmitted w.history) m → Receives plan w m to v → (later : Log) × IsLogged v.world later
+    receive_logged m (Server shard) v k f (s, r, there, step, e) = subst (λ (v : Outcome). (later : Log) × IsLogged v.world later) (sym e)
+        (served_logged shard.0 s there r (message_explained plan asked S start is laws log w o.means shard.0 s there (WasSubmitted w.history) m r step k f)
+        (subst (λ (r : ServerStep). (out : Outgoing) → Has out r.sends → StartsAre (WasSubmitted w.history) out.msg) (sym step.is) (no_starts plan s (WasSubmitted w.history) step.findings m)))
+    receive_logged m (Coord n) v k f (s, there, e) =
+        let a = (after_message plan s m).answer in
+        subst (λ (v : Outcome). (later : Log) × IsLogged v.world later) (sym e) (
+          log,
+          coordinated_logged n s there (after_message plan s m).state (after_message plan s m).sends (answer_entries a)
+              (message_coordinated plan asked S start is log i w o.means n s there (WasSubmitted (w.history ++ answer_entries a)) (λ x h. submitted_front w.history (answer_entries a) x.id (o.pending n s there x h)) m (Coord n) k)
+              (λ t u b l. o.in_time t u (answers_last a t u b) l),
+        )
+
+    submit_logged : AreSubmissions plan w.history w.coords → (n proc : ℕ) (args : List ℤ) (s : CoordState) → slice_get w.coords n ≡ Some s → (v : Outcome) → Submitting plan w n proc args s v → Agrees asked v.world.history → (later : Log) × IsLogged v.world later
+    submit_logged a n proc args s there v (is_refused e) agrees = subst (λ (v : World). (later : Log) × IsLogged v later) (sym e) (log, o)
+    submit_logged a n proc args s there v (is_accepted known counted e) agrees =
+        let more = Submitted (next_id s) proc args ∷ [] in
+        let mine : Has (Submitted (next_id s) proc args) (w.history ++ more) = has_right (Submitted (next_id s) proc args) w.history more (inl refl) in
+        let g : Agrees asked (w.history ++ more) = subst (λ (v : World). Agrees asked v.history) e agrees in
+        let x = new_transaction s proc args in
+        subst (λ (v : World). (later : Log) × IsLogged v later) (sym e) (
+          log,
+          coordinated_logged n s there (accepted plan s x).state (accepted plan s x).sends more
+              (submission_coordinated plan asked S start is log i w o.means n s there (WasSubmitted (w.history ++ more)) (λ y h. submitted_front w.history more y.id (o.pending n s there y h)) proc args more (none (next_id s) proc args) (g.proc (next_id s) proc args mine) (g.args (next_id s) proc args mine) (proc, args, mine))
+              (λ t u b l. time t u l (before_cases w.history more t u b)),
+        )
+      where
+        none : (id : TxnId) (proc : ℕ) (args : List ℤ) (t : TxnId) (reply : List ℤ) → ¬ Has (Answered t reply) (Submitted id proc args ∷ [])
+        none id proc args t reply (inl e) = absurd (cc)
+        none id proc args t reply (inr e) = e
+
+        time : (t u : TxnId) → IsListed is_txn w.order u
+            → IsAnsweredBefore w.history t u ⊎ (((reply : List ℤ) × WasAnswered w.history t reply × WasSubmitted (Submitted (next_id s) proc args ∷ []) u) ⊎ IsAnsweredBefore (Submitted (next_id s) proc args ∷ []) t u)
+            → IsListedBefore is_txn w.order t u
+        time t u l (inl b) = o.in_time t u b l
+        time t u l (inr (inl (reply, was, (p, x, h)))) =
+            let e = has_one (Submitted u p x) (Submitted (next_id s) proc args) h in
+            let same : u ≡ next_id s = cc in
+            let q = ordered_submitted w log o u l in
+            absurd (unused plan w.history w.coords a n s there q.0 q.1 (subst (λ u. Has (Submitted u q.0 q.1) w.history) same q.2))
+        time t u l (inr (inr (inl (reply, e, was)))) = absurd (was.2)
+        time t u l (inr (inr (inr b))) = absurd b
+
+  pub step_logged : (w : World) (log : Log) → AreSubmissions plan w.history w.coords → IsLogged w log → (e : Option Event) (v : Outcome) → Comes plan w e v → Agrees asked v.world.history → (later : Log) × IsLogged v.world later
+  step_logged w log a o None v h agrees = subst (λ (v : Outcome). (later : Log) × IsLogged v.world later) (sym h) (log, o)
+  step_logged w log a o (Some (Submit n proc args)) v (s, there, h) agrees = submit_logged w log o a n proc args s there v (submitting plan w n proc args s v h) agrees
+  step_logged w log a o (Some (Deliver k)) v (m, some, there, h) agrees =
+      let has = has_at w.sent (k - 1) m there in
+      receive_logged (comes w k) log (comes_logged w log o k) m.msg m.to v (o.means.messages m has) (o.starts m has) h
+  step_logged w log a o (Some (Tick node)) v h agrees = tick_logged w log o node v h

@@ -1,0 +1,25 @@
+use Rattle.roc_protocol.proofs.laws.machine_laws.Goals as goal
+
+pub returns-clause-log : goal.returns-clause-log
+returns-clause-log c S start sound =
+    record {
+      holds = λ log r. c.logs_keep_invariants.ensures.reached S start log sound r;
+      grows = λ log later i s. c.logs_grow.ensures S start log later sound i s;
+      one_class = λ log i q r k. c.conflicts_are_on_one_shard.ensures.class S start log sound i q r k;
+      one_shard = λ log i q r k. c.conflicts_are_on_one_shard.ensures.shard S start log sound i q r k;
+      elsewhere = c.stores_are_shared_out.ensures.elsewhere S sound;
+      same = c.stores_are_shared_out.ensures.same S sound;
+      cells = c.stores_are_shared_out.ensures.cells S sound;
+      taken = λ log i s edge now members all. c.component_order_is_taken.ensures S start log i s edge now members all;
+    }
+
+pub returns-clause-serial : goal.returns-clause-serial
+returns-clause-serial c S start sound =
+    record {
+      agree = λ log r. c.shards_agree.ensures.order S start log sound r;
+      serial = λ log r. c.executions_are_serial.ensures S start log sound r;
+      stand = λ order. c.groups_stand_one_by_one.ensures S.behaviour order sound.lawful;
+    }
+
+pub returns-clause-stores : goal.returns-clause-stores
+returns-clause-stores c = record { same = c.reads_after_writes.ensures.same; other = c.reads_after_writes.ensures.other }

@@ -1,0 +1,97 @@
+-- What comes of an event: docs/PROTOCOL.md, "World"
+use Rattle.std.specs.Prelude.{◌≡◌, ℕ, ℤ, ◌-◌, ◌<◌, List, [], ◌∷◌, Some, Result, Ok, Err, slice_get}
+use Rattle.roc_base.specs.declared.id.TxnId.{TxnId}
+use Rattle.roc_base.specs.declared.node.Node.{Node}
+use Rattle.roc_base.specs.declared.node.Node.TheVariants.{Server, Coord}
+use Rattle.roc_msg.specs.declared.msg.Msg.{Msg}
+use Rattle.roc_msg.specs.declared.msg.Sent.{Sent}
+use Rattle.roc_msg.specs.declared.outbox.Outgoing.{Outgoing}
+use Rattle.roc_plan.specs.Groups.{Plan}
+use Rattle.roc_shard.specs.declared.handled.Handled.{Handled as ServerHandled}
+use Rattle.roc_shard.specs.declared.handled.Handled.TheVariants as server_answer
+use Rattle.roc_shard.specs.State.{answered, ServerState, ServerStep}
+use Rattle.roc_shard.specs.Step as server
+use Rattle.roc_coordinator.specs.declared.handled.Handled.{Handled as CoordHandled}
+use Rattle.roc_coordinator.specs.declared.handled.Handled.TheVariants as coord_answer
+use Rattle.roc_coordinator.specs.declared.handled.SubmitFault.{SubmitFault}
+use Rattle.roc_coordinator.specs.declared.handled.SubmitFault.TheVariants as fault
+use Rattle.roc_coordinator.specs.State.{CoordState, CoordStep}
+use Rattle.roc_coordinator.specs.Step.{after_message}
+use Rattle.roc_coordinator.specs.Submit.{Submission, after_submit}
+use Rattle.roc_coordinator.specs.Tick as coord
+use Rattle.roc_audit.specs.declared.entry.Entry.{Entry}
+use Rattle.roc_audit.specs.declared.entry.Entry.TheVariants as entry
+use Rattle.roc_protocol.specs.declared.event.Event.{Event}
+use Rattle.roc_protocol.specs.declared.event.Event.TheVariants.{Submit, Deliver, Tick}
+use Rattle.roc_protocol.specs.declared.event.Seen.{Seen}
+use Rattle.roc_protocol.specs.declared.event.Seen.TheVariants as seen
+use Rattle.roc_protocol.specs.World.{World, comes, at_server, at_coord}
+
+-- what is seen of an event, the transactions newly decided, in the order in which they were taken, and the world after it
+pub record Outcome : Type 0 where
+  pub seen : Seen
+  pub decided : List TxnId
+  pub world : World
+
+-- a node of which nothing was decided
+abbrev pub undecided : Seen → World → Outcome
+undecided what w = record { seen = what; decided = []; world = w }
+
+-- ---- a submission
+
+-- what comes of a submission at a coordinator: refused as spent or busy it changes nothing, and it is refused for nothing else
+abbrev pub Submits : World → (number proc : ℕ) → List ℤ → CoordState → List Outgoing → Result TxnId SubmitFault → Outcome → Type 0
+Submits w number proc args after outs (Ok id) o = o ≡ undecided (seen.Submitted id) (at_coord w number after outs (entry.Submitted id proc args ∷ []))
+Submits w number proc args after outs (Err fault.Spent) o = o ≡ undecided seen.Spent w
+Submits w number proc args after outs (Err fault.Busy) o = o ≡ undecided seen.Busy w
+Submits w number proc args after outs (Err fault.Stopped) o = ⊥
+Submits w number proc args after outs (Err fault.NoProc) o = ⊥
+Submits w number proc args after outs (Err fault.Args) o = ⊥
+Submits w number proc args after outs (Err fault.NoMemory) o = ⊥
+
+abbrev pub IsSubmissionOf : World → (number proc : ℕ) → List ℤ → Submission → Outcome → Type 0
+IsSubmissionOf w number proc args s o = Submits w number proc args s.state s.sends s.answer o
+
+-- ---- a delivery
+
+abbrev pub server_seen : ServerHandled → Seen
+server_seen server_answer.Done = seen.Done
+server_seen (server_answer.Ignored reason) = seen.Ignored reason
+
+abbrev pub coord_seen : CoordHandled → Seen
+coord_seen coord_answer.Done = seen.Done
+coord_seen (coord_answer.Answered id reply) = seen.Answered id reply
+coord_seen (coord_answer.Ignored reason) = seen.Ignored reason
+
+-- an answer is what the history gains
+abbrev pub answer_entries : CoordHandled → List Entry
+answer_entries (coord_answer.Answered id reply) = entry.Answered id reply ∷ []
+answer_entries coord_answer.Done = []
+answer_entries (coord_answer.Ignored reason) = []
+
+-- a server took a message in this world
+abbrev pub served : World → (shard : ℕ) → ServerStep → Outcome
+served w shard r = record { seen = server_seen r.answer; decided = r.decided; world = at_server w shard r }
+
+-- a coordinator did
+abbrev pub coordinated : World → (number : ℕ) → CoordStep → Outcome
+coordinated w number r = undecided (coord_seen r.answer) (at_coord w number r.state r.sends (answer_entries r.answer))
+
+-- a message comes to a node of this world, whose state changes by the node's step
+abbrev pub Receives : Plan → World → Msg → Node → Outcome → Type 0
+Receives plan w msg (Server shard) o = (s : ServerState) × (r : ServerStep) × (slice_get w.servers shard.0 ≡ Some s) × server.Handles plan s msg r × (o ≡ served w shard.0 r)
+Receives plan w msg (Coord number) o = (s : CoordState) × (slice_get w.coords number ≡ Some s) × (o ≡ coordinated w number (after_message plan s msg))
+
+-- ---- a tick: it changes no state
+
+abbrev pub Ticks : Plan → World → Node → Outcome → Type 0
+Ticks plan w (Server shard) o = (s : ServerState) × (slice_get w.servers shard.0 ≡ Some s) × (o ≡ served w shard.0 (answered s (server.tick_sends s)))
+Ticks plan w (Coord number) o = (s : CoordState) × (slice_get w.coords number ≡ Some s) × (o ≡ undecided seen.Done (at_coord w number s (coord.tick_sends plan s) []))
+
+-- ---- any event
+
+-- o is what comes of an event
+abbrev pub Happens : Plan → World → Event → Outcome → Type 0
+Happens plan w (Submit number proc args) o = (s : CoordState) × (slice_get w.coords number ≡ Some s) × IsSubmissionOf w number proc args (after_submit plan s proc args) o
+Happens plan w (Deliver k) o = (m : Sent) × (0 < k) × (slice_get w.sent (k - 1) ≡ Some m) × Receives plan (comes w k) m.msg m.to o
+Happens plan w (Tick node) o = Ticks plan w node o

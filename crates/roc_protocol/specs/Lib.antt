@@ -1,0 +1,8 @@
+pub mod World
+pub mod Happens
+pub mod Run
+pub mod Fits
+pub mod Quiet
+pub mod Final
+pub mod Asked
+pub mod Inner

@@ -1,0 +1,41 @@
+-- Transactions all of whose messages were delivered: docs/PROTOCOL.md, "Quiet transactions"
+use Rattle.std.specs.Prelude.{◌≡◌, ℕ, ℤ, suc, List, Some, slice_get}
+use Rattle.roc_sequence.specs.Lists.{Has}
+use Rattle.roc_base.specs.declared.id.TxnId.{TxnId}
+use Rattle.roc_base.specs.declared.node.Shard.{Shard}
+use Rattle.roc_base.specs.Edge.{Dependency}
+use Rattle.roc_depgraph.specs.declared.known.KnownList.{KnownList}
+use Rattle.roc_depgraph.specs.Reach.{ReachesOrIs}
+use Rattle.roc_msg.specs.declared.msg.Msg.TheVariants.{StartOk}
+use Rattle.roc_msg.specs.declared.msg.Sent.{Sent}
+use Rattle.roc_msg.specs.Msg.{id_of}
+use Rattle.roc_protocol.specs.World.{World}
+
+-- a startok in the network: of this group of this transaction, with these edges and facts
+pub record IsToldIn (sent : List Sent) (t : TxnId) (group : ℕ) (edges : List Dependency) (facts : List KnownList) : Type 0 where
+  pub message : Sent
+  pub has : Has message sent
+  pub shard : Shard
+  pub bound : List ℤ
+  pub outs : List ℤ
+  pub is : message.msg ≡ StartOk t group shard bound outs edges facts
+
+-- a startok of t in the network lists u
+pub record PrecedesIn (sent : List Sent) (u t : TxnId) : Type 0 where
+  pub group : ℕ
+  pub edges : List Dependency
+  pub facts : List KnownList
+  pub told : IsToldIn sent t group edges facts
+  pub entry : Dependency
+  pub listed : Has entry edges
+  pub from : entry.from ≡ u
+
+-- message k was delivered at least once
+abbrev pub WasDelivered : World → ℕ → Type 0
+WasDelivered w k = ¬ Has k w.undelivered
+
+-- every message of t, or of an ancestor of it by startoks in the network, was delivered
+pub record IsQuiet (w : World) (t : TxnId) : Type 0 where
+  pub each :
+      (k : ℕ) (m : Sent) (u : TxnId) → slice_get w.sent k ≡ Some m → id_of m.msg ≡ Some u → ReachesOrIs (PrecedesIn w.sent) u t
+      → WasDelivered w (suc k)

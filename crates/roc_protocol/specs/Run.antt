@@ -1,0 +1,37 @@
+-- Runs of the world: docs/PROTOCOL.md, "World"
+use Rattle.std.specs.Prelude.{◌≡◌, ℕ, ◌<◌, ◌≤◌, List, [], ◌∷◌, ◌++◌, Option, Some, None, length}
+use Rattle.roc_base.specs.declared.node.Node.{Node}
+use Rattle.roc_base.specs.declared.node.Node.TheVariants.{Server, Coord}
+use Rattle.roc_plan.specs.Groups.{Plan, procedure_of}
+use Rattle.roc_protocol.specs.declared.event.Event.{Event}
+use Rattle.roc_protocol.specs.declared.event.Event.TheVariants.{Submit, Deliver, Tick}
+use Rattle.roc_protocol.specs.declared.event.Seen.TheVariants as seen
+use Rattle.roc_protocol.specs.World.{World, first_world}
+use Rattle.roc_protocol.specs.Happens.{Outcome, undecided, Happens}
+
+-- an event with what came of it; no event, where a choice among no messages did nothing
+pub record Stepped : Type 0 where
+  pub event : Option Event
+  pub outcome : Outcome
+
+-- what comes of an event, or of none
+abbrev pub Comes : Plan → World → Option Event → Outcome → Type 0
+Comes plan w (Some e) o = Happens plan w e o
+Comes plan w None o = o ≡ undecided seen.Done w
+
+-- the steps lead from the first world to w
+pub data IsRun (plan : Plan) (coords : ℕ) : List Stepped → World → Type 0 where
+  begun : IsRun plan coords [] (first_world plan coords)
+  goes_on : {steps : List Stepped} {w : World} (e : Option Event) (o : Outcome) → IsRun plan coords steps w → Comes plan w e o → IsRun plan coords (steps ++ (record { event = e; outcome = o }) ∷ []) o.world
+
+-- the node is one of the world's
+abbrev pub IsNodeOf : World → Node → Type 0
+IsNodeOf w (Server shard) = shard.0 < length w.servers
+IsNodeOf w (Coord number) = number < length w.coords
+
+-- the event may happen in w: the coordinator and the procedure exist and the count of arguments fits; or the message was sent; or the
+-- node is there
+abbrev pub IsEventOf : Plan → World → Event → Type 0
+IsEventOf plan w (Submit number proc args) = (number < length w.coords) × (proc < length plan.program.procedures) × (length args ≡ (procedure_of plan proc).arguments)
+IsEventOf plan w (Deliver k) = (0 < k) × (k ≤ length w.sent)
+IsEventOf plan w (Tick node) = IsNodeOf w node

@@ -1,0 +1,159 @@
+//! What holds in every world of every run, whatever the network loses, repeats or reorders. Each law is the contract of a function that
+//! does nothing.
+ghost use Rattle.std.specs.Prelude.{◌≡◌, ◌⊎◌, ℕ, ℤ, ◌-◌, ◌<◌, ◌≤◌, List, Option, Some, None, length, map, slice_get};
+ghost use Rattle.roc_sequence.specs.Lists.{Has};
+ghost use Rattle.roc_sequence.specs.Places.{IsListed, IsListedBefore};
+ghost use Rattle.roc_base.specs.declared.id.TxnId.{TxnId};
+ghost use Rattle.roc_base.specs.declared.node.Shard.{Shard};
+ghost use Rattle.roc_base.specs.declared.node.Node.TheVariants as node;
+ghost use Rattle.roc_base.specs.TxnId.{is_txn};
+ghost use Rattle.roc_base.specs.Edge.{Dependency};
+ghost use Rattle.roc_depgraph.specs.declared.known.KnownList.{KnownList};
+ghost use Rattle.roc_depgraph.specs.Deps.{Precedes, IsAncestor, IsDecided};
+ghost use Rattle.roc_component.specs.Components.{Mates};
+ghost use Rattle.roc_coordinator.specs.State.{CoordState};
+ghost use Rattle.roc_coordinator.specs.Submit.{most_transactions, most_pending};
+ghost use Rattle.roc_msg.specs.declared.msg.Sent.{Sent};
+ghost use Rattle.roc_msg.specs.declared.msg.Msg.TheVariants as msg;
+ghost use Rattle.roc_msg.specs.declared.reason.Reason.{Reason};
+ghost use Rattle.roc_msg.specs.declared.reason.Reason.TheVariants as reason;
+ghost use Rattle.roc_msg.specs.declared.msg.Msg.{Msg};
+ghost use Rattle.roc_shard.specs.State.{find_group, ServerState, ServerStep};
+ghost use Rattle.roc_shard.specs.Step.{Handles};
+ghost use Rattle.roc_execution.specs.Invariants.{Continues};
+ghost use Rattle.roc_protocol.specs.declared.event.Event.{Event};
+ghost use Rattle.roc_protocol.specs.declared.event.Event.TheVariants as event;
+ghost use Rattle.roc_protocol.specs.declared.event.Seen.TheVariants as seen;
+ghost use Rattle.roc_protocol.specs.Happens.{Outcome, Happens};
+ghost use Rattle.roc_plan.specs.Groups.{Plan};
+ghost use Rattle.roc_audit.specs.Witness.{IsSerialWitness};
+ghost use Rattle.roc_rows.specs.Store.{Store};
+ghost use Rattle.roc_execution.specs.Scheme.{Scheme, IsSoundScheme};
+ghost use Rattle.roc_protocol.specs.Inner.Given.{LogLaws, SerialLaws, StoreLaws};
+ghost use Rattle.roc_protocol.specs.Asked.{HasSchemes};
+ghost use Rattle.roc_protocol.specs.Final.{lists_in, IsFinalIn};
+ghost use Rattle.roc_protocol.specs.World.{World};
+ghost use Rattle.roc_protocol.specs.Run.{Stepped, Comes, IsRun};
+
+use roc_execution::laws::{
+    component_order_is_taken, conflicts_are_on_one_shard, executions_are_serial, logs_grow,
+    logs_keep_invariants, shards_agree, stores_are_shared_out,
+};
+use roc_rows::laws::reads_after_writes;
+use roc_serial::laws::groups_stand_one_by_one;
+use roc_shard::laws::step_is_one as server_step_is_one;
+
+// What the laws below rest on.
+fn machine_laws()
+    ensures log { (S : Scheme) (start : Store) → IsSoundScheme S → LogLaws S start }
+    ensures serial { (S : Scheme) (start : Store) → IsSoundScheme S → SerialLaws S start }
+    ensures stores { StoreLaws }
+{
+    logs_keep_invariants();
+    logs_grow();
+    conflicts_are_on_one_shard();
+    stores_are_shared_out();
+    component_order_is_taken();
+    executions_are_serial();
+    shards_agree();
+    groups_stand_one_by_one();
+    reads_after_writes();
+}
+
+/// In every world the serial order explains the history: it holds each transaction once, only submitted ones and each answered one; each
+/// answered transaction has the reply that it has where the order's transactions run whole, one after another; and who was answered
+/// before another's submission stands before it.
+pub fn order_is_serial()
+    ensures { (plan : Plan) (coords : ℕ) (steps : List Stepped) (w : World) → HasSchemes plan → IsRun plan coords steps w → IsSerialWitness plan.program w.history w.order }
+{
+    machine_laws();
+}
+
+/// What a start leaves out is earlier: what is decided on a server stands in the serial order already, and a transaction of which a group
+/// is to start there does not. The order only grows at its end.
+pub fn left_out_is_earlier()
+    ensures decided { (plan : Plan) (coords : ℕ) (steps : List Stepped) (w : World) → HasSchemes plan → IsRun plan coords steps w
+        → (shard : Shard) (s : ServerState) → slice_get w.servers shard.0 ≡ Some s → (t : TxnId) → IsDecided s.lists.known t → IsListed is_txn w.order t }
+    ensures starting { (plan : Plan) (coords : ℕ) (steps : List Stepped) (w : World) → HasSchemes plan → IsRun plan coords steps w
+        → (shard : Shard) (s : ServerState) → slice_get w.servers shard.0 ≡ Some s
+        → (m : Sent) → Has m w.sent → m.to ≡ node.Server shard → (id : TxnId) (proc group : ℕ) (args inputs : List ℤ) → m.msg ≡ msg.Start id proc group args inputs
+        → find_group id group s.started ≡ None → ¬ IsListed is_txn w.order id }
+    ensures grows { (plan : Plan) (w : World) (e : Option Event) (o : Outcome) → Comes plan w e o → Continues w.order o.world.order }
+{
+    machine_laws();
+}
+
+/// Lists are final: each list that a server knows, or that a commit, a known or a fact carries, is the union of what the startoks of all
+/// groups of its transaction tell, which are in the network; and two startoks of one group are equal.
+pub fn lists_are_final()
+    ensures known { (plan : Plan) (coords : ℕ) (steps : List Stepped) (w : World) → HasSchemes plan → IsRun plan coords steps w
+        → (shard : Shard) (s : ServerState) → slice_get w.servers shard.0 ≡ Some s → (k : KnownList) → Has k s.lists.known → IsFinalIn plan w k.of k.edges }
+    ensures carried { (plan : Plan) (coords : ℕ) (steps : List Stepped) (w : World) → HasSchemes plan → IsRun plan coords steps w
+        → (m : Sent) → Has m w.sent → (k : KnownList) → Has k (lists_in m.msg) → IsFinalIn plan w k.of k.edges }
+    ensures one { (plan : Plan) (coords : ℕ) (steps : List Stepped) (w : World) → HasSchemes plan → IsRun plan coords steps w
+        → (m other : Sent) → Has m w.sent → Has other w.sent
+        → (t : TxnId) (g : ℕ) (shard at : Shard) (bound outs values gave : List ℤ) (edges entries : List Dependency) (facts lists : List KnownList)
+        → m.msg ≡ msg.StartOk t g shard bound outs edges facts → other.msg ≡ msg.StartOk t g at values gave entries lists → m.msg ≡ other.msg }
+{
+    machine_laws();
+}
+
+/// No message is refused: a server takes each message that comes, and a coordinator ignores only one that was answered before or is of a
+/// transaction that has its reply.
+pub fn nothing_is_refused()
+    ensures servers { (plan : Plan) (coords : ℕ) (steps : List Stepped) (w : World) → HasSchemes plan → IsRun plan coords steps w
+        → (k : ℕ) (m : Sent) (shard : Shard) (o : Outcome) → slice_get w.sent (k - 1) ≡ Some m → m.to ≡ node.Server shard
+        → Happens plan w (event.Deliver k) o → o.seen ≡ seen.Done }
+    ensures coordinators { (plan : Plan) (coords : ℕ) (steps : List Stepped) (w : World) → HasSchemes plan → IsRun plan coords steps w
+        → (k : ℕ) (o : Outcome) (why : Reason) → Happens plan w (event.Deliver k) o → o.seen ≡ seen.Ignored why → why ≡ reason.Stale }
+{
+    machine_laws();
+}
+
+/// A submission is refused only as spent or busy: spent exactly where the coordinator has submitted as many transactions as it may, and
+/// busy exactly where it has not and as many are pending as may be.
+pub fn submissions_are_taken()
+    ensures spent { (plan : Plan) (w : World) (coord proc : ℕ) (args : List ℤ) (c : CoordState) (o : Outcome) → slice_get w.coords coord ≡ Some c
+        → Happens plan w (event.Submit coord proc args) o → (o.seen ≡ seen.Spent → most_transactions ≤ c.next) × (most_transactions ≤ c.next → o.seen ≡ seen.Spent) }
+    ensures busy { (plan : Plan) (w : World) (coord proc : ℕ) (args : List ℤ) (c : CoordState) (o : Outcome) → slice_get w.coords coord ≡ Some c
+        → Happens plan w (event.Submit coord proc args) o
+        → (o.seen ≡ seen.Busy → (c.next < most_transactions) × (most_pending ≤ length c.pending)) × (c.next < most_transactions → most_pending ≤ length c.pending → o.seen ≡ seen.Busy) }
+    ensures taken { (plan : Plan) (w : World) (coord proc : ℕ) (args : List ℤ) (c : CoordState) (o : Outcome) → slice_get w.coords coord ≡ Some c
+        → Happens plan w (event.Submit coord proc args) o
+        → c.next < most_transactions → length c.pending < most_pending → o.seen ≡ seen.Submitted (record { coord = c.number; seq = c.next }) }
+{}
+
+/// Two servers that both decided a transaction know the same ancestors and the same component of it. And each server takes transactions
+/// in the serial order, as far as one is an ancestor of the other: what was decided before an event, and what the event decides, in its
+/// order.
+pub fn servers_agree()
+    ensures ancestors { (plan : Plan) (coords : ℕ) (steps : List Stepped) (w : World) → HasSchemes plan → IsRun plan coords steps w
+        → (shard other : Shard) (s v : ServerState) → slice_get w.servers shard.0 ≡ Some s → slice_get w.servers other.0 ≡ Some v
+        → (u t : TxnId) → IsDecided s.lists.known t → IsDecided v.lists.known t → IsAncestor s.lists.known u t → IsAncestor v.lists.known u t }
+    ensures components { (plan : Plan) (coords : ℕ) (steps : List Stepped) (w : World) → HasSchemes plan → IsRun plan coords steps w
+        → (shard other : Shard) (s v : ServerState) → slice_get w.servers shard.0 ≡ Some s → slice_get w.servers other.0 ≡ Some v
+        → (t u : TxnId) → IsDecided s.lists.known t → IsDecided v.lists.known t → Mates (Precedes s.lists.known) t u → Mates (Precedes v.lists.known) t u }
+    ensures order { (plan : Plan) (coords : ℕ) (steps : List Stepped) (w : World) → HasSchemes plan → IsRun plan coords steps w
+        → (k : ℕ) (m : Sent) (shard : Shard) (s v : ServerState) (o : Outcome) → slice_get w.sent (k - 1) ≡ Some m → m.to ≡ node.Server shard
+        → slice_get w.servers shard.0 ≡ Some s → Happens plan w (event.Deliver k) o → slice_get o.world.servers shard.0 ≡ Some v
+        → (a b : TxnId) → IsAncestor v.lists.known a b ⊎ IsAncestor v.lists.known b a
+        → (IsDecided s.lists.known a × IsListed is_txn o.decided b) ⊎ (IsListed is_txn o.decided b × IsListedBefore is_txn o.decided a b)
+        → IsListedBefore is_txn o.world.order a b }
+{
+    machine_laws();
+}
+
+/// What comes of an event in a world is one: what is seen, what is newly decided, and the world after it.
+pub fn step_is_one()
+    ensures { (plan : Plan) (w : World) (e : Option Event) (o other : Outcome) → Comes plan w e o → Comes plan w e other → o ≡ other }
+{
+    server_step_is_one();
+}
+
+/// Of a list of events there is one run: two runs with these events have the same steps, and lead to the same world.
+pub fn run_is_one()
+    ensures { (plan : Plan) (coords : ℕ) (steps others : List Stepped) (w v : World) → IsRun plan coords steps w → IsRun plan coords others v
+        → map (λ s. s.event) steps ≡ map (λ s. s.event) others → (steps ≡ others) × (w ≡ v) }
+{
+    server_step_is_one();
+}

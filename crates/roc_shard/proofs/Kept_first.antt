@@ -1,0 +1,31 @@
+-- A server that keeps nothing but cells
+use Rattle.std.proofs.Common.{◌≡◌, List, [], sym, subst, arith}
+use Rattle.std.proofs.lemmas.Bool.{false≢true}
+use Rattle.std.specs.List.Sorted.{IsStrictlySortedBy}
+use Rattle.roc_sequence.specs.Places.{IsListed, NoneTwice}
+use Rattle.roc_base.specs.declared.id.TxnId.{TxnId}
+use Rattle.roc_base.specs.TxnId.{is_txn, txn_cmp}
+use Rattle.roc_depgraph.specs.declared.known.KnownList.{KnownList}
+use Rattle.roc_depgraph.specs.Deps.{IsDecided}
+use Rattle.roc_shard.specs.declared.kept.Kept.{Kept}
+use Rattle.roc_shard.specs.Inner.Kept.{IsConsistent, is_same_group}
+
+pub none_rise : IsStrictlySortedBy txn_cmp []
+unfolding IsStrictlySortedBy
+none_rise = tt
+
+none_decided : (t : TxnId) → ¬ IsDecided [] t
+none_decided t d = false≢true d.own
+
+unlisted_none : (t : TxnId) → ¬ IsListed is_txn [] t
+unlisted_none t l = omega arith
+
+pub nothing_sound : (k : Kept) → k.started.items ≡ [] → k.deps ≡ [] → k.decided ≡ [] → IsConsistent k
+nothing_sound k started deps decided =
+    let once : NoneTwice is_same_group [] = tt in
+    record {
+      groups_once = subst (NoneTwice is_same_group) (sym started) once;
+      decided_rising = subst (IsStrictlySortedBy txn_cmp) (sym decided) none_rise;
+      decided_only = λ t l. absurd (unlisted_none t (subst (λ (ids : List TxnId). IsListed is_txn ids t) decided l));
+      decided_all = λ t d. absurd (none_decided t (subst (λ (ks : List KnownList). IsDecided ks t) deps d));
+    }

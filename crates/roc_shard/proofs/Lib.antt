@@ -1,0 +1,15 @@
+mod Commit_steps
+mod Dropped_askers
+mod First_cells
+mod Group_runs
+mod Kept_first
+mod Learnable
+mod Led_search
+mod Message_steps
+mod One_step
+mod Rising_lists
+mod Same_groups
+mod Start_steps
+mod Teach_steps
+mod Told_facts
+mod Untaken

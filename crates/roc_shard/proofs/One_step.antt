@@ -1,0 +1,25 @@
+-- What comes of a message is one
+use Rattle.std.proofs.Common.{◌≡◌, List, sym, subst, ◌∙◌}
+use Rattle.roc_base.specs.declared.id.TxnId.{TxnId}
+use Rattle.roc_depgraph.specs.declared.known.KnownList.{KnownList}
+use Rattle.roc_depgraph.specs.Deps.{IsDecided}
+use Rattle.roc_component.proofs.Alike.{one_by_members}
+use Rattle.roc_msg.specs.declared.msg.Msg.{Msg}
+use Rattle.roc_plan.specs.Groups.{Plan}
+use Rattle.roc_shard.specs.State.{ServerState, ServerStep}
+use Rattle.roc_shard.specs.New.{AreNew, AreLedTo}
+use Rattle.roc_shard.specs.Step.{edges_told, after_message, Handles}
+use Rattle.roc_shard.proofs.Rising_lists.{rising_one}
+
+one_new : (before : TxnId → Type 0) (known : List KnownList) (ts us : List TxnId) → AreNew before known ts → AreNew before known us → ts ≡ us
+one_new before known ts us p q = one_by_members known ts us ts us (λ t. (λ h. q.members.all t (p.members.only t h), λ h. p.members.all t (q.members.only t h))) p.ordered q.ordered
+
+pub one_step : (plan : Plan) (s : ServerState) (msg : Msg) (r other : ServerStep) → Handles plan s msg r → Handles plan s msg other → r ≡ other
+one_step plan s msg r other h k =
+    let f = h.findings in
+    let g = k.findings in
+    let before : f.before ≡ g.before = rising_one (IsDecided s.lists.known) f.before g.before h.found.before k.found.before in
+    let Led : List TxnId → Type 0 = λ out. AreLedTo s.lists.known (edges_told plan out s msg) f.reached in
+    let reached : f.reached ≡ g.reached = rising_one _ f.reached g.reached (subst Led before h.found.reached) k.found.reached in
+    let decided : f.decided ≡ g.decided = one_new (IsDecided s.lists.known) _ f.decided g.decided h.found.decided k.found.decided in
+    h.is ∙ (λ i. after_message plan s (record { before = before i; reached = reached i; decided = decided i }) msg) ∙ sym k.is

@@ -1,0 +1,88 @@
+-- What travels along of known lists, one after another
+use Rattle.std.proofs.Common.{◌≡◌, ℕ, zero, suc, ◌<◌, ◌≤◌, ◌+◌, ◌-◌, true, false, nat_le, cond, List, [], ◌∷◌, ◌++◌, length, map, get_or, drop, IsTrue, refl, sym, ap, subst, ◌∙◌, arith}
+use Rattle.std.proofs.lemmas.Bool.Decides.{nat_tests}
+use Rattle.std.proofs.lemmas.Bool.{and_from}
+use Rattle.std.proofs.lemmas.List.Folds.{list_all-append}
+use Rattle.std.proofs.lemmas.List.{drop_more, drop_all}
+use Rattle.std.specs.List.{AllByRecursion}
+use Rattle.std.specs.List.Sorted.{IsStrictlySortedBy}
+use Rattle.std.specs.Ordering.{is_lt}
+use Rattle.std.specs.declared.cmp.Ordering.TheVariants.{Less}
+use Rattle.roc_base.specs.declared.id.TxnId.{TxnId}
+use Rattle.roc_base.specs.TxnId.{txn_lt, txn_cmp}
+use Rattle.roc_base.proofs.Ids.{is_lt-txn_cmp}
+use Rattle.roc_depgraph.specs.declared.known.KnownList.{KnownList}
+use Rattle.roc_msg.specs.Facts.{front_of_facts, is_behind_facts}
+
+front_nothing : (room left : ℕ) → front_of_facts room left [] ≡ []
+front_nothing zero left = refl
+front_nothing (suc room) left = refl
+
+-- the next one is too long
+front_too_long : (room left : ℕ) (x : KnownList) (xs : List KnownList) → left < length x.edges → front_of_facts room left (x ∷ xs) ≡ []
+front_too_long zero left x xs h = refl
+front_too_long (suc room) left x xs h =
+    let long : nat_le (length x.edges) left ≡ false = grind (arith, nat_tests) in
+    ap (λ b. cond b (x ∷ front_of_facts room (left - length x.edges) xs) []) long
+
+-- the next one travels along
+front_more : (room left : ℕ) (x : KnownList) (xs : List KnownList) → 0 < room → length x.edges ≤ left → front_of_facts room left (x ∷ xs) ≡ x ∷ front_of_facts (room - 1) (left - length x.edges) xs
+front_more zero left x xs h k = absurd (omega arith)
+front_more (suc room) left x xs h k =
+    let fits : nat_le (length x.edges) left ≡ true = grind (arith, nat_tests) in
+    let one_less : room ≡ suc room - 1 = omega arith in
+    ap (λ b. cond b (x ∷ front_of_facts room (left - length x.edges) xs) []) fits
+    ∙ ap (λ n. x ∷ front_of_facts n (left - length x.edges) xs) one_less
+
+-- of what is made of the ids that are left: the list of the next is too long, or travels along, or there is none
+module _ (f : TxnId → KnownList) (all : List TxnId) (i : ℕ) (room left : ℕ) where
+  module _ (x none : TxnId) (within : i < length all) (is : x ≡ get_or all i none) where
+    next_is : map f (drop i all) ≡ f x ∷ map f (drop (i + 1) all)
+    next_is = ap (map f) (drop_more all i none within ∙ ap (λ y. y ∷ drop (i + 1) all) (sym is))
+
+    pub stops : left < length (f x).edges → front_of_facts room left (map f (drop i all)) ≡ []
+    stops h = ap (front_of_facts room left) next_is ∙ front_too_long room left (f x) (map f (drop (i + 1) all)) h
+
+    pub goes_on : 0 < room → length (f x).edges ≤ left → front_of_facts room left (map f (drop i all)) ≡ f x ∷ front_of_facts (room - 1) (left - length (f x).edges) (map f (drop (i + 1) all))
+    goes_on h k = ap (front_of_facts room left) next_is ∙ front_more room left (f x) (map f (drop (i + 1) all)) h k
+
+  pub ends : length all ≤ i → front_of_facts room left (map f (drop i all)) ≡ []
+  ends h = ap (λ xs. front_of_facts room left (map f xs)) (drop_all i all h) ∙ front_nothing room left
+
+-- all of what is left comes behind what was taken
+abbrev pub AreBehind : List KnownList → List TxnId → Type 0
+AreBehind taken xs = AllByRecursion (λ x. IsTrue (is_behind_facts taken x)) xs
+
+pub behind_none : (xs : List TxnId) → AreBehind [] xs
+behind_none [] = tt
+behind_none (x ∷ xs) = (refl, behind_none xs)
+
+-- and behind one more
+pub behind_more : (taken : List KnownList) (f : KnownList) (xs : List TxnId) → AreBehind taken xs → AllByRecursion (λ x. IsTrue (txn_lt f.of x)) xs → AreBehind (taken ++ f ∷ []) xs
+behind_more taken f [] h k = tt
+behind_more taken f (x ∷ xs) h k =
+    let one = list_all-append (λ fact. txn_lt fact.of x) taken (f ∷ []) in
+    (one ∙ and_from (is_behind_facts taken x) (is_behind_facts (f ∷ []) x) h.0 (and_from (txn_lt f.of x) true k.0 refl), behind_more taken f xs h.1 k.1)
+
+all_below : (x : TxnId) (ys : List TxnId) → AllByRecursion (λ y. txn_cmp x y ≡ Less) ys → AllByRecursion (λ y. IsTrue (txn_lt x y)) ys
+all_below x [] h = tt
+all_below x (y ∷ ys) h = (sym (is_lt-txn_cmp x y) ∙ ap is_lt h.0, all_below x ys h.1)
+
+next_below : (all : List TxnId) (i : ℕ) (x none : TxnId) → IsStrictlySortedBy txn_cmp all → i < length all → x ≡ get_or all i none → AllByRecursion (λ y. IsTrue (txn_lt x y)) (drop (suc i) all)
+unfolding IsStrictlySortedBy
+next_below [] i x none r h e = absurd (omega arith)
+next_below (y ∷ ys) zero x none r h e = let below = λ (v : TxnId). AllByRecursion (λ z. IsTrue (txn_lt v z)) ys in subst below (sym e) (all_below y ys r.0)
+next_below (y ∷ ys) (suc i) x none r h e = next_below ys i x none r.1 (omega arith) e
+
+-- the next of rising ids comes before the rest of them
+pub next_before : (all : List TxnId) (i : ℕ) (x none : TxnId) → IsStrictlySortedBy txn_cmp all → i < length all → x ≡ get_or all i none → AllByRecursion (λ y. IsTrue (txn_lt x y)) (drop (i + 1) all)
+next_before all i x none r h e =
+    let one_more : suc i ≡ i + 1 = omega arith in
+    let below = λ (n : ℕ). AllByRecursion (λ y. IsTrue (txn_lt x y)) (drop n all) in
+    subst below one_more (next_below all i x none r h e)
+
+pub behind_rest : (taken : List KnownList) (all : List TxnId) (i : ℕ) (none : TxnId) → i < length all → AreBehind taken (drop i all) → AreBehind taken (drop (i + 1) all)
+behind_rest taken all i none h k = (subst (AreBehind taken) (drop_more all i none h) k).1
+
+pub behind_next : (taken : List KnownList) (all : List TxnId) (i : ℕ) (x none : TxnId) → i < length all → x ≡ get_or all i none → AreBehind taken (drop i all) → IsTrue (is_behind_facts taken x)
+behind_next taken all i x none h e k = subst (λ (v : TxnId). IsTrue (is_behind_facts taken v)) (sym e) (subst (AreBehind taken) (drop_more all i none h) k).0

@@ -1,0 +1,22 @@
+use Rattle.std.proofs.Common.{sym, ap, ◌∙◌}
+use Rattle.std.specs.Option.{option_copied}
+use Rattle.roc_shard.specs.Inner.Kept.{asked}
+use Rattle.roc_shard.specs.State.{find_group}
+use Rattle.roc_shard.proofs.Start_steps.{start_ignored, start_repeated, start_made}
+use Rattle.roc_shard.proofs.starts.take_start.Goals as goal
+
+pub returns-in-Some-clause-step : goal.returns-in-Some-clause-step
+returns-in-Some-clause-step c =
+    start_ignored c.args.plan.now c.args.shard c.args.kept.now c.args.request.id (asked c.args.request) c.args.out.now c.in-Some.reason (sym c.start_fault.ensures.reason ∙ c.in-Some.is)
+
+pub returns-in_ok-send_startok-in-Some-find_group-clause-step : goal.returns-in_ok-send_startok-in-Some-find_group-clause-step
+returns-in_ok-send_startok-in-Some-find_group-clause-step c =
+    start_repeated c.args.plan.now c.args.shard c.args.kept.now c.args.request.id (asked c.args.request) c.args.out.now c.send_startok.new.out c.in-Some-find_group.earlier.now (sym c.start_fault.ensures.reason ∙ c.in_default.is)
+    (ap (find_group c.args.request.id c.args.request.group) (sym c.deref.ensures.value) ∙ sym c.find_group.ensures ∙ ap option_copied c.in-Some-find_group.is)
+    c.in_ok-send_startok-in-Some-find_group.ensures
+
+pub returns-in-None-clause-step : goal.returns-in-None-clause-step
+returns-in-None-clause-step c =
+    start_made c.args.plan.now c.args.shard c.args.kept.now c.args.request.id (asked c.args.request) c.start_new.result c.start_new.new.kept c.args.out.now c.start_new.new.out (sym c.start_fault.ensures.reason ∙ c.in_default.is)
+    (ap (find_group c.args.request.id c.args.request.group) (sym c.deref.ensures.value) ∙ sym c.find_group.ensures ∙ ap option_copied c.in-None.is)
+    c.start_new.ensures.step

@@ -1,0 +1,22 @@
+-- What a server holds is of a plan: its groups are the plan's, with the plan's counts
+use Rattle.std.specs.Prelude.{◌≡◌, ◌<◌, List, length}
+use Rattle.std.specs.List.{AllByRecursion}
+use Rattle.roc_plan.specs.Groups.{Plan, procedure_of, groups_of, inputs_of}
+use Rattle.roc_group.specs.Group_run.{Call}
+use Rattle.roc_shard.specs.declared.started.StartedGroup.{StartedGroup}
+use Rattle.roc_shard.specs.Runs.{group_call}
+use Rattle.roc_shard.specs.State.{ServerState}
+
+-- the plan has the group of the call, and takes as many arguments and inputs
+pub record IsCallOf (plan : Plan) (c : Call) : Type 0 where
+  pub procedure : c.proc < length plan.program.procedures
+  pub group : c.group < length (groups_of plan c.proc)
+  pub args : length c.args ≡ (procedure_of plan c.proc).arguments
+  pub inputs : length c.inputs ≡ length (inputs_of plan c.proc c.group)
+
+-- each group started by such a call
+abbrev pub AreGroupsOf : Plan → List StartedGroup → Type 0
+AreGroupsOf plan started = AllByRecursion (λ e. IsCallOf plan (group_call e)) started
+
+abbrev pub ServerFits : Plan → ServerState → Type 0
+ServerFits plan s = AreGroupsOf plan s.started

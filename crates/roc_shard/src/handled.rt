@@ -1,0 +1,12 @@
+//! What a server answers to a message.
+
+use roc_msg::Reason;
+
+/// What became of a message.
+#[derive(Clone, Copy, Debug, PartialEq, Eq)]
+pub enum Handled {
+    /// It was taken.
+    Done,
+    /// It was ignored: nothing changed and nothing was sent.
+    Ignored(Reason),
+}

@@ -1,0 +1,151 @@
+//! Runs of the groups that have started.
+ghost use Rattle.std.specs.Prelude.{◌≡◌, ◌<◌, ◌++◌, [], vec_len, unwrap_or, Some, slice_get, IfOk, OnOk};
+ghost use Rattle.std.specs.Option.{option_to_list};
+ghost use Rattle.roc_sequence.specs.Places.{NoneTwice};
+ghost use Rattle.roc_shard.specs.Runs.{buffered_here, outs_here, run_groups, take_all};
+ghost use Rattle.roc_shard.specs.declared.started.StartedGroup.{StartedGroup as Group};
+ghost use Rattle.roc_shard.specs.Fits.{AreGroupsOf};
+ghost use Rattle.roc_shard.specs.Inner.Kept.{holding, is_same_group, AreSameGroups};
+ghost use Rattle.roc_shard.specs.Inner.Runs.{buffered, RunsAt, RunsIfBuffered};
+ghost use Rattle.roc_shard.specs.State.{find_group, ServerState};
+
+use crate::StartedGroup;
+use crate::groups::{count_of_groups, find_group, place_of_group};
+use crate::started_now::is_immediate;
+use roc_base::{NoMemory, Nums, TxnId};
+use roc_group::{Outputs, run_group};
+use roc_plan::{Known, Plan};
+use roc_rows::Rows;
+use std::alloc::Global;
+
+// Takes transactions one by one: the buffered groups of each run, by number.
+pub(crate) fn run_all(
+    alloc: Global,
+    plan: &Plan,
+    ids: &[TxnId],
+    started: &mut Vec<StartedGroup>,
+    rows: &mut Rows,
+) -> Result<(), NoMemory>
+    requires fits { AreGroupsOf plan.now started.old.items }
+    requires once { NoneTwice is_same_group started.old.items }
+    ensures runs { OnOk result ((s : ServerState) → take_all plan.now (holding s rows.old.store started.old.items) ids.now ≡ holding s rows.new.store started.new.items) }
+    ensures groups { OnOk result (AreSameGroups started.old.items started.new.items) }
+{
+    for id in ids {
+        run_transaction(alloc, plan, *id, started, rows)?;
+    }
+    Ok(())
+}
+
+// Runs the buffered groups of a transaction, by number.
+fn run_transaction(
+    alloc: Global,
+    plan: &Plan,
+    id: TxnId,
+    started: &mut Vec<StartedGroup>,
+    rows: &mut Rows,
+) -> Result<(), NoMemory>
+    requires fits { AreGroupsOf plan.now started.old.items }
+    requires once { NoneTwice is_same_group started.old.items }
+    ensures runs { OnOk result ((s : ServerState) → run_groups plan.now (holding s rows.old.store started.old.items) (buffered_here plan.now id started.old.items) ≡ holding s rows.new.store started.new.items) }
+    ensures groups { OnOk result (AreSameGroups started.old.items started.new.items) }
+{
+    let count = count_of_groups(plan, started, id);
+    for number in 0..count {
+        run_number(alloc, plan, id, number, started, rows)?;
+    }
+    Ok(())
+}
+
+// Runs a group of a transaction, where it is here and buffered.
+fn run_number(
+    alloc: Global,
+    plan: &Plan,
+    id: TxnId,
+    number: u16,
+    started: &mut Vec<StartedGroup>,
+    rows: &mut Rows,
+) -> Result<(), NoMemory>
+    requires fits { AreGroupsOf plan.now started.old.items }
+    requires once { NoneTwice is_same_group started.old.items }
+    ensures runs { OnOk result ((s : ServerState) → run_groups plan.now (holding s rows.old.store started.old.items) (buffered plan.now (option_to_list (find_group id number started.old.items))) ≡ holding s rows.new.store started.new.items) }
+    ensures groups { OnOk result (AreSameGroups started.old.items started.new.items) }
+{
+    match place_of_group(started, id, number) {
+        Some(at) => run_if_buffered(alloc, plan, at, started, rows),
+        None => Ok(()),
+    }
+}
+
+// Runs the group at an index, where it is buffered.
+fn run_if_buffered(
+    alloc: Global,
+    plan: &Plan,
+    at: usize,
+    started: &mut Vec<StartedGroup>,
+    rows: &mut Rows,
+) -> Result<(), NoMemory>
+    requires exists { at < vec_len started.old }
+    requires fits { AreGroupsOf plan.now started.old.items }
+    ensures { OnOk result ((e : Group) → slice_get started.old.items at ≡ Some e → RunsIfBuffered plan.now e at started.old.items started.new.items rows.old.store rows.new.store) }
+{
+    if is_immediate(plan, started[at].proc, started[at].group) {
+        return Ok(());
+    }
+    run_at(alloc, plan, at, started, rows)
+}
+
+// Runs the group at an index, and keeps with it what it gave.
+fn run_at(
+    alloc: Global,
+    plan: &Plan,
+    at: usize,
+    started: &mut Vec<StartedGroup>,
+    rows: &mut Rows,
+) -> Result<(), NoMemory>
+    requires exists { at < vec_len started.old }
+    requires fits { AreGroupsOf plan.now started.old.items }
+    ensures { OnOk result ((e : Group) → slice_get started.old.items at ≡ Some e → RunsAt plan.now e at started.old.items started.new.items rows.old.store rows.new.store) }
+{
+    let group = &started[at];
+    let known = Known {
+        args: group.args.clone()?,
+        inputs: group.inputs.clone()?,
+    };
+    let (proc, number) = (group.proc, group.group);
+    let mut out = Outputs::new(alloc);
+    run_group(alloc, plan, proc, number, &known, rows, &mut out)?;
+    let group = &mut started[at];
+    group.later = Some(out.outs);
+    Ok(())
+}
+
+// What the groups of a transaction here gave, by number.
+pub(crate) fn outs_here(
+    alloc: Global,
+    plan: &Plan,
+    id: TxnId,
+    started: &[StartedGroup],
+) -> Result<Nums, NoMemory>
+    requires { AreGroupsOf plan.now started.now }
+    ensures { IfOk result (λ outs. outs ≡ outs_here plan.now id started.now) }
+{
+    let mut outs = Nums::new(alloc);
+    let count = count_of_groups(plan, started, id);
+    for number in 0..count {
+        if let Some(group) = find_group(started, id, number) {
+            push_outs(group, &mut outs)?;
+        }
+    }
+    Ok(outs)
+}
+
+// Adds what a group gave, where it has run.
+fn push_outs(group: &StartedGroup, outs: &mut Nums) -> Result<(), NoMemory>
+    ensures { OnOk result (outs.new ≡ outs.old ++ unwrap_or group.now.later []) }
+{
+    match &group.later {
+        Some(given) => outs.extend_from_slice(given.as_slice()),
+        None => Ok(()),
+    }
+}

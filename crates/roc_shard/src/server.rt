@@ -1,0 +1,179 @@
+//! The server.
+ghost use Rattle.std.specs.Prelude.{◌≡◌, ◌↔◌, ◌++◌, true, false, IsTrue, IfOk, OnOk};
+ghost use Rattle.roc_depgraph.specs.Deps.{IsDecided};
+ghost use Rattle.roc_rows.specs.Store.{entries};
+ghost use Rattle.roc_shard.specs.First.{first_server};
+ghost use Rattle.roc_shard.specs.Fits.{AreGroupsOf, ServerFits};
+ghost use Rattle.roc_shard.specs.Inner.Kept.{state_of, IsConsistent};
+ghost use Rattle.roc_shard.specs.State.{ServerStep};
+ghost use Rattle.roc_shard.specs.Step.{Handles, Shows, tick_sends};
+
+use crate::Handled;
+use crate::commits::{take_commit, take_known};
+use crate::fetches::{fetch_again, take_fetch};
+use crate::first::first_rows;
+use crate::kept::Kept;
+use crate::starts::{Request, take_start};
+use roc_base::{NoMemory, Shard, TxnId, is_among};
+use roc_msg::{Msg, NodeFault, Outbox, Reason};
+use roc_plan::{Known, Plan};
+use roc_rows::{Cell, Rows};
+use std::alloc::Global;
+use std::marker::Model;
+
+/// The server of a shard, as ROCOCO (OSDI 2014, section 3) has it: it buffers a deferrable group
+/// until its transaction is decided, and runs what is decided in component order.
+#[derive(Drop)]
+pub struct Server {
+    alloc: Global,
+    shard: Shard,
+    kept: Kept,
+    stopped: bool,
+}
+
+impl Model for Server {
+    ghost use Rattle.roc_shard.specs.Inner.Codes.{coded_state};
+    ghost use Rattle.roc_shard.specs.State.{ServerState};
+
+    ghost Value = { ServerState };
+
+    ghost coded = { coded_state };
+
+    ghost use Rattle.roc_shard.specs.Inner.Kept.{state_of, IsConsistent};
+
+    ghost view = { λ s. state_of s.shard s.kept s.stopped };
+
+    ghost invariant = { λ s. IsConsistent s.kept };
+}
+
+impl Server {
+    /// A server of a shard with the start cells of its places, before any message. It keeps its
+    /// allocator.
+    pub fn new(alloc: Global, plan: &Plan, shard: Shard) -> Result<Server, NoMemory>
+        ensures first { IfOk result (λ server. server ≡ first_server plan.now shard) }
+        ensures fits { IfOk result (ServerFits plan.now) }
+    {
+        let rows = first_rows(alloc, plan, shard)?;
+        Ok(Server {
+            alloc,
+            shard,
+            kept: Kept::new(alloc, rows),
+            stopped: false,
+        })
+    }
+
+    /// Takes a message, or ignores it for the first reason that holds. What it sends and what it
+    /// newly decides is added to `out`. `NoMemory` promises nothing of the server's groups, lists
+    /// and cells, nor of `out`, but that each later call answers `Stopped`.
+    pub fn handle(&mut self, plan: &Plan, msg: &Msg, out: &mut Outbox) -> Result<Handled, NodeFault>
+        requires fits { ServerFits plan.now self.old }
+
+        // The step that the definitions fix.
+        ensures step { IfOk result (λ answer. (r : ServerStep) × Handles plan.now self.old msg.now r × Shows r answer self.new out.old out.new) }
+        ensures fits { ServerFits plan.now self.new }
+        ensures shard { self.new.shard ≡ self.old.shard }
+
+        // A server that found no memory answers so from then on, and exactly then.
+        ensures going { OnOk result (self.new.stopped ≡ false) }
+        ensures stopped { (result ≡ Err NodeFault.Stopped) ↔ (self.old.stopped ≡ true) }
+        ensures unchanged { result ≡ Err NodeFault.Stopped → (self.new ≡ self.old) × (out.new ≡ out.old) }
+        ensures no_memory { result ≡ Err NodeFault.NoMemory → self.new.stopped ≡ true }
+    {
+        if self.stopped {
+            return Err(NodeFault::Stopped);
+        }
+        match take(self.alloc, plan, self.shard, &mut self.kept, msg, out) {
+            Ok(handled) => Ok(handled),
+            Err(NoMemory) => {
+                // A part may be done and another not, so nothing is kept.
+                self.kept = Kept::new(self.alloc, Rows::new(self.alloc));
+                self.stopped = true;
+                Err(NodeFault::NoMemory)
+            }
+        }
+    }
+
+    /// Sends again what was asked for and is not known yet. It changes nothing but that `NoMemory`, which promises nothing of `out`,
+    /// stops the server.
+    pub fn tick(&mut self, out: &mut Outbox) -> Result<(), NodeFault>
+        ensures sent { OnOk result (out.new ≡ record out.old { messages = out.old.messages ++ tick_sends self.old }) }
+        ensures same { OnOk result (self.new ≡ self.old) }
+        ensures going { OnOk result (self.old.stopped ≡ false) }
+        ensures stopped { (result ≡ Err NodeFault.Stopped) ↔ (self.old.stopped ≡ true) }
+        ensures unchanged { result ≡ Err NodeFault.Stopped → (self.new ≡ self.old) × (out.new ≡ out.old) }
+        ensures no_memory { result ≡ Err NodeFault.NoMemory → self.new.stopped ≡ true }
+    {
+        if self.stopped {
+            return Err(NodeFault::Stopped);
+        }
+        match fetch_again(self.shard, &self.kept.deps, self.kept.waits.asked(), out) {
+            Ok(()) => Ok(()),
+            Err(NoMemory) => {
+                self.kept = Kept::new(self.alloc, Rows::new(self.alloc));
+                self.stopped = true;
+                Err(NodeFault::NoMemory)
+            }
+        }
+    }
+
+    /// Whether a transaction is decided here: its dependency list and those of all its ancestors
+    /// are known. Takes no memory.
+    pub fn decided(&self, id: TxnId) -> bool
+        ensures { IsTrue result ↔ IsDecided self.now.lists.known id }
+    {
+        is_among(self.kept.decided.as_slice(), id)
+    }
+
+    /// The cells that are not 0, each with its number, by cell rising.
+    pub fn cells(&self) -> Result<Vec<(Cell, i64)>, NoMemory>
+        ensures { IfOk result (λ cells. cells.items ≡ entries self.now.store) }
+    {
+        self.kept.rows.nonzero()
+    }
+}
+
+// Takes a message, or ignores it.
+fn take(
+    alloc: Global,
+    plan: &Plan,
+    shard: Shard,
+    kept: &mut Kept,
+    msg: &Msg,
+    out: &mut Outbox,
+) -> Result<Handled, NoMemory>
+    requires fits { AreGroupsOf plan.now kept.old.started.items }
+    requires sound { IsConsistent kept.old }
+    ensures step { IfOk result (λ answer. (r : ServerStep) × Handles plan.now (state_of shard kept.old false) msg.now r × Shows r answer (state_of shard kept.new false) out.old out.new) }
+    ensures fits { OnOk result (AreGroupsOf plan.now kept.new.started.items) }
+    ensures sound { OnOk result (IsConsistent kept.new) }
+{
+    match msg {
+        Msg::Start {
+            id,
+            proc,
+            group,
+            args,
+            inputs,
+        } => {
+            let known = Known {
+                args: args.clone()?,
+                inputs: inputs.clone()?,
+            };
+            let request = Request {
+                id: *id,
+                proc: *proc,
+                group: *group,
+                known,
+            };
+            take_start(alloc, plan, shard, kept, request, out)
+        }
+        Msg::Commit { id, edges, facts } => {
+            take_commit(alloc, plan, shard, kept, *id, edges, facts.as_slice(), out)
+        }
+        Msg::Fetch { id, asker } => take_fetch(shard, kept, *id, *asker, out),
+        Msg::Known { id, edges } => take_known(alloc, plan, shard, kept, *id, edges, out),
+        Msg::StartOk { .. } | Msg::CommitOk { .. } | Msg::Stop => {
+            Ok(Handled::Ignored(Reason::Foreign))
+        }
+    }
+}

@@ -1,0 +1,130 @@
+//! Starts.
+ghost use Rattle.std.specs.Prelude.{◌≡◌, ◌++◌, ◌∷◌, [], ◌<◌, length, None, false, IfOk, OnOk};
+ghost use Rattle.roc_group.specs.Group_run.{call};
+ghost use Rattle.roc_plan.specs.Groups.{groups_of};
+ghost use Rattle.roc_shard.specs.Fits.{IsCallOf, AreGroupsOf};
+ghost use Rattle.roc_shard.specs.Inner.Kept.{state_of, asked, IsConsistent};
+ghost use Rattle.roc_shard.specs.Inner.Starts.{Starts, StartsNew};
+ghost use Rattle.roc_shard.specs.Start.{has_counts, start_fault, startok_of};
+ghost use Rattle.roc_shard.specs.State.{find_group};
+
+use crate::groups::{differs, find_group};
+use crate::kept::Kept;
+use crate::started_now::new_group;
+use crate::{Handled, StartedGroup};
+use roc_base::{NoMemory, Node, Shard, TxnId};
+use roc_msg::{Msg, Outbox, Reason};
+use roc_plan::{Known, Plan};
+use std::alloc::Global;
+
+// A group that is asked to start.
+#[derive(Drop)]
+pub(crate) struct Request {
+    pub id: TxnId,
+    pub proc: u16,
+    pub group: u16,
+    pub known: Known,
+}
+
+// Takes a start, or ignores it.
+pub(crate) fn take_start(
+    alloc: Global,
+    plan: &Plan,
+    shard: Shard,
+    kept: &mut Kept,
+    request: Request,
+    out: &mut Outbox,
+) -> Result<Handled, NoMemory>
+    requires fits { AreGroupsOf plan.now kept.old.started.items }
+    requires sound { IsConsistent kept.old }
+    ensures step { IfOk result (Starts plan.now shard kept.old kept.new out.old out.new request.id (asked request)) }
+    ensures fits { OnOk result (AreGroupsOf plan.now kept.new.started.items) }
+    ensures sound { OnOk result (IsConsistent kept.new) }
+{
+    if let Some(reason) = start_fault(plan, shard, kept, &request) {
+        return Ok(Handled::Ignored(reason));
+    }
+    match find_group(&kept.started, request.id, request.group) {
+        Some(earlier) => {
+            send_startok(shard, earlier, out)?;
+            Ok(Handled::Done)
+        }
+        None => start_new(alloc, plan, shard, kept, request, out),
+    }
+}
+
+// Starts a group that is not here.
+fn start_new(
+    alloc: Global,
+    plan: &Plan,
+    shard: Shard,
+    kept: &mut Kept,
+    request: Request,
+    out: &mut Outbox,
+) -> Result<Handled, NoMemory>
+    requires call { IsCallOf plan.now (asked request) }
+    requires absent { find_group request.id request.group kept.old.started.items ≡ None }
+    requires fits { AreGroupsOf plan.now kept.old.started.items }
+    requires sound { IsConsistent kept.old }
+    ensures step { IfOk result (StartsNew plan.now shard kept.old kept.new out.old out.new request.id (asked request)) }
+    ensures fits { OnOk result (AreGroupsOf plan.now kept.new.started.items) }
+    ensures sound { OnOk result (IsConsistent kept.new) }
+{
+    let started = new_group(alloc, plan, shard, kept, request)?;
+    send_startok(shard, &started, out)?;
+    kept.started.push(started)?;
+    Ok(Handled::Done)
+}
+
+// Why a start is ignored, where it is: the first reason that holds.
+fn start_fault(plan: &Plan, shard: Shard, kept: &Kept, request: &Request) -> Option<Reason>
+    ensures reason { result ≡ start_fault plan.now (state_of shard kept.now false) request.now.id (asked request.now) }
+    ensures fits { result ≡ None → IsCallOf plan.now (asked request.now) }
+{
+    let (id, proc, group) = (request.id, request.proc, request.group);
+    if proc >= plan.procedures() {
+        return Some(Reason::BadProc);
+    }
+    if group >= plan.groups(proc) {
+        return Some(Reason::BadGroup);
+    }
+    if !has_counts(plan, proc, group, &request.known) {
+        return Some(Reason::BadInputs);
+    }
+    if plan.shard_of(plan.place(proc, group, &request.known)) != shard {
+        return Some(Reason::NotHere);
+    }
+    if kept.deps.list(id).is_some() && find_group(&kept.started, id, group).is_none() {
+        return Some(Reason::Late);
+    }
+    if differs(&kept.started, id, proc, &request.known.args) {
+        return Some(Reason::Differs);
+    }
+    None
+}
+
+// Whether there are as many arguments and inputs as the plan has.
+fn has_counts(plan: &Plan, proc: u16, group: u16, known: &Known) -> bool
+    requires procedure { proc < length plan.now.program.procedures }
+    requires group { group < length (groups_of plan.now proc) }
+    ensures { result ≡ has_counts plan.now (call proc group known.now.args known.now.inputs) }
+{
+    known.args.len() == plan.args(proc) as usize
+        && known.inputs.len() == plan.inputs(proc, group).len()
+}
+
+// Tells a group's coordinator that it has started, what it gave, and what comes before.
+fn send_startok(shard: Shard, e: &StartedGroup, out: &mut Outbox) -> Result<(), NoMemory>
+    ensures { OnOk result (out.new ≡ record out.old { messages = out.old.messages ++ startok_of shard e.now ∷ [] }) }
+{
+    let startok = Msg::StartOk {
+        id: e.id,
+        group: e.group,
+        shard,
+        bound: e.bound.clone()?,
+        outs: e.outs.clone()?,
+        edges: e.edges.clone()?,
+        facts: e.facts.clone()?,
+    };
+    out.send(Node::Coord(e.id.coord), startok)
+}

@@ -1,0 +1,80 @@
+//! Lists that are new are taught.
+ghost use Rattle.std.specs.Prelude.{◌≡◌, ◌++◌, false, IfOk, OnOk};
+ghost use Rattle.roc_base.specs.declared.node.Shard.{Shard as At};
+ghost use Rattle.roc_sequence.specs.Places.{NoneTwice};
+ghost use Rattle.roc_shard.specs.Fits.{AreGroupsOf};
+ghost use Rattle.roc_shard.specs.Inner.Kept.{is_same_group, IsConsistent};
+ghost use Rattle.roc_shard.specs.Inner.News.{AreLearnable};
+ghost use Rattle.roc_shard.specs.Inner.Taught.{KnowsMore, TakesNew, Teaches};
+
+use crate::askers::{drop_all, tell_all};
+use crate::commitoks::send_commitoks;
+use crate::decided::{newly_decided, with_decided};
+use crate::kept::Kept;
+use crate::missing::{keep_asked, missing_from, send_fetches};
+use crate::news::learn_all;
+use crate::runs::run_all;
+use roc_await::Asked;
+use roc_base::{NoMemory, Shard};
+use roc_depgraph::KnownList;
+use roc_msg::Outbox;
+use roc_plan::Plan;
+use std::alloc::Global;
+
+// Teaches lists of transactions of which none is known, with all that comes of it.
+pub(crate) fn teach(
+    alloc: Global,
+    plan: &Plan,
+    shard: Shard,
+    kept: &mut Kept,
+    news: &[KnownList],
+    out: &mut Outbox,
+) -> Result<(), NoMemory>
+    requires fits { AreGroupsOf plan.now kept.old.started.items }
+    requires sound { IsConsistent kept.old }
+    requires learnable { AreLearnable kept.old.deps news.now }
+    ensures { OnOk result (Teaches plan.now shard kept.old kept.new out.old out.new news.now) }
+{
+    let asks = know_more(alloc, kept, news, out)?;
+    take_new(alloc, plan, shard, kept, out)?;
+    send_fetches(shard, &asks, out)?;
+    Ok(())
+}
+
+// Tells the lists to those who asked for them, keeps them, and finds what is missing.
+fn know_more(
+    alloc: Global,
+    kept: &mut Kept,
+    news: &[KnownList],
+    out: &mut Outbox,
+) -> Result<Vec<Asked>, NoMemory>
+    requires { AreLearnable kept.old.deps news.now }
+    ensures { IfOk result (λ asks. (shard : At) → KnowsMore shard kept.old kept.new out.old out.new news.now asks.items) }
+{
+    tell_all(kept.waits.askers(), news, out)?;
+    learn_all(&mut kept.deps, news)?;
+    let asks = missing_from(alloc, &kept.deps, &kept.started, &kept.waits)?;
+    drop_all(&mut kept.waits, news)?;
+    keep_asked(&mut kept.waits, &asks)?;
+    Ok(asks)
+}
+
+// Takes what the known lists newly decide.
+fn take_new(
+    alloc: Global,
+    plan: &Plan,
+    shard: Shard,
+    kept: &mut Kept,
+    out: &mut Outbox,
+) -> Result<(), NoMemory>
+    requires fits { AreGroupsOf plan.now kept.old.started.items }
+    requires once { NoneTwice is_same_group kept.old.started.items }
+    ensures { OnOk result (TakesNew plan.now shard kept.old kept.new out.old out.new) }
+{
+    let ids = newly_decided(alloc, &kept.deps, kept.decided.as_slice())?;
+    run_all(alloc, plan, &ids, &mut kept.started, &mut kept.rows)?;
+    kept.decided = with_decided(alloc, kept.decided.as_slice(), &ids)?;
+    out.decided.extend_from_slice(&ids)?;
+    send_commitoks(alloc, plan, shard, &kept.started, &ids, out)?;
+    Ok(())
+}
