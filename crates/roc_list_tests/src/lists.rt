@@ -1,5 +1,5 @@
 //! Lists, cells and known lists, in calls that no command makes.
-use roc_base::{Edge, Edges, Key, Nums, Shard, TxnId};
+use roc_base::{Edge, Edges, Key, NoMemory, Node, Nums, Shard, TxnId};
 use roc_depgraph::{Closure, Deps, Learnt};
 use roc_rows::{Cell, Rows};
 use roc_sequence::Sequence;
@@ -33,6 +33,17 @@ fn ids_of_rows_are_ordered_as_lists(rt: HostRuntime) {
     let other = Key::from_slice(&[0, 7, 7, 7]);
     assert!(rt; other < one && one < longer);
     assert_ne!(rt; Key::from_slice(&[1, 0]), one);
+}
+
+#[test]
+fn servers_come_before_coordinators(rt: HostRuntime) -> Result<(), Fail> {
+    let nodes = (Node::Server(Shard(63)), Node::Coord(15));
+    assert!(rt; nodes.0 < nodes.1);
+    assert_eq!(rt;
+        format!(in rt.alloc(); "{NoMemory}")?.as_str(),
+        "out of memory"
+    );
+    Ok(())
 }
 
 fn cell(place: i64, id: &[i64; 2]) -> Cell {

@@ -1,0 +1,3 @@
+pub mod Sound
+mod OfPlan
+mod Whole

@@ -1,0 +1,8 @@
+use Rattle.roc_scheme.proofs.OfPlan.{whole_counted}
+use Rattle.roc_scheme.proofs.Whole.{whole_reply}
+use Rattle.roc_scheme.proofs.laws.transactions_one_by_one_are_whole.Goals as goal
+
+pub returns : goal.returns
+returns c plan orders asked ok turns calls order once ids t l =
+    whole_reply plan orders asked (λ u s. c.groups_in_turn_are_the_whole_run.ensures plan (asked u).procedure (asked u).arguments s (orders (asked u).procedure) ok (calls u) (turns (asked u).procedure)) turns
+    (λ u store. whole_counted plan (asked u).procedure ok (calls u) (asked u).arguments store) order once ids t l
