@@ -2,7 +2,6 @@
 use Rattle.std.specs.Prelude.{Bool, not, ◌&&◌, ◌||◌, nat_lt, List, [], ◌∷◌, filter}
 use Rattle.std.specs.List.{list_any}
 use Rattle.roc_base.specs.declared.id.TxnId.{TxnId}
-use Rattle.roc_base.specs.declared.node.Shard.{Shard}
 use Rattle.roc_base.specs.TxnId.{is_txn, txn_lt}
 use Rattle.roc_msg.specs.InPlace.{in_place}
 use Rattle.roc_await.specs.declared.waits.Asked.{Asked}

@@ -1,5 +1,4 @@
 pub mod Added
-pub mod Thin
 pub mod Judging
 pub mod Unique
 pub mod Witnessed

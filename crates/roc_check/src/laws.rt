@@ -1,9 +1,7 @@
 //! Laws of the check of a text. Each is the contract of a function that does nothing.
 ghost use Rattle.std.specs.Prelude.{◌≡◌, ℕ, List};
 ghost use Rattle.roc_program.specs.Program.{Workload};
-ghost use Rattle.roc_program.specs.WellFormed.{IsProgram};
 ghost use Rattle.roc_plan.specs.Groups.{Plan};
-ghost use Rattle.roc_plan.specs.Within.{IsThinShaped, IsWithin};
 ghost use Rattle.roc_report.specs.Line.{Line};
 ghost use Rattle.roc_check.specs.Lines.{check_lines};
 ghost use Rattle.roc_check.specs.Checked.{IsPlanOf, IsPlanOfText, IsRefusedBy, IsRefusedText};
@@ -22,9 +20,4 @@ pub fn plans_are_unique()
 pub fn refusals_are_unique()
     ensures line { (program : Workload) (one other : Line) → IsRefusedBy program one → IsRefusedBy program other → one ≡ other }
     ensures no_plan { (program : Workload) (plan : Plan) (line : Line) → IsPlanOf program plan → IsRefusedBy program line → ⊥ }
-{}
-
-/// The protocol reaches the plan of each thin workload.
-pub fn thin_workloads_are_within_reach()
-    ensures { (program : Workload) (plan : Plan) → IsProgram program → IsThinShaped program → IsPlanOf program plan → IsWithin plan }
 {}

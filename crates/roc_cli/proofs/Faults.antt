@@ -1,22 +1,22 @@
 -- What each step of a command tells of its end
-use Rattle.std.proofs.Common.{◌≡◌, inl, inr, ℕ, List, Option, Result, Ok, Err, codes, refl, sym, subst, length, ap, ◌≤◌}
+use Rattle.std.proofs.Common.{◌≡◌, inl, inr, ℕ, List, Option, Result, Ok, Err, refl, sym, subst, length, ap, ◌≤◌}
 use Rattle.std.proofs.Math.Path.{fun_ext}
 use Rattle.roc_lang.specs.Grammar.{text_limit}
 use Rattle.roc_lang.specs.FaultText.{what_text}
 use Rattle.roc_scope.specs.FaultText.{what_text as scope_text}
+use Rattle.roc_sched.specs.FaultText.{what_text as schedule_text}
 use Rattle.roc_scope.specs.Fault.{kind}
 use Rattle.roc_plan.specs.Groups.{Plan}
-use Rattle.roc_plan.specs.Within.{IsWithin}
 use Rattle.roc_sched.specs.Schedule.{most_bytes}
 use Rattle.roc_cli.specs.declared.fault.Fault.{Fault}
 use Rattle.roc_cli.specs.declared.fault.Fault.TheVariants.{TooLong, At, Scope, Rejected, Memory, File, Sink}
-use Rattle.roc_cli.specs.Call.{Call, TakesNothing}
+use Rattle.roc_cli.specs.Call.{RunCall, TakesNothing}
 use Rattle.roc_cli.specs.Words.{IsReplay, IsPrint, IsCheck, AreReplayWords, ArePrintWords, AreCheckWords, AreCommandWords, NamesProgram, NamesWorkload}
 use Rattle.roc_cli.specs.Held.{Holds, HoldsPlan}
 use Rattle.roc_cli.specs.Says.{long_line, fault_line}
 use Rattle.roc_cli.specs.Done.{IsReplayOf}
 use Rattle.roc_cli.specs.Stopped.{the_workload, the_schedule, with_nothing, with_lines, in_report, in_text, in_check, in_rejection}
-use Rattle.roc_cli.specs.Refused.{IsRefused, long_workload, no_text, out_of_scope, long_schedule, no_schedule, not_sent}
+use Rattle.roc_cli.specs.Refused.{IsRefused, long_workload, no_text, out_of_scope, long_schedule, bad_schedule}
 use Rattle.roc_cli.specs.Inner.Input.{HoldsWithin, IsReadFault, IsProgramFault, PlanFails}
 use Rattle.roc_cli.specs.Inner.Ends.{Fails, Ends, ReplayEnds, PrintEnds, CheckEnds, Blames}
 
@@ -35,7 +35,7 @@ no_command words a b c (inl h) = a h
 no_command words a b c (inr (inl h)) = b h
 no_command words a b c (inr (inr h)) = c h
 
-module _ (call : Call) where
+module _ (call : RunCall) where
   -- where a file's name, a line and what is wrong there are known, so is the line of standard error
   line_known : (file name : List ℕ) (line number : ℕ) (what word : List ℕ) → file ≡ name → line ≡ number → what ≡ word
       → IsRefused call (fault_line name number word) → IsRefused call (fault_line file line what)
@@ -71,14 +71,14 @@ module _ (call : Call) where
   plan_fails workload fault names blames h = program_fails workload fault names h.1 blames h.0
 
   -- the schedule gave no bytes
-  pub schedule_unread : (workload schedule : List ℕ) (plan : Plan) (fault : Fault) → IsReplay call.words workload schedule → HoldsPlan call.content workload plan → IsWithin plan
+  pub schedule_unread : (workload schedule : List ℕ) (plan : Plan) (fault : Fault) → IsReplay call.words workload schedule → HoldsPlan call.content workload plan
       → TakesNothing call → Blames call.failed_before call.failed_after fault → IsReadFault call.content schedule most_bytes fault → Fails call fault
-  schedule_unread workload schedule plan (TooLong file) given planned within same blames (e, more) =
-      subst (λ n. IsRefused call (long_line n)) (sym e) (long_schedule workload schedule plan given planned within more same)
-  schedule_unread workload schedule plan (File file) given planned within same blames e =
-      record { input = the_schedule workload plan (subst (IsReplay call.words workload) (sym e) given) planned within; only = blames; untouched = same }
-  schedule_unread workload schedule plan Memory given planned within same blames h = with_nothing (inl (workload, schedule, given)) same
-  schedule_unread workload schedule plan _ given planned within same blames h = absurd h
+  schedule_unread workload schedule plan (TooLong file) given planned same blames (e, more) =
+      subst (λ n. IsRefused call (long_line n)) (sym e) (long_schedule workload schedule plan given planned more same)
+  schedule_unread workload schedule plan (File file) given planned same blames e =
+      record { input = the_schedule workload plan (subst (IsReplay call.words workload) (sym e) given) planned; only = blames; untouched = same }
+  schedule_unread workload schedule plan Memory given planned same blames h = with_nothing (inl (workload, schedule, given)) same
+  schedule_unread workload schedule plan _ given planned same blames h = absurd h
 
   -- ---- replay
 
@@ -86,22 +86,20 @@ module _ (call : Call) where
   replay_ends : (plan : Plan) (bytes : List ℕ) (result : Result Unit Fault) → (asked : IsReplayOf call plan bytes)
       → ReplayEnds plan bytes asked.schedule call.out_before call.out_after result → Ends call result
   replay_ends plan bytes (Ok done) asked (summary, h) = inl (record { plan = plan; bytes = bytes; asked = asked; summary = summary; replayed = h })
-  replay_ends plan bytes (Err (At file line what)) asked (e, inl (f, g, none, same)) =
-      line_known file.now asked.schedule line 1 what.now (codes "limit") e f g (no_schedule plan bytes asked none same)
-  replay_ends plan bytes (Err (At file line what)) asked (e, inr (g, h)) =
-      line_known file.now asked.schedule line line what.now (codes "message") e refl g (not_sent plan bytes asked line h)
+  replay_ends plan bytes (Err (At file line what)) asked (e, (w, g, h)) =
+      line_known file.now asked.schedule line line what.now (schedule_text w) e refl g (bad_schedule plan bytes asked line w h)
   replay_ends plan bytes (Err Memory) asked h = with_lines plan bytes asked h
   replay_ends plan bytes (Err Sink) asked h = in_report plan bytes asked h
   replay_ends plan bytes (Err _) asked h = absurd h
 
   -- both files were read, and the replay ended
   pub files_end : (workload schedule : List ℕ) (plan : Plan) (bytes taken : List ℕ) (result : Result Unit Fault)
-      → IsReplay call.words workload schedule → HoldsPlan call.content workload plan → IsWithin plan
+      → IsReplay call.words workload schedule → HoldsPlan call.content workload plan
       → HoldsWithin call.content schedule most_bytes bytes → taken ≡ bytes → ReplayEnds plan taken schedule call.out_before call.out_after result → Ends call result
-  files_end workload schedule plan bytes taken result given planned within held e ends =
+  files_end workload schedule plan bytes taken result given planned held e ends =
       let is_held : Holds call.content schedule taken = subst (Holds call.content schedule) (sym e) held.held in
       let is_few : length taken ≤ most_bytes = subst (λ n. n ≤ most_bytes) (sym (ap length e)) held.few in
-      replay_ends plan taken result (record { workload = workload; schedule = schedule; given = given; of_workload = planned; within = within; of_schedule = is_held; size = is_few }) ends
+      replay_ends plan taken result (record { workload = workload; schedule = schedule; given = given; of_workload = planned; of_schedule = is_held; size = is_few }) ends
 
   -- ---- print and check
 

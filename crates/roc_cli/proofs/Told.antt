@@ -1,37 +1,38 @@
 -- What the status says, where a fault was told
-use Rattle.std.proofs.Common.{◌≡◌, ◌⊎◌, inl, inr, ◌↔◌, ℕ, ◌==◌, Bool, true, false, List, length, codes, refl, sym, ap, subst, ◌∙◌, arith, [], ◌∷◌, get_or, Ok}
+use Rattle.std.proofs.Common.{◌≡◌, ◌⊎◌, inl, inr, ◌↔◌, ℕ, ◌==◌, Bool, true, false, List, codes, refl, sym, ap, subst, ◌∙◌, arith, ◌∷◌, Ok}
 use Rattle.roc_io.specs.Cause.{HasCause}
-use Rattle.roc_replay.specs.Ended.{behind_lines}
+use Rattle.roc_replay.specs.Ended.{no_schedule, unfit, unsent, behind_lines}
 use Rattle.roc_replay.specs.Report.{report}
 use Rattle.roc_cli.specs.declared.fault.Fault.{Fault}
 use Rattle.roc_cli.specs.declared.fault.Fault.TheVariants.{Rejected, Words, Memory, File, Sink}
-use Rattle.roc_cli.specs.Call.{Call, Errors, TakesNothing, ReadsAll}
-use Rattle.roc_cli.specs.Words.{IsReplay, IsPrint, IsCheck, AreReplayWords, ArePrintWords, AreCheckWords, AreCommandWords}
+use Rattle.roc_cli.specs.Call.{RunCall, Errors, TakesNothing, ReadsAll}
+use Rattle.roc_cli.specs.Words.{AreReplayWords, ArePrintWords, AreCheckWords, AreCommandWords}
 use Rattle.roc_cli.specs.Says.{Says, word_line, file_line}
 use Rattle.roc_cli.specs.Done.{Replays, Explains, Prints, Checks, Rejects}
 use Rattle.roc_cli.specs.Stopped.{IsInput, the_workload, the_schedule, IsUnread, RunsOut, with_nothing, with_lines, CutsOutput, in_report, in_text, in_check, in_rejection}
-use Rattle.roc_cli.specs.Refused.{IsRefused, long_workload, no_text, out_of_scope, out_of_reach, long_schedule, no_schedule, not_sent}
+use Rattle.roc_cli.specs.Refused.{IsRefused, long_workload, no_text, out_of_scope, long_schedule, bad_schedule}
+use Rattle.roc_cli.specs.Fit.{IsFit}
 use Rattle.roc_cli.specs.Status.{Answers}
+use Rattle.roc_cli.specs.Inner.Faultless.{IsFaultless}
 use Rattle.roc_cli.specs.Inner.Fault.{IsTold, EndsWith, line_of, blames_file, blames_sink}
 use Rattle.roc_cli.specs.Inner.Ends.{Fails, Ends, Blames}
 use Rattle.roc_cli.proofs.Faults.{program_words, workload_words}
+use Rattle.roc_cli.proofs.Naming.{longer, unlike}
 
 -- ---- what a fault is of
 
-module _ (call : Call) where
+module _ (call : RunCall) where
   -- each fault of a command is of words that are a command's
   refused_words : (line : List ℕ) → IsRefused call line → AreCommandWords call.words
   refused_words _ (long_workload workload names more same) = workload_words call.words workload names
   refused_words _ (no_text workload line what names held same) = workload_words call.words workload names
   refused_words _ (out_of_scope workload fault names held same) = program_words call.words workload names
-  refused_words _ (out_of_reach workload schedule plan given held none same) = inl (workload, schedule, given)
-  refused_words _ (long_schedule workload schedule plan given planned within more same) = inl (workload, schedule, given)
-  refused_words _ (no_schedule plan bytes asked none same) = inl (asked.workload, asked.schedule, asked.given)
-  refused_words _ (not_sent plan bytes asked number h) = inl (asked.workload, asked.schedule, asked.given)
+  refused_words _ (long_schedule workload schedule plan given planned more same) = inl (workload, schedule, given)
+  refused_words _ (bad_schedule plan bytes asked number what h) = inl (asked.workload, asked.schedule, asked.given)
 
   input_words : (name : List ℕ) → IsInput call name → AreCommandWords call.words
   input_words name (the_workload names) = workload_words call.words name names
-  input_words name (the_schedule workload plan given planned within) = inl (workload, name, given)
+  input_words name (the_schedule workload plan given planned) = inl (workload, name, given)
 
   out_words : RunsOut call → AreCommandWords call.words
   out_words (with_nothing are same) = are
@@ -48,16 +49,16 @@ module _ (call : Call) where
   refused_out _ (long_workload workload names more same) = with_nothing (workload_words call.words workload names) same
   refused_out _ (no_text workload line what names held same) = with_nothing (workload_words call.words workload names) same
   refused_out _ (out_of_scope workload fault names held same) = with_nothing (program_words call.words workload names) same
-  refused_out _ (out_of_reach workload schedule plan given held none same) = with_nothing (inl (workload, schedule, given)) same
-  refused_out _ (long_schedule workload schedule plan given planned within more same) = with_nothing (inl (workload, schedule, given)) same
-  refused_out _ (no_schedule plan bytes asked none same) = with_nothing (inl (asked.workload, asked.schedule, asked.given)) same
-  refused_out _ (not_sent plan bytes asked number h) =
+  refused_out _ (long_schedule workload schedule plan given planned more same) = with_nothing (inl (workload, schedule, given)) same
+  refused_out _ (bad_schedule plan bytes asked number what (no_schedule fault same)) = with_nothing (inl (asked.workload, asked.schedule, asked.given)) same
+  refused_out _ (bad_schedule plan bytes asked number what (unfit fault same)) = with_nothing (inl (asked.workload, asked.schedule, asked.given)) same
+  refused_out _ (bad_schedule plan bytes asked number what (unsent is h)) =
       with_lines plan bytes asked (behind_lines h.before (h.line ∷ h.behind) h.steps h.world h.of_schedule h.played h.taken)
 
 -- ---- one fault, told
 
 -- what a call failed by, with its status and the line on standard error: one rule for each status
-data IsFailure (call : Call) : (status : ℕ) → (line : List ℕ) → Type 0 where
+data IsFailure (call : RunCall) : (status : ℕ) → (line : List ℕ) → Type 0 where
   rejected : Rejects call → ReadsAll call → IsFailure call 1 (line_of Rejected)
   no_words : (AreCommandWords call.words → ⊥) → TakesNothing call → ReadsAll call → IsFailure call 2 (word_line (codes "words"))
   refused : (line : List ℕ) → IsRefused call line → ReadsAll call → IsFailure call 3 line
@@ -69,12 +70,12 @@ data IsFailure (call : Call) : (status : ℕ) → (line : List ℕ) → Type 0 w
 abbrev SaysUnlessRejected : Errors → (status : ℕ) → (line : List ℕ) → Type 0
 SaysUnlessRejected err status line = (status ≡ 1 → ⊥) → Says err line
 
-record IsSaid (call : Call) (err : Errors) (status : ℕ) : Type 0 where
+record IsSaid (call : RunCall) (err : Errors) (status : ℕ) : Type 0 where
   line : List ℕ
   is : IsFailure call status line
   says : SaysUnlessRejected err status line
 
-module _ (call : Call) (err : Errors) where
+module _ (call : RunCall) (err : Errors) where
   ended : (status n : ℕ) (line : List ℕ) → status ≡ n → Says err line → IsFailure call n line → IsSaid call err status
   ended status n line e says is = record { line = line; is = subst (λ (m : ℕ). IsFailure call m line) (sym e) is; says = λ _. says }
 
@@ -114,6 +115,16 @@ module _ (call : Call) (err : Errors) where
   not_done A _ _ (no_words none same read) e = absurd (omega arith)
   not_done A _ _ _ e = absurd (omega arith)
 
+  -- where nothing is wrong with the call
+  at_fitting : (status : ℕ) (line : List ℕ) → IsFailure call status line → (IsFit call → IsFaultless call) → IsFit call
+      → (status ≡ 0) ⊎ ((status ≡ 4) ⊎ ((status ≡ 6) ⊎ (status ≡ 7)))
+  at_fitting _ _ (rejected h read) laws fit = absurd ((laws fit).acceptable h)
+  at_fitting _ _ (no_words none same read) laws fit = absurd (none (laws fit).command)
+  at_fitting _ _ (refused line h read) laws fit = absurd ((laws fit).right line h)
+  at_fitting _ _ (memory h read) laws fit = inr (inl refl)
+  at_fitting _ _ (unread name h) laws fit = inr (inr (inl refl))
+  at_fitting _ _ (cut h read) laws fit = inr (inr (inr refl))
+
   at_rejected : (status : ℕ) (line : List ℕ) → IsFailure call status line → status ≡ 1 → Rejects call
   at_rejected _ _ (rejected h read) e = h
   at_rejected _ _ _ e = absurd (omega arith)
@@ -146,8 +157,8 @@ module _ (call : Call) (err : Errors) where
   at_others _ _ (unread name h) other = absurd (other refl)
   at_others _ _ (cut h read) other = read
 
-  pub fault_answers : (fault : Fault) (status : ℕ) → Fails call fault → Blames call.failed_before call.failed_after fault → IsTold fault status err → Answers call err status
-  fault_answers fault status fails blames told =
+  pub fault_answers : (fault : Fault) (status : ℕ) → (IsFit call → IsFaultless call) → Fails call fault → Blames call.failed_before call.failed_after fault → IsTold fault status err → Answers call err status
+  fault_answers fault status laws fails blames told =
       let h : IsSaid call err status = said fault status fails blames told in
       record {
         statuses = known status h.line h.is;
@@ -155,6 +166,7 @@ module _ (call : Call) (err : Errors) where
         explained = not_done (AreReplayWords call.words → Explains call) status h.line h.is;
         printed = not_done (ArePrintWords call.words → Prints call) status h.line h.is;
         checked = not_done (AreCheckWords call.words → Checks call) status h.line h.is;
+        complete = at_fitting status h.line h.is laws;
         rejected = at_rejected status h.line h.is;
         words = of_words status h.line h.is;
         no_words = at_words status h.line h.is h.says;
@@ -167,27 +179,8 @@ module _ (call : Call) (err : Errors) where
 
 -- ---- what was done
 
--- the words of one command are not those of another
-longer : (words : List (List ℕ)) (A : Type 0) (workload schedule name word : List ℕ) → IsReplay words workload schedule → words ≡ word ∷ name ∷ [] → A
-longer words A workload schedule name word e f =
-    let g : length words ≡ 3 = ap length e in
-    let h : length words ≡ 2 = ap length f in
-    absurd (omega arith)
-
--- the words of a print are not those of a check: what differs is the third letter
-third_letter : List (List ℕ) → ℕ
-third_letter [] = 0
-third_letter (word ∷ words) = get_or word 2 0
-
-unlike : (words : List (List ℕ)) (A : Type 0) (name checked : List ℕ) → IsPrint words name → IsCheck words checked → A
-unfolding third_letter
-unlike words A name checked e f =
-    let g : third_letter words ≡ 105 = ap third_letter e in
-    let h : third_letter words ≡ 101 = ap third_letter f in
-    absurd (omega arith)
-
 -- of the commands, the one that the words ask for was done
-module _ (call : Call) where
+module _ (call : RunCall) where
   done_words : Ends call (Ok tt) → AreCommandWords call.words
   done_words (inl done) = inl (done.asked.workload, done.asked.schedule, done.asked.given)
   done_words (inr (inl done)) = inr (inl (done.workload, done.given))
@@ -195,17 +188,17 @@ module _ (call : Call) where
 
   replay_done : Ends call (Ok tt) → AreReplayWords call.words → Replays call
   replay_done (inl done) are = done
-  replay_done (inr (inl done)) (workload, schedule, given) = longer call.words (Replays call) workload schedule done.workload (codes "print") given done.given
-  replay_done (inr (inr done)) (workload, schedule, given) = longer call.words (Replays call) workload schedule done.workload (codes "check") given done.given
+  replay_done (inr (inl done)) (workload, schedule, given) = longer (Replays call) call.words _ _ _ _ _ given done.given
+  replay_done (inr (inr done)) (workload, schedule, given) = longer (Replays call) call.words _ _ _ _ _ given done.given
 
   print_done : Ends call (Ok tt) → ArePrintWords call.words → Prints call
-  print_done (inl done) (workload, given) = longer call.words (Prints call) done.asked.workload done.asked.schedule workload (codes "print") done.asked.given given
+  print_done (inl done) (workload, given) = longer (Prints call) call.words _ _ _ _ _ done.asked.given given
   print_done (inr (inl done)) are = done
-  print_done (inr (inr done)) (workload, given) = unlike call.words (Prints call) workload done.workload given done.given
+  print_done (inr (inr done)) (workload, given) = unlike (Prints call) call.words workload done.workload given done.given
 
   check_done : Ends call (Ok tt) → AreCheckWords call.words → Checks call
-  check_done (inl done) (workload, given) = longer call.words (Checks call) done.asked.workload done.asked.schedule workload (codes "check") done.asked.given given
-  check_done (inr (inl done)) (workload, given) = unlike call.words (Checks call) done.workload workload done.given given
+  check_done (inl done) (workload, given) = longer (Checks call) call.words _ _ _ _ _ done.asked.given given
+  check_done (inr (inl done)) (workload, given) = unlike (Checks call) call.words done.workload workload done.given given
   check_done (inr (inr done)) are = done
 
   -- what was replayed explains itself
@@ -220,6 +213,7 @@ module _ (call : Call) where
     explained = λ _ are. replay_explains (replay_done done are);
     printed = λ _ are. print_done done are;
     checked = λ _ are. check_done done are;
+    complete = λ _. inl refl;
     rejected = λ e. absurd (omega arith);
     words = (λ e. absurd (omega arith), λ none. absurd (none (done_words done)));
     no_words = λ e. absurd (omega arith);

@@ -2,7 +2,7 @@
 use Rattle.std.specs.Prelude.{◌≡◌, ℕ, List, Option}
 
 -- the words, what files hold, the names whose reads failed before and after the call, and what standard output took; all but the words as far as they are told
-pub record Call : Type 0 where
+pub record RunCall : Type 0 where
   pub words : List (List ℕ)
   pub content : List ℕ → Option (List ℕ)
   pub failed_before : Option (List (List ℕ))
@@ -18,9 +18,9 @@ pub record Errors : Type 0 where
   pub faults_after : ℕ
 
 -- standard output took nothing
-abbrev pub TakesNothing : Call → Type 0
+abbrev pub TakesNothing : RunCall → Type 0
 TakesNothing call = call.out_after ≡ call.out_before
 
 -- no read failed
-abbrev pub ReadsAll : Call → Type 0
+abbrev pub ReadsAll : RunCall → Type 0
 ReadsAll call = call.failed_after ≡ call.failed_before

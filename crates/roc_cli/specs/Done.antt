@@ -5,7 +5,6 @@ use Rattle.roc_lang.specs.Syntax.{Tree}
 use Rattle.roc_print.specs.Canonical.{canonical}
 use Rattle.roc_program.specs.Program.{Workload}
 use Rattle.roc_plan.specs.Groups.{Plan}
-use Rattle.roc_plan.specs.Within.{IsWithin}
 use Rattle.roc_report.specs.Line.{Line}
 use Rattle.roc_report.specs.Text.{line_text, lines_text}
 use Rattle.roc_check.specs.Lines.{check_lines}
@@ -13,25 +12,23 @@ use Rattle.roc_sched.specs.Schedule.{most_bytes}
 use Rattle.roc_replay.specs.declared.ended.Summary.{Summary}
 use Rattle.roc_replay.specs.Told.{IsExplained}
 use Rattle.roc_replay.specs.Ended.{IsReplayed}
-use Rattle.roc_cli.specs.Call.{Call}
+use Rattle.roc_cli.specs.Call.{RunCall}
 use Rattle.roc_cli.specs.Words.{IsReplay, IsPrint, IsCheck, NamesProgram}
 use Rattle.roc_cli.specs.Held.{Holds, HoldsPlan, HoldsText, HoldsRejected}
 
 -- ---- replay
 
--- the words ask for the replay of a schedule of these bytes, which are not too many, and name a workload that has this plan, which the
--- protocol reaches
-pub record IsReplayOf (call : Call) (plan : Plan) (bytes : List ℕ) : Type 0 where
+-- the words ask for the replay of a schedule of these bytes, which are not too many, and name a workload that has this plan
+pub record IsReplayOf (call : RunCall) (plan : Plan) (bytes : List ℕ) : Type 0 where
   pub workload : List ℕ
   pub schedule : List ℕ
   pub given : IsReplay call.words workload schedule
   pub of_workload : HoldsPlan call.content workload plan
-  pub within : IsWithin plan
   pub of_schedule : Holds call.content schedule bytes
   pub size : length bytes ≤ most_bytes
 
 -- standard output took the report of the run of exactly the named schedule, under the plan of the named workload
-pub record Replays (call : Call) : Type 0 where
+pub record Replays (call : RunCall) : Type 0 where
   pub plan : Plan
   pub bytes : List ℕ
   pub asked : IsReplayOf call plan bytes
@@ -39,7 +36,7 @@ pub record Replays (call : Call) : Type 0 where
   pub replayed : IsReplayed plan bytes summary call.out_before call.out_after
 
 -- standard output took lines that explain themselves: the one order that they show is a serial witness of the history that they show
-pub record Explains (call : Call) : Type 0 where
+pub record Explains (call : RunCall) : Type 0 where
   pub plan : Plan
   pub bytes : List ℕ
   pub asked : IsReplayOf call plan bytes
@@ -50,7 +47,7 @@ pub record Explains (call : Call) : Type 0 where
 -- ---- print
 
 -- standard output took the canonical text of the named workload
-pub record Prints (call : Call) : Type 0 where
+pub record Prints (call : RunCall) : Type 0 where
   pub workload : List ℕ
   pub given : IsPrint call.words workload
   pub tree : Tree
@@ -64,7 +61,7 @@ abbrev pub check_text : Plan → List ℕ
 check_text plan = lines_text plan.program (check_lines plan)
 
 -- standard output took the text of the check of the named workload, which has this plan
-pub record Checks (call : Call) : Type 0 where
+pub record Checks (call : RunCall) : Type 0 where
   pub workload : List ℕ
   pub given : IsCheck call.words workload
   pub plan : Plan
@@ -74,7 +71,7 @@ pub record Checks (call : Call) : Type 0 where
 -- ---- a workload that is not acceptable
 
 -- standard output took the one line that says why the named workload is not acceptable
-pub record Rejects (call : Call) : Type 0 where
+pub record Rejects (call : RunCall) : Type 0 where
   pub workload : List ℕ
   pub named : NamesProgram call.words workload
   pub program : Workload

@@ -5,5 +5,6 @@ pub mod Says
 pub mod Done
 pub mod Refused
 pub mod Stopped
+pub mod Fit
 pub mod Status
 pub mod Inner

@@ -1,35 +1,30 @@
 -- Which files are refused, and what is said of them: docs/FORMATS.md, "The program"
-use Rattle.std.specs.Prelude.{ℕ, List, codes}
+use Rattle.std.specs.Prelude.{ℕ, List}
 use Rattle.roc_lang.specs.FaultText.{what_text}
 use Rattle.roc_lang.specs.Grammar.{text_limit}
 use Rattle.roc_lang.specs.Scope.{Fault}
 use Rattle.roc_lang.specs.declared.fault.What.{What}
 use Rattle.roc_scope.specs.FaultText.{kind_text}
 use Rattle.roc_plan.specs.Groups.{Plan}
-use Rattle.roc_plan.specs.Within.{IsWithin}
 use Rattle.roc_sched.specs.Schedule.{most_bytes}
-use Rattle.roc_replay.specs.declared.asked.Asked.{Asked}
-use Rattle.roc_replay.specs.Thin.{IsThinSchedule}
-use Rattle.roc_replay.specs.Ended.{IsUnsent}
-use Rattle.roc_cli.specs.Call.{Call, TakesNothing}
+use Rattle.roc_sched.specs.declared.fault.What.{What as ScheduleWhat}
+use Rattle.roc_sched.specs.FaultText.{what_text as schedule_text}
+use Rattle.roc_replay.specs.Ended.{IsTextFault}
+use Rattle.roc_cli.specs.Call.{RunCall, TakesNothing}
 use Rattle.roc_cli.specs.Words.{IsReplay, NamesProgram, NamesWorkload}
 use Rattle.roc_cli.specs.Held.{HoldsMore, HoldsFault, HoldsMisuse, HoldsPlan}
 use Rattle.roc_cli.specs.Done.{IsReplayOf}
 use Rattle.roc_cli.specs.Says.{long_line, fault_line}
 
 -- the first file that is too long, no text of its grammar or out of scope, or does not fit the plan or the run, with its line on standard error, and what standard output took before
-pub data IsRefused (call : Call) : List ℕ → Type 0 where
+pub data IsRefused (call : RunCall) : List ℕ → Type 0 where
   long_workload : (workload : List ℕ) → NamesWorkload call.words workload → HoldsMore call.content workload text_limit → TakesNothing call
       → IsRefused call (long_line workload)
   no_text : (workload : List ℕ) (line : ℕ) (what : What) → NamesWorkload call.words workload → HoldsFault call.content workload line what → TakesNothing call
       → IsRefused call (fault_line workload line (what_text what))
   out_of_scope : (workload : List ℕ) (fault : Fault) → NamesProgram call.words workload → HoldsMisuse call.content workload fault → TakesNothing call
       → IsRefused call (fault_line workload fault.line (kind_text fault.kind))
-  out_of_reach : (workload schedule : List ℕ) (plan : Plan) → IsReplay call.words workload schedule → HoldsPlan call.content workload plan → ¬ IsWithin plan → TakesNothing call
-      → IsRefused call (fault_line workload 1 (codes "limit"))
-  long_schedule : (workload schedule : List ℕ) (plan : Plan) → IsReplay call.words workload schedule → HoldsPlan call.content workload plan → IsWithin plan → HoldsMore call.content schedule most_bytes → TakesNothing call
+  long_schedule : (workload schedule : List ℕ) (plan : Plan) → IsReplay call.words workload schedule → HoldsPlan call.content workload plan → HoldsMore call.content schedule most_bytes → TakesNothing call
       → IsRefused call (long_line schedule)
-  no_schedule : (plan : Plan) (bytes : List ℕ) (asked : IsReplayOf call plan bytes) → ((events : List Asked) → IsThinSchedule plan.program bytes events → ⊥) → TakesNothing call
-      → IsRefused call (fault_line asked.schedule 1 (codes "limit"))
-  not_sent : (plan : Plan) (bytes : List ℕ) (asked : IsReplayOf call plan bytes) (number : ℕ) → IsUnsent plan bytes number call.out_before call.out_after
-      → IsRefused call (fault_line asked.schedule number (codes "message"))
+  bad_schedule : (plan : Plan) (bytes : List ℕ) (asked : IsReplayOf call plan bytes) (number : ℕ) (what : ScheduleWhat) → IsTextFault plan bytes number what call.out_before call.out_after
+      → IsRefused call (fault_line asked.schedule number (schedule_text what))

@@ -1,14 +1,15 @@
 -- What each status of `run` says: docs/FORMATS.md, "The program"
 use Rattle.std.specs.Prelude.{◌≡◌, ◌↔◌, ◌⊎◌, ℕ, List, codes}
-use Rattle.roc_cli.specs.Call.{Call, Errors, TakesNothing, ReadsAll}
+use Rattle.roc_cli.specs.Call.{RunCall, Errors, TakesNothing, ReadsAll}
 use Rattle.roc_cli.specs.Words.{AreReplayWords, ArePrintWords, AreCheckWords, AreCommandWords}
 use Rattle.roc_cli.specs.Says.{Says, word_line, file_line}
 use Rattle.roc_cli.specs.Done.{Replays, Explains, Prints, Checks, Rejects}
+use Rattle.roc_cli.specs.Fit.{IsFit}
 use Rattle.roc_cli.specs.Refused.{IsRefused}
 use Rattle.roc_cli.specs.Stopped.{IsUnread, RunsOut, CutsOutput}
 
 -- what the call did, by the status with which it answers
-pub record Answers (call : Call) (err : Errors) (status : ℕ) : Type 0 where
+pub record Answers (call : RunCall) (err : Errors) (status : ℕ) : Type 0 where
   -- there are seven
   pub statuses : (status ≡ 0) ⊎ ((status ≡ 1) ⊎ ((status ≡ 2) ⊎ ((status ≡ 3) ⊎ ((status ≡ 4) ⊎ ((status ≡ 6) ⊎ (status ≡ 7))))))
   -- 0: the schedule was replayed, and its report was written
@@ -18,6 +19,8 @@ pub record Answers (call : Call) (err : Errors) (status : ℕ) : Type 0 where
   -- ..or the workload's canonical text was written, or the text of its check, which is acceptable
   pub printed : status ≡ 0 → ArePrintWords call.words → Prints call
   pub checked : status ≡ 0 → AreCheckWords call.words → Checks call
+  -- a command whose words and files fit is done, unless memory, a file or standard output failed it
+  pub complete : IsFit call → (status ≡ 0) ⊎ ((status ≡ 4) ⊎ ((status ≡ 6) ⊎ (status ≡ 7)))
   -- 1: the workload is not acceptable, and the line that says why was written
   pub rejected : status ≡ 1 → Rejects call
   -- 2: exactly where the words are not those of a command

@@ -5,33 +5,32 @@ use Rattle.roc_lang.specs.Syntax.{Tree}
 use Rattle.roc_print.specs.Canonical.{canonical}
 use Rattle.roc_program.specs.Program.{Workload}
 use Rattle.roc_plan.specs.Groups.{Plan}
-use Rattle.roc_plan.specs.Within.{IsWithin}
 use Rattle.roc_report.specs.Line.{Line}
 use Rattle.roc_report.specs.Text.{line_text}
 use Rattle.roc_replay.specs.Ended.{IsCut, IsUnfinished}
-use Rattle.roc_cli.specs.Call.{Call, TakesNothing}
+use Rattle.roc_cli.specs.Call.{RunCall, TakesNothing}
 use Rattle.roc_cli.specs.Words.{IsReplay, IsPrint, IsCheck, NamesProgram, NamesWorkload, AreCommandWords}
 use Rattle.roc_cli.specs.Held.{HoldsPlan, HoldsText, HoldsRejected}
 use Rattle.roc_cli.specs.Done.{IsReplayOf, check_text}
 
--- the name is that of a file that is to be read: the workload, or the schedule where the workload has a plan that the protocol reaches
-pub data IsInput (call : Call) (name : List ℕ) : Type 0 where
+-- the name is that of a file that is to be read: the workload, or the schedule where the workload has a plan
+pub data IsInput (call : RunCall) (name : List ℕ) : Type 0 where
   the_workload : NamesWorkload call.words name → IsInput call name
-  the_schedule : (workload : List ℕ) (plan : Plan) → IsReplay call.words workload name → HoldsPlan call.content workload plan → IsWithin plan → IsInput call name
+  the_schedule : (workload : List ℕ) (plan : Plan) → IsReplay call.words workload name → HoldsPlan call.content workload plan → IsInput call name
 
 -- the file of this name could not be read, and no other read failed; standard output took nothing
-pub record IsUnread (call : Call) (name : List ℕ) : Type 0 where
+pub record IsUnread (call : RunCall) (name : List ℕ) : Type 0 where
   pub input : IsInput call name
   pub only : Adds call.failed_before call.failed_after (name ∷ [])
   pub untouched : TakesNothing call
 
 -- memory ran out: standard output took nothing, or the whole text of some first lines of the named schedule
-pub data RunsOut (call : Call) : Type 0 where
+pub data RunsOut (call : RunCall) : Type 0 where
   with_nothing : AreCommandWords call.words → TakesNothing call → RunsOut call
   with_lines : (plan : Plan) (bytes : List ℕ) → IsReplayOf call plan bytes → IsUnfinished plan bytes call.out_before call.out_after → RunsOut call
 
 -- standard output failed at a text that was due, and took a front of it: of the named workload's canonical text, the text of its check or the line that says why it is not acceptable, or of a next line's or the closing lines' text in the report of the named schedule
-pub data CutsOutput (call : Call) : Type 0 where
+pub data CutsOutput (call : RunCall) : Type 0 where
   in_report : (plan : Plan) (bytes : List ℕ) → IsReplayOf call plan bytes → IsCut plan bytes call.out_before call.out_after → CutsOutput call
   in_text : (workload : List ℕ) (tree : Tree) → IsPrint call.words workload → HoldsText call.content workload tree → AddsFront call.out_before call.out_after (canonical tree) → CutsOutput call
   in_check : (workload : List ℕ) (plan : Plan) → IsCheck call.words workload → HoldsPlan call.content workload plan → AddsFront call.out_before call.out_after (check_text plan) → CutsOutput call

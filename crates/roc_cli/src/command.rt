@@ -1,7 +1,6 @@
 //! What the program does for its words.
 ghost use Rattle.std.specs.Prelude.{◌≡◌, ℕ, ◌<◌, ◌==◌, List, map, string_bytes};
 ghost use Rattle.roc_io.specs.Cause.{HasCause};
-ghost use Rattle.roc_plan.specs.Within.{IsWithin};
 ghost use Rattle.roc_cli.specs.Words.{IsReplay, IsPrint, IsCheck};
 ghost use Rattle.roc_cli.specs.Held.{HoldsPlan};
 ghost use Rattle.roc_cli.specs.Status.{Answers};
@@ -10,6 +9,7 @@ ghost use Rattle.roc_cli.specs.Inner.Ends.{Ends, ReplayEnds, ReadsBut, fails_by}
 
 use crate::check::write_check;
 use crate::fault::Fault;
+use crate::fit::fitting_calls_are_faultless;
 use crate::input::{bytes_of, plan_of};
 use crate::text::print_text;
 use crate::words::{check_name, print_name, replay_names};
@@ -60,6 +60,7 @@ pub fn run<F: Files, S: Sink, E: Sink, L: Link, P: Spawner>(
     ensures content { (name : List ℕ) → F.content files.new name ≡ F.content files.old name }
     ensures others { (link.new ≡ link.old) × (children.new ≡ children.old) }
 {
+    fitting_calls_are_faultless();
     match perform(alloc, words, files, out) {
         Ok(()) => 0,
         Err(fault) => fault.tell(alloc, err),
@@ -106,29 +107,25 @@ fn replay_files<'a, F: Files, S: Sink>(
     ensures content { (name : List ℕ) → F.content files.new name ≡ F.content files.old name }
 {
     match plan_of(alloc, files, workload, out) {
-        Ok(plan) => replay_schedule(alloc, &plan, workload, schedule, files, out),
+        Ok(plan) => replay_schedule(alloc, &plan, schedule, files, out),
         Err(fault) => Err(fault),
     }
 }
 
-// Replays a schedule under this plan, where the protocol reaches it.
+// Replays a schedule under this plan.
 fn replay_schedule<'a, F: Files, S: Sink>(
     alloc: Global,
     plan: &Plan,
-    workload: &'a str,
     schedule: &'a str,
     files: &mut F,
     out: &mut S,
 ) -> Result<(), Fault<'a>>
-    ensures ends { (words : List (List ℕ)) → IsReplay words workload.entry.now schedule.entry.now → HoldsPlan (F.content files.old) workload.entry.now plan.now → Ends (record { words = words; content = F.content files.old; failed_before = F.failed_names files.old; failed_after = F.failed_names files.new; out_before = S.taken out.old; out_after = S.taken out.new }) result }
+    ensures ends { (words : List (List ℕ)) (workload : List ℕ) → IsReplay words workload schedule.entry.now → HoldsPlan (F.content files.old) workload plan.now → Ends (record { words = words; content = F.content files.old; failed_before = F.failed_names files.old; failed_after = F.failed_names files.new; out_before = S.taken out.old; out_after = S.taken out.new }) result }
     ensures failed { ReadsBut (F.failed_names files.old) (F.failed_names files.new) result }
     ensures file_faults { HasCause (fails_by blames_file result) (F.faults files.old) (F.faults files.new) }
     ensures sink_faults { HasCause (fails_by blames_sink result) (S.faults out.old) (S.faults out.new) }
     ensures content { (name : List ℕ) → F.content files.new name ≡ F.content files.old name }
 {
-    if !plan.within() {
-        return Err(Fault::OutOfReach(workload));
-    }
     match bytes_of(alloc, files, schedule, MOST_SCHEDULE_BYTES) {
         Ok(bytes) => replay_file(alloc, plan, schedule, &bytes, out),
         Err(fault) => Err(fault),
@@ -181,7 +178,6 @@ fn replay_file<'a, S: Sink>(
     bytes: &[u8],
     out: &mut S,
 ) -> Result<(), Fault<'a>>
-    requires { IsWithin plan.now }
     ensures ends { ReplayEnds plan.now bytes.now name.entry.now (S.taken out.old) (S.taken out.new) result }
     ensures faults { HasCause (fails_by blames_sink result) (S.faults out.old) (S.faults out.new) }
 {

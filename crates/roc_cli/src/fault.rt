@@ -27,8 +27,6 @@ pub(crate) enum Fault<'a> {
     },
     /// A workload is not acceptable. Standard output took the line that says why.
     Rejected,
-    /// The protocol does not reach the plan of a workload.
-    OutOfReach(&'a str),
     /// There is no memory.
     Memory,
     /// A file could not be read.
@@ -55,7 +53,6 @@ impl Fault<'_> {
             }
             Fault::At { file, line, what } => tell_line(alloc, err, file, line, what),
             Fault::Scope { file, line, what } => tell_misuse(alloc, err, file, line, what),
-            Fault::OutOfReach(file) => tell_line(alloc, err, file, 1, "limit"),
             Fault::Memory => {
                 err.write(b"memory\n");
                 4

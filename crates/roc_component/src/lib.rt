@@ -15,3 +15,4 @@ mod taken;
 mod within;
 
 pub use component_order::order;
+pub use within::rising;

@@ -5,3 +5,5 @@ pub mod Asked
 pub mod Among
 pub mod Outcomes
 pub mod Given
+pub mod Gathering
+pub mod Fitting

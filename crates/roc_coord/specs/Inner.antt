@@ -1,2 +1,4 @@
 -- What stands here is of private functions alone
 pub mod Given
+pub mod CommitWith
+pub mod FactPlace

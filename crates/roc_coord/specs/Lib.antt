@@ -5,4 +5,5 @@ pub mod Starts
 pub mod Commits
 pub mod Submit
 pub mod Step
+pub mod Tick
 pub mod Inner

@@ -1,7 +1,6 @@
 -- The start round: docs/PROTOCOL.md, "Coordinator"
-use Rattle.std.specs.Prelude.{ℕ, ℤ, pos, Bool, ◌&&◌, ◌==◌, List, [], ◌++◌, Option, Some, None, is_some, is_none, length, map, filter, if◌then◌else◌, slice_index_or}
+use Rattle.std.specs.Prelude.{ℕ, ℤ, pos, Bool, not, ◌&&◌, ◌==◌, List, [], ◌∷◌, ◌++◌, Option, Some, None, is_some, is_none, length, map, filter, if◌then◌else◌, slice_index_or}
 use Rattle.std.specs.List.{list_any, list_all, flat_map, range_with_len}
-use Rattle.roc_base.specs.declared.id.TxnId.{TxnId}
 use Rattle.roc_base.specs.declared.node.Shard.{Shard}
 use Rattle.roc_base.specs.declared.node.Node.TheVariants.{Server}
 use Rattle.roc_base.specs.Edge.{Dependency}
@@ -10,6 +9,10 @@ use Rattle.roc_msg.specs.declared.msg.Msg.TheVariants.{Start, Commit}
 use Rattle.roc_msg.specs.declared.outbox.Outgoing.{Outgoing}
 use Rattle.roc_plan.specs.declared.group.Input.{Input}
 use Rattle.roc_plan.specs.Groups.{Plan, groups_of, inputs_of, shard_of, bound_of, outs_of, group_of, group_place}
+use Rattle.roc_base.specs.TxnId.{is_txn}
+use Rattle.roc_depgraph.specs.declared.known.KnownList.{KnownList}
+use Rattle.roc_msg.specs.Facts.{is_fact_before, fitting}
+use Rattle.roc_msg.specs.InPlace.{in_place}
 use Rattle.roc_coord.specs.declared.transaction.SentStart.{SentStart}
 use Rattle.roc_coord.specs.declared.transaction.TakenStart.{TakenStart}
 use Rattle.roc_coord.specs.declared.transaction.Transaction.{Transaction}
@@ -76,12 +79,21 @@ shards_below count starts = filter (λ shard. list_any (λ start. start.shard.0 
 abbrev pub shards_of : Transaction → List Shard
 shards_of x = shards_below 64 x.starts
 
--- a commit to one of its shards, with which no known list travels
-abbrev pub commit_to : TxnId → List Dependency → Shard → Outgoing
-commit_to id edges shard = record { to = Server shard; msg = Commit id edges [] }
+-- lists by id rising; of two of one transaction the first stands
+abbrev pub gathered : List KnownList → List KnownList
+gathered [] = []
+gathered (fact ∷ facts) = in_place is_fact_before fact (gathered facts)
+
+-- what the startoks told of others, in the order in which they were taken, as much as travels along
+abbrev pub all_facts : Transaction → List KnownList
+all_facts x = fitting (filter (λ fact. not (is_txn fact.of x.id)) (gathered (flat_map (λ ok. ok.facts) x.startoks)))
+
+-- a commit to one of its shards
+abbrev pub commit_to : Transaction → Shard → Outgoing
+commit_to x shard = record { to = Server shard; msg = Commit x.id (all_edges x) (all_facts x) }
 
 abbrev pub commits_of : Transaction → List Outgoing
-commits_of x = map (commit_to x.id (all_edges x)) (shards_of x)
+commits_of x = map (commit_to x) (shards_of x)
 
 -- how many values a group binds and gives when it starts: none where it waits
 abbrev pub bound_count : Plan → ℕ → ℕ → ℕ

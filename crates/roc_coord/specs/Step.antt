@@ -109,7 +109,7 @@ after_commitok plan s (Some x) ok =
 -- what comes of a message
 abbrev pub after_message : Plan → CoordState → Msg → CoordStep
 after_message plan s (StartOk id group shard bound outs edges facts) =
-    after_startok plan s (find_transaction id s.pending) (record { group = group; bound = bound; outs = outs; edges = edges }) shard
+    after_startok plan s (find_transaction id s.pending) (record { group = group; bound = bound; outs = outs; edges = edges; facts = facts }) shard
 after_message plan s (CommitOk id shard outs) = after_commitok plan s (find_transaction id s.pending) (record { shard = shard; outs = outs })
 after_message plan s (Start id proc group args inputs) = ignored s Foreign
 after_message plan s (Commit id edges facts) = ignored s Foreign

@@ -12,7 +12,7 @@ use Rattle.roc_coord.specs.Starts.{with_starts, starts_of}
 
 -- how many transactions a coordinator may submit, and how many of them may be unanswered at a time
 abbrev pub most_transactions : ℕ
-most_transactions = 256
+most_transactions = 4294967295
 
 abbrev pub most_pending : ℕ
 most_pending = 16

@@ -1,11 +1,14 @@
 //! The commit round: the union of what the groups were told, and what is sent to commit.
-ghost use Rattle.std.specs.Prelude.{◌≡◌, ◌++◌, ◌==◌, map, IfOk, OnOk};
+ghost use Rattle.std.specs.Prelude.{◌≡◌, ◌++◌, ◌==◌, not, filter, map, IfOk, OnOk};
 ghost use Rattle.std.specs.List.{flat_map, list_any};
 ghost use Rattle.roc_base.specs.Edges.{united};
 ghost use Rattle.roc_coord.specs.State.{has_commitok};
 ghost use Rattle.roc_coord.specs.Starts.{shards_below, shards_of, commit_to, commits_of};
 ghost use Rattle.roc_coord.specs.Commits.{all_committed};
+ghost use Rattle.roc_coord.specs.Tick.{commits_again};
+ghost use Rattle.roc_coord.specs.Inner.CommitWith.{commit_with};
 
+use crate::facts::all_facts;
 use crate::{SentStart, TakenCommit, TakenStart, Transaction};
 use roc_base::{Edges, NoMemory, Node, Shard, TxnId};
 use roc_msg::{Facts, Msg, Outbox};
@@ -55,23 +58,37 @@ fn shards_below(
 
 // Sends a commit to each shard.
 fn send_each(
-    alloc: Global,
     id: TxnId,
     edges: &Edges,
+    facts: &Facts,
     shards: &[Shard],
     out: &mut Outbox,
 ) -> Result<(), NoMemory>
-    ensures { OnOk result (out.new ≡ record out.old { messages = out.old.messages ++ map (commit_to id edges.now) shards.now }) }
+    ensures { OnOk result (out.new ≡ record out.old { messages = out.old.messages ++ map (commit_with id edges.now facts.now) shards.now }) }
 {
     for shard in shards {
         let commit = Msg::Commit {
             id,
             edges: edges.clone()?,
-            facts: Facts::new(alloc),
+            facts: facts.clone()?,
         };
         out.send(Node::Server(*shard), commit)?;
     }
     Ok(())
+}
+
+// Sends a commit of a transaction to each of these shards.
+fn send_to(
+    alloc: Global,
+    x: &Transaction,
+    shards: &[Shard],
+    out: &mut Outbox,
+) -> Result<(), NoMemory>
+    ensures { OnOk result (out.new ≡ record out.old { messages = out.old.messages ++ map (commit_to x.now) shards.now }) }
+{
+    let edges = all_edges(alloc, x.startoks.as_slice())?;
+    let facts = all_facts(alloc, x)?;
+    send_each(x.id, &edges, &facts, shards, out)
 }
 
 /// Sends the commits to the transaction's shards, rising, and keeps these shards as asked.
@@ -85,11 +102,35 @@ pub(crate) fn send_commits(
     ensures sent { OnOk result (out.new ≡ record out.old { messages = out.old.messages ++ commits_of x.old }) }
     ensures others { x.new ≡ record x.old { asked = x.new.asked } }
 {
-    let edges = all_edges(alloc, x.startoks.as_slice())?;
     let shards = shards_below(alloc, x.starts.as_slice(), SHARDS)?;
-    send_each(alloc, x.id, &edges, shards.as_slice(), out)?;
+    send_to(alloc, x, shards.as_slice(), out)?;
     x.asked = shards;
     Ok(())
+}
+
+// The shards whose commitok is not here.
+fn unanswered(alloc: Global, x: &Transaction) -> Result<Sequence<Shard>, AllocError>
+    ensures { IfOk result (λ shards. shards ≡ filter (λ shard. not (has_commitok shard x.now.commitoks)) x.now.asked) }
+{
+    let mut shards = Sequence::new(alloc);
+    for shard in x.asked.as_slice() {
+        if !has_commitok(x.commitoks.as_slice(), *shard) {
+            shards.push(*shard)?;
+        }
+    }
+    Ok(shards)
+}
+
+/// Sends the commits again that have no commitok, by shard. `NoMemory` may leave some sent.
+pub(crate) fn send_commits_again(
+    alloc: Global,
+    x: &Transaction,
+    out: &mut Outbox,
+) -> Result<(), NoMemory>
+    ensures { OnOk result (out.new ≡ record out.old { messages = out.old.messages ++ commits_again x.now }) }
+{
+    let shards = unanswered(alloc, x)?;
+    send_to(alloc, x, shards.as_slice(), out)
 }
 
 /// Whether a shard's commitok was taken.

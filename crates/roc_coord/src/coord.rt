@@ -1,7 +1,6 @@
 //! A coordinator: submissions and the answers to its requests.
-ghost use Rattle.std.specs.Prelude.{◌≡◌, ◌<◌, ◌++◌, ◌↔◌, length, true, IfOk, OnOk};
+ghost use Rattle.std.specs.Prelude.{◌≡◌, ◌<◌, ◌++◌, ◌↔◌, length, true, None, IfOk, OnOk};
 ghost use Rattle.roc_plan.specs.Groups.{procedure_of};
-ghost use Rattle.roc_plan.specs.Within.{IsWithin};
 ghost use Rattle.roc_coord.specs.State.{first_coord};
 ghost use Rattle.roc_coord.specs.Ids.{ids_of};
 ghost use Rattle.roc_sequence.specs.Rising.{IsRising};
@@ -10,6 +9,7 @@ ghost use Rattle.roc_coord.specs.Fits.{IsTransactionOf, CoordFits};
 ghost use Rattle.roc_coord.specs.Starts.{with_starts, starts_of};
 ghost use Rattle.roc_coord.specs.Submit.{after_submit, refusal_of, unstarted, IsSubmitted, UnlessStopped};
 ghost use Rattle.roc_coord.specs.Step.{after_message, IsOutcome};
+ghost use Rattle.roc_coord.specs.Tick.{tick_sends};
 
 use crate::pending::Pending;
 use crate::starts::send_starts;
@@ -22,7 +22,7 @@ use std::alloc::Global;
 use std::marker::Model;
 
 /// How many transactions a coordinator may submit.
-const MOST_TRANSACTIONS: u32 = 256;
+const MOST_TRANSACTIONS: u32 = 4_294_967_295;
 
 /// How many of a coordinator's transactions may be unanswered at a time.
 const MOST_PENDING: usize = 16;
@@ -73,7 +73,6 @@ impl Coord {
         args: &[i64],
         out: &mut Outbox,
     ) -> Result<TxnId, SubmitFault>
-        requires within { IsWithin plan.now }
         requires fits { CoordFits plan.now self.old }
         ensures step { UnlessStopped result (IsSubmitted (after_submit plan.now self.old proc args.now) result self.new out.old out.new) }
 
@@ -103,7 +102,6 @@ impl Coord {
     /// Handles a message: what becomes of it, and what goes to the outbox. An ignored message
     /// leaves all as it was.
     pub fn handle(&mut self, plan: &Plan, msg: &Msg, out: &mut Outbox) -> Result<Handled, NodeFault>
-        requires within { IsWithin plan.now }
         requires fits { CoordFits plan.now self.old }
         ensures step { IfOk result (λ answer. IsOutcome (after_message plan.now self.old msg.now) answer self.new out.old out.new) }
 
@@ -120,6 +118,29 @@ impl Coord {
         }
         match self.take(plan, msg, out) {
             Ok(answer) => Ok(answer),
+            Err(NoMemory) => {
+                self.stopped = true;
+                Err(NodeFault::NoMemory)
+            }
+        }
+    }
+
+    /// Sends again, for each transaction without a reply, the starts without a startok, or the commits without a commitok. It changes
+    /// nothing but that `NoMemory`, which promises nothing of `out`, stops the coordinator.
+    pub fn tick(&mut self, plan: &Plan, out: &mut Outbox) -> Result<(), NodeFault>
+        requires { CoordFits plan.now self.old }
+        ensures sent { OnOk result (out.new ≡ record out.old { messages = out.old.messages ++ tick_sends plan.now self.old }) }
+        ensures same { OnOk result (self.new ≡ self.old) }
+        ensures stopped { (result ≡ Err NodeFault.Stopped) ↔ (self.old.stopped ≡ true) }
+        ensures unchanged { result ≡ Err NodeFault.Stopped → (self.new ≡ self.old) × (out.new ≡ out.old) }
+        ensures no_memory { result ≡ Err NodeFault.NoMemory → self.new.stopped ≡ true }
+        ensures fits { CoordFits plan.now self.new }
+    {
+        if self.stopped {
+            return Err(NodeFault::Stopped);
+        }
+        match self.pending.send_again(self.alloc, plan, out) {
+            Ok(()) => Ok(()),
             Err(NoMemory) => {
                 self.stopped = true;
                 Err(NodeFault::NoMemory)
@@ -160,7 +181,6 @@ impl Coord {
         args: &[i64],
         out: &mut Outbox,
     ) -> Result<TxnId, NoMemory>
-        requires within { IsWithin plan.now }
         requires fits { CoordFits plan.now self.old }
         requires accepted { refusal_of plan.now self.old proc args.now ≡ None }
         ensures step { IfOk result (λ id. IsSubmitted (after_submit plan.now self.old proc args.now) (Ok id) self.new out.old out.new) }
@@ -178,7 +198,6 @@ impl Coord {
 
     // Takes a message, or ignores it.
     fn take(&mut self, plan: &Plan, msg: &Msg, out: &mut Outbox) -> Result<Handled, NoMemory>
-        requires within { IsWithin plan.now }
         requires fits { CoordFits plan.now self.old }
         ensures step { IfOk result (λ answer. IsOutcome (after_message plan.now self.old msg.now) answer self.new out.old out.new) }
         ensures fits { CoordFits plan.now self.new }
@@ -191,13 +210,14 @@ impl Coord {
                 bound,
                 outs,
                 edges,
-                ..
+                facts,
             } => {
                 let ok = TakenStart {
                     group: *group,
                     bound: bound.clone()?,
                     outs: outs.clone()?,
                     edges: edges.clone()?,
+                    facts: facts.clone()?,
                 };
                 self.pending.startok(self.alloc, plan, *id, ok, *shard, out)
             }
@@ -226,7 +246,6 @@ fn started(
     args: &[i64],
     out: &mut Outbox,
 ) -> Result<Transaction, NoMemory>
-    requires within { IsWithin plan.now }
     requires proc { proc < length plan.now.program.procedures }
     requires args { length args.now ≡ (procedure_of plan.now proc).arguments }
     ensures kept { IfOk result (λ x. x ≡ with_starts plan.now (unstarted id proc args.now)) }

@@ -2,15 +2,17 @@
 //! them, as `docs/PROTOCOL.md` says under "Coordinator".
 //!
 //! Contracts see a [`Coord`] as a `CoordState` (`specs/State.antt`). [`Coord::submit`] is
-//! `after_submit` (`specs/Submit.antt`) and [`Coord::handle`] is `after_message` (`specs/Step.antt`),
-//! for every plan that the protocol reaches and every message. The layers above may rely on this: a
-//! refused submission and an ignored message change nothing and send nothing; want of memory stops
-//! the coordinator, and nothing else does; and what it holds stays of the plan that it is called with
-//! (`CoordFits`, `specs/Fits.antt`).
+//! `after_submit` (`specs/Submit.antt`), [`Coord::handle`] is `after_message` (`specs/Step.antt`)
+//! and [`Coord::tick`] sends `tick_sends` (`specs/Tick.antt`), for every plan and every message.
+//! The layers above may rely on this: a refused submission and an ignored message change nothing
+//! and send nothing; a tick changes nothing; want of memory stops the coordinator, and nothing else
+//! does; and what it holds stays of the plan that it is called with (`CoordFits`,
+//! `specs/Fits.antt`).
 #![tactic(auto)]
 
 mod commits;
 mod coord;
+mod facts;
 mod handled;
 mod pending;
 mod reply;

@@ -1,8 +1,7 @@
 //! The transactions of a coordinator that have no reply yet.
 ghost use Rattle.std.specs.Prelude.{◌≡◌, ◌<◌, ◌++◌, ◌∷◌, [], position, length, ℕ, IsTrue, IfOk, OnOk, OnErr};
-ghost use Rattle.std.specs.List.{AllByRecursion};
+ghost use Rattle.std.specs.List.{flat_map, AllByRecursion};
 ghost use Rattle.roc_base.specs.TxnId.{is_txn, txn_lt};
-ghost use Rattle.roc_plan.specs.Within.{IsWithin};
 ghost use Rattle.roc_msg.specs.declared.outbox.Outbox.{Outbox};
 ghost use Rattle.roc_coord.specs.State.{find_transaction, CoordState};
 ghost use Rattle.roc_coord.specs.Fits.{IsTransactionOf};
@@ -10,8 +9,9 @@ ghost use Rattle.roc_coord.specs.Ids.{ids_of};
 ghost use Rattle.roc_coord.specs.Inner.Given.{AreGiven};
 ghost use Rattle.roc_sequence.specs.Rising.{IsRising};
 ghost use Rattle.roc_coord.specs.Step.{IsOutcome, after_startok, after_commitok};
+ghost use Rattle.roc_coord.specs.Tick.{sent_again};
 
-use crate::take::{commitok_refusal, startok_refusal, take_commitok, take_startok};
+use crate::take::{commitok_refusal, send_again, startok_refusal, take_commitok, take_startok};
 use crate::{Handled, TakenCommit, TakenStart, Transaction};
 use roc_base::{NoMemory, Shard, TxnId};
 use roc_msg::{Outbox, Reason};
@@ -89,7 +89,6 @@ impl Pending {
         shard: Shard,
         out: &mut Outbox,
     ) -> Result<Handled, NoMemory>
-        requires within { IsWithin plan.now }
         requires fits { AllByRecursion (IsTransactionOf plan.now) self.old }
         ensures step { IfOk result (λ answer. (s : CoordState) → s.pending ≡ self.old → IsOutcome (after_startok plan.now s (find_transaction id self.old) ok shard) answer (record s { pending = self.new }) out.old out.new) }
         ensures ids { ids_of self.new ≡ ids_of self.old }
@@ -113,6 +112,14 @@ impl Pending {
     {
         commitok(alloc, plan, &mut self.transactions, &mut self.ids, id, ok)
     }
+
+    /// Sends again what has no answer. `NoMemory` may leave some sent.
+    pub fn send_again(&self, alloc: Global, plan: &Plan, out: &mut Outbox) -> Result<(), NoMemory>
+        requires { AllByRecursion (IsTransactionOf plan.now) self.now }
+        ensures { OnOk result (out.new ≡ record out.old { messages = out.old.messages ++ flat_map (sent_again plan.now) self.now }) }
+    {
+        send_each_again(alloc, plan, self.transactions.as_slice(), out)
+    }
 }
 
 // The place of a transaction.
@@ -132,7 +139,6 @@ fn startok(
     shard: Shard,
     out: &mut Outbox,
 ) -> Result<Handled, NoMemory>
-    requires within { IsWithin plan.now }
     requires fits { AllByRecursion (IsTransactionOf plan.now) transactions.old.items }
     requires rising { IsRising txn_lt (ids_of transactions.old.items) }
     ensures step { IfOk result (λ answer. (s : CoordState) → s.pending ≡ transactions.old.items → IsOutcome (after_startok plan.now s (find_transaction id transactions.old.items) ok shard) answer (record s { pending = transactions.new.items }) out.old out.new) }
@@ -181,4 +187,20 @@ fn commitok(
             Ok(Handled::Answered { id, reply })
         }
     }
+}
+
+// Sends again what has no answer, of each transaction.
+fn send_each_again(
+    alloc: Global,
+    plan: &Plan,
+    transactions: &[Transaction],
+    out: &mut Outbox,
+) -> Result<(), NoMemory>
+    requires { AllByRecursion (IsTransactionOf plan.now) transactions.now }
+    ensures { OnOk result (out.new ≡ record out.old { messages = out.old.messages ++ flat_map (sent_again plan.now) transactions.now }) }
+{
+    for x in transactions {
+        send_again(alloc, plan, x, out)?;
+    }
+    Ok(())
 }

@@ -1,11 +1,11 @@
 //! The start round: which groups can start, and what is sent to start them.
-ghost use Rattle.std.specs.Prelude.{◌≡◌, ◌<◌, ◌++◌, length, map, is_some, IfOk, OnOk, All};
+ghost use Rattle.std.specs.Prelude.{◌≡◌, ◌<◌, ◌++◌, length, filter, map, is_some, IfOk, OnOk, All};
 ghost use Rattle.std.specs.Option.{option_copied};
 ghost use Rattle.roc_plan.specs.Groups.{groups_of};
-ghost use Rattle.roc_plan.specs.Within.{IsWithin};
 ghost use Rattle.roc_coord.specs.State.{find_start, find_startok};
 ghost use Rattle.roc_coord.specs.Fits.{IsTransactionOf};
-ghost use Rattle.roc_coord.specs.Starts.{input_value, inputs_for, is_ready, can_start, ready_groups, shard_for, start_for, sent_start, with_starts, starts_of, all_started};
+ghost use Rattle.roc_coord.specs.Starts.{group_numbers, input_value, inputs_for, is_ready, can_start, ready_groups, shard_for, start_for, sent_start, with_starts, starts_of, all_started};
+ghost use Rattle.roc_coord.specs.Tick.{awaits_startok, starts_again};
 
 use crate::{SentStart, TakenStart, Transaction};
 use roc_base::{NoMemory, Node, Nums, Shard};
@@ -99,7 +99,6 @@ fn start_for(
     x: &Transaction,
     group: u16,
 ) -> Result<(Shard, Msg), NoMemory>
-    requires within { IsWithin plan.now }
     requires transaction { IsTransactionOf plan.now x.now }
     requires group { group < length (groups_of plan.now x.now.proc) }
     ensures shard { IfOk result (λ r. r.0 ≡ shard_for plan.now x.now group) }
@@ -129,7 +128,6 @@ fn send_each(
     ready: &[u16],
     out: &mut Outbox,
 ) -> Result<(), NoMemory>
-    requires within { IsWithin plan.now }
     requires transaction { IsTransactionOf plan.now x.old }
     requires groups { All (λ group. group < length (groups_of plan.now x.old.proc)) ready.now }
     ensures kept { OnOk result (x.new ≡ record x.old { starts = x.old.starts ++ map (sent_start plan.now x.old) ready.now }) }
@@ -155,7 +153,6 @@ pub(crate) fn send_starts(
     x: &mut Transaction,
     out: &mut Outbox,
 ) -> Result<(), NoMemory>
-    requires within { IsWithin plan.now }
     requires transaction { IsTransactionOf plan.now x.old }
     ensures kept { OnOk result (x.new ≡ with_starts plan.now x.old) }
     ensures sent { OnOk result (out.new ≡ record out.old { messages = out.old.messages ++ starts_of plan.now x.old }) }
@@ -164,6 +161,60 @@ pub(crate) fn send_starts(
 {
     let ready = ready_groups(alloc, plan, x)?;
     send_each(alloc, plan, x, ready.as_slice(), out)
+}
+
+// Whether a group was asked to start, and has no startok.
+fn awaits_startok(x: &Transaction, group: u16) -> bool
+    ensures { result ≡ awaits_startok x.now group }
+{
+    find_start(x.starts.as_slice(), group).is_some() && !has_startok(x.startoks.as_slice(), group)
+}
+
+// The groups that were asked to start, and have no startok.
+fn awaiting_groups(alloc: Global, plan: &Plan, x: &Transaction) -> Result<Vec<u16>, AllocError>
+    requires { x.now.proc < length plan.now.program.procedures }
+    ensures { IfOk result (λ groups. groups.items ≡ filter (awaits_startok x.now) (group_numbers plan.now x.now.proc)) }
+{
+    let mut groups = Vec::new(alloc);
+    for group in 0..plan.groups(x.proc) {
+        if awaits_startok(x, group) {
+            groups.push(group)?;
+        }
+    }
+    Ok(groups)
+}
+
+// Sends the starts of these groups, of which nothing is kept.
+fn resend_each(
+    alloc: Global,
+    plan: &Plan,
+    x: &Transaction,
+    groups: &[u16],
+    out: &mut Outbox,
+) -> Result<(), NoMemory>
+    requires transaction { IsTransactionOf plan.now x.now }
+    requires groups { All (λ group. group < length (groups_of plan.now x.now.proc)) groups.now }
+    ensures { OnOk result (out.new ≡ record out.old { messages = out.old.messages ++ map (start_for plan.now x.now) groups.now }) }
+{
+    for group in groups {
+        let (shard, start) = start_for(alloc, plan, x, *group)?;
+        out.send(Node::Server(shard), start)?;
+    }
+    Ok(())
+}
+
+/// Sends the starts again that have no startok, in group order. `NoMemory` may leave some sent.
+pub(crate) fn send_starts_again(
+    alloc: Global,
+    plan: &Plan,
+    x: &Transaction,
+    out: &mut Outbox,
+) -> Result<(), NoMemory>
+    requires { IsTransactionOf plan.now x.now }
+    ensures { OnOk result (out.new ≡ record out.old { messages = out.old.messages ++ starts_again plan.now x.now }) }
+{
+    let groups = awaiting_groups(alloc, plan, x)?;
+    resend_each(alloc, plan, x, groups.as_slice(), out)
 }
 
 /// Whether every group has started.

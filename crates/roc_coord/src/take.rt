@@ -2,14 +2,14 @@
 ghost use Rattle.std.specs.Prelude.{◌≡◌, ◌<◌, ◌++◌, length, IfOk, IfNone, OnOk};
 ghost use Rattle.std.specs.Bool.{OnTrue};
 ghost use Rattle.roc_plan.specs.Groups.{groups_of};
-ghost use Rattle.roc_plan.specs.Within.{IsWithin};
 ghost use Rattle.roc_coord.specs.Fits.{IsTransactionOf};
 ghost use Rattle.roc_coord.specs.Starts.{bound_count, out_count, with_starts};
 ghost use Rattle.roc_coord.specs.Step.{is_fit_startok, startok_refusal, with_startok, with_commits, sends_after, is_asked, is_fit_commitok, commitok_refusal, with_commitok, reply_now};
+ghost use Rattle.roc_coord.specs.Tick.{sent_again};
 
-use crate::commits::{all_committed, has_commitok, send_commits};
+use crate::commits::{all_committed, has_commitok, send_commits, send_commits_again};
 use crate::reply::{places_on, reply_of, was_asked};
-use crate::starts::{all_started, has_startok, send_starts};
+use crate::starts::{all_started, has_startok, send_starts, send_starts_again};
 use crate::{TakenCommit, TakenStart, Transaction};
 use roc_base::{NoMemory, Nums, Shard};
 use roc_msg::{Outbox, Reason};
@@ -81,7 +81,6 @@ pub(crate) fn take_startok(
     ok: TakenStart,
     out: &mut Outbox,
 ) -> Result<(), NoMemory>
-    requires within { IsWithin plan.now }
     requires transaction { IsTransactionOf plan.now x.old }
     requires group { ok.group < length (groups_of plan.now x.old.proc) }
     ensures kept { OnOk result (x.new ≡ with_commits plan.now (with_starts plan.now (with_startok x.old ok))) }
@@ -155,5 +154,23 @@ pub(crate) fn take_commitok(
         Ok(Some(reply_of(alloc, plan, x)?))
     } else {
         Ok(None)
+    }
+}
+
+/// Sends a transaction's starts without a startok again; or, once every group has started, its
+/// commits without a commitok. `NoMemory` may leave some sent.
+pub(crate) fn send_again(
+    alloc: Global,
+    plan: &Plan,
+    x: &Transaction,
+    out: &mut Outbox,
+) -> Result<(), NoMemory>
+    requires { IsTransactionOf plan.now x.now }
+    ensures { OnOk result (out.new ≡ record out.old { messages = out.old.messages ++ sent_again plan.now x.now }) }
+{
+    if all_started(plan, x) {
+        send_commits_again(alloc, x, out)
+    } else {
+        send_starts_again(alloc, plan, x, out)
     }
 }

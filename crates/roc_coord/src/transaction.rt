@@ -1,6 +1,7 @@
 //! What a coordinator keeps of a transaction that has no reply yet.
 
 use roc_base::{Edges, Nums, Shard, TxnId};
+use roc_msg::Facts;
 use roc_sequence::Sequence;
 
 /// A start that was sent.
@@ -17,6 +18,7 @@ pub struct TakenStart {
     pub bound: Nums,
     pub outs: Nums,
     pub edges: Edges,
+    pub facts: Facts,
 }
 
 /// What a shard's `CommitOk` told.

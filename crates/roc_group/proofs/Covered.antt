@@ -19,7 +19,7 @@ use Rattle.roc_plan.specs.Groups.{Plan, procedure_of, group_of}
 use Rattle.roc_plan.specs.Turns.{may_meet}
 use Rattle.roc_group.specs.declared.access.Access.{Access}
 use Rattle.roc_group.specs.Accesses.{uses_of_body, uses_of_piece, uses_of_pieces, meets, do_conflict}
-use Rattle.roc_group.specs.Group_run.{Call, begin, group_pieces, group_uses}
+use Rattle.roc_group.specs.Group_run.{GroupCall, begin, group_pieces, group_uses}
 use Rattle.roc_group.proofs.Touches.{is_of, accesses, may_write}
 
 -- where a use comes from: a statement that accesses its column, and may write it where the use writes
@@ -96,7 +96,7 @@ meet_in_conflict x y s u a b in_x in_y from_s from_u same writes =
     there_too v e = subst (λ c. may_write v c ≡ true) (sym (is_cell-true a.cell b.cell same)) e
 
 -- what groups do is within what their pieces may do
-pub meet_covered : (plan : Plan) (b c : Call) (s t : Store) → do_conflict (group_uses plan b s) (group_uses plan c t) ≡ true → may_meet plan b.proc b.group c.proc c.group ≡ true
+pub meet_covered : (plan : Plan) (b c : GroupCall) (s t : Store) → do_conflict (group_uses plan b s) (group_uses plan c t) ≡ true → may_meet plan b.proc b.group c.proc c.group ≡ true
 meet_covered plan b c s t h =
     let one = any_has (meets (group_uses plan c t)) (group_uses plan b s) h in
     let other = any_has (λ u. is_cell one.0.cell u.cell && (one.0.writes || u.writes)) (group_uses plan c t) one.2 in

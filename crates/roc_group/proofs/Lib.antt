@@ -1,4 +1,3 @@
-pub mod Thin
 pub mod Known_uses
 pub mod Effects
 pub mod Touches

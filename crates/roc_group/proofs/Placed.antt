@@ -18,7 +18,7 @@ use Rattle.roc_plan.specs.Groups.{Plan, procedure_of, group_of, group_place}
 use Rattle.roc_plan.specs.Accepted.{IsAccepted}
 use Rattle.roc_group.specs.declared.access.Access.{Access}
 use Rattle.roc_group.specs.Accesses.{uses_of_body, uses_of_piece, uses_of_pieces}
-use Rattle.roc_group.specs.Group_run.{Call, begin, group_pieces, group_uses}
+use Rattle.roc_group.specs.Group_run.{GroupCall, begin, group_pieces, group_uses}
 use Rattle.roc_group.proofs.Touches.{binds_in, not_true}
 use Rattle.roc_group.proofs.Alike.{kept_value}
 use Rattle.roc_group.proofs.GroupStarts.{at}
@@ -67,7 +67,7 @@ module _ (plan : Plan) (proc : ℕ) (ok : IsAccepted plan) (there : proc < lengt
       (pieces_placed place (after_piece p (piece k)) ks (λ j h. among j (inr h)) (λ j h.
       value_same (piece j).place (after_piece p (piece k)).environment p.environment (λ n u. kept_value (value (piece k).place p.environment) p (piece k).body n (unbound k j n (among k (inl refl)) h u)) ∙ same j h))
 
-  first_place : (c : Call) (s : Store) → c.proc ≡ proc → c.group ≡ group → (k : ℕ) → Has k (group_of plan proc group).pieces
+  first_place : (c : GroupCall) (s : Store) → c.proc ≡ proc → c.group ≡ group → (k : ℕ) → Has k (group_of plan proc group).pieces
       → value (at (procedure_of plan proc) k).place (begin plan c s).environment ≡ group_place plan c.proc c.group c.args c.inputs
   first_place c s p g k h =
       ap (λ (e : Expression). value e (begin plan c s).environment) (in_one_place plan proc ok there group k (first_piece (group_of plan proc group).pieces) h (some_first (group_of plan proc group).pieces h) ∙ first_is p g)
@@ -86,6 +86,6 @@ module _ (plan : Plan) (proc : ℕ) (ok : IsAccepted plan) (there : proc < lengt
           ∙ (λ i. (get_or (map (at (procedure_of plan (sym p i))) (group_of plan (sym p i) (sym g i)).pieces) 0 no_piece).place)
 
 -- all that a group uses is at its place
-pub uses_placed : (plan : Plan) (c : Call) (s : Store) → IsAccepted plan → c.proc < length plan.program.procedures → AllByRecursion (λ (a : Access). a.cell.place ≡ group_place plan c.proc c.group c.args c.inputs) (group_uses plan c s)
+pub uses_placed : (plan : Plan) (c : GroupCall) (s : Store) → IsAccepted plan → c.proc < length plan.program.procedures → AllByRecursion (λ (a : Access). a.cell.place ≡ group_place plan c.proc c.group c.args c.inputs) (group_uses plan c s)
 uses_placed plan c s ok there =
     pieces_placed plan c.proc ok there c.group (group_place plan c.proc c.group c.args c.inputs) (begin plan c s) (group_of plan c.proc c.group).pieces (λ k h. h) (λ k h. first_place plan c.proc ok there c.group c s refl refl k h)

@@ -19,7 +19,7 @@ use Rattle.roc_group.specs.declared.access.Access.{Access}
 use Rattle.roc_group.specs.Accesses.{uses_of, uses_of_piece, uses_of_pieces}
 use Rattle.roc_base.specs.declared.memory.NoMemory.{NoMemory}
 use Rattle.roc_group.specs.Inner.Steady.{uses_with}
-use Rattle.roc_group.specs.Group_run.{Call, begin, group_pieces, group_uses}
+use Rattle.roc_group.specs.Group_run.{GroupCall, begin, group_pieces, group_uses}
 use Rattle.roc_group.proofs.Known_uses.{uses_of_body-known}
 use Rattle.roc_group.proofs.Touches.{not_true}
 use Rattle.roc_group.proofs.Starts.{bound_named, name_has, has_named}
@@ -81,7 +81,7 @@ module _ (plan : Plan) (proc : ℕ) (ok : IsAccepted plan) (there : proc < lengt
       go (k ∷ j ∷ js) is = absurd (two_alone plan proc ok there g k j js is e)
 
 -- what a deferrable group uses: its one piece, from what the group is given
-pub uses_listed : (plan : Plan) (c : Call) (s : Store) → IsAccepted plan → c.proc < length plan.program.procedures → is_immediate_of plan c.proc c.group ≡ false
+pub uses_listed : (plan : Plan) (c : GroupCall) (s : Store) → IsAccepted plan → c.proc < length plan.program.procedures → is_immediate_of plan c.proc c.group ≡ false
     → group_uses plan c s ≡ flat_map (uses_with (begin plan c s).environment) (group_pieces plan c)
 uses_listed plan c s ok there e = elim (one_piece plan c.proc ok there c.group e) [
   | inl one ↦ (
@@ -93,11 +93,11 @@ uses_listed plan c s ok there e = elim (one_piece plan c.proc ok there c.group e
 ]
 
 -- so it is the same on every store
-pub uses_steady : (plan : Plan) (c : Call) (s t : Store) → IsAccepted plan → c.proc < length plan.program.procedures → is_immediate_of plan c.proc c.group ≡ false → group_uses plan c s ≡ group_uses plan c t
+pub uses_steady : (plan : Plan) (c : GroupCall) (s t : Store) → IsAccepted plan → c.proc < length plan.program.procedures → is_immediate_of plan c.proc c.group ≡ false → group_uses plan c s ≡ group_uses plan c t
 uses_steady plan c s t ok there e = uses_listed plan c s ok there e ∙ sym (uses_listed plan c t ok there e)
 
 -- what was listed so is what the group uses
-pub uses_deferrable : (result : Result (List Access) NoMemory) (plan : Plan) (c : Call) → IsAccepted plan → c.proc < length plan.program.procedures → is_immediate_of plan c.proc c.group ≡ false
+pub uses_deferrable : (result : Result (List Access) NoMemory) (plan : Plan) (c : GroupCall) → IsAccepted plan → c.proc < length plan.program.procedures → is_immediate_of plan c.proc c.group ≡ false
     → {listed : List Access} → ((s : Store) → listed ≡ flat_map (uses_with (begin plan c s).environment) (group_pieces plan c)) → IfOk result (λ uses. uses ≡ listed) → IfOk result (λ uses. (store : Store) → uses ≡ group_uses plan c store)
 uses_deferrable (Ok uses) plan c ok there e same is = λ store. is ∙ same store ∙ sym (uses_listed plan c store ok there e)
 uses_deferrable (Err fault) plan c ok there e same is = tt

@@ -9,30 +9,30 @@ use Rattle.roc_group.specs.declared.access.Access.{Access}
 use Rattle.roc_group.specs.Accesses.{uses_of_pieces}
 
 -- a group of a procedure with what it is given: the procedure's arguments, and the values of names of other groups
-pub record Call : Type 0 where
+pub record GroupCall : Type 0 where
   pub proc : ℕ
   pub group : ℕ
   pub args : List ℤ
   pub inputs : List ℤ
 
-abbrev pub call : (proc group : ℕ) → (args inputs : List ℤ) → Call
+abbrev pub call : (proc group : ℕ) → (args inputs : List ℤ) → GroupCall
 call proc group args inputs = record { proc = proc; group = group; args = args; inputs = inputs }
 
-abbrev pub group_pieces : Plan → Call → List Piece
+abbrev pub group_pieces : Plan → GroupCall → List Piece
 group_pieces plan c = pieces_at (procedure_of plan c.proc) (group_of plan c.proc c.group).pieces
 
 -- where a group begins
-abbrev pub begin : Plan → Call → Store → Progress
+abbrev pub begin : Plan → GroupCall → Store → Progress
 begin plan c store = progress store (environment_in (procedure_of plan c.proc) (group_of plan c.proc c.group).pieces c.args c.inputs) []
 
 -- its pieces run in program order
-abbrev pub group_run : Plan → Call → Store → Progress
+abbrev pub group_run : Plan → GroupCall → Store → Progress
 group_run plan c store = after_pieces (begin plan c store) (group_pieces plan c)
 
 -- the cells that it uses, in the order in which it uses them
-abbrev pub group_uses : Plan → Call → Store → List Access
+abbrev pub group_uses : Plan → GroupCall → Store → List Access
 group_uses plan c store = uses_of_pieces (begin plan c store) (group_pieces plan c)
 
 -- the values of the names that it binds, in the order in which they are bound
-abbrev pub bound_by_run : Plan → Call → Store → List ℤ
+abbrev pub bound_by_run : Plan → GroupCall → Store → List ℤ
 bound_by_run plan c store = map (value_of_name (group_run plan c store).environment) (bound_of plan c.proc c.group)

@@ -1,5 +1,4 @@
-//! What a coordinator makes of submissions and messages that no honest caller or node sends, and where it is spent.
-ghost use Rattle.roc_plan.specs.Within.{IsWithin};
+//! What a coordinator makes of submissions and messages that no honest caller or node sends.
 ghost use Rattle.roc_coord.specs.Fits.{CoordFits};
 
 use crate::workloads::counter;
@@ -41,7 +40,6 @@ fn submits(
     out: &mut Outbox,
     wanted: Result<TxnId, SubmitFault>,
 )
-    requires within { IsWithin plan.now }
     requires fits { CoordFits plan.now coord.old }
     ensures { CoordFits plan.now coord.new }
 {
@@ -58,7 +56,6 @@ fn handles(
     out: &mut Outbox,
     wanted: Option<Reason>,
 )
-    requires within { IsWithin plan.now }
     requires fits { CoordFits plan.now coord.old }
     ensures { CoordFits plan.now coord.new }
 {
@@ -78,7 +75,6 @@ fn handles_all(
     cases: &[(Msg, Option<Reason>)],
     out: &mut Outbox,
 )
-    requires within { IsWithin plan.now }
     requires fits { CoordFits plan.now coord.old }
 {
     for (msg, wanted) in cases {
@@ -130,7 +126,6 @@ fn repeated_messages_are_ignored(rt: HostRuntime) -> Result<(), Fail> {
 
 // Submits as many additions as may be unanswered.
 fn fills(rt: &impl Abort, plan: &Plan, coord: &mut Coord, out: &mut Outbox)
-    requires within { IsWithin plan.now }
     requires fits { CoordFits plan.now coord.old }
     ensures { CoordFits plan.now coord.new }
 {
@@ -148,7 +143,6 @@ fn refuses(
     faults: &[(u16, &[i64], SubmitFault)],
     out: &mut Outbox,
 )
-    requires within { IsWithin plan.now }
     requires fits { CoordFits plan.now coord.old }
 {
     for (proc, args, fault) in faults {
@@ -169,55 +163,5 @@ fn submissions_are_refused_for_a_fault(rt: HostRuntime) -> Result<(), Fail> {
     ];
     refuses(&rt, &plan, &mut coord, faults.as_slice(), &mut out);
     assert_eq!(rt; coord.unanswered().len(), 16);
-    Ok(())
-}
-
-// Has one addition submitted and answered.
-fn is_answered(
-    rt: &impl Abort,
-    alloc: Global,
-    plan: &Plan,
-    coord: &mut Coord,
-    seq: u32,
-    out: &mut Outbox,
-) -> Result<(), Fail>
-    requires within { IsWithin plan.now }
-    requires fits { CoordFits plan.now coord.old }
-    ensures { CoordFits plan.now coord.new }
-{
-    let id = TxnId { coord: 0, seq };
-    submits(rt, plan, coord, 0, &[1], out, Ok(id));
-    handles(rt, plan, coord, &startok(alloc, id, 0), out, None);
-    let ended = commitok(alloc, id, &[0])?;
-    handles(rt, plan, coord, &ended, out, None);
-    Ok(())
-}
-
-// Has as many additions submitted and answered, one after another, as a coordinator takes.
-fn spends(
-    rt: &impl Abort,
-    alloc: Global,
-    plan: &Plan,
-    coord: &mut Coord,
-    out: &mut Outbox,
-) -> Result<(), Fail>
-    requires within { IsWithin plan.now }
-    requires fits { CoordFits plan.now coord.old }
-    ensures { CoordFits plan.now coord.new }
-{
-    for seq in 0..256 {
-        is_answered(rt, alloc, plan, coord, seq, out)?;
-    }
-    Ok(())
-}
-
-#[test]
-fn a_coordinator_is_spent_after_256_transactions(rt: HostRuntime) -> Result<(), Fail> {
-    let plan = counter(rt.alloc())?;
-    let mut coord = Coord::new(rt.alloc(), 0);
-    let mut out = Outbox::new(rt.alloc());
-    spends(&rt, rt.alloc(), &plan, &mut coord, &mut out)?;
-    let spent = Err(SubmitFault::Spent);
-    submits(&rt, &plan, &mut coord, 0, &[1], &mut out, spent);
     Ok(())
 }

@@ -1,9 +1,9 @@
-//! What the server of a counter makes of messages that no honest node sends, and of repeated ones.
-ghost use Rattle.roc_plan.specs.Within.{IsWithin};
+//! What a server makes of messages that no honest node sends, and of repeated ones.
 ghost use Rattle.roc_server.specs.Fits.{ServerFits};
 
-use crate::workloads::counter;
+use crate::workloads::{counter, twins};
 use roc_base::{Edge, Edges, Nums, Shard, TxnId};
+use roc_depgraph::KnownList;
 use roc_msg::{Facts, Msg, Outbox, Reason};
 use roc_plan::Plan;
 use roc_server::{Handled, Server};
@@ -15,9 +15,9 @@ const FIRST: TxnId = TxnId { coord: 0, seq: 0 };
 
 const SECOND: TxnId = TxnId { coord: 1, seq: 0 };
 
-fn start(alloc: Global, proc: u16, group: u16, args: &[i64]) -> Result<Msg, Fail> {
+fn start(alloc: Global, id: TxnId, proc: u16, group: u16, args: &[i64]) -> Result<Msg, Fail> {
     Ok(Msg::Start {
-        id: FIRST,
+        id,
         proc,
         group,
         args: Nums::from_slice(alloc, args)?,
@@ -25,14 +25,26 @@ fn start(alloc: Global, proc: u16, group: u16, args: &[i64]) -> Result<Msg, Fail
     })
 }
 
-fn commit(alloc: Global, before: &[Edge]) -> Result<Msg, Fail> {
+fn edges(alloc: Global, before: &[Edge]) -> Result<Edges, Fail> {
     let mut edges = Edges::new(alloc);
     edges.unite(before)?;
-    Ok(Msg::Commit {
-        id: FIRST,
-        edges,
-        facts: Facts::new(alloc),
-    })
+    Ok(edges)
+}
+
+fn commit(alloc: Global, id: TxnId, before: &[Edge]) -> Result<Msg, Fail> {
+    let edges = edges(alloc, before)?;
+    let facts = Facts::new(alloc);
+    Ok(Msg::Commit { id, edges, facts })
+}
+
+fn fetch(id: TxnId) -> Msg {
+    let asker = Shard(63);
+    Msg::Fetch { id, asker }
+}
+
+fn known(alloc: Global, id: TxnId) -> Msg {
+    let edges = Edges::new(alloc);
+    Msg::Known { id, edges }
 }
 
 // Has a message taken, or ignored for a reason.
@@ -44,7 +56,6 @@ fn handles(
     out: &mut Outbox,
     wanted: Option<Reason>,
 )
-    requires within { IsWithin plan.now }
     requires fits { ServerFits plan.now server.old }
     ensures { ServerFits plan.now server.new }
 {
@@ -64,7 +75,6 @@ fn handles_all(
     cases: &[(Msg, Option<Reason>)],
     out: &mut Outbox,
 )
-    requires within { IsWithin plan.now }
     requires fits { ServerFits plan.now server.old }
 {
     for (msg, wanted) in cases {
@@ -72,19 +82,29 @@ fn handles_all(
     }
 }
 
-// Has messages handled in turn by a new server, which sends so many in all.
+// Has messages handled in turn by a new server of a plan, which sends so many in all.
+fn check_under(
+    rt: &impl Abort,
+    alloc: Global,
+    plan: &Plan,
+    cases: &[(Msg, Option<Reason>)],
+    sent: usize,
+) -> Result<(), Fail> {
+    let mut server = Server::new(alloc, plan, Shard(0))?;
+    let mut out = Outbox::new(alloc);
+    handles_all(rt, plan, &mut server, cases, &mut out);
+    assert_eq!(rt; out.messages.len(), sent);
+    Ok(())
+}
+
+// The same by a server of the counter.
 fn check(
     rt: &impl Abort,
     alloc: Global,
     cases: &[(Msg, Option<Reason>)],
     sent: usize,
 ) -> Result<(), Fail> {
-    let plan = counter(alloc)?;
-    let mut server = Server::new(alloc, &plan, Shard(0))?;
-    let mut out = Outbox::new(alloc);
-    handles_all(rt, &plan, &mut server, cases, &mut out);
-    assert_eq!(rt; out.messages.len(), sent);
-    Ok(())
+    check_under(rt, alloc, &counter(alloc)?, cases, sent)
 }
 
 #[test]
@@ -98,10 +118,12 @@ fn forged_messages_are_ignored(rt: HostRuntime) -> Result<(), Fail> {
     let cases = [
         (foreign, Some(Reason::Foreign)),
         (Msg::Stop, Some(Reason::Foreign)),
-        (start(alloc, 1, 0, &[5])?, Some(Reason::BadProc)),
-        (start(alloc, 0, 1, &[5])?, Some(Reason::BadGroup)),
-        (start(alloc, 0, 0, &[])?, Some(Reason::BadInputs)),
-        (commit(alloc, &[])?, Some(Reason::NotHere)),
+        (start(alloc, FIRST, 1, 0, &[5])?, Some(Reason::BadProc)),
+        (start(alloc, FIRST, 0, 1, &[5])?, Some(Reason::BadGroup)),
+        (start(alloc, FIRST, 0, 0, &[])?, Some(Reason::BadInputs)),
+        (commit(alloc, FIRST, &[])?, Some(Reason::NotHere)),
+        (fetch(FIRST), Some(Reason::NotHere)),
+        (known(alloc, FIRST), Some(Reason::NotHere)),
     ];
     check(&rt, alloc, cases.as_slice(), 0)
 }
@@ -110,11 +132,11 @@ fn forged_messages_are_ignored(rt: HostRuntime) -> Result<(), Fail> {
 fn repeated_messages_are_answered_again(rt: HostRuntime) -> Result<(), Fail> {
     let alloc = rt.alloc();
     let cases = [
-        (start(alloc, 0, 0, &[5])?, None),
-        (start(alloc, 0, 0, &[5])?, None),
-        (start(alloc, 0, 0, &[6])?, Some(Reason::Differs)),
-        (commit(alloc, &[])?, None),
-        (commit(alloc, &[])?, None),
+        (start(alloc, FIRST, 0, 0, &[5])?, None),
+        (start(alloc, FIRST, 0, 0, &[5])?, None),
+        (start(alloc, FIRST, 0, 0, &[6])?, Some(Reason::Differs)),
+        (commit(alloc, FIRST, &[])?, None),
+        (commit(alloc, FIRST, &[])?, None),
     ];
     check(&rt, alloc, cases.as_slice(), 4)
 }
@@ -124,9 +146,57 @@ fn an_unlike_list_is_ignored(rt: HostRuntime) -> Result<(), Fail> {
     let alloc = rt.alloc();
     let before = Edge::new(SECOND, false, true, Shard(0));
     let cases = [
-        (start(alloc, 0, 0, &[5])?, None),
-        (commit(alloc, &[before])?, None),
-        (commit(alloc, &[])?, Some(Reason::Differs)),
+        (start(alloc, FIRST, 0, 0, &[5])?, None),
+        (commit(alloc, FIRST, &[before])?, None),
+        (commit(alloc, FIRST, &[])?, Some(Reason::Differs)),
     ];
     check(&rt, alloc, cases.as_slice(), 1)
+}
+
+#[test]
+fn a_group_that_starts_late_is_ignored(rt: HostRuntime) -> Result<(), Fail> {
+    let alloc = rt.alloc();
+    let cases = [
+        (start(alloc, FIRST, 0, 0, &[5])?, None),
+        (commit(alloc, FIRST, &[])?, None),
+        (start(alloc, FIRST, 0, 1, &[5])?, Some(Reason::Late)),
+        (fetch(FIRST), None),
+    ];
+    check_under(&rt, alloc, &twins(alloc)?, cases.as_slice(), 3)
+}
+
+// A commit with a fact that is unlike its own list.
+fn torn_commit(alloc: Global) -> Result<Msg, Fail> {
+    let before = Edge::new(SECOND, false, true, Shard(0));
+    let mut facts = Facts::new(alloc);
+    let of = FIRST;
+    let torn = edges(alloc, &[before])?;
+    facts.push(KnownList { of, edges: torn })?;
+    let id = FIRST;
+    let edges = Edges::new(alloc);
+    Ok(Msg::Commit { id, edges, facts })
+}
+
+#[test]
+fn a_commit_of_two_lists_is_ignored(rt: HostRuntime) -> Result<(), Fail> {
+    let alloc = rt.alloc();
+    let cases = [
+        (start(alloc, FIRST, 0, 0, &[5])?, None),
+        (torn_commit(alloc)?, Some(Reason::Differs)),
+    ];
+    check(&rt, alloc, cases.as_slice(), 1)
+}
+
+#[test]
+fn a_circle_of_immediate_edges_is_taken(rt: HostRuntime) -> Result<(), Fail> {
+    let alloc = rt.alloc();
+    let of_second = Edge::new(SECOND, true, false, Shard(0));
+    let of_first = Edge::new(FIRST, true, false, Shard(0));
+    let cases = [
+        (start(alloc, FIRST, 0, 0, &[5])?, None),
+        (start(alloc, SECOND, 0, 0, &[5])?, None),
+        (commit(alloc, FIRST, &[of_second])?, None),
+        (commit(alloc, SECOND, &[of_first])?, None),
+    ];
+    check(&rt, alloc, cases.as_slice(), 4)
 }

@@ -1,11 +1,9 @@
 //! Workloads of the tests.
-ghost use Rattle.std.specs.Prelude.{IfOk};
-ghost use Rattle.roc_plan.specs.Within.{IsWithin};
 
 use roc_conflict::promote;
 use roc_merge::merge;
 use roc_parse::parse;
-use roc_plan::{Plan, PlanFault};
+use roc_plan::Plan;
 use roc_program::{Workload, resolve};
 use std::alloc::Global;
 use std::test::Fail;
@@ -14,6 +12,16 @@ use std::test::Fail;
 const COUNTER: &[u8] = b"shards 1;
 table t { x }
 proc add(n) { later a at 0 { get v = t[0].x; set t[0].x = v + n; out v; } }
+";
+
+// Two pieces that may run apart.
+const TWINS: &[u8] = b"shards 1;
+table t { x }
+table u { y }
+proc two(n) {
+  later a at 0 { set t[0].x = n; }
+  later b at 0 { set u[0].y = n; }
+}
 ";
 
 /// The workload of a text.
@@ -31,12 +39,11 @@ pub(crate) fn plan_of(alloc: Global, text: &[u8]) -> Result<Plan, Fail> {
 }
 
 /// The plan of the counter.
-pub(crate) fn counter(alloc: Global) -> Result<Plan, Fail>
-    ensures { IfOk result IsWithin }
-{
-    let plan = plan_of(alloc, COUNTER)?;
-    if !plan.within() {
-        return Err(Fail::from(PlanFault::Unfit));
-    }
-    Ok(plan)
+pub(crate) fn counter(alloc: Global) -> Result<Plan, Fail> {
+    plan_of(alloc, COUNTER)
+}
+
+/// The plan of a procedure of two groups on one shard.
+pub(crate) fn twins(alloc: Global) -> Result<Plan, Fail> {
+    plan_of(alloc, TWINS)
 }

@@ -1,5 +1,3 @@
-pub mod Single
-pub mod Deferred
 pub mod Rows
 pub mod Sized
 pub mod Taken

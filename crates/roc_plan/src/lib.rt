@@ -3,7 +3,6 @@
 //! Contracts see a [`Plan`] as a program with its groups, as `specs/Groups.antt` has it, and each reader answers what that file
 //! says of the plan, without memory. [`Plan::try_new`] takes a workload with its classes and groups, exactly where the groups are
 //! accepted, so each plan is one that the layers above may rely on (`IsAccepted` of `specs/Accepted.antt`), as [`laws`] spell out.
-//! [`Plan::within`] tells whether the protocol reaches a plan yet (`IsWithin` of `specs/Within.antt`).
 #![tactic(auto)]
 
 mod build;
@@ -15,7 +14,6 @@ mod outline;
 mod place;
 mod plan;
 mod replies;
-mod thin;
 
 pub use fault::PlanFault;
 pub use group::{Class, Input, Known};

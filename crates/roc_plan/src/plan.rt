@@ -1,5 +1,5 @@
 //! Plans: a workload with its pieces in groups, and what is read of them.
-ghost use Rattle.std.specs.Prelude.{◌≡◌, ◌↔◌, ◌<◌, length, map, position, slice_get, IfOk, IsErrOf, IsTrue};
+ghost use Rattle.std.specs.Prelude.{◌≡◌, ◌↔◌, ◌<◌, length, map, position, slice_get, IfOk, IsErrOf};
 ghost use Rattle.std.specs.Str.{bytes_eq};
 ghost use Rattle.std.specs.String.{string_bytes};
 ghost use Rattle.roc_program.specs.LookUps.{procedure_named};
@@ -7,13 +7,11 @@ ghost use Rattle.roc_plan.specs.Groups.{procedure_of, groups_of, group_of, group
 ghost use Rattle.roc_conflict.specs.Classes.{is_immediate};
 ghost use Rattle.roc_groups.specs.Accepted.{IsAcceptedGrouping};
 ghost use Rattle.roc_plan.specs.Accepted.{grouped_plan, IsAccepted};
-ghost use Rattle.roc_plan.specs.Within.{IsWithin};
 ghost use Rattle.roc_plan.specs.Inner.Outlines.{row_of};
 
 use crate::build::outlines_of;
 use crate::outline::Outline;
 use crate::place::names_with;
-use crate::thin::{are_thin_rows, is_thin};
 use crate::{Class, Input, Known, PlanFault};
 use roc_base::Shard;
 use roc_conflict::Classes;
@@ -63,14 +61,6 @@ impl Plan {
         }
         let outlines = outlines_of(alloc, &workload, &classes, &groups)?;
         Ok(Plan { workload, outlines })
-    }
-
-    /// Whether the protocol reaches the plan: there is one shard, and each procedure is one deferrable piece, which is its one
-    /// group.
-    pub fn within(&self) -> bool
-        ensures { IsTrue result ↔ IsWithin self.now }
-    {
-        is_thin(&self.workload) && are_thin_rows(&self.outlines)
     }
 
     /// The workload that the plan is of. Whoever reads it is told that the plan is accepted, as each is.

@@ -13,7 +13,7 @@ use Rattle.roc_component.specs.Components.{Mates}
 use Rattle.roc_plan.specs.Groups.{Plan}
 use Rattle.roc_whole.specs.Serial.{start_store}
 use Rattle.roc_execution.specs.Scheme.{Scheme, IsSoundScheme}
-use Rattle.roc_shard.specs.State.{ServerState}
+use Rattle.roc_server.specs.State.{ServerState}
 use Rattle.roc_protocol.specs.Asked.{HasSchemes}
 use Rattle.roc_protocol.specs.World.{World}
 use Rattle.roc_protocol.specs.Run.{Stepped, IsRun}

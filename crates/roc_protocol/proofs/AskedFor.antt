@@ -10,20 +10,20 @@ use Rattle.roc_msg.specs.declared.msg.Msg.{Msg}
 use Rattle.roc_msg.specs.declared.msg.Msg.TheVariants.{Start, StartOk, Commit, CommitOk, Fetch, Known, Stop}
 use Rattle.roc_msg.specs.declared.outbox.Outgoing.{Outgoing}
 use Rattle.roc_plan.specs.Groups.{Plan}
-use Rattle.roc_shard.specs.First.{first_server}
-use Rattle.roc_shard.specs.State.{answered, ServerState}
-use Rattle.roc_shard.specs.Step as server
-use Rattle.roc_coordinator.specs.declared.transaction.Transaction.{Transaction}
-use Rattle.roc_coordinator.specs.declared.transaction.TakenStart.{TakenStart}
-use Rattle.roc_coordinator.specs.State.{CoordState}
-use Rattle.roc_coordinator.specs.Step.{after_message}
-use Rattle.roc_coordinator.specs.Submit.{new_transaction, next_id, accepted}
-use Rattle.roc_coordinator.specs.Tick as coord
+use Rattle.roc_server.specs.First.{first_server}
+use Rattle.roc_server.specs.State.{answered, ServerState}
+use Rattle.roc_server.specs.Step as server
+use Rattle.roc_coord.specs.declared.transaction.Transaction.{Transaction}
+use Rattle.roc_coord.specs.declared.transaction.TakenStart.{TakenStart}
+use Rattle.roc_coord.specs.State.{CoordState}
+use Rattle.roc_coord.specs.Step.{after_message}
+use Rattle.roc_coord.specs.Submit.{new_transaction, next_id, accepted}
+use Rattle.roc_coord.specs.Tick as coord
 use Rattle.roc_audit.specs.declared.entry.Entry.TheVariants.{Submitted}
 use Rattle.roc_protocol.specs.declared.event.Event.{Event}
 use Rattle.roc_protocol.specs.declared.event.Event.TheVariants.{Submit, Deliver, Tick}
 use Rattle.roc_protocol.specs.World.{World, comes}
-use Rattle.roc_protocol.specs.Happens.{Outcome, answer_entries, Receives}
+use Rattle.roc_protocol.specs.Happens.{Outcome, answer_entries, IsReceived}
 use Rattle.roc_protocol.specs.Run.{Stepped, Comes, IsRun, begun, goes_on}
 use Rattle.roc_protocol.proofs.Fetches.{FetchedFor, message_fetches, tick_fetches, IsAskedFor, HasAsked, served_asked, coordinated_asked, comes_asked}
 use Rattle.roc_protocol.proofs.Gathered.{IsGathered, IsRound, Tells, message_gathered, tick_gathered, submission_gathered}
@@ -74,7 +74,7 @@ step_asked plan w o (Some (Submit n proc args)) v (s, there, h) = go (submitting
     go (is_accepted known counted e) = subst HasAsked (sym e) (coordinated_asked plan w o n (accepted plan s (new_transaction s proc args)).state (accepted plan s (new_transaction s proc args)).sends (Submitted (next_id s) proc args ∷ []) (submission_round plan s proc args))
 step_asked plan w o (Some (Deliver k)) v (m, some, there, h) = go m.to (o.sent m (has_at w.sent (k - 1) m there)) h
   where
-    go : (to : Node) → FetchedFor (IsAskedFor w.servers) m.msg to → Receives plan (comes w k) m.msg to v → HasAsked v.world
+    go : (to : Node) → FetchedFor (IsAskedFor w.servers) m.msg to → IsReceived plan (comes w k) m.msg to v → HasAsked v.world
     go (Server shard) f (s, r, at, step, e) = subst (λ (v : Outcome). HasAsked v.world) (sym e) (served_asked plan (comes w k) (comes_asked plan w o k) shard.0 s at r (message_fetches plan (IsAskedFor w.servers) s ((comes_asked plan w o k).askers shard.0 s at) m.msg (Server shard) r step f))
     go (Coord n) f (s, at, e) = subst (λ (v : Outcome). HasAsked v.world) (sym e) (coordinated_asked plan (comes w k) (comes_asked plan w o k) n (after_message plan s m.msg).state (after_message plan s m.msg).sends (answer_entries (after_message plan s m.msg).answer) (message_round plan s m.msg))
 step_asked plan w o (Some (Tick (Server shard))) v (s, there, e) = subst (λ (v : Outcome). HasAsked v.world) (sym e) (served_asked plan w o shard.0 s there (answered s (server.tick_sends s)) (tick_fetches plan (IsAskedFor w.servers) s (o.askers shard.0 s there)))

@@ -19,9 +19,9 @@ use Rattle.roc_execution.specs.Scheme.{Scheme}
 use Rattle.roc_execution.specs.Log.{Log, IsWhole}
 use Rattle.roc_execution.specs.Steps.{waits_here}
 use Rattle.roc_execution.specs.Invariants.{LogInvariants}
-use Rattle.roc_shard.specs.declared.started.StartedGroup.{StartedGroup}
-use Rattle.roc_shard.specs.State.{is_group, find_group, ServerState}
-use Rattle.roc_shard.specs.Runs.{count_of_groups, groups_here, buffered_here, outs_here}
+use Rattle.roc_server.specs.declared.started.StartedGroup.{StartedGroup}
+use Rattle.roc_server.specs.State.{is_group, find_group, ServerState}
+use Rattle.roc_server.specs.Runs.{count_of_groups, groups_here, buffered_here, outs_here}
 use Rattle.roc_protocol.specs.Asked.{IsSchemeOf}
 use Rattle.roc_protocol.proofs.Means.{run_of, entry_run, place, Ran, Began, stage, waits_at, DoneMeans, AreGroupsHere, ServerMeans}
 use Rattle.roc_protocol.proofs.Grows.{filter_same}

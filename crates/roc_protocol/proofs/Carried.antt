@@ -22,14 +22,14 @@ use Rattle.roc_msg.specs.declared.reason.Reason.{Reason}
 use Rattle.roc_msg.specs.declared.reason.Reason.TheVariants.{NotHere, Foreign, Differs}
 use Rattle.roc_msg.specs.Facts.{is_fact_before}
 use Rattle.roc_plan.specs.Groups.{Plan}
-use Rattle.roc_group.specs.Group_run.{Call, call, group_run}
-use Rattle.roc_shard.specs.declared.started.StartedGroup.{StartedGroup}
-use Rattle.roc_shard.specs.State.{ignored, answered, is_here, is_group, find_group, Lists, ServerState, ServerStep}
-use Rattle.roc_shard.specs.Start.{start_fault, start_taken, start_judged, startok_of, new_group}
-use Rattle.roc_shard.specs.Runs.{group_call, with_later, run_group, run_groups, buffered_here, take_all, commitok_of, outs_here}
-use Rattle.roc_shard.specs.Lists.{commit_differs, list_with, carried, unknown_of, lists_after, known_to, knowns_for, fetch_from, missing_from, taught, commit_fault, after_commit, fetch_taken, after_fetch, known_fault, after_known}
-use Rattle.roc_shard.specs.Step.{Findings, Finds, Handles, after_message, tick_sends}
-use Rattle.roc_shard.specs.Inner.Kept.{unrun}
+use Rattle.roc_group.specs.Group_run.{GroupCall, call, group_run}
+use Rattle.roc_server.specs.declared.started.StartedGroup.{StartedGroup}
+use Rattle.roc_server.specs.State.{ignored, answered, is_here, is_group, find_group, Lists, ServerState, ServerStep}
+use Rattle.roc_server.specs.Start.{start_fault, start_taken, start_judged, startok_of, new_group}
+use Rattle.roc_server.specs.Runs.{group_call, with_later, run_group, run_groups, buffered_here, take_all, commitok_of, outs_here}
+use Rattle.roc_server.specs.Lists.{commit_differs, list_with, carried, unknown_of, lists_after, known_to, knowns_for, fetch_from, missing_from, taught, commit_fault, after_commit, fetch_taken, after_fetch, known_fault, after_known}
+use Rattle.roc_server.specs.Step.{Findings, AreFindings, Handles, after_message, tick_sends}
+use Rattle.roc_server.specs.Inner.Kept.{unrun}
 use Rattle.roc_protocol.specs.Final.{lists_in}
 use Rattle.roc_protocol.proofs.Flat.{from_has_flat}
 use Rattle.roc_protocol.proofs.Facts.{facts_known}
@@ -158,7 +158,7 @@ module _ (plan : Plan) (Good : TxnId → List Dependency → Type 0) (Here : Txn
 
     -- ---- a start
 
-    module _ (f : Findings) (id : TxnId) (c : Call) (led : (u : TxnId) → IsListed is_txn f.reached u → IsKnown s.lists.known u) (mine : Here id c.group) where
+    module _ (f : Findings) (id : TxnId) (c : GroupCall) (led : (u : TxnId) → IsListed is_txn f.reached u → IsKnown s.lists.known u) (mine : Here id c.group) where
       abbrev e : StartedGroup
       e = new_group plan f.before f.reached s id c
 
@@ -315,7 +315,7 @@ module _ (plan : Plan) (Good : TxnId → List Dependency → Type 0) (Here : Txn
     pub message_good : (msg : Msg) (r : ServerStep) → Handles plan s msg r → AllGood Good (lists_in msg) → StartsHere Here msg → KeepsGood r
     message_good msg r h good starts = subst KeepsGood (sym h.is) (go msg h.findings h.found good starts)
       where
-        go : (msg : Msg) (f : Findings) → Finds plan s msg f → AllGood Good (lists_in msg) → StartsHere Here msg → KeepsGood (after_message plan s f msg)
+        go : (msg : Msg) (f : Findings) → AreFindings plan s msg f → AllGood Good (lists_in msg) → StartsHere Here msg → KeepsGood (after_message plan s f msg)
         go (Start id proc group args inputs) f found g k = start_good f id (call proc group args inputs) (λ u h. (found.reached.sound u h).0) k (start_fault plan s id (call proc group args inputs))
         go (Commit id edges facts) f found g k = commit_good f.before f.decided id edges facts g (commit_fault s id edges facts) refl
         go (Fetch id asker) f found g k = fetch_good id asker

@@ -21,9 +21,9 @@ use Rattle.roc_execution.specs.Scheme.{Scheme}
 use Rattle.roc_execution.specs.Log.{Log}
 use Rattle.roc_execution.specs.Steps.{IsReachedLog, new_in}
 use Rattle.roc_execution.specs.Invariants.{LogInvariants, LogGrows}
-use Rattle.roc_shard.specs.State.{ServerState, ServerStep}
-use Rattle.roc_coordinator.specs.declared.transaction.Transaction.{Transaction}
-use Rattle.roc_coordinator.specs.State.{CoordState}
+use Rattle.roc_server.specs.State.{ServerState, ServerStep}
+use Rattle.roc_coord.specs.declared.transaction.Transaction.{Transaction}
+use Rattle.roc_coord.specs.State.{CoordState}
 use Rattle.roc_audit.specs.declared.entry.Entry.{Entry}
 use Rattle.roc_audit.specs.declared.entry.Entry.TheVariants.{Answered}
 use Rattle.roc_audit.specs.Order.{noted}

@@ -22,16 +22,16 @@ use Rattle.roc_whole.specs.Serial as whole
 use Rattle.roc_execution.specs.Scheme.{Scheme}
 use Rattle.roc_execution.specs.Log.{Log}
 use Rattle.roc_execution.specs.Invariants.{LogInvariants}
-use Rattle.roc_coordinator.specs.declared.transaction.Transaction.{Transaction}
-use Rattle.roc_coordinator.specs.declared.transaction.SentStart.{SentStart}
-use Rattle.roc_coordinator.specs.declared.transaction.TakenStart.{TakenStart}
-use Rattle.roc_coordinator.specs.declared.transaction.TakenCommit.{TakenCommit}
-use Rattle.roc_coordinator.specs.State.{find_transaction, with_transaction, find_start, find_startok, was_asked, has_commitok, CoordState}
-use Rattle.roc_coordinator.specs.Starts.{group_numbers, can_start, is_ready, ready_groups, start_for, with_starts, starts_of, all_started, commits_of, commit_to, shards_of, bound_count, out_count}
-use Rattle.roc_coordinator.specs.Commits.{all_committed, reply_of, places_on}
-use Rattle.roc_coordinator.specs.Step.{unless_refused, is_fit_startok, with_commits, commits_for, with_startok, sends_after, startok_taken, after_startok, is_asked, is_fit_commitok, with_commitok, reply_now, without_transaction, commitok_taken, after_commitok, after_message}
-use Rattle.roc_coordinator.specs.Submit.{next_id, new_transaction, accepted}
-use Rattle.roc_coordinator.specs.Tick.{awaits_startok, starts_again, commits_again, sent_again, tick_sends}
+use Rattle.roc_coord.specs.declared.transaction.Transaction.{Transaction}
+use Rattle.roc_coord.specs.declared.transaction.SentStart.{SentStart}
+use Rattle.roc_coord.specs.declared.transaction.TakenStart.{TakenStart}
+use Rattle.roc_coord.specs.declared.transaction.TakenCommit.{TakenCommit}
+use Rattle.roc_coord.specs.State.{find_transaction, with_transaction, find_start, find_startok, was_asked, has_commitok, CoordState}
+use Rattle.roc_coord.specs.Starts.{group_numbers, can_start, is_ready, ready_groups, start_for, with_starts, starts_of, all_started, commits_of, commit_to, shards_of, bound_count, out_count}
+use Rattle.roc_coord.specs.Commits.{all_committed, reply_of, places_on}
+use Rattle.roc_coord.specs.Step.{unless_refused, is_fit_startok, with_commits, commits_for, with_startok, sends_after, startok_taken, after_startok, is_asked, is_fit_commitok, with_commitok, reply_now, without_transaction, commitok_taken, after_commitok, after_message}
+use Rattle.roc_coord.specs.Submit.{next_id, new_transaction, accepted}
+use Rattle.roc_coord.specs.Tick.{awaits_startok, starts_again, commits_again, sent_again, tick_sends}
 use Rattle.roc_audit.specs.declared.entry.Entry.{Entry}
 use Rattle.roc_audit.specs.declared.entry.Entry.TheVariants as entry
 use Rattle.roc_protocol.specs.Asked.{IsSchemeOf}

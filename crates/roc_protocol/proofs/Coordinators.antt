@@ -28,11 +28,11 @@ use Rattle.roc_serial.specs.Runs.{inputs_at}
 use Rattle.roc_execution.specs.Scheme.{Scheme}
 use Rattle.roc_execution.specs.Log.{Log}
 use Rattle.roc_execution.specs.Invariants.{LogInvariants}
-use Rattle.roc_coordinator.specs.declared.transaction.Transaction.{Transaction}
-use Rattle.roc_coordinator.specs.declared.transaction.TakenStart.{TakenStart}
-use Rattle.roc_coordinator.specs.State.{find_startok}
-use Rattle.roc_coordinator.specs.Starts.{group_numbers, input_value, inputs_for, is_ready, shard_for, start_for, all_started, all_edges, shards_of, gathered, all_facts, commit_to, commits_of}
-use Rattle.roc_coordinator.specs.Step.{commits_for}
+use Rattle.roc_coord.specs.declared.transaction.Transaction.{Transaction}
+use Rattle.roc_coord.specs.declared.transaction.TakenStart.{TakenStart}
+use Rattle.roc_coord.specs.State.{find_startok}
+use Rattle.roc_coord.specs.Starts.{group_numbers, input_value, inputs_for, is_ready, shard_for, start_for, all_started, all_edges, shards_of, gathered, all_facts, commit_to, commits_of}
+use Rattle.roc_coord.specs.Step.{commits_for}
 use Rattle.roc_protocol.proofs.Flat.{has_flat, from_has_flat}
 use Rattle.roc_protocol.specs.Asked.{picked, IsSchemeOf}
 use Rattle.roc_protocol.proofs.Means.{HasBegun, run_of, Precedes, Ran, stage, values_for, IsSeen, ListMeans, AllMean, ToldMeans, StartMeans, StartIs, Means}

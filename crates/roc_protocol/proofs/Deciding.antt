@@ -38,19 +38,19 @@ use Rattle.roc_execution.specs.Edges.{AreEdges}
 use Rattle.roc_execution.specs.Taking.{IsTakenOrder}
 use Rattle.roc_execution.specs.Steps.{MayDecide, IsWaived, waits_here, waiting_here, new_in, with_decision, IsReachedLog, LogStep, shard_decides, no_steps, one_step_more}
 use Rattle.roc_execution.specs.Invariants.{LogInvariants, LogGrows}
-use Rattle.roc_shard.specs.declared.started.StartedGroup.{StartedGroup}
-use Rattle.roc_shard.specs.State.{is_group, find_group, ServerState}
-use Rattle.roc_shard.specs.New.{AreNew}
-use Rattle.roc_shard.specs.Runs.{count_of_groups, groups_here, buffered_here, run_group, run_groups, take_all}
+use Rattle.roc_server.specs.declared.started.StartedGroup.{StartedGroup}
+use Rattle.roc_server.specs.State.{is_group, find_group, ServerState}
+use Rattle.roc_server.specs.New.{AreNew}
+use Rattle.roc_server.specs.Runs.{count_of_groups, groups_here, buffered_here, run_group, run_groups, take_all}
 use Rattle.roc_base.specs.Edges.{united}
 use Rattle.roc_base.specs.declared.node.Shard.{Shard}
 use Rattle.roc_base.proofs.Members.{IsAllOf-united}
 use Rattle.roc_await.specs.declared.waits.Asked.{Asked}
 use Rattle.roc_await.specs.Waits.{is_asked_before, with_asked, with_all_asked}
 use Rattle.roc_protocol.proofs.Flat.{from_has_flat}
-use Rattle.roc_shard.specs.Lists.{asked_of, is_missing, missing_from, lists_after}
-use Rattle.roc_shard.specs.State.{Lists}
-use Rattle.roc_shard.specs.Inner.Kept.{unrun}
+use Rattle.roc_server.specs.Lists.{asked_of, is_missing, missing_from, lists_after}
+use Rattle.roc_server.specs.State.{Lists}
+use Rattle.roc_server.specs.Inner.Kept.{unrun}
 use Rattle.roc_protocol.specs.Asked.{IsSchemeOf}
 use Rattle.roc_protocol.specs.Inner.Given.{LogLaws}
 use Rattle.roc_protocol.proofs.Means.{HasBegun, run_of, entry_run, place, Ran, Began, stage, AllMean, AreGroupsHere, ServerMeans}

@@ -16,13 +16,13 @@ use Rattle.roc_plan.specs.Groups.{Plan}
 use Rattle.roc_whole.specs.Serial.{start_store}
 use Rattle.roc_execution.specs.Scheme.{Scheme, IsSoundScheme}
 use Rattle.roc_execution.specs.Invariants.{Continues}
-use Rattle.roc_shard.specs.State.{find_group, ServerState}
+use Rattle.roc_server.specs.State.{find_group, ServerState}
 use Rattle.roc_audit.specs.Order.{noted}
 use Rattle.roc_protocol.specs.declared.event.Event.{Event}
 use Rattle.roc_protocol.specs.declared.event.Event.TheVariants.{Submit, Deliver, Tick}
 use Rattle.roc_protocol.specs.Asked.{HasSchemes}
 use Rattle.roc_protocol.specs.World.{World, comes}
-use Rattle.roc_protocol.specs.Happens.{Outcome, Receives}
+use Rattle.roc_protocol.specs.Happens.{Outcome, IsReceived}
 use Rattle.roc_protocol.specs.Run.{Stepped, Comes, IsRun}
 use Rattle.roc_protocol.specs.Inner.Given.{LogLaws, StoreLaws}
 use Rattle.roc_protocol.proofs.Means.{run_of, Means}
@@ -52,7 +52,7 @@ order_goes_on plan w (Some (Submit n proc args)) o (s, there, h) = go (submittin
     go (is_accepted known counted e) = subst (λ (v : World). Continues w.order v.order) (sym e) (same_order w)
 order_goes_on plan w (Some (Deliver k)) o (m, some, there, h) = go m.to h
   where
-    go : (to : Node) → Receives plan (comes w k) m.msg to o → Continues w.order o.world.order
+    go : (to : Node) → IsReceived plan (comes w k) m.msg to o → Continues w.order o.world.order
     go (Server shard) (s, r, at, step, e) = subst (λ (o : Outcome). Continues w.order o.world.order) (sym e) (noted_goes_on w.order r.decided)
     go (Coord n) (s, at, e) = subst (λ (o : Outcome). Continues w.order o.world.order) (sym e) (same_order w)
 order_goes_on plan w (Some (Tick (Server shard))) o (s, there, e) = subst (λ (o : Outcome). Continues w.order o.world.order) (sym e) (same_order w)

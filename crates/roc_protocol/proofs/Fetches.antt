@@ -20,6 +20,7 @@ use Rattle.roc_depgraph.specs.Deps.{list_of, is_known}
 use Rattle.roc_await.specs.declared.waits.Asked.{Asked}
 use Rattle.roc_await.specs.declared.waits.Asker.{Asker}
 use Rattle.roc_await.specs.Waits.{is_asked_before, is_asker_before, was_asked_for, with_asked, with_all_asked, askers_of}
+use Rattle.roc_await.proofs.Asking.{asked_still, asked_all}
 use Rattle.roc_msg.specs.declared.msg.Msg.{Msg}
 use Rattle.roc_msg.specs.declared.msg.Msg.TheVariants.{Start, StartOk, Commit, CommitOk, Fetch, Known, Stop}
 use Rattle.roc_msg.specs.declared.msg.Sent.{Sent}
@@ -27,44 +28,20 @@ use Rattle.roc_msg.specs.declared.outbox.Outgoing.{Outgoing}
 use Rattle.roc_msg.specs.declared.reason.Reason.{Reason}
 use Rattle.roc_msg.specs.declared.reason.Reason.TheVariants.{NotHere, Foreign}
 use Rattle.roc_plan.specs.Groups.{Plan}
-use Rattle.roc_group.specs.Group_run.{Call, call}
-use Rattle.roc_shard.specs.declared.started.StartedGroup.{StartedGroup}
-use Rattle.roc_shard.specs.State.{ignored, answered, is_here, find_group, Lists, ServerState, ServerStep}
-use Rattle.roc_shard.specs.Start.{start_fault, start_taken, start_judged, startok_of, new_group}
-use Rattle.roc_shard.specs.Runs.{commitok_of}
-use Rattle.roc_shard.specs.Lists.{list_with, carried, unknown_of, lists_after, known_to, knowns_for, fetch_from, missing_from, taught, commit_fault, after_commit, fetch_taken, after_fetch, known_fault, after_known}
-use Rattle.roc_shard.specs.Step.{Findings, Handles, after_message, tick_sends}
+use Rattle.roc_group.specs.Group_run.{GroupCall, call}
+use Rattle.roc_server.specs.declared.started.StartedGroup.{StartedGroup}
+use Rattle.roc_server.specs.State.{ignored, answered, is_here, find_group, Lists, ServerState, ServerStep}
+use Rattle.roc_server.specs.Start.{start_fault, start_taken, start_judged, startok_of, new_group}
+use Rattle.roc_server.specs.Runs.{commitok_of}
+use Rattle.roc_server.specs.Lists.{list_with, carried, unknown_of, lists_after, known_to, knowns_for, fetch_from, missing_from, taught, commit_fault, after_commit, fetch_taken, after_fetch, known_fault, after_known}
+use Rattle.roc_server.specs.Step.{Findings, Handles, after_message, tick_sends}
 use Rattle.roc_protocol.proofs.Flat.{from_has_flat}
 use Rattle.roc_protocol.proofs.Deciding.{take_keeps}
-use Rattle.roc_coordinator.specs.State.{CoordState}
+use Rattle.roc_coord.specs.State.{CoordState}
 use Rattle.roc_audit.specs.declared.entry.Entry.{Entry}
 use Rattle.roc_protocol.specs.World.{World, sent_by, comes, at_server, at_coord}
 use Rattle.roc_protocol.proofs.Gathered.{IsRound}
 use Rattle.roc_protocol.proofs.Changed.{get-set_here, get-set_other, get-set_cases}
-
--- ---- what was asked for stays asked for
-
-asked_with : (id : TxnId) (a : Asked) (old : List Asked) → was_asked_for id old ≡ true → was_asked_for id (with_asked a old) ≡ true
-asked_with id a old h =
-    let x = any_has (λ (x : Asked). is_txn x.id id) old h in
-    let at : (y : Asked) → Has y (with_asked a old) → is_txn y.id id ≡ true → was_asked_for id (with_asked a old) ≡ true = λ y k e. has_any (λ (x : Asked). is_txn x.id id) (with_asked a old) y k e in
-    elim (txn_cases x.0.id a.id) [
-      | inl l ↦ at x.0 (has_left x.0 (filter (λ x. is_asked_before x a) old) (a ∷ filter (λ x. is_asked_before a x) old) (has_filter (λ x. is_asked_before x a) x.0 old x.1 l)) x.2
-      | inr (inl e) ↦ at a (has_right a (filter (λ x. is_asked_before x a) old) (a ∷ filter (λ x. is_asked_before a x) old) (inl refl)) (is_txn-eq a.id id (sym e ∙ is_txn-true x.0.id id x.2))
-      | inr (inr l) ↦ at x.0 (has_right x.0 (filter (λ x. is_asked_before x a) old) (a ∷ filter (λ x. is_asked_before a x) old) (inr (has_filter (λ x. is_asked_before a x) x.0 old x.1 l))) x.2
-    ]
-
-asked_new : (a : Asked) (old : List Asked) → was_asked_for a.id (with_asked a old) ≡ true
-asked_new a old = has_any (λ (x : Asked). is_txn x.id a.id) (with_asked a old) a (has_right a (filter (λ x. is_asked_before x a) old) (a ∷ filter (λ x. is_asked_before a x) old) (inl refl)) (is_txn-eq a.id a.id refl)
-
-asked_still : (id : TxnId) (more old : List Asked) → was_asked_for id old ≡ true → was_asked_for id (with_all_asked more old) ≡ true
-asked_still id [] old h = h
-asked_still id (a ∷ more) old h = asked_still id more (with_asked a old) (asked_with id a old h)
-
-asked_all : (a : Asked) (more old : List Asked) → Has a more → was_asked_for a.id (with_all_asked more old) ≡ true
-asked_all a [] old h = absurd h
-asked_all a (b ∷ more) old (inl e) = asked_still a.id more (with_asked b old) (subst (λ (b : Asked). was_asked_for a.id (with_asked b old) ≡ true) e (asked_new a old))
-asked_all a (b ∷ more) old (inr h) = asked_all a more (with_asked b old) h
 
 -- ---- a step of a server. For says that a shard has asked for a list
 
@@ -92,7 +69,7 @@ module _ (plan : Plan) (For : TxnId → ℕ → Type 0) (s : ServerState) (waits
   ignores : (why : Reason) → KeepsFetches (ignored s why)
   ignores why = record { asked = λ id h. h; askers = waits; sends = λ out h. absurd h; shard = refl }
 
-  start_fetches : (f : Findings) (id : TxnId) (c : Call) (x : Option Reason) → KeepsFetches (start_judged plan f.before f.reached s id c x)
+  start_fetches : (f : Findings) (id : TxnId) (c : GroupCall) (x : Option Reason) → KeepsFetches (start_judged plan f.before f.reached s id c x)
   start_fetches f id c (Some why) = ignores why
   start_fetches f id c None = taken (find_group id c.group s.started)
     where

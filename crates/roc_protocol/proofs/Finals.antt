@@ -19,13 +19,13 @@ use Rattle.roc_whole.specs.Serial as whole
 use Rattle.roc_whole.specs.Serial.{start_store}
 use Rattle.roc_execution.specs.Scheme.{Scheme, IsSoundScheme}
 use Rattle.roc_execution.specs.Log.{Log}
-use Rattle.roc_shard.specs.State.{answered, ServerState}
-use Rattle.roc_shard.specs.First.{first_server}
-use Rattle.roc_shard.specs.Step as server
-use Rattle.roc_coordinator.specs.State.{first_coord, CoordState}
-use Rattle.roc_coordinator.specs.Step.{after_message}
-use Rattle.roc_coordinator.specs.Submit.{next_id, new_transaction, accepted}
-use Rattle.roc_coordinator.specs.Tick as coord
+use Rattle.roc_server.specs.State.{answered, ServerState}
+use Rattle.roc_server.specs.First.{first_server}
+use Rattle.roc_server.specs.Step as server
+use Rattle.roc_coord.specs.State.{first_coord, CoordState}
+use Rattle.roc_coord.specs.Step.{after_message}
+use Rattle.roc_coord.specs.Submit.{next_id, new_transaction, accepted}
+use Rattle.roc_coord.specs.Tick as coord
 use Rattle.roc_audit.specs.declared.entry.Entry.{Entry}
 use Rattle.roc_audit.specs.declared.entry.Entry.TheVariants.{Submitted}
 use Rattle.roc_audit.specs.History.{WasSubmitted}
@@ -33,7 +33,7 @@ use Rattle.roc_protocol.specs.declared.event.Event.{Event}
 use Rattle.roc_protocol.specs.declared.event.Event.TheVariants.{Submit, Deliver, Tick}
 use Rattle.roc_protocol.specs.Asked.{IsSchemeOf, HasSchemes}
 use Rattle.roc_protocol.specs.World.{World, sent_by, comes, at_coord}
-use Rattle.roc_protocol.specs.Happens.{Outcome, answer_entries, Receives, Ticks}
+use Rattle.roc_protocol.specs.Happens.{Outcome, answer_entries, IsReceived, Ticks}
 use Rattle.roc_protocol.specs.Run.{Stepped, Comes, IsRun, begun, goes_on}
 use Rattle.roc_protocol.specs.Final.{lists_in, IsUnionIn, IsFinalIn}
 use Rattle.roc_protocol.specs.Inner.Given.{LogLaws, StoreLaws}
@@ -113,7 +113,7 @@ module _ (plan : Plan) (asked : TxnId → whole.Call) (S : Scheme) (is : IsSchem
     tells m h (Known id edges) e good n s there = tt
     tells m h Stop e good n s there = tt
 
-    receive_networked : (m : Sent) → Has m w.sent → (to : Node) (v : Outcome) → Receives plan w m.msg to v → IsNetworked plan asked S is laws v.world
+    receive_networked : (m : Sent) → Has m w.sent → (to : Node) (v : Outcome) → IsReceived plan w m.msg to v → IsNetworked plan asked S is laws v.world
     receive_networked m h (Server shard) v (s, r, there, step, e) = subst (λ (v : Outcome). IsNetworked plan asked S is laws v.world) (sym e)
         (served_networked plan asked S is laws w log o nw shard.0 s there r (message_good plan Goods (Anywhere plan asked S is laws) s (nw.servers shard.0 s there) m.msg r step (nw.lists m h) (anywhere m.msg)))
     receive_networked m h (Coord n) v (s, there, e) = subst (λ (v : Outcome). IsNetworked plan asked S is laws v.world) (sym e)

@@ -16,8 +16,8 @@ use Rattle.roc_whole.specs.Serial as whole
 use Rattle.roc_execution.specs.Scheme.{Scheme}
 use Rattle.roc_execution.specs.Log.{first_log}
 use Rattle.roc_execution.specs.Steps.{no_steps}
-use Rattle.roc_shard.specs.First.{first_server}
-use Rattle.roc_coordinator.specs.State.{first_coord, CoordState}
+use Rattle.roc_server.specs.First.{first_server}
+use Rattle.roc_coord.specs.State.{first_coord, CoordState}
 use Rattle.roc_protocol.specs.Asked.{IsSchemeOf}
 use Rattle.roc_protocol.specs.World.{first_world}
 use Rattle.roc_protocol.proofs.Means.{ServerMeans, WorldMeans}

@@ -15,14 +15,14 @@ use Rattle.roc_msg.specs.declared.msg.Msg.TheVariants.{Start, StartOk, Commit, C
 use Rattle.roc_msg.specs.declared.outbox.Outgoing.{Outgoing}
 use Rattle.roc_msg.specs.declared.reason.Reason.{Reason}
 use Rattle.roc_plan.specs.Groups.{Plan}
-use Rattle.roc_coordinator.specs.declared.transaction.Transaction.{Transaction}
-use Rattle.roc_coordinator.specs.declared.transaction.TakenStart.{TakenStart}
-use Rattle.roc_coordinator.specs.declared.transaction.TakenCommit.{TakenCommit}
-use Rattle.roc_coordinator.specs.State.{find_transaction, with_transaction, has_commitok, CoordState, CoordStep}
-use Rattle.roc_coordinator.specs.Starts.{group_numbers, ready_groups, start_for, with_starts, starts_of, all_started, all_edges, gathered, shards_of, commit_to, commits_of}
-use Rattle.roc_coordinator.specs.Step.{unless_refused, with_commits, commits_for, with_startok, sends_after, startok_taken, startok_refusal, after_startok, with_commitok, reply_now, commitok_taken, commitok_refusal, after_commitok, after_message}
-use Rattle.roc_coordinator.specs.Submit.{next_id, new_transaction, accepted}
-use Rattle.roc_coordinator.specs.Tick.{awaits_startok, starts_again, commits_again, sent_again, tick_sends}
+use Rattle.roc_coord.specs.declared.transaction.Transaction.{Transaction}
+use Rattle.roc_coord.specs.declared.transaction.TakenStart.{TakenStart}
+use Rattle.roc_coord.specs.declared.transaction.TakenCommit.{TakenCommit}
+use Rattle.roc_coord.specs.State.{find_transaction, with_transaction, has_commitok, CoordState, CoordStep}
+use Rattle.roc_coord.specs.Starts.{group_numbers, ready_groups, start_for, with_starts, starts_of, all_started, all_edges, gathered, shards_of, commit_to, commits_of}
+use Rattle.roc_coord.specs.Step.{unless_refused, with_commits, commits_for, with_startok, sends_after, startok_taken, startok_refusal, after_startok, with_commitok, reply_now, commitok_taken, commitok_refusal, after_commitok, after_message}
+use Rattle.roc_coord.specs.Submit.{next_id, new_transaction, accepted}
+use Rattle.roc_coord.specs.Tick.{awaits_startok, starts_again, commits_again, sent_again, tick_sends}
 use Rattle.roc_protocol.specs.Final.{lists_in}
 use Rattle.roc_protocol.proofs.Flat.{from_has_flat}
 use Rattle.roc_protocol.proofs.Coordinators.{from_gathered}

@@ -7,7 +7,7 @@ use Rattle.roc_sequence.specs.Lists.{Has}
 use Rattle.roc_sequence.specs.Places.{IsListed}
 use Rattle.roc_sequence.proofs.Holds.{all_weaker, all_has}
 use Rattle.roc_sequence.proofs.Ranges.{range_below}
-use Rattle.roc_coordinator.specs.State.{was_asked}
+use Rattle.roc_coord.specs.State.{was_asked}
 use Rattle.roc_sequence.proofs.Appended.{listed_front}
 use Rattle.roc_sequence.proofs.Members.{from_has_filter}
 use Rattle.roc_base.specs.declared.id.TxnId.{TxnId}
@@ -26,8 +26,8 @@ use Rattle.roc_serial.specs.Runs.{needs}
 use Rattle.roc_execution.specs.Scheme.{Scheme}
 use Rattle.roc_execution.specs.Log.{Log, IsWhole}
 use Rattle.roc_execution.specs.Invariants.{LogInvariants, LogGrows}
-use Rattle.roc_shard.specs.declared.started.StartedGroup.{StartedGroup}
-use Rattle.roc_coordinator.specs.declared.transaction.Transaction.{Transaction}
+use Rattle.roc_server.specs.declared.started.StartedGroup.{StartedGroup}
+use Rattle.roc_coord.specs.declared.transaction.Transaction.{Transaction}
 use Rattle.roc_protocol.specs.Asked.{picked, IsSchemeOf}
 use Rattle.roc_protocol.proofs.Means.{run_of, entry_run, place, Ran, Began, stage, values_for, EdgesMean, IsSeen, ListMeans, AllMean, ToldMeans, StartMeans, HasBegun, IsBegunAt, waits_at, outs_at, DoneMeans, StartIs, Means, EntryMeans, TxnMeans, IsGiven, AnswerMeans}
 

@@ -13,13 +13,13 @@ use Rattle.roc_msg.specs.declared.msg.Msg.{Msg}
 use Rattle.roc_msg.specs.declared.msg.Msg.TheVariants.{Start, StartOk, Commit, CommitOk, Fetch, Known, Stop}
 use Rattle.roc_msg.specs.declared.reason.Reason.{Reason}
 use Rattle.roc_plan.specs.Groups.{Plan}
-use Rattle.roc_coordinator.specs.declared.transaction.Transaction.{Transaction}
-use Rattle.roc_coordinator.specs.declared.transaction.SentStart.{SentStart}
-use Rattle.roc_coordinator.specs.declared.transaction.TakenStart.{TakenStart}
-use Rattle.roc_coordinator.specs.State.{find_transaction, with_transaction, find_startok, was_asked, CoordState}
-use Rattle.roc_coordinator.specs.Starts.{group_numbers, ready_groups, shard_for, sent_start, with_starts, all_started, shards_of}
-use Rattle.roc_coordinator.specs.Step.{unless_refused, with_commits, with_startok, startok_taken, startok_refusal, after_startok, with_commitok, reply_now, without_transaction, commitok_taken, commitok_refusal, after_commitok, after_message}
-use Rattle.roc_coordinator.specs.Submit.{next_id, new_transaction, accepted}
+use Rattle.roc_coord.specs.declared.transaction.Transaction.{Transaction}
+use Rattle.roc_coord.specs.declared.transaction.SentStart.{SentStart}
+use Rattle.roc_coord.specs.declared.transaction.TakenStart.{TakenStart}
+use Rattle.roc_coord.specs.State.{find_transaction, with_transaction, find_startok, was_asked, CoordState}
+use Rattle.roc_coord.specs.Starts.{group_numbers, ready_groups, shard_for, sent_start, with_starts, all_started, shards_of}
+use Rattle.roc_coord.specs.Step.{unless_refused, with_commits, with_startok, startok_taken, startok_refusal, after_startok, with_commitok, reply_now, without_transaction, commitok_taken, commitok_refusal, after_commitok, after_message}
+use Rattle.roc_coord.specs.Submit.{next_id, new_transaction, accepted}
 
 -- ---- a transaction goes on
 
@@ -57,7 +57,7 @@ module _ (plan : Plan) (s : CoordState) (once : (y z : Transaction) → Has y s.
 
 -- ---- a startok
 
-more_found : {A : Type 0} (p : A → Bool) (xs ys : List A) → is_some (find p xs) ≡ true → is_some (find p (xs ++ ys)) ≡ true
+pub more_found : {A : Type 0} (p : A → Bool) (xs ys : List A) → is_some (find p xs) ≡ true → is_some (find p (xs ++ ys)) ≡ true
 more_found p [] ys h = absurd (false≢true h)
 more_found p (x ∷ xs) ys h = go (p x) h (more_found p xs ys)
   where

@@ -6,12 +6,12 @@ use Rattle.roc_depgraph.specs.Deps.{is_known}
 use Rattle.roc_base.specs.declared.node.Node.TheVariants.{Server, Coord}
 use Rattle.roc_msg.specs.declared.msg.Sent.{Sent}
 use Rattle.roc_plan.specs.Groups.{Plan}
-use Rattle.roc_shard.specs.First.{first_server}
-use Rattle.roc_shard.specs.State.{answered, ServerState}
-use Rattle.roc_shard.specs.Lists.{fetch_from}
-use Rattle.roc_shard.specs.Step as server
-use Rattle.roc_coordinator.specs.State.{first_coord, CoordState}
-use Rattle.roc_coordinator.specs.Tick as coord
+use Rattle.roc_server.specs.First.{first_server}
+use Rattle.roc_server.specs.State.{answered, ServerState}
+use Rattle.roc_server.specs.Lists.{fetch_from}
+use Rattle.roc_server.specs.Step as server
+use Rattle.roc_coord.specs.State.{first_coord, CoordState}
+use Rattle.roc_coord.specs.Tick as coord
 use Rattle.roc_protocol.specs.declared.event.Event.{Event}
 use Rattle.roc_protocol.specs.declared.event.Event.TheVariants.{Submit, Deliver, Tick}
 use Rattle.roc_protocol.specs.World.{World, at_server, at_coord}

@@ -1,29 +1,29 @@
-mod Flat
+pub mod Flat
 mod Means
 mod Grows
 mod Meets
-mod Facts
+pub mod Facts
 mod Local
 mod Elsewhere
 mod Starting
 mod Buffered
 mod Runs
-mod Deciding
-mod Coordinators
+pub mod Deciding
+pub mod Coordinators
 mod Rounds
 mod Replies
-mod Changed
-mod Served
+pub mod Changed
+pub mod Served
 mod NoStarts
 mod Coordinated
 mod Submissions
-mod Firsts
-mod Worlds
+pub mod Firsts
+pub mod Worlds
 mod Witness
 mod Idle
 mod Serial
 mod Earlier
-mod Carried
+pub mod Carried
 mod Gathered
 mod Unions
 mod Networks
@@ -38,5 +38,18 @@ mod PendingSends
 mod PendingRuns
 mod Staleness
 mod Ends
+mod Heard
+mod Outstanding
+mod Taken
+mod OutstandingSteps
+mod Undelivered
+mod Ongoing
+mod OngoingRuns
+mod Liveness
+mod Hears
+mod Takes
+mod Delivered
+mod Hearing
+mod Quieted
 mod Ordered
 mod OneRun

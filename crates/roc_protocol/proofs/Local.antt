@@ -5,7 +5,7 @@ use Rattle.roc_rows.specs.declared.cell.Cell.{Cell}
 use Rattle.roc_rows.specs.Store.{Store, read}
 use Rattle.roc_plan.specs.Groups.{Plan, inputs_of}
 use Rattle.roc_whole.specs.Serial as whole
-use Rattle.roc_group.specs.Group_run.{Call, call, group_run, group_uses, bound_by_run}
+use Rattle.roc_group.specs.Group_run.{GroupCall, call, group_run, group_uses, bound_by_run}
 use Rattle.roc_serial.specs.Behaviour.{TxnGroup, Yield, DoesSame}
 use Rattle.roc_serial.specs.Runs.{Stage, inputs_at, uses_at, yield_at, after_group}
 use Rattle.roc_serial.proofs.Stages.{after-store, after-yielded_same}
@@ -23,7 +23,7 @@ module _ (plan : Plan) (asked : TxnId → whole.Call) (S : Scheme) (start : Stor
   call_is proc group args inputs id given p a v = λ i. call (p i) group (a i) (v i)
 
   -- what a group does on its shard's store is what it does on the one store
-  module _ (shard : ℕ) (X : Stage) (r : TxnGroup) (c : Call) (store : Store) (same : c ≡ called plan asked r (inputs_at S.behaviour X r)) (on : S.group_shard r (inputs_at S.behaviour X r) ≡ shard) (alike : (x : Cell) → S.cell_shard x ≡ shard → read store x ≡ read X.store x) where
+  module _ (shard : ℕ) (X : Stage) (r : TxnGroup) (c : GroupCall) (store : Store) (same : c ≡ called plan asked r (inputs_at S.behaviour X r)) (on : S.group_shard r (inputs_at S.behaviour X r) ≡ shard) (alike : (x : Cell) → S.cell_shard x ≡ shard → read store x ≡ read X.store x) where
     abbrev given : List (List ℤ)
     given = inputs_at S.behaviour X r
 
@@ -35,14 +35,14 @@ module _ (plan : Plan) (asked : TxnId → whole.Call) (S : Scheme) (start : Stor
 
     pub run_cells : (x : Cell) → S.cell_shard x ≡ shard → read (group_run plan c store).store x ≡ read (after_group S.behaviour X r).store x
     run_cells x e =
-        ap (λ (c : Call). read (group_run plan c store).store x) same
+        ap (λ (c : GroupCall). read (group_run plan c store).store x) same
         ∙ ap (λ (s : Store). read s x) (sym (is.after r given store))
         ∙ laws.cells r given store X.store alike_here x (e ∙ sym on)
         ∙ ap (λ (s : Store). read s x) (sym (after-store S.behaviour X r))
 
     yields : yield (bound_by_run plan c store) (group_run plan c store).reply ≡ yield_at S.behaviour X r
     yields =
-        ap (λ (c : Call). yield (bound_by_run plan c store) (group_run plan c store).reply) same
+        ap (λ (c : GroupCall). yield (bound_by_run plan c store) (group_run plan c store).reply) same
         ∙ sym (is.yields r given store)
         ∙ does.yields
 
@@ -53,4 +53,4 @@ module _ (plan : Plan) (asked : TxnId → whole.Call) (S : Scheme) (start : Stor
     run_outs = ap (λ (y : Yield). y.outs) (yields ∙ sym (after-yielded_same S.behaviour X r))
 
     pub run_uses : map use_of (group_uses plan c store) ≡ uses_at S.behaviour X r
-    run_uses = ap (λ (c : Call). map use_of (group_uses plan c store)) same ∙ sym (is.uses r given store) ∙ does.uses
+    run_uses = ap (λ (c : GroupCall). map use_of (group_uses plan c store)) same ∙ sym (is.uses r given store) ∙ does.uses

@@ -25,13 +25,13 @@ use Rattle.roc_serial.specs.Runs.{Stage, needs, inputs_at, stage_behind, uses_in
 use Rattle.roc_execution.specs.Scheme.{Scheme}
 use Rattle.roc_execution.specs.Log.{Log, PrecedesGroup, shard_at, IsWhole}
 use Rattle.roc_execution.specs.Steps.{IsReachedLog}
-use Rattle.roc_shard.specs.declared.started.StartedGroup.{StartedGroup}
-use Rattle.roc_shard.specs.State.{find_group, ServerState}
-use Rattle.roc_shard.specs.Inner.Kept.{unrun}
-use Rattle.roc_coordinator.specs.declared.transaction.Transaction.{Transaction}
-use Rattle.roc_coordinator.specs.declared.transaction.TakenStart.{TakenStart}
-use Rattle.roc_coordinator.specs.State.{was_asked, CoordState}
-use Rattle.roc_coordinator.specs.Starts.{is_ready, all_started, shards_of}
+use Rattle.roc_server.specs.declared.started.StartedGroup.{StartedGroup}
+use Rattle.roc_server.specs.State.{find_group, ServerState}
+use Rattle.roc_server.specs.Inner.Kept.{unrun}
+use Rattle.roc_coord.specs.declared.transaction.Transaction.{Transaction}
+use Rattle.roc_coord.specs.declared.transaction.TakenStart.{TakenStart}
+use Rattle.roc_coord.specs.State.{was_asked, CoordState}
+use Rattle.roc_coord.specs.Starts.{is_ready, all_started, shards_of}
 use Rattle.roc_audit.specs.declared.entry.Entry.TheVariants.{Answered}
 use Rattle.roc_protocol.specs.Asked.{picked, use_of}
 use Rattle.roc_protocol.specs.World.{World}

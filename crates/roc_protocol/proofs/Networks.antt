@@ -26,12 +26,12 @@ use Rattle.roc_whole.specs.Serial.{start_store}
 use Rattle.roc_execution.specs.Scheme.{Scheme}
 use Rattle.roc_execution.specs.Log.{Log}
 use Rattle.roc_execution.specs.Invariants.{LogInvariants}
-use Rattle.roc_shard.specs.declared.started.StartedGroup.{StartedGroup}
-use Rattle.roc_shard.specs.State.{is_here, find_group, ServerState, ServerStep}
-use Rattle.roc_coordinator.specs.declared.transaction.Transaction.{Transaction}
-use Rattle.roc_coordinator.specs.declared.transaction.TakenStart.{TakenStart}
-use Rattle.roc_coordinator.specs.State.{find_startok, CoordState}
-use Rattle.roc_coordinator.specs.Starts.{group_numbers, all_started, all_edges}
+use Rattle.roc_server.specs.declared.started.StartedGroup.{StartedGroup}
+use Rattle.roc_server.specs.State.{is_here, find_group, ServerState, ServerStep}
+use Rattle.roc_coord.specs.declared.transaction.Transaction.{Transaction}
+use Rattle.roc_coord.specs.declared.transaction.TakenStart.{TakenStart}
+use Rattle.roc_coord.specs.State.{find_startok, CoordState}
+use Rattle.roc_coord.specs.Starts.{group_numbers, all_started, all_edges}
 use Rattle.roc_protocol.specs.Asked.{IsSchemeOf}
 use Rattle.roc_protocol.specs.World.{World, sent_by, at_server}
 use Rattle.roc_protocol.specs.Quiet.{IsToldIn}

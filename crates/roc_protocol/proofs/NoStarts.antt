@@ -18,13 +18,13 @@ use Rattle.roc_msg.specs.declared.outbox.Outgoing.{Outgoing}
 use Rattle.roc_msg.specs.declared.reason.Reason.{Reason}
 use Rattle.roc_msg.specs.declared.reason.Reason.TheVariants.{NotHere}
 use Rattle.roc_plan.specs.Groups.{Plan}
-use Rattle.roc_group.specs.Group_run.{Call, call}
-use Rattle.roc_shard.specs.declared.started.StartedGroup.{StartedGroup}
-use Rattle.roc_shard.specs.State.{ignored, answered, is_here, find_group, ServerState, ServerStep}
-use Rattle.roc_shard.specs.Start.{start_fault, start_taken, start_judged, startok_of, new_group}
-use Rattle.roc_shard.specs.Runs.{commitok_of}
-use Rattle.roc_shard.specs.Lists.{list_with, carried, unknown_of, known_to, knowns_for, fetch_from, missing_from, taught, commit_fault, after_commit, fetch_taken, after_fetch, known_fault, after_known}
-use Rattle.roc_shard.specs.Step.{Findings, after_message, tick_sends}
+use Rattle.roc_group.specs.Group_run.{GroupCall, call}
+use Rattle.roc_server.specs.declared.started.StartedGroup.{StartedGroup}
+use Rattle.roc_server.specs.State.{ignored, answered, is_here, find_group, ServerState, ServerStep}
+use Rattle.roc_server.specs.Start.{start_fault, start_taken, start_judged, startok_of, new_group}
+use Rattle.roc_server.specs.Runs.{commitok_of}
+use Rattle.roc_server.specs.Lists.{list_with, carried, unknown_of, known_to, knowns_for, fetch_from, missing_from, taught, commit_fault, after_commit, fetch_taken, after_fetch, known_fault, after_known}
+use Rattle.roc_server.specs.Step.{Findings, after_message, tick_sends}
 use Rattle.roc_protocol.proofs.Flat.{from_has_flat}
 use Rattle.roc_protocol.proofs.Served.{StartsAre}
 
@@ -35,7 +35,7 @@ module _ (plan : Plan) (s : ServerState) (Of : TxnId → Type 0) where
   one_sent : (out x : Outgoing) → Has out (x ∷ []) → StartsAre Of x.msg → StartsAre Of out.msg
   one_sent out x h k = subst (λ (out : Outgoing). StartsAre Of out.msg) (sym (has_one out x h)) k
 
-  start_none : (f : Findings) (id : TxnId) (c : Call) → (x : Option Reason) → SendsNone (start_judged plan f.before f.reached s id c x)
+  start_none : (f : Findings) (id : TxnId) (c : GroupCall) → (x : Option Reason) → SendsNone (start_judged plan f.before f.reached s id c x)
   start_none f id c (Some why) out h = absurd h
   start_none f id c None out h = taken (find_group id c.group s.started) h
     where

@@ -9,24 +9,24 @@ use Rattle.roc_msg.specs.declared.msg.Msg.{Msg}
 use Rattle.roc_msg.specs.declared.msg.Sent.{Sent}
 use Rattle.roc_msg.specs.declared.outbox.Outgoing.{Outgoing}
 use Rattle.roc_plan.specs.Groups.{Plan}
-use Rattle.roc_shard.specs.State.{answered, ServerState, ServerStep}
-use Rattle.roc_shard.specs.Step as server
-use Rattle.roc_shard.specs.Step.{Handles}
-use Rattle.roc_coordinator.specs.declared.handled.SubmitFault.{SubmitFault}
-use Rattle.roc_coordinator.specs.declared.handled.SubmitFault.TheVariants as fault
-use Rattle.roc_coordinator.specs.State.{CoordState}
-use Rattle.roc_coordinator.specs.Step.{after_message}
-use Rattle.roc_coordinator.specs.Submit.{after_submit}
-use Rattle.roc_coordinator.specs.Tick as coord
+use Rattle.roc_server.specs.State.{answered, ServerState, ServerStep}
+use Rattle.roc_server.specs.Step as server
+use Rattle.roc_server.specs.Step.{Handles}
+use Rattle.roc_coord.specs.declared.handled.SubmitFault.{SubmitFault}
+use Rattle.roc_coord.specs.declared.handled.SubmitFault.TheVariants as fault
+use Rattle.roc_coord.specs.State.{CoordState}
+use Rattle.roc_coord.specs.Step.{after_message}
+use Rattle.roc_coord.specs.Submit.{after_submit}
+use Rattle.roc_coord.specs.Tick as coord
 use Rattle.roc_protocol.specs.declared.event.Event.{Event}
 use Rattle.roc_protocol.specs.declared.event.Event.TheVariants.{Submit, Deliver, Tick}
 use Rattle.roc_protocol.specs.declared.event.Seen.TheVariants as seen
 use Rattle.roc_protocol.specs.World.{World, comes, at_coord}
-use Rattle.roc_protocol.specs.Happens.{Outcome, undecided, Submits, IsSubmissionOf, served, coordinated, Receives, Ticks, Happens}
+use Rattle.roc_protocol.specs.Happens.{Outcome, undecided, Submits, IsSubmissionOf, served, coordinated, IsReceived, Ticks, Happens}
 use Rattle.roc_protocol.specs.Run.{Stepped, Comes, IsRun, begun, goes_on}
 
 -- what is found at a place is one
-same_there : {A : Type 0} (xs : List A) (i : ℕ) (a b : A) → slice_get xs i ≡ Some a → slice_get xs i ≡ Some b → a ≡ b
+pub same_there : {A : Type 0} (xs : List A) (i : ℕ) (a b : A) → slice_get xs i ≡ Some a → slice_get xs i ≡ Some b → a ≡ b
 same_there xs i a b h k = let both : Some a ≡ Some b = sym h ∙ k in cc
 
 module _ (plan : Plan) (one : (s : ServerState) (msg : Msg) (r other : ServerStep) → Handles plan s msg r → Handles plan s msg other → r ≡ other) where
@@ -40,7 +40,7 @@ module _ (plan : Plan) (one : (s : ServerState) (msg : Msg) (r other : ServerSte
     one_submission n proc args after outs (Err fault.Args) o other h k = absurd h
     one_submission n proc args after outs (Err fault.NoMemory) o other h k = absurd h
 
-    one_delivery : (msg : Msg) (to : Node) (o other : Outcome) → Receives plan w msg to o → Receives plan w msg to other → o ≡ other
+    one_delivery : (msg : Msg) (to : Node) (o other : Outcome) → IsReceived plan w msg to o → IsReceived plan w msg to other → o ≡ other
     one_delivery msg (Server shard) o other (s, r, there, handles, is) (t, q, there2, handles2, is2) =
         let same : s ≡ t = same_there w.servers shard.0 s t there there2 in
         let step : r ≡ q = one t msg r q (subst (λ (u : ServerState). Handles plan u msg r) same handles) handles2 in
@@ -63,7 +63,7 @@ module _ (plan : Plan) (one : (s : ServerState) (msg : Msg) (r other : ServerSte
       one_submission w n proc args (after_submit plan t proc args).state (after_submit plan t proc args).sends (after_submit plan t proc args).answer o other (subst (λ (u : CoordState). IsSubmissionOf w n proc args (after_submit plan u proc args) o) same h) k
   one_event w (Deliver k) o other (m, some, there, c) (n, some2, there2, d) =
       let same : m ≡ n = same_there w.sent (k - 1) m n there there2 in
-      one_delivery (comes w k) n.msg n.to o other (subst (λ (x : Sent). Receives plan (comes w k) x.msg x.to o) same c) d
+      one_delivery (comes w k) n.msg n.to o other (subst (λ (x : Sent). IsReceived plan (comes w k) x.msg x.to o) same c) d
   one_event w (Tick node) o other h k = one_tick w node o other h k
 
   pub one_step : (w : World) (e : Option Event) (o other : Outcome) → Comes plan w e o → Comes plan w e other → o ≡ other

@@ -26,12 +26,12 @@ use Rattle.roc_whole.specs.Serial.{start_store}
 use Rattle.roc_rows.specs.Store.{Store}
 use Rattle.roc_execution.specs.Scheme.{Scheme, IsSoundScheme}
 use Rattle.roc_execution.specs.Log.{Log, PrecedesTxn, PrecedesGroup}
-use Rattle.roc_shard.specs.State.{ServerState}
+use Rattle.roc_server.specs.State.{ServerState}
 use Rattle.roc_audit.specs.History.{WasSubmitted}
 use Rattle.roc_protocol.specs.declared.event.Event.TheVariants.{Deliver}
 use Rattle.roc_protocol.specs.Asked.{HasSchemes}
 use Rattle.roc_protocol.specs.World.{World, comes}
-use Rattle.roc_protocol.specs.Happens.{Outcome, Receives, Happens}
+use Rattle.roc_protocol.specs.Happens.{Outcome, IsReceived, Happens}
 use Rattle.roc_protocol.specs.Run.{Stepped, IsRun}
 use Rattle.roc_protocol.specs.Inner.Given.{LogLaws, SerialLaws, StoreLaws}
 use Rattle.roc_protocol.proofs.Means.{AllMean, Means}
@@ -79,7 +79,7 @@ in_list xs ys a b once (inr p) =
 
 module _ (plan : Plan) (schemes : HasSchemes plan) (laws : (S : Scheme) → IsSoundScheme S → LogLaws S (start_store plan.program)) (serials : (S : Scheme) → IsSoundScheme S → SerialLaws S (start_store plan.program)) (stores : StoreLaws) (coords : ℕ) (steps : List Stepped) (w : World) (run : IsRun plan coords steps w) where
   module _ (k : ℕ) (shard : Shard) (s v : ServerState) (o : Outcome) (here : slice_get w.servers shard.0 ≡ Some s) (after : slice_get o.world.servers shard.0 ≡ Some v) (a b : TxnId) (related : IsAncestor v.lists.known a b ⊎ IsAncestor v.lists.known b a) (taken : (IsDecided s.lists.known a × IsListed is_txn o.decided b) ⊎ (IsListed is_txn o.decided b × IsListedBefore is_txn o.decided a b)) where
-    at_event : 0 < length plan.program.procedures → (m : Sent) → slice_get w.sent (k - 1) ≡ Some m → (t : Node) → m.to ≡ t → t ≡ Server shard → Receives plan (comes w k) m.msg t o → IsListedBefore is_txn o.world.order a b
+    at_event : 0 < length plan.program.procedures → (m : Sent) → slice_get w.sent (k - 1) ≡ Some m → (t : Node) → m.to ≡ t → t ≡ Server shard → IsReceived plan (comes w k) m.msg t o → IsListedBefore is_txn o.world.order a b
     at_event some m at (Coord n) to is x = absurd (cc)
     at_event some m at (Server at_shard) to is (u, r, there, step, e) =
         let x = serial.logged plan schemes laws stores coords steps w run some in

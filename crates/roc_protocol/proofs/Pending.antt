@@ -17,10 +17,10 @@ use Rattle.roc_whole.specs.Serial as whole
 use Rattle.roc_whole.specs.Serial.{start_store}
 use Rattle.roc_execution.specs.Scheme.{Scheme}
 use Rattle.roc_execution.specs.Log.{Log}
-use Rattle.roc_shard.specs.State.{ServerState, ServerStep}
-use Rattle.roc_coordinator.specs.declared.transaction.Transaction.{Transaction}
-use Rattle.roc_coordinator.specs.State.{was_asked, CoordState}
-use Rattle.roc_coordinator.specs.Starts.{all_started, shards_of}
+use Rattle.roc_server.specs.State.{ServerState, ServerStep}
+use Rattle.roc_coord.specs.declared.transaction.Transaction.{Transaction}
+use Rattle.roc_coord.specs.State.{was_asked, CoordState}
+use Rattle.roc_coord.specs.Starts.{all_started, shards_of}
 use Rattle.roc_audit.specs.declared.entry.Entry.{Entry}
 use Rattle.roc_audit.specs.declared.entry.Entry.TheVariants.{Submitted}
 use Rattle.roc_audit.specs.History.{WasSubmitted}

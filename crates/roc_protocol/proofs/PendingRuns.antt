@@ -25,18 +25,18 @@ use Rattle.roc_whole.specs.Serial.{start_store}
 use Rattle.roc_execution.specs.Scheme.{Scheme}
 use Rattle.roc_execution.specs.Log.{Log}
 use Rattle.roc_execution.specs.Invariants.{LogInvariants}
-use Rattle.roc_shard.specs.First.{first_server}
-use Rattle.roc_shard.specs.State.{answered, ServerState, ServerStep}
-use Rattle.roc_shard.specs.Step as server
-use Rattle.roc_coordinator.specs.declared.transaction.Transaction.{Transaction}
-use Rattle.roc_coordinator.specs.declared.transaction.SentStart.{SentStart}
-use Rattle.roc_coordinator.specs.declared.transaction.TakenStart.{TakenStart}
-use Rattle.roc_coordinator.specs.declared.transaction.TakenCommit.{TakenCommit}
-use Rattle.roc_coordinator.specs.State.{find_transaction, with_transaction, find_start, find_startok, was_asked, has_commitok, first_coord, CoordState}
-use Rattle.roc_coordinator.specs.Starts.{group_numbers, ready_groups, shard_for, start_for, with_starts, starts_of, all_started, commit_to}
-use Rattle.roc_coordinator.specs.Step.{unless_refused, with_commits, with_startok, sends_after, startok_taken, startok_refusal, after_startok, with_commitok, reply_now, commitok_taken, commitok_refusal, after_commitok, after_message}
-use Rattle.roc_coordinator.specs.Submit.{next_id, new_transaction, accepted}
-use Rattle.roc_coordinator.specs.Tick.{awaits_startok, starts_again, commits_again, sent_again, tick_sends}
+use Rattle.roc_server.specs.First.{first_server}
+use Rattle.roc_server.specs.State.{answered, ServerState, ServerStep}
+use Rattle.roc_server.specs.Step as server
+use Rattle.roc_coord.specs.declared.transaction.Transaction.{Transaction}
+use Rattle.roc_coord.specs.declared.transaction.SentStart.{SentStart}
+use Rattle.roc_coord.specs.declared.transaction.TakenStart.{TakenStart}
+use Rattle.roc_coord.specs.declared.transaction.TakenCommit.{TakenCommit}
+use Rattle.roc_coord.specs.State.{find_transaction, with_transaction, find_start, find_startok, was_asked, has_commitok, first_coord, CoordState}
+use Rattle.roc_coord.specs.Starts.{group_numbers, ready_groups, shard_for, start_for, with_starts, starts_of, all_started, commit_to}
+use Rattle.roc_coord.specs.Step.{unless_refused, with_commits, with_startok, sends_after, startok_taken, startok_refusal, after_startok, with_commitok, reply_now, commitok_taken, commitok_refusal, after_commitok, after_message}
+use Rattle.roc_coord.specs.Submit.{next_id, new_transaction, accepted}
+use Rattle.roc_coord.specs.Tick.{awaits_startok, starts_again, commits_again, sent_again, tick_sends}
 use Rattle.roc_audit.specs.declared.entry.Entry.{Entry}
 use Rattle.roc_audit.specs.declared.entry.Entry.TheVariants.{Submitted}
 use Rattle.roc_protocol.specs.declared.event.Event.{Event}
@@ -44,7 +44,7 @@ use Rattle.roc_protocol.specs.declared.event.Event.TheVariants.{Submit, Deliver,
 use Rattle.roc_protocol.specs.Asked.{IsSchemeOf}
 use Rattle.roc_protocol.specs.Final.{lists_in}
 use Rattle.roc_protocol.specs.World.{World, comes, at_coord}
-use Rattle.roc_protocol.specs.Happens.{Outcome, answer_entries, Receives}
+use Rattle.roc_protocol.specs.Happens.{Outcome, answer_entries, IsReceived}
 use Rattle.roc_protocol.specs.Run.{Stepped, Comes, IsRun, begun, goes_on}
 use Rattle.roc_protocol.specs.Inner.Given.{LogLaws, StoreLaws}
 use Rattle.roc_protocol.proofs.Means.{TxnMeans}
@@ -208,7 +208,7 @@ module _ (plan : Plan) (asked : TxnId → whole.Call) (S : Scheme) (is : IsSchem
       p : IsPending plan (comes w k)
       p = record { own = o.own; once = o.once; starts = o.starts; lists = o.lists; servers = o.servers }
 
-      go : (to : Node) → StartsOn w.coords m.msg to → Receives plan (comes w k) m.msg to v → IsPending plan v.world
+      go : (to : Node) → StartsOn w.coords m.msg to → IsReceived plan (comes w k) m.msg to v → IsPending plan v.world
       go (Server shard) f (s, r, at, step, e) = subst (λ (v : Outcome). IsPending plan v.world) (sym e)
           (served_pending plan (comes w k) p shard.0 s at r
           (message_good plan (λ t es. IsWholeAt plan w.coords t) (λ t g. AskedBy w.coords t g shard.0) s (o.servers shard.0 s at) m.msg r step (o.lists m (has_at w.sent (k - 1) m there)) (starts_here w.coords m.msg shard.0 f))

@@ -9,11 +9,11 @@ use Rattle.roc_base.specs.TxnId.{is_txn}
 use Rattle.roc_depgraph.specs.declared.known.KnownList.{KnownList}
 use Rattle.roc_msg.specs.declared.outbox.Outgoing.{Outgoing}
 use Rattle.roc_plan.specs.Groups.{Plan}
-use Rattle.roc_coordinator.specs.declared.transaction.Transaction.{Transaction}
-use Rattle.roc_coordinator.specs.declared.transaction.TakenStart.{TakenStart}
-use Rattle.roc_coordinator.specs.State.{was_asked, CoordState}
-use Rattle.roc_coordinator.specs.Starts.{ready_groups, shard_for, start_for, with_starts, starts_of, all_started, gathered, shards_of, commit_to, commits_of}
-use Rattle.roc_coordinator.specs.Step.{with_commits, commits_for, sends_after}
+use Rattle.roc_coord.specs.declared.transaction.Transaction.{Transaction}
+use Rattle.roc_coord.specs.declared.transaction.TakenStart.{TakenStart}
+use Rattle.roc_coord.specs.State.{was_asked, CoordState}
+use Rattle.roc_coord.specs.Starts.{ready_groups, shard_for, start_for, with_starts, starts_of, all_started, gathered, shards_of, commit_to, commits_of}
+use Rattle.roc_coord.specs.Step.{with_commits, commits_for, sends_after}
 use Rattle.roc_protocol.specs.Final.{lists_in}
 use Rattle.roc_protocol.proofs.Changed.{get-set_here}
 use Rattle.roc_protocol.proofs.Facts.{has_fitting}

@@ -26,18 +26,18 @@ use Rattle.roc_plan.specs.declared.group.Input.{Input}
 use Rattle.roc_plan.specs.Groups.{Plan, procedure_of, groups_of, inputs_of, shard_of, group_place}
 use Rattle.roc_whole.specs.Serial as whole
 use Rattle.roc_whole.specs.Serial.{start_store}
-use Rattle.roc_group.specs.Group_run.{Call, call}
+use Rattle.roc_group.specs.Group_run.{GroupCall, call}
 use Rattle.roc_serial.specs.Behaviour.{TxnGroup, is_group_number}
 use Rattle.roc_serial.specs.Runs.{needs, inputs_at}
 use Rattle.roc_execution.specs.Scheme.{Scheme}
 use Rattle.roc_execution.specs.Log.{Log}
 use Rattle.roc_execution.specs.Invariants.{LogInvariants}
-use Rattle.roc_shard.specs.declared.handled.Handled.TheVariants.{Done}
-use Rattle.roc_shard.specs.declared.started.StartedGroup.{StartedGroup}
-use Rattle.roc_shard.specs.State.{is_group, is_here, find_group, ignored, ServerState, ServerStep}
-use Rattle.roc_shard.specs.Start.{has_procedure, has_counts, differs, start_fault, start_taken, start_judged}
-use Rattle.roc_shard.specs.Lists.{list_with, is_unlike, commit_fault, after_commit, fetch_taken, known_fault, after_known}
-use Rattle.roc_shard.specs.Step.{Findings, Handles, after_message}
+use Rattle.roc_server.specs.declared.handled.Handled.TheVariants.{Done}
+use Rattle.roc_server.specs.declared.started.StartedGroup.{StartedGroup}
+use Rattle.roc_server.specs.State.{is_group, is_here, find_group, ignored, ServerState, ServerStep}
+use Rattle.roc_server.specs.Start.{has_procedure, has_counts, differs, start_fault, start_taken, start_judged}
+use Rattle.roc_server.specs.Lists.{list_with, is_unlike, commit_fault, after_commit, fetch_taken, known_fault, after_known}
+use Rattle.roc_server.specs.Step.{Findings, Handles, after_message}
 use Rattle.roc_audit.specs.declared.entry.Entry.TheVariants.{Submitted}
 use Rattle.roc_protocol.specs.Asked.{picked, IsSchemeOf}
 use Rattle.roc_await.specs.Waits.{was_asked_for}
@@ -75,7 +75,7 @@ module _ (plan : Plan) (asked : TxnId → whole.Call) (S : Scheme) (is : IsSchem
   -- ---- a start
 
   module _ (m : Sent) (has : Has m w.sent) (id : TxnId) (proc group : ℕ) (args inputs : List ℤ) (msg : m.msg ≡ Start id proc group args inputs) (to : m.to ≡ Server (record { 0 = n })) where
-    abbrev c : Call
+    abbrev c : GroupCall
     c = call proc group args inputs
 
     abbrev r : TxnGroup
@@ -181,7 +181,7 @@ module _ (plan : Plan) (asked : TxnId → whole.Call) (S : Scheme) (is : IsSchem
   pub message_taken : (m : Sent) → Has m w.sent → m.to ≡ Server (record { 0 = n }) → (r : ServerStep) → Handles plan s m.msg r → r.answer ≡ Done
   message_taken m has to r h = ap (λ (r : ServerStep). r.answer) h.is ∙ go m.msg refl
     where
-      start_done : (f : Findings) (id : TxnId) (c : Call) (x : Option Reason) → x ≡ None → (start_judged plan f.before f.reached s id c x).answer ≡ Done
+      start_done : (f : Findings) (id : TxnId) (c : GroupCall) (x : Option Reason) → x ≡ None → (start_judged plan f.before f.reached s id c x).answer ≡ Done
       start_done f id c (Some why) e = absurd (cc)
       start_done f id c None e = taken (find_group id c.group s.started)
         where

@@ -20,13 +20,13 @@ use Rattle.roc_serial.proofs.Stages.{yielded_at}
 use Rattle.roc_execution.specs.Scheme.{Scheme}
 use Rattle.roc_execution.specs.Log.{Log}
 use Rattle.roc_execution.specs.Invariants.{LogInvariants}
-use Rattle.roc_coordinator.specs.declared.transaction.Transaction.{Transaction}
-use Rattle.roc_coordinator.specs.declared.transaction.SentStart.{SentStart}
-use Rattle.roc_coordinator.specs.declared.transaction.TakenStart.{TakenStart}
-use Rattle.roc_coordinator.specs.declared.transaction.TakenCommit.{TakenCommit}
-use Rattle.roc_coordinator.specs.State.{was_asked, has_commitok}
-use Rattle.roc_coordinator.specs.Starts.{group_numbers, all_started, shards_of, shards_below}
-use Rattle.roc_coordinator.specs.Commits.{waits_on, groups_on, places_on, all_committed, given_by_start, given_by_commit, placed_by_startoks, placed_by_commitoks, placed_outs, out_at, reply_length, reply_of}
+use Rattle.roc_coord.specs.declared.transaction.Transaction.{Transaction}
+use Rattle.roc_coord.specs.declared.transaction.SentStart.{SentStart}
+use Rattle.roc_coord.specs.declared.transaction.TakenStart.{TakenStart}
+use Rattle.roc_coord.specs.declared.transaction.TakenCommit.{TakenCommit}
+use Rattle.roc_coord.specs.State.{was_asked, has_commitok}
+use Rattle.roc_coord.specs.Starts.{group_numbers, all_started, shards_of, shards_below}
+use Rattle.roc_coord.specs.Commits.{waits_on, groups_on, places_on, all_committed, given_by_start, given_by_commit, placed_by_startoks, placed_by_commitoks, placed_outs, out_at, reply_length, reply_of}
 use Rattle.roc_protocol.specs.Asked.{IsSchemeOf}
 use Rattle.roc_protocol.proofs.Means.{run_of, place, Ran, stage, ToldMeans, DoneMeans, TxnMeans, waits_at, IsGiven, AnswerMeans}
 use Rattle.roc_protocol.proofs.Grows.{filter_same}

@@ -23,10 +23,10 @@ use Rattle.roc_serial.proofs.Stages.{after-yielded_other, same_inputs}
 use Rattle.roc_execution.specs.Scheme.{Scheme}
 use Rattle.roc_execution.specs.Log.{Log, IsWhole}
 use Rattle.roc_execution.specs.Steps.{waits_here, waiting_here}
-use Rattle.roc_shard.specs.declared.started.StartedGroup.{StartedGroup}
-use Rattle.roc_shard.specs.State.{is_group, ServerState}
-use Rattle.roc_shard.specs.Runs.{group_call, with_later, run_group, run_groups, buffered_here, take_all}
-use Rattle.roc_shard.specs.Inner.Kept.{unrun}
+use Rattle.roc_server.specs.declared.started.StartedGroup.{StartedGroup}
+use Rattle.roc_server.specs.State.{is_group, ServerState}
+use Rattle.roc_server.specs.Runs.{group_call, with_later, run_group, run_groups, buffered_here, take_all}
+use Rattle.roc_server.specs.Inner.Kept.{unrun}
 use Rattle.roc_protocol.specs.Asked.{picked, called, IsSchemeOf}
 use Rattle.roc_protocol.specs.Inner.Given.{LogLaws}
 use Rattle.roc_protocol.proofs.Means.{entry_run, Ran, stage, EntryMeans, AreGroupsHere, IsPart}

@@ -33,13 +33,13 @@ use Rattle.roc_execution.specs.Scheme.{Scheme}
 use Rattle.roc_execution.specs.Log.{Log}
 use Rattle.roc_execution.specs.Steps.{LogSteps, no_steps, one_step_more, new_in}
 use Rattle.roc_execution.specs.Invariants.{LogInvariants, LogGrows}
-use Rattle.roc_shard.specs.declared.started.StartedGroup.{StartedGroup}
-use Rattle.roc_shard.specs.State.{ignored, answered, is_group, is_here, find_group, ServerState, ServerStep}
-use Rattle.roc_shard.specs.New.{AreNew}
-use Rattle.roc_shard.specs.Start.{start_fault, start_taken, start_judged, startok_of, new_group, start_new}
-use Rattle.roc_shard.specs.Runs.{commitok_of, outs_here}
-use Rattle.roc_shard.specs.Lists.{list_with, carried, unknown_of, known_to, knowns_for, fetch_from, missing_from, taught, commit_fault, commit_taken, after_commit, fetch_taken, after_fetch, known_fault, after_known}
-use Rattle.roc_shard.specs.Step.{Findings, Finds, unless_ignored, after_message, Handles, tick_sends}
+use Rattle.roc_server.specs.declared.started.StartedGroup.{StartedGroup}
+use Rattle.roc_server.specs.State.{ignored, answered, is_group, is_here, find_group, ServerState, ServerStep}
+use Rattle.roc_server.specs.New.{AreNew}
+use Rattle.roc_server.specs.Start.{start_fault, start_taken, start_judged, startok_of, new_group, start_new}
+use Rattle.roc_server.specs.Runs.{commitok_of, outs_here}
+use Rattle.roc_server.specs.Lists.{list_with, carried, unknown_of, known_to, knowns_for, fetch_from, missing_from, taught, commit_fault, commit_taken, after_commit, fetch_taken, after_fetch, known_fault, after_known}
+use Rattle.roc_server.specs.Step.{Findings, AreFindings, unless_ignored, after_message, Handles, tick_sends}
 use Rattle.roc_audit.specs.Order.{noted}
 use Rattle.roc_protocol.specs.Asked.{IsSchemeOf}
 use Rattle.roc_protocol.specs.World.{World, at_server}
@@ -110,7 +110,7 @@ module _ (plan : Plan) (asked : TxnId → whole.Call) (S : Scheme) (start : Stor
       let m = mine.groups.entries e h in
       subst (λ (out : Outgoing). Means plan asked S start c out.msg out.to) (sym (has_one out (startok_of s.shard e) k)) (m.told, mine.number ∙ sym m.on, refl)
 
-  module _ (f : Findings) (id : TxnId) (proc group : ℕ) (args inputs : List ℤ) (found : Finds plan s (Start id proc group args inputs) f) (m : StartIs plan asked S start c id proc group args inputs (Server (record { 0 = n }))) (fresh : Fresh id) where
+  module _ (f : Findings) (id : TxnId) (proc group : ℕ) (args inputs : List ℤ) (found : AreFindings plan s (Start id proc group args inputs) f) (m : StartIs plan asked S start c id proc group args inputs (Server (record { 0 = n }))) (fresh : Fresh id) where
     led : (u : TxnId) → IsListed is_txn f.reached u → IsKnown s.lists.known u
     led u h = (found.reached.sound u h).0
 
@@ -210,7 +210,7 @@ module _ (plan : Plan) (asked : TxnId → whole.Call) (S : Scheme) (start : Stor
 
   -- ---- any message
 
-  commit_explained : (f : Findings) (id : TxnId) (edges : List Dependency) (facts : List KnownList) → Finds plan s (Commit id edges facts) f → AllMean plan asked S start c (list_with id edges ∷ facts) → IsExplained (after_commit plan f.before f.decided s id edges facts (commit_fault s id edges facts))
+  commit_explained : (f : Findings) (id : TxnId) (edges : List Dependency) (facts : List KnownList) → AreFindings plan s (Commit id edges facts) f → AllMean plan asked S start c (list_with id edges ∷ facts) → IsExplained (after_commit plan f.before f.decided s id edges facts (commit_fault s id edges facts))
   commit_explained f id edges facts found m = judged (commit_fault s id edges facts) found.decided
     where
       judged : (x : Option Reason) → AreNew (IsDecided s.lists.known) (s.lists.known ++ unless_ignored x (unknown_of s.lists.known (carried id edges facts))) f.decided → IsExplained (after_commit plan f.before f.decided s id edges facts x)
@@ -254,7 +254,7 @@ module _ (plan : Plan) (asked : TxnId → whole.Call) (S : Scheme) (start : Stor
       here true = taken (list_of id s.lists.known) refl
       here false = ignores NotHere
 
-  known_explained : (f : Findings) (id : TxnId) (edges : List Dependency) → Finds plan s (Known id edges) f → ListMeans plan asked S start c id edges → IsExplained (after_known plan f.decided s id edges (known_fault s id edges))
+  known_explained : (f : Findings) (id : TxnId) (edges : List Dependency) → AreFindings plan s (Known id edges) f → ListMeans plan asked S start c id edges → IsExplained (after_known plan f.decided s id edges (known_fault s id edges))
   known_explained f id edges found m = judged (known_fault s id edges) found.decided
     where
       judged : (x : Option Reason) → AreNew (IsDecided s.lists.known) (s.lists.known ++ unless_ignored x (unknown_of s.lists.known (list_with id edges ∷ []))) f.decided → IsExplained (after_known plan f.decided s id edges x)
@@ -267,7 +267,7 @@ module _ (plan : Plan) (asked : TxnId → whole.Call) (S : Scheme) (start : Stor
   pub message_explained : (msg : Msg) (r : ServerStep) → Handles plan s msg r → Means plan asked S start c msg (Server (record { 0 = n })) → StartsAre Fresh msg → IsExplained r
   message_explained msg r h m k = subst IsExplained (sym h.is) (go msg h.findings h.found m k)
     where
-      go : (msg : Msg) (f : Findings) → Finds plan s msg f → Means plan asked S start c msg (Server (record { 0 = n })) → StartsAre Fresh msg → IsExplained (after_message plan s f msg)
+      go : (msg : Msg) (f : Findings) → AreFindings plan s msg f → Means plan asked S start c msg (Server (record { 0 = n })) → StartsAre Fresh msg → IsExplained (after_message plan s f msg)
       go (Start id proc group args inputs) f found m k = start_explained f id proc group args inputs found m k
       go (Commit id edges facts) f found m k = commit_explained f id edges facts found m.0
       go (Fetch id asker) f found m k = fetch_explained id asker

@@ -31,15 +31,15 @@ use Rattle.roc_serial.proofs.Stages.{yielded_at}
 use Rattle.roc_execution.specs.Scheme.{Scheme}
 use Rattle.roc_execution.specs.Log.{Log}
 use Rattle.roc_execution.specs.Invariants.{LogInvariants}
-use Rattle.roc_shard.specs.declared.started.StartedGroup.{StartedGroup}
-use Rattle.roc_shard.specs.State.{is_group, is_here, ServerState}
-use Rattle.roc_coordinator.specs.declared.handled.Handled.TheVariants.{Ignored}
-use Rattle.roc_coordinator.specs.declared.transaction.Transaction.{Transaction}
-use Rattle.roc_coordinator.specs.declared.transaction.SentStart.{SentStart}
-use Rattle.roc_coordinator.specs.State.{find_transaction, find_startok, was_asked, has_commitok, CoordState}
-use Rattle.roc_coordinator.specs.Starts.{all_started, shards_of, bound_count, out_count}
-use Rattle.roc_coordinator.specs.Commits.{places_on}
-use Rattle.roc_coordinator.specs.Step.{unless_refused, is_fit_startok, with_startok, startok_taken, after_startok, is_asked, is_fit_commitok, with_commitok, reply_now, commitok_taken, after_commitok, after_message}
+use Rattle.roc_server.specs.declared.started.StartedGroup.{StartedGroup}
+use Rattle.roc_server.specs.State.{is_group, is_here, ServerState}
+use Rattle.roc_coord.specs.declared.handled.Handled.TheVariants.{Ignored}
+use Rattle.roc_coord.specs.declared.transaction.Transaction.{Transaction}
+use Rattle.roc_coord.specs.declared.transaction.SentStart.{SentStart}
+use Rattle.roc_coord.specs.State.{find_transaction, find_startok, was_asked, has_commitok, CoordState}
+use Rattle.roc_coord.specs.Starts.{all_started, shards_of, bound_count, out_count}
+use Rattle.roc_coord.specs.Commits.{places_on}
+use Rattle.roc_coord.specs.Step.{unless_refused, is_fit_startok, with_startok, startok_taken, after_startok, is_asked, is_fit_commitok, with_commitok, reply_now, commitok_taken, after_commitok, after_message}
 use Rattle.roc_protocol.specs.Asked.{called, IsSchemeOf}
 use Rattle.roc_protocol.specs.World.{World}
 use Rattle.roc_protocol.specs.Inner.Given.{LogLaws}

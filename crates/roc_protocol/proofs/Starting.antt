@@ -26,7 +26,7 @@ use Rattle.roc_depgraph.specs.Deps.{IsKnown, IsDecided}
 use Rattle.roc_plan.specs.Groups.{Plan, is_immediate_of}
 use Rattle.roc_whole.specs.Serial as whole
 use Rattle.roc_group.specs.Accesses.{do_conflict}
-use Rattle.roc_group.specs.Group_run.{Call, call, group_run, bound_by_run}
+use Rattle.roc_group.specs.Group_run.{GroupCall, call, group_run, bound_by_run}
 use Rattle.roc_serial.specs.Behaviour.{TxnGroup, is_txn_group, Meet, Yield}
 use Rattle.roc_serial.specs.Runs.{Stage, inputs_at, stage_behind, stage_before, uses_at, uses_in, after_group, after_groups, groups_before, Conflict}
 use Rattle.roc_serial.specs.Inner.Groups.{same_group, is_group-same}
@@ -35,10 +35,10 @@ use Rattle.roc_execution.specs.Scheme.{Scheme}
 use Rattle.roc_execution.specs.Log.{Log}
 use Rattle.roc_execution.specs.Steps.{MayStart, with_start, IsReachedLog, LogStep, group_starts, no_steps, one_step_more}
 use Rattle.roc_execution.specs.Invariants.{LogInvariants, LogGrows}
-use Rattle.roc_shard.specs.declared.started.StartedGroup.{StartedGroup}
-use Rattle.roc_shard.specs.State.{is_group, find_group, ServerState}
-use Rattle.roc_shard.specs.Start.{is_immediate_group, is_predecessor, edge_to, new_group, start_new}
-use Rattle.roc_shard.specs.Inner.Kept.{unrun}
+use Rattle.roc_server.specs.declared.started.StartedGroup.{StartedGroup}
+use Rattle.roc_server.specs.State.{is_group, find_group, ServerState}
+use Rattle.roc_server.specs.Start.{is_immediate_group, is_predecessor, edge_to, new_group, start_new}
+use Rattle.roc_server.specs.Inner.Kept.{unrun}
 use Rattle.roc_protocol.specs.Asked.{called, use_of, IsSchemeOf}
 use Rattle.roc_protocol.specs.Inner.Given.{LogLaws}
 use Rattle.roc_protocol.proofs.Means.{run_of, entry_run, place, Precedes, Ran, Began, stage, EdgesMean, ListMeans, ToldMeans, StartIs, EntryMeans, ServerMeans}
@@ -64,7 +64,7 @@ module _ (plan : Plan) (asked : TxnId → whole.Call) (S : Scheme) (start : Stor
     abbrev X : Stage
     X = stage plan asked S start c
 
-    abbrev this : Call
+    abbrev this : GroupCall
     this = call proc group args inputs
 
     abbrev entry : StartedGroup

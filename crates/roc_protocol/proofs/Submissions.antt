@@ -9,12 +9,12 @@ use Rattle.roc_msg.specs.declared.msg.Msg.{Msg}
 use Rattle.roc_msg.specs.declared.msg.Msg.TheVariants.{Start, StartOk, Commit, CommitOk, Fetch, Known, Stop}
 use Rattle.roc_msg.specs.declared.reason.Reason.{Reason}
 use Rattle.roc_plan.specs.Groups.{Plan, procedure_of}
-use Rattle.roc_coordinator.specs.declared.handled.Handled.{Handled}
-use Rattle.roc_coordinator.specs.declared.handled.Handled.TheVariants as answer
-use Rattle.roc_coordinator.specs.declared.transaction.Transaction.{Transaction}
-use Rattle.roc_coordinator.specs.State.{find_transaction, CoordState}
-use Rattle.roc_coordinator.specs.Step.{unless_refused, with_startok, startok_taken, startok_refusal, after_startok, with_commitok, reply_now, commitok_taken, commitok_refusal, after_commitok, after_message}
-use Rattle.roc_coordinator.specs.Submit.{next_id}
+use Rattle.roc_coord.specs.declared.handled.Handled.{Handled}
+use Rattle.roc_coord.specs.declared.handled.Handled.TheVariants as answer
+use Rattle.roc_coord.specs.declared.transaction.Transaction.{Transaction}
+use Rattle.roc_coord.specs.State.{find_transaction, CoordState}
+use Rattle.roc_coord.specs.Step.{unless_refused, with_startok, startok_taken, startok_refusal, after_startok, with_commitok, reply_now, commitok_taken, commitok_refusal, after_commitok, after_message}
+use Rattle.roc_coord.specs.Submit.{next_id}
 use Rattle.roc_audit.specs.declared.entry.Entry.{Entry}
 use Rattle.roc_audit.specs.declared.entry.Entry.TheVariants.{Submitted}
 use Rattle.roc_protocol.specs.Happens.{answer_entries}

@@ -24,14 +24,14 @@ use Rattle.roc_audit.specs.declared.entry.Entry.{Entry}
 use Rattle.roc_audit.specs.declared.entry.Entry.TheVariants.{Submitted}
 use Rattle.roc_audit.specs.History.{WasSubmitted}
 use Rattle.roc_audit.specs.Witness.{submitted_call, submitted_calls, reply_in, IsSerialWitness}
-use Rattle.roc_coordinator.specs.State.{CoordState}
-use Rattle.roc_coordinator.specs.Step.{after_message}
-use Rattle.roc_coordinator.specs.Submit.{next_id}
+use Rattle.roc_coord.specs.State.{CoordState}
+use Rattle.roc_coord.specs.Step.{after_message}
+use Rattle.roc_coord.specs.Submit.{next_id}
 use Rattle.roc_protocol.specs.declared.event.Event.{Event}
 use Rattle.roc_protocol.specs.declared.event.Event.TheVariants.{Submit, Deliver, Tick}
 use Rattle.roc_protocol.specs.Asked.{IsSchemeOf, IsWholeReply}
 use Rattle.roc_protocol.specs.World.{World, first_world, comes}
-use Rattle.roc_protocol.specs.Happens.{Outcome, Receives, answer_entries}
+use Rattle.roc_protocol.specs.Happens.{Outcome, IsReceived, answer_entries}
 use Rattle.roc_protocol.specs.Run.{Stepped, Comes, IsRun, begun, goes_on}
 use Rattle.roc_protocol.specs.Inner.Given.{LogLaws}
 use Rattle.roc_protocol.proofs.Means.{run_of, Ran, stage, AnswerMeans}
@@ -57,7 +57,7 @@ step_extends plan w (Some (Submit n proc args)) o (s, there, h) = go (submitting
     go (is_accepted known counted e) = subst (λ (v : World). Extends w.history v.history) (sym e) (record { more = Submitted (next_id s) proc args ∷ []; is = refl })
 step_extends plan w (Some (Deliver k)) o (m, some, there, h) = go m.to h
   where
-    go : (to : Node) → Receives plan (comes w k) m.msg to o → Extends w.history o.world.history
+    go : (to : Node) → IsReceived plan (comes w k) m.msg to o → Extends w.history o.world.history
     go (Server shard) (s, r, at, step, e) = subst (λ (o : Outcome). Extends w.history o.world.history) (sym e) (by_none w.history)
     go (Coord n) (s, at, e) = subst (λ (o : Outcome). Extends w.history o.world.history) (sym e) (record { more = answer_entries (after_message plan s m.msg).answer; is = refl })
 step_extends plan w (Some (Tick (Server shard))) o (s, there, e) = subst (λ (o : Outcome). Extends w.history o.world.history) (sym e) (by_none w.history)

@@ -24,16 +24,16 @@ use Rattle.roc_serial.specs.Behaviour.{TxnGroup}
 use Rattle.roc_execution.specs.Scheme.{Scheme}
 use Rattle.roc_execution.specs.Log.{Log}
 use Rattle.roc_execution.specs.Invariants.{LogInvariants, LogGrows}
-use Rattle.roc_shard.specs.State.{answered, ServerState, ServerStep}
-use Rattle.roc_shard.specs.Step as server
-use Rattle.roc_coordinator.specs.declared.handled.Handled.{Handled}
-use Rattle.roc_coordinator.specs.declared.handled.Handled.TheVariants as answer
-use Rattle.roc_coordinator.specs.declared.handled.SubmitFault.TheVariants as fault
-use Rattle.roc_coordinator.specs.declared.transaction.Transaction.{Transaction}
-use Rattle.roc_coordinator.specs.State.{CoordState}
-use Rattle.roc_coordinator.specs.Step.{after_message}
-use Rattle.roc_coordinator.specs.Submit.{next_id, new_transaction, accepted, refused_or_accepted, after_submit, most_transactions, most_pending}
-use Rattle.roc_coordinator.specs.Tick as coord
+use Rattle.roc_server.specs.State.{answered, ServerState, ServerStep}
+use Rattle.roc_server.specs.Step as server
+use Rattle.roc_coord.specs.declared.handled.Handled.{Handled}
+use Rattle.roc_coord.specs.declared.handled.Handled.TheVariants as answer
+use Rattle.roc_coord.specs.declared.handled.SubmitFault.TheVariants as fault
+use Rattle.roc_coord.specs.declared.transaction.Transaction.{Transaction}
+use Rattle.roc_coord.specs.State.{CoordState}
+use Rattle.roc_coord.specs.Step.{after_message}
+use Rattle.roc_coord.specs.Submit.{next_id, new_transaction, accepted, refused_or_accepted, after_submit, most_transactions, most_pending}
+use Rattle.roc_coord.specs.Tick as coord
 use Rattle.roc_audit.specs.declared.entry.Entry.{Entry}
 use Rattle.roc_audit.specs.declared.entry.Entry.TheVariants.{Submitted, Answered}
 use Rattle.roc_audit.specs.History.{WasSubmitted, WasAnswered, IsAnsweredBefore}
@@ -43,7 +43,7 @@ use Rattle.roc_protocol.specs.declared.event.Event.{Event}
 use Rattle.roc_protocol.specs.declared.event.Event.TheVariants.{Submit, Deliver, Tick}
 use Rattle.roc_protocol.specs.Asked.{IsSchemeOf}
 use Rattle.roc_protocol.specs.World.{World, sent_by, comes, at_server, at_coord}
-use Rattle.roc_protocol.specs.Happens.{Outcome, IsSubmissionOf, answer_entries, Receives, Ticks}
+use Rattle.roc_protocol.specs.Happens.{Outcome, IsSubmissionOf, answer_entries, IsReceived, Ticks}
 use Rattle.roc_protocol.specs.Run.{Stepped, Comes, IsRun, begun, goes_on}
 use Rattle.roc_protocol.specs.Inner.Given.{LogLaws}
 use Rattle.roc_protocol.proofs.Means.{run_of, Began, Means, WorldMeans}
@@ -94,7 +94,7 @@ submissions_step plan w a (Some (Submit n proc args)) o (s, there, h) = go (subm
     go (is_accepted known counted e) = subst (λ (v : World). AreSubmissions plan v.history v.coords) (sym e) (submissions_more plan w.history w.coords a n s there (accepted plan s (new_transaction s proc args)).state refl refl proc args known counted)
 submissions_step plan w a (Some (Deliver k)) o (m, some, there, h) = go m.to h
   where
-    go : (to : Node) → Receives plan (comes w k) m.msg to o → AreSubmissions plan o.world.history o.world.coords
+    go : (to : Node) → IsReceived plan (comes w k) m.msg to o → AreSubmissions plan o.world.history o.world.coords
     go (Server shard) (s, r, at, step, e) = subst (λ (o : Outcome). AreSubmissions plan o.world.history o.world.coords) (sym e) a
     go (Coord n) (s, at, e) = subst (λ (o : Outcome). AreSubmissions plan o.world.history o.world.coords) (sym e) (submissions_message plan w.history w.coords a n s at m.msg)
 submissions_step plan w a (Some (Tick (Server shard))) o (s, there, e) = subst (λ (o : Outcome). AreSubmissions plan o.world.history o.world.coords) (sym e) a
@@ -233,7 +233,7 @@ module _ (plan : Plan) (asked : TxnId → whole.Call) (S : Scheme) (is : IsSchem
     tick_logged (Coord n) v (s, there, e) = subst (λ (v : Outcome). (later : Log) × IsLogged v.world later) (sym e)
         (log, coordinated_logged n s there s (coord.tick_sends plan s) [] (tick_coordinated plan asked S start is log i w o.means n s there (WasSubmitted (w.history ++ [])) (λ x h. submitted_front w.history [] x.id (o.pending n s there x h))) (λ t u b. o.in_time t u (subst (λ h. IsAnsweredBefore h t u) (append-nil w.history) b)))
 
-    receive_logged : (m : Msg) (to : Node) (v : Outcome) → Means plan asked S start log m to → StartsAre (WasSubmitted w.history) m → Receives plan w m to v → (later : Log) × IsLogged v.world later
+    receive_logged : (m : Msg) (to : Node) (v : Outcome) → Means plan asked S start log m to → StartsAre (WasSubmitted w.history) m → IsReceived plan w m to v → (later : Log) × IsLogged v.world later
     receive_logged m (Server shard) v k f (s, r, there, step, e) = subst (λ (v : Outcome). (later : Log) × IsLogged v.world later) (sym e)
         (served_logged shard.0 s there r (message_explained plan asked S start is laws log w o.means shard.0 s there (WasSubmitted w.history) m r step k f)
         (subst (λ (r : ServerStep). (out : Outgoing) → Has out r.sends → StartsAre (WasSubmitted w.history) out.msg) (sym step.is) (no_starts plan s (WasSubmitted w.history) step.findings m)))

@@ -11,7 +11,7 @@ use Rattle.roc_plan.specs.declared.group.Input.{Input}
 use Rattle.roc_plan.specs.Groups.{Plan, groups_of, inputs_of, outs_of, is_immediate_of, shard_of, group_place}
 use Rattle.roc_whole.specs.Serial as whole
 use Rattle.roc_group.specs.declared.access.Access.{Access}
-use Rattle.roc_group.specs.Group_run.{Call, call, group_run, group_uses, bound_by_run}
+use Rattle.roc_group.specs.Group_run.{GroupCall, call, group_run, group_uses, bound_by_run}
 use Rattle.roc_serial.specs.Behaviour.{TxnGroup, Use, is_group_number}
 use Rattle.roc_serial.specs.Runs.{stage_behind}
 use Rattle.roc_serial.specs.Orders.{one_by_one}
@@ -25,7 +25,7 @@ picked (i ∷ is) [] = []
 picked (i ∷ is) (values ∷ given) = slice_index_or values i.at (pos 0) ∷ picked is given
 
 -- a group of what a transaction calls, with what its sources bound
-abbrev pub called : Plan → (TxnId → whole.Call) → TxnGroup → List (List ℤ) → Call
+abbrev pub called : Plan → (TxnId → whole.Call) → TxnGroup → List (List ℤ) → GroupCall
 called plan asked r given =
     call (asked r.txn).procedure r.group (asked r.txn).arguments (picked (inputs_of plan (asked r.txn).procedure r.group) given)
 

@@ -1,5 +1,5 @@
 -- What a world holds is of a plan, and names only nodes that are there: docs/PROTOCOL.md, "World"
-use Rattle.std.specs.Prelude.{◌≡◌, ℕ, ◌<◌, List, length}
+use Rattle.std.specs.Prelude.{◌≡◌, ℕ, ◌<◌, ◌≤◌, List, Some, length, slice_get}
 use Rattle.std.specs.List.{AllByRecursion}
 use Rattle.roc_base.specs.declared.node.Node.{Node}
 use Rattle.roc_base.specs.declared.node.Node.TheVariants.{Server, Coord}
@@ -9,12 +9,12 @@ use Rattle.roc_msg.specs.declared.msg.Msg.{Msg}
 use Rattle.roc_msg.specs.declared.msg.Msg.TheVariants.{Start, StartOk, Commit, CommitOk, Fetch, Known, Stop}
 use Rattle.roc_msg.specs.declared.msg.Sent.{Sent}
 use Rattle.roc_plan.specs.Groups.{Plan}
-use Rattle.roc_shard.specs.declared.started.StartedGroup.{StartedGroup}
-use Rattle.roc_shard.specs.State.{ServerState}
-use Rattle.roc_shard.specs.Fits.{ServerFits}
-use Rattle.roc_coordinator.specs.declared.transaction.Transaction.{Transaction}
-use Rattle.roc_coordinator.specs.State.{CoordState}
-use Rattle.roc_coordinator.specs.Fits.{CoordFits}
+use Rattle.roc_server.specs.declared.started.StartedGroup.{StartedGroup}
+use Rattle.roc_server.specs.State.{ServerState}
+use Rattle.roc_server.specs.Fits.{ServerFits}
+use Rattle.roc_coord.specs.declared.transaction.Transaction.{Transaction}
+use Rattle.roc_coord.specs.State.{CoordState}
+use Rattle.roc_coord.specs.Fits.{CoordFits}
 use Rattle.roc_protocol.specs.World.{World}
 
 -- ---- so many servers and coordinators are there
@@ -67,12 +67,15 @@ module _ (servers coords : ℕ) where
     pub number : c.number < coords
     pub pending : AllByRecursion IsTransactionHere c.pending
 
--- each node fits the plan, there is a server for each shard, and all that is named is there
+-- each node fits the plan, there is a server for each shard, all that is named is there, and what was not delivered was sent
 pub record FitsWorld (plan : Plan) (w : World) : Type 0 where
   pub some_server : 0 < length w.servers
   pub shards : length w.servers ≡ plan.program.shards
+  -- the server at a place has its number
+  pub numbers : (n : ℕ) (s : ServerState) → slice_get w.servers n ≡ Some s → s.shard.0 ≡ n
   pub servers : AllByRecursion (ServerFits plan) w.servers
   pub coords : AllByRecursion (CoordFits plan) w.coords
+  pub undelivered : AllByRecursion (λ k. (0 < k) × (k ≤ length w.sent)) w.undelivered
   pub sent_here : AllByRecursion (IsSentHere (length w.servers) (length w.coords)) w.sent
   pub servers_here : AllByRecursion (IsServerHere (length w.servers) (length w.coords)) w.servers
   pub coords_here : AllByRecursion (IsCoordHere (length w.servers) (length w.coords)) w.coords

@@ -7,18 +7,18 @@ use Rattle.roc_msg.specs.declared.msg.Msg.{Msg}
 use Rattle.roc_msg.specs.declared.msg.Sent.{Sent}
 use Rattle.roc_msg.specs.declared.outbox.Outgoing.{Outgoing}
 use Rattle.roc_plan.specs.Groups.{Plan}
-use Rattle.roc_shard.specs.declared.handled.Handled.{Handled as ServerHandled}
-use Rattle.roc_shard.specs.declared.handled.Handled.TheVariants as server_answer
-use Rattle.roc_shard.specs.State.{answered, ServerState, ServerStep}
-use Rattle.roc_shard.specs.Step as server
-use Rattle.roc_coordinator.specs.declared.handled.Handled.{Handled as CoordHandled}
-use Rattle.roc_coordinator.specs.declared.handled.Handled.TheVariants as coord_answer
-use Rattle.roc_coordinator.specs.declared.handled.SubmitFault.{SubmitFault}
-use Rattle.roc_coordinator.specs.declared.handled.SubmitFault.TheVariants as fault
-use Rattle.roc_coordinator.specs.State.{CoordState, CoordStep}
-use Rattle.roc_coordinator.specs.Step.{after_message}
-use Rattle.roc_coordinator.specs.Submit.{Submission, after_submit}
-use Rattle.roc_coordinator.specs.Tick as coord
+use Rattle.roc_server.specs.declared.handled.Handled.{Handled as ServerHandled}
+use Rattle.roc_server.specs.declared.handled.Handled.TheVariants as server_answer
+use Rattle.roc_server.specs.State.{answered, ServerState, ServerStep}
+use Rattle.roc_server.specs.Step as server
+use Rattle.roc_coord.specs.declared.handled.Handled.{Handled as CoordHandled}
+use Rattle.roc_coord.specs.declared.handled.Handled.TheVariants as coord_answer
+use Rattle.roc_coord.specs.declared.handled.SubmitFault.{SubmitFault}
+use Rattle.roc_coord.specs.declared.handled.SubmitFault.TheVariants as fault
+use Rattle.roc_coord.specs.State.{CoordState, CoordStep}
+use Rattle.roc_coord.specs.Step.{after_message}
+use Rattle.roc_coord.specs.Submit.{Submission, after_submit}
+use Rattle.roc_coord.specs.Tick as coord
 use Rattle.roc_audit.specs.declared.entry.Entry.{Entry}
 use Rattle.roc_audit.specs.declared.entry.Entry.TheVariants as entry
 use Rattle.roc_protocol.specs.declared.event.Event.{Event}
@@ -78,9 +78,9 @@ abbrev pub coordinated : World → (number : ℕ) → CoordStep → Outcome
 coordinated w number r = undecided (coord_seen r.answer) (at_coord w number r.state r.sends (answer_entries r.answer))
 
 -- a message comes to a node of this world, whose state changes by the node's step
-abbrev pub Receives : Plan → World → Msg → Node → Outcome → Type 0
-Receives plan w msg (Server shard) o = (s : ServerState) × (r : ServerStep) × (slice_get w.servers shard.0 ≡ Some s) × server.Handles plan s msg r × (o ≡ served w shard.0 r)
-Receives plan w msg (Coord number) o = (s : CoordState) × (slice_get w.coords number ≡ Some s) × (o ≡ coordinated w number (after_message plan s msg))
+abbrev pub IsReceived : Plan → World → Msg → Node → Outcome → Type 0
+IsReceived plan w msg (Server shard) o = (s : ServerState) × (r : ServerStep) × (slice_get w.servers shard.0 ≡ Some s) × server.Handles plan s msg r × (o ≡ served w shard.0 r)
+IsReceived plan w msg (Coord number) o = (s : CoordState) × (slice_get w.coords number ≡ Some s) × (o ≡ coordinated w number (after_message plan s msg))
 
 -- ---- a tick: it changes no state
 
@@ -93,5 +93,5 @@ Ticks plan w (Coord number) o = (s : CoordState) × (slice_get w.coords number �
 -- o is what comes of an event
 abbrev pub Happens : Plan → World → Event → Outcome → Type 0
 Happens plan w (Submit number proc args) o = (s : CoordState) × (slice_get w.coords number ≡ Some s) × IsSubmissionOf w number proc args (after_submit plan s proc args) o
-Happens plan w (Deliver k) o = (m : Sent) × (0 < k) × (slice_get w.sent (k - 1) ≡ Some m) × Receives plan (comes w k) m.msg m.to o
+Happens plan w (Deliver k) o = (m : Sent) × (0 < k) × (slice_get w.sent (k - 1) ≡ Some m) × IsReceived plan (comes w k) m.msg m.to o
 Happens plan w (Tick node) o = Ticks plan w node o

@@ -7,9 +7,9 @@ use Rattle.roc_base.specs.declared.node.Node.TheVariants.{Server, Coord}
 use Rattle.roc_msg.specs.declared.msg.Sent.{Sent}
 use Rattle.roc_msg.specs.declared.outbox.Outgoing.{Outgoing}
 use Rattle.roc_plan.specs.Groups.{Plan}
-use Rattle.roc_shard.specs.State.{ServerState, ServerStep}
-use Rattle.roc_shard.specs.First.{first_server}
-use Rattle.roc_coordinator.specs.State.{first_coord, CoordState}
+use Rattle.roc_server.specs.State.{ServerState, ServerStep}
+use Rattle.roc_server.specs.First.{first_server}
+use Rattle.roc_coord.specs.State.{first_coord, CoordState}
 use Rattle.roc_audit.specs.declared.entry.Entry.{Entry}
 use Rattle.roc_audit.specs.Order.{noted}
 

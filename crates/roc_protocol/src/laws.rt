@@ -11,27 +11,30 @@ ghost use Rattle.roc_base.specs.Edge.{Dependency};
 ghost use Rattle.roc_depgraph.specs.declared.known.KnownList.{KnownList};
 ghost use Rattle.roc_depgraph.specs.Deps.{Precedes, IsAncestor, IsDecided};
 ghost use Rattle.roc_component.specs.Components.{Mates};
-ghost use Rattle.roc_coordinator.specs.State.{CoordState};
-ghost use Rattle.roc_coordinator.specs.Submit.{most_transactions, most_pending};
+ghost use Rattle.roc_coord.specs.State.{CoordState};
+ghost use Rattle.roc_coord.specs.Submit.{most_transactions, most_pending};
 ghost use Rattle.roc_msg.specs.declared.msg.Sent.{Sent};
 ghost use Rattle.roc_msg.specs.declared.msg.Msg.TheVariants as msg;
 ghost use Rattle.roc_msg.specs.declared.reason.Reason.{Reason};
 ghost use Rattle.roc_msg.specs.declared.reason.Reason.TheVariants as reason;
 ghost use Rattle.roc_msg.specs.declared.msg.Msg.{Msg};
-ghost use Rattle.roc_shard.specs.State.{find_group, ServerState, ServerStep};
-ghost use Rattle.roc_shard.specs.Step.{Handles};
+ghost use Rattle.roc_server.specs.State.{find_group, ServerState, ServerStep};
+ghost use Rattle.roc_server.specs.Step.{Handles};
+ghost use Rattle.roc_server.specs.declared.started.StartedGroup.{StartedGroup};
 ghost use Rattle.roc_execution.specs.Invariants.{Continues};
 ghost use Rattle.roc_protocol.specs.declared.event.Event.{Event};
 ghost use Rattle.roc_protocol.specs.declared.event.Event.TheVariants as event;
 ghost use Rattle.roc_protocol.specs.declared.event.Seen.TheVariants as seen;
 ghost use Rattle.roc_protocol.specs.Happens.{Outcome, Happens};
 ghost use Rattle.roc_plan.specs.Groups.{Plan};
+ghost use Rattle.roc_audit.specs.declared.entry.Entry.TheVariants as entry;
 ghost use Rattle.roc_audit.specs.Witness.{IsSerialWitness};
 ghost use Rattle.roc_rows.specs.Store.{Store};
 ghost use Rattle.roc_execution.specs.Scheme.{Scheme, IsSoundScheme};
 ghost use Rattle.roc_protocol.specs.Inner.Given.{LogLaws, SerialLaws, StoreLaws};
 ghost use Rattle.roc_protocol.specs.Asked.{HasSchemes};
 ghost use Rattle.roc_protocol.specs.Final.{lists_in, IsFinalIn};
+ghost use Rattle.roc_protocol.specs.Quiet.{IsQuiet};
 ghost use Rattle.roc_protocol.specs.World.{World};
 ghost use Rattle.roc_protocol.specs.Run.{Stepped, Comes, IsRun};
 
@@ -41,7 +44,7 @@ use roc_execution::laws::{
 };
 use roc_rows::laws::reads_after_writes;
 use roc_serial::laws::groups_stand_one_by_one;
-use roc_shard::laws::step_is_one as server_step_is_one;
+use roc_server::laws::step_is_one as server_step_is_one;
 
 // What the laws below rest on.
 fn machine_laws()
@@ -106,6 +109,17 @@ pub fn nothing_is_refused()
         → Happens plan w (event.Deliver k) o → o.seen ≡ seen.Done }
     ensures coordinators { (plan : Plan) (coords : ℕ) (steps : List Stepped) (w : World) → HasSchemes plan → IsRun plan coords steps w
         → (k : ℕ) (o : Outcome) (why : Reason) → Happens plan w (event.Deliver k) o → o.seen ≡ seen.Ignored why → why ≡ reason.Stale }
+{
+    machine_laws();
+}
+
+/// Answered once delivered: a submitted transaction that is quiet, since every message of it and of its ancestors was delivered, has its
+/// reply in that same world. And a quiet transaction is decided wherever it has a group.
+pub fn quiet_is_answered()
+    ensures answered { (plan : Plan) (coords : ℕ) (steps : List Stepped) (w : World) → HasSchemes plan → IsRun plan coords steps w
+        → (t : TxnId) (proc : ℕ) (args : List ℤ) → Has (entry.Submitted t proc args) w.history → IsQuiet w t → (reply : List ℤ) × Has (entry.Answered t reply) w.history }
+    ensures decided { (plan : Plan) (coords : ℕ) (steps : List Stepped) (w : World) → HasSchemes plan → IsRun plan coords steps w
+        → (t : TxnId) → IsQuiet w t → (shard : Shard) (s : ServerState) → slice_get w.servers shard.0 ≡ Some s → (e : StartedGroup) → Has e s.started → e.id ≡ t → IsDecided s.lists.known t }
 {
     machine_laws();
 }

@@ -16,9 +16,9 @@ use Rattle.roc_program.specs.Names.{bindings, has_name}
 use Rattle.roc_whole.specs.Run.{Progress, progress, after_piece, after_pieces}
 use Rattle.roc_plan.specs.declared.group.Input.{Input}
 use Rattle.roc_plan.specs.Groups.{Plan, Group, no_group, procedure_of, groups_of, group_of, bound_in, bound_of, inputs_in, inputs_of, source_in, with_values}
-use Rattle.roc_group.specs.Group_run.{Call, group_run, bound_by_run}
+use Rattle.roc_group.specs.Group_run.{GroupCall, group_run, bound_by_run}
 use Rattle.roc_groups.proofs.Elements.{has_flat_map, from_has_flat_map}
-use Rattle.roc_reorder.specs.GroupsRun.{Given, Stage, bound_by, taken, call_of, after_group, after_groups}
+use Rattle.roc_reorder.specs.GroupsRun.{Given, TurnStage, bound_by, taken, call_of, after_turn, after_turns}
 use Rattle.roc_group.proofs.Alike.{Alike}
 use Rattle.roc_reorder.proofs.Commuting.{same_numbers}
 use Rattle.roc_reorder.proofs.Moving.{run_all, spoken, said_by, run_in_words, run_all-append, run_all-quiet}
@@ -66,7 +66,7 @@ module _ (plan : Plan) (proc : ℕ) (args : List ℤ) (has : HasNames (procedure
   init = with_arguments (procedure_of plan proc) args
 
   -- where groups stand: all their pieces have run, and what they gave are the values of the names that they bound
-  pub record IsAt (done : List ℕ) (q : Progress) (s : Stage) : Type 0 where
+  pub record IsAt (done : List ℕ) (q : Progress) (s : TurnStage) : Type 0 where
     pub cells : s.store ≡ q.store
     pub nothing : q.reply ≡ []
     pub long : length q.environment ≡ length init
@@ -74,7 +74,7 @@ module _ (plan : Plan) (proc : ℕ) (args : List ℤ) (has : HasNames (procedure
     pub groups : map (λ g. g.group) s.given ≡ done
     pub bound : (h : ℕ) → Has h done → bound_by s.given h ≡ map (value_of_name q.environment) (bound_of plan proc h)
 
-  module _ (done : List ℕ) (q : Progress) (s : Stage) (is : IsAt done q s) (g : ℕ)
+  module _ (done : List ℕ) (q : Progress) (s : TurnStage) (is : IsAt done q s) (g : ℕ)
       (new : (k : ℕ) → Has k (pieces_in_turn done) → Has k (pieces_of g) → ⊥)
       (inputs : AllByRecursion (λ input. Has input.group done) (inputs_of plan proc g)) where
     abbrev pub source : ℕ → Input
@@ -93,7 +93,7 @@ module _ (plan : Plan) (proc : ℕ) (args : List ℤ) (has : HasNames (procedure
         ∙ get_or-map (value_of_name q.environment) names (source n).at 0 (pos 0) (position_within names n there)
         ∙ ap (value_of_name q.environment) (at_position names n there)
 
-    abbrev pub c : Call
+    abbrev pub c : GroupCall
     c = call_of plan proc args s.given g
 
     abbrev pub start : Progress
@@ -142,7 +142,7 @@ module _ (plan : Plan) (proc : ℕ) (args : List ℤ) (has : HasNames (procedure
         (not_by_others (procedure_of plan proc) has (pieces_of g) (pieces_of h) n (λ x i j. new x (has_flat_map pieces_of x h done k j) i)
         (sym (pieces_bound (procedure_of plan proc) (pieces_of h) n) ∙ has_named (bound_of plan proc h) n there))))
 
-    pub next_stage : ¬ Has g done → IsAt (done ++ g ∷ []) (run_all the_piece q (pieces_of g)) (after_group plan proc args s g)
+    pub next_stage : ¬ Has g done → IsAt (done ++ g ∷ []) (run_all the_piece q (pieces_of g)) (after_turn plan proc args s g)
     next_stage fresh_group = record {
       cells = cells_are;
       nothing = run_all-quiet the_piece q (pieces_of g) is.nothing;

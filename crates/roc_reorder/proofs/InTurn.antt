@@ -18,7 +18,7 @@ use Rattle.roc_plan.specs.Groups.{Plan, procedure_of, group_of, inputs_of, outs_
 use Rattle.roc_plan.specs.Accepted.{IsAccepted}
 use Rattle.roc_plan.specs.Turns.{AreInTurn}
 use Rattle.roc_group.specs.Group_run.{group_run}
-use Rattle.roc_reorder.specs.GroupsRun.{Given, Stage, call_of, after_group, after_groups, DoAs}
+use Rattle.roc_reorder.specs.GroupsRun.{Given, TurnStage, call_of, after_turn, after_turns, DoAs}
 use Rattle.roc_reorder.proofs.Moving.{run_all, spoken, said_by, run_in_words, run_all-append, same_end, same_said, IsReordered}
 use Rattle.roc_reorder.proofs.Sorting.{reordered}
 use Rattle.roc_group.proofs.GroupStarts.{at}
@@ -67,19 +67,19 @@ module _ (plan : Plan) (proc : ℕ) (args : List ℤ) (store : Store) (ok : IsAc
   abbrev count : ℕ
   count = length (procedure_of plan proc).pieces
 
-  abbrev At : List ℕ → Progress → Stage → Type 0
+  abbrev At : List ℕ → Progress → TurnStage → Type 0
   At done q s = IsAt plan proc args (has_names plan proc ok there) (bound_there plan proc ok there) done q s
 
   -- a group gave what its pieces say among all pieces in turn
   abbrev Said : Given → Type 0
   Said e = e.outs ≡ flat_map (said_by piece start (flat_map pieces_of order)) (pieces_of e.group)
 
-  record Stands (done : List ℕ) (s : Stage) : Type 0 where
+  record Stands (done : List ℕ) (s : TurnStage) : Type 0 where
     at : At done (run_all piece start (flat_map pieces_of done)) s
     said : AllByRecursion Said s.given
 
   -- one group more
-  one_more : (done rest : List ℕ) (g : ℕ) (s : Stage) → done ++ g ∷ rest ≡ order → Stands done s → Stands (done ++ g ∷ []) (after_group plan proc args s g)
+  one_more : (done rest : List ℕ) (g : ℕ) (s : TurnStage) → done ++ g ∷ rest ≡ order → Stands done s → Stands (done ++ g ∷ []) (after_turn plan proc args s g)
   one_more done rest g s is stands =
       let once = subst (λ xs. NoneTwice (λ a b. a == b) xs) (sym is) turn.once in
       let fresh : ¬ Has g done = not_among done rest g once in
@@ -94,14 +94,14 @@ module _ (plan : Plan) (proc : ℕ) (args : List ℤ) (store : Store) (ok : IsAc
       let all : flat_map pieces_of done ++ (pieces_of g ++ flat_map pieces_of rest) ≡ flat_map pieces_of order = sym (flat_map-append pieces_of done (g ∷ rest)) ∙ ap (flat_map pieces_of) is in
       let words = spoken_among piece start (flat_map pieces_of done) (pieces_of g) (flat_map pieces_of rest) (distinct_rising piece (pieces_of g) (group_rising plan proc ok there g)) (λ k i j. new k j i) in
       record {
-        at = subst (λ p. At (done ++ g ∷ []) p (after_group plan proc args s g)) joined next;
+        at = subst (λ p. At (done ++ g ∷ []) p (after_turn plan proc args s g)) joined next;
         said = all_append Said s.given _ stands.said (gave ∙ words ∙ ap (λ ks. flat_map (said_by piece start ks) (pieces_of g)) all, tt);
       }
 
   -- all of them
-  to_the_end : (done rest : List ℕ) (s : Stage) → done ++ rest ≡ order → Stands done s → Stands order (after_groups plan proc args s rest)
+  to_the_end : (done rest : List ℕ) (s : TurnStage) → done ++ rest ≡ order → Stands done s → Stands order (after_turns plan proc args s rest)
   to_the_end done [] s is stands = subst (λ xs. Stands xs s) (sym (append-nil done) ∙ is) stands
-  to_the_end done (g ∷ rest) s is stands = to_the_end (done ++ g ∷ []) rest (after_group plan proc args s g) (append_assoc done (g ∷ []) rest ∙ is) (one_more done rest g s is stands)
+  to_the_end done (g ∷ rest) s is stands = to_the_end (done ++ g ∷ []) rest (after_turn plan proc args s g) (append_assoc done (g ∷ []) rest ∙ is) (one_more done rest g s is stands)
 
   first_stage : Stands [] (record { store = store; given = [] })
   first_stage = record {
@@ -125,7 +125,7 @@ module _ (plan : Plan) (proc : ℕ) (args : List ℤ) (store : Store) (ok : IsAc
       ap (after_pieces start) (sym (by_number (procedure_of plan proc).pieces))
       ∙ run_in_words piece store (with_arguments (procedure_of plan proc) args) (range_with_len 0 count)
 
-  pub do_as_whole : DoAs plan proc (whole_run (procedure_of plan proc) args store) (after_groups plan proc args (record { store = store; given = [] }) order)
+  pub do_as_whole : DoAs plan proc (whole_run (procedure_of plan proc) args store) (after_turns plan proc args (record { store = store; given = [] }) order)
   do_as_whole =
       let end = to_the_end [] order (record { store = store; given = [] }) refl first_stage in
       record {

@@ -22,7 +22,7 @@ use Rattle.roc_plan.specs.Groups.{Plan, procedure_of, pieces_at, inputs_of, outs
 use Rattle.roc_plan.specs.Accepted.{IsAccepted}
 use Rattle.roc_plan.specs.Turns.{AreInTurn}
 use Rattle.roc_group.specs.Group_run.{group_run}
-use Rattle.roc_reorder.specs.GroupsRun.{Given, Stage, call_of, after_group, after_groups, DoAs}
+use Rattle.roc_reorder.specs.GroupsRun.{Given, TurnStage, call_of, after_turn, after_turns, DoAs}
 use Rattle.roc_reorder.proofs.Commuting.{then_piece}
 use Rattle.roc_reorder.proofs.Moving.{run_all, spoken, said_by, run_in_words, run_all-append, same_end, same_said, IsReordered}
 use Rattle.roc_reorder.proofs.Sorting.{reordered}

@@ -5,7 +5,7 @@ use Rattle.roc_rows.specs.Store.{Store}
 use Rattle.roc_plan.specs.declared.group.Input.{Input}
 use Rattle.roc_plan.specs.Groups.{Plan, inputs_of, outs_of}
 use Rattle.roc_whole.specs.Run.{Progress}
-use Rattle.roc_group.specs.Group_run.{Call, call, group_run, bound_by_run}
+use Rattle.roc_group.specs.Group_run.{GroupCall, call, group_run, bound_by_run}
 
 -- what a group gave when it ran: the values that it bound, in the order in which they are bound, and what it added to the reply
 pub record Given : Type 0 where
@@ -14,7 +14,7 @@ pub record Given : Type 0 where
   pub outs : List ℤ
 
 -- where the groups stand: the cells, and what each gave so far
-pub record Stage : Type 0 where
+pub record TurnStage : Type 0 where
   pub store : Store
   pub given : List Given
 
@@ -28,22 +28,22 @@ abbrev pub taken : List Given → Input → ℤ
 taken given input = slice_index_or (bound_by given input.group) input.at (pos 0)
 
 -- a group with what it takes from those that ran
-abbrev pub call_of : Plan → (proc : ℕ) → List ℤ → List Given → ℕ → Call
+abbrev pub call_of : Plan → (proc : ℕ) → List ℤ → List Given → ℕ → GroupCall
 call_of plan proc args given group = call proc group args (map (taken given) (inputs_of plan proc group))
 
-abbrev pub after_group : Plan → (proc : ℕ) → List ℤ → Stage → ℕ → Stage
-after_group plan proc args s group =
+abbrev pub after_turn : Plan → (proc : ℕ) → List ℤ → TurnStage → ℕ → TurnStage
+after_turn plan proc args s group =
     let c = call_of plan proc args s.given group in
     record {
       store = (group_run plan c s.store).store;
       given = s.given ++ record { group = group; bound = bound_by_run plan c s.store; outs = (group_run plan c s.store).reply } ∷ [];
     }
 
-abbrev pub after_groups : Plan → (proc : ℕ) → List ℤ → Stage → List ℕ → Stage
-after_groups plan proc args s [] = s
-after_groups plan proc args s (g ∷ gs) = after_groups plan proc args (after_group plan proc args s g) gs
+abbrev pub after_turns : Plan → (proc : ℕ) → List ℤ → TurnStage → List ℕ → TurnStage
+after_turns plan proc args s [] = s
+after_turns plan proc args s (g ∷ gs) = after_turns plan proc args (after_turn plan proc args s g) gs
 
 -- the groups did what this run does: they left the same cells, and each gave what stands in its places of the reply
-pub record DoAs (plan : Plan) (proc : ℕ) (whole : Progress) (s : Stage) : Type 0 where
+pub record DoAs (plan : Plan) (proc : ℕ) (whole : Progress) (s : TurnStage) : Type 0 where
   pub cells : s.store ≡ whole.store
   pub outs : AllByRecursion (λ g. g.outs ≡ map (λ k. slice_index_or whole.reply k (pos 0)) (outs_of plan proc g.group)) s.given

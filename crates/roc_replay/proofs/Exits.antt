@@ -1,52 +1,34 @@
 -- What the sink took at each end of a replay
-use Rattle.std.proofs.Common.{◌≡◌, ℕ, zero, suc, ◌+◌, ◌<◌, ◌≤◌, List, [], ◌∷◌, ◌++◌, length, map, take, drop, get_or, Bool, true, false, cond, refl, sym, ap, subst, ◌∙◌, arith, take-append-drop}
-use Rattle.std.proofs.Math.Seq.{drop-cons, take-suc}
+use Rattle.std.proofs.Common.{◌≡◌, ℕ, suc, ◌+◌, ◌<◌, List, [], ◌∷◌, ◌++◌, length, map, take, drop, get_or, Bool, true, false, cond, refl, sym, ap, subst, ◌∙◌, arith, take-append-drop}
 use Rattle.std.proofs.lemmas.Bool.{ltb-true, false≢true}
 use Rattle.std.proofs.lemmas.Grind.{flat_map-append}
 use Rattle.std.proofs.lemmas.List.{append-nil}
 use Rattle.std.specs.Prelude.{Option, count_by, fold}
+use Rattle.roc_sequence.proofs.Fronts.{parts_at}
 use Rattle.roc_io.specs.Told.{Adds, AddsFront}
 use Rattle.roc_io.proofs.Told.{Adds-trans, AddsThenFront-behind}
 use Rattle.roc_plan.specs.Groups.{Plan}
-use Rattle.roc_plan.specs.Within.{IsWithin}
-use Rattle.roc_world.specs.World.{World}
+use Rattle.roc_protocol.specs.Run.{Stepped, IsRun}
+use Rattle.roc_protocol.specs.World.{World}
+use Rattle.roc_protocol.specs.declared.event.Event.TheVariants as event
 use Rattle.roc_world.specs.Reads.{cells_of, unanswered_of}
-use Rattle.roc_world.specs.declared.event.Event.{Event}
-use Rattle.roc_world.specs.declared.event.Event.TheVariants as event
 use Rattle.roc_report.specs.Line.{Row, Pending}
 use Rattle.roc_report.specs.Text.{line_text, lines_text}
 use Rattle.roc_replay.specs.declared.ended.Ended.{Ended}
 use Rattle.roc_replay.specs.declared.ended.Ended.TheVariants.{Done, Text, SinkFault, NoMemory}
 use Rattle.roc_replay.specs.declared.asked.Asked.{Asked}
-use Rattle.roc_replay.specs.Thin.{IsThinSchedule}
+use Rattle.roc_replay.specs.declared.asked.Wanted.{Wanted}
+use Rattle.roc_replay.specs.declared.asked.Wanted.TheVariants as wanted
+use Rattle.roc_replay.specs.Asked.{IsScheduleOf, coordinators, event_in}
 use Rattle.roc_replay.specs.Cells.{by_cell}
-use Rattle.roc_replay.specs.Inner.Closed.{IsClosed, asks_unsent}
+use Rattle.roc_replay.specs.Inner.Closed.{IsClosed, wants_unsent}
 use Rattle.roc_replay.specs.Ended.{IsUnsent, IsCut, at_line, at_end, IsUnfinished, behind_lines}
 use Rattle.roc_replay.specs.Inner.Ends.{IsEnd}
-use Rattle.roc_replay.specs.Played.{coordinators, IsPlayedLine}
-use Rattle.roc_replay.specs.Report.{is_busy, busy_in, end_line, closing_lines, steps_lines}
-use Rattle.roc_replay.proofs.Shows.{explained}
+use Rattle.roc_replay.specs.Played.{IsPlayedLine}
+use Rattle.roc_replay.specs.Report.{is_busy, busy_in, end_line, closing_lines, steps_lines, report}
+use Rattle.roc_replay.specs.Told.{IsExplained}
+use Rattle.roc_replay.proofs.Playing.{played_run}
 use Rattle.roc_replay.proofs.SoFar.{IsSoFar, count_by-append}
-
--- ---- lists
-
--- the first ones, one, and those behind it
-pub parts_at : {A : Type 0} (xs : List A) (i : ℕ) (x : A) → i < length xs → x ≡ get_or xs i x → take i xs ++ x ∷ drop (suc i) xs ≡ xs
-parts_at {A} xs i x within is =
-    ap (λ (y : A). take i xs ++ y ∷ drop (suc i) xs) is
-    ∙ ap (λ (rest : List A). take i xs ++ rest) (sym (drop-cons xs i x within))
-    ∙ take-append-drop i xs
-
-pub front_more : {A : Type 0} (xs : List A) (i : ℕ) (x : A) → i < length xs → x ≡ get_or xs i x → take i xs ++ x ∷ [] ≡ take (i + 1) xs
-front_more {A} xs i x within is =
-    let next : suc i ≡ i + 1 = omega arith in
-    ap (λ (y : A). take i xs ++ y ∷ []) is ∙ sym (take-suc xs i x within) ∙ ap (λ (n : ℕ). take n xs) next
-
-pub take_all : {A : Type 0} (xs : List A) (i : ℕ) → length xs ≤ i → take i xs ≡ xs
-take_all [] zero within = refl
-take_all [] (suc i) within = refl
-take_all (x ∷ xs) zero within = absurd (omega arith)
-take_all {A} (x ∷ xs) (suc i) within = let less : length xs ≤ i = omega arith in ap (λ (rest : List A). x ∷ rest) (take_all xs i less)
 
 none_counted : {A B : Type 0} (p : B → Bool) (f : A → B) → ((a : A) → p (f a) ≡ false) → (xs : List A) → count_by p (map f xs) ≡ 0
 none_counted p f none [] = refl
@@ -54,19 +36,21 @@ none_counted p f none (x ∷ xs) = ap (λ b. fold (λ n y. n + cond (p y) 1 0) (
 
 -- ---- the ends
 
-module _ (plan : Plan) (schedule : List ℕ) (lines : List Asked) (of : IsThinSchedule plan.program schedule lines) where
+module _ (plan : Plan) (schedule : List ℕ) (lines : List Asked) (of : IsScheduleOf plan.program schedule lines) where
   -- the next line asks for a message that was not sent
   pub unsent_end : (i : ℕ) (line : Asked) (w : World) (busy : ℕ) (old now : Option (List ℕ)) → i < length lines → line ≡ get_or lines i line
-      → IsSoFar plan (take i lines) w busy old now → asks_unsent line.event (length w.sent) ≡ true → IsUnsent plan schedule line.number old now
-  unsent_end i line w busy old now within is so asks = go line.event refl asks
+      → IsSoFar plan (take i lines) w busy old now → wants_unsent line.wanted (length w.sent) ≡ true → IsUnsent plan schedule line.number old now
+  unsent_end i line w busy old now within is so asks = go line.wanted refl asks
     where
-      go : (a : Event) → line.event ≡ a → asks_unsent a (length w.sent) ≡ true → IsUnsent plan schedule line.number old now
-      go (event.Submit coord proc args) e t = absurd (false≢true t)
-      go (event.Deliver k) e t = record {
+      go : (a : Wanted) → line.wanted ≡ a → wants_unsent a (length w.sent) ≡ true → IsUnsent plan schedule line.number old now
+      go (wanted.Any place) e t = absurd (false≢true t)
+      go (wanted.Event (event.Submit coord proc args)) e t = absurd (false≢true t)
+      go (wanted.Event (event.Tick node)) e t = absurd (false≢true t)
+      go (wanted.Event (event.Deliver k)) e t = record {
         before = take i lines;
         line = line;
         behind = drop (suc i) lines;
-        of_schedule = subst (IsThinSchedule plan.program schedule) (sym (parts_at lines i line within is)) of;
+        of_schedule = subst (IsScheduleOf plan.program schedule) (sym (parts_at lines i line within is)) of;
         numbered = refl;
         message = k;
         asks = e;
@@ -80,14 +64,14 @@ module _ (plan : Plan) (schedule : List ℕ) (lines : List Asked) (of : IsThinSc
   -- no memory for the next line
   pub stopped_end : (i : ℕ) (w : World) (busy : ℕ) (old now : Option (List ℕ)) → IsSoFar plan (take i lines) w busy old now → IsUnfinished plan schedule old now
   stopped_end i w busy old now so =
-      behind_lines (take i lines) (drop i lines) so.steps w (subst (IsThinSchedule plan.program schedule) (sym (take-append-drop i lines)) of) so.played so.taken
+      behind_lines (take i lines) (drop i lines) so.steps w (subst (IsScheduleOf plan.program schedule) (sym (take-append-drop i lines)) of) so.played so.taken
 
   -- the sink failed at the text of a line
   pub failed_end : (i : ℕ) (line : Asked) (w after : World) (text : List ℕ) (busy more : ℕ) (old now then : Option (List ℕ)) → i < length lines → line ≡ get_or lines i line
-      → IsSoFar plan (take i lines) w busy old now → IsPlayedLine plan line.event w after text more → AddsFront now then text → IsCut plan schedule old then
+      → IsSoFar plan (take i lines) w busy old now → IsPlayedLine plan (event_in w line.wanted) w after text more → AddsFront now then text → IsCut plan schedule old then
   failed_end i line w after text busy more old now then within is so next front =
       at_line (take i lines) line (drop (suc i) lines) so.steps w after text more
-      (subst (IsThinSchedule plan.program schedule) (sym (parts_at lines i line within is)) of) so.played next
+      (subst (IsScheduleOf plan.program schedule) (sym (parts_at lines i line within is)) of) so.played next
       (AddsThenFront-behind old now then _ text so.taken front)
 
   -- ---- the closing lines
@@ -101,20 +85,23 @@ module _ (plan : Plan) (schedule : List ℕ) (lines : List Asked) (of : IsThinSc
       let four = none_counted is_busy Pending (λ id. refl) (unanswered_of w) in
       omega arith
 
-  pub closed_end : (thin : IsWithin plan) (w : World) (busy : ℕ) (old now then : Option (List ℕ)) → IsSoFar plan lines w busy old now → (e : Ended) → IsClosed plan.program w busy e now then → IsEnd plan schedule e old then
-  closed_end thin w busy old now then so (Done summary) (adds, end, refused) = record {
+  -- where each run of the plan explains itself
+  pub closed_end : (explains : (coords : ℕ) (steps : List Stepped) (w : World) → IsRun plan coords steps w → IsExplained plan.program (report steps w))
+      → (w : World) (busy : ℕ) (old now then : Option (List ℕ)) → IsSoFar plan lines w busy old now → (e : Ended)
+      → IsClosed plan.program w busy e now then → IsEnd plan schedule e old then
+  closed_end explains w busy old now then so (Done summary) (adds, end, refused) = record {
     lines = lines;
     of_schedule = of;
     steps = so.steps;
     world = w;
     played = so.played;
     taken = subst (Adds old then) (sym (flat_map-append (line_text plan.program) (steps_lines [] so.steps) (closing_lines w))) (Adds-trans old now then _ _ so.taken adds);
-    explained = explained plan coordinators so.steps w thin so.played.run;
+    explained = explains coordinators so.steps w (played_run plan lines so.steps w so.played);
     end = end;
     busy = (let all = count_by-append is_busy (steps_lines [] so.steps) (closing_lines w) in let none = busy_in-closing w in let before = so.refused in omega arith);
   }
-  closed_end thin w busy old now then so SinkFault front = at_end lines so.steps w of so.played (AddsThenFront-behind old now then _ _ so.taken front)
-  closed_end thin w busy old now then so NoMemory same =
-      behind_lines lines [] so.steps w (subst (IsThinSchedule plan.program schedule) (sym (append-nil lines)) of) so.played
+  closed_end explains w busy old now then so SinkFault front = at_end lines so.steps w of so.played (AddsThenFront-behind old now then _ _ so.taken front)
+  closed_end explains w busy old now then so NoMemory same =
+      behind_lines lines [] so.steps w (subst (IsScheduleOf plan.program schedule) (sym (append-nil lines)) of) so.played
       (subst (λ (x : Option (List ℕ)). Adds old x (lines_text plan.program (steps_lines [] so.steps))) (sym same) so.taken)
-  closed_end thin w busy old now then so (Text line what) never = absurd never
+  closed_end explains w busy old now then so (Text line what) never = absurd never

@@ -3,8 +3,8 @@ use Rattle.std.proofs.Common.{◌≡◌, ℕ, List, [], ◌∷◌, ◌++◌, ref
 use Rattle.std.proofs.lemmas.List.{append-nil}
 use Rattle.roc_msg.specs.declared.msg.Sent.{Sent}
 use Rattle.roc_plan.specs.Groups.{Plan}
-use Rattle.roc_world.specs.World.{World}
-use Rattle.roc_world.specs.Happens.{Stepped, IsRun, begun, goes_on}
+use Rattle.roc_protocol.specs.World.{World}
+use Rattle.roc_protocol.specs.Run.{Stepped, IsRun, begun, goes_on}
 use Rattle.roc_report.specs.Line.{Line}
 use Rattle.roc_replay.specs.Report.{step_lines, steps_lines}
 

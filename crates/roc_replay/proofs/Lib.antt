@@ -1,7 +1,11 @@
+pub mod Complete
 pub mod Exits
 pub mod Growing
+pub mod NothingPlayed
 pub mod OneReport
-pub mod Rising
+pub mod Playing
+pub mod QuietLines
+pub mod Schedules
 pub mod Shows
 pub mod SoFar
-pub mod ThinSchedules
+pub mod Sorted

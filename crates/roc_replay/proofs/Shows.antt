@@ -1,9 +1,10 @@
--- What the lines of a run show is the history and the order of its world
-use Rattle.std.proofs.Common.{◌≡◌, ℕ, ℤ, ◌+◌, List, [], ◌∷◌, ◌++◌, Result, Ok, Err, map, refl, sym, ap, subst, ◌∙◌}
+-- What the lines of a run show is the history and the order of its world, and so they explain themselves
+use Rattle.std.proofs.Common.{◌≡◌, ℕ, ℤ, ◌+◌, List, [], ◌∷◌, ◌++◌, Option, Some, None, Result, Ok, Err, map, refl, sym, ap, subst, ◌∙◌}
 use Rattle.std.proofs.lemmas.Grind.{flat_map-append}
 use Rattle.std.proofs.lemmas.List.{append-nil}
 use Rattle.std.specs.List.{flat_map}
 use Rattle.std.specs.Prelude.{length, drop}
+use Rattle.roc_sequence.specs.Lists.{Has}
 use Rattle.roc_base.specs.declared.id.TxnId.{TxnId}
 use Rattle.roc_base.specs.declared.node.Node.{Node}
 use Rattle.roc_base.specs.declared.node.Node.TheVariants.{Server, Coord}
@@ -11,7 +12,6 @@ use Rattle.roc_msg.specs.declared.msg.Msg.{Msg}
 use Rattle.roc_msg.specs.declared.msg.Sent.{Sent}
 use Rattle.roc_msg.specs.declared.outbox.Outgoing.{Outgoing}
 use Rattle.roc_plan.specs.Groups.{Plan}
-use Rattle.roc_plan.specs.Within.{IsWithin}
 use Rattle.roc_server.specs.declared.handled.Handled.{Handled as ServerHandled}
 use Rattle.roc_server.specs.declared.handled.Handled.TheVariants as server_answer
 use Rattle.roc_coord.specs.declared.handled.Handled.{Handled as CoordHandled}
@@ -21,20 +21,23 @@ use Rattle.roc_coord.specs.declared.handled.SubmitFault.TheVariants as fault
 use Rattle.roc_coord.specs.State.{CoordState}
 use Rattle.roc_coord.specs.Step.{after_message}
 use Rattle.roc_audit.specs.declared.entry.Entry.{Entry}
+use Rattle.roc_audit.specs.declared.entry.Entry.TheVariants as entry
 use Rattle.roc_audit.specs.Witness.{IsSerialWitness}
-use Rattle.roc_world.specs.declared.event.Event.{Event}
-use Rattle.roc_world.specs.declared.event.Event.TheVariants as event
-use Rattle.roc_world.specs.declared.event.Seen.{Seen}
-use Rattle.roc_world.specs.declared.event.Seen.TheVariants as seen
-use Rattle.roc_world.specs.World.{World}
-use Rattle.roc_world.specs.Happens.{Outcome, Submits, Comes, Happens, server_seen, coord_seen, answer_entries, Stepped, IsRun, begun, goes_on}
+use Rattle.roc_protocol.specs.declared.event.Event.{Event}
+use Rattle.roc_protocol.specs.declared.event.Event.TheVariants as event
+use Rattle.roc_protocol.specs.declared.event.Seen.{Seen}
+use Rattle.roc_protocol.specs.declared.event.Seen.TheVariants as seen
+use Rattle.roc_protocol.specs.World.{World, comes}
+use Rattle.roc_protocol.specs.Happens.{Outcome, Submits, IsReceived, Ticks, Happens, server_seen, coord_seen, answer_entries}
+use Rattle.roc_protocol.specs.Quiet.{IsQuiet}
+use Rattle.roc_protocol.specs.Run.{Stepped, Comes, IsRun, begun, goes_on}
 use Rattle.roc_world.specs.Reads.{cells_of, unanswered_of}
-use Rattle.roc_world.proofs.Reached.{run_sound, witness}
 use Rattle.roc_report.specs.Line.{Deliver, Row, Pending}
 use Rattle.roc_replay.specs.Cells.{by_cell}
 use Rattle.roc_replay.specs.Report.{ignored_lines, first_lines, send_lines, answer_lines, step_lines, steps_lines, end_line, closing_lines, report}
 use Rattle.roc_replay.specs.Told.{entries_in, history_in, orders_of, orders_in, IsExplained}
 use Rattle.roc_replay.proofs.Growing.{run_lines}
+use Rattle.roc_replay.proofs.QuietLines.{shown_answered}
 
 -- what shows nothing in each place shows nothing
 none_in_map : {A B C : Type 0} (f : B → List C) (g : A → B) → ((a : A) → f (g a) ≡ []) → (xs : List A) → flat_map f (map g xs) ≡ []
@@ -64,15 +67,15 @@ history_in-step before step =
     ∙ ap (λ (l : List Entry). l ++ history_in (answer_lines step.outcome.seen)) (history_in-sends (length before + 1) (drop (length before) step.outcome.world.sent)))
 
 -- o adds to the history of w what these lines show
-Gains : World → Event → Outcome → Type 0
+Gains : World → Option Event → Outcome → Type 0
 Gains w e o = o.world.history ≡ w.history ++ (history_in (first_lines e o.seen) ++ history_in (answer_lines o.seen))
 
 submit_gains : (w : World) (coord proc : ℕ) (args : List ℤ) (after : CoordState) (outs : List Outgoing) (r : Result TxnId SubmitFault) (o : Outcome)
-    → Submits w coord proc args after outs r o → Gains w (event.Submit coord proc args) o
+    → Submits w coord proc args after outs r o → Gains w (Some (event.Submit coord proc args)) o
 unfolding Gains
-submit_gains w coord proc args after outs (Ok id) o e = subst (λ (x : Outcome). Gains w (event.Submit coord proc args) x) (sym e) refl
-submit_gains w coord proc args after outs (Err fault.Spent) o e = subst (λ (x : Outcome). Gains w (event.Submit coord proc args) x) (sym e) (sym (append-nil w.history))
-submit_gains w coord proc args after outs (Err fault.Busy) o e = subst (λ (x : Outcome). Gains w (event.Submit coord proc args) x) (sym e) (sym (append-nil w.history))
+submit_gains w coord proc args after outs (Ok id) o e = subst (λ (x : Outcome). Gains w (Some (event.Submit coord proc args)) x) (sym e) refl
+submit_gains w coord proc args after outs (Err fault.Spent) o e = subst (λ (x : Outcome). Gains w (Some (event.Submit coord proc args)) x) (sym e) (sym (append-nil w.history))
+submit_gains w coord proc args after outs (Err fault.Busy) o e = subst (λ (x : Outcome). Gains w (Some (event.Submit coord proc args)) x) (sym e) (sym (append-nil w.history))
 submit_gains w coord proc args after outs (Err fault.Stopped) o e = absurd e
 submit_gains w coord proc args after outs (Err fault.NoProc) o e = absurd e
 submit_gains w coord proc args after outs (Err fault.Args) o e = absurd e
@@ -87,18 +90,30 @@ coord_shows k coord_answer.Done = refl
 coord_shows k (coord_answer.Answered id reply) = refl
 coord_shows k (coord_answer.Ignored reason) = refl
 
-comes_gains : (plan : Plan) (w : World) (k : ℕ) (msg : Msg) (to : Node) (o : Outcome) → Comes plan w k msg to o → Gains w (event.Deliver k) o
+received_gains : (plan : Plan) (w : World) (k : ℕ) (msg : Msg) (to : Node) (o : Outcome) → IsReceived plan w msg to o → Gains w (Some (event.Deliver k)) o
 unfolding Gains
-comes_gains plan w k msg (Server shard) o (s, r, there, step, e) =
-    subst (λ (x : Outcome). Gains w (event.Deliver k) x) (sym e)
+received_gains plan w k msg (Server shard) o (s, r, there, step, e) =
+    subst (λ (x : Outcome). Gains w (Some (event.Deliver k)) x) (sym e)
     (sym (append-nil w.history) ∙ ap (λ (l : List Entry). w.history ++ l) (sym (server_shows k r.answer)))
-comes_gains plan w k msg (Coord number) o (s, there, e) =
-    subst (λ (x : Outcome). Gains w (event.Deliver k) x) (sym e)
+received_gains plan w k msg (Coord number) o (s, there, e) =
+    subst (λ (x : Outcome). Gains w (Some (event.Deliver k)) x) (sym e)
     (ap (λ (l : List Entry). w.history ++ l) (sym (coord_shows k (after_message plan s msg).answer)))
 
-happens_gains : (plan : Plan) (w : World) (e : Event) (o : Outcome) → Happens plan w e o → Gains w e o
+tick_gains : (plan : Plan) (w : World) (node : Node) (o : Outcome) → Ticks plan w node o → Gains w (Some (event.Tick node)) o
+unfolding Gains
+tick_gains plan w (Server shard) o (s, there, e) = subst (λ (x : Outcome). Gains w (Some (event.Tick (Server shard))) x) (sym e) (sym (append-nil w.history))
+tick_gains plan w (Coord number) o (s, there, e) = subst (λ (x : Outcome). Gains w (Some (event.Tick (Coord number))) x) (sym e) refl
+
+happens_gains : (plan : Plan) (w : World) (e : Event) (o : Outcome) → Happens plan w e o → Gains w (Some e) o
+unfolding Gains
 happens_gains plan w (event.Submit coord proc args) o (s, there, h) = submit_gains w coord proc args _ _ _ o h
-happens_gains plan w (event.Deliver k) o (m, some, there, h) = comes_gains plan w k m.msg m.to o h
+happens_gains plan w (event.Deliver k) o (m, some, there, h) = received_gains plan (comes w k) k m.msg m.to o h
+happens_gains plan w (event.Tick node) o h = tick_gains plan w node o h
+
+comes_gains : (plan : Plan) (w : World) (e : Option Event) (o : Outcome) → Comes plan w e o → Gains w e o
+unfolding Gains
+comes_gains plan w (Some e) o h = happens_gains plan w e o h
+comes_gains plan w None o h = subst (λ (x : Outcome). Gains w None x) (sym h) (sym (append-nil w.history))
 
 -- the lines of a run show its history
 pub run_history : (plan : Plan) (coords : ℕ) (steps : List Stepped) (w : World) → IsRun plan coords steps w → history_in (steps_lines [] steps) ≡ w.history
@@ -110,23 +125,25 @@ run_history plan coords steps w (goes_on {steps = before} {w = old} e o r h) =
     ∙ flat_map-append entries_in (steps_lines [] before) (step_lines old.sent step)
     ∙ ap (λ (l : List Entry). l ++ history_in (step_lines old.sent step)) (run_history plan coords before old r)
     ∙ ap (λ (l : List Entry). old.history ++ l) (history_in-step old.sent step)
-    ∙ sym (happens_gains plan old e o h)
+    ∙ sym (comes_gains plan old e o h)
 
 -- ---- and no order
 
-orders_in-first : (e : Event) (s : Seen) → orders_in (first_lines e s) ≡ []
-orders_in-first (event.Submit coord proc args) (seen.Submitted id) = refl
-orders_in-first (event.Submit coord proc args) seen.Spent = refl
-orders_in-first (event.Submit coord proc args) seen.Busy = refl
-orders_in-first (event.Submit coord proc args) seen.Done = refl
-orders_in-first (event.Submit coord proc args) (seen.Answered id reply) = refl
-orders_in-first (event.Submit coord proc args) (seen.Ignored reason) = refl
-orders_in-first (event.Deliver k) (seen.Submitted id) = refl
-orders_in-first (event.Deliver k) seen.Spent = refl
-orders_in-first (event.Deliver k) seen.Busy = refl
-orders_in-first (event.Deliver k) seen.Done = refl
-orders_in-first (event.Deliver k) (seen.Answered id reply) = refl
-orders_in-first (event.Deliver k) (seen.Ignored reason) = refl
+orders_in-first : (e : Option Event) (s : Seen) → orders_in (first_lines e s) ≡ []
+orders_in-first None s = refl
+orders_in-first (Some (event.Tick node)) s = refl
+orders_in-first (Some (event.Submit coord proc args)) (seen.Submitted id) = refl
+orders_in-first (Some (event.Submit coord proc args)) seen.Spent = refl
+orders_in-first (Some (event.Submit coord proc args)) seen.Busy = refl
+orders_in-first (Some (event.Submit coord proc args)) seen.Done = refl
+orders_in-first (Some (event.Submit coord proc args)) (seen.Answered id reply) = refl
+orders_in-first (Some (event.Submit coord proc args)) (seen.Ignored reason) = refl
+orders_in-first (Some (event.Deliver k)) (seen.Submitted id) = refl
+orders_in-first (Some (event.Deliver k)) seen.Spent = refl
+orders_in-first (Some (event.Deliver k)) seen.Busy = refl
+orders_in-first (Some (event.Deliver k)) seen.Done = refl
+orders_in-first (Some (event.Deliver k)) (seen.Answered id reply) = refl
+orders_in-first (Some (event.Deliver k)) (seen.Ignored reason) = refl
 
 orders_in-answer : (s : Seen) → orders_in (answer_lines s) ≡ []
 orders_in-answer (seen.Answered id reply) = refl
@@ -172,9 +189,13 @@ report_orders steps w =
     ∙ ap (λ (l : List (List TxnId)). l ++ orders_in (closing_lines w)) (orders_in-steps [] steps)
     ∙ closing_orders w
 
-pub explained : (plan : Plan) (coords : ℕ) (steps : List Stepped) (w : World) → IsWithin plan → IsRun plan coords steps w → IsExplained plan.program (report steps w)
-explained plan coords steps w thin r = record {
+-- where the order of the world is a serial witness of its history, and what is quiet there is answered
+pub explained : (plan : Plan) (coords : ℕ) (steps : List Stepped) (w : World) → IsSerialWitness plan.program w.history w.order
+    → ((t : TxnId) (proc : ℕ) (args : List ℤ) → Has (entry.Submitted t proc args) w.history → IsQuiet w t → (reply : List ℤ) × Has (entry.Answered t reply) w.history)
+    → IsRun plan coords steps w → IsExplained plan.program (report steps w)
+explained plan coords steps w serial answers r = record {
   order = w.order;
   shown = report_orders steps w;
-  serial = subst (λ (h : List Entry). IsSerialWitness plan.program h w.order) (sym (report_history plan coords steps w r)) (witness plan thin w (run_sound plan thin coords steps w r));
+  serial = subst (λ (h : List Entry). IsSerialWitness plan.program h w.order) (sym (report_history plan coords steps w r)) serial;
+  answered = shown_answered plan coords steps w r (report_history plan coords steps w r) answers;
 }

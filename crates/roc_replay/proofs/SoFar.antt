@@ -1,29 +1,24 @@
 -- What holds after some first lines of a schedule were played, and how one line more keeps it
-use Rattle.std.proofs.Common.{◌≡◌, ℕ, ◌+◌, ◌≤◌, List, [], ◌∷◌, ◌++◌, length, Bool, false, refl, sym, ap, subst, ◌∙◌, arith, length-append}
-use Rattle.std.proofs.lemmas.Bool.{ltb-false}
+use Rattle.std.proofs.Common.{◌≡◌, ℕ, ◌+◌, ◌≤◌, List, [], ◌∷◌, ◌++◌, length, Bool, refl, sym, ap, subst, ◌∙◌, arith, length-append}
 use Rattle.std.proofs.lemmas.Grind.{flat_map-append}
-use Rattle.std.proofs.lemmas.List.{map-append}
 use Rattle.std.proofs.lemmas.List.Sums.{sum_by-append}
 use Rattle.std.specs.Prelude.{Option, count_by, drop}
 use Rattle.roc_io.specs.Told.{Adds}
 use Rattle.roc_io.proofs.Told.{Adds-nil, Adds-trans}
 use Rattle.roc_plan.specs.Groups.{Plan}
 use Rattle.roc_msg.specs.declared.msg.Sent.{Sent}
-use Rattle.roc_world.specs.declared.event.Event.{Event}
-use Rattle.roc_world.specs.declared.event.Seen.{Seen}
-use Rattle.roc_world.specs.declared.event.Seen.TheVariants as seen
-use Rattle.roc_world.specs.World.{World, first_world}
-use Rattle.roc_world.specs.Happens.{Stepped, IsRun, begun, goes_on}
-use Rattle.roc_world.specs.Fits.{FitsWorld}
-use Rattle.roc_world.specs.Reached.{IsEventOf}
-use Rattle.roc_world.specs.declared.event.Event.TheVariants as event
+use Rattle.roc_protocol.specs.declared.event.Seen.{Seen}
+use Rattle.roc_protocol.specs.declared.event.Seen.TheVariants as seen
+use Rattle.roc_protocol.specs.World.{World, first_world}
+use Rattle.roc_protocol.specs.Fits.{FitsWorld}
+use Rattle.roc_protocol.specs.Run.{Stepped}
 use Rattle.roc_report.specs.Text.{line_text, lines_text}
-use Rattle.roc_replay.specs.Inner.Closed.{asks_unsent}
 use Rattle.roc_replay.specs.declared.asked.Asked.{Asked}
-use Rattle.roc_replay.specs.Thin.{FitsProgram}
-use Rattle.roc_replay.specs.Played.{coordinators, IsPlayed, IsPlayedLine}
+use Rattle.roc_replay.specs.Asked.{coordinators, event_in}
+use Rattle.roc_replay.specs.Played.{IsPlayed, begun, goes_on, IsPlayedLine}
 use Rattle.roc_replay.specs.Report.{is_busy, busy_in, first_lines, send_lines, answer_lines, step_lines, steps_lines}
 use Rattle.roc_replay.proofs.Growing.{run_lines}
+use Rattle.roc_replay.proofs.Playing.{played_run}
 
 -- the first lines were played, and the sink took their text
 pub record IsSoFar (plan : Plan) (lines : List Asked) (w : World) (busy : ℕ) (old now : Option (List ℕ)) : Type 0 where
@@ -38,7 +33,7 @@ pub record IsSoFar (plan : Plan) (lines : List Asked) (w : World) (busy : ℕ) (
 pub nothing_so_far : (plan : Plan) (w : World) (old : Option (List ℕ)) → w ≡ first_world plan coordinators → FitsWorld plan w → IsSoFar plan [] w 0 old old
 nothing_so_far plan w old is fits = record {
   steps = [];
-  played = record { run = subst (λ (x : World). IsRun plan coordinators [] x) (sym is) begun; events = refl };
+  played = subst (λ (x : World). IsPlayed plan [] [] x) (sym is) begun;
   fits = fits;
   coords = ap (λ (x : World). length x.coords) is;
   taken = Adds-nil old;
@@ -74,20 +69,16 @@ busy_in-step before step =
 
 -- a run with one line more
 module _ (plan : Plan) (lines : List Asked) (line : Asked) (steps : List Stepped) (w after : World) (text : List ℕ) (more : ℕ)
-    (played : IsPlayed plan lines steps w) (next : IsPlayedLine plan line.event w after text more) where
+    (played : IsPlayed plan lines steps w) (next : IsPlayedLine plan (event_in w line.wanted) w after text more) where
   pub step : Stepped
-  step = record { event = line.event; outcome = record { seen = next.seen; world = after } }
+  step = record { event = event_in w line.wanted; outcome = next.outcome }
 
   pub played_more : IsPlayed plan (lines ++ line ∷ []) (steps ++ step ∷ []) after
   unfolding step
-  played_more = record {
-    run = goes_on line.event (record { seen = next.seen; world = after }) played.run next.happens;
-    events = (map-append (λ (s : Stepped). s.event) steps (step ∷ []) ∙ ap (λ (es : List Event). es ++ line.event ∷ []) played.events)
-        ∙ sym (map-append (λ (l : Asked). l.event) lines (line ∷ []));
-  }
+  played_more = subst (λ (x : World). IsPlayed plan (lines ++ line ∷ []) (steps ++ step ∷ []) x) next.world (goes_on line next.outcome played next.comes)
 
   pub lines_more : steps_lines [] (steps ++ step ∷ []) ≡ steps_lines [] steps ++ step_lines w.sent step
-  lines_more = run_lines plan coordinators steps w played.run step
+  lines_more = run_lines plan coordinators steps w (played_run plan lines steps w played) step
 
   pub text_more : lines_text plan.program (steps_lines [] (steps ++ step ∷ [])) ≡ lines_text plan.program (steps_lines [] steps) ++ text
   unfolding step
@@ -104,7 +95,7 @@ module _ (plan : Plan) (lines : List Asked) (line : Asked) (steps : List Stepped
       ∙ ap (λ (n : ℕ). busy_in (steps_lines [] steps) + n) (busy_in-step w.sent step ∙ sym next.refused)
 
 pub one_more : (plan : Plan) (lines : List Asked) (line : Asked) (w after : World) (text : List ℕ) (busy more : ℕ) (old now then : Option (List ℕ))
-    → IsSoFar plan lines w busy old now → IsPlayedLine plan line.event w after text more → FitsWorld plan after → length after.coords ≡ length w.coords → more ≤ 1 → Adds now then text
+    → IsSoFar plan lines w busy old now → IsPlayedLine plan (event_in w line.wanted) w after text more → FitsWorld plan after → length after.coords ≡ coordinators → more ≤ 1 → Adds now then text
     → IsSoFar plan (lines ++ line ∷ []) after (busy + more) old then
 one_more plan lines line w after text busy more old now then so next fits coords few adds =
     let s : Stepped = step plan lines line so.steps w after text more so.played next in
@@ -112,14 +103,8 @@ one_more plan lines line w after text busy more old now then so next fits coords
       steps = so.steps ++ s ∷ [];
       played = played_more plan lines line so.steps w after text more so.played next;
       fits = fits;
-      coords = coords ∙ so.coords;
+      coords = coords;
       taken = subst (Adds old then) (sym (text_more plan lines line so.steps w after text more so.played next)) (Adds-trans old now then _ text so.taken adds);
       refused = ap (λ (n : ℕ). n + more) so.refused ∙ sym (busy_more plan lines line so.steps w after text more so.played next);
       few = (let counted = length-append lines (line ∷ []) in let before = so.few in omega arith);
     }
-
--- ---- the event that a line asks for
-
-pub event_fits : (plan : Plan) (w : World) (a : Event) → FitsProgram plan.program a → length w.coords ≡ coordinators → asks_unsent a (length w.sent) ≡ false → IsEventOf plan w a
-event_fits plan w (event.Submit coord proc args) fits coords sent = (omega arith, fits.1, fits.2)
-event_fits plan w (event.Deliver k) fits coords sent = (fits.0, ltb-false (length w.sent) k sent)

@@ -1,27 +1,27 @@
 -- A schedule that is played: docs/FORMATS.md, "Schedule", and docs/PROTOCOL.md, "World"
-use Rattle.std.specs.Prelude.{◌≡◌, ℕ, List, map}
+use Rattle.std.specs.Prelude.{◌≡◌, ℕ, List, [], ◌∷◌, ◌++◌, Option}
 use Rattle.roc_plan.specs.Groups.{Plan}
-use Rattle.roc_world.specs.declared.event.Seen.{Seen}
-use Rattle.roc_world.specs.World.{World}
-use Rattle.roc_world.specs.Happens.{Happens, Stepped, IsRun}
-use Rattle.roc_world.specs.declared.event.Event.{Event}
+use Rattle.roc_protocol.specs.World.{World, first_world}
+use Rattle.roc_protocol.specs.Happens.{Outcome}
+use Rattle.roc_protocol.specs.Run.{Stepped, Comes}
+use Rattle.roc_protocol.specs.declared.event.Event.{Event}
 use Rattle.roc_report.specs.Text.{lines_text}
 use Rattle.roc_replay.specs.declared.asked.Asked.{Asked}
-use Rattle.roc_replay.specs.Thin.{events_of}
+use Rattle.roc_replay.specs.Asked.{coordinators, event_in}
 use Rattle.roc_replay.specs.Report.{first_lines, step_lines, busy_in}
 
--- how many coordinators the world of a replay has
-abbrev pub coordinators : ℕ
-coordinators = 16
+-- the lines were played, one after another from the first world on: each has a step, of the event that it asks for in the world before it,
+-- and they lead to w
+pub data IsPlayed (plan : Plan) : List Asked → List Stepped → World → Type 0 where
+  begun : IsPlayed plan [] [] (first_world plan coordinators)
+  goes_on : {lines : List Asked} {steps : List Stepped} {w : World} (line : Asked) (o : Outcome) → IsPlayed plan lines steps w → Comes plan w (event_in w line.wanted) o
+      → IsPlayed plan (lines ++ line ∷ []) (steps ++ (record { event = event_in w line.wanted; outcome = o }) ∷ []) o.world
 
--- these steps are a run to w, and its events are those of the lines
-pub record IsPlayed (plan : Plan) (lines : List Asked) (steps : List Stepped) (w : World) : Type 0 where
-  pub run : IsRun plan coordinators steps w
-  pub events : map (λ step. step.event) steps ≡ events_of lines
-
--- one line was played: its event led from the world before to the world after, and this is the text of its lines, so many of which say that a submission was refused as busy
-pub record IsPlayedLine (plan : Plan) (event : Event) (before after : World) (text : List ℕ) (busy : ℕ) : Type 0 where
-  pub seen : Seen
-  pub happens : Happens plan before event (record { seen = seen; world = after })
-  pub shows : text ≡ lines_text plan.program (step_lines before.sent (record { event = event; outcome = record { seen = seen; world = after } }))
-  pub refused : busy ≡ busy_in (first_lines event seen)
+-- one line was played: its event, or none, led from the world before to the world after, and this is the text of its lines, so many of
+-- which say that a submission was refused as busy
+pub record IsPlayedLine (plan : Plan) (e : Option Event) (before after : World) (text : List ℕ) (busy : ℕ) : Type 0 where
+  pub outcome : Outcome
+  pub comes : Comes plan before e outcome
+  pub world : outcome.world ≡ after
+  pub shows : text ≡ lines_text plan.program (step_lines before.sent (record { event = e; outcome = outcome }))
+  pub refused : busy ≡ busy_in (first_lines e outcome.seen)

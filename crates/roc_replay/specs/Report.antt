@@ -1,17 +1,17 @@
 -- The report of a run, as lines: docs/FORMATS.md, "Report"
-use Rattle.std.specs.Prelude.{ℕ, ℤ, ◌+◌, List, [], ◌∷◌, ◌++◌, drop, length, map, Bool, true, false, count_by}
+use Rattle.std.specs.Prelude.{ℕ, ℤ, ◌+◌, List, [], ◌∷◌, ◌++◌, drop, length, map, Bool, true, false, count_by, Option, Some, None}
 use Rattle.roc_msg.specs.declared.msg.Sent.{Sent}
 use Rattle.roc_audit.specs.declared.entry.Entry.{Entry}
 use Rattle.roc_audit.specs.declared.entry.Entry.TheVariants as entry
-use Rattle.roc_world.specs.declared.event.Event.{Event}
-use Rattle.roc_world.specs.declared.event.Event.TheVariants as event
-use Rattle.roc_world.specs.declared.event.Seen.{Seen}
-use Rattle.roc_world.specs.declared.event.Seen.TheVariants as seen
-use Rattle.roc_world.specs.World.{World}
-use Rattle.roc_world.specs.Happens.{Stepped}
+use Rattle.roc_protocol.specs.declared.event.Event.{Event}
+use Rattle.roc_protocol.specs.declared.event.Event.TheVariants as event
+use Rattle.roc_protocol.specs.declared.event.Seen.{Seen}
+use Rattle.roc_protocol.specs.declared.event.Seen.TheVariants as seen
+use Rattle.roc_protocol.specs.World.{World}
+use Rattle.roc_protocol.specs.Run.{Stepped}
 use Rattle.roc_world.specs.Reads.{cells_of, unanswered_of}
 use Rattle.roc_report.specs.Shown.{shown_message}
-use Rattle.roc_report.specs.Line.{Line, Submit, Busy, Spent, Deliver, Ignored, Send, Answer, Order, Row, Pending, End}
+use Rattle.roc_report.specs.Line.{Line, Submit, Busy, Spent, Deliver, Nothing, Tick, Ignored, Send, Answer, Order, Row, Pending, End}
 use Rattle.roc_replay.specs.Cells.{by_cell}
 
 -- ---- an event
@@ -34,10 +34,12 @@ ignored_lines seen.Busy = []
 ignored_lines seen.Done = []
 ignored_lines (seen.Answered id reply) = []
 
--- what happened, and what became of it
-abbrev pub first_lines : Event → Seen → List Line
-first_lines (event.Submit coord proc args) seen = submission_lines coord proc args seen
-first_lines (event.Deliver number) seen = Deliver number ∷ ignored_lines seen
+-- what happened, and what became of it; no event is a choice that found nothing
+abbrev pub first_lines : Option Event → Seen → List Line
+first_lines None seen = Nothing ∷ []
+first_lines (Some (event.Submit coord proc args)) seen = submission_lines coord proc args seen
+first_lines (Some (event.Deliver number)) seen = Deliver number ∷ ignored_lines seen
+first_lines (Some (event.Tick node)) seen = Tick node ∷ []
 
 -- the messages that were sent, the first of them with this number
 abbrev pub send_lines : ℕ → List Sent → List Line

@@ -1,12 +1,15 @@
 -- What a report's own lines tell: docs/FORMATS.md, "Report", and docs/PROTOCOL.md, "Serial witness"
-use Rattle.std.specs.Prelude.{◌≡◌, List, [], ◌∷◌}
+use Rattle.std.specs.Prelude.{◌≡◌, ℕ, ℤ, List, [], ◌∷◌, Some}
 use Rattle.std.specs.List.{flat_map}
+use Rattle.roc_sequence.specs.Lists.{Has}
 use Rattle.roc_base.specs.declared.id.TxnId.{TxnId}
+use Rattle.roc_base.specs.Edge.{Dependency}
+use Rattle.roc_depgraph.specs.Reach.{ReachesOrIs}
 use Rattle.roc_program.specs.Program.{Workload}
 use Rattle.roc_audit.specs.declared.entry.Entry.{Entry}
 use Rattle.roc_audit.specs.declared.entry.Entry.TheVariants.{Submitted, Answered}
 use Rattle.roc_audit.specs.Witness.{IsSerialWitness}
-use Rattle.roc_report.specs.Line.{Line, Submit, Answer, Order}
+use Rattle.roc_report.specs.Line.{Line, ShownMessage, StartOk, Submit, Deliver, Send, Answer, Order}
 
 -- what a line tells of the history: a submission or an answer
 abbrev pub entries_in : Line → List Entry
@@ -26,8 +29,31 @@ orders_of _ = []
 abbrev pub orders_in : List Line → List (List TxnId)
 orders_in lines = flat_map orders_of lines
 
--- the lines explain themselves: they show one order, and it is a serial witness of the history that they show
+-- ---- quiet transactions: docs/PROTOCOL.md, "Quiet transactions"
+
+-- a startok of t that the lines show has an entry for u
+pub record IsShownBefore (lines : List Line) (u t : TxnId) : Type 0 where
+  pub number : ℕ
+  pub message : ShownMessage
+  pub shown : Has (Send number message) lines
+  pub startok : message.kind ≡ StartOk
+  pub of : message.id ≡ Some t
+  pub entry : Dependency
+  pub listed : Has entry message.edges
+  pub from : entry.from ≡ u
+
+-- the lines show that every message that they show of t, or of one from which a chain of these leads to t, was delivered
+pub record LooksQuiet (lines : List Line) (t : TxnId) : Type 0 where
+  pub each :
+      (number : ℕ) (message : ShownMessage) (u : TxnId) → Has (Send number message) lines → message.id ≡ Some u → ReachesOrIs (IsShownBefore lines) u t
+      → Has (Deliver number) lines
+
+-- ---- what lines explain
+
+-- the lines explain themselves: they show one order, and it is a serial witness of the history that they show; and each submitted transaction
+-- whose messages, and those of its ancestors, they show as delivered has an answer
 pub record IsExplained (program : Workload) (lines : List Line) : Type 0 where
   pub order : List TxnId
   pub shown : orders_in lines ≡ order ∷ []
   pub serial : IsSerialWitness program (history_in lines) order
+  pub answered : (t : TxnId) (proc : ℕ) (args : List ℤ) → Has (Submit t proc args) lines → LooksQuiet lines t → (reply : List ℤ) × Has (Answer t reply) lines

@@ -1,10 +1,20 @@
-//! The event that a line of a schedule asks for.
+//! What a line of a schedule asks for.
 
 use roc_world::Event;
 
-/// An event that is asked for, with the number of its line.
+/// What is asked for: an event, or a choice among the messages that were never delivered.
+#[derive(Debug, Drop)]
+pub enum Wanted {
+    /// This event.
+    Event(Event),
+    /// The delivery of the message at this place among those that were never delivered, by number rising, where places count from 0
+    /// and go round. Where there is none, nothing happens.
+    Any(u32),
+}
+
+/// What a line asks for, with the number of the line.
 #[derive(Debug, Drop)]
 pub struct Asked {
     pub number: u32,
-    pub event: Event,
+    pub wanted: Wanted,
 }

@@ -1,43 +1,57 @@
 //! What holds of the report of every run. Each law is the contract of a function that does nothing.
-ghost use Rattle.std.specs.Prelude.{◌≡◌, ℕ, ℤ, List, Option};
-ghost use Rattle.std.specs.List.Sorted.{IsStrictlySortedBy};
-ghost use Rattle.std.specs.Map.{keys_of};
+ghost use Rattle.std.specs.Prelude.{◌≡◌, ℕ, List, Option, map};
+ghost use Rattle.roc_plan.specs.Accepted.{IsAccepted};
 ghost use Rattle.roc_plan.specs.Groups.{Plan};
-ghost use Rattle.roc_plan.specs.Within.{IsWithin};
-ghost use Rattle.roc_world.specs.World.{World};
-ghost use Rattle.roc_world.specs.Happens.{Stepped, IsRun};
-ghost use Rattle.roc_rows.specs.declared.cell.Cell.{Cell};
-ghost use Rattle.roc_rows.specs.Cells.{cell_cmp};
+ghost use Rattle.roc_protocol.specs.Run.{Stepped, IsRun};
+ghost use Rattle.roc_protocol.specs.World.{World};
+ghost use Rattle.roc_sched.specs.declared.fault.What.{What};
 ghost use Rattle.roc_replay.specs.declared.asked.Asked.{Asked};
 ghost use Rattle.roc_replay.specs.declared.ended.Summary.{Summary};
-ghost use Rattle.roc_replay.specs.Cells.{by_cell};
-ghost use Rattle.roc_replay.specs.Ended.{IsReplayed};
-ghost use Rattle.roc_replay.specs.Thin.{IsThinSchedule, events_of};
+ghost use Rattle.roc_replay.specs.Asked.{IsScheduleOf, coordinators};
+ghost use Rattle.roc_replay.specs.Ended.{IsReplayed, IsTextFault};
 ghost use Rattle.roc_replay.specs.Played.{IsPlayed};
 ghost use Rattle.roc_replay.specs.Report.{report};
 ghost use Rattle.roc_replay.specs.Told.{IsExplained};
 
-use roc_sched::laws::lines_are_unique;
+use roc_protocol::laws::step_is_one;
+use roc_sched::laws::{lines_are_unique, texts_are_right_or_wrong};
+use roc_scheme::laws::{order_is_serial, quiet_is_answered};
 
-/// The report of every run explains itself: its one `order` line is a serial witness of the history
-/// that its own `submit` and `answer` lines show.
+/// The report of every run of an accepted plan explains itself: its one `order` line is a serial witness of the history
+/// that its own `submit` and `answer` lines show, and it shows an answer for each submitted transaction of which, and of
+/// whose ancestors, it shows every message as delivered.
 pub fn report_explains_itself()
-    ensures { (plan : Plan) (coords : ℕ) (steps : List Stepped) (w : World) → IsWithin plan → IsRun plan coords steps w → IsExplained plan.program (report steps w) }
+    ensures { (plan : Plan) (coords : ℕ) (steps : List Stepped) (w : World) → IsAccepted plan → IsRun plan coords steps w → IsExplained plan.program (report steps w) }
+{
+    order_is_serial();
+    quiet_is_answered();
+}
+
+/// Lines that are played are a run of the world, so that what `roc_protocol` and `roc_scheme` say of every run holds of it.
+pub fn played_is_a_run()
+    ensures { (plan : Plan) (lines : List Asked) (steps : List Stepped) (w : World) → IsPlayed plan lines steps w → IsRun plan coordinators steps w }
 {}
 
-/// Cells that rise stay as they stand, so that the rows of one shard are its server's own list.
-pub fn rising_cells_stay()
-    ensures { (cells : List (Cell × ℤ)) → IsStrictlySortedBy cell_cmp (keys_of cells) → by_cell cells ≡ cells }
-{}
-
-/// Lines that ask for the same events have one run: the same steps lead to the same world. So schedules with the same lines,
+/// Lines that ask for the same have one run: the same steps lead to the same world. So schedules with the same lines,
 /// however they are written, have one report and one summary.
 pub fn report_is_one()
     ensures run { (plan : Plan) (lines others : List Asked) (steps same : List Stepped) (w v : World)
-        → events_of lines ≡ events_of others → IsPlayed plan lines steps w → IsPlayed plan others same v → (steps ≡ same) × (w ≡ v) }
-    ensures schedules { (plan : Plan) (some other : List ℕ) (lines : List Asked) → IsThinSchedule plan.program some lines → IsThinSchedule plan.program other lines
+        → map (λ l. l.wanted) lines ≡ map (λ l. l.wanted) others → IsPlayed plan lines steps w → IsPlayed plan others same v → (steps ≡ same) × (w ≡ v) }
+    ensures schedules { (plan : Plan) (some other : List ℕ) (lines : List Asked) → IsScheduleOf plan.program some lines → IsScheduleOf plan.program other lines
         → (s t : Summary) (o n p q : Option (List ℕ)) (r : IsReplayed plan some s o n) (z : IsReplayed plan other t p q)
         → (report r.steps r.world ≡ report z.steps z.world) × (s ≡ t) }
 {
+    step_is_one();
     lines_are_unique();
+}
+
+/// Nothing is wrong with the text of a schedule that can be played: it is one, each of its lines fits the plan, and none asks for a message
+/// that was not sent yet.
+pub fn played_schedules_have_no_fault()
+    ensures { (plan : Plan) (schedule : List ℕ) (lines : List Asked) (steps : List Stepped) (w : World) → IsScheduleOf plan.program schedule lines → IsPlayed plan lines steps w
+        → (number : ℕ) (fault : What) (old new : Option (List ℕ)) → IsTextFault plan schedule number fault old new → ⊥ }
+{
+    lines_are_unique();
+    texts_are_right_or_wrong();
+    report_is_one();
 }

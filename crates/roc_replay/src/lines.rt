@@ -1,5 +1,6 @@
-//! The text of an event's lines.
-ghost use Rattle.std.specs.Prelude.{◌≡◌, ◌+◌, ◌^◌, ◌<◌, ◌≤◌, ◌++◌, drop, length, IfOk, OnOk};
+//! The text of an event's lines, and of a choice that found none.
+ghost use Rattle.std.specs.Prelude.{◌≡◌, ◌+◌, ◌^◌, ◌<◌, ◌≤◌, ◌++◌, [], ◌∷◌, drop, length, Some, IfOk, OnOk};
+ghost use Rattle.roc_report.specs.Line as line;
 ghost use Rattle.roc_report.specs.Text.{lines_text};
 ghost use Rattle.roc_replay.specs.Report.{first_lines, ignored_lines, send_lines, answer_lines};
 
@@ -22,7 +23,7 @@ pub fn event_text(
 ) -> Result<Vec<u8>, NoMemory>
     requires { before ≤ length sent.now }
     ensures { IfOk result (λ text. text.items
-        ≡ lines_text (workload.now) (first_lines event.now seen.now ++ (send_lines (before + 1) (drop before sent.now) ++ answer_lines seen.now))) }
+        ≡ lines_text (workload.now) (first_lines (Some event.now) seen.now ++ (send_lines (before + 1) (drop before sent.now) ++ answer_lines seen.now))) }
 {
     let mut text = Vec::new(alloc);
     push_first(alloc, &mut text, workload, event, seen)?;
@@ -37,6 +38,15 @@ pub fn event_text(
     Ok(text)
 }
 
+/// The text of the line of a choice that found no message.
+pub fn nothing_text(alloc: Global, workload: &Workload) -> Result<Vec<u8>, NoMemory>
+    ensures { IfOk result (λ text. text.items ≡ lines_text workload.now (line.Nothing ∷ [])) }
+{
+    let mut text = Vec::new(alloc);
+    append(alloc, &mut text, workload, &ReportLine::Nothing)?;
+    Ok(text)
+}
+
 // Adds what happened, and what became of it. Nothing else is seen of a submission than that it was
 // accepted or refused.
 fn push_first(
@@ -46,7 +56,7 @@ fn push_first(
     event: &Event,
     seen: &Seen,
 ) -> Result<(), NoMemory>
-    ensures { OnOk result (text.new.items ≡ text.old.items ++ lines_text (workload.now) (first_lines event.now seen.now)) }
+    ensures { OnOk result (text.new.items ≡ text.old.items ++ lines_text (workload.now) (first_lines (Some event.now) seen.now)) }
 {
     match event {
         Event::Submit { coord, proc, args } => {
@@ -66,6 +76,7 @@ fn push_first(
             append(alloc, text, workload, &ReportLine::Deliver(*number))?;
             push_ignored(alloc, text, workload, seen)
         }
+        Event::Tick(node) => append(alloc, text, workload, &ReportLine::Tick(*node)),
     }
 }
 

@@ -1,25 +1,24 @@
 //! The lines of a schedule, one after another.
-ghost use Rattle.std.specs.Prelude.{◌≡◌, ℕ, ◌≤◌, List, length, IfOk, OnOk};
+ghost use Rattle.std.specs.Prelude.{◌≡◌, ℕ, ◌≤◌, List, length, Some, IfOk, OnOk, false};
 ghost use Rattle.std.specs.List.{AllByRecursion};
 ghost use Rattle.roc_io.specs.Cause.{HasCause};
-ghost use Rattle.roc_plan.specs.Within.{IsWithin};
-ghost use Rattle.roc_world.specs.Fits.{FitsWorld};
-ghost use Rattle.roc_world.specs.Reached.{IsReached, IsEventOf};
-ghost use Rattle.roc_world.specs.Reads.{cells_of};
-ghost use Rattle.roc_replay.specs.Thin.{IsThinSchedule, FitsProgram};
-ghost use Rattle.roc_replay.specs.Cells.{by_cell};
-ghost use Rattle.roc_replay.specs.Inner.Closed.{IsClosed, asks_unsent};
+ghost use Rattle.roc_protocol.specs.Fits.{FitsWorld};
+ghost use Rattle.roc_protocol.specs.Run.{IsEventOf};
+ghost use Rattle.roc_replay.specs.Asked.{IsScheduleOf, WantedFits, coordinators, chosen, event_in};
+ghost use Rattle.roc_replay.specs.Inner.Closed.{IsClosed, asks_unsent, wants_unsent};
 ghost use Rattle.roc_replay.specs.Ended.{is_sink_fault};
 ghost use Rattle.roc_replay.specs.Inner.Ends.{IsEnd};
 ghost use Rattle.roc_replay.specs.Played.{IsPlayedLine};
 ghost use Rattle.roc_replay.specs.Report.{first_lines, busy_in};
 
 use crate::closing::last_lines;
-use crate::lines::event_text;
-use crate::{Asked, Ended};
+use crate::laws::report_explains_itself;
+use crate::lines::{event_text, nothing_text};
+use crate::{Asked, Ended, Wanted};
 use roc_base::NoMemory;
 use roc_io::{Sink, Written};
 use roc_plan::Plan;
+use roc_program::Workload;
 use roc_sched::What;
 use roc_world::{Event, Seen, World};
 use std::alloc::Global;
@@ -30,23 +29,23 @@ const COORDINATORS: u16 = 16;
 /// Plays the lines of a schedule, one after another, from the first world on. The sink takes the
 /// lines of each event in one piece, and the closing lines in one piece at the end.
 pub fn play<S: Sink>(alloc: Global, plan: &Plan, lines: &[Asked], sink: &mut S) -> Ended
-    requires within { IsWithin plan.now }
-    requires fits { AllByRecursion (λ line. FitsProgram plan.now.program line.event) lines.now }
-    ensures ends { (schedule : List ℕ) → IsThinSchedule plan.now.program schedule lines.now → IsEnd plan.now schedule result (S.taken sink.old) (S.taken sink.new) }
+    requires fits { AllByRecursion (λ line. WantedFits plan.now.program line.wanted) lines.now }
+    ensures ends { (schedule : List ℕ) → IsScheduleOf plan.now.program schedule lines.now → IsEnd plan.now schedule result (S.taken sink.old) (S.taken sink.new) }
     ensures sink { HasCause (is_sink_fault result) (S.faults sink.old) (S.faults sink.new) }
 {
+    report_explains_itself();
     let Ok(mut world) = World::new(alloc, plan, COORDINATORS) else {
         return Ended::NoMemory;
     };
     let mut busy = 0;
     for line in lines {
-        if is_unsent(&line.event, world.sent().len()) {
+        if is_unsent(&line.wanted, world.sent().len()) {
             return Ended::Text {
                 line: line.number,
                 what: What::Message,
             };
         }
-        let Ok(played) = play_line(alloc, plan, &mut world, &line.event) else {
+        let Ok(played) = play_line(alloc, plan, &mut world, &line.wanted) else {
             return Ended::NoMemory;
         };
         busy += played.busy;
@@ -54,16 +53,21 @@ pub fn play<S: Sink>(alloc: Global, plan: &Plan, lines: &[Asked], sink: &mut S) 
             return Ended::SinkFault;
         }
     }
-    close(alloc, plan, &world, busy, sink)
+    close(alloc, plan.workload(), &world, busy, sink)
 }
 
 // Writes the closing lines.
-fn close<S: Sink>(alloc: Global, plan: &Plan, world: &World, busy: u64, sink: &mut S) -> Ended
-    requires { by_cell (cells_of world.now) ≡ cells_of world.now }
-    ensures closed { IsClosed plan.now.program world.now busy result (S.taken sink.old) (S.taken sink.new) }
+fn close<S: Sink>(
+    alloc: Global,
+    workload: &Workload,
+    world: &World,
+    busy: u64,
+    sink: &mut S,
+) -> Ended
+    ensures closed { IsClosed workload.now world.now busy result (S.taken sink.old) (S.taken sink.new) }
     ensures sink { HasCause (is_sink_fault result) (S.faults sink.old) (S.faults sink.new) }
 {
-    let Ok(closing) = last_lines(alloc, plan, world, busy) else {
+    let Ok(closing) = last_lines(alloc, workload, world, busy) else {
         return Ended::NoMemory;
     };
     match sink.write(&closing.text) {
@@ -73,12 +77,22 @@ fn close<S: Sink>(alloc: Global, plan: &Plan, world: &World, busy: u64, sink: &m
 }
 
 // Whether a line asks for a message that was not sent, where so many were.
-fn is_unsent(event: &Event, sent: usize) -> bool
+fn is_unsent(wanted: &Wanted, sent: usize) -> bool
+    ensures { result ≡ wants_unsent wanted.now sent }
+{
+    match wanted {
+        Wanted::Event(event) => is_delivery_unsent(event, sent),
+        Wanted::Any(_) => false,
+    }
+}
+
+// Whether an event is the delivery of a message that was not sent, where so many were.
+fn is_delivery_unsent(event: &Event, sent: usize) -> bool
     ensures { result ≡ asks_unsent event.now sent }
 {
     match event {
         Event::Deliver(number) => *number > sent as u64,
-        Event::Submit { .. } => false,
+        Event::Submit { .. } | Event::Tick(_) => false,
     }
 }
 
@@ -89,27 +103,72 @@ struct Played {
     busy: u64,
 }
 
-// Plays one line: its event happens, and the lines that tell it are given as text.
+// Plays one line: what it asks for happens, and the lines that tell it are given as text.
 fn play_line(
+    alloc: Global,
+    plan: &Plan,
+    world: &mut World,
+    wanted: &Wanted,
+) -> Result<Played, NoMemory>
+    requires world { FitsWorld plan.now world.old }
+    requires coords { length world.old.coords ≡ coordinators }
+    requires fits { WantedFits plan.now.program wanted.now }
+    requires sent { wants_unsent wanted.now (length world.old.sent) ≡ false }
+    ensures played { IfOk result (λ played. IsPlayedLine plan.now (event_in world.old wanted.now) world.old world.new played.text.items played.busy) }
+    ensures fits { OnOk result (FitsWorld plan.now world.new) }
+    ensures coords { OnOk result (length world.new.coords ≡ coordinators) }
+    ensures few { IfOk result (λ played. played.busy ≤ 1) }
+{
+    match wanted {
+        Wanted::Event(event) => play_event(alloc, plan, world, event),
+        Wanted::Any(place) => play_any(alloc, plan, world, *place),
+    }
+}
+
+// The delivery of the message at a place among those that were never delivered, counted round, if there are any.
+fn chosen(place: u32, undelivered: &[u64]) -> Option<Event>
+    ensures { result ≡ chosen place undelivered.now }
+{
+    let count = undelivered.len();
+    if count == 0 {
+        return None;
+    }
+    Some(Event::Deliver(undelivered[place as usize % count]))
+}
+
+// Delivers the message at a place among those that were never delivered, counted round. Where there is none, nothing happens.
+fn play_any(alloc: Global, plan: &Plan, world: &mut World, place: u32) -> Result<Played, NoMemory>
+    requires fits { FitsWorld plan.now world.old }
+    ensures played { IfOk result (λ played. IsPlayedLine plan.now (chosen place world.old.undelivered) world.old world.new played.text.items played.busy) }
+    ensures fits { OnOk result (FitsWorld plan.now world.new) }
+    ensures coords { OnOk result (length world.new.coords ≡ length world.old.coords) }
+    ensures few { IfOk result (λ played. played.busy ≤ 1) }
+{
+    match chosen(place, world.undelivered()) {
+        Some(event) => play_event(alloc, plan, world, &event),
+        None => {
+            let text = nothing_text(alloc, plan.workload())?;
+            Ok(Played { text, busy: 0 })
+        }
+    }
+}
+
+// Plays one event: it happens, and the lines that tell it are given as text.
+fn play_event(
     alloc: Global,
     plan: &Plan,
     world: &mut World,
     event: &Event,
 ) -> Result<Played, NoMemory>
-    requires within { IsWithin plan.now }
-    requires reached { IsReached plan.now world.old }
     requires fits { FitsWorld plan.now world.old }
     requires event { IsEventOf plan.now world.old event.now }
-    ensures played { IfOk result (λ played. IsPlayedLine plan.now event.now world.old world.new played.text.items played.busy) }
+    ensures played { IfOk result (λ played. IsPlayedLine plan.now (Some event.now) world.old world.new played.text.items played.busy) }
     ensures fits { OnOk result (FitsWorld plan.now world.new) }
     ensures coords { OnOk result (length world.new.coords ≡ length world.old.coords) }
     ensures few { IfOk result (λ played. played.busy ≤ 1) }
 {
     let before = world.sent().len();
-    // A world that is of a run is not stopped, so that the one fault is want of memory.
-    let Ok(seen) = world.step(plan, event) else {
-        return Err(NoMemory);
-    };
+    let seen = world.step(plan, event)?;
     let text = event_text(alloc, plan.workload(), event, &seen, world.sent(), before)?;
     Ok(Played {
         text,
@@ -119,7 +178,7 @@ fn play_line(
 
 // How many lines say that a submission was refused as busy.
 fn busy_lines(event: &Event, seen: &Seen) -> u64
-    ensures lines { result ≡ busy_in (first_lines event.now seen.now) }
+    ensures lines { result ≡ busy_in (first_lines (Some event.now) seen.now) }
     ensures few { result ≤ 1 }
 {
     match event {
@@ -127,6 +186,6 @@ fn busy_lines(event: &Event, seen: &Seen) -> u64
             Seen::Busy => 1,
             _ => 0,
         },
-        Event::Deliver(_) => 0,
+        Event::Deliver(_) | Event::Tick(_) => 0,
     }
 }

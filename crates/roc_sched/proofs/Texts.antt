@@ -9,7 +9,7 @@ use Rattle.roc_sched.specs.declared.fault.TextFault.TheVariants.{At, NoMemory}
 use Rattle.roc_sched.specs.Each.{◌>>=◌, each}
 use Rattle.roc_sched.specs.Lines.{lines_of}
 use Rattle.roc_sched.specs.Words.{words_of, is_skipped}
-use Rattle.roc_sched.specs.Schedule.{most_bytes, most_lines, Reader, item_of, fault_of, numbered, IsTextOf, line_fault, AreRight, IsFirstFault, too_long, at_line}
+use Rattle.roc_sched.specs.Schedule.{most_bytes, most_lines, Reader, item_of, fault_of, numbered, IsTextOfItems, line_fault, AreRight, IsFirstWrongLine, too_long, at_line}
 use Rattle.roc_sched.specs.Answer.{AreItemsOf, IsFaultBy}
 use Rattle.roc_sched.specs.Inner.Reading.{GivesAt, IsTooLong, some_at, line_item, before_items, line_items, text_items}
 use Rattle.roc_sched.proofs.Items.{first_lines}
@@ -180,36 +180,36 @@ module _ {B : Type 0} (read : Reader B) where
   -- ---- texts
 
   module _ (text : List ℕ) where
-    pub text_right : (items : List B) → text_items read text ≡ Ok items → IsTextOf read text items
+    pub text_right : (items : List B) → text_items read text ≡ Ok items → IsTextOfItems read text items
     unfolding text_items
     text_right items e = go (nat_le (length text) most_bytes) refl e
       where
-        go : (b : Bool) → nat_le (length text) most_bytes ≡ b → cond b (line_items read 1 (lines_of text)) (Err (1, Limit)) ≡ Ok items → IsTextOf read text items
+        go : (b : Bool) → nat_le (length text) most_bytes ≡ b → cond b (line_items read 1 (lines_of text)) (Err (1, Limit)) ≡ Ok items → IsTextOfItems read text items
         go true h e =
             let r = items_right 1 (lines_of text) items (omega arith) e in
             record { size = leb-true (length text) most_bytes h; few_lines = (let few = r.0 in omega arith); written = r.1 }
         go false h e = absurd (cc)
 
-    pub right_text : (items : List B) → IsTextOf read text items → text_items read text ≡ Ok items
+    pub right_text : (items : List B) → IsTextOfItems read text items → text_items read text ≡ Ok items
     unfolding text_items
     right_text items is =
         ap (λ b. cond b (line_items read 1 (lines_of text)) (Err (1, Limit))) (le-leb (length text) most_bytes is.size)
         ∙ right_items 1 (lines_of text) items (let few = is.few_lines in omega arith) is.written
 
-    pub text_wrong : (line : ℕ) (what : What) → text_items read text ≡ Err (line, what) → IsFirstFault read text line what
+    pub text_wrong : (line : ℕ) (what : What) → text_items read text ≡ Err (line, what) → IsFirstWrongLine read text line what
     unfolding text_items
     text_wrong line what e = go (nat_le (length text) most_bytes) refl e
       where
-        go : (b : Bool) → nat_le (length text) most_bytes ≡ b → cond b (line_items read 1 (lines_of text)) (Err (1, Limit)) ≡ Err (line, what) → IsFirstFault read text line what
+        go : (b : Bool) → nat_le (length text) most_bytes ≡ b → cond b (line_items read 1 (lines_of text)) (Err (1, Limit)) ≡ Err (line, what) → IsFirstWrongLine read text line what
         go true h e =
             let w = items_wrong 1 (lines_of text) line what e in
-            subst (λ n. IsFirstFault read text n what) (sym w.place)
+            subst (λ n. IsFirstWrongLine read text n what) (sym w.place)
             (at_line w.before w.line w.behind what (leb-true (length text) most_bytes h) w.parts w.right (subst (λ n. line_fault read n w.line ≡ Some what) w.place w.fault))
         go false h e =
             let p = err_parts 1 line Limit what e in
-            subst (λ w. IsFirstFault read text line w) p.1 (subst (λ n. IsFirstFault read text n Limit) p.0 (too_long (leb-false (length text) most_bytes h)))
+            subst (λ w. IsFirstWrongLine read text line w) p.1 (subst (λ n. IsFirstWrongLine read text n Limit) p.0 (too_long (leb-false (length text) most_bytes h)))
 
-    pub wrong_text : (line : ℕ) (what : What) → IsFirstFault read text line what → text_items read text ≡ Err (line, what)
+    pub wrong_text : (line : ℕ) (what : What) → IsFirstWrongLine read text line what → text_items read text ≡ Err (line, what)
     unfolding text_items
     wrong_text line what (too_long h) = ap (λ b. cond b (line_items read 1 (lines_of text)) (Err (1, Limit))) (lt-leb (length text) most_bytes h)
     wrong_text line what (at_line before one behind w size parts right fault) =
@@ -218,19 +218,19 @@ module _ {B : Type 0} (read : Reader B) where
 
     -- ---- laws
 
-    pub items_are_one : (some others : List B) → IsTextOf read text some → IsTextOf read text others → some ≡ others
+    pub items_are_one : (some others : List B) → IsTextOfItems read text some → IsTextOfItems read text others → some ≡ others
     items_are_one some others p q = let both : ◌≡◌ {A = Result (List B) (ℕ × What)} (Ok some) (Ok others) = sym (right_text some p) ∙ right_text others q in cc
 
-    pub faults_are_one : (line other : ℕ) (what cause : What) → IsFirstFault read text line what → IsFirstFault read text other cause → (line ≡ other) × (what ≡ cause)
+    pub faults_are_one : (line other : ℕ) (what cause : What) → IsFirstWrongLine read text line what → IsFirstWrongLine read text other cause → (line ≡ other) × (what ≡ cause)
     faults_are_one line other what cause p q = err_parts line other what cause (sym (wrong_text line what p) ∙ wrong_text other cause q)
 
-    pub not_both : (items : List B) (line : ℕ) (what : What) → IsTextOf read text items → IsFirstFault read text line what → ⊥
+    pub not_both : (items : List B) (line : ℕ) (what : What) → IsTextOfItems read text items → IsFirstWrongLine read text line what → ⊥
     not_both items line what p q = let both : ◌≡◌ {A = Result (List B) (ℕ × What)} (Ok items) (Err (line, what)) = sym (right_text items p) ∙ wrong_text line what q in absurd (cc)
 
-    pub one_of_both : ((items : List B) × IsTextOf read text items) ⊎ ((line : ℕ) × (what : What) × IsFirstFault read text line what)
+    pub one_of_both : ((items : List B) × IsTextOfItems read text items) ⊎ ((line : ℕ) × (what : What) × IsFirstWrongLine read text line what)
     one_of_both = go (text_items read text) refl
       where
-        go : (r : Result (List B) (ℕ × What)) → text_items read text ≡ r → ((items : List B) × IsTextOf read text items) ⊎ ((line : ℕ) × (what : What) × IsFirstFault read text line what)
+        go : (r : Result (List B) (ℕ × What)) → text_items read text ≡ r → ((items : List B) × IsTextOfItems read text items) ⊎ ((line : ℕ) × (what : What) × IsFirstWrongLine read text line what)
         go (Ok items) e = inl (items, text_right items e)
         go (Err (line, what)) e = inr (line, what, text_wrong line what e)
 
@@ -253,16 +253,16 @@ module _ {B : Type 0} (read : Reader B) where
 
     -- ---- answers
 
-    pub is_found : {X : Type 0} (view : X → List B) (r : Result X TextFault) → GivesAt view r (text_items read text) → IfOk r (λ x. IsTextOf read text (view x))
+    pub is_found : {X : Type 0} (view : X → List B) (r : Result X TextFault) → GivesAt view r (text_items read text) → IfOk r (λ x. IsTextOfItems read text (view x))
     is_found view (Ok x) e = text_right (view x) e
     is_found view (Err e) given = tt
 
-    pub is_only : {X : Type 0} (view : X → List B) (r : Result X TextFault) → GivesAt view r (text_items read text) → (items : List B) → IsTextOf read text items → AreItemsOf view items r
+    pub is_only : {X : Type 0} (view : X → List B) (r : Result X TextFault) → GivesAt view r (text_items read text) → (items : List B) → IsTextOfItems read text items → AreItemsOf view items r
     is_only view (Ok x) e items is = let both : ◌≡◌ {A = Result (List B) (ℕ × What)} (Ok (view x)) (Ok items) = sym e ∙ right_text items is in cc
     is_only view (Err NoMemory) given items is = tt
     is_only view (Err (At line what)) given items is = let both : ◌≡◌ {A = Result (List B) (ℕ × What)} (Ok items) (Err (line, what)) = sym (right_text items is) ∙ given in absurd (cc)
 
-    pub is_fault : {X : Type 0} (view : X → List B) (r : Result X TextFault) → GivesAt view r (text_items read text) → IfErr r (IsFaultBy (IsFirstFault read text))
+    pub is_fault : {X : Type 0} (view : X → List B) (r : Result X TextFault) → GivesAt view r (text_items read text) → IfErr r (IsFaultBy (IsFirstWrongLine read text))
     is_fault view (Ok x) e = tt
     is_fault view (Err NoMemory) given = tt
     is_fault view (Err (At line what)) given = text_wrong line what given

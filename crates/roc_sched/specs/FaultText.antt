@@ -5,13 +5,15 @@ use lib.Chars.{codes}
 use Rattle.roc_sched.specs.declared.fault.TextFault.{TextFault}
 use Rattle.roc_sched.specs.declared.fault.TextFault.TheVariants.{At, NoMemory}
 use Rattle.roc_sched.specs.declared.fault.What.{What}
-use Rattle.roc_sched.specs.declared.fault.What.TheVariants.{Word, Node, Limit, Message}
+use Rattle.roc_sched.specs.declared.fault.What.TheVariants.{Word, Node, Limit, Message, Procedure, Arguments}
 
 abbrev pub what_text : What → List ℕ
 what_text Word = codes "word"
 what_text Node = codes "node"
 what_text Limit = codes "limit"
 what_text Message = codes "message"
+what_text Procedure = codes "procedure"
+what_text Arguments = codes "arguments"
 
 -- `line N: WORD`, or that memory ran out
 abbrev pub fault_text : TextFault → List ℕ

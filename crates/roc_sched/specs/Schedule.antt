@@ -36,7 +36,7 @@ abbrev pub numbered : ℕ → (lines : List (List ℕ)) → List (ℕ × List �
 numbered first lines = filter (λ line. not (is_skipped line.1)) (enumerate_from first lines)
 
 -- the bytes are a text of these items: bytes and lines are not too many, and each line that is not skipped is one of them, in order
-pub record IsTextOf {B : Type 0} (read : Reader B) (text : List ℕ) (items : List B) : Type 0 where
+pub record IsTextOfItems {B : Type 0} (read : Reader B) (text : List ℕ) (items : List B) : Type 0 where
   pub size : length text ≤ most_bytes
   pub few_lines : length (lines_of text) ≤ most_lines
   pub written : each (λ line. item_of (read line.0 (words_of line.1))) (numbered 1 (lines_of text)) ≡ Some items
@@ -56,27 +56,27 @@ AreRight read number [] = Unit {0}
 AreRight read number (line ∷ lines) = (line_fault read number line ≡ None) × AreRight read (number + 1) lines
 
 -- the first line that is wrong, and what is wrong with it; where there are too many bytes, it is the first line
-pub data IsFirstFault {B : Type 0} (read : Reader B) (text : List ℕ) : (line : ℕ) → What → Type 0 where
-  too_long : most_bytes < length text → IsFirstFault read text 1 Limit
+pub data IsFirstWrongLine {B : Type 0} (read : Reader B) (text : List ℕ) : (line : ℕ) → What → Type 0 where
+  too_long : most_bytes < length text → IsFirstWrongLine read text 1 Limit
   at_line : (before : List (List ℕ)) (line : List ℕ) (behind : List (List ℕ)) (what : What)
       → length text ≤ most_bytes → lines_of text ≡ before ++ line ∷ behind
       → AreRight read 1 before → line_fault read (1 + length before) line ≡ Some what
-      → IsFirstFault read text (1 + length before) what
+      → IsFirstWrongLine read text (1 + length before) what
 
 -- ---- schedules and request files
 
 -- the bytes are a schedule of these lines, for so many shards
 abbrev pub IsSchedule : (shards : ℕ) → (text : List ℕ) → List Line → Type 0
-IsSchedule shards text lines = IsTextOf (line_at shards) text lines
+IsSchedule shards text lines = IsTextOfItems (line_at shards) text lines
 
 -- the first fault of bytes that are no schedule
 abbrev pub IsScheduleFault : (shards : ℕ) → (text : List ℕ) → (line : ℕ) → What → Type 0
-IsScheduleFault shards text line what = IsFirstFault (line_at shards) text line what
+IsScheduleFault shards text line what = IsFirstWrongLine (line_at shards) text line what
 
 -- the bytes are a request file of these requests
 abbrev pub AreRequests : (text : List ℕ) → List Request → Type 0
-AreRequests text requests = IsTextOf request_at text requests
+AreRequests text requests = IsTextOfItems request_at text requests
 
 -- the first fault of bytes that are none
 abbrev pub IsRequestFault : (text : List ℕ) → (line : ℕ) → What → Type 0
-IsRequestFault text line what = IsFirstFault request_at text line what
+IsRequestFault text line what = IsFirstWrongLine request_at text line what

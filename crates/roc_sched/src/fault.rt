@@ -24,6 +24,10 @@ pub enum What {
     /// A delivery of a message that was not sent. No reader of a text tells it: it is for the layer
     /// that delivers.
     Message,
+    /// A submission of a procedure that is not there. No reader of a text tells it: it is for the layer that knows the plan.
+    Procedure,
+    /// A submission with another count of arguments than its procedure takes, told by the same layer.
+    Arguments,
 }
 
 impl What {
@@ -36,6 +40,8 @@ impl What {
             What::Word => "word",
             What::Node => "node",
             What::Message => "message",
+            What::Procedure => "procedure",
+            What::Arguments => "arguments",
         }
     }
 }

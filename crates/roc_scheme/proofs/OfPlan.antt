@@ -22,7 +22,7 @@ use Rattle.roc_groups.proofs.Elements.{has_flat_map, from_has_flat_map, from_has
 use Rattle.roc_plan.specs.declared.group.Input.{Input}
 use Rattle.roc_plan.specs.Groups.{Plan, procedure_of, groups_of, group_of, inputs_of, is_immediate_of, outs_of, outs_in, pieces_at, places_in, shard_of}
 use Rattle.roc_plan.specs.Accepted.{IsAccepted}
-use Rattle.roc_group.specs.Group_run.{Call, group_run, begin}
+use Rattle.roc_group.specs.Group_run.{GroupCall, group_run, begin}
 use Rattle.roc_group.proofs.Grouped.{one_group, group_rising, in_a_group, is_piece}
 use Rattle.roc_protocol.specs.Asked.{IsSchemeOf}
 use Rattle.roc_scheme.specs.Scheme.{scheme_of, AreOrders, AreCalls}
@@ -68,7 +68,7 @@ take_whole : (pieces : List Piece) → take (length pieces) pieces ≡ pieces
 take_whole [] = refl
 take_whole (x ∷ xs) = ap (λ ys. x ∷ ys) (take_whole xs)
 
-pub group_long : (plan : Plan) (c : Call) (s : Store) → length (group_run plan c s).reply ≡ length (outs_of plan c.proc c.group)
+pub group_long : (plan : Plan) (c : GroupCall) (s : Store) → length (group_run plan c s).reply ≡ length (outs_of plan c.proc c.group)
 group_long plan c s = let r = pieces_long (procedure_of plan c.proc) (begin plan c s) (group_of plan c.proc c.group).pieces in omega (arith, r)
 
 -- ---- lists of what each of distinct numbers gives

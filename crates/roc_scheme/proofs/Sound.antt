@@ -16,7 +16,7 @@ use Rattle.roc_plan.specs.Accepted.{IsAccepted}
 use Rattle.roc_plan.specs.Turns.{may_meet}
 use Rattle.roc_group.specs.declared.access.Access.{Access}
 use Rattle.roc_group.specs.Accesses.{do_conflict, meets, do_write, AgreeOnReads, RunAlike}
-use Rattle.roc_group.specs.Group_run.{Call, group_pieces, begin, group_run, group_uses}
+use Rattle.roc_group.specs.Group_run.{GroupCall, group_pieces, begin, group_run, group_uses}
 use Rattle.roc_serial.specs.Behaviour.{TxnGroup, is_group_number, is_used, is_written, Meet, DoesSame}
 use Rattle.roc_execution.specs.Scheme.{IsSoundScheme}
 use Rattle.roc_protocol.specs.Asked.{called, use_of}
@@ -96,13 +96,13 @@ conflict_where_met earlier later m =
 
 -- what the laws of groups and of plans say
 pub record Laws : Type 0 where
-  pub same : (plan : Plan) (c : Call) (s t : Store) → AgreeOnReads s t (group_uses plan c s) → RunAlike (begin plan c s) (begin plan c t) (group_pieces plan c)
-  pub others : (plan : Plan) (c : Call) (s : Store) (x : Cell) → do_write (group_uses plan c s) x ≡ false → read (group_run plan c s).store x ≡ read s x
-  pub static : (plan : Plan) (b c : Call) (s t : Store) → do_conflict (group_uses plan b s) (group_uses plan c t) ≡ true → may_meet plan b.proc b.group c.proc c.group ≡ true
+  pub same : (plan : Plan) (c : GroupCall) (s t : Store) → AgreeOnReads s t (group_uses plan c s) → RunAlike (begin plan c s) (begin plan c t) (group_pieces plan c)
+  pub others : (plan : Plan) (c : GroupCall) (s : Store) (x : Cell) → do_write (group_uses plan c s) x ≡ false → read (group_run plan c s).store x ≡ read s x
+  pub static : (plan : Plan) (b c : GroupCall) (s t : Store) → do_conflict (group_uses plan b s) (group_uses plan c t) ≡ true → may_meet plan b.proc b.group c.proc c.group ≡ true
   pub at_place :
-      (plan : Plan) (c : Call) (s : Store) → IsAccepted plan → c.proc < length plan.program.procedures
+      (plan : Plan) (c : GroupCall) (s : Store) → IsAccepted plan → c.proc < length plan.program.procedures
       → AllByRecursion (λ a. a.cell.place ≡ group_place plan c.proc c.group c.args c.inputs) (group_uses plan c s)
-  pub follow : (plan : Plan) (c : Call) (s t : Store) → IsAccepted plan → c.proc < length plan.program.procedures → is_immediate_of plan c.proc c.group ≡ false → group_uses plan c s ≡ group_uses plan c t
+  pub follow : (plan : Plan) (c : GroupCall) (s t : Store) → IsAccepted plan → c.proc < length plan.program.procedures → is_immediate_of plan c.proc c.group ≡ false → group_uses plan c s ≡ group_uses plan c t
   pub one_class : (plan : Plan) → IsAccepted plan → (p g q h : ℕ) → IsTrue (may_meet plan p g q h) → is_immediate_of plan p g ≡ is_immediate_of plan q h
   pub one_contended :
       (plan : Plan) → IsAccepted plan → (p g h q i r j : ℕ) → IsTrue (is_immediate_of plan p g) → IsTrue (is_immediate_of plan p h)

@@ -116,14 +116,14 @@ module _ (plan : Plan) (orders : ℕ → List ℕ) (asked : TxnId → whole.Call
   abbrev pub args : TxnId → List ℤ
   args t = (asked t).arguments
 
-  pub in_turn : (t : TxnId) (todo done : List ℕ) (S : serial.Stage) (R : turn.Stage)
+  pub in_turn : (t : TxnId) (todo done : List ℕ) (S : serial.Stage) (R : turn.TurnStage)
       → S.store ≡ R.store → Tied (λ g. S.yielded (at t g)) R.given done → NoneTwice is_number todo → ((g : ℕ) → Has g done → ¬ Has g todo)
       → ((g : ℕ) → Has g todo → AllByRecursion (λ i. Has i.group done ⊎ IsListedBefore is_number todo i.group g) (inputs_of plan (proc t) g))
-      → ((serial.after_groups B S (map (at t) todo)).store ≡ (turn.after_groups plan (proc t) (args t) R todo).store)
-      × Tied (λ g. (serial.after_groups B S (map (at t) todo)).yielded (at t g)) (turn.after_groups plan (proc t) (args t) R todo).given (onto done todo)
+      → ((serial.after_groups B S (map (at t) todo)).store ≡ (turn.after_turns plan (proc t) (args t) R todo).store)
+      × Tied (λ g. (serial.after_groups B S (map (at t) todo)).yielded (at t g)) (turn.after_turns plan (proc t) (args t) R todo).given (onto done todo)
   in_turn t [] done S R s k once apart needs = (s, k)
   in_turn t (g ∷ todo) done S R s k once apart needs =
-      in_turn t todo (g ∷ done) (serial.after_group B S (at t g)) (turn.after_group plan (proc t) (args t) R g)
+      in_turn t todo (g ∷ done) (serial.after_group B S (at t g)) (turn.after_turn plan (proc t) (args t) R g)
       (after-store B S (at t g) ∙ (λ j. (group_run plan (call (proc t) g (args t) (inputs j)) (s j)).store))
       (tied_more (λ h. S.yielded (at t h)) (λ h. (serial.after_group B S (at t g)).yielded (at t h)) R.given done
       (record { group = g; bound = bound_by_run plan (turn.call_of plan (proc t) (args t) R.given g) R.store; outs = (group_run plan (turn.call_of plan (proc t) (args t) R.given g) R.store).reply })
@@ -163,7 +163,7 @@ module _ (plan : Plan) (orders : ℕ → List ℕ) (asked : TxnId → whole.Call
 
   -- as the whole run
   whole_turn : (t : TxnId) (S : serial.Stage) → AreInTurn plan (proc t) (orders (proc t))
-      → DoAs plan (proc t) (whole_run (procedure_of plan (proc t)) (args t) S.store) (turn.after_groups plan (proc t) (args t) (record { store = S.store; given = [] }) (orders (proc t)))
+      → DoAs plan (proc t) (whole_run (procedure_of plan (proc t)) (args t) S.store) (turn.after_turns plan (proc t) (args t) (record { store = S.store; given = [] }) (orders (proc t)))
       → ((serial.after_groups B S (all_groups B t)).store ≡ (whole_run (procedure_of plan (proc t)) (args t) S.store).store)
       × ((g : ℕ) → g < length (groups_of plan (proc t))
       → ((serial.after_groups B S (all_groups B t)).yielded (at t g)).outs
@@ -179,7 +179,7 @@ module _ (plan : Plan) (orders : ℕ → List ℕ) (asked : TxnId → whole.Call
             let w = z.1.outs g m in
             w.3
             ∙ all_has (λ (x : Given). x.outs ≡ map (λ k. slice_index_or (whole_run (procedure_of plan (proc t)) (args t) S.store).reply k (pos 0)) (outs_of plan (proc t) x.group)) w.0
-            (turn.after_groups plan (proc t) (args t) (record { store = S.store; given = [] }) (orders (proc t))).given d.outs w.1
+            (turn.after_turns plan (proc t) (args t) (record { store = S.store; given = [] }) (orders (proc t))).given d.outs w.1
             ∙ ap (λ h. map (λ k. slice_index_or (whole_run (procedure_of plan (proc t)) (args t) S.store).reply k (pos 0)) (outs_of plan (proc t) h)) w.2,
       )
 
@@ -213,7 +213,7 @@ module _ (plan : Plan) (orders : ℕ → List ℕ) (asked : TxnId → whole.Call
   abbrev pub AreDone : Type 0
   AreDone =
       (u : TxnId) (s : Store)
-      → DoAs plan (proc u) (whole_run (procedure_of plan (proc u)) (args u) s) (turn.after_groups plan (proc u) (args u) (record { store = s; given = [] }) (orders (proc u)))
+      → DoAs plan (proc u) (whole_run (procedure_of plan (proc u)) (args u) s) (turn.after_turns plan (proc u) (args u) (record { store = s; given = [] }) (orders (proc u)))
 
   found : AreDone → AreOrders plan orders → (order : List TxnId) (S : serial.Stage) (t : TxnId) → NoneTwice is_txn order
       → ((u : TxnId) → IsListed is_txn order u → (asked u).id ≡ u) → IsListed is_txn order t → Found S order t

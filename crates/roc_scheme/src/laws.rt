@@ -1,5 +1,6 @@
 //! Laws of the schemes of accepted plans, each the contract of a function that does nothing.
 ghost use Rattle.std.specs.Prelude.{◌≡◌, ℕ, ℤ, List};
+ghost use Rattle.roc_sequence.specs.Lists.{Has};
 ghost use Rattle.roc_base.specs.declared.id.TxnId.{TxnId};
 ghost use Rattle.roc_base.specs.TxnId.{is_txn};
 ghost use Rattle.roc_sequence.specs.Places.{IsListed, NoneTwice};
@@ -7,8 +8,10 @@ ghost use Rattle.roc_whole.specs.Serial as whole;
 ghost use Rattle.roc_plan.specs.Groups.{Plan};
 ghost use Rattle.roc_plan.specs.Accepted.{IsAccepted};
 ghost use Rattle.roc_execution.specs.Scheme.{IsSoundScheme};
+ghost use Rattle.roc_audit.specs.declared.entry.Entry.TheVariants as entry;
 ghost use Rattle.roc_audit.specs.Witness.{IsSerialWitness};
 ghost use Rattle.roc_protocol.specs.Asked.{HasSchemes, IsSchemeOf, IsWholeReply};
+ghost use Rattle.roc_protocol.specs.Quiet.{IsQuiet};
 ghost use Rattle.roc_protocol.specs.Run.{Stepped, IsRun};
 ghost use Rattle.roc_protocol.specs.World.{World};
 ghost use Rattle.roc_scheme.specs.Scheme.{scheme_of, AreOrders, AreCalls};
@@ -21,7 +24,10 @@ use roc_plan::laws::{
     groups_can_run_in_turn, groups_have_the_class_of_their_pieces, groups_meet_their_own_class,
     inputs_come_from_immediate_groups,
 };
-use roc_protocol::laws::order_is_serial as order_is_serial_over_schemes;
+use roc_protocol::laws::{
+    order_is_serial as order_is_serial_over_schemes,
+    quiet_is_answered as quiet_is_answered_over_schemes,
+};
 use roc_reorder::laws::groups_in_turn_are_the_whole_run;
 
 /// The scheme of an accepted plan is sound.
@@ -71,4 +77,14 @@ pub fn order_is_serial()
 {
     accepted_plans_have_schemes();
     order_is_serial_over_schemes();
+}
+
+/// Over every run of every accepted plan, what was delivered is answered: a submitted transaction that is quiet, since every message of it
+/// and of its ancestors was delivered, has its reply in that same world.
+pub fn quiet_is_answered()
+    ensures { (plan : Plan) (coords : ℕ) (steps : List Stepped) (w : World) → IsAccepted plan → IsRun plan coords steps w
+        → (t : TxnId) (proc : ℕ) (args : List ℤ) → Has (entry.Submitted t proc args) w.history → IsQuiet w t → (reply : List ℤ) × Has (entry.Answered t reply) w.history }
+{
+    accepted_plans_have_schemes();
+    quiet_is_answered_over_schemes();
 }

@@ -35,6 +35,13 @@ impl<T> Sequence<T> {
         Sequence { items }
     }
 
+    /// The elements as a vector. Takes no memory.
+    pub fn into_vec(self) -> Vec<T>
+        ensures { result.items ≡ self }
+    {
+        self.items
+    }
+
     /// How many elements there are.
     pub fn len(&self) -> usize
         ensures { result ≡ length self.now }

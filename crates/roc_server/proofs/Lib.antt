@@ -1,8 +1,17 @@
-pub mod Same_groups
-pub mod Group_runs
-pub mod Start_steps
-pub mod Untaken
-pub mod Commit_steps
-pub mod First_cells
-pub mod Message_steps
-pub mod One_step
+mod Commit_steps
+mod Dropped_askers
+mod First_cells
+mod Group_runs
+mod Kept_first
+mod Learnable
+mod Led_search
+mod Message_steps
+mod One_step
+mod Rising_lists
+mod Same_groups
+mod Start_steps
+mod Teach_steps
+mod Told_facts
+mod InOrder
+mod LeftOut
+mod Learning

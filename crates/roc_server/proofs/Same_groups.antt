@@ -8,7 +8,7 @@ use Rattle.roc_base.specs.declared.id.TxnId.{TxnId}
 use Rattle.roc_base.specs.TxnId.{is_txn}
 use Rattle.roc_plan.specs.Groups.{Plan}
 use Rattle.roc_server.specs.declared.started.StartedGroup.{StartedGroup}
-use Rattle.roc_server.specs.Commit.{group_call}
+use Rattle.roc_server.specs.Runs.{group_call}
 use Rattle.roc_server.specs.Fits.{IsCallOf, AreGroupsOf}
 use Rattle.roc_server.specs.Inner.Kept.{is_same_group, unrun, AreSameGroups}
 use Rattle.roc_server.specs.State.{is_group, find_group, is_here}

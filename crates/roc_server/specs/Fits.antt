@@ -2,13 +2,13 @@
 use Rattle.std.specs.Prelude.{◌≡◌, ◌<◌, List, length}
 use Rattle.std.specs.List.{AllByRecursion}
 use Rattle.roc_plan.specs.Groups.{Plan, procedure_of, groups_of, inputs_of}
-use Rattle.roc_group.specs.Group_run.{Call}
+use Rattle.roc_group.specs.Group_run.{GroupCall}
 use Rattle.roc_server.specs.declared.started.StartedGroup.{StartedGroup}
-use Rattle.roc_server.specs.Commit.{group_call}
+use Rattle.roc_server.specs.Runs.{group_call}
 use Rattle.roc_server.specs.State.{ServerState}
 
 -- the plan has the group of the call, and takes as many arguments and inputs
-pub record IsCallOf (plan : Plan) (c : Call) : Type 0 where
+pub record IsCallOf (plan : Plan) (c : GroupCall) : Type 0 where
   pub procedure : c.proc < length plan.program.procedures
   pub group : c.group < length (groups_of plan c.proc)
   pub args : length c.args ≡ (procedure_of plan c.proc).arguments

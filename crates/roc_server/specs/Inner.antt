@@ -1,5 +1,7 @@
 -- What stands here is of private functions alone, or is a law that a type needs
 pub mod Kept
 pub mod Codes
+pub mod Starts
 pub mod Runs
-pub mod Taken
+pub mod News
+pub mod Taught

@@ -2,7 +2,8 @@ pub mod State
 pub mod First
 pub mod Start
 pub mod New
-pub mod Commit
+pub mod Runs
+pub mod Lists
 pub mod Fits
 pub mod Step
 pub mod Inner

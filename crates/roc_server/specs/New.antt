@@ -1,11 +1,17 @@
--- What is newly decided: docs/PROTOCOL.md, "Commit"
+-- What follows from known lists, as a step reads it off them: docs/PROTOCOL.md, "Lists"
 use Rattle.std.specs.Prelude.{List}
+use Rattle.roc_sequence.specs.Lists.{Has}
 use Rattle.roc_sequence.specs.Places.{IsListed}
 use Rattle.roc_base.specs.declared.id.TxnId.{TxnId}
 use Rattle.roc_base.specs.TxnId.{is_txn}
+use Rattle.roc_base.specs.Edge.{Dependency}
 use Rattle.roc_component.specs.Components.{IsTakingOrder}
 use Rattle.roc_depgraph.specs.declared.known.KnownList.{KnownList}
-use Rattle.roc_depgraph.specs.Deps.{IsDecided}
+use Rattle.roc_depgraph.specs.Closure.{IsRisingListOf}
+use Rattle.roc_depgraph.specs.Deps.{Precedes, IsKnown, IsDecided}
+use Rattle.roc_depgraph.specs.Reach.{ReachesOrIs}
+
+-- ---- what is newly decided
 
 -- decided by the lists, and not before
 abbrev pub IsNew : (before : TxnId → Type 0) → (known : List KnownList) → TxnId → Type 0
@@ -20,3 +26,19 @@ pub record AreAllNew (before : TxnId → Type 0) (known : List KnownList) (ts : 
 pub record AreNew (before : TxnId → Type 0) (known : List KnownList) (ts : List TxnId) : Type 0 where
   pub members : AreAllNew before known ts
   pub ordered : IsTakingOrder known ts ts
+
+-- ---- what is decided, and what entries lead to
+
+-- all that is decided by the lists, by id rising
+abbrev pub AreDecided : List KnownList → List TxnId → Type 0
+AreDecided known ids = IsRisingListOf (IsDecided known) ids
+
+-- an entry names u, or one from which u is reached over known lists
+pub record IsLedTo (known : List KnownList) (edges : List Dependency) (u : TxnId) : Type 0 where
+  pub entry : Dependency
+  pub is : Has entry edges
+  pub from : ReachesOrIs (Precedes known) u entry.from
+
+-- all those whose lists are known, by id rising
+abbrev pub AreLedTo : List KnownList → List Dependency → List TxnId → Type 0
+AreLedTo known edges ids = IsRisingListOf (λ u. IsKnown known u × IsLedTo known edges u) ids

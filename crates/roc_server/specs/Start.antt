@@ -1,25 +1,30 @@
 -- A start: docs/PROTOCOL.md, "Start"
-use Rattle.std.specs.Prelude.{ℕ, Bool, true, false, not, ◌&&◌, ◌==◌, nat_lt, List, [], ◌∷◌, ◌++◌, Option, Some, None, is_none, length, map, filter, if◌then◌else◌}
+use Rattle.std.specs.Prelude.{ℕ, Bool, not, ◌&&◌, ◌==◌, nat_lt, List, [], ◌∷◌, ◌++◌, Option, Some, None, is_none, length, map, filter, if◌then◌else◌}
 use Rattle.std.specs.List.{list_any}
+use Rattle.roc_sequence.specs.Places.{is_listed}
 use Rattle.roc_base.specs.declared.id.TxnId.{TxnId}
 use Rattle.roc_base.specs.declared.node.Shard.{Shard}
 use Rattle.roc_base.specs.declared.node.Node.TheVariants.{Coord}
 use Rattle.roc_base.specs.TxnId.{is_txn}
 use Rattle.roc_base.specs.Edge.{Dependency}
 use Rattle.roc_base.specs.Edges.{united}
-use Rattle.roc_base.specs.Equality.{is_nums}
-use Rattle.roc_depgraph.specs.Deps.{is_known}
+use Rattle.roc_base.specs.Equality.{is_nums, same_tag}
+use Rattle.roc_depgraph.specs.declared.known.KnownList.{KnownList}
+use Rattle.roc_depgraph.specs.Deps.{is_known, entries_of}
 use Rattle.roc_msg.specs.declared.msg.Msg.TheVariants.{StartOk}
 use Rattle.roc_msg.specs.declared.outbox.Outgoing.{Outgoing}
 use Rattle.roc_msg.specs.declared.reason.Reason.{Reason}
 use Rattle.roc_msg.specs.declared.reason.Reason.TheVariants.{BadProc, BadGroup, BadInputs, NotHere, Late, Differs}
-use Rattle.roc_plan.specs.Groups.{Plan, procedure_of, groups_of, inputs_of, shard_of, group_place}
+use Rattle.roc_msg.specs.Facts.{fitting}
+use Rattle.roc_plan.specs.Groups.{Plan, procedure_of, groups_of, is_immediate_of, inputs_of, shard_of, group_place}
 use Rattle.roc_group.specs.declared.access.Access.{Access}
 use Rattle.roc_group.specs.Accesses.{do_conflict}
-use Rattle.roc_group.specs.Group_run.{Call, group_uses}
+use Rattle.roc_group.specs.Group_run.{GroupCall, group_run, group_uses, bound_by_run}
 use Rattle.roc_server.specs.declared.handled.Handled.TheVariants.{Done}
 use Rattle.roc_server.specs.declared.started.StartedGroup.{StartedGroup}
 use Rattle.roc_server.specs.State.{ignored, answered, find_group, ServerState, ServerStep}
+
+-- ---- reasons to ignore it
 
 -- the first reason whose condition holds
 abbrev pub first_reason : List (Bool × Reason) → Option Reason
@@ -31,58 +36,89 @@ abbrev pub has_procedure : Plan → ℕ → Bool
 has_procedure plan proc = nat_lt proc (length plan.program.procedures)
 
 -- as many arguments and inputs as the plan has
-abbrev pub has_counts : Plan → Call → Bool
+abbrev pub has_counts : Plan → GroupCall → Bool
 has_counts plan c = length c.args == (procedure_of plan c.proc).arguments && length c.inputs == length (inputs_of plan c.proc c.group)
 
 -- a group of the transaction started here with another procedure or other arguments
-abbrev pub differs : ServerState → TxnId → Call → Bool
+abbrev pub differs : ServerState → TxnId → GroupCall → Bool
 differs s id c = list_any (λ e. is_txn e.id id && not (e.proc == c.proc && is_nums e.args c.args)) s.started
 
 -- why a start is ignored, where it is
-abbrev pub start_fault : Plan → ServerState → TxnId → Call → Option Reason
+abbrev pub start_fault : Plan → ServerState → TxnId → GroupCall → Option Reason
 start_fault plan s id c =
     first_reason (
     (not (has_procedure plan c.proc), BadProc)
     ∷ (not (nat_lt c.group (length (groups_of plan c.proc))), BadGroup)
     ∷ (not (has_counts plan c), BadInputs)
     ∷ (not (shard_of plan (group_place plan c.proc c.group c.args c.inputs) == s.shard.0), NotHere)
-    ∷ (is_none (find_group id c.group s.started) && is_known s.known id, Late)
+    ∷ (is_none (find_group id c.group s.started) && is_known s.lists.known id, Late)
     ∷ (differs s id c, Differs)
     ∷ [])
 
--- an earlier group of another transaction, which conflicts: they have a cell in common that one of them writes
-abbrev pub is_predecessor : TxnId → List Access → StartedGroup → Bool
-is_predecessor id cells e = not (is_txn e.id id) && do_conflict e.cells cells
+-- ---- a group that starts now. `out` are the transactions that it leaves out
 
-abbrev pub edge_to : Shard → StartedGroup → Dependency
-edge_to shard e = record { from = e.id; imm = false; def = true; at = shard }
+abbrev pub is_immediate_group : Plan → GroupCall → Bool
+is_immediate_group plan c = is_immediate_of plan c.proc c.group
 
--- the entries for each transaction that comes before
-abbrev pub edges_for : Shard → TxnId → List Access → List StartedGroup → List Dependency
-edges_for shard id cells started = united (map (edge_to shard) (filter (is_predecessor id cells) started))
+-- an earlier group of another transaction that is not left out, of the same class, with a cell in common that one of the two writes
+abbrev pub is_predecessor : Plan → (out : List TxnId) → TxnId → GroupCall → List Access → StartedGroup → Bool
+is_predecessor plan out id c cells e =
+    not (is_txn e.id id) && (not (is_listed is_txn out e.id) && (same_tag (is_immediate_of plan e.proc e.group) (is_immediate_group plan c) && do_conflict e.cells cells))
 
--- what is kept of a group that starts now
-abbrev pub new_group : Plan → ServerState → TxnId → Call → StartedGroup
-new_group plan s id c =
-    let cells = group_uses plan c s.store in
-    record { id = id; proc = c.proc; group = c.group; args = c.args; inputs = c.inputs; cells = cells; edges = edges_for s.shard id cells s.started; outs = None }
+-- the entry for it: its tag is the class, its shard this one
+abbrev pub edge_to : Shard → (immediate : Bool) → StartedGroup → Dependency
+edge_to shard immediate e = record { from = e.id; imm = immediate; def = not immediate; at = shard }
 
--- what its coordinator is told. It has not run: it binds nothing and adds nothing to the reply yet, and no known list travels along
+-- the entries for all of them
+abbrev pub edges_for : Plan → (out : List TxnId) → ServerState → TxnId → GroupCall → List Dependency
+edges_for plan out s id c =
+    united (map (edge_to s.shard (is_immediate_group plan c)) (filter (is_predecessor plan out id c (group_uses plan c s.store)) s.started))
+
+-- known lists of these transactions, as many as travel along
+abbrev pub facts_of : List KnownList → List TxnId → List KnownList
+facts_of known ids = fitting (map (λ u. record { of = u; edges = entries_of known u }) ids)
+
+-- what is kept of the group. An immediate one runs now, so that its startok tells what it bound and what it adds to the reply
+abbrev pub new_group : Plan → (out reached : List TxnId) → ServerState → TxnId → GroupCall → StartedGroup
+new_group plan out reached s id c =
+    record {
+      id = id;
+      proc = c.proc;
+      group = c.group;
+      args = c.args;
+      inputs = c.inputs;
+      cells = group_uses plan c s.store;
+      bound = if is_immediate_group plan c then bound_by_run plan c s.store else [];
+      outs = if is_immediate_group plan c then (group_run plan c s.store).reply else [];
+      edges = edges_for plan out s id c;
+      facts = facts_of s.lists.known reached;
+      later = None;
+    }
+
+-- what its coordinator is told
 abbrev pub startok_of : Shard → StartedGroup → Outgoing
-startok_of shard e = record { to = Coord e.id.coord; msg = StartOk e.id e.group shard [] [] e.edges [] }
+startok_of shard e = record { to = Coord e.id.coord; msg = StartOk e.id e.group shard e.bound e.outs e.edges e.facts }
 
-abbrev pub start_new : ServerState → StartedGroup → ServerStep
-start_new s e = record { answer = Done; state = record s { started = s.started ++ e ∷ [] }; sends = startok_of s.shard e ∷ []; decided = [] }
+-- it stands behind those that are here; an immediate one runs, a deferrable one is buffered
+abbrev pub start_new : Plan → ServerState → GroupCall → StartedGroup → ServerStep
+start_new plan s c e =
+    record {
+      answer = Done;
+      state = record s { store = if is_immediate_group plan c then (group_run plan c s.store).store else s.store; started = s.started ++ e ∷ [] };
+      sends = startok_of s.shard e ∷ [];
+      decided = [];
+      ran = if is_immediate_group plan c then e ∷ [] else [];
+    }
 
--- a group that is here is told again as it was told before, and another one starts
-abbrev pub start_taken : Plan → ServerState → TxnId → Call → Option StartedGroup → ServerStep
-start_taken plan s id c (Some e) = answered s (startok_of s.shard e ∷ [])
-start_taken plan s id c None = start_new s (new_group plan s id c)
+-- ---- what comes of a start: a group that is here is told again as it was told before
 
-abbrev pub start_judged : Plan → ServerState → TxnId → Call → Option Reason → ServerStep
-start_judged plan s id c (Some reason) = ignored s reason
-start_judged plan s id c None = start_taken plan s id c (find_group id c.group s.started)
+abbrev pub start_taken : Plan → (out reached : List TxnId) → ServerState → TxnId → GroupCall → Option StartedGroup → ServerStep
+start_taken plan out reached s id c (Some e) = answered s (startok_of s.shard e ∷ [])
+start_taken plan out reached s id c None = start_new plan s c (new_group plan out reached s id c)
 
--- what comes of a start
-abbrev pub after_start : Plan → ServerState → TxnId → Call → ServerStep
-after_start plan s id c = start_judged plan s id c (start_fault plan s id c)
+abbrev pub start_judged : Plan → (out reached : List TxnId) → ServerState → TxnId → GroupCall → Option Reason → ServerStep
+start_judged plan out reached s id c (Some reason) = ignored s reason
+start_judged plan out reached s id c None = start_taken plan out reached s id c (find_group id c.group s.started)
+
+abbrev pub after_start : Plan → (out reached : List TxnId) → ServerState → TxnId → GroupCall → ServerStep
+after_start plan out reached s id c = start_judged plan out reached s id c (start_fault plan s id c)

@@ -5,6 +5,7 @@ use Rattle.roc_base.specs.declared.id.TxnId.{TxnId}
 use Rattle.roc_base.specs.declared.node.Shard.{Shard}
 use Rattle.roc_base.specs.TxnId.{is_txn}
 use Rattle.roc_depgraph.specs.declared.known.KnownList.{KnownList}
+use Rattle.roc_await.specs.Waits.{Waiting}
 use Rattle.roc_msg.specs.declared.outbox.Outgoing.{Outgoing}
 use Rattle.roc_msg.specs.declared.reason.Reason.{Reason}
 use Rattle.roc_rows.specs.Store.{Store}
@@ -12,30 +13,36 @@ use Rattle.roc_server.specs.declared.handled.Handled.{Handled}
 use Rattle.roc_server.specs.declared.handled.Handled.TheVariants.{Done, Ignored}
 use Rattle.roc_server.specs.declared.started.StartedGroup.{StartedGroup}
 
+-- the dependency lists that a server knows, in the order in which it learnt them; what it asked for, and who asked it
+pub record Lists : Type 0 where
+  pub known : List KnownList
+  pub waiting : Waiting
+
 pub record ServerState : Type 0 where
   pub shard : Shard
   pub store : Store
   -- the groups that started here, in the order in which they arrived
   pub started : List StartedGroup
-  -- the dependency lists that are known here, in the order in which they were learnt
-  pub known : List KnownList
+  pub lists : Lists
   -- it found no memory once, and does nothing since
   pub stopped : Bool
 
--- what comes of a message: the answer, the state after it, what is sent, and the transactions newly decided, in the order in which they were taken
+-- what comes of a message: the answer, the state after it, what is sent, the transactions newly decided, in the order in which they were
+-- taken, and the groups that ran, in the order in which they did
 pub record ServerStep : Type 0 where
   pub answer : Handled
   pub state : ServerState
   pub sends : List Outgoing
   pub decided : List TxnId
+  pub ran : List StartedGroup
 
 -- an ignored message changes nothing and sends nothing
 abbrev pub ignored : ServerState → Reason → ServerStep
-ignored s reason = record { answer = Ignored reason; state = s; sends = []; decided = [] }
+ignored s reason = record { answer = Ignored reason; state = s; sends = []; decided = []; ran = [] }
 
 -- a message that changes nothing, and what is sent
 abbrev pub answered : ServerState → List Outgoing → ServerStep
-answered s sends = record { answer = Done; state = s; sends = sends; decided = [] }
+answered s sends = record { answer = Done; state = s; sends = sends; decided = []; ran = [] }
 
 -- this group of this transaction
 abbrev pub is_group : TxnId → ℕ → StartedGroup → Bool

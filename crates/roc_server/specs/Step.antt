@@ -1,24 +1,82 @@
 -- What comes of a message at a server: docs/PROTOCOL.md, "Server"
-use Rattle.std.specs.Prelude.{◌≡◌, ◌++◌}
+use Rattle.std.specs.Prelude.{◌≡◌, ◌&&◌, List, [], ◌∷◌, ◌++◌, Option, Some, None, is_none, if◌then◌else◌}
+use Rattle.roc_base.specs.declared.id.TxnId.{TxnId}
+use Rattle.roc_base.specs.Edge.{Dependency}
+use Rattle.roc_depgraph.specs.declared.known.KnownList.{KnownList}
+use Rattle.roc_depgraph.specs.Deps.{IsDecided}
 use Rattle.roc_msg.specs.declared.msg.Msg.{Msg}
 use Rattle.roc_msg.specs.declared.msg.Msg.TheVariants.{Start, StartOk, Commit, CommitOk, Fetch, Known, Stop}
 use Rattle.roc_msg.specs.declared.outbox.Outbox.{Outbox}
+use Rattle.roc_msg.specs.declared.outbox.Outgoing.{Outgoing}
+use Rattle.roc_msg.specs.declared.reason.Reason.{Reason}
 use Rattle.roc_msg.specs.declared.reason.Reason.TheVariants.{Foreign}
 use Rattle.roc_plan.specs.Groups.{Plan}
+use Rattle.roc_group.specs.Group_run.{GroupCall}
 use Rattle.roc_server.specs.declared.handled.Handled.{Handled}
-use Rattle.roc_server.specs.State.{ignored, ServerState, ServerStep}
-use Rattle.roc_server.specs.Start.{after_start}
-use Rattle.roc_server.specs.Commit.{Commits}
+use Rattle.roc_server.specs.New.{AreNew, AreDecided, AreLedTo}
+use Rattle.roc_server.specs.Start.{start_fault, edges_for, after_start}
+use Rattle.roc_server.specs.Lists.{list_with, carried, unknown_of, commit_fault, after_commit, after_fetch, known_fault, after_known, fetched_again}
+use Rattle.roc_server.specs.State.{ignored, find_group, ServerState, ServerStep}
+
+-- ---- what a step finds in the lists
+
+-- what was decided before the message, by id rising; what the entries of a group that starts lead to; and what the message newly decides,
+-- in component order
+pub record Findings : Type 0 where
+  pub before : List TxnId
+  pub reached : List TxnId
+  pub decided : List TxnId
+
+-- the entries of the group that a message starts: none where it is ignored, or the group is here
+abbrev pub edges_of_new : Plan → (out : List TxnId) → ServerState → TxnId → GroupCall → List Dependency
+edges_of_new plan out s id c = if is_none (start_fault plan s id c) && is_none (find_group id c.group s.started) then edges_for plan out s id c else []
+
+abbrev pub edges_told : Plan → (out : List TxnId) → ServerState → Msg → List Dependency
+edges_told plan out s (Start id proc group args inputs) = edges_of_new plan out s id (record { proc = proc; group = group; args = args; inputs = inputs })
+edges_told plan out s (StartOk id group shard bound outs edges facts) = []
+edges_told plan out s (Commit id edges facts) = []
+edges_told plan out s (CommitOk id shard outs) = []
+edges_told plan out s (Fetch id asker) = []
+edges_told plan out s (Known id edges) = []
+edges_told plan out s Stop = []
+
+-- the lists that a message teaches: none where it is ignored
+abbrev pub unless_ignored : Option Reason → List KnownList → List KnownList
+unless_ignored (Some reason) lists = []
+unless_ignored None lists = lists
+
+abbrev pub lists_taught : ServerState → Msg → List KnownList
+lists_taught s (Commit id edges facts) = unless_ignored (commit_fault s id edges facts) (unknown_of s.lists.known (carried id edges facts))
+lists_taught s (Known id edges) = unless_ignored (known_fault s id edges) (unknown_of s.lists.known (list_with id edges ∷ []))
+lists_taught s (Start id proc group args inputs) = []
+lists_taught s (StartOk id group shard bound outs edges facts) = []
+lists_taught s (CommitOk id shard outs) = []
+lists_taught s (Fetch id asker) = []
+lists_taught s Stop = []
+
+-- these are the findings: there is exactly one of them
+pub record AreFindings (plan : Plan) (s : ServerState) (msg : Msg) (f : Findings) : Type 0 where
+  pub before : AreDecided s.lists.known f.before
+  pub reached : AreLedTo s.lists.known (edges_told plan f.before s msg) f.reached
+  pub decided : AreNew (IsDecided s.lists.known) (s.lists.known ++ lists_taught s msg) f.decided
+
+-- ---- the step
+
+-- what comes of a message, with what was found. A group that starts leaves out exactly what is decided here
+abbrev pub after_message : Plan → ServerState → Findings → Msg → ServerStep
+after_message plan s f (Start id proc group args inputs) = after_start plan f.before f.reached s id (record { proc = proc; group = group; args = args; inputs = inputs })
+after_message plan s f (Commit id edges facts) = after_commit plan f.before f.decided s id edges facts (commit_fault s id edges facts)
+after_message plan s f (Fetch id asker) = after_fetch s id asker
+after_message plan s f (Known id edges) = after_known plan f.decided s id edges (known_fault s id edges)
+after_message plan s f (StartOk id group shard bound outs edges facts) = ignored s Foreign
+after_message plan s f (CommitOk id shard outs) = ignored s Foreign
+after_message plan s f Stop = ignored s Foreign
 
 -- r is what comes of a message
-abbrev pub Handles : Plan → ServerState → Msg → ServerStep → Type 0
-Handles plan s (Start id proc group args inputs) r = r ≡ after_start plan s id (record { proc = proc; group = group; args = args; inputs = inputs })
-Handles plan s (Commit id edges facts) r = Commits plan s id edges r
-Handles plan s (StartOk id group shard bound outs edges facts) r = r ≡ ignored s Foreign
-Handles plan s (CommitOk id shard outs) r = r ≡ ignored s Foreign
-Handles plan s (Fetch id asker) r = r ≡ ignored s Foreign
-Handles plan s (Known id edges) r = r ≡ ignored s Foreign
-Handles plan s Stop r = r ≡ ignored s Foreign
+pub record Handles (plan : Plan) (s : ServerState) (msg : Msg) (r : ServerStep) : Type 0 where
+  pub findings : Findings
+  pub found : AreFindings plan s msg findings
+  pub is : r ≡ after_message plan s findings msg
 
 -- r is what was answered, what is kept, and what was added to an outbox
 pub record Shows (r : ServerStep) (answer : Handled) (state : ServerState) (old new : Outbox) : Type 0 where
@@ -26,3 +84,7 @@ pub record Shows (r : ServerStep) (answer : Handled) (state : ServerState) (old 
   pub keeps : r.state ≡ state
   pub sends : new.messages ≡ old.messages ++ r.sends
   pub decides : new.decided ≡ old.decided ++ r.decided
+
+-- ---- a tick changes nothing; what it sends
+abbrev pub tick_sends : ServerState → List Outgoing
+tick_sends s = fetched_again s

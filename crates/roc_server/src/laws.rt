@@ -5,8 +5,8 @@ ghost use Rattle.roc_plan.specs.Groups.{Plan};
 ghost use Rattle.roc_server.specs.State.{ServerState, ServerStep};
 ghost use Rattle.roc_server.specs.Step.{Handles};
 
-/// What comes of a message at a server is one: the answer, the state after it, what is sent, and
-/// what is newly decided, in order.
+/// What comes of a message at a server is one: the answer, the state after it, what is sent, what
+/// is newly decided, and what runs, in order.
 pub fn step_is_one()
     ensures { (plan : Plan) (s : ServerState) (msg : Msg) (r other : ServerStep) → Handles plan s msg r → Handles plan s msg other → r ≡ other }
 {}

@@ -2,23 +2,23 @@
 ghost use Rattle.std.specs.Prelude.{◌≡◌, ◌<◌, ◌++◌, [], vec_len, unwrap_or, Some, slice_get, IfOk, OnOk};
 ghost use Rattle.std.specs.Option.{option_to_list};
 ghost use Rattle.roc_sequence.specs.Places.{NoneTwice};
-ghost use Rattle.roc_plan.specs.Within.{IsWithin};
-ghost use Rattle.roc_server.specs.Commit.{groups_here, outs_here, run_groups, take_all};
+ghost use Rattle.roc_server.specs.Runs.{buffered_here, outs_here, run_groups, take_all};
 ghost use Rattle.roc_server.specs.declared.started.StartedGroup.{StartedGroup as Group};
 ghost use Rattle.roc_server.specs.Fits.{AreGroupsOf};
 ghost use Rattle.roc_server.specs.Inner.Kept.{holding, is_same_group, AreSameGroups};
-ghost use Rattle.roc_server.specs.Inner.Runs.{RunsAt};
+ghost use Rattle.roc_server.specs.Inner.Runs.{buffered, RunsAt, RunsIfBuffered};
 ghost use Rattle.roc_server.specs.State.{find_group, ServerState};
 
 use crate::StartedGroup;
 use crate::groups::{count_of_groups, find_group, place_of_group};
+use crate::started_now::is_immediate;
 use roc_base::{NoMemory, Nums, TxnId};
 use roc_group::{Outputs, run_group};
 use roc_plan::{Known, Plan};
 use roc_rows::Rows;
 use std::alloc::Global;
 
-// Takes transactions one by one: the groups of each run, by number.
+// Takes transactions one by one: the buffered groups of each run, by number.
 pub(crate) fn run_all(
     alloc: Global,
     plan: &Plan,
@@ -26,7 +26,6 @@ pub(crate) fn run_all(
     started: &mut Vec<StartedGroup>,
     rows: &mut Rows,
 ) -> Result<(), NoMemory>
-    requires within { IsWithin plan.now }
     requires fits { AreGroupsOf plan.now started.old.items }
     requires once { NoneTwice is_same_group started.old.items }
     ensures runs { OnOk result ((s : ServerState) → take_all plan.now (holding s rows.old.store started.old.items) ids.now ≡ holding s rows.new.store started.new.items) }
@@ -38,7 +37,7 @@ pub(crate) fn run_all(
     Ok(())
 }
 
-// Runs the groups of a transaction, by number.
+// Runs the buffered groups of a transaction, by number.
 fn run_transaction(
     alloc: Global,
     plan: &Plan,
@@ -46,10 +45,9 @@ fn run_transaction(
     started: &mut Vec<StartedGroup>,
     rows: &mut Rows,
 ) -> Result<(), NoMemory>
-    requires within { IsWithin plan.now }
     requires fits { AreGroupsOf plan.now started.old.items }
     requires once { NoneTwice is_same_group started.old.items }
-    ensures runs { OnOk result ((s : ServerState) → run_groups plan.now (holding s rows.old.store started.old.items) (groups_here plan.now id started.old.items) ≡ holding s rows.new.store started.new.items) }
+    ensures runs { OnOk result ((s : ServerState) → run_groups plan.now (holding s rows.old.store started.old.items) (buffered_here plan.now id started.old.items) ≡ holding s rows.new.store started.new.items) }
     ensures groups { OnOk result (AreSameGroups started.old.items started.new.items) }
 {
     let count = count_of_groups(plan, started, id);
@@ -59,7 +57,7 @@ fn run_transaction(
     Ok(())
 }
 
-// Runs a group of a transaction, where it is here.
+// Runs a group of a transaction, where it is here and buffered.
 fn run_number(
     alloc: Global,
     plan: &Plan,
@@ -68,16 +66,33 @@ fn run_number(
     started: &mut Vec<StartedGroup>,
     rows: &mut Rows,
 ) -> Result<(), NoMemory>
-    requires within { IsWithin plan.now }
     requires fits { AreGroupsOf plan.now started.old.items }
     requires once { NoneTwice is_same_group started.old.items }
-    ensures runs { OnOk result ((s : ServerState) → run_groups plan.now (holding s rows.old.store started.old.items) (option_to_list (find_group id number started.old.items)) ≡ holding s rows.new.store started.new.items) }
+    ensures runs { OnOk result ((s : ServerState) → run_groups plan.now (holding s rows.old.store started.old.items) (buffered plan.now (option_to_list (find_group id number started.old.items))) ≡ holding s rows.new.store started.new.items) }
     ensures groups { OnOk result (AreSameGroups started.old.items started.new.items) }
 {
     match place_of_group(started, id, number) {
-        Some(at) => run_at(alloc, plan, at, started, rows),
+        Some(at) => run_if_buffered(alloc, plan, at, started, rows),
         None => Ok(()),
     }
+}
+
+// Runs the group at an index, where it is buffered.
+fn run_if_buffered(
+    alloc: Global,
+    plan: &Plan,
+    at: usize,
+    started: &mut Vec<StartedGroup>,
+    rows: &mut Rows,
+) -> Result<(), NoMemory>
+    requires exists { at < vec_len started.old }
+    requires fits { AreGroupsOf plan.now started.old.items }
+    ensures { OnOk result ((e : Group) → slice_get started.old.items at ≡ Some e → RunsIfBuffered plan.now e at started.old.items started.new.items rows.old.store rows.new.store) }
+{
+    if is_immediate(plan, started[at].proc, started[at].group) {
+        return Ok(());
+    }
+    run_at(alloc, plan, at, started, rows)
 }
 
 // Runs the group at an index, and keeps with it what it gave.
@@ -88,7 +103,6 @@ fn run_at(
     started: &mut Vec<StartedGroup>,
     rows: &mut Rows,
 ) -> Result<(), NoMemory>
-    requires within { IsWithin plan.now }
     requires exists { at < vec_len started.old }
     requires fits { AreGroupsOf plan.now started.old.items }
     ensures { OnOk result ((e : Group) → slice_get started.old.items at ≡ Some e → RunsAt plan.now e at started.old.items started.new.items rows.old.store rows.new.store) }
@@ -102,7 +116,7 @@ fn run_at(
     let mut out = Outputs::new(alloc);
     run_group(alloc, plan, proc, number, &known, rows, &mut out)?;
     let group = &mut started[at];
-    group.outs = Some(out.outs);
+    group.later = Some(out.outs);
     Ok(())
 }
 
@@ -128,9 +142,9 @@ pub(crate) fn outs_here(
 
 // Adds what a group gave, where it has run.
 fn push_outs(group: &StartedGroup, outs: &mut Nums) -> Result<(), NoMemory>
-    ensures { OnOk result (outs.new ≡ outs.old ++ unwrap_or group.now.outs []) }
+    ensures { OnOk result (outs.new ≡ outs.old ++ unwrap_or group.now.later []) }
 {
-    match &group.outs {
+    match &group.later {
         Some(given) => outs.extend_from_slice(given.as_slice()),
         None => Ok(()),
     }

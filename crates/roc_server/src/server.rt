@@ -1,16 +1,16 @@
 //! The server.
-ghost use Rattle.std.specs.Prelude.{◌≡◌, ◌↔◌, true, false, IsTrue, IfOk, OnOk};
+ghost use Rattle.std.specs.Prelude.{◌≡◌, ◌↔◌, ◌++◌, true, false, IsTrue, IfOk, OnOk};
 ghost use Rattle.roc_depgraph.specs.Deps.{IsDecided};
-ghost use Rattle.roc_plan.specs.Within.{IsWithin};
 ghost use Rattle.roc_rows.specs.Store.{entries};
 ghost use Rattle.roc_server.specs.First.{first_server};
 ghost use Rattle.roc_server.specs.Fits.{AreGroupsOf, ServerFits};
 ghost use Rattle.roc_server.specs.Inner.Kept.{state_of, IsConsistent};
 ghost use Rattle.roc_server.specs.State.{ServerStep};
-ghost use Rattle.roc_server.specs.Step.{Handles, Shows};
+ghost use Rattle.roc_server.specs.Step.{Handles, Shows, tick_sends};
 
 use crate::Handled;
-use crate::commits::take_commit;
+use crate::commits::{take_commit, take_known};
+use crate::fetches::{fetch_again, take_fetch};
 use crate::first::first_rows;
 use crate::kept::Kept;
 use crate::starts::{Request, take_start};
@@ -66,7 +66,6 @@ impl Server {
     /// newly decides is added to `out`. `NoMemory` promises nothing of the server's groups, lists
     /// and cells, nor of `out`, but that each later call answers `Stopped`.
     pub fn handle(&mut self, plan: &Plan, msg: &Msg, out: &mut Outbox) -> Result<Handled, NodeFault>
-        requires within { IsWithin plan.now }
         requires fits { ServerFits plan.now self.old }
 
         // The step that the definitions fix.
@@ -94,10 +93,33 @@ impl Server {
         }
     }
 
+    /// Sends again what was asked for and is not known yet. It changes nothing but that `NoMemory`, which promises nothing of `out`,
+    /// stops the server.
+    pub fn tick(&mut self, out: &mut Outbox) -> Result<(), NodeFault>
+        ensures sent { OnOk result (out.new ≡ record out.old { messages = out.old.messages ++ tick_sends self.old }) }
+        ensures same { OnOk result (self.new ≡ self.old) }
+        ensures going { OnOk result (self.old.stopped ≡ false) }
+        ensures stopped { (result ≡ Err NodeFault.Stopped) ↔ (self.old.stopped ≡ true) }
+        ensures unchanged { result ≡ Err NodeFault.Stopped → (self.new ≡ self.old) × (out.new ≡ out.old) }
+        ensures no_memory { result ≡ Err NodeFault.NoMemory → self.new.stopped ≡ true }
+    {
+        if self.stopped {
+            return Err(NodeFault::Stopped);
+        }
+        match fetch_again(self.shard, &self.kept.deps, self.kept.waits.asked(), out) {
+            Ok(()) => Ok(()),
+            Err(NoMemory) => {
+                self.kept = Kept::new(self.alloc, Rows::new(self.alloc));
+                self.stopped = true;
+                Err(NodeFault::NoMemory)
+            }
+        }
+    }
+
     /// Whether a transaction is decided here: its dependency list and those of all its ancestors
     /// are known. Takes no memory.
     pub fn decided(&self, id: TxnId) -> bool
-        ensures { IsTrue result ↔ IsDecided self.now.known id }
+        ensures { IsTrue result ↔ IsDecided self.now.lists.known id }
     {
         is_among(self.kept.decided.as_slice(), id)
     }
@@ -119,7 +141,6 @@ fn take(
     msg: &Msg,
     out: &mut Outbox,
 ) -> Result<Handled, NoMemory>
-    requires within { IsWithin plan.now }
     requires fits { AreGroupsOf plan.now kept.old.started.items }
     requires sound { IsConsistent kept.old }
     ensures step { IfOk result (λ answer. (r : ServerStep) × Handles plan.now (state_of shard kept.old false) msg.now r × Shows r answer (state_of shard kept.new false) out.old out.new) }
@@ -146,11 +167,13 @@ fn take(
             };
             take_start(alloc, plan, shard, kept, request, out)
         }
-        Msg::Commit { id, edges, .. } => take_commit(alloc, plan, shard, kept, *id, edges, out),
-        Msg::StartOk { .. }
-        | Msg::CommitOk { .. }
-        | Msg::Fetch { .. }
-        | Msg::Known { .. }
-        | Msg::Stop => Ok(Handled::Ignored(Reason::Foreign)),
+        Msg::Commit { id, edges, facts } => {
+            take_commit(alloc, plan, shard, kept, *id, edges, facts.as_slice(), out)
+        }
+        Msg::Fetch { id, asker } => take_fetch(shard, kept, *id, *asker, out),
+        Msg::Known { id, edges } => take_known(alloc, plan, shard, kept, *id, edges, out),
+        Msg::StartOk { .. } | Msg::CommitOk { .. } | Msg::Stop => {
+            Ok(Handled::Ignored(Reason::Foreign))
+        }
     }
 }

@@ -2,9 +2,10 @@
 
 use roc_base::{Edges, Nums, TxnId};
 use roc_group::Access;
+use roc_msg::Facts;
 use roc_sequence::Sequence;
 
-/// A group that has started here, with what it was given, what it uses, and what came of it.
+/// A group that has started here, with what it was given, what it uses, what its startok says, and what came of it.
 #[derive(Debug, Drop)]
 pub struct StartedGroup {
     pub id: TxnId,
@@ -16,8 +17,12 @@ pub struct StartedGroup {
     pub inputs: Nums,
     /// The cells that it uses.
     pub cells: Sequence<Access>,
-    /// The transactions that come before, as its `StartOk` told them.
+    /// What an immediate group bound and added to the reply as it started; nothing of a deferrable one.
+    pub bound: Nums,
+    pub outs: Nums,
+    /// The transactions that come before, and known lists of these and of their ancestors.
     pub edges: Edges,
-    /// What it adds to the reply, once it has run.
-    pub outs: Option<Nums>,
+    pub facts: Facts,
+    /// What a deferrable group adds to the reply, once it has run.
+    pub later: Option<Nums>,
 }

@@ -2,19 +2,18 @@
 ghost use Rattle.std.specs.Prelude.{◌≡◌, ◌++◌, ◌∷◌, [], ◌<◌, length, None, false, IfOk, OnOk};
 ghost use Rattle.roc_group.specs.Group_run.{call};
 ghost use Rattle.roc_plan.specs.Groups.{groups_of};
-ghost use Rattle.roc_plan.specs.Within.{IsWithin};
 ghost use Rattle.roc_server.specs.Fits.{IsCallOf, AreGroupsOf};
 ghost use Rattle.roc_server.specs.Inner.Kept.{state_of, asked, IsConsistent};
-ghost use Rattle.roc_server.specs.Start.{has_counts, start_fault, edges_for, new_group, startok_of, after_start, is_predecessor};
-ghost use Rattle.roc_server.specs.State.{ServerState};
-ghost use Rattle.roc_server.specs.Step.{Shows};
+ghost use Rattle.roc_server.specs.Inner.Starts.{StartTaken, StartsNew};
+ghost use Rattle.roc_server.specs.Start.{has_counts, start_fault, startok_of};
+ghost use Rattle.roc_server.specs.State.{find_group};
 
 use crate::groups::{differs, find_group};
 use crate::kept::Kept;
+use crate::started_now::new_group;
 use crate::{Handled, StartedGroup};
-use roc_base::{Edge, Edges, NoMemory, Node, Nums, Shard, TxnId};
-use roc_group::{Access, cells, conflict};
-use roc_msg::{Facts, Msg, Outbox, Reason};
+use roc_base::{NoMemory, Node, Shard, TxnId};
+use roc_msg::{Msg, Outbox, Reason};
 use roc_plan::{Known, Plan};
 use std::alloc::Global;
 
@@ -36,10 +35,9 @@ pub(crate) fn take_start(
     request: Request,
     out: &mut Outbox,
 ) -> Result<Handled, NoMemory>
-    requires within { IsWithin plan.now }
     requires fits { AreGroupsOf plan.now kept.old.started.items }
     requires sound { IsConsistent kept.old }
-    ensures step { IfOk result (λ answer. Shows (after_start plan.now (state_of shard kept.old false) request.id (asked request)) answer (state_of shard kept.new false) out.old out.new) }
+    ensures step { IfOk result (StartTaken plan.now shard kept.old kept.new out.old out.new request.id (asked request)) }
     ensures fits { OnOk result (AreGroupsOf plan.now kept.new.started.items) }
     ensures sound { OnOk result (IsConsistent kept.new) }
 {
@@ -47,19 +45,39 @@ pub(crate) fn take_start(
         return Ok(Handled::Ignored(reason));
     }
     match find_group(&kept.started, request.id, request.group) {
-        Some(earlier) => send_startok(alloc, shard, earlier, out)?,
-        None => {
-            let started = new_group(alloc, plan, shard, &kept.started, request)?;
-            send_startok(alloc, shard, &started, out)?;
-            kept.started.push(started)?;
+        Some(earlier) => {
+            send_startok(shard, earlier, out)?;
+            Ok(Handled::Done)
         }
+        None => start_new(alloc, plan, shard, kept, request, out),
     }
+}
+
+// Starts a group that is not here.
+fn start_new(
+    alloc: Global,
+    plan: &Plan,
+    shard: Shard,
+    kept: &mut Kept,
+    request: Request,
+    out: &mut Outbox,
+) -> Result<Handled, NoMemory>
+    requires call { IsCallOf plan.now (asked request) }
+    requires absent { find_group request.id request.group kept.old.started.items ≡ None }
+    requires fits { AreGroupsOf plan.now kept.old.started.items }
+    requires sound { IsConsistent kept.old }
+    ensures step { IfOk result (StartsNew plan.now shard kept.old kept.new out.old out.new request.id (asked request)) }
+    ensures fits { OnOk result (AreGroupsOf plan.now kept.new.started.items) }
+    ensures sound { OnOk result (IsConsistent kept.new) }
+{
+    let started = new_group(alloc, plan, shard, kept, request)?;
+    send_startok(shard, &started, out)?;
+    kept.started.push(started)?;
     Ok(Handled::Done)
 }
 
 // Why a start is ignored, where it is: the first reason that holds.
 fn start_fault(plan: &Plan, shard: Shard, kept: &Kept, request: &Request) -> Option<Reason>
-    requires within { IsWithin plan.now }
     ensures reason { result ≡ start_fault plan.now (state_of shard kept.now false) request.now.id (asked request.now) }
     ensures fits { result ≡ None → IsCallOf plan.now (asked request.now) }
 {
@@ -95,84 +113,18 @@ fn has_counts(plan: &Plan, proc: u16, group: u16, known: &Known) -> bool
         && known.inputs.len() == plan.inputs(proc, group).len()
 }
 
-// What is kept of a group that starts now.
-fn new_group(
-    alloc: Global,
-    plan: &Plan,
-    shard: Shard,
-    started: &[StartedGroup],
-    request: Request,
-) -> Result<StartedGroup, NoMemory>
-    requires within { IsWithin plan.now }
-    requires call { IsCallOf plan.now (asked request) }
-    ensures { IfOk result (λ e. (s : ServerState) → s.shard ≡ shard → s.started ≡ started.now → e ≡ new_group plan.now s request.id (asked request)) }
-{
-    let Request {
-        id,
-        proc,
-        group,
-        known,
-    } = request;
-    let cells = cells(alloc, plan, proc, group, &known)?;
-    let edges = edges_for(alloc, shard, started, id, cells.as_slice())?;
-    let Known { args, inputs } = known;
-    Ok(StartedGroup {
-        id,
-        proc,
-        group,
-        args,
-        inputs,
-        cells,
-        edges,
-        outs: None,
-    })
-}
-
-// The entries for each transaction that comes before: one list, rising by id.
-fn edges_for(
-    alloc: Global,
-    shard: Shard,
-    started: &[StartedGroup],
-    id: TxnId,
-    cells: &[Access],
-) -> Result<Edges, NoMemory>
-    ensures { IfOk result (λ edges. edges ≡ edges_for shard id cells.now started.now) }
-{
-    let mut met = Vec::new(alloc);
-    for e in started {
-        if is_predecessor(e, id, cells) {
-            met.push(Edge::new(e.id, false, true, shard))?;
-        }
-    }
-    let mut edges = Edges::new(alloc);
-    edges.unite(&met)?;
-    Ok(edges)
-}
-
-// Whether a group is of another transaction and conflicts with one that uses these cells.
-fn is_predecessor(e: &StartedGroup, id: TxnId, cells: &[Access]) -> bool
-    ensures { result ≡ is_predecessor id cells.now e.now }
-{
-    e.id != id && conflict(e.cells.as_slice(), cells)
-}
-
-// Tells a group's coordinator that it has started, and what comes before.
-fn send_startok(
-    alloc: Global,
-    shard: Shard,
-    e: &StartedGroup,
-    out: &mut Outbox,
-) -> Result<(), NoMemory>
+// Tells a group's coordinator that it has started, what it gave, and what comes before.
+fn send_startok(shard: Shard, e: &StartedGroup, out: &mut Outbox) -> Result<(), NoMemory>
     ensures { OnOk result (out.new ≡ record out.old { messages = out.old.messages ++ startok_of shard e.now ∷ [] }) }
 {
     let startok = Msg::StartOk {
         id: e.id,
         group: e.group,
         shard,
-        bound: Nums::new(alloc),
-        outs: Nums::new(alloc),
+        bound: e.bound.clone()?,
+        outs: e.outs.clone()?,
         edges: e.edges.clone()?,
-        facts: Facts::new(alloc),
+        facts: e.facts.clone()?,
     };
     out.send(Node::Coord(e.id.coord), startok)
 }

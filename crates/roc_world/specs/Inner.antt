@@ -1,4 +1,4 @@
 -- What stands here is of private functions alone
-pub mod Nodes
+pub mod Messages
 pub mod Parts
-pub mod Receivers
+pub mod Nodes

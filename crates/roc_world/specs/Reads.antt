@@ -5,7 +5,7 @@ use Rattle.roc_base.specs.declared.id.TxnId.{TxnId}
 use Rattle.roc_rows.specs.declared.cell.Cell.{Cell}
 use Rattle.roc_rows.specs.Store.{entries}
 use Rattle.roc_coord.specs.Ids.{ids_of}
-use Rattle.roc_world.specs.World.{World}
+use Rattle.roc_protocol.specs.World.{World}
 
 -- the cells that are not 0, shard by shard
 abbrev pub cells_of : World → List (Cell × ℤ)

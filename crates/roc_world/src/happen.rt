@@ -1,22 +1,21 @@
 //! What an event does, over the fields of a world.
-ghost use Rattle.std.specs.Prelude.{◌≡◌, ◌<◌, ◌++◌, length, IfOk, OnOk};
+ghost use Rattle.std.specs.Prelude.{◌≡◌, ◌++◌, IfOk, OnOk};
 ghost use Rattle.roc_base.specs.declared.node.Node.TheVariants as node;
-ghost use Rattle.roc_plan.specs.Within.{IsWithin};
-ghost use Rattle.roc_world.specs.declared.event.Event.TheVariants as event;
-ghost use Rattle.roc_world.specs.Fits.{FitsWorld};
-ghost use Rattle.roc_world.specs.Happens.{Comes, Happens, coord_seen, server_seen, answer_entries};
-ghost use Rattle.roc_world.specs.Inner.Parts.{world_of};
-ghost use Rattle.roc_world.specs.Reached.{IsEventOf};
-ghost use Rattle.roc_world.specs.Inner.Receivers.{HaveReceivers};
+ghost use Rattle.roc_audit.specs.Order.{noted};
+ghost use Rattle.roc_protocol.specs.declared.event.Event.TheVariants as event;
+ghost use Rattle.roc_protocol.specs.Fits.{FitsWorld};
+ghost use Rattle.roc_protocol.specs.Happens.{coord_seen, server_seen, answer_entries};
+ghost use Rattle.roc_protocol.specs.Run.{IsEventOf};
+ghost use Rattle.roc_protocol.specs.World.{sends};
+ghost use Rattle.roc_world.specs.Inner.Parts.{world_of, Leads};
 
-use crate::network::{add_sent, message, note_delivery};
-use crate::nodes::{handle_at_coord, handle_at_server, submit_at};
+use crate::nodes::{handle_at_coord, handle_at_server, submit_at, tick_coord, tick_server};
 use crate::parts::Parts;
 use crate::{Event, Seen};
 use roc_audit::Entry;
 use roc_base::{NoMemory, Node, Nums, Shard};
 use roc_coord::{Handled as CoordHandled, SubmitFault};
-use roc_msg::{Msg, Outbox};
+use roc_msg::Outbox;
 use roc_plan::Plan;
 use roc_sequence::Sequence;
 use roc_server::Handled as ServerHandled;
@@ -29,17 +28,14 @@ pub(crate) fn happen(
     parts: &mut Parts,
     event: &Event,
 ) -> Result<Seen, NoMemory>
-    requires within { IsWithin plan.now }
     requires fits { FitsWorld plan.now (world_of parts.old) }
-    requires receivers { HaveReceivers (world_of parts.old) }
     requires event { IsEventOf plan.now (world_of parts.old) event.now }
-    ensures step { IfOk result (λ seen. Happens plan.now (world_of parts.old) event.now (record { seen = seen; world = world_of parts.new })) }
-    ensures fits { OnOk result (FitsWorld plan.now (world_of parts.new)) }
-    ensures coords { OnOk result (length parts.new.coords.items ≡ length parts.old.coords.items) }
+    ensures { IfOk result (λ seen. Leads plan.now (world_of parts.old) event.now seen (world_of parts.new)) }
 {
     match event {
         Event::Submit { coord, proc, args } => submit(alloc, plan, parts, *coord, *proc, args),
         Event::Deliver(number) => deliver(alloc, plan, parts, *number),
+        Event::Tick(node) => tick(alloc, plan, parts, *node),
     }
 }
 
@@ -52,12 +48,9 @@ fn submit(
     proc: u16,
     args: &Nums,
 ) -> Result<Seen, NoMemory>
-    requires within { IsWithin plan.now }
     requires fits { FitsWorld plan.now (world_of parts.old) }
     requires event { IsEventOf plan.now (world_of parts.old) (event.Submit coord proc args.now) }
-    ensures step { IfOk result (λ seen. Happens plan.now (world_of parts.old) (event.Submit coord proc args.now) (record { seen = seen; world = world_of parts.new })) }
-    ensures fits { OnOk result (FitsWorld plan.now (world_of parts.new)) }
-    ensures coords { OnOk result (length parts.new.coords.items ≡ length parts.old.coords.items) }
+    ensures { IfOk result (λ seen. Leads plan.now (world_of parts.old) (event.Submit coord proc args.now) seen (world_of parts.new)) }
 {
     let mut out = Outbox::new(alloc);
     match submit_at(
@@ -69,11 +62,7 @@ fn submit(
         &mut out,
     ) {
         Ok(id) => {
-            add_sent(
-                &mut parts.network,
-                Node::Coord(coord),
-                out.messages.as_slice(),
-            )?;
+            parts.network.add(Node::Coord(coord), out.messages)?;
             let args = args.clone()?;
             parts.history.push(Entry::Submitted { id, proc, args })?;
             Ok(Seen::Submitted(id))
@@ -88,79 +77,58 @@ fn submit(
 
 // A message comes to its receiver.
 fn deliver(alloc: Global, plan: &Plan, parts: &mut Parts, number: u64) -> Result<Seen, NoMemory>
-    requires within { IsWithin plan.now }
     requires fits { FitsWorld plan.now (world_of parts.old) }
-    requires receivers { HaveReceivers (world_of parts.old) }
     requires event { IsEventOf plan.now (world_of parts.old) (event.Deliver number) }
-    ensures step { IfOk result (λ seen. Happens plan.now (world_of parts.old) (event.Deliver number) (record { seen = seen; world = world_of parts.new })) }
-    ensures fits { OnOk result (FitsWorld plan.now (world_of parts.new)) }
-    ensures coords { OnOk result (length parts.new.coords.items ≡ length parts.old.coords.items) }
+    ensures { IfOk result (λ seen. Leads plan.now (world_of parts.old) (event.Deliver number) seen (world_of parts.new)) }
 {
-    let sent = message(&parts.network, number)?;
+    let mut out = Outbox::new(alloc);
+    let sent = &parts.network.sent()[(number - 1) as usize];
     match sent.to {
-        Node::Server(shard) => come_to_server(alloc, plan, parts, number, shard, &sent.msg),
-        Node::Coord(coord) => come_to_coord(alloc, plan, parts, number, coord, &sent.msg),
+        Node::Server(shard) => {
+            let handled = handle_at_server(plan, &mut parts.servers, shard, &sent.msg, &mut out)?;
+            parts.network.note_delivery(number);
+            note_at_server(parts, shard, out)?;
+            Ok(server_seen(handled))
+        }
+        Node::Coord(coord) => {
+            let handled = handle_at_coord(plan, &mut parts.coords, coord, &sent.msg, &mut out)?;
+            parts.network.note_delivery(number);
+            parts.network.add(Node::Coord(coord), out.messages)?;
+            note_answer(&mut parts.history, &handled)?;
+            Ok(coord_seen(handled))
+        }
     }
 }
 
-// A message comes to the server of a shard.
-fn come_to_server(
-    alloc: Global,
-    plan: &Plan,
-    parts: &mut Parts,
-    number: u64,
-    shard: Shard,
-    msg: &Msg,
-) -> Result<Seen, NoMemory>
-    requires within { IsWithin plan.now }
+// Time has passed for a node.
+fn tick(alloc: Global, plan: &Plan, parts: &mut Parts, node: Node) -> Result<Seen, NoMemory>
     requires fits { FitsWorld plan.now (world_of parts.old) }
-    requires exists { shard.0 < length parts.old.servers.items }
-    ensures step { IfOk result (λ seen. Comes plan.now (world_of parts.old) number msg.now (node.Server shard) (record { seen = seen; world = world_of parts.new })) }
-    ensures fits { OnOk result (FitsWorld plan.now (world_of parts.new)) }
-    ensures coords { OnOk result (length parts.new.coords.items ≡ length parts.old.coords.items) }
+    requires event { IsEventOf plan.now (world_of parts.old) (event.Tick node) }
+    ensures { IfOk result (λ seen. Leads plan.now (world_of parts.old) (event.Tick node) seen (world_of parts.new)) }
 {
     let mut out = Outbox::new(alloc);
-    let Ok(handled) = handle_at_server(plan, &mut parts.servers, shard, msg, &mut out) else {
-        return Err(NoMemory);
-    };
-    note_delivery(alloc, &mut parts.network, number)?;
-    add_sent(
-        &mut parts.network,
-        Node::Server(shard),
-        out.messages.as_slice(),
-    )?;
-    parts.order.note(out.decided.as_slice())?;
-    Ok(server_seen(handled))
+    match node {
+        Node::Server(shard) => {
+            tick_server(&mut parts.servers, shard, &mut out)?;
+            parts.network.add(Node::Server(shard), out.messages)?;
+            Ok(Seen::Done)
+        }
+        Node::Coord(coord) => {
+            tick_coord(plan, &mut parts.coords, coord, &mut out)?;
+            parts.network.add(Node::Coord(coord), out.messages)?;
+            Ok(Seen::Done)
+        }
+    }
 }
 
-// A message comes to a coordinator.
-fn come_to_coord(
-    alloc: Global,
-    plan: &Plan,
-    parts: &mut Parts,
-    number: u64,
-    coord: u16,
-    msg: &Msg,
-) -> Result<Seen, NoMemory>
-    requires within { IsWithin plan.now }
-    requires fits { FitsWorld plan.now (world_of parts.old) }
-    requires exists { coord < length parts.old.coords.items }
-    ensures step { IfOk result (λ seen. Comes plan.now (world_of parts.old) number msg.now (node.Coord coord) (record { seen = seen; world = world_of parts.new })) }
-    ensures fits { OnOk result (FitsWorld plan.now (world_of parts.new)) }
-    ensures coords { OnOk result (length parts.new.coords.items ≡ length parts.old.coords.items) }
+// What a server gives goes into the network and the order.
+fn note_at_server(parts: &mut Parts, shard: Shard, out: Outbox) -> Result<(), NoMemory>
+    ensures { OnOk result (world_of parts.new ≡ record (sends (world_of parts.old) (node.Server shard) out.messages) { order = noted parts.old.order out.decided }) }
 {
-    let mut out = Outbox::new(alloc);
-    let Ok(handled) = handle_at_coord(plan, &mut parts.coords, coord, msg, &mut out) else {
-        return Err(NoMemory);
-    };
-    note_delivery(alloc, &mut parts.network, number)?;
-    add_sent(
-        &mut parts.network,
-        Node::Coord(coord),
-        out.messages.as_slice(),
-    )?;
-    note_answer(&mut parts.history, &handled)?;
-    Ok(coord_seen(handled))
+    let Outbox { messages, decided } = out;
+    parts.network.add(Node::Server(shard), messages)?;
+    parts.order.note(decided.as_slice())?;
+    Ok(())
 }
 
 // What is seen of a server that handled a message.

@@ -1,25 +1,24 @@
-//! The servers and the coordinators, of which one takes what comes.
-ghost use Rattle.std.specs.Prelude.{◌≡◌, ◌<◌, length, map, IfOk};
+//! The servers and the coordinators, of which one takes what comes. A node that stopped, now or before, is answered as want of memory:
+//! a node stops only where it found none, and no world that did is kept.
+ghost use Rattle.std.specs.Prelude.{◌≡◌, ◌<◌, length, map, IfOk, OnOk};
 ghost use Rattle.std.specs.List.{AllByRecursion, range_with_len};
-ghost use Rattle.roc_plan.specs.Within.{IsWithin};
 ghost use Rattle.roc_server.specs.First.{first_server};
 ghost use Rattle.roc_server.specs.Fits.{ServerFits};
 ghost use Rattle.roc_coord.specs.State.{first_coord};
 ghost use Rattle.roc_coord.specs.Fits.{CoordFits};
 ghost use Rattle.roc_coord.specs.Submit.{UnlessStopped};
-ghost use Rattle.roc_world.specs.Inner.Nodes.{ServerTakes, CoordTakes, CoordSubmits};
+ghost use Rattle.roc_world.specs.Inner.Nodes.{ServerTakes, CoordTakes, CoordSubmits, ServerTicks, CoordTicks};
 
 use roc_base::{NoMemory, Shard, TxnId};
 use roc_coord::{Coord, Handled as CoordHandled, SubmitFault};
-use roc_msg::{Msg, NodeFault, Outbox};
+use roc_msg::{Msg, Outbox};
 use roc_plan::Plan;
 use roc_server::{Handled as ServerHandled, Server};
 use std::alloc::{AllocError, Global};
 
 /// The servers of the first shards, before any message.
 pub(crate) fn first_servers(alloc: Global, plan: &Plan, count: u8) -> Result<Vec<Server>, NoMemory>
-    ensures first { IfOk result (λ servers. servers.items ≡ map (λ n. first_server plan.now (record { 0 = n })) (range_with_len 0 count)) }
-    ensures fits { IfOk result (λ servers. AllByRecursion (ServerFits plan.now) servers.items) }
+    ensures { IfOk result (λ servers. servers.items ≡ map (λ n. first_server plan.now (record { 0 = n })) (range_with_len 0 count)) }
 {
     let mut servers = Vec::new(alloc);
     for number in 0..count {
@@ -39,40 +38,40 @@ pub(crate) fn first_coords(alloc: Global, count: u16) -> Result<Vec<Coord>, Allo
     Ok(coords)
 }
 
-/// A message comes to the server of a shard. `NoMemory` promises nothing of the servers.
+/// A message comes to the server of a shard.
 pub(crate) fn handle_at_server(
     plan: &Plan,
     servers: &mut Vec<Server>,
     shard: Shard,
     msg: &Msg,
     out: &mut Outbox,
-) -> Result<ServerHandled, NodeFault>
-    requires within { IsWithin plan.now }
+) -> Result<ServerHandled, NoMemory>
     requires exists { shard.0 < length servers.old.items }
     requires fits { AllByRecursion (ServerFits plan.now) servers.old.items }
-    ensures step { IfOk result (λ answer. ServerTakes plan.now shard.0 msg.now answer servers.old.items servers.new.items out.old out.new) }
-    ensures fits { AllByRecursion (ServerFits plan.now) servers.new.items }
-    ensures count { length servers.new.items ≡ length servers.old.items }
+    ensures { IfOk result (λ answer. ServerTakes plan.now shard.0 msg.now answer servers.old.items servers.new.items out.old out.new) }
 {
-    servers[shard.0 as usize].handle(plan, msg, out)
+    let Ok(handled) = servers[shard.0 as usize].handle(plan, msg, out) else {
+        return Err(NoMemory);
+    };
+    Ok(handled)
 }
 
-/// A message comes to a coordinator. `NoMemory` promises nothing of the coordinators.
+/// A message comes to a coordinator.
 pub(crate) fn handle_at_coord(
     plan: &Plan,
     coords: &mut Vec<Coord>,
     number: u16,
     msg: &Msg,
     out: &mut Outbox,
-) -> Result<CoordHandled, NodeFault>
-    requires within { IsWithin plan.now }
+) -> Result<CoordHandled, NoMemory>
     requires exists { number < length coords.old.items }
     requires fits { AllByRecursion (CoordFits plan.now) coords.old.items }
-    ensures step { IfOk result (λ answer. CoordTakes plan.now number msg.now answer coords.old.items coords.new.items out.old out.new) }
-    ensures fits { AllByRecursion (CoordFits plan.now) coords.new.items }
-    ensures count { length coords.new.items ≡ length coords.old.items }
+    ensures { IfOk result (λ answer. CoordTakes plan.now number msg.now answer coords.old.items coords.new.items out.old out.new) }
 {
-    coords[number as usize].handle(plan, msg, out)
+    let Ok(handled) = coords[number as usize].handle(plan, msg, out) else {
+        return Err(NoMemory);
+    };
+    Ok(handled)
 }
 
 /// A transaction is submitted at a coordinator.
@@ -84,12 +83,41 @@ pub(crate) fn submit_at(
     args: &[i64],
     out: &mut Outbox,
 ) -> Result<TxnId, SubmitFault>
-    requires within { IsWithin plan.now }
     requires exists { number < length coords.old.items }
     requires fits { AllByRecursion (CoordFits plan.now) coords.old.items }
-    ensures step { UnlessStopped result (CoordSubmits plan.now number proc args.now result coords.old.items coords.new.items out.old out.new) }
-    ensures fits { AllByRecursion (CoordFits plan.now) coords.new.items }
-    ensures count { length coords.new.items ≡ length coords.old.items }
+    ensures { UnlessStopped result (CoordSubmits plan.now number proc args.now result coords.old.items coords.new.items out.old out.new) }
 {
     coords[number as usize].submit(plan, proc, args, out)
+}
+
+/// Time has passed for the server of a shard.
+pub(crate) fn tick_server(
+    servers: &mut Vec<Server>,
+    shard: Shard,
+    out: &mut Outbox,
+) -> Result<(), NoMemory>
+    requires exists { shard.0 < length servers.old.items }
+    ensures { OnOk result (ServerTicks shard.0 servers.old.items servers.new.items out.old out.new) }
+{
+    let Ok(()) = servers[shard.0 as usize].tick(out) else {
+        return Err(NoMemory);
+    };
+    Ok(())
+}
+
+/// Time has passed for a coordinator.
+pub(crate) fn tick_coord(
+    plan: &Plan,
+    coords: &mut Vec<Coord>,
+    number: u16,
+    out: &mut Outbox,
+) -> Result<(), NoMemory>
+    requires exists { number < length coords.old.items }
+    requires fits { AllByRecursion (CoordFits plan.now) coords.old.items }
+    ensures { OnOk result (CoordTicks plan.now number coords.old.items coords.new.items out.old out.new) }
+{
+    let Ok(()) = coords[number as usize].tick(plan, out) else {
+        return Err(NoMemory);
+    };
+    Ok(())
 }

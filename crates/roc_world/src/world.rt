@@ -1,21 +1,21 @@
 //! The world.
-ghost use Rattle.std.specs.Prelude.{◌≡◌, ◌≤◌, [], length, IfOk, OnOk};
-ghost use Rattle.roc_plan.specs.Within.{IsWithin};
-ghost use Rattle.roc_world.specs.Fits.{FitsWorld};
-ghost use Rattle.roc_world.specs.Happens.{Happens};
-ghost use Rattle.roc_world.specs.Reached.{IsReached, IsEventOf};
+ghost use Rattle.std.specs.Prelude.{◌≡◌, ◌≤◌, List, length, IfOk, OnOk};
+ghost use Rattle.roc_base.specs.declared.id.TxnId.{TxnId};
+ghost use Rattle.roc_protocol.specs.Fits.{FitsWorld};
+ghost use Rattle.roc_protocol.specs.Happens.{Happens};
+ghost use Rattle.roc_protocol.specs.Run.{IsEventOf};
+ghost use Rattle.roc_protocol.specs.World.{first_world};
 ghost use Rattle.roc_world.specs.Reads.{cells_of, unanswered_of};
-ghost use Rattle.roc_world.specs.World.{first_world};
 
 use crate::happen::happen;
-use crate::network::empty_network;
+use crate::network::Network;
 use crate::nodes::{first_coords, first_servers};
 use crate::parts::Parts;
 use crate::reads::{cells_of, unanswered_of};
 use crate::{Event, Seen};
 use roc_audit::{Entry, Order};
 use roc_base::{NoMemory, TxnId};
-use roc_msg::{NodeFault, Sent};
+use roc_msg::Sent;
 use roc_plan::Plan;
 use roc_rows::Cell;
 use roc_sequence::Sequence;
@@ -32,7 +32,7 @@ pub struct World {
 impl Model for World {
     ghost use Rattle.std.specs.Coded.{codes};
     ghost use Rattle.roc_server.specs.Inner.Codes.{coded_state};
-    ghost use Rattle.roc_world.specs.World.{World};
+    ghost use Rattle.roc_protocol.specs.World.{World};
 
     ghost Value = { World };
 
@@ -47,9 +47,8 @@ impl World {
     /// The first world of a plan with coordinators of the first numbers: each server holds the
     /// start cells of its places, and nothing was sent.
     pub fn new(alloc: Global, plan: &Plan, coords: u16) -> Result<World, NoMemory>
-        requires { coords ≤ 16 }
+        requires few { coords ≤ 16 }
         ensures first { IfOk result (λ world. world ≡ first_world plan.now coords) }
-        ensures reached { IfOk result (IsReached plan.now) }
         ensures fits { IfOk result (FitsWorld plan.now) }
     {
         let servers = first_servers(alloc, plan, plan.workload().shards())?;
@@ -59,57 +58,39 @@ impl World {
             parts: Parts {
                 servers,
                 coords,
-                network: empty_network(alloc),
+                network: Network::new(alloc),
                 history: Sequence::new(alloc),
                 order: Order::new(alloc),
             },
         })
     }
 
-    /// An event happens. Takes a world of a run: one that a call left without a fault. `NoMemory`
-    /// leaves a world that is to be thrown away: nothing is promised of it but that it has no
-    /// servers, so that it is of no run, and each later call answers `Stopped`.
-    pub fn step(&mut self, plan: &Plan, event: &Event) -> Result<Seen, NodeFault>
-        requires within { IsWithin plan.now }
-        requires reached { IsReached plan.now self.old }
+    /// An event happens: one node takes a submission, a message of the network or a tick, and what it sends goes into the network.
+    /// `NoMemory` may leave a part of it done, so that the world is to be thrown away: nothing is promised of it.
+    pub fn step(&mut self, plan: &Plan, event: &Event) -> Result<Seen, NoMemory>
         requires fits { FitsWorld plan.now self.old }
         requires event { IsEventOf plan.now self.old event.now }
 
-        // The step that the definitions fix.
-        ensures step { IfOk result (λ seen. Happens plan.now self.old event.now (record { seen = seen; world = self.new })) }
-        ensures reached { OnOk result (IsReached plan.now self.new) }
+        // The step that the definitions fix, with what it newly decides.
+        ensures step { IfOk result (λ seen. (decided : List TxnId) × Happens plan.now self.old event.now (record { seen = seen; decided = decided; world = self.new })) }
         ensures fits { OnOk result (FitsWorld plan.now self.new) }
         ensures coords { OnOk result (length self.new.coords ≡ length self.old.coords) }
-
-        // A world of a run is not stopped.
-        ensures going { result ≡ Err NodeFault.Stopped → ⊥ }
-        ensures no_memory { result ≡ Err NodeFault.NoMemory → self.new.servers ≡ [] }
     {
-        if self.parts.servers.is_empty() {
-            return Err(NodeFault::Stopped);
-        }
-        match happen(self.alloc, plan, &mut self.parts, event) {
-            Ok(seen) => Ok(seen),
-            Err(NoMemory) => {
-                // A part may be done and another not, so nothing is kept.
-                self.parts.servers.clear();
-                Err(NodeFault::NoMemory)
-            }
-        }
+        happen(self.alloc, plan, &mut self.parts, event)
     }
 
     /// Every message ever sent; the first has number 1. Takes no memory.
     pub fn sent(&self) -> &[Sent]
         ensures { result.now ≡ self.now.sent }
     {
-        self.parts.network.sent.as_slice()
+        self.parts.network.sent()
     }
 
     /// The numbers of the messages that were never delivered, rising. Takes no memory.
     pub fn undelivered(&self) -> &[u64]
         ensures { result.now ≡ self.now.undelivered }
     {
-        self.parts.network.undelivered.as_slice()
+        self.parts.network.undelivered()
     }
 
     /// The accepted submissions and the answers, in the order in which they came. Takes no memory.

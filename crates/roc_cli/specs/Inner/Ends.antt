@@ -1,5 +1,5 @@
 -- How the work for some words ends, before it is told
-use Rattle.std.specs.Prelude.{◌≡◌, ◌⊎◌, ℕ, Bool, false, List, [], ◌∷◌, Option, Result, Ok, Err, codes}
+use Rattle.std.specs.Prelude.{◌≡◌, ◌⊎◌, ℕ, Bool, false, List, [], ◌∷◌, Option, Result, Ok, Err}
 use Rattle.roc_io.specs.Told.{Adds, AddsFront}
 use Rattle.roc_lang.specs.Syntax.{Tree}
 use Rattle.roc_lang.specs.FaultText.{what_text}
@@ -7,13 +7,13 @@ use Rattle.roc_lang.specs.declared.fault.What.{What}
 use Rattle.roc_parse.specs.Fault.{IsWorkloadText, IsFirstFault}
 use Rattle.roc_print.specs.Canonical.{canonical}
 use Rattle.roc_plan.specs.Groups.{Plan}
-use Rattle.roc_replay.specs.declared.asked.Asked.{Asked}
-use Rattle.roc_replay.specs.Thin.{IsThinSchedule}
+use Rattle.roc_sched.specs.declared.fault.What.{What as ScheduleWhat}
+use Rattle.roc_sched.specs.FaultText.{what_text as schedule_text}
 use Rattle.roc_replay.specs.declared.ended.Summary.{Summary}
-use Rattle.roc_replay.specs.Ended.{IsReplayed, IsUnsent, IsCut, IsUnfinished}
+use Rattle.roc_replay.specs.Ended.{IsReplayed, IsTextFault, IsCut, IsUnfinished}
 use Rattle.roc_cli.specs.declared.fault.Fault.{Fault}
 use Rattle.roc_cli.specs.declared.fault.Fault.TheVariants.{Words, At, Rejected, Memory, File, Sink}
-use Rattle.roc_cli.specs.Call.{Call, TakesNothing}
+use Rattle.roc_cli.specs.Call.{RunCall, TakesNothing}
 use Rattle.roc_cli.specs.Words.{AreCommandWords}
 use Rattle.roc_cli.specs.Done.{Replays, Prints, Checks, Rejects, check_text}
 use Rattle.roc_cli.specs.Refused.{IsRefused}
@@ -34,7 +34,7 @@ PrintEnds bytes name old new _ = ⊥
 abbrev pub ReplayEnds : Plan → (bytes name : List ℕ) → (old new : Option (List ℕ)) → Result Unit Fault → Type 0
 ReplayEnds plan bytes name old new (Ok done) = (summary : Summary) × IsReplayed plan bytes summary old new
 ReplayEnds plan bytes name old new (Err (At file line what)) =
-    (file.now ≡ name) × (((line ≡ 1) × (what.now ≡ codes "limit") × ((events : List Asked) → IsThinSchedule plan.program bytes events → ⊥) × (new ≡ old)) ⊎ ((what.now ≡ codes "message") × IsUnsent plan bytes line old new))
+    (file.now ≡ name) × ((w : ScheduleWhat) × (what.now ≡ schedule_text w) × IsTextFault plan bytes line w old new)
 ReplayEnds plan bytes name old new (Err Memory) = IsUnfinished plan bytes old new
 ReplayEnds plan bytes name old new (Err Sink) = IsCut plan bytes old new
 ReplayEnds plan bytes name old new _ = ⊥
@@ -49,7 +49,7 @@ CheckEnds plan old new _ = ⊥
 -- ---- any command
 
 -- what each fault means
-abbrev pub Fails : Call → Fault → Type 0
+abbrev pub Fails : RunCall → Fault → Type 0
 Fails call Rejected = Rejects call
 Fails call Words = (AreCommandWords call.words → ⊥) × TakesNothing call
 Fails call Memory = RunsOut call
@@ -57,7 +57,7 @@ Fails call (File file) = IsUnread call file.now
 Fails call Sink = CutsOutput call
 Fails call fault = IsRefused call (line_of fault)
 
-abbrev pub Ends : Call → Result Unit Fault → Type 0
+abbrev pub Ends : RunCall → Result Unit Fault → Type 0
 Ends call (Ok done) = Replays call ⊎ (Prints call ⊎ Checks call)
 Ends call (Err fault) = Fails call fault
 

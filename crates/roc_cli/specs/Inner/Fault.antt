@@ -2,7 +2,7 @@
 use Rattle.std.specs.Prelude.{◌≡◌, ◌⊎◌, ℕ, Bool, true, false, List, [], codes}
 use Rattle.roc_scope.specs.FaultText.{what_text}
 use Rattle.roc_cli.specs.declared.fault.Fault.{Fault}
-use Rattle.roc_cli.specs.declared.fault.Fault.TheVariants.{Words, TooLong, At, Scope, Rejected, OutOfReach, Memory, File, Sink}
+use Rattle.roc_cli.specs.declared.fault.Fault.TheVariants.{Words, TooLong, At, Scope, Rejected, Memory, File, Sink}
 use Rattle.roc_cli.specs.Call.{Errors}
 use Rattle.roc_cli.specs.Says.{word_line, long_line, fault_line, file_line, Says}
 
@@ -13,7 +13,6 @@ line_of (TooLong file) = long_line file.now
 line_of (At file line what) = fault_line file.now line what.now
 line_of (Scope file line what) = fault_line file.now line (what_text what)
 line_of Rejected = []
-line_of (OutOfReach file) = fault_line file.now 1 (codes "limit")
 line_of Memory = word_line (codes "memory")
 line_of (File file) = file_line file.now
 line_of Sink = word_line (codes "sink")

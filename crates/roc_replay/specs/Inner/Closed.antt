@@ -2,11 +2,13 @@
 use Rattle.std.specs.Prelude.{◌≡◌, ℕ, nat_lt, Bool, false, List, Option}
 use Rattle.roc_io.specs.Told.{Adds, AddsFront}
 use Rattle.roc_program.specs.Program.{Workload}
-use Rattle.roc_world.specs.World.{World}
-use Rattle.roc_world.specs.declared.event.Event.{Event}
-use Rattle.roc_world.specs.declared.event.Event.TheVariants as event
+use Rattle.roc_protocol.specs.World.{World}
+use Rattle.roc_protocol.specs.declared.event.Event.{Event}
+use Rattle.roc_protocol.specs.declared.event.Event.TheVariants as event
 use Rattle.roc_report.specs.Line.{End}
 use Rattle.roc_report.specs.Text.{lines_text}
+use Rattle.roc_replay.specs.declared.asked.Wanted.{Wanted}
+use Rattle.roc_replay.specs.declared.asked.Wanted.TheVariants as wanted
 use Rattle.roc_replay.specs.declared.ended.Ended.{Ended}
 use Rattle.roc_replay.specs.declared.ended.Ended.TheVariants.{Done, Text, SinkFault, NoMemory}
 use Rattle.roc_replay.specs.Report.{end_line, closing_lines}
@@ -22,3 +24,9 @@ IsClosed program w busy (Text line what) old new = ⊥
 abbrev pub asks_unsent : Event → ℕ → Bool
 asks_unsent (event.Deliver number) sent = nat_lt sent number
 asks_unsent (event.Submit coord proc args) sent = false
+asks_unsent (event.Tick node) sent = false
+
+-- the same of what a line asks for: a choice takes only what was sent
+abbrev pub wants_unsent : Wanted → ℕ → Bool
+wants_unsent (wanted.Event e) sent = asks_unsent e sent
+wants_unsent (wanted.Any place) sent = false

@@ -10,7 +10,9 @@ use Rattle.roc_rows.specs.Store.{Store}
 use Rattle.roc_rows.specs.Inner.Kept.{coded_store}
 use Rattle.roc_group.specs.declared.access.Access.{Access}
 use Rattle.roc_server.specs.declared.started.StartedGroup.{StartedGroup}
-use Rattle.roc_server.specs.State.{ServerState}
+use Rattle.roc_await.specs.declared.waits.Asked.{Asked}
+use Rattle.roc_await.specs.declared.waits.Asker.{Asker}
+use Rattle.roc_server.specs.State.{Lists, ServerState}
 
 abbrev coded_txn : Coded TxnId
 coded_txn = code_by (ℕ × ℕ) (coded× coded_ℕ coded_ℕ) (λ t. (t.coord, t.seq)) (λ p. record { coord = p.0; seq = p.1 }) (λ _. refl)
@@ -26,19 +28,49 @@ coded_known = code_by (TxnId × List Dependency) (coded× coded_txn (coded_list 
 abbrev coded_access : Coded Access
 coded_access = code_by (Cell × Bool) (coded× coded_cell coded_bool) (λ a. (a.cell, a.writes)) (λ p. record { cell = p.0; writes = p.1 }) (λ _. refl)
 
+abbrev Told_parts : Type 0
+Told_parts = List ℤ × (List ℤ × (List Dependency × (List KnownList × Option (List ℤ))))
+
 abbrev Group_parts : Type 0
-Group_parts = TxnId × (ℕ × (ℕ × (List ℤ × (List ℤ × (List Access × (List Dependency × Option (List ℤ)))))))
+Group_parts = TxnId × (ℕ × (ℕ × (List ℤ × (List ℤ × (List Access × Told_parts)))))
+
+abbrev coded_told : Coded Told_parts
+coded_told = coded× (coded_list coded_ℤ) (coded× (coded_list coded_ℤ) (coded× (coded_list coded_dependency) (coded× (coded_list coded_known) (coded_option (coded_list coded_ℤ)))))
 
 abbrev coded_group : Coded StartedGroup
 coded_group =
     code_by Group_parts
-    (coded× coded_txn (coded× coded_ℕ (coded× coded_ℕ (coded× (coded_list coded_ℤ) (coded× (coded_list coded_ℤ) (coded× (coded_list coded_access) (coded× (coded_list coded_dependency) (coded_option (coded_list coded_ℤ)))))))))
-    (λ e. (e.id, (e.proc, (e.group, (e.args, (e.inputs, (e.cells, (e.edges, e.outs))))))))
-    (λ p. record { id = p.0; proc = p.1.0; group = p.1.1.0; args = p.1.1.1.0; inputs = p.1.1.1.1.0; cells = p.1.1.1.1.1.0; edges = p.1.1.1.1.1.1.0; outs = p.1.1.1.1.1.1.1 })
+    (coded× coded_txn (coded× coded_ℕ (coded× coded_ℕ (coded× (coded_list coded_ℤ) (coded× (coded_list coded_ℤ) (coded× (coded_list coded_access) coded_told))))))
+    (λ e. (e.id, (e.proc, (e.group, (e.args, (e.inputs, (e.cells, (e.bound, (e.outs, (e.edges, (e.facts, e.later)))))))))))
+    (λ p. record {
+      id = p.0;
+      proc = p.1.0;
+      group = p.1.1.0;
+      args = p.1.1.1.0;
+      inputs = p.1.1.1.1.0;
+      cells = p.1.1.1.1.1.0;
+      bound = p.1.1.1.1.1.1.0;
+      outs = p.1.1.1.1.1.1.1.0;
+      edges = p.1.1.1.1.1.1.1.1.0;
+      facts = p.1.1.1.1.1.1.1.1.1.0;
+      later = p.1.1.1.1.1.1.1.1.1.1;
+    })
     (λ _. refl)
+
+abbrev coded_asked : Coded Asked
+coded_asked = code_by (TxnId × ℕ) (coded× coded_txn coded_ℕ) (λ a. (a.id, a.at.0)) (λ p. record { id = p.0; at = record { 0 = p.1 } }) (λ _. refl)
+
+abbrev coded_asker : Coded Asker
+coded_asker = code_by (TxnId × ℕ) (coded× coded_txn coded_ℕ) (λ a. (a.id, a.shard.0)) (λ p. record { id = p.0; shard = record { 0 = p.1 } }) (λ _. refl)
+
+abbrev coded_lists : Coded Lists
+coded_lists =
+    code_by (List KnownList × (List Asked × List Asker)) (coded× (coded_list coded_known) (coded× (coded_list coded_asked) (coded_list coded_asker)))
+    (λ l. (l.known, (l.waiting.asked, l.waiting.askers)))
+    (λ p. record { known = p.0; waiting = record { asked = p.1.0; askers = p.1.1 } }) (λ _. refl)
 
 abbrev pub coded_state : Coded ServerState
 coded_state =
-    code_by (ℕ × (Store × (List StartedGroup × (List KnownList × Bool)))) (coded× coded_ℕ (coded× coded_store (coded× (coded_list coded_group) (coded× (coded_list coded_known) coded_bool))))
-    (λ s. (s.shard.0, (s.store, (s.started, (s.known, s.stopped)))))
-    (λ p. record { shard = record { 0 = p.0 }; store = p.1.0; started = p.1.1.0; known = p.1.1.1.0; stopped = p.1.1.1.1 }) (λ _. refl)
+    code_by (ℕ × (Store × (List StartedGroup × (Lists × Bool)))) (coded× coded_ℕ (coded× coded_store (coded× (coded_list coded_group) (coded× coded_lists coded_bool))))
+    (λ s. (s.shard.0, (s.store, (s.started, (s.lists, s.stopped)))))
+    (λ p. record { shard = record { 0 = p.0 }; store = p.1.0; started = p.1.1.0; lists = p.1.1.1.0; stopped = p.1.1.1.1 }) (λ _. refl)

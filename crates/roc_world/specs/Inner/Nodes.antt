@@ -1,17 +1,18 @@
 -- What comes of an event at one of many nodes
-use Rattle.std.specs.Prelude.{◌≡◌, ℕ, ℤ, List, Some, Result, slice_get, slice_set}
+use Rattle.std.specs.Prelude.{◌≡◌, ℕ, ℤ, List, ◌++◌, Some, Result, slice_get, slice_set}
 use Rattle.roc_base.specs.declared.id.TxnId.{TxnId}
 use Rattle.roc_msg.specs.declared.msg.Msg.{Msg}
 use Rattle.roc_msg.specs.declared.outbox.Outbox.{Outbox}
 use Rattle.roc_plan.specs.Groups.{Plan}
 use Rattle.roc_server.specs.declared.handled.Handled.{Handled as ServerHandled}
 use Rattle.roc_server.specs.State.{ServerState, ServerStep}
-use Rattle.roc_server.specs.Step.{Handles, Shows}
+use Rattle.roc_server.specs.Step.{Handles, Shows, tick_sends as server_sends}
 use Rattle.roc_coord.specs.declared.handled.Handled.{Handled as CoordHandled}
 use Rattle.roc_coord.specs.declared.handled.SubmitFault.{SubmitFault}
 use Rattle.roc_coord.specs.State.{CoordState}
 use Rattle.roc_coord.specs.Step.{after_message, IsOutcome}
 use Rattle.roc_coord.specs.Submit.{after_submit, IsSubmitted}
+use Rattle.roc_coord.specs.Tick.{tick_sends as coord_sends}
 
 -- the server of a shard took a message, and no other changed
 pub record ServerTakes (plan : Plan) (shard : ℕ) (msg : Msg) (answer : ServerHandled) (old new : List ServerState) (before after : Outbox) : Type 0 where
@@ -35,3 +36,17 @@ pub record CoordSubmits (plan : Plan) (number proc : ℕ) (args : List ℤ) (ans
   pub there : slice_get old number ≡ Some coord
   pub submitted : IsSubmitted (after_submit plan coord proc args) answer (after_submit plan coord proc args).state before after
   pub others : new ≡ slice_set old number (after_submit plan coord proc args).state
+
+-- a tick of a server, which is written again as it was
+pub record ServerTicks (shard : ℕ) (old new : List ServerState) (before after : Outbox) : Type 0 where
+  pub server : ServerState
+  pub there : slice_get old shard ≡ Some server
+  pub sent : after ≡ record before { messages = before.messages ++ server_sends server }
+  pub others : new ≡ slice_set old shard server
+
+-- a tick of a coordinator, likewise
+pub record CoordTicks (plan : Plan) (number : ℕ) (old new : List CoordState) (before after : Outbox) : Type 0 where
+  pub coord : CoordState
+  pub there : slice_get old number ≡ Some coord
+  pub sent : after ≡ record before { messages = before.messages ++ coord_sends plan coord }
+  pub others : new ≡ slice_set old number coord

@@ -1,6 +1,16 @@
 -- What a world's fields hold, as the definitions see it
+use Rattle.std.specs.Prelude.{List}
+use Rattle.roc_base.specs.declared.id.TxnId.{TxnId}
+use Rattle.roc_plan.specs.Groups.{Plan}
+use Rattle.roc_protocol.specs.declared.event.Event.{Event}
+use Rattle.roc_protocol.specs.declared.event.Seen.{Seen}
+use Rattle.roc_protocol.specs.Happens.{Happens}
+use Rattle.roc_protocol.specs.World.{World}
 use Rattle.roc_world.specs.declared.parts.Parts.{Parts}
-use Rattle.roc_world.specs.World.{World}
 
 abbrev pub world_of : Parts → World
 world_of p = record { servers = p.servers.items; coords = p.coords.items; sent = p.network.sent; undelivered = p.network.undelivered; history = p.history; order = p.order }
+
+-- the event leads from the one world to the other, and this is seen of it
+abbrev pub Leads : Plan → World → Event → Seen → World → Type 0
+Leads plan w e seen after = (decided : List TxnId) × Happens plan w e (record { seen = seen; decided = decided; world = after })

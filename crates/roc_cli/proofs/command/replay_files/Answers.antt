@@ -7,7 +7,7 @@ use Rattle.roc_cli.proofs.command.replay_files.Goals as goal
 pub returns-in-Ok-clause-ends : goal.returns-in-Ok-clause-ends
 returns-in-Ok-clause-ends g c words given =
     behind words _ _ _ _ _ _ _ _ _ c.in-Ok.ensures.unchanged c.in-Ok.ensures.failed c.in-Ok.ensures.ends.1
-    (c.replay_schedule.ensures.ends words given (held_later _ _ _ c.in-Ok.plan (c.in-Ok.ensures.unchanged _) c.in-Ok.ensures.ends.0))
+    (c.replay_schedule.ensures.ends words _ given (held_later _ _ _ c.in-Ok.plan (c.in-Ok.ensures.unchanged _) c.in-Ok.ensures.ends.0))
 
 -- the workload
 pub returns-in-Err-clause-ends : goal.returns-in-Err-clause-ends

@@ -1,13 +1,15 @@
-use Rattle.std.proofs.Common.{sym, ◌∙◌}
-use Rattle.roc_replay.proofs.ThinSchedules.{one_thin}
-use Rattle.roc_replay.proofs.OneReport.{one_played, one_report}
+use Rattle.std.proofs.Common.{List, map, sym, ap, ◌∙◌}
+use Rattle.roc_replay.specs.declared.asked.Asked.{Asked}
+use Rattle.roc_replay.proofs.Schedules.{one_schedule}
+use Rattle.roc_replay.proofs.Playing.{one_played}
+use Rattle.roc_replay.proofs.OneReport.{one_report}
 use Rattle.roc_replay.proofs.laws.report_is_one.Goals as goal
 
 pub returns-clause-run : goal.returns-clause-run
-returns-clause-run c = one_played
+returns-clause-run c plan lines others steps same w v asks p q = one_played plan (c.step_is_one.ensures plan) p q asks
 
 pub returns-clause-schedules : goal.returns-clause-schedules
 returns-clause-schedules c plan some other lines of_some of_other s t o n p q r z =
-    let unique = one_thin c.lines_are_unique.ensures.schedules in
-    one_report plan some other s t o n p q r z
-    (unique plan.program some r.lines lines r.of_schedule of_some ∙ sym (unique plan.program other z.lines lines z.of_schedule of_other))
+    let one = one_schedule plan.program c.lines_are_unique.ensures.schedules in
+    let alike = one some r.lines lines r.of_schedule of_some ∙ sym (one other z.lines lines z.of_schedule of_other) in
+    one_report plan some other s t o n p q r z (one_played plan (c.step_is_one.ensures plan) r.played z.played (ap (λ (ls : List Asked). map (λ l. l.wanted) ls) alike))

@@ -1,10 +1,11 @@
 -- What is so far, goes on with each line, and what it comes to at each end.
 use Rattle.std.proofs.Common.{◌≡◌, ◌+◌, List, length, take, true, refl, subst, ◌∙◌}
+use Rattle.roc_sequence.proofs.Fronts.{front_more, front_whole}
 use Rattle.roc_io.specs.Told.{Adds, AddsFront}
+use Rattle.roc_program.specs.Program.{Workload}
 use Rattle.roc_replay.specs.declared.asked.Asked.{Asked}
-use Rattle.roc_replay.specs.Inner.Closed.{asks_unsent}
-use Rattle.roc_replay.proofs.Exits.{unsent_end, stopped_end, failed_end, closed_end, front_more, take_all}
-use Rattle.roc_replay.proofs.Rising.{cells_rise}
+use Rattle.roc_replay.specs.Inner.Closed.{IsClosed, wants_unsent}
+use Rattle.roc_replay.proofs.Exits.{unsent_end, stopped_end, failed_end, closed_end}
 use Rattle.roc_replay.proofs.SoFar.{IsSoFar, nothing_so_far, one_more}
 use Rattle.roc_replay.proofs.play.play.Goals as goal
 
@@ -13,8 +14,8 @@ loop-line-init g c = (refl, nothing_so_far c.args.plan.now c.in-Ok.world _ c.in-
 
 pub returns-then-is_unsent-clause-ends : goal.returns-then-is_unsent-clause-ends
 returns-then-is_unsent-clause-ends g c schedule of =
-    let asks : asks_unsent c.line-item.result.event (length c.loop-line.world.sent) ≡ true = cc in
-    unsent_end c.args.plan.now schedule c.args.lines.now of c.loop-line.line-index c.line-item.result c.loop-line.world c.loop-line.busy _ _ c.loop-line-test.true c.line-item.is c.loop-line.invariant.1 asks
+    let asks : wants_unsent c.line-item.result.wanted (length c.loop-line.world.sent) ≡ true = cc in
+    (refl, unsent_end c.args.plan.now schedule c.args.lines.now of c.loop-line.line-index c.line-item.result c.loop-line.world c.loop-line.busy _ _ c.loop-line-test.true c.line-item.is c.loop-line.invariant.1 asks)
 
 pub returns-in_default-play_line-clause-ends : goal.returns-in_default-play_line-clause-ends
 returns-in_default-play_line-clause-ends g c schedule of =
@@ -36,11 +37,9 @@ loop-line-preserved g c = (
       (subst (Adds (g.S.Sink.taken c.loop-line.sink) (g.S.Sink.taken c.write.new.self)) c.deref.ensures.value c.in_default-write.ensures.taken)),
 )
 
-pub close-requires : goal.close-requires
-close-requires g c = let so = c.loop-line.invariant.1 in cells_rise c.args.plan.now _ so.steps c.loop-line.world c.requires.within so.played.run
-
 pub returns-clause-ends : goal.returns-clause-ends
 returns-clause-ends g c schedule of =
-    closed_end c.args.plan.now schedule c.args.lines.now of c.requires.within c.loop-line.world c.loop-line.busy _ _ _
-    (subst (λ (lines : List Asked). IsSoFar c.args.plan.now lines c.loop-line.world c.loop-line.busy (g.S.Sink.taken c.args.sink.now) (g.S.Sink.taken c.loop-line.sink)) (take_all c.args.lines.now c.loop-line.line-index c.loop-line-test.false) c.loop-line.invariant.1)
-    c.close.result c.close.ensures.closed
+    let is_closed : Workload → Type 0 = λ program. IsClosed program c.loop-line.world c.loop-line.busy c.close.result (g.S.Sink.taken c.loop-line.sink) (g.S.Sink.taken c.close.new.sink) in
+    closed_end c.args.plan.now schedule c.args.lines.now of (λ coords steps w run. c.report_explains_itself.ensures c.args.plan.now coords steps w c.workload.ensures.accepted run) c.loop-line.world c.loop-line.busy _ _ _
+    (subst (λ (lines : List Asked). IsSoFar c.args.plan.now lines c.loop-line.world c.loop-line.busy (g.S.Sink.taken c.args.sink.now) (g.S.Sink.taken c.loop-line.sink)) (front_whole c.args.lines.now c.loop-line.line-index c.loop-line-test.false) c.loop-line.invariant.1)
+    c.close.result (subst is_closed c.workload.ensures.program c.close.ensures.closed)

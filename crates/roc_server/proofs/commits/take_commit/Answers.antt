@@ -1,65 +1,47 @@
-use Rattle.std.proofs.Common.{◌≡◌, List, ◌++◌, ◌∷◌, [], None, sym, subst, ap, ◌∙◌}
-use Rattle.roc_base.specs.declared.id.TxnId.{TxnId}
+use Rattle.std.proofs.Common.{◌++◌, ◌∷◌, [], List, sym, subst, ap, ◌∙◌}
+use Rattle.roc_sequence.specs.Places.{is_listed}
 use Rattle.roc_base.specs.TxnId.{is_txn}
-use Rattle.roc_depgraph.specs.declared.learnt.Learnt.{Learnt}
-use Rattle.roc_depgraph.specs.Deps.{list_of, learnt}
-use Rattle.roc_depgraph.specs.Learnt.{Learns}
-use Rattle.roc_sequence.specs.Places.{IsListed}
-use Rattle.roc_sequence.proofs.Places.{listed_true, listed_false}
-use Rattle.roc_server.specs.Commit.{commitok}
-use Rattle.roc_server.specs.State.{is_here}
-use Rattle.roc_server.proofs.Commit_steps.{taught_shown, taught_sound, again_shown, waits_shown, differs_shown, absent_shown}
+use Rattle.roc_depgraph.specs.declared.known.KnownList.{KnownList}
+use Rattle.roc_msg.specs.declared.outbox.Outbox.{Outbox}
+use Rattle.roc_server.specs.declared.started.StartedGroup.{StartedGroup}
+use Rattle.roc_server.specs.Fits.{AreGroupsOf}
+use Rattle.roc_server.specs.Inner.News.{AreLearnable}
+use Rattle.roc_server.specs.Runs.{commitok}
+use Rattle.roc_server.proofs.Commit_steps.{commit_ignored, commit_taught, commit_repeated}
+use Rattle.roc_server.proofs.Learnable.{carried_learnable}
 use Rattle.roc_server.proofs.Same_groups.{fits_same}
 use Rattle.roc_server.proofs.commits.take_commit.Goals as goal
-use Rattle.roc_server.proofs.commits.take_commit.Goals.{In_ok-take_new-in-New}
 
-pub returns-then-not-is_here-clause-step : goal.returns-then-not-is_here-clause-step
-returns-then-not-is_here-clause-step c =
-    absent_shown c.args.plan.now c.args.shard c.args.kept.now c.args.id c.args.edges.now c.args.out.now
-    (ap (is_here c.args.id) (sym c.deref.ensures.value) ∙ sym c.is_here.ensures ∙ c.if-not-is_here.true)
+pub returns-in-Some-clause-step : goal.returns-in-Some-clause-step
+returns-in-Some-clause-step c =
+    commit_ignored c.args.plan.now c.args.shard c.args.kept.now c.args.out.now c.args.id c.args.edges.now c.args.facts.now c.in-Some.reason (sym (c.commit_fault.ensures c.args.shard) ∙ c.in-Some.is)
 
-pub returns-in-Differs-clause-step : goal.returns-in-Differs-clause-step
-returns-in-Differs-clause-step c =
-    let L : Learnt → Type 0 = λ answer. Learns c.args.id c.args.edges.now c.args.kept.now.deps answer c.learn.new.self in
-    let l = subst L c.in-Differs.is c.in_ok-learn.ensures.ok in
-    differs_shown c.args.plan.now c.args.shard c.args.kept.now c.learn.new.self c.args.id c.args.edges.now c.args.out.now
-    (ap (is_here c.args.id) (sym c.deref.ensures.value) ∙ sym c.is_here.ensures ∙ c.if-not-is_here.false) l.0.0 l.0.1 l.0.2 l.1
+pub teach-requires-clause-learnable : goal.teach-requires-clause-learnable
+teach-requires-clause-learnable c =
+    let P : List KnownList → Type 0 = AreLearnable c.args.kept.now.deps in
+    subst P (sym (c.deref.ensures.value ∙ c.in_ok-news.ensures)) (carried_learnable c.args.kept.now.deps c.args.id c.args.edges.now c.args.facts.now c.requires.facts)
 
-learnt_new : (c : In_ok-take_new-in-New) → (list_of c.args.id c.args.kept.now.deps ≡ None) × (c.learn.new.self ≡ learnt c.args.kept.now.deps c.args.id c.args.edges.now)
-learnt_new c =
-    let L : Learnt → Type 0 = λ answer. Learns c.args.id c.args.edges.now c.args.kept.now.deps answer c.learn.new.self in
-    subst L c.in-New.is c.in_ok-learn.ensures.ok
+pub send_commitok-requires : goal.send_commitok-requires
+send_commitok-requires c =
+    let P : List StartedGroup → Type 0 = AreGroupsOf c.args.plan.now in
+    subst P (sym c.deref-then-again.ensures.value) (fits_same c.args.plan.now c.args.kept.now.started.items c.teach.new.kept.started.items c.in_ok-teach.ensures.groups c.requires.fits)
 
-pub returns-in_ok-take_new-in-New-clause-step : goal.returns-in_ok-take_new-in-New-clause-step
-returns-in_ok-take_new-in-New-clause-step c =
-    let l = learnt_new c in
-    let t = c.in_ok-take_new-in-New.ensures in
-    taught_shown c.args.plan.now c.args.shard c.args.kept.now c.take_new.new.kept c.learn.new.self c.args.id c.args.edges.now c.args.out.now c.take_new.new.out t.0 c.requires.sound l.1 t.1
-    (ap (is_here c.args.id) (sym c.deref.ensures.value) ∙ sym c.is_here.ensures ∙ c.if-not-is_here.false) l.0
+pub returns-then-again-clause-step : goal.returns-then-again-clause-step
+returns-then-again-clause-step c =
+    let P : List StartedGroup → Outbox = λ xs. let o = c.teach.new.out in record o { messages = o.messages ++ commitok c.args.plan.now c.args.shard xs c.args.id ∷ [] } in
+    commit_repeated c.args.plan.now c.args.shard c.args.kept.now c.args.out.now c.args.id c.args.edges.now c.args.facts.now c.teach.new.kept c.teach.new.out c.deref.result.now (sym (c.commit_fault.ensures c.args.shard) ∙ c.in_default.is)
+    (c.deref.ensures.value ∙ c.in_ok-news.ensures) c.in_ok-teach.ensures c.send_commitok.new.out
+    (ap (λ d. is_listed is_txn d c.args.id) (sym c.as_slice.ensures) ∙ sym c.is_among-again.ensures ∙ c.if-again.true)
+    (c.in_ok-send_commitok.ensures ∙ ap P c.deref-then-again.ensures.value)
 
-pub returns-in_ok-take_new-in-New-clause-fits : goal.returns-in_ok-take_new-in-New-clause-fits
-returns-in_ok-take_new-in-New-clause-fits c = fits_same c.args.plan.now c.args.kept.now.started.items c.take_new.new.kept.started.items c.in_ok-take_new-in-New.ensures.1.groups c.requires.fits
+pub returns-then-again-clause-fits : goal.returns-then-again-clause-fits
+returns-then-again-clause-fits c = fits_same c.args.plan.now c.args.kept.now.started.items c.teach.new.kept.started.items c.in_ok-teach.ensures.groups c.requires.fits
 
-pub returns-in_ok-take_new-in-New-clause-sound : goal.returns-in_ok-take_new-in-New-clause-sound
-returns-in_ok-take_new-in-New-clause-sound c =
-    let t = c.in_ok-take_new-in-New.ensures in
-    taught_sound c.args.plan.now c.args.shard c.args.kept.now c.take_new.new.kept c.learn.new.self c.args.id c.args.edges.now c.args.out.now c.take_new.new.out t.0 c.requires.sound (learnt_new c).1 t.1
+pub returns-clause-step : goal.returns-clause-step
+returns-clause-step c =
+    commit_taught c.args.plan.now c.args.shard c.args.kept.now c.args.out.now c.args.id c.args.edges.now c.args.facts.now c.teach.new.kept c.teach.new.out c.deref.result.now (sym (c.commit_fault.ensures c.args.shard) ∙ c.in_default.is)
+    (c.deref.ensures.value ∙ c.in_ok-news.ensures) c.in_ok-teach.ensures
+    (ap (λ d. is_listed is_txn d c.args.id) (sym c.as_slice.ensures) ∙ sym c.is_among-again.ensures ∙ c.if-again.false)
 
-pub returns-in_ok-send_commitok-in-Repeat-clause-step : goal.returns-in_ok-send_commitok-in-Repeat-clause-step
-returns-in_ok-send_commitok-in-Repeat-clause-step c =
-    let L : Learnt → Type 0 = λ answer. Learns c.args.id c.args.edges.now c.args.kept.now.deps answer c.learn.new.self in
-    let l = subst L c.in-Repeat.is c.in_ok-learn.ensures.ok in
-    let Listed : List TxnId → Type 0 = λ xs. IsListed is_txn xs c.args.id in
-    again_shown c.args.plan.now c.args.shard c.args.kept.now c.learn.new.self c.args.id c.args.edges.now c.requires.sound l.1
-    (ap (is_here c.args.id) (sym c.deref.ensures.value) ∙ sym c.is_here.ensures ∙ c.if-not-is_here.false) l.0 c.args.out.now c.send_commitok.new.out
-    (subst Listed c.as_slice.ensures (listed_true is_txn _ c.args.id (sym c.is_among.ensures ∙ c.if-is_among.true)))
-    (c.in_ok-send_commitok-in-Repeat.ensures ∙ ap (λ xs. let o = c.args.out.now in record o { messages = o.messages ++ commitok c.args.plan.now c.args.shard xs c.args.id ∷ [] }) c.deref-then-is_among.ensures.value)
-
-pub returns-else-is_among-clause-step : goal.returns-else-is_among-clause-step
-returns-else-is_among-clause-step c =
-    let L : Learnt → Type 0 = λ answer. Learns c.args.id c.args.edges.now c.args.kept.now.deps answer c.learn.new.self in
-    let l = subst L c.in-Repeat.is c.in_ok-learn.ensures.ok in
-    let Listed : List TxnId → Type 0 = λ xs. IsListed is_txn xs c.args.id in
-    waits_shown c.args.plan.now c.args.shard c.args.kept.now c.learn.new.self c.args.id c.args.edges.now c.requires.sound l.1
-    (ap (is_here c.args.id) (sym c.deref.ensures.value) ∙ sym c.is_here.ensures ∙ c.if-not-is_here.false) l.0 c.args.out.now
-    (λ m. listed_false is_txn _ c.args.id (sym c.is_among.ensures ∙ c.if-is_among.false) (subst Listed (sym c.as_slice.ensures) m))
+pub returns-clause-fits : goal.returns-clause-fits
+returns-clause-fits c = fits_same c.args.plan.now c.args.kept.now.started.items c.teach.new.kept.started.items c.in_ok-teach.ensures.groups c.requires.fits

@@ -1,12 +1,7 @@
-use Rattle.std.proofs.Common.{List, subst, sym}
-use Rattle.roc_base.specs.declared.id.TxnId.{TxnId}
-use Rattle.roc_base.specs.TxnId.{is_txn}
-use Rattle.roc_server.specs.New.{AreAllNew}
-use Rattle.roc_server.proofs.Untaken.{ordered}
-use Rattle.roc_server.proofs.decided.newly_decided.Goals as goal
 use Rattle.roc_sequence.specs.Places.{IsListed}
+use Rattle.roc_base.specs.TxnId.{is_txn}
+use Rattle.roc_server.proofs.InOrder.{ordered}
+use Rattle.roc_server.proofs.decided.newly_decided.Goals as goal
 
 pub returns : goal.returns
-returns c =
-    let P : List TxnId → Type 0 = AreAllNew (IsListed is_txn c.args.taken.now) c.args.deps.now in
-    ordered (λ v. v.items) (IsListed is_txn c.args.taken.now) c.args.deps.now c.deref.result.now c.order.result (subst P (sym c.deref.ensures.value) c.in_ok-ids.ensures) c.order.ensures
+returns c = ordered (λ v. v.items) (IsListed is_txn c.args.kept.now.decided) c.args.kept.now.deps c.args.ids.now c.order.result c.requires c.order.ensures

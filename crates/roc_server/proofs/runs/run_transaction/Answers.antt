@@ -1,7 +1,8 @@
 use Rattle.std.proofs.Common.{◌≡◌, ◌≤◌, find, sym, ap, ◌∙◌, arith}
 use Rattle.roc_base.specs.TxnId.{is_txn}
-use Rattle.roc_server.specs.Commit.{run_groups, count_of_groups}
+use Rattle.roc_server.specs.Runs.{run_groups, count_of_groups}
 use Rattle.roc_server.specs.Inner.Kept.{holding}
+use Rattle.roc_server.specs.Inner.Runs.{buffered}
 use Rattle.roc_server.proofs.Group_runs.{runs_more, groups_from-end, groups_here-from}
 use Rattle.roc_server.proofs.runs.run_transaction.Goals as goal
 
@@ -17,6 +18,6 @@ returns-clause-runs c s =
     let counted : c.count_of_groups-count.result ≡ count_of_groups plan (find (λ e. is_txn e.id c.args.id) first) =
     c.count_of_groups-count.ensures ∙ ap (λ xs. count_of_groups plan (find (λ e. is_txn e.id c.args.id) xs)) c.deref.ensures.value in
     let all : c.count_of_groups-count.result ≤ c.loop-number.number = omega arith in
-    ap (run_groups plan (holding s c.args.rows.now.store first)) (groups_here-from plan c.args.id first c.count_of_groups-count.result counted)
+    ap (λ es. run_groups plan (holding s c.args.rows.now.store first) (buffered plan es)) (groups_here-from plan c.args.id first c.count_of_groups-count.result counted)
     ∙ sym (c.loop-number.invariant.runs s)
-    ∙ ap (run_groups plan (holding s c.loop-number.rows.store c.loop-number.started.items)) (groups_from-end c.args.id first c.loop-number.number c.count_of_groups-count.result all)
+    ∙ ap (λ es. run_groups plan (holding s c.loop-number.rows.store c.loop-number.started.items) (buffered plan es)) (groups_from-end c.args.id first c.loop-number.number c.count_of_groups-count.result all)

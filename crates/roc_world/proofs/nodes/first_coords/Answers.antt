@@ -1,5 +1,5 @@
 use Rattle.roc_coord.specs.State.{first_coord}
-use Rattle.roc_world.proofs.Firsts.{firsts_more}
+use Rattle.roc_world.proofs.FirstNodes.{firsts_more}
 use Rattle.roc_world.proofs.nodes.first_coords.Goals as goal
 
 pub loop-number-preserved : goal.loop-number-preserved

@@ -1,11 +1,7 @@
 use Rattle.std.proofs.Common.{◌≡◌, map}
-use Rattle.std.specs.List.{AllByRecursion, range_with_len}
+use Rattle.std.specs.List.{range_with_len}
 use Rattle.roc_server.specs.First.{first_server}
-use Rattle.roc_server.specs.Fits.{ServerFits}
 use Rattle.roc_world.proofs.nodes.first_servers.Given as goal
 
 abbrev pub invariant-loop-number : goal.invariant-loop-number
-invariant-loop-number l = record {
-  first : l.servers.items ≡ map (λ n. first_server l.plan (record { 0 = n })) (range_with_len 0 l.number);
-  fits : AllByRecursion (ServerFits l.plan) l.servers.items;
-}
+invariant-loop-number l = l.servers.items ≡ map (λ n. first_server l.plan (record { 0 = n })) (range_with_len 0 l.number)

@@ -1,13 +1,9 @@
-use Rattle.std.proofs.Common.{sym, subst}
 use Rattle.roc_world.specs.Inner.Parts.{world_of}
-use Rattle.roc_world.specs.Reached.{IsReached}
-use Rattle.roc_world.proofs.Receivers.{receivers}
-use Rattle.roc_world.proofs.Steps.{goes}
+use Rattle.roc_world.proofs.WorldsFit.{step_fits, step_count}
 use Rattle.roc_world.proofs.world.World.step.Goals as goal
 
-pub happen-requires-clause-receivers : goal.happen-requires-clause-receivers
-happen-requires-clause-receivers c = receivers c.args.plan.now (world_of c.self.inside.parts) c.requires.within (subst (IsReached c.args.plan.now) (sym c.self.view_is) c.requires.reached)
+pub returns-clause-fits : goal.returns-clause-fits
+returns-clause-fits c = step_fits c.args.plan.now c.args.self.now (world_of c.self.inside.parts) (world_of c.happen.new.parts) c.args.event.now c.self.view_is c.happen.result c.requires.fits c.requires.event c.happen.ensures
 
-pub returns-in-Ok-clause-reached : goal.returns-in-Ok-clause-reached
-returns-in-Ok-clause-reached c =
-    goes c.args.plan.now c.args.self.now (world_of c.self.inside.parts) (world_of c.happen.new.parts) c.args.event.now c.in-Ok.seen c.self.view_is c.requires.reached c.in-Ok.ensures.step
+pub returns-clause-coords : goal.returns-clause-coords
+returns-clause-coords c = step_count c.args.plan.now c.args.self.now (world_of c.self.inside.parts) (world_of c.happen.new.parts) c.args.event.now c.self.view_is c.happen.result c.happen.ensures

@@ -1,0 +1,5 @@
+pub mod OneMore
+pub mod NamedMissing
+pub mod GrownLacks
+pub mod Asking
+pub mod More

@@ -1,0 +1,27 @@
+-- What a coordinator sends again at a tick, which changes nothing: docs/PROTOCOL.md, "Ticks"
+use Rattle.std.specs.Prelude.{ℕ, Bool, not, ◌&&◌, List, is_some, is_none, map, filter, if◌then◌else◌}
+use Rattle.std.specs.List.{flat_map}
+use Rattle.roc_msg.specs.declared.outbox.Outgoing.{Outgoing}
+use Rattle.roc_plan.specs.Groups.{Plan}
+use Rattle.roc_coord.specs.declared.transaction.Transaction.{Transaction}
+use Rattle.roc_coord.specs.State.{find_start, find_startok, has_commitok, CoordState}
+use Rattle.roc_coord.specs.Starts.{group_numbers, start_for, all_started, commit_to}
+
+-- a group that was asked to start, and has no startok
+abbrev pub awaits_startok : Transaction → ℕ → Bool
+awaits_startok x group = is_some (find_start group x.starts) && is_none (find_startok group x.startoks)
+
+-- the starts without a startok, in group order
+abbrev pub starts_again : Plan → Transaction → List Outgoing
+starts_again plan x = map (start_for plan x) (filter (awaits_startok x) (group_numbers plan x.proc))
+
+-- the commits without a commitok, by shard
+abbrev pub commits_again : Transaction → List Outgoing
+commits_again x = map (commit_to x) (filter (λ shard. not (has_commitok shard x.commitoks)) x.asked)
+
+abbrev pub sent_again : Plan → Transaction → List Outgoing
+sent_again plan x = if all_started plan x then commits_again x else starts_again plan x
+
+-- of each transaction without a reply, by id
+abbrev pub tick_sends : Plan → CoordState → List Outgoing
+tick_sends plan s = flat_map (sent_again plan) s.pending

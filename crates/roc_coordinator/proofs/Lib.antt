@@ -1,9 +1,0 @@
-pub mod Ranges
-pub mod Sends
-pub mod StartRound
-pub mod Asked
-pub mod Among
-pub mod Outcomes
-pub mod Given
-pub mod Gathering
-pub mod Fitting

@@ -1,6 +1,0 @@
-use Rattle.std.proofs.Common.{◌≡◌, ◌++◌, map, take}
-use Rattle.roc_coordinator.specs.Starts.{start_for}
-use Rattle.roc_coordinator.proofs.starts.resend_each.Given as goal
-
-abbrev pub invariant-loop-group : goal.invariant-loop-group
-invariant-loop-group l = l.out ≡ record l.initial.out { messages = l.initial.out.messages ++ map (start_for l.plan l.x) (take l.group-index l.groups) }

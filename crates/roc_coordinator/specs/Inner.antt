@@ -1,4 +1,0 @@
--- What stands here is of private functions alone
-pub mod Given
-pub mod CommitWith
-pub mod FactPlace

@@ -1,9 +1,0 @@
-pub mod State
-pub mod Ids
-pub mod Fits
-pub mod Starts
-pub mod Commits
-pub mod Submit
-pub mod Step
-pub mod Tick
-pub mod Inner

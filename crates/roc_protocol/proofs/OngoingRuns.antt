@@ -1,0 +1,278 @@
+-- In every world each submitted transaction is answered or goes on, and what was delivered to a coordinator was taken
+use Rattle.std.proofs.Common.{◌≡◌, ◌≢◌, ℕ, ℤ, suc, ◌-◌, ◌<◌, true, List, [], ◌∷◌, ◌++◌, Option, Some, None, length, refl, sym, ap, subst, ◌∙◌, inl, inr, arith}
+use Rattle.std.specs.Prelude.{slice_get, slice_set}
+use Rattle.roc_sequence.specs.Lists.{Has}
+use Rattle.roc_sequence.proofs.Members.{has_one, has_right, has_at}
+use Rattle.roc_base.specs.declared.id.TxnId.{TxnId}
+use Rattle.roc_base.specs.declared.node.Node.{Node}
+use Rattle.roc_base.specs.declared.node.Node.TheVariants.{Server, Coord}
+use Rattle.roc_base.specs.declared.node.Shard.{Shard}
+use Rattle.roc_msg.specs.declared.msg.Msg.{Msg}
+use Rattle.roc_msg.specs.declared.msg.Msg.TheVariants.{Start, StartOk, Commit, CommitOk, Fetch, Known, Stop}
+use Rattle.roc_msg.specs.declared.msg.Sent.{Sent}
+use Rattle.roc_msg.specs.declared.outbox.Outgoing.{Outgoing}
+use Rattle.roc_plan.specs.Groups.{Plan, groups_of}
+use Rattle.roc_whole.specs.Serial as whole
+use Rattle.roc_whole.specs.Serial.{start_store}
+use Rattle.roc_execution.specs.Scheme.{Scheme}
+use Rattle.roc_execution.specs.Log.{Log}
+use Rattle.roc_execution.specs.Invariants.{LogInvariants}
+use Rattle.roc_server.specs.State.{answered, ServerStep}
+use Rattle.roc_server.specs.Step as server
+use Rattle.roc_coord.specs.declared.transaction.Transaction.{Transaction}
+use Rattle.roc_coord.specs.State.{first_coord, CoordState}
+use Rattle.roc_coord.specs.Starts.{group_numbers, with_starts, all_started}
+use Rattle.roc_coord.specs.Step.{after_message}
+use Rattle.roc_coord.specs.Submit.{next_id, new_transaction, accepted}
+use Rattle.roc_coord.specs.Tick.{tick_sends}
+use Rattle.roc_audit.specs.declared.entry.Entry.{Entry}
+use Rattle.roc_audit.specs.declared.entry.Entry.TheVariants.{Submitted, Answered}
+use Rattle.roc_protocol.specs.declared.event.Event.{Event}
+use Rattle.roc_protocol.specs.declared.event.Event.TheVariants.{Submit, Deliver, Tick}
+use Rattle.roc_protocol.specs.Asked.{IsSchemeOf}
+use Rattle.roc_protocol.specs.World.{World, comes, at_server, at_coord}
+use Rattle.roc_protocol.specs.Happens.{Outcome, answer_entries, IsReceived}
+use Rattle.roc_protocol.specs.Run.{Stepped, Comes, IsRun, begun, goes_on}
+use Rattle.roc_protocol.specs.Quiet.{WasDelivered}
+use Rattle.roc_protocol.specs.Inner.Given.{LogLaws, StoreLaws}
+use Rattle.roc_protocol.proofs.Means.{run_of, Means}
+use Rattle.roc_protocol.proofs.Changed.{get-set_here}
+use Rattle.roc_protocol.proofs.Replies.{in_range, few_place}
+use Rattle.roc_protocol.proofs.Rounds.{told}
+use Rattle.roc_protocol.proofs.Coordinators.{below_number}
+use Rattle.roc_protocol.proofs.Coordinated.{message_coordinated, tick_coordinated, submission_coordinated}
+use Rattle.roc_protocol.proofs.Served.{StartsAre}
+use Rattle.roc_protocol.proofs.NoStarts.{no_starts, no_starts_at_tick}
+use Rattle.roc_protocol.proofs.Submissions.{AreSubmissions, no_submission, unused}
+use Rattle.roc_protocol.proofs.Firsts.{found_at}
+use Rattle.roc_protocol.proofs.Worlds.{Submitting, is_refused, is_accepted, submitting, run_submissions, comes_logged, Agrees, agrees_before, IsLogged}
+use Rattle.roc_protocol.proofs.Witness.{step_extends, run_logged}
+use Rattle.roc_protocol.proofs.Networks.{IsNetworked}
+use Rattle.roc_protocol.proofs.Finals.{run_networked, comes_networked}
+use Rattle.roc_protocol.proofs.Pending.{IsPending}
+use Rattle.roc_protocol.proofs.PendingRuns.{run_pending}
+use Rattle.roc_protocol.proofs.Staleness.{message_stale}
+use Rattle.roc_protocol.proofs.Taken.{IsTakenBy, message_taken}
+use Rattle.roc_protocol.proofs.OutstandingSteps.{Proceeds, IsOfGroup, same, message_goes_on, submission_goes_on}
+use Rattle.roc_protocol.proofs.Undelivered.{delivered_before, delivered_or_comes}
+use Rattle.roc_protocol.proofs.Ongoing.{IsOngoing, served_ongoing, answered_submitted, still_taken, not_answered, coordinated_ongoing}
+
+-- what was delivered to a coordinator was taken
+pub record AreTaken (w : World) : Type 0 where
+  pub each :
+      (k number : ℕ) (m : Sent) (c : CoordState) → slice_get w.sent k ≡ Some m → WasDelivered w (suc k) → m.to ≡ Coord number
+      → slice_get w.coords number ≡ Some c → IsTakenBy c.pending m.msg
+
+-- a coordinator's step, where what was delivered is taken then
+coordinated_taken : (w : World) (n : ℕ) (after : CoordState) (outs : List Outgoing) (tells : List Entry)
+    → ((k number : ℕ) (m : Sent) (c : CoordState) → slice_get w.sent k ≡ Some m → WasDelivered w (suc k) → m.to ≡ Coord number → slice_get (slice_set w.coords n after) number ≡ Some c → IsTakenBy c.pending m.msg)
+    → AreTaken (at_coord w n after outs tells)
+coordinated_taken w n after outs tells old = record { each = λ k number m c e d to f. (let q = delivered_before w (Coord n) outs k m e d in old k number m c q.0 q.1 to f) }
+
+-- a server's step, where what was delivered to coordinators was taken
+served_taken : (w : World) (n : ℕ) (r : ServerStep)
+    → ((k number : ℕ) (m : Sent) (c : CoordState) → slice_get w.sent k ≡ Some m → WasDelivered w (suc k) → m.to ≡ Coord number → slice_get w.coords number ≡ Some c → IsTakenBy c.pending m.msg)
+    → AreTaken (at_server w n r)
+served_taken w n r old = record { each = λ k number m c e d to f. (let q = delivered_before w (Server (record { 0 = n })) r.sends k m e d in old k number m c q.0 q.1 to f) }
+
+-- message k came: what was delivered is it, or was delivered before
+came : (w : World) (k : ℕ) (m : Sent) → 0 < k → slice_get w.sent (k - 1) ≡ Some m → (place : ℕ) (b : Sent) → slice_get w.sent place ≡ Some b → WasDelivered (comes w k) (suc place)
+    → (P : Sent → Type 0) → P m → (WasDelivered w (suc place) → P b) → P b
+came w k m some there place b e d P now before = elim (delivered_or_comes w k (suc place) d) [
+  | inl f ↦
+      (let at : k - 1 ≡ place = omega arith in
+      let x = subst (λ at. slice_get w.sent at ≡ Some m) at there in
+      let same_message : m ≡ b = cc in
+      subst P same_message now)
+  | inr g ↦ before g
+]
+
+module _ (plan : Plan) (asked : TxnId → whole.Call) (S : Scheme) (is : IsSchemeOf plan asked S) (laws : LogLaws S (start_store plan.program)) where
+  module _ (w : World) (log : Log) (l : IsLogged plan asked S is laws w log) (subs : AreSubmissions plan w.history w.coords) (o : IsPending plan w) (g : IsOngoing plan w) where
+    i : LogInvariants S (start_store plan.program) log
+    i = laws.holds log l.means.reached
+
+    -- a startok is of a group of its procedure
+    of_group : (n : ℕ) (s : CoordState) → slice_get w.coords n ≡ Some s → (msg : Msg) → Means plan asked S (start_store plan.program) log msg (Coord n) → IsOfGroup plan s.pending msg
+    of_group n s there (StartOk id group shard bound outs edges facts) m = (
+      subst (λ n. n < 64) (sym m.1) (few_place plan asked S (start_store plan.program) is log i (run_of id group)),
+      λ x h e.
+          (let below = (is.groups id group).0 (i.are_groups (run_of id group) m.0.began) in
+          below_number plan asked S (start_store plan.program) is log i x (told plan asked S (start_store plan.program) is log i x (l.means.coords n s there x h)) group
+          (subst (λ t. group < length (groups_of plan (asked t).procedure)) (sym e) below)),
+    )
+    of_group n s there (Start id proc group args inputs) m = tt
+    of_group n s there (Commit id edges facts) m = tt
+    of_group n s there (CommitOk id shard outs) m = tt
+    of_group n s there (Fetch id asker) m = tt
+    of_group n s there (Known id edges) m = tt
+    of_group n s there Stop m = tt
+
+    module _ (n : ℕ) (s : CoordState) (there : slice_get w.coords n ≡ Some s) where
+      is_whole : (x : Transaction) → Has x s.pending → (a : Shard) → Has a x.asked → all_started plan x ≡ true
+      is_whole x h a k = ((l.means.coords n s there x h).asked_whole a k).0
+
+      not_of : (t : TxnId) (reply : List ℤ) → Has (Answered t reply) w.history → (x : Transaction) → Has x s.pending → x.id ≢ t
+      not_of = not_answered plan asked S is laws w log l subs o g n s there
+
+      -- ---- a tick
+
+      tick_goes : Proceeds plan w.sent (Coord n) s s (tick_sends plan s) []
+      tick_goes = same plan w.sent (Coord n) s (o.once n s there) (g.holds n s there) is_whole (tick_sends plan s)
+
+      tick_ongoing : IsOngoing plan (at_coord w n s (tick_sends plan s) [])
+      tick_ongoing =
+          coordinated_ongoing plan asked S is laws w log l subs o g n s there s (tick_sends plan s) [] tick_goes (λ t proc args h. absurd h)
+          (λ t reply h. (tick_coordinated plan asked S (start_store plan.program) is log i w l.means n s there (λ u. u ≢ t) (not_of t reply h)).starts)
+
+      -- ---- a message
+
+      message_goes : (msg : Msg) → Means plan asked S (start_store plan.program) log msg (Coord n) → Proceeds plan w.sent (Coord n) s (after_message plan s msg).state (after_message plan s msg).sends (answer_entries (after_message plan s msg).answer)
+      message_goes msg m = message_goes_on plan w.sent (Coord n) s (o.once n s there) (g.holds n s there) is_whole msg (of_group n s there msg m)
+
+      message_ongoing : (msg : Msg) → Means plan asked S (start_store plan.program) log msg (Coord n) → IsOngoing plan (at_coord w n (after_message plan s msg).state (after_message plan s msg).sends (answer_entries (after_message plan s msg).answer))
+      message_ongoing msg m =
+          coordinated_ongoing plan asked S is laws w log l subs o g n s there (after_message plan s msg).state (after_message plan s msg).sends (answer_entries (after_message plan s msg).answer) (message_goes msg m)
+          (λ t proc args h. absurd (no_submission (after_message plan s msg).answer t proc args h))
+          (λ t reply h. (message_coordinated plan asked S (start_store plan.program) is log i w l.means n s there (λ u. u ≢ t) (not_of t reply h) msg (Coord n) m).starts)
+
+      -- ---- a submission
+
+      module _ (proc : ℕ) (args : List ℤ) (p : proc ≡ (asked (next_id s)).procedure) (a : args ≡ (asked (next_id s)).arguments) where
+        abbrev tells : List Entry
+        tells = Submitted (next_id s) proc args ∷ []
+
+        no_answer : (t : TxnId) (reply : List ℤ) → ¬ Has (Answered t reply) tells
+        no_answer t reply (inl e) = absurd (cc)
+        no_answer t reply (inr h) = h
+
+        number : Has 0 (group_numbers plan proc)
+        number = let some = subst (λ proc. 0 < length (groups_of plan proc)) (sym p) (is.some (next_id s)) in in_range 0 (length (groups_of plan proc)) 0 (omega arith) (omega arith)
+
+        submission_goes : Proceeds plan w.sent (Coord n) s (accepted plan s (new_transaction s proc args)).state (accepted plan s (new_transaction s proc args)).sends tells
+        submission_goes = submission_goes_on plan w.sent (Coord n) s (o.once n s there) (g.holds n s there) is_whole proc args 0 number tells no_answer
+
+        submission_ongoing : IsOngoing plan (at_coord w n (accepted plan s (new_transaction s proc args)).state (accepted plan s (new_transaction s proc args)).sends tells)
+        submission_ongoing =
+            coordinated_ongoing plan asked S is laws w log l subs o g n s there (accepted plan s (new_transaction s proc args)).state (accepted plan s (new_transaction s proc args)).sends tells submission_goes new
+            (λ t reply h. (submission_coordinated plan asked S (start_store plan.program) is log i w l.means n s there (λ u. u ≢ t) (not_of t reply h) proc args tells no_answer p a (fresh t reply h)).starts)
+          where
+            new : (t : TxnId) (q : ℕ) (x : List ℤ) → Has (Submitted t q x) tells → (t.coord ≡ n) × (y : Transaction) × Has y (accepted plan s (new_transaction s proc args)).state.pending × (y.id ≡ t)
+            new t q x h =
+                let k : Submitted t q x ≡ Submitted (next_id s) proc args = has_one (Submitted t q x) (Submitted (next_id s) proc args) h in
+                let same_id : t ≡ next_id s = cc in (
+                  ap (λ (t : TxnId). t.coord) same_id ∙ subs.numbers n s there,
+                  with_starts plan (new_transaction s proc args),
+                  has_right (with_starts plan (new_transaction s proc args)) s.pending (with_starts plan (new_transaction s proc args) ∷ []) (inl refl),
+                  sym same_id,
+                )
+
+            fresh : (t : TxnId) (reply : List ℤ) → Has (Answered t reply) w.history → next_id s ≢ t
+            fresh t reply h e = let q = answered_submitted plan asked S is laws w log l t reply h in absurd (unused plan w.history w.coords subs n s there q.0 q.1 (subst (λ t. Has (Submitted t q.0 q.1) w.history) (sym e) q.2))
+
+  -- ---- worlds
+
+  -- what holds in a world
+  abbrev Goes : World → Type 0
+  Goes w = IsOngoing plan w × AreTaken w
+
+  module _ (w : World) (log : Log) (l : IsLogged plan asked S is laws w log) (nw : IsNetworked plan asked S is laws w) (subs : AreSubmissions plan w.history w.coords) (o : IsPending plan w) (g : IsOngoing plan w) (a : AreTaken w) where
+    -- where no message came
+    kept_taken : (n : ℕ) (s after : CoordState) (outs : List Outgoing) (tells : List Entry) → slice_get w.coords n ≡ Some s → Proceeds plan w.sent (Coord n) s after outs tells → AreTaken (at_coord w n after outs tells)
+    kept_taken n s after outs tells there k =
+        coordinated_taken w n after outs tells
+        (λ j number m c e d to f. still_taken plan asked S is laws w log l subs o n s there after k.before m (has_at w.sent j m e) number c (λ b h. a.each j number m b e d to h) f)
+
+    submit_ongoing : (n proc : ℕ) (args : List ℤ) (s : CoordState) → slice_get w.coords n ≡ Some s → (v : Outcome) → Submitting plan w n proc args s v → Agrees asked v.world.history → Goes v.world
+    submit_ongoing n proc args s there v (is_refused e) fits = subst Goes (sym e) (g, a)
+    submit_ongoing n proc args s there v (is_accepted known counted e) fits =
+        let more = Submitted (next_id s) proc args ∷ [] in
+        let f : Agrees asked (w.history ++ more) = subst (λ (v : World). Agrees asked v.history) e fits in
+        let mine : Has (Submitted (next_id s) proc args) (w.history ++ more) = has_right (Submitted (next_id s) proc args) w.history more (inl refl) in
+        let p = f.proc (next_id s) proc args mine in
+        let x = f.args (next_id s) proc args mine in
+        subst Goes (sym e) (
+          submission_ongoing w log l subs o g n s there proc args p x,
+          kept_taken n s (accepted plan s (new_transaction s proc args)).state (accepted plan s (new_transaction s proc args)).sends more there (submission_goes w log l subs o g n s there proc args p x),
+        )
+
+    tick_all : (node : Node) (v : Outcome) → Comes plan w (Some (Tick node)) v → Goes v.world
+    tick_all (Server shard) v (s, there, e) = subst (λ (v : Outcome). Goes v.world) (sym e) (
+      served_ongoing plan w g shard.0 (answered s (server.tick_sends s)) (λ t. no_starts_at_tick plan s (λ u. u ≢ t)),
+      served_taken w shard.0 (answered s (server.tick_sends s)) a.each,
+    )
+    tick_all (Coord n) v (s, there, e) = subst (λ (v : Outcome). Goes v.world) (sym e) (
+      tick_ongoing w log l subs o g n s there,
+      kept_taken n s s (tick_sends plan s) [] there (tick_goes w log l subs o g n s there),
+    )
+
+    -- ---- a delivery
+
+    module _ (k : ℕ) (m : Sent) (some : 0 < k) (there : slice_get w.sent (k - 1) ≡ Some m) where
+      abbrev u : World
+      u = comes w k
+
+      on_way : IsLogged plan asked S is laws u log
+      on_way = comes_logged plan asked S is laws w log l k
+
+      pending : IsPending plan u
+      pending = record { own = o.own; once = o.once; starts = o.starts; lists = o.lists; servers = o.servers }
+
+      ongoing : IsOngoing plan u
+      ongoing = record { submitted = g.submitted; holds = g.holds; gone = g.gone; out = λ t reply h. record { each = (g.out t reply h).each } }
+
+      has : Has m w.sent
+      has = has_at w.sent (k - 1) m there
+
+      receive_all : (to : Node) → m.to ≡ to → (v : Outcome) → IsReceived plan u m.msg to v → Goes v.world
+      receive_all (Server shard) to v (s, r, at, step, e) = subst (λ (v : Outcome). Goes v.world) (sym e) (
+        served_ongoing plan u ongoing shard.0 r (λ t. subst (λ (r : ServerStep). (out : Outgoing) → Has out r.sends → StartsAre (λ u. u ≢ t) out.msg) (sym step.is) (no_starts plan s (λ u. u ≢ t) step.findings m.msg)),
+        served_taken u shard.0 r
+            (λ j number b c f d back h. came w k m some there j b f d (λ b. b.to ≡ Coord number → IsTakenBy c.pending b.msg) (λ x. absurd (let y = to in cc)) (λ d x. a.each j number b c f d x h) back),
+      )
+      receive_all (Coord n) to v (s, at, e) =
+          let means = subst (Means plan asked S (start_store plan.program) log m.msg) to (l.means.messages m has) in
+          let after = (after_message plan s m.msg).state in
+          let goes = message_goes u log on_way subs pending ongoing n s at m.msg means in
+          let taken = message_taken plan s (o.once n s at) m.msg (message_stale plan asked S is laws u log on_way (comes_networked plan asked S is laws w log l nw k) pending n s at m has to) in
+          subst (λ (v : Outcome). Goes v.world) (sym e) (
+            message_ongoing u log on_way subs pending ongoing n s at m.msg means,
+            coordinated_taken u n after (after_message plan s m.msg).sends (answer_entries (after_message plan s m.msg).answer)
+                (λ j number b c f d back h.
+                came w k m some there j b f d (λ b. b.to ≡ Coord number → IsTakenBy c.pending b.msg)
+                (λ x. here n s after at number c (let y = to in cc) h m.msg taken)
+                (λ d x. still_taken plan asked S is laws u log on_way subs pending n s at after goes.before b (has_at w.sent j b f) number c (λ b2 h2. a.each j number b b2 f d x h2) h)
+                back),
+          )
+        where
+          here : (n : ℕ) (s after : CoordState) → slice_get w.coords n ≡ Some s → (number : ℕ) (c : CoordState) → n ≡ number → slice_get (slice_set w.coords n after) number ≡ Some c → (msg : Msg) → IsTakenBy after.pending msg → IsTakenBy c.pending msg
+          here n s after at number c same h msg k =
+              let x = get-set_here w.coords n s after at in
+              let y = subst (λ number. slice_get (slice_set w.coords n after) number ≡ Some c) (sym same) h in
+              let one : after ≡ c = cc in
+              subst (λ (c : CoordState). IsTakenBy c.pending msg) one k
+
+    step_ongoing : (e : Option Event) (v : Outcome) → Comes plan w e v → Agrees asked v.world.history → Goes v.world
+    step_ongoing None v h fits = subst (λ (v : Outcome). Goes v.world) (sym h) (g, a)
+    step_ongoing (Some (Submit n proc args)) v (s, there, h) fits = submit_ongoing n proc args s there v (submitting plan w n proc args s v h) fits
+    step_ongoing (Some (Deliver k)) v (m, some, there, h) fits = receive_all k m some there m.to refl v h
+    step_ongoing (Some (Tick node)) v h fits = tick_all node v h
+
+  module _ (stores : StoreLaws) where
+    -- every world of every run
+    pub run_ongoing : (coords : ℕ) (steps : List Stepped) (w : World) → IsRun plan coords steps w → Agrees asked w.history → Goes w
+    run_ongoing coords steps w begun fits = (
+      record {
+        submitted = λ t proc args h. absurd h;
+        holds = λ n c e x h. elim (subst (λ (c : CoordState). Has x c.pending) (found_at first_coord 0 coords n c e) h) [ ];
+        gone = λ t reply h. absurd h;
+        out = λ t reply h. absurd h;
+      },
+      record { each = λ k number m c e. absurd (cc) },
+    )
+    run_ongoing coords steps w (goes_on {w = v} e o r h) fits =
+        let x = step_extends plan v e o h in
+        let before = agrees_before asked v.history x.more (subst (Agrees asked) x.is fits) in
+        let lg = run_logged plan asked S is laws stores coords _ v r before in
+        let earlier = run_ongoing coords _ v r before in
+        step_ongoing v lg.0 lg.1 (run_networked plan asked S is laws stores coords _ v r before) (run_submissions plan coords _ v r) (run_pending plan asked S is laws stores coords _ v r before) earlier.0 earlier.1 e o h fits

@@ -1,0 +1,193 @@
+-- A quiet transaction is decided wherever it has a group, and its commits are answered
+use Rattle.std.proofs.Common.{◌≡◌, ℕ, ℤ, suc, ◌<◌, Bool, true, false, List, [], ◌∷◌, Option, Some, None, length, refl, sym, ap, subst, ◌∙◌, inl, inr, arith, is_some, unwrap_or}
+use Rattle.std.proofs.lemmas.Bool.{cases_lt, false≢true}
+use Rattle.std.specs.Prelude.{slice_get, flat_map}
+use Rattle.std.specs.List.{range_with_len}
+use Rattle.roc_sequence.specs.Lists.{Has}
+use Rattle.roc_sequence.proofs.Holds.{any_has, has_any, all_has}
+use Rattle.roc_sequence.proofs.Members.{has_at}
+use Rattle.roc_sequence.proofs.Ranges.{range_below}
+use Rattle.roc_base.specs.declared.id.TxnId.{TxnId}
+use Rattle.roc_base.specs.declared.node.Node.{Node}
+use Rattle.roc_base.specs.declared.node.Node.TheVariants.{Server}
+use Rattle.roc_base.specs.declared.node.Shard.{Shard}
+use Rattle.roc_base.specs.TxnId.{is_txn}
+use Rattle.roc_base.specs.Inner.Equalities.{is_txn-true}
+use Rattle.roc_base.proofs.Ids.{is_txn-eq}
+use Rattle.roc_base.proofs.Members.{IsAllOf-united}
+use Rattle.roc_base.specs.Edge.{Dependency}
+use Rattle.roc_depgraph.specs.declared.known.KnownList.{KnownList}
+use Rattle.roc_depgraph.specs.Deps.{list_of, is_known, IsKnown, entries_of, Precedes, IsDecided}
+use Rattle.roc_depgraph.specs.Reach.{Reaches, direct, through}
+use Rattle.roc_depgraph.proofs.Chains.{weaker_chain}
+use Rattle.roc_await.specs.declared.waits.Asked.{Asked}
+use Rattle.roc_msg.specs.declared.msg.Msg.{Msg}
+use Rattle.roc_msg.specs.declared.msg.Msg.TheVariants.{Start, Commit, Fetch, Known}
+use Rattle.roc_msg.specs.declared.msg.Sent.{Sent}
+use Rattle.roc_msg.specs.Msg.{id_of}
+use Rattle.roc_plan.specs.Groups.{Plan, groups_of}
+use Rattle.roc_whole.specs.Serial.{start_store}
+use Rattle.roc_execution.specs.Scheme.{Scheme, IsSoundScheme}
+use Rattle.roc_server.specs.declared.started.StartedGroup.{StartedGroup}
+use Rattle.roc_server.specs.State.{is_here, ServerState}
+use Rattle.roc_protocol.specs.Asked.{HasSchemes}
+use Rattle.roc_protocol.specs.World.{World}
+use Rattle.roc_protocol.specs.Run.{Stepped, IsRun}
+use Rattle.roc_protocol.specs.Quiet.{IsToldIn, PrecedesIn, IsQuiet}
+use Rattle.roc_protocol.specs.Final.{IsFinalIn}
+use Rattle.roc_protocol.specs.Inner.Given.{LogLaws, StoreLaws}
+use Rattle.roc_protocol.proofs.Means.{Means}
+use Rattle.roc_protocol.proofs.Idle.{run_idle}
+use Rattle.roc_protocol.proofs.Facts.{known_has}
+use Rattle.roc_protocol.proofs.Flat.{from_has_flat}
+use Rattle.roc_protocol.proofs.OneRun.{same_there}
+use Rattle.roc_protocol.proofs.Finals.{known_final}
+use Rattle.roc_protocol.proofs.Serial as serial
+use Rattle.roc_protocol.proofs.Heard.{AreDelivered, StartsHeard, CommitsAreOut, CommitsHeard}
+use Rattle.roc_protocol.proofs.Hears.{IsSought}
+use Rattle.roc_protocol.proofs.Delivered.{At, HasCommit, HasList, IsTaken}
+use Rattle.roc_protocol.proofs.Hearing.{HasHeard, run_heard}
+
+-- ---- lists
+
+-- each element stands at a place
+has_place : {A : Type 0} (xs : List A) (a : A) → Has a xs → (i : ℕ) × (slice_get xs i ≡ Some a)
+has_place [] a h = absurd h
+has_place (x ∷ xs) a (inl e) = (0, ap (λ x. Some x) (sym e))
+has_place (x ∷ xs) a (inr h) = let r = has_place xs a h in (suc r.0, r.1)
+
+-- a transaction with an entry has a known list
+entry_known : (known : List KnownList) (t : TxnId) (d : Dependency) → Has d (entries_of known t) → IsKnown known t
+entry_known known t d h = go (list_of t known) h
+  where
+    go : (o : Option (List Dependency)) → Has d (unwrap_or o []) → is_some o ≡ true
+    go None k = absurd k
+    go (Some es) k = refl
+
+-- a chain begins with an edge
+first_edge : (E : TxnId → TxnId → Type 0) (u t : TxnId) → Reaches E u t → (v : TxnId) × E u v
+first_edge E u t (direct e) = (t, e)
+first_edge E u t (through {s = v} p e) = first_edge E u v p
+
+-- an entry of a known list that names u
+pub record IsEntryOf (known : List KnownList) (u t : TxnId) : Type 0 where
+  pub list : KnownList
+  pub is_known : Has list known
+  pub of : list.of ≡ t
+  pub entry : Dependency
+  pub has : Has entry list.edges
+  pub from : entry.from ≡ u
+
+entry_of : (known : List KnownList) (u t : TxnId) → Precedes known u t → IsEntryOf known u t
+entry_of known u t p =
+    let a = any_has (λ (d : Dependency). is_txn d.from u) (entries_of known t) p in
+    let k = known_has known t (entry_known known t a.0 a.1) in
+    record { list = k.0; is_known = k.1; of = k.2; entry = a.0; has = subst (Has a.0) k.3 a.1; from = is_txn-true a.0.from u a.2 }
+
+module _ (plan : Plan) (w : World) (o : HasHeard w) (finals : (n : ℕ) (s : ServerState) → slice_get w.servers n ≡ Some s → (k : KnownList) → Has k s.lists.known → IsFinalIn plan w k.of k.edges) (out : (u : TxnId) → AreDelivered w u → CommitsAreOut w u) where
+  -- a message in the network of a transaction whose messages were delivered was taken
+  taken : (u : TxnId) → AreDelivered w u → (m : Sent) → Has m w.sent → (msg : Msg) (to : Node) → m.msg ≡ msg → m.to ≡ to → id_of msg ≡ Some u → IsTaken w.servers w.sent msg to
+  taken u d m h msg to is goes of =
+      let p = has_place w.sent m h in
+      subst (IsTaken w.servers w.sent msg) goes (subst (λ msg. IsTaken w.servers w.sent msg m.to) is (o.taken p.0 m p.1 (d.each p.0 m p.1 (ap id_of is ∙ of))))
+
+  -- where it has a group its list is known
+  known_here : (u : TxnId) → AreDelivered w u → (n : ℕ) (s : ServerState) → slice_get w.servers n ≡ Some s → is_here u s.started ≡ true → IsKnown s.lists.known u
+  known_here u d n s there here =
+      let q = any_has (λ (e : StartedGroup). is_txn e.id u) s.started here in
+      let st = (o.servers n s there).starts.groups q.0 q.1 in
+      let start : st.3.msg ≡ Start u st.0 q.0.group st.1 st.2 = subst (λ t. st.3.msg ≡ Start t st.0 q.0.group st.1 st.2) (is_txn-true q.0.id u q.2) st.6 in
+      let c = (out u d).each st.3 (record { 0 = n }) st.0 q.0.group st.1 st.2 st.4 st.5 start in
+      let a : At w.servers n (HasCommit w.sent u (record { 0 = n })) = taken u d c.2 c.3 (Commit u c.0 c.1) (Server (record { 0 = n })) c.5 c.4 refl in
+      subst (λ (v : ServerState). IsKnown v.lists.known u) (same_there w.servers n a.0 s a.1 there) a.2.1
+
+  -- an entry of a known list comes from a startok in the network
+  named_sent : (n : ℕ) (s : ServerState) → slice_get w.servers n ≡ Some s → (u t : TxnId) → Precedes s.lists.known u t → PrecedesIn w.sent u t
+  named_sent n s there u t p =
+      let e = entry_of s.lists.known u t p in
+      let f = finals n s there e.list e.is_known in
+      let range = range_with_len 0 (length (groups_of plan f.proc)) in
+      let a = (IsAllOf-united (flat_map f.union.told range) e.entry (subst (Has e.entry) f.union.is_union e.has)).at in
+      let g = from_has_flat f.union.told a.0 range a.1 in
+      let k = f.union.in_network g.0 (all_has (λ g. g < length (groups_of plan f.proc)) g.0 range (range_below 0 (length (groups_of plan f.proc)) (length (groups_of plan f.proc)) (omega arith)) g.1) in
+      record { group = g.0; edges = f.union.told g.0; facts = k.0; told = subst (λ t. IsToldIn w.sent t g.0 (f.union.told g.0) k.0) e.of k.1; entry = a.0; listed = g.2; from = a.2 ∙ e.from }
+
+  module _ (t : TxnId) (quiet : IsQuiet w t) where
+    own : AreDelivered w t
+    own = record { each = λ k m at of. quiet.each k m t at of (inl refl) }
+
+    module _ (n : ℕ) (s : ServerState) (there : slice_get w.servers n ≡ Some s) where
+      before : (u : TxnId) → Reaches (Precedes s.lists.known) u t → AreDelivered w u
+      before u p = record { each = λ k m at of. quiet.each k m u at of (inr (weaker_chain (Precedes s.lists.known) (PrecedesIn w.sent) (named_sent n s there) u t p)) }
+
+      -- what was asked for was answered
+      answered_known : (u : TxnId) → AreDelivered w u → (a : Asked) → Has a s.lists.waiting.asked → a.id ≡ u → (b : Bool) → is_known s.lists.known u ≡ b → IsKnown s.lists.known u
+      answered_known u d a h of true e = e
+      answered_known u d a h of false e =
+          let f = (o.servers n s there).fetched a h (λ k. false≢true (sym e ∙ subst (IsKnown s.lists.known) of k)) in
+          let me : Shard = record { 0 = n } in
+          let fetch : f.0.msg ≡ Fetch u me = subst (λ u. f.0.msg ≡ Fetch u me) of f.3 in
+          elim (taken u d f.0 f.1 (Fetch u me) (Server a.at) fetch f.2 refl) [
+            | inl k ↦
+                (let v : At w.servers n (HasList u) = taken u d k.1 k.2 (Known u k.0) (Server me) k.4 k.3 refl in
+                subst (λ (v : ServerState). IsKnown v.lists.known u) (same_there w.servers n v.0 s v.1 there) v.2)
+            | inr k ↦ absurd (k.2.2 (known_here u d a.at.0 k.0 k.1 k.2.0))
+          ]
+
+      -- all that precedes it is known
+      known_before : (u : TxnId) → Reaches (Precedes s.lists.known) u t → IsKnown s.lists.known u
+      known_before u p =
+          let e = first_edge (Precedes s.lists.known) u t p in
+          let x = entry_of s.lists.known u e.0 e.1 in
+          let d = before u p in
+          elim (subst (IsSought s) x.from ((o.servers n s there).seeks x.list x.is_known x.entry x.has)) [
+            | inl k ↦ k
+            | inr (inl here) ↦ known_here u d n s there here
+            | inr (inr asked) ↦ (let a = any_has (λ (a : Asked). is_txn a.id u) s.lists.waiting.asked asked in answered_known u d a.0 a.1 (is_txn-true a.0.id u a.2) (is_known s.lists.known u) refl)
+          ]
+
+      decided_here : is_here t s.started ≡ true → IsDecided s.lists.known t
+      decided_here here = record { own = known_here t own n s there here; ancestors = known_before }
+
+    commits_answered : CommitsHeard w t
+    commits_answered = record {
+      each = λ k m shard edges facts at goes is d.
+          (let a : At w.servers shard.0 (HasCommit w.sent t shard) = subst (IsTaken w.servers w.sent (Commit t edges facts)) goes (subst (λ msg. IsTaken w.servers w.sent msg m.to) is (o.taken k m at d)) in
+          a.2.2 (decided_here shard.0 a.0 a.1 a.2.0));
+    }
+
+-- ---- every run
+
+module _ (plan : Plan) (schemes : HasSchemes plan) (laws : (S : Scheme) → IsSoundScheme S → LogLaws S (start_store plan.program)) (stores : StoreLaws) (coords : ℕ) (steps : List Stepped) (w : World) (run : IsRun plan coords steps w) where
+  heard : HasHeard w
+  heard = run_heard plan schemes laws stores coords steps w run
+
+  -- each start goes to a server
+  start_to : (m : Sent) → Has m w.sent → (t : TxnId) (proc group : ℕ) (args inputs : List ℤ) → m.msg ≡ Start t proc group args inputs → (shard : Shard) × (m.to ≡ Server shard)
+  start_to m h t proc group args inputs is = elim (cases_lt 0 (length plan.program.procedures)) [
+    | inl some ↦
+        (let x = serial.logged plan schemes laws stores coords steps w run some in
+        let k = subst (λ msg. Means plan (serial.asked plan schemes laws stores coords steps w run some) (serial.S plan schemes laws stores coords steps w run some) (start_store plan.program) x.0 msg m.to) is (x.1.means.messages m h) in
+        (_, k.to))
+    | inr none ↦ absurd (subst (Has m) (run_idle plan none coords steps w run).sent h)
+  ]
+
+  -- each start that was delivered has a startok in the network
+  pub starts_heard : (t : TxnId) → StartsHeard w t
+  starts_heard t = record {
+    each = λ k m proc group args inputs at is d.
+        (let to = start_to m (has_at w.sent k m at) t proc group args inputs is in
+        subst (IsTaken w.servers w.sent (Start t proc group args inputs)) to.1 (subst (λ msg. IsTaken w.servers w.sent msg m.to) is (heard.taken k m at d)));
+  }
+
+  module _ (out : (u : TxnId) → AreDelivered w u → CommitsAreOut w u) where
+    finals : (n : ℕ) (s : ServerState) → slice_get w.servers n ≡ Some s → (k : KnownList) → Has k s.lists.known → IsFinalIn plan w k.of k.edges
+    finals = known_final plan schemes laws stores coords steps w run
+
+    -- a quiet transaction is decided wherever it has a group
+    pub quiet_is_decided : (t : TxnId) → IsQuiet w t → (shard : Shard) (s : ServerState) → slice_get w.servers shard.0 ≡ Some s → (e : StartedGroup) → Has e s.started → e.id ≡ t → IsDecided s.lists.known t
+    quiet_is_decided t quiet shard s there e h of = decided_here plan w heard finals out t quiet shard.0 s there (has_any (λ (e : StartedGroup). is_txn e.id t) s.started e h (is_txn-eq e.id t of))
+
+    -- each commit of it that was delivered has a commitok in the network
+    pub commits_heard : (t : TxnId) → IsQuiet w t → CommitsHeard w t
+    commits_heard t quiet = commits_answered plan w heard finals out t quiet

@@ -1,0 +1,337 @@
+-- What the lines of a run show of its messages: each that was sent, and as delivered only what was; so what looks quiet is answered
+use Rattle.std.proofs.Common.{◌≡◌, ℕ, ℤ, zero, suc, ◌+◌, ◌-◌, ◌<◌, ◌≤◌, ◌==◌, not, List, [], ◌∷◌, ◌++◌, Option, Some, None, Result, Ok, Err, length, map, drop, refl, sym, ap, subst, ◌∙◌, inl, inr, arith, append-nil, length-append}
+use Rattle.std.proofs.lemmas.Bool.{eq-eqb, not-true, false≢true}
+use Rattle.std.proofs.lemmas.List.Prefix.{front_rest}
+use Rattle.std.proofs.lemmas.Option.{slice_get_within}
+use Rattle.std.specs.List.{range_with_len}
+use Rattle.std.specs.Prelude.{slice_get}
+use Rattle.roc_sequence.specs.Lists.{Has}
+use Rattle.roc_sequence.proofs.Members.{has_append, has_left, has_right, from_has_map, from_has_filter}
+use Rattle.roc_base.specs.declared.id.TxnId.{TxnId}
+use Rattle.roc_base.specs.declared.node.Node.{Node}
+use Rattle.roc_base.specs.declared.node.Node.TheVariants.{Server, Coord}
+use Rattle.roc_depgraph.specs.Reach.{ReachesOrIs}
+use Rattle.roc_depgraph.proofs.Chains.{weaker_chain}
+use Rattle.roc_groups.proofs.Elements.{has_flat_map, from_has_flat_map, from_has_range}
+use Rattle.roc_msg.specs.declared.msg.Msg.{Msg}
+use Rattle.roc_msg.specs.declared.msg.Sent.{Sent}
+use Rattle.roc_msg.specs.declared.outbox.Outgoing.{Outgoing}
+use Rattle.roc_msg.specs.Msg.{id_of}
+use Rattle.roc_plan.specs.Groups.{Plan}
+use Rattle.roc_coord.specs.declared.handled.SubmitFault.{SubmitFault}
+use Rattle.roc_coord.specs.declared.handled.SubmitFault.TheVariants as fault
+use Rattle.roc_coord.specs.State.{CoordState}
+use Rattle.roc_audit.specs.declared.entry.Entry.TheVariants as entry
+use Rattle.roc_protocol.specs.declared.event.Event.{Event}
+use Rattle.roc_protocol.specs.declared.event.Event.TheVariants as event
+use Rattle.roc_protocol.specs.declared.event.Seen.{Seen}
+use Rattle.roc_protocol.specs.declared.event.Seen.TheVariants as seen
+use Rattle.roc_protocol.specs.World.{World, sent_by, comes}
+use Rattle.roc_protocol.specs.Happens.{Outcome, Submits, IsReceived, Ticks, Happens}
+use Rattle.roc_protocol.specs.Run.{Stepped, Comes, IsRun, begun, goes_on}
+use Rattle.roc_protocol.specs.Quiet.{PrecedesIn, WasDelivered, IsQuiet}
+use Rattle.roc_world.specs.Reads.{cells_of, unanswered_of}
+use Rattle.roc_report.specs.Shown.{message_kind, edges_of, shown_message}
+use Rattle.roc_report.specs.Line.{Line, ShownMessage, Submit, Deliver, Send, Answer, Row, Pending}
+use Rattle.roc_replay.specs.Cells.{by_cell}
+use Rattle.roc_replay.specs.Report.{submission_lines, ignored_lines, first_lines, send_lines, answer_lines, step_lines, steps_lines, end_line, closing_lines, report}
+use Rattle.roc_replay.specs.Told.{entries_in, history_in, IsShownBefore, LooksQuiet}
+use Rattle.roc_replay.proofs.Growing.{run_lines}
+
+-- ---- which lines show messages
+
+-- a line that shows a delivery shows one of these, and a line that shows a message one of these
+module _ (Came : ℕ → Type 0) (Went : ℕ → ShownMessage → Type 0) where
+  abbrev Says : Line → Type 0
+  Says (Deliver k) = Came k
+  Says (Send number message) = Went number message
+  Says _ = Unit {0}
+
+  submission_says : (coord proc : ℕ) (args : List ℤ) (what : Seen) (line : Line) → Has line (submission_lines coord proc args what) → Says line
+  submission_says coord proc args (seen.Submitted id) line (inl e) = subst Says (sym e) tt
+  submission_says coord proc args seen.Spent line (inl e) = subst Says (sym e) tt
+  submission_says coord proc args seen.Busy line (inl e) = subst Says (sym e) tt
+  submission_says coord proc args (seen.Submitted id) line (inr h) = absurd h
+  submission_says coord proc args seen.Spent line (inr h) = absurd h
+  submission_says coord proc args seen.Busy line (inr h) = absurd h
+  submission_says coord proc args seen.Done line h = absurd h
+  submission_says coord proc args (seen.Answered id reply) line h = absurd h
+  submission_says coord proc args (seen.Ignored reason) line h = absurd h
+
+  ignored_says : (what : Seen) (line : Line) → Has line (ignored_lines what) → Says line
+  ignored_says (seen.Ignored reason) line (inl e) = subst Says (sym e) tt
+  ignored_says (seen.Ignored reason) line (inr h) = absurd h
+  ignored_says (seen.Submitted id) line h = absurd h
+  ignored_says seen.Spent line h = absurd h
+  ignored_says seen.Busy line h = absurd h
+  ignored_says seen.Done line h = absurd h
+  ignored_says (seen.Answered id reply) line h = absurd h
+
+  answer_says : (what : Seen) (line : Line) → Has line (answer_lines what) → Says line
+  answer_says (seen.Answered id reply) line (inl e) = subst Says (sym e) tt
+  answer_says (seen.Answered id reply) line (inr h) = absurd h
+  answer_says (seen.Submitted id) line h = absurd h
+  answer_says seen.Spent line h = absurd h
+  answer_says seen.Busy line h = absurd h
+  answer_says seen.Done line h = absurd h
+  answer_says (seen.Ignored reason) line h = absurd h
+
+  first_says : (e : Option Event) (what : Seen) → ((k : ℕ) → e ≡ Some (event.Deliver k) → Came k) → (line : Line) → Has line (first_lines e what) → Says line
+  first_says None what f line (inl i) = subst Says (sym i) tt
+  first_says None what f line (inr h) = absurd h
+  first_says (Some (event.Submit coord proc args)) what f line h = submission_says coord proc args what line h
+  first_says (Some (event.Deliver k)) what f line (inl i) = subst Says (sym i) (f k refl)
+  first_says (Some (event.Deliver k)) what f line (inr h) = ignored_says what line h
+  first_says (Some (event.Tick node)) what f line (inl i) = subst Says (sym i) tt
+  first_says (Some (event.Tick node)) what f line (inr h) = absurd h
+
+  sends_say : (number : ℕ) (sent : List Sent) → ((n : ℕ) (message : ShownMessage) → Has (Send n message) (send_lines number sent) → Went n message) → (line : Line) → Has line (send_lines number sent) → Says line
+  sends_say number [] f line h = absurd h
+  sends_say number (m ∷ rest) f line (inl e) = subst Says (sym e) (f number (shown_message m) (inl refl))
+  sends_say number (m ∷ rest) f line (inr h) = sends_say (number + 1) rest (λ n message k. f n message (inr k)) line h
+
+  closing_says : (w : World) (line : Line) → Has line (closing_lines w) → Says line
+  closing_says w line (inl e) = subst Says (sym e) tt
+  closing_says w line (inr h) = elim (has_append line (map (λ e. Row e.0 e.1) (by_cell (cells_of w))) _ h) [
+    | inl k ↦ (let r = from_has_map (λ e. Row e.0 e.1) line (by_cell (cells_of w)) k in subst Says (sym r.2) tt)
+    | inr k ↦ elim (has_append line (map Pending (unanswered_of w)) (end_line w ∷ []) k) [
+      | inl j ↦ (let r = from_has_map Pending line (unanswered_of w) j in subst Says (sym r.2) tt)
+      | inr j ↦ elim j [ inl e ↦ subst Says (sym e) tt | inr i ↦ elim i [ ] ]
+    ]
+  ]
+
+-- the messages that a step sends, as lines
+abbrev new_lines : List Sent → Stepped → List Line
+new_lines before step = send_lines (length before + 1) (drop (length before) step.outcome.world.sent)
+
+-- the lines of a step show what it sends, and as delivered what it delivers
+step_says : (before : List Sent) (step : Stepped) (line : Line) → Has line (step_lines before step)
+    → Says (λ k. step.event ≡ Some (event.Deliver k)) (λ n message. Has (Send n message) (new_lines before step)) line
+step_says before step line h =
+    let Came : ℕ → Type 0 = λ k. step.event ≡ Some (event.Deliver k) in
+    let Went : ℕ → ShownMessage → Type 0 = λ n message. Has (Send n message) (new_lines before step) in
+    elim (has_append line (first_lines step.event step.outcome.seen) (new_lines before step ++ answer_lines step.outcome.seen) h) [
+      | inl k ↦ first_says Came Went step.event step.outcome.seen (λ k e. e) line k
+      | inr k ↦ elim (has_append line (new_lines before step) (answer_lines step.outcome.seen) k) [
+        | inl j ↦ sends_say Came Went (length before + 1) (drop (length before) step.outcome.world.sent) (λ n message i. i) line j
+        | inr j ↦ answer_says Came Went step.outcome.seen line j
+      ]
+    ]
+
+-- ---- lines of messages, by number
+
+sends-append : (number : ℕ) (sent more : List Sent) → send_lines number (sent ++ more) ≡ send_lines number sent ++ send_lines (length sent + number) more
+sends-append number [] more = let e : number ≡ 0 + number = omega arith in ap (λ (n : ℕ). send_lines n more) e
+sends-append number (m ∷ rest) more =
+    ap (λ (ls : List Line). Send number (shown_message m) ∷ ls)
+    (sends-append (number + 1) rest more
+    ∙ (let e : length rest + (number + 1) ≡ suc (length rest) + number = omega arith in ap (λ (n : ℕ). send_lines (number + 1) rest ++ send_lines n more) e))
+
+-- a message has a line with its number
+send_at : (number : ℕ) (sent : List Sent) (k : ℕ) (m : Sent) → slice_get sent k ≡ Some m → Has (Send (k + number) (shown_message m)) (send_lines number sent)
+send_at number [] k m e = absurd (cc)
+send_at number (x ∷ rest) zero m e = let same : m ≡ x = cc in let place : 0 + number ≡ number = omega arith in inl (λ i. Send (place i) (shown_message (same i)))
+send_at number (x ∷ rest) (suc k) m e =
+    let place : k + (number + 1) ≡ suc k + number = omega arith in
+    inr (subst (λ (n : ℕ). Has (Send n (shown_message m)) (send_lines (number + 1) rest)) place (send_at (number + 1) rest k m e))
+
+-- and any that is sent has one
+send_of : (number : ℕ) (sent : List Sent) (m : Sent) → Has m sent → (n : ℕ) × Has (Send n (shown_message m)) (send_lines number sent)
+send_of number [] m h = absurd h
+send_of number (x ∷ rest) m (inl e) = (number, inl (ap (λ (m : Sent). Send number (shown_message m)) e))
+send_of number (x ∷ rest) m (inr h) = let r = send_of (number + 1) rest m h in (r.0, inr r.1)
+
+-- a line of a message shows the message with its number
+at_send : (number : ℕ) (sent : List Sent) (n : ℕ) (message : ShownMessage) → Has (Send n message) (send_lines number sent)
+    → (k : ℕ) × (m : Sent) × (n ≡ k + number) × (slice_get sent k ≡ Some m) × (message ≡ shown_message m)
+at_send number [] n message h = absurd h
+at_send number (x ∷ rest) n message (inl e) = let same : n ≡ number = cc in (0, x, omega arith, refl, cc)
+at_send number (x ∷ rest) n message (inr h) =
+    let r = at_send (number + 1) rest n message h in
+    let place = r.2 in
+    (suc r.0, r.1, omega arith, r.3, r.4)
+
+-- ---- what an event sends
+
+-- messages were sent after those of w, and what had been delivered there is still
+abbrev SendsMore : World → World → Type 0
+SendsMore w v = (more : List Sent) × (v.sent ≡ w.sent ++ more) × ((k : ℕ) → k ≤ length w.sent → WasDelivered w k → WasDelivered v k)
+
+sends_nothing : (w : World) → SendsMore w w
+sends_nothing w = ([], sym (append-nil w.sent), λ k l d. d)
+
+-- numbers that come later are greater
+sends_these : (w : World) (from : Node) (outs : List Outgoing)
+    → (more : List Sent) × (w.sent ++ map (sent_by from) outs ≡ w.sent ++ more)
+    × ((k : ℕ) → k ≤ length w.sent → WasDelivered w k → ¬ Has k (w.undelivered ++ range_with_len (length w.sent + 1) (length outs)))
+sends_these w from outs = (
+  map (sent_by from) outs,
+  refl,
+  λ k l d h. elim (has_append k w.undelivered (range_with_len (length w.sent + 1) (length outs)) h) [
+    | inl j ↦ d j
+    | inr j ↦ (let above = (from_has_range (length w.sent + 1) (length outs) k j).0 in absurd (omega arith))
+  ],
+)
+
+submit_sends : (w : World) (coord proc : ℕ) (args : List ℤ) (after : CoordState) (outs : List Outgoing) (r : Result TxnId SubmitFault) (o : Outcome)
+    → Submits w coord proc args after outs r o → SendsMore w o.world
+submit_sends w coord proc args after outs (Ok id) o e = subst (λ (x : Outcome). SendsMore w x.world) (sym e) (sends_these w (Coord coord) outs)
+submit_sends w coord proc args after outs (Err fault.Spent) o e = subst (λ (x : Outcome). SendsMore w x.world) (sym e) (sends_nothing w)
+submit_sends w coord proc args after outs (Err fault.Busy) o e = subst (λ (x : Outcome). SendsMore w x.world) (sym e) (sends_nothing w)
+submit_sends w coord proc args after outs (Err fault.Stopped) o e = absurd e
+submit_sends w coord proc args after outs (Err fault.NoProc) o e = absurd e
+submit_sends w coord proc args after outs (Err fault.Args) o e = absurd e
+submit_sends w coord proc args after outs (Err fault.NoMemory) o e = absurd e
+
+received_sends : (plan : Plan) (w : World) (msg : Msg) (to : Node) (o : Outcome) → IsReceived plan w msg to o → SendsMore w o.world
+received_sends plan w msg (Server shard) o (s, r, there, step, e) = subst (λ (x : Outcome). SendsMore w x.world) (sym e) (sends_these w (Server shard) r.sends)
+received_sends plan w msg (Coord number) o (s, there, e) = subst (λ (x : Outcome). SendsMore w x.world) (sym e) (sends_these w (Coord number) _)
+
+tick_sends : (plan : Plan) (w : World) (node : Node) (o : Outcome) → Ticks plan w node o → SendsMore w o.world
+tick_sends plan w (Server shard) o (s, there, e) = subst (λ (x : Outcome). SendsMore w x.world) (sym e) (sends_these w (Server shard) _)
+tick_sends plan w (Coord number) o (s, there, e) = subst (λ (x : Outcome). SendsMore w x.world) (sym e) (sends_these w (Coord number) _)
+
+-- a message that comes leaves fewer undelivered, and not itself
+stays_delivered : (w : World) (k j : ℕ) → WasDelivered w j → WasDelivered (comes w k) j
+stays_delivered w k j d h = d (from_has_filter (λ (n : ℕ). not (n == k)) j w.undelivered h).0
+
+now_delivered : (w : World) (k : ℕ) → WasDelivered (comes w k) k
+now_delivered w k h = false≢true (sym (not-true (k == k) (from_has_filter (λ (n : ℕ). not (n == k)) k w.undelivered h).1) ∙ eq-eqb k k refl)
+
+comes_sends : (plan : Plan) (w : World) (e : Option Event) (o : Outcome) → Comes plan w e o → SendsMore w o.world
+comes_sends plan w None o h = subst (λ (x : Outcome). SendsMore w x.world) (sym h) (sends_nothing w)
+comes_sends plan w (Some (event.Submit coord proc args)) o (s, there, h) = submit_sends w coord proc args _ _ _ o h
+comes_sends plan w (Some (event.Deliver k)) o (m, some, there, h) =
+    let r = received_sends plan (comes w k) m.msg m.to o h in
+    (r.0, r.1, λ j l d. r.2 j l (stays_delivered w k j d))
+comes_sends plan w (Some (event.Tick node)) o h = tick_sends plan w node o h
+
+-- what is delivered had been sent
+comes_delivered : (plan : Plan) (w : World) (k : ℕ) (o : Outcome) → Happens plan w (event.Deliver k) o → (k ≤ length w.sent) × WasDelivered o.world k
+comes_delivered plan w k o (m, some, there, h) =
+    let within = slice_get_within w.sent (k - 1) m there in
+    let known : k ≤ length w.sent = omega arith in
+    (known, (received_sends plan (comes w k) m.msg m.to o h).2 k known (now_delivered w k))
+
+-- ---- what the lines of a run show
+
+record AreShown (w : World) (lines : List Line) : Type 0 where
+  pub sends : (line : Line) → Has line (send_lines 1 w.sent) → Has line lines
+  pub sent : (number : ℕ) (message : ShownMessage) → Has (Send number message) lines → Has (Send number message) (send_lines 1 w.sent)
+  pub delivered : (k : ℕ) → Has (Deliver k) lines → (k ≤ length w.sent) × WasDelivered w k
+
+-- one step more
+shown_more : (plan : Plan) (w : World) (lines : List Line) (step : Stepped) → Comes plan w step.event step.outcome → AreShown w lines → AreShown step.outcome.world (lines ++ step_lines w.sent step)
+shown_more plan w lines step h shown =
+    let v = step.outcome.world in
+    let grown = comes_sends plan w step.event step.outcome h in
+    let all : send_lines 1 v.sent ≡ send_lines 1 w.sent ++ new_lines w.sent step =
+    ap (send_lines 1) grown.1
+    ∙ sends-append 1 w.sent grown.0
+    ∙ ap (λ (new : List Sent). send_lines 1 w.sent ++ send_lines (length w.sent + 1) new) (sym (front_rest v.sent w.sent grown.0 grown.1)) in
+    let longer : length v.sent ≡ length w.sent + length grown.0 = ap length grown.1 ∙ length-append w.sent grown.0 in
+    record {
+      sends = λ line k. elim (has_append line (send_lines 1 w.sent) (new_lines w.sent step) (subst (Has line) all k)) [
+        | inl j ↦ has_left line lines (step_lines w.sent step) (shown.sends line j)
+        | inr j ↦ has_right line lines (step_lines w.sent step) (has_right line (first_lines step.event step.outcome.seen) _ (has_left line (new_lines w.sent step) (answer_lines step.outcome.seen) j))
+      ];
+      sent = λ number message k. subst (Has (Send number message)) (sym all) (elim (has_append (Send number message) lines (step_lines w.sent step) k) [
+        | inl j ↦ has_left (Send number message) (send_lines 1 w.sent) (new_lines w.sent step) (shown.sent number message j)
+        | inr j ↦ has_right (Send number message) (send_lines 1 w.sent) (new_lines w.sent step) (step_says w.sent step (Send number message) j)
+      ]);
+      delivered = λ k l. elim (has_append (Deliver k) lines (step_lines w.sent step) l) [
+        | inl j ↦ (let before = shown.delivered k j in let known = before.0 in (omega arith, grown.2 k known before.1))
+        | inr j ↦
+            (let now = comes_delivered plan w k step.outcome (subst (λ (e : Option Event). Comes plan w e step.outcome) (step_says w.sent step (Deliver k) j) h) in
+            let known = now.0 in
+            (omega arith, now.1))
+      ];
+    }
+
+run_shown : (plan : Plan) (coords : ℕ) (steps : List Stepped) (w : World) → IsRun plan coords steps w → AreShown w (steps_lines [] steps)
+run_shown plan coords steps w begun = record { sends = λ line h. elim h [ ]; sent = λ number message h. elim h [ ]; delivered = λ k h. elim h [ ] }
+run_shown plan coords steps w (goes_on {steps = before} {w = old} e o r h) =
+    let step : Stepped = record { event = e; outcome = o } in
+    subst (AreShown o.world) (sym (run_lines plan coords before old r step)) (shown_more plan old (steps_lines [] before) step h (run_shown plan coords before old r))
+
+-- ---- what a report shows
+
+-- this is shown of the message with this number
+abbrev pub IsSentAs : World → ℕ → ShownMessage → Type 0
+IsSentAs w number message = (m : Sent) × (0 < number) × (slice_get w.sent (number - 1) ≡ Some m) × (message ≡ shown_message m)
+
+answer_of : (line : Line) (t : TxnId) (reply : List ℤ) → Has (entry.Answered t reply) (entries_in line) → line ≡ Answer t reply
+answer_of (Answer id values) t reply (inl e) = cc
+answer_of (Answer id values) t reply (inr h) = absurd h
+answer_of (Submit id proc args) t reply (inl e) = absurd (cc)
+answer_of (Submit id proc args) t reply (inr h) = absurd h
+answer_of _ t reply h = absurd h
+
+module _ (plan : Plan) (coords : ℕ) (steps : List Stepped) (w : World) (r : IsRun plan coords steps w) where
+  abbrev lines : List Line
+  lines = report steps w
+
+  shown : AreShown w (steps_lines [] steps)
+  shown = run_shown plan coords steps w r
+
+  -- each message that was sent
+  pub sent_is_shown : (number : ℕ) (message : ShownMessage) → IsSentAs w number message → Has (Send number message) lines
+  sent_is_shown number message (m, some, there, is) =
+      let place : number - 1 + 1 ≡ number = omega arith in
+      let own = subst (λ (n : ℕ). Has (Send n (shown_message m)) (send_lines 1 w.sent)) place (send_at 1 w.sent (number - 1) m there) in
+      has_left (Send number message) (steps_lines [] steps) (closing_lines w) (subst (λ (x : ShownMessage). Has (Send number x) (steps_lines [] steps)) (sym is) (shown.sends (Send number (shown_message m)) own))
+
+  -- and no other
+  pub shown_is_sent : (number : ℕ) (message : ShownMessage) → Has (Send number message) lines → IsSentAs w number message
+  shown_is_sent number message h = elim (has_append (Send number message) (steps_lines [] steps) (closing_lines w) h) [
+    | inl k ↦
+        (let q = at_send 1 w.sent number message (shown.sent number message k) in
+        let place = q.2 in
+        let index : q.0 ≡ number - 1 = omega arith in
+        (q.1, omega arith, subst (λ (n : ℕ). slice_get w.sent n ≡ Some q.1) index q.3, q.4))
+    | inr k ↦ elim (closing_says (λ k. ⊥) (λ n m. ⊥) w (Send number message) k) [ ]
+  ]
+
+  -- as delivered only what was
+  pub shown_was_delivered : (k : ℕ) → Has (Deliver k) lines → WasDelivered w k
+  shown_was_delivered k h = elim (has_append (Deliver k) (steps_lines [] steps) (closing_lines w) h) [
+    | inl j ↦ (shown.delivered k j).1
+    | inr j ↦ elim (closing_says (λ k. ⊥) (λ n m. ⊥) w (Deliver k) j) [ ]
+  ]
+
+  -- and each startok with its entries
+  pub precedes_is_shown : (u t : TxnId) → PrecedesIn w.sent u t → IsShownBefore lines u t
+  precedes_is_shown u t p =
+      let m = p.told.message in
+      let own = send_of 1 w.sent m p.told.has in
+      record {
+        number = own.0;
+        message = shown_message m;
+        shown = has_left (Send own.0 (shown_message m)) (steps_lines [] steps) (closing_lines w) (shown.sends (Send own.0 (shown_message m)) own.1);
+        startok = ap message_kind p.told.is;
+        of = ap id_of p.told.is;
+        entry = p.entry;
+        listed = subst (Has p.entry) (sym (ap edges_of p.told.is)) p.listed;
+        from = p.from;
+      }
+
+  -- so what looks quiet is
+  pub looks_is_quiet : (t : TxnId) → LooksQuiet lines t → IsQuiet w t
+  looks_is_quiet t looks =
+      record {
+        each = λ k m u there is chain.
+            (let index : k ≡ suc k - 1 = omega arith in
+            let own = sent_is_shown (suc k) (shown_message m) (m, omega arith, subst (λ (n : ℕ). slice_get w.sent n ≡ Some m) index there, refl) in
+            let led : ReachesOrIs (IsShownBefore lines) u t = elim chain [ inl e ↦ inl e | inr c ↦ inr (weaker_chain (PrecedesIn w.sent) (IsShownBefore lines) precedes_is_shown u t c) ] in
+            shown_was_delivered (suc k) (looks.each (suc k) (shown_message m) u own is led));
+      }
+
+  -- and is answered, where what is quiet is, since the lines show the history
+  pub shown_answered : history_in lines ≡ w.history
+      → ((t : TxnId) (proc : ℕ) (args : List ℤ) → Has (entry.Submitted t proc args) w.history → IsQuiet w t → (reply : List ℤ) × Has (entry.Answered t reply) w.history)
+      → (t : TxnId) (proc : ℕ) (args : List ℤ) → Has (Submit t proc args) lines → LooksQuiet lines t → (reply : List ℤ) × Has (Answer t reply) lines
+  shown_answered history answers t proc args h looks =
+      let submitted = subst (Has (entry.Submitted t proc args)) history (has_flat_map entries_in (entry.Submitted t proc args) (Submit t proc args) lines h (inl refl)) in
+      let answer = answers t proc args submitted (looks_is_quiet t looks) in
+      let found = from_has_flat_map entries_in (entry.Answered t answer.0) lines (subst (Has (entry.Answered t answer.0)) (sym history) answer.1) in
+      (answer.0, subst (λ (line : Line). Has line lines) (answer_of found.0 t answer.0 found.2) found.1)

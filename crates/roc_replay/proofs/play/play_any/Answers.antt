@@ -1,0 +1,19 @@
+use Rattle.std.proofs.Common.{◌∷◌, [], ap, subst, ◌∙◌}
+use Rattle.std.specs.Prelude.{Option}
+use Rattle.roc_program.specs.Program.{Workload}
+use Rattle.roc_protocol.specs.declared.event.Event.{Event}
+use Rattle.roc_report.specs.Line.{Nothing}
+use Rattle.roc_report.specs.Text.{lines_text}
+use Rattle.roc_replay.specs.Asked.{chosen}
+use Rattle.roc_replay.specs.Played.{IsPlayedLine}
+use Rattle.roc_replay.proofs.NothingPlayed.{nothing_played}
+use Rattle.roc_replay.proofs.play.play_any.Goals as goal
+
+pub returns-in_ok-text-in-None-clause-played : goal.returns-in_ok-text-in-None-clause-played
+returns-in_ok-text-in-None-clause-played c =
+    let plan = c.args.plan.now in
+    let w = c.args.world.now in
+    let text = c.in_ok-text-in-None.text.items in
+    let is_played : Option Event → Type 0 = λ e. IsPlayedLine plan e w w text 0 in
+    subst is_played (c.in-None.ensures ∙ ap (chosen c.args.place) c.undelivered.ensures)
+    (nothing_played plan w text (c.in_ok-text-in-None.ensures ∙ ap (λ (p : Workload). lines_text p (Nothing ∷ [])) c.workload.ensures.program))

@@ -1,0 +1,105 @@
+//! What the lines of a schedule ask for, and which line does not fit the plan.
+ghost use Rattle.std.specs.Prelude.{◌≡◌, IfOk, IfErr, Some};
+ghost use Rattle.std.specs.List.{AllByRecursion};
+ghost use Rattle.roc_program.specs.LookUps.{procedure_named};
+ghost use Rattle.roc_sched.specs.Each.{each};
+ghost use Rattle.roc_sched.specs.Schedule.{item_of};
+ghost use Rattle.roc_replay.specs.Asked.{submission_of, wanted_by, asked_by, IsScheduleOf, WantedFits};
+ghost use Rattle.roc_replay.specs.Inner.Reading.{GivesAtLine, IsUnfitBy, IsBlamed};
+
+use crate::{Asked, Wanted};
+use roc_base::Nums;
+use roc_plan::Plan;
+use roc_sched::laws::lines_fit;
+use roc_sched::{Act, Line, TextFault, What, parse_schedule};
+use roc_sequence::Sequence;
+use roc_world::Event;
+use std::alloc::Global;
+
+// A submission of the procedure of this name, with its count of arguments, on the line of a number.
+fn submission_of(
+    plan: &Plan,
+    line: u32,
+    coord: u16,
+    name: &[u8],
+    args: &Nums,
+) -> Result<Wanted, TextFault>
+    ensures { GivesAtLine line result (submission_of plan.now.program coord args.now (procedure_named plan.now.program name.now)) }
+{
+    match plan.procedure_named(name) {
+        Some(proc) => {
+            if args.len() == usize::from(plan.args(proc)) {
+                let args = args.clone()?;
+                Ok(Wanted::Event(Event::Submit { coord, proc, args }))
+            } else {
+                Err(TextFault::At {
+                    line,
+                    what: What::Arguments,
+                })
+            }
+        }
+        None => Err(TextFault::At {
+            line,
+            what: What::Procedure,
+        }),
+    }
+}
+
+// What an act asks for, on the line of a number.
+fn wanted_by(plan: &Plan, line: u32, act: &Act) -> Result<Wanted, TextFault>
+    ensures { GivesAtLine line result (wanted_by plan.now.program act.now) }
+{
+    match act {
+        Act::Submit { coord, name, args } => {
+            submission_of(plan, line, *coord, name.as_bytes(), args)
+        }
+        Act::Deliver(message) => Ok(Wanted::Event(Event::Deliver(*message))),
+        Act::Any(place) => Ok(Wanted::Any(*place)),
+        Act::Tick(node) => Ok(Wanted::Event(Event::Tick(*node))),
+    }
+}
+
+// What a line asks for, with its number.
+fn asked_by(plan: &Plan, line: &Line) -> Result<Asked, TextFault>
+    ensures { GivesAtLine line.now.number result (asked_by plan.now.program line.now) }
+{
+    let number = line.number;
+    match wanted_by(plan, number, &line.act) {
+        Ok(wanted) => Ok(Asked { number, wanted }),
+        Err(fault) => Err(fault),
+    }
+}
+
+// What lines ask for, in order.
+fn all_asked(alloc: Global, plan: &Plan, lines: &[Line]) -> Result<Sequence<Asked>, TextFault>
+    ensures asks { IfOk result (λ asked. each (λ line. item_of (asked_by plan.now.program line)) lines.now ≡ Some asked) }
+    ensures fault { IfErr result (IsUnfitBy plan.now.program lines.now) }
+{
+    let mut asked = Sequence::new(alloc);
+    for line in lines {
+        match asked_by(plan, line) {
+            Ok(one) => asked.push(one)?,
+            Err(fault) => return Err(fault),
+        }
+    }
+    Ok(asked)
+}
+
+/// What the lines of a schedule of a plan ask for.
+///
+/// Of bytes that are no schedule the first fault is named, and of a schedule the first line that does not fit the plan.
+pub fn parse_asked(alloc: Global, plan: &Plan, text: &[u8]) -> Result<Sequence<Asked>, TextFault>
+    ensures found { IfOk result (λ asked. IsScheduleOf plan.now.program text.now asked) }
+    ensures fits { IfOk result (λ asked. AllByRecursion (λ one. WantedFits plan.now.program one.wanted) asked) }
+    ensures fault { IfErr result (IsBlamed plan.now.program text.now) }
+{
+    lines_fit();
+    let lines = match parse_schedule(alloc, text, plan.workload().shards()) {
+        Ok(lines) => lines,
+        Err(fault) => return Err(fault),
+    };
+    match all_asked(alloc, plan, &lines) {
+        Ok(asked) => Ok(asked),
+        Err(fault) => Err(fault),
+    }
+}

@@ -1,0 +1,7 @@
+use Rattle.std.proofs.Common.{◌≡◌, map, filter, take}
+use Rattle.roc_server.specs.Lists.{is_missing, asked_of}
+use Rattle.roc_server.specs.State.{ServerState}
+use Rattle.roc_server.proofs.missing.missing_from.Given as goal
+
+abbrev pub invariant-loop-edge : goal.invariant-loop-edge
+invariant-loop-edge l = (s : ServerState) → s.started ≡ l.started → s.lists.waiting.asked ≡ l.waits.asked → l.asks.items ≡ map asked_of (filter (is_missing s l.deps) (take l.edge-index l.edge-items))

@@ -1,0 +1,49 @@
+//! Answers to those that are decided.
+ghost use Rattle.std.specs.Prelude.{◌≡◌, ◌++◌, ◌∷◌, [], filter, map, OnOk};
+ghost use Rattle.roc_server.specs.Fits.{AreGroupsOf};
+ghost use Rattle.roc_server.specs.Runs.{commitok};
+ghost use Rattle.roc_server.specs.State.{is_here};
+
+use crate::StartedGroup;
+use crate::groups::is_here;
+use crate::runs::outs_here;
+use roc_base::{NoMemory, Node, Shard, TxnId};
+use roc_msg::{Msg, Outbox};
+use roc_plan::Plan;
+use std::alloc::Global;
+
+// Answers each of these that has a group here.
+pub(crate) fn send_commitoks(
+    alloc: Global,
+    plan: &Plan,
+    shard: Shard,
+    started: &[StartedGroup],
+    ids: &[TxnId],
+    out: &mut Outbox,
+) -> Result<(), NoMemory>
+    requires { AreGroupsOf plan.now started.now }
+    ensures { OnOk result (out.new ≡ record out.old { messages = out.old.messages ++ map (commitok plan.now shard started.now) (filter (λ t. is_here t started.now) ids.now) }) }
+{
+    for id in ids {
+        if is_here(started, *id) {
+            send_commitok(alloc, plan, shard, started, *id, out)?;
+        }
+    }
+    Ok(())
+}
+
+// Tells a transaction's coordinator what its groups here gave.
+pub(crate) fn send_commitok(
+    alloc: Global,
+    plan: &Plan,
+    shard: Shard,
+    started: &[StartedGroup],
+    id: TxnId,
+    out: &mut Outbox,
+) -> Result<(), NoMemory>
+    requires { AreGroupsOf plan.now started.now }
+    ensures { OnOk result (out.new ≡ record out.old { messages = out.old.messages ++ commitok plan.now shard started.now id ∷ [] }) }
+{
+    let outs = outs_here(alloc, plan, id, started)?;
+    out.send(Node::Coord(id.coord), Msg::CommitOk { id, shard, outs })
+}

@@ -1,0 +1,101 @@
+//! Lists that a message teaches.
+ghost use Rattle.std.specs.Prelude.{◌≡◌, ◌++◌, ◌∷◌, [], filter, IfOk, OnOk};
+ghost use Rattle.roc_await.specs.Lacks.{AreLacks, AreDecidedBy};
+ghost use Rattle.roc_base.specs.TxnId.{txn_lt};
+ghost use Rattle.roc_server.specs.Inner.News.{AreLearnable};
+ghost use Rattle.roc_server.specs.Lists.{list_with, carried, unknown_of};
+
+use roc_await::Lacks;
+use roc_base::{Edges, NoMemory, TxnId};
+use roc_depgraph::{Deps, KnownList};
+use std::alloc::Global;
+
+// The lists that a commit carries of transactions of which none is known, by id.
+pub(crate) fn news_of_commit(
+    alloc: Global,
+    deps: &Deps,
+    id: TxnId,
+    edges: &Edges,
+    facts: &[KnownList],
+) -> Result<Vec<KnownList>, NoMemory>
+    ensures { IfOk result (λ news. news.items ≡ unknown_of deps.now (carried id edges.now facts.now)) }
+{
+    let mut news = Vec::new(alloc);
+    push_before(deps, id, facts, &mut news)?;
+    push_unknown(deps, id, edges, &mut news)?;
+    push_behind(deps, id, facts, &mut news)?;
+    Ok(news)
+}
+
+// A list, where none is known of its transaction.
+pub(crate) fn push_unknown(
+    deps: &Deps,
+    of: TxnId,
+    edges: &Edges,
+    news: &mut Vec<KnownList>,
+) -> Result<(), NoMemory>
+    ensures { OnOk result (news.new.items ≡ news.old.items ++ unknown_of deps.now (list_with of edges.now ∷ [])) }
+{
+    if deps.list(of).is_some() {
+        return Ok(());
+    }
+    let edges = edges.clone()?;
+    news.push(KnownList { of, edges })?;
+    Ok(())
+}
+
+// The unknown ones before an id.
+fn push_before(
+    deps: &Deps,
+    id: TxnId,
+    facts: &[KnownList],
+    news: &mut Vec<KnownList>,
+) -> Result<(), NoMemory>
+    ensures { OnOk result (news.new.items ≡ news.old.items ++ unknown_of deps.now (filter (λ f. txn_lt f.of id) facts.now)) }
+{
+    for fact in facts {
+        if fact.of < id {
+            push_unknown(deps, fact.of, &fact.edges, news)?;
+        }
+    }
+    Ok(())
+}
+
+// The unknown ones behind an id.
+fn push_behind(
+    deps: &Deps,
+    id: TxnId,
+    facts: &[KnownList],
+    news: &mut Vec<KnownList>,
+) -> Result<(), NoMemory>
+    ensures { OnOk result (news.new.items ≡ news.old.items ++ unknown_of deps.now (filter (λ f. txn_lt id f.of) facts.now)) }
+{
+    for fact in facts {
+        if id < fact.of {
+            push_unknown(deps, fact.of, &fact.edges, news)?;
+        }
+    }
+    Ok(())
+}
+
+// Learns lists, where none is known of their transactions, and gives what they decide, in no order.
+pub(crate) fn learn_all(
+    alloc: Global,
+    deps: &mut Deps,
+    lacks: &mut Lacks,
+    news: &[KnownList],
+) -> Result<Vec<TxnId>, NoMemory>
+    requires learnable { AreLearnable deps.old news.now }
+    requires lacks { AreLacks deps.old lacks.old }
+    ensures learnt { OnOk result (deps.new ≡ deps.old ++ news.now) }
+    ensures lacks { OnOk result (AreLacks deps.new lacks.new) }
+    ensures decided { IfOk result (λ ids. AreDecidedBy deps.old deps.new ids.items) }
+{
+    let mut ids = Vec::new(alloc);
+    for k in news {
+        let more = lacks.learn(deps, k)?;
+        ids.extend_from_slice(&more)?;
+        deps.learn(k.of, &k.edges)?;
+    }
+    Ok(ids)
+}

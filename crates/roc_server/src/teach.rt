@@ -1,0 +1,85 @@
+//! Lists that are new are taught.
+ghost use Rattle.std.specs.Prelude.{◌≡◌, ◌++◌, false, IfOk, OnOk};
+ghost use Rattle.roc_base.specs.declared.node.Shard.{Shard as At};
+ghost use Rattle.roc_base.specs.TxnId.{is_txn};
+ghost use Rattle.roc_sequence.specs.Places.{IsListed, NoneTwice};
+ghost use Rattle.roc_server.specs.Fits.{AreGroupsOf};
+ghost use Rattle.roc_server.specs.Inner.Kept.{is_same_group, IsConsistent};
+ghost use Rattle.roc_server.specs.Inner.News.{AreLearnable};
+ghost use Rattle.roc_server.specs.Inner.Taught.{KnowsMore, TakesNew, Teaches};
+ghost use Rattle.roc_server.specs.New.{AreAllNew};
+
+use crate::askers::{drop_all, tell_all};
+use crate::commitoks::send_commitoks;
+use crate::decided::{newly_decided, with_decided};
+use crate::kept::Kept;
+use crate::missing::{keep_asked, missing_from, send_fetches};
+use crate::news::learn_all;
+use crate::runs::run_all;
+use roc_await::Asked;
+use roc_base::{NoMemory, Shard, TxnId};
+use roc_depgraph::KnownList;
+use roc_msg::Outbox;
+use roc_plan::Plan;
+use std::alloc::Global;
+
+// Teaches lists of transactions of which none is known, with all that comes of it.
+pub(crate) fn teach(
+    alloc: Global,
+    plan: &Plan,
+    shard: Shard,
+    kept: &mut Kept,
+    news: &[KnownList],
+    out: &mut Outbox,
+) -> Result<(), NoMemory>
+    requires fits { AreGroupsOf plan.now kept.old.started.items }
+    requires sound { IsConsistent kept.old }
+    requires learnable { AreLearnable kept.old.deps news.now }
+    ensures { OnOk result (Teaches plan.now shard kept.old kept.new out.old out.new news.now) }
+{
+    let (asks, ids) = know_more(alloc, kept, news, out)?;
+    take_new(alloc, plan, shard, kept, &ids, out)?;
+    send_fetches(shard, &asks, out)?;
+    Ok(())
+}
+
+// Tells the lists to those who asked for them, keeps them, and finds what is missing and what they decide.
+fn know_more(
+    alloc: Global,
+    kept: &mut Kept,
+    news: &[KnownList],
+    out: &mut Outbox,
+) -> Result<(Vec<Asked>, Vec<TxnId>), NoMemory>
+    requires learnable { AreLearnable kept.old.deps news.now }
+    requires sound { IsConsistent kept.old }
+    ensures { IfOk result (λ found. (shard : At) → KnowsMore shard kept.old kept.new out.old out.new news.now found.0.items found.1.items) }
+{
+    tell_all(kept.waits.askers(), news, out)?;
+    let ids = learn_all(alloc, &mut kept.deps, &mut kept.lacks, news)?;
+    let asks = missing_from(alloc, news, &kept.deps, &kept.started, &kept.waits)?;
+    drop_all(&mut kept.waits, news)?;
+    keep_asked(&mut kept.waits, &asks)?;
+    Ok((asks, ids))
+}
+
+// Takes what the known lists newly decide: these.
+fn take_new(
+    alloc: Global,
+    plan: &Plan,
+    shard: Shard,
+    kept: &mut Kept,
+    ids: &[TxnId],
+    out: &mut Outbox,
+) -> Result<(), NoMemory>
+    requires fits { AreGroupsOf plan.now kept.old.started.items }
+    requires once { NoneTwice is_same_group kept.old.started.items }
+    requires new { AreAllNew (IsListed is_txn kept.old.decided) kept.old.deps ids.now }
+    ensures { OnOk result (TakesNew plan.now shard kept.old kept.new out.old out.new) }
+{
+    let ids = newly_decided(alloc, kept, ids)?;
+    run_all(alloc, plan, &ids, &mut kept.started, &mut kept.rows)?;
+    kept.decided = with_decided(alloc, kept.decided.as_slice(), &ids)?;
+    out.decided.extend_from_slice(&ids)?;
+    send_commitoks(alloc, plan, shard, &kept.started, &ids, out)?;
+    Ok(())
+}

@@ -1,5 +1,0 @@
-use Rattle.roc_shard.proofs.Kept_first.{nothing_sound}
-use Rattle.roc_shard.proofs.kept.Kept.new.Goals as goal
-
-pub returns-clause-sound : goal.returns-clause-sound
-returns-clause-sound c = nothing_sound _ c.new.ensures.items c.new-2.ensures c.new-4.ensures

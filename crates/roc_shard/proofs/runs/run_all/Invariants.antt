@@ -1,6 +1,0 @@
-use Rattle.std.proofs.Common.{drop}
-use Rattle.roc_shard.proofs.Group_runs.{TakesFrom}
-use Rattle.roc_shard.proofs.runs.run_all.Given as goal
-
-abbrev pub invariant-loop-id : goal.invariant-loop-id
-invariant-loop-id l = TakesFrom l.plan l.ids (drop l.id-index l.ids) l.initial.started.items l.started.items l.initial.rows.store l.rows.store

@@ -1,9 +1,0 @@
-pub mod State
-pub mod First
-pub mod Start
-pub mod New
-pub mod Runs
-pub mod Lists
-pub mod Fits
-pub mod Step
-pub mod Inner

@@ -1,0 +1,149 @@
+-- What an event leaves in the fields of a world is what the definitions say
+use Rattle.std.proofs.Common.{◌≡◌, ℕ, ℤ, zero, suc, ◌+◌, ◌-◌, ◌<◌, ◌==◌, not, List, [], ◌∷◌, ◌++◌, Option, Some, None, Result, Err, length, map, filter, get_or, slice_get, slice_set, refl, sym, ap, subst, ◌∙◌}
+use Rattle.std.proofs.lemmas.Option.{slice_get-get_or}
+use Rattle.std.specs.List.{range_with_len}
+use Rattle.roc_base.specs.declared.id.TxnId.{TxnId}
+use Rattle.roc_base.specs.declared.node.Node.{Node}
+use Rattle.roc_base.specs.declared.node.Node.TheVariants.{Server, Coord}
+use Rattle.roc_base.specs.declared.node.Shard.{Shard}
+use Rattle.roc_msg.specs.declared.msg.Sent.{Sent}
+use Rattle.roc_msg.specs.declared.outbox.Outbox.{Outbox}
+use Rattle.roc_msg.specs.declared.outbox.Outgoing.{Outgoing}
+use Rattle.roc_plan.specs.Groups.{Plan}
+use Rattle.roc_server.specs.declared.handled.Handled.{Handled as ServerHandled}
+use Rattle.roc_server.specs.State.{answered, ServerState}
+use Rattle.roc_server.specs.Step as server
+use Rattle.roc_coord.specs.declared.handled.Handled.{Handled as CoordHandled}
+use Rattle.roc_coord.specs.declared.handled.SubmitFault.{SubmitFault}
+use Rattle.roc_coord.specs.declared.handled.SubmitFault.TheVariants as fault
+use Rattle.roc_coord.specs.State.{CoordState}
+use Rattle.roc_coord.specs.Step.{after_message}
+use Rattle.roc_coord.specs.Submit.{refusal_of, refused_or_accepted, after_submit, UnlessStopped}
+use Rattle.roc_audit.specs.declared.entry.Entry.{Entry}
+use Rattle.roc_audit.specs.Order.{noted}
+use Rattle.roc_protocol.specs.declared.event.Event.TheVariants.{Submit, Deliver, Tick}
+use Rattle.roc_protocol.specs.declared.event.Seen.{Seen}
+use Rattle.roc_protocol.specs.declared.event.Seen.TheVariants as seen
+use Rattle.roc_protocol.specs.World.{World, sent_by, sends, comes, at_server}
+use Rattle.roc_protocol.specs.Happens.{Outcome, undecided, Submits, server_seen, coord_seen, answer_entries, served, coordinated, IsReceived}
+use Rattle.roc_world.specs.Inner.Messages.{Messages}
+use Rattle.roc_world.specs.Inner.Nodes.{ServerTakes, CoordTakes, CoordSubmits, ServerTicks}
+use Rattle.roc_world.specs.Inner.Parts.{Leads}
+
+-- what was read at a place is there
+pub read_there : {A : Type 0} (xs lent : List A) (i : ℕ) (x : A) → i < length xs → lent ≡ xs → x ≡ get_or lent i x → slice_get xs i ≡ Some x
+read_there xs lent i x within same is = slice_get-get_or xs i x within ∙ ap Some (sym (is ∙ ap (λ ys. get_or ys i x) same))
+
+-- the network after a node has sent
+pub record HasSent (from : Node) (messages : List Outgoing) (old new : Messages) : Type 0 where
+  pub sent : new.sent ≡ old.sent ++ map (sent_by from) messages
+  pub undelivered : new.undelivered ≡ old.undelivered ++ range_with_len (length old.sent + 1) (length messages)
+
+module _ (plan : Plan) (w : World) where
+  abbrev network : Messages
+  network = record { sent = w.sent; undelivered = w.undelivered }
+
+  -- ---- a delivery
+
+  module _ (k : ℕ) (m : Sent) (some : 0 < k) (there : slice_get w.sent (k - 1) ≡ Some m) where
+    abbrev delivered : Messages
+    delivered = record { sent = w.sent; undelivered = filter (λ n. not (n == k)) w.undelivered }
+
+    pub server_comes :
+        (shard : Shard) → m.to ≡ Server shard → (answer : ServerHandled) (what : Seen) (servers : List ServerState) (noted_in : Messages) (before out : Outbox) (after : World)
+        → before.messages ≡ [] → before.decided ≡ [] → ServerTakes plan shard.0 m.msg answer w.servers servers before out → what ≡ server_seen answer → noted_in ≡ delivered
+        → after ≡ record (sends (record w { servers = servers; sent = noted_in.sent; undelivered = noted_in.undelivered }) (Server shard) out.messages) { order = noted w.order out.decided }
+        → Leads plan w (Deliver k) what after
+    server_comes shard to answer what servers noted_in before out after none undecided_yet takes what_is network_is after_is =
+        let r = takes.step in
+        let outs : out.messages ≡ r.sends = takes.shows.sends ∙ ap (λ xs. xs ++ r.sends) none in
+        let ids : out.decided ≡ r.decided = takes.shows.decides ∙ ap (λ xs. xs ++ r.decided) undecided_yet in
+        let sees : what ≡ server_seen r.answer = what_is ∙ ap server_seen (sym takes.shows.answers) in
+        let others = takes.others in
+        let world_is : after ≡ at_server (comes w k) shard.0 r =
+        after_is ∙ (λ i. record (sends (record w { servers = others i; sent = (network_is i).sent; undelivered = (network_is i).undelivered }) (Server shard) (outs i)) { order = noted w.order (ids i) }) in
+        let is : record { seen = what; decided = r.decided; world = after } ≡ served (comes w k) shard.0 r = λ i. record { seen = sees i; decided = r.decided; world = world_is i } in
+        (r.decided, (m, some, there, subst (λ (node : Node). IsReceived plan (comes w k) m.msg node (record { seen = what; decided = r.decided; world = after })) (sym to) (takes.server, r, takes.there, takes.handles, is)))
+
+    pub coord_comes :
+        (number : ℕ) → m.to ≡ Coord number → (answer : CoordHandled) (what : Seen) (coords : List CoordState) (noted_in after : Messages) (history : List Entry) (before out : Outbox)
+        → before.messages ≡ [] → CoordTakes plan number m.msg answer w.coords coords before out → what ≡ coord_seen answer → noted_in ≡ delivered
+        → HasSent (Coord number) out.messages noted_in after → history ≡ w.history ++ answer_entries answer
+        → Leads plan w (Deliver k) what (record w { coords = coords; sent = after.sent; undelivered = after.undelivered; history = history })
+    coord_comes number to answer what coords noted_in after history before out none takes what_is network_is sent told =
+        let r = after_message plan takes.coord m.msg in
+        let outs : out.messages ≡ r.sends = ap (λ (o : Outbox). o.messages) takes.outcome.sent ∙ ap (λ xs. xs ++ r.sends) none in
+        let sees : what ≡ coord_seen r.answer = what_is ∙ ap coord_seen takes.outcome.answer in
+        let others = takes.others in
+        let is_sent = sent.sent ∙ (λ i. (network_is i).sent ++ map (sent_by (Coord number)) (outs i)) in
+        let is_undelivered = sent.undelivered ∙ (λ i. (network_is i).undelivered ++ range_with_len (length (network_is i).sent + 1) (length (outs i))) in
+        let is_told : history ≡ w.history ++ answer_entries r.answer = told ∙ ap (λ a. w.history ++ answer_entries a) takes.outcome.answer in
+        let o : Outcome = record { seen = what; decided = []; world = record w { coords = coords; sent = after.sent; undelivered = after.undelivered; history = history } } in
+        let is : o ≡ coordinated (comes w k) number r = λ i. record { seen = sees i; decided = []; world = record w { coords = others i; sent = is_sent i; undelivered = is_undelivered i; history = is_told i } } in
+        ([], (m, some, there, subst (λ (node : Node). IsReceived plan (comes w k) m.msg node o) (sym to) (takes.coord, takes.there, is)))
+
+  -- ---- a tick
+
+  pub server_ticks :
+      (shard : Shard) (servers : List ServerState) (after : Messages) (before out : Outbox) → before.messages ≡ [] → ServerTicks shard.0 w.servers servers before out → HasSent (Server shard) out.messages network after
+      → Leads plan w (Tick (Server shard)) seen.Done (record w { servers = servers; sent = after.sent; undelivered = after.undelivered })
+  server_ticks shard servers after before out none ticks sent =
+      let tells = server.tick_sends ticks.server in
+      let outs : out.messages ≡ tells = ap (λ (o : Outbox). o.messages) ticks.sent ∙ ap (λ xs. xs ++ tells) none in
+      let others = ticks.others in
+      let is_sent = sent.sent ∙ (λ i. w.sent ++ map (sent_by (Server shard)) (outs i)) in
+      let is_undelivered = sent.undelivered ∙ (λ i. w.undelivered ++ range_with_len (length w.sent + 1) (length (outs i))) in
+      let o : Outcome = record { seen = seen.Done; decided = []; world = record w { servers = servers; sent = after.sent; undelivered = after.undelivered } } in
+      let is : o ≡ served w shard.0 (answered ticks.server tells) = λ i. record { seen = seen.Done; decided = []; world = record w { servers = others i; sent = is_sent i; undelivered = is_undelivered i } } in
+      ([], (ticks.server, ticks.there, is))
+
+  -- ---- a submission
+
+  module _ (number proc : ℕ) (args : List ℤ) (coords : List CoordState) (before out : Outbox) where
+    abbrev Submitting : Result TxnId SubmitFault → Type 0
+    Submitting answer = CoordSubmits plan number proc args answer w.coords coords before out
+
+    refused_keeps : (s : CoordState) (why : SubmitFault) → Err why ≡ (after_submit plan s proc args).answer → (after_submit plan s proc args).state ≡ s
+    refused_keeps s why = go (refusal_of plan s proc args)
+      where
+        go : (o : Option SubmitFault) → Err why ≡ (refused_or_accepted plan s proc args o).answer → (refused_or_accepted plan s proc args o).state ≡ s
+        go (Some f) e = refl
+        go None e = absurd (cc)
+
+    -- a refused submission changes nothing
+    coords_same : (why : SubmitFault) → Submitting (Err why) → coords ≡ w.coords
+    coords_same why s = s.others ∙ ap (slice_set w.coords number) (refused_keeps s.coord why s.submitted.answer) ∙ set_there w.coords number s.coord s.there
+      where
+        set_there : (xs : List CoordState) (i : ℕ) (x : CoordState) → slice_get xs i ≡ Some x → slice_set xs i x ≡ xs
+        set_there [] i x e = absurd (cc)
+        set_there (y ∷ ys) zero x e = let same : y ≡ x = cc in ap (λ z. z ∷ ys) (sym same)
+        set_there (y ∷ ys) (suc i) x e = ap (λ zs. y ∷ zs) (set_there ys i x e)
+
+    spent : Submitting (Err fault.Spent) → Leads plan w (Submit number proc args) seen.Spent (record w { coords = coords })
+    spent s =
+        let r = after_submit plan s.coord proc args in
+        let same = coords_same fault.Spent s in
+        let o : Outcome = record { seen = seen.Spent; decided = []; world = record w { coords = coords } } in
+        let is : o ≡ undecided seen.Spent w = λ i. record { seen = seen.Spent; decided = []; world = record w { coords = same i } } in
+        ([], (s.coord, s.there, subst (λ answer. Submits w number proc args r.state r.sends answer o) s.submitted.answer is))
+
+    busy : Submitting (Err fault.Busy) → Leads plan w (Submit number proc args) seen.Busy (record w { coords = coords })
+    busy s =
+        let r = after_submit plan s.coord proc args in
+        let same = coords_same fault.Busy s in
+        let o : Outcome = record { seen = seen.Busy; decided = []; world = record w { coords = coords } } in
+        let is : o ≡ undecided seen.Busy w = λ i. record { seen = seen.Busy; decided = []; world = record w { coords = same i } } in
+        ([], (s.coord, s.there, subst (λ answer. Submits w number proc args r.state r.sends answer o) s.submitted.answer is))
+
+    -- the same of arguments that are these
+    module _ (given : List ℤ) (same : given ≡ args) (why : SubmitFault) (submits : UnlessStopped (Err why) (CoordSubmits plan number proc given (Err why) w.coords coords before out)) where
+      told : (known : SubmitFault) → why ≡ known → UnlessStopped (Err known) (Submitting (Err known))
+      told known is =
+          subst (λ (f : SubmitFault). UnlessStopped (Err f) (Submitting (Err f))) is
+          (subst (λ (a : List ℤ). UnlessStopped (Err why) (CoordSubmits plan number proc a (Err why) w.coords coords before out)) same submits)
+
+      pub spent_happens : why ≡ fault.Spent → Leads plan w (Submit number proc args) seen.Spent (record w { coords = coords })
+      spent_happens is = spent (told fault.Spent is)
+
+      pub busy_happens : why ≡ fault.Busy → Leads plan w (Submit number proc args) seen.Busy (record w { coords = coords })
+      busy_happens is = busy (told fault.Busy is)

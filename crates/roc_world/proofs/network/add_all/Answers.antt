@@ -1,0 +1,30 @@
+use Rattle.std.proofs.Common.{length, sym, ap, ◌∙◌, arith, rules}
+use Rattle.std.specs.Vec.Iter.{into_iter_items}
+use Rattle.roc_world.proofs.Sending.{sent_turn, numbers_turn, nothing_left, all_sent, all_numbered}
+use Rattle.roc_world.proofs.network.add_all.Goals as goal
+
+pub loop-message-preserved : goal.loop-message-preserved
+loop-message-preserved c =
+    let l = c.loop-message in
+    let left = into_iter_items l.message-iterator in
+    let rest = into_iter_items c.next.new.self in
+    let steps = c.in-Some.ensures.steps in
+    let long = ap length steps.0 in
+    let one_less = steps.1 in
+    let before = l.invariant.left in
+    record {
+      numbered = c.in_ok-add_one.ensures.numbered;
+      left = omega arith;
+      sent = sent_turn c.args.from left rest c.in-Some.message l.sent.items c.add_one.new.sent.items steps.0 c.in_ok-add_one.ensures.sent _ l.invariant.sent;
+      undelivered = numbers_turn c.args.from left rest c.in-Some.message l.sent.items c.add_one.new.sent.items steps.0 c.in_ok-add_one.ensures.sent l.undelivered.items c.add_one.new.undelivered.items _ c.in_ok-add_one.ensures.undelivered l.invariant.undelivered;
+    }
+
+pub returns-clause-sent : goal.returns-clause-sent
+returns-clause-sent c =
+    let l = c.loop-message in
+    all_sent c.args.from (into_iter_items l.message-iterator) (into_iter_items c.into_iter-message-iterator.result) c.args.messages.items l.sent.items c.args.sent.now.items (nothing_left (into_iter_items l.message-iterator) (sym l.invariant.left ∙ c.in-None.ensures.steps.0)) (search rules) l.invariant.sent
+
+pub returns-clause-undelivered : goal.returns-clause-undelivered
+returns-clause-undelivered c =
+    let l = c.loop-message in
+    all_numbered (into_iter_items l.message-iterator) (into_iter_items c.into_iter-message-iterator.result) c.args.messages.items l.undelivered.items c.args.undelivered.now.items _ _ (nothing_left (into_iter_items l.message-iterator) (sym l.invariant.left ∙ c.in-None.ensures.steps.0)) (search rules) l.invariant.undelivered
