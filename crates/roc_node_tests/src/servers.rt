@@ -150,7 +150,7 @@ fn an_unlike_list_is_ignored(rt: HostRuntime) -> Result<(), Fail> {
         (commit(alloc, FIRST, &[before])?, None),
         (commit(alloc, FIRST, &[])?, Some(Reason::Differs)),
     ];
-    check(&rt, alloc, cases.as_slice(), 1)
+    check(&rt, alloc, cases.as_slice(), 2)
 }
 
 #[test]
