@@ -1,0 +1,9 @@
+mod Bounds
+mod Exact
+mod Loop
+mod Members
+mod Messages
+mod OnePair
+mod Parts
+mod Rises
+mod Whole

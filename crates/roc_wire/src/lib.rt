@@ -1,0 +1,21 @@
+//! The datagrams that nodes send one another, as bytes: docs/FORMATS.md, "Datagrams".
+//!
+//! A header and a message whose counts, numbers and orders are in range (`specs/Fits.antt`) have one
+//! spelling (`specs/Spelling.antt`), and [`encode`] writes it. [`decode`] reads exactly these: what
+//! is no spelling has a first fault from left to right, by a grammar of fields
+//! (`specs/Reading.antt`). That bytes spell at most one pair, and have a fault exactly where they
+//! spell none, are [`laws`].
+#![tactic(auto)]
+
+mod fault;
+mod fields;
+mod header;
+pub mod laws;
+mod lists;
+mod reading;
+mod writing;
+
+pub use fault::WireFault;
+pub use header::{Header, tag};
+pub use reading::decode;
+pub use writing::encode;

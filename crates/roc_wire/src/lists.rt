@@ -1,0 +1,132 @@
+//! Reading the lists of a datagram.
+ghost use Rattle.std.specs.Prelude.{◌≡◌, None, IfOk};
+ghost use Rattle.roc_base.specs.Edges.{comes_before};
+ghost use Rattle.roc_msg.specs.Facts.{most_fact_edges};
+ghost use Rattle.roc_sequence.specs.Rising.{IsRising};
+ghost use Rattle.roc_wire.specs.Fits.{FitsFact, last_from, room_behind};
+ghost use Rattle.roc_wire.specs.Reading.{Gives, several_at, num_at, nums_at, edge_at, edges_at, fact_at, facts_at};
+
+use crate::WireFault;
+use crate::fields::{edge_of, num_of, rising_of, u16_within};
+use roc_base::{Edge, Edges, NoMemory, Nums, TxnId};
+use roc_depgraph::KnownList;
+use roc_msg::Facts;
+use std::alloc::Global;
+
+#[tactic(auto, unfolding(crate::specs::Reading::nums_at))]
+pub(crate) fn nums_of(alloc: Global, most: u16, bytes: &[u8]) -> Result<(Nums, &[u8]), WireFault>
+    ensures { Gives (λ x. (x.0, x.1.now)) result (nums_at most bytes.now) }
+{
+    let (count, rest) = u16_within(bytes, 0, most)?;
+    let (nums, rest) = several_nums(alloc, count, rest)?;
+    Ok((nums, rest))
+}
+
+fn several_nums(alloc: Global, count: u16, bytes: &[u8]) -> Result<(Nums, &[u8]), WireFault>
+    ensures { Gives (λ x. (x.0, x.1.now)) result (several_at num_at (λ s n. s) count tt bytes.now) }
+{
+    let mut nums = Nums::new(alloc);
+    let mut rest = bytes;
+    for _ in 0..count {
+        let (num, after) = num_of(rest)?;
+        nums.push(num)?;
+        rest = after;
+    }
+    Ok((nums, rest))
+}
+
+#[tactic(auto, unfolding(crate::specs::Reading::edges_at))]
+pub(crate) fn edges_of(alloc: Global, most: u16, bytes: &[u8]) -> Result<(Edges, &[u8]), WireFault>
+    ensures { Gives (λ x. (x.0, x.1.now)) result (edges_at most bytes.now) }
+{
+    let (count, rest) = u16_within(bytes, 0, most)?;
+    let (entries, rest) = rising_entries(alloc, count, rest)?;
+    let edges = list_of(alloc, entries.as_slice())?;
+    Ok((edges, rest))
+}
+
+// Entries that rise, as a list.
+fn list_of(alloc: Global, entries: &[Edge]) -> Result<Edges, NoMemory>
+    requires { IsRising comes_before entries.now }
+    ensures { IfOk result (λ edges. edges ≡ entries.now) }
+{
+    let mut edges = Edges::new(alloc);
+    edges.unite(entries)?;
+    Ok(edges)
+}
+
+fn rising_entries(alloc: Global, count: u16, bytes: &[u8]) -> Result<(Vec<Edge>, &[u8]), WireFault>
+    ensures given { Gives (λ x. (x.0.items, x.1.now)) result (several_at edge_at last_from count None bytes.now) }
+    ensures rising { IfOk result (λ x. IsRising comes_before x.0.items) }
+{
+    several_entries(alloc, count, bytes)
+}
+
+fn several_entries(alloc: Global, count: u16, bytes: &[u8]) -> Result<(Vec<Edge>, &[u8]), WireFault>
+    ensures { Gives (λ x. (x.0.items, x.1.now)) result (several_at edge_at last_from count None bytes.now) }
+{
+    let mut entries = Vec::new(alloc);
+    let mut last = None;
+    let mut rest = bytes;
+    for _ in 0..count {
+        let (from, imm, def, at, after) = edge_of(last, rest)?;
+        if entries.push(Edge::new(from, imm, def, at)).is_err() {
+            return Err(WireFault::NoMemory);
+        }
+        last = Some(from);
+        rest = after;
+    }
+    Ok((entries, rest))
+}
+
+#[tactic(auto, unfolding(crate::specs::Reading::facts_at))]
+pub(crate) fn facts_of(alloc: Global, bytes: &[u8]) -> Result<(Facts, &[u8]), WireFault>
+    ensures { Gives (λ x. (x.0, x.1.now)) result (facts_at bytes.now) }
+{
+    let (count, rest) = u16_within(bytes, 0, 16)?;
+    let (facts, rest) = several_facts(alloc, count, rest)?;
+    Ok((facts, rest))
+}
+
+fn several_facts(alloc: Global, count: u16, bytes: &[u8]) -> Result<(Facts, &[u8]), WireFault>
+    ensures { Gives (λ x. (x.0, x.1.now)) result (several_at fact_at room_behind count (None, most_fact_edges) bytes.now) }
+{
+    let mut facts = Facts::new(alloc);
+    let mut last = None;
+    let mut left = 1000u16;
+    let mut rest = bytes;
+    for _ in 0..count {
+        let (fact, after) = fitting_fact(alloc, last, left, rest)?;
+        left -= fact.edges.len() as u16;
+        last = Some(fact.of);
+        facts.push(fact)?;
+        rest = after;
+    }
+    Ok((facts, rest))
+}
+
+fn fitting_fact(
+    alloc: Global,
+    last: Option<TxnId>,
+    left: u16,
+    bytes: &[u8],
+) -> Result<(KnownList, &[u8]), WireFault>
+    ensures given { Gives (λ x. (x.0, x.1.now)) result (fact_at (last, left) bytes.now) }
+    ensures fits { IfOk result (λ x. FitsFact (last, left) x.0) }
+{
+    fact_of(alloc, last, left, bytes)
+}
+
+#[tactic(auto, unfolding(crate::specs::Reading::fact_at))]
+fn fact_of(
+    alloc: Global,
+    last: Option<TxnId>,
+    left: u16,
+    bytes: &[u8],
+) -> Result<(KnownList, &[u8]), WireFault>
+    ensures { Gives (λ x. (x.0, x.1.now)) result (fact_at (last, left) bytes.now) }
+{
+    let (of, rest) = rising_of(last, bytes)?;
+    let (edges, rest) = edges_of(alloc, left, rest)?;
+    Ok((KnownList { of, edges }, rest))
+}

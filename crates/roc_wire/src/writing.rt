@@ -1,0 +1,249 @@
+//! Writing a datagram.
+ghost use Rattle.std.specs.Prelude.{◌≡◌, ◌≤◌, ◌<◌, ◌^◌, ◌++◌, length, IfOk, OnOk};
+ghost use Rattle.std.specs.List.{flat_map, All};
+ghost use Rattle.std.specs.Int.{w8, w16, to_be_bytes};
+ghost use Rattle.roc_msg.specs.Msg.{kind_of};
+ghost use Rattle.roc_wire.specs.Spelling.{id_bytes, shard_bytes, num_bytes, nums_bytes, tags_of, edge_bytes, edges_bytes, fact_bytes, facts_bytes, body, role_of, number_of, spelling};
+ghost use Rattle.roc_wire.specs.Fits.{FitsFacts, FitsMsg, IsSpellable};
+
+use crate::Header;
+use roc_base::{Edge, Edges, NoMemory, Node, Nums, Shard, TxnId};
+use roc_depgraph::KnownList;
+use roc_msg::{Facts, Msg};
+use std::alloc::Global;
+
+/// The one spelling of a header and a message that have one.
+pub fn encode(alloc: Global, header: &Header, msg: &Msg) -> Result<Vec<u8>, NoMemory>
+    requires { IsSpellable header.now msg.now }
+    ensures { IfOk result (λ bytes. bytes.items ≡ spelling header.now msg.now) }
+{
+    let mut out = Vec::new(alloc);
+    out.extend_from_slice(b"RCO1")?;
+    out.extend_from_slice(&1u8.to_be_bytes())?;
+    out.extend_from_slice(&msg.kind().to_be_bytes())?;
+    out.extend_from_slice(&header.tag)?;
+    put_sender(&mut out, header.from)?;
+    put_body(&mut out, msg)?;
+    Ok(out)
+}
+
+fn put_sender(out: &mut Vec<u8>, from: Node) -> Result<(), NoMemory>
+    ensures { OnOk result (out.new.items ≡ out.old.items ++ to_be_bytes w8 (role_of from) ++ to_be_bytes w16 (number_of from)) }
+{
+    match from {
+        Node::Server(Shard(number)) => {
+            out.extend_from_slice(&0u8.to_be_bytes())?;
+            out.extend_from_slice(&(number as u16).to_be_bytes())?;
+        }
+        Node::Coord(number) => {
+            out.extend_from_slice(&1u8.to_be_bytes())?;
+            out.extend_from_slice(&number.to_be_bytes())?;
+        }
+    }
+    Ok(())
+}
+
+fn put_body(out: &mut Vec<u8>, msg: &Msg) -> Result<(), NoMemory>
+    requires { FitsMsg msg.now }
+    ensures { OnOk result (out.new.items ≡ out.old.items ++ body msg.now) }
+{
+    match msg {
+        Msg::Start {
+            id,
+            proc,
+            group,
+            args,
+            inputs,
+        } => put_start(out, *id, *proc, *group, args, inputs)?,
+        Msg::StartOk {
+            id,
+            group,
+            shard,
+            bound,
+            outs,
+            edges,
+            facts,
+        } => {
+            put_id(out, *id)?;
+            put_given(out, *group, *shard, bound, outs)?;
+            put_lists(out, edges, facts)?;
+        }
+        Msg::Commit { id, edges, facts } => {
+            put_id(out, *id)?;
+            put_lists(out, edges, facts)?;
+        }
+        Msg::CommitOk { id, shard, outs } => put_commit_ok(out, *id, *shard, outs)?,
+        Msg::Fetch { id, asker } => put_fetch(out, *id, *asker)?,
+        Msg::Known { id, edges } => put_known(out, *id, edges)?,
+        Msg::Stop => {}
+    }
+    Ok(())
+}
+
+fn put_start(
+    out: &mut Vec<u8>,
+    id: TxnId,
+    proc: u16,
+    group: u16,
+    args: &Nums,
+    inputs: &Nums,
+) -> Result<(), NoMemory>
+    requires args { length args.now < 2 ^ 16 }
+    requires inputs { length inputs.now < 2 ^ 16 }
+    ensures { OnOk result (out.new.items ≡ out.old.items ++ (id_bytes id ++ to_be_bytes w16 proc ++ to_be_bytes w16 group ++ nums_bytes args.now ++ nums_bytes inputs.now)) }
+{
+    put_id(out, id)?;
+    put_asked(out, proc, group, args, inputs)?;
+    Ok(())
+}
+
+fn put_commit_ok(out: &mut Vec<u8>, id: TxnId, shard: Shard, outs: &Nums) -> Result<(), NoMemory>
+    requires { length outs.now < 2 ^ 16 }
+    ensures { OnOk result (out.new.items ≡ out.old.items ++ (id_bytes id ++ shard_bytes shard ++ nums_bytes outs.now)) }
+{
+    put_id(out, id)?;
+    put_shard(out, shard)?;
+    put_nums(out, outs.as_slice())?;
+    Ok(())
+}
+
+fn put_fetch(out: &mut Vec<u8>, id: TxnId, asker: Shard) -> Result<(), NoMemory>
+    ensures { OnOk result (out.new.items ≡ out.old.items ++ (id_bytes id ++ shard_bytes asker)) }
+{
+    put_id(out, id)?;
+    put_shard(out, asker)?;
+    Ok(())
+}
+
+fn put_known(out: &mut Vec<u8>, id: TxnId, edges: &Edges) -> Result<(), NoMemory>
+    requires { length edges.now < 2 ^ 16 }
+    ensures { OnOk result (out.new.items ≡ out.old.items ++ (id_bytes id ++ edges_bytes edges.now)) }
+{
+    put_id(out, id)?;
+    put_edges(out, edges.as_slice())?;
+    Ok(())
+}
+
+// What a group is asked to start with.
+fn put_asked(
+    out: &mut Vec<u8>,
+    proc: u16,
+    group: u16,
+    args: &Nums,
+    inputs: &Nums,
+) -> Result<(), NoMemory>
+    requires args { length args.now < 2 ^ 16 }
+    requires inputs { length inputs.now < 2 ^ 16 }
+    ensures { OnOk result (out.new.items ≡ out.old.items ++ (to_be_bytes w16 proc ++ to_be_bytes w16 group ++ nums_bytes args.now ++ nums_bytes inputs.now)) }
+{
+    out.extend_from_slice(&proc.to_be_bytes())?;
+    out.extend_from_slice(&group.to_be_bytes())?;
+    put_nums(out, args.as_slice())?;
+    put_nums(out, inputs.as_slice())?;
+    Ok(())
+}
+
+// What a group that has started gave.
+fn put_given(
+    out: &mut Vec<u8>,
+    group: u16,
+    shard: Shard,
+    bound: &Nums,
+    outs: &Nums,
+) -> Result<(), NoMemory>
+    requires bound { length bound.now < 2 ^ 16 }
+    requires outs { length outs.now < 2 ^ 16 }
+    ensures { OnOk result (out.new.items ≡ out.old.items ++ (to_be_bytes w16 group ++ shard_bytes shard ++ nums_bytes bound.now ++ nums_bytes outs.now)) }
+{
+    out.extend_from_slice(&group.to_be_bytes())?;
+    put_shard(out, shard)?;
+    put_nums(out, bound.as_slice())?;
+    put_nums(out, outs.as_slice())?;
+    Ok(())
+}
+
+fn put_lists(out: &mut Vec<u8>, edges: &Edges, facts: &Facts) -> Result<(), NoMemory>
+    requires edges { length edges.now < 2 ^ 16 }
+    requires facts { FitsFacts facts.now }
+    ensures { OnOk result (out.new.items ≡ out.old.items ++ (edges_bytes edges.now ++ facts_bytes facts.now)) }
+{
+    put_edges(out, edges.as_slice())?;
+    put_facts(out, facts.as_slice())
+}
+
+fn put_shard(out: &mut Vec<u8>, shard: Shard) -> Result<(), NoMemory>
+    ensures { OnOk result (out.new.items ≡ out.old.items ++ shard_bytes shard) }
+{
+    out.extend_from_slice(&shard.0.to_be_bytes())?;
+    Ok(())
+}
+
+fn put_id(out: &mut Vec<u8>, id: TxnId) -> Result<(), NoMemory>
+    ensures { OnOk result (out.new.items ≡ out.old.items ++ id_bytes id) }
+{
+    out.extend_from_slice(&id.coord.to_be_bytes())?;
+    out.extend_from_slice(&id.seq.to_be_bytes())?;
+    Ok(())
+}
+
+fn put_nums(out: &mut Vec<u8>, nums: &[i64]) -> Result<(), NoMemory>
+    requires { length nums.now < 2 ^ 16 }
+    ensures { OnOk result (out.new.items ≡ out.old.items ++ nums_bytes nums.now) }
+{
+    out.extend_from_slice(&(nums.len() as u16).to_be_bytes())?;
+    for num in nums {
+        out.extend_from_slice(&num.to_be_bytes())?;
+    }
+    Ok(())
+}
+
+// The number of an edge's tags.
+fn tags_number(edge: Edge) -> u8
+    ensures { result ≡ tags_of edge }
+{
+    if edge.imm() {
+        if edge.def() { 3 } else { 1 }
+    } else {
+        2
+    }
+}
+
+fn put_edge(out: &mut Vec<u8>, edge: Edge) -> Result<(), NoMemory>
+    ensures { OnOk result (out.new.items ≡ out.old.items ++ edge_bytes edge) }
+{
+    put_id(out, edge.from())?;
+    out.extend_from_slice(&tags_number(edge).to_be_bytes())?;
+    out.extend_from_slice(&edge.at().0.to_be_bytes())?;
+    Ok(())
+}
+
+fn put_edges(out: &mut Vec<u8>, edges: &[Edge]) -> Result<(), NoMemory>
+    requires { length edges.now < 2 ^ 16 }
+    ensures { OnOk result (out.new.items ≡ out.old.items ++ edges_bytes edges.now) }
+{
+    out.extend_from_slice(&(edges.len() as u16).to_be_bytes())?;
+    for edge in edges {
+        put_edge(out, *edge)?;
+    }
+    Ok(())
+}
+
+fn put_fact(out: &mut Vec<u8>, fact: &KnownList) -> Result<(), NoMemory>
+    requires { length fact.now.edges < 2 ^ 16 }
+    ensures { OnOk result (out.new.items ≡ out.old.items ++ fact_bytes fact.now) }
+{
+    put_id(out, fact.of)?;
+    put_edges(out, fact.edges.as_slice())
+}
+
+fn put_facts(out: &mut Vec<u8>, facts: &[KnownList]) -> Result<(), NoMemory>
+    requires facts { length facts.now < 2 ^ 16 }
+    requires edges { All (λ fact. length fact.edges < 2 ^ 16) facts.now }
+    ensures { OnOk result (out.new.items ≡ out.old.items ++ facts_bytes facts.now) }
+{
+    out.extend_from_slice(&(facts.len() as u16).to_be_bytes())?;
+    for fact in facts {
+        put_fact(out, fact)?;
+    }
+    Ok(())
+}
