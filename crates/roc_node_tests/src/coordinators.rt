@@ -12,6 +12,35 @@ use std::test::Fail;
 
 const FIRST: TxnId = TxnId { coord: 0, seq: 0 };
 
+// What a coordinator is sent. A commitok has its numbers.
+#[derive(Clone, Copy)]
+enum Sent {
+    StartOk(TxnId, u8),
+    CommitOk(&'static [i64]),
+    Commit,
+    Stop,
+}
+
+// What is sent, and why it is ignored where it is.
+type Case = (Sent, Option<Reason>);
+
+fn message(alloc: Global, sent: Sent) -> Result<Msg, Fail> {
+    match sent {
+        Sent::StartOk(id, shard) => Ok(startok(alloc, id, shard)),
+        Sent::CommitOk(outs) => {
+            let outs = Nums::from_slice(alloc, outs)?;
+            let (id, shard) = (FIRST, Shard(0));
+            Ok(Msg::CommitOk { id, shard, outs })
+        }
+        Sent::Commit => Ok(Msg::Commit {
+            id: FIRST,
+            edges: Edges::new(alloc),
+            facts: Facts::new(alloc),
+        }),
+        Sent::Stop => Ok(Msg::Stop),
+    }
+}
+
 fn startok(alloc: Global, id: TxnId, shard: u8) -> Msg {
     Msg::StartOk {
         id,
@@ -22,12 +51,6 @@ fn startok(alloc: Global, id: TxnId, shard: u8) -> Msg {
         edges: Edges::new(alloc),
         facts: Facts::new(alloc),
     }
-}
-
-fn commitok(alloc: Global, id: TxnId, outs: &[i64]) -> Result<Msg, Fail> {
-    let outs = Nums::from_slice(alloc, outs)?;
-    let shard = Shard(0);
-    Ok(Msg::CommitOk { id, shard, outs })
 }
 
 // Submits a call, and has it refused for a fault or accepted.
@@ -70,58 +93,53 @@ fn handles(
 // Has messages handled in turn.
 fn handles_all(
     rt: &impl Abort,
+    alloc: Global,
     plan: &Plan,
     coord: &mut Coord,
-    cases: &[(Msg, Option<Reason>)],
+    cases: &[Case],
     out: &mut Outbox,
-)
+) -> Result<(), Fail>
     requires fits { CoordFits plan.now coord.old }
 {
-    for (msg, wanted) in cases {
-        handles(rt, plan, coord, msg, out, *wanted);
+    for (sent, wanted) in cases {
+        let msg = message(alloc, *sent)?;
+        handles(rt, plan, coord, &msg, out, *wanted);
     }
+    Ok(())
 }
 
 // Has messages handled in turn by a coordinator that submitted one addition.
-fn check(rt: &impl Abort, alloc: Global, cases: &[(Msg, Option<Reason>)]) -> Result<(), Fail> {
+fn check(rt: &impl Abort, alloc: Global, cases: &[Case]) -> Result<(), Fail> {
     let plan = counter(alloc)?;
     let mut coord = Coord::new(alloc, 0);
     let mut out = Outbox::new(alloc);
     submits(rt, &plan, &mut coord, 0, &[1], &mut out, Ok(FIRST));
-    handles_all(rt, &plan, &mut coord, cases, &mut out);
-    Ok(())
+    handles_all(rt, alloc, &plan, &mut coord, cases, &mut out)
 }
 
 #[test]
 fn forged_messages_are_ignored(rt: HostRuntime) -> Result<(), Fail> {
-    let alloc = rt.alloc();
-    let foreign = Msg::Commit {
-        id: FIRST,
-        edges: Edges::new(alloc),
-        facts: Facts::new(alloc),
-    };
     let other = TxnId { coord: 0, seq: 1 };
     let cases = [
-        (foreign, Some(Reason::Foreign)),
-        (Msg::Stop, Some(Reason::Foreign)),
-        (startok(alloc, other, 0), Some(Reason::Stale)),
-        (startok(alloc, FIRST, 1), Some(Reason::Unfit)),
-        (commitok(alloc, FIRST, &[7])?, Some(Reason::Unfit)),
+        (Sent::Commit, Some(Reason::Foreign)),
+        (Sent::Stop, Some(Reason::Foreign)),
+        (Sent::StartOk(other, 0), Some(Reason::Stale)),
+        (Sent::StartOk(FIRST, 1), Some(Reason::Unfit)),
+        (Sent::CommitOk(&[7]), Some(Reason::Unfit)),
     ];
-    check(&rt, alloc, cases.as_slice())
+    check(&rt, rt.alloc(), &cases)
 }
 
 #[test]
 fn repeated_messages_are_ignored(rt: HostRuntime) -> Result<(), Fail> {
-    let alloc = rt.alloc();
     let cases = [
-        (startok(alloc, FIRST, 0), None),
-        (startok(alloc, FIRST, 0), Some(Reason::Stale)),
-        (commitok(alloc, FIRST, &[7, 8])?, Some(Reason::Unfit)),
-        (commitok(alloc, FIRST, &[7])?, None),
-        (commitok(alloc, FIRST, &[7])?, Some(Reason::Stale)),
+        (Sent::StartOk(FIRST, 0), None),
+        (Sent::StartOk(FIRST, 0), Some(Reason::Stale)),
+        (Sent::CommitOk(&[7, 8]), Some(Reason::Unfit)),
+        (Sent::CommitOk(&[7]), None),
+        (Sent::CommitOk(&[7]), Some(Reason::Stale)),
     ];
-    check(&rt, alloc, cases.as_slice())
+    check(&rt, rt.alloc(), &cases)
 }
 
 // Submits as many additions as may be unanswered.

@@ -15,36 +15,94 @@ const FIRST: TxnId = TxnId { coord: 0, seq: 0 };
 
 const SECOND: TxnId = TxnId { coord: 1, seq: 0 };
 
-fn start(alloc: Global, id: TxnId, proc: u16, group: u16, args: &[i64]) -> Result<Msg, Fail> {
+// What a server is sent. A start has an argument or none, a commit an entry or none.
+#[derive(Clone, Copy)]
+enum Sent {
+    Start(TxnId, u16, u16, Option<i64>),
+    Commit(TxnId, Option<Edge>),
+    TornCommit,
+    CommitOk,
+    Fetch,
+    Known,
+    Stop,
+}
+
+// What is sent, and why it is ignored where it is.
+type Case = (Sent, Option<Reason>);
+
+fn message(alloc: Global, sent: Sent) -> Result<Msg, Fail> {
+    let id = FIRST;
+    match sent {
+        Sent::Start(id, proc, group, arg) => start(alloc, id, proc, group, arg),
+        Sent::Commit(id, before) => commit(alloc, id, before),
+        Sent::TornCommit => torn_commit(alloc),
+        Sent::CommitOk => Ok(commitok(alloc)),
+        Sent::Fetch => {
+            let asker = Shard(63);
+            Ok(Msg::Fetch { id, asker })
+        }
+        Sent::Known => {
+            let edges = Edges::new(alloc);
+            Ok(Msg::Known { id, edges })
+        }
+        Sent::Stop => Ok(Msg::Stop),
+    }
+}
+
+fn start(alloc: Global, id: TxnId, proc: u16, group: u16, arg: Option<i64>) -> Result<Msg, Fail> {
+    let mut args = Nums::new(alloc);
+    if let Some(arg) = arg {
+        args.push(arg)?;
+    }
+    let inputs = Nums::new(alloc);
     Ok(Msg::Start {
         id,
         proc,
         group,
-        args: Nums::from_slice(alloc, args)?,
-        inputs: Nums::new(alloc),
+        args,
+        inputs,
     })
 }
 
-fn edges(alloc: Global, before: &[Edge]) -> Result<Edges, Fail> {
+fn commitok(alloc: Global) -> Msg {
+    Msg::CommitOk {
+        id: FIRST,
+        shard: Shard(0),
+        outs: Nums::new(alloc),
+    }
+}
+
+fn edges(alloc: Global, before: Option<Edge>) -> Result<Edges, Fail> {
     let mut edges = Edges::new(alloc);
-    edges.unite(before)?;
+    if let Some(before) = before {
+        edges.unite(&[before])?;
+    }
     Ok(edges)
 }
 
-fn commit(alloc: Global, id: TxnId, before: &[Edge]) -> Result<Msg, Fail> {
+fn commit(alloc: Global, id: TxnId, before: Option<Edge>) -> Result<Msg, Fail> {
     let edges = edges(alloc, before)?;
     let facts = Facts::new(alloc);
     Ok(Msg::Commit { id, edges, facts })
 }
 
-fn fetch(id: TxnId) -> Msg {
-    let asker = Shard(63);
-    Msg::Fetch { id, asker }
+// A commit with a fact that is unlike its own list.
+fn torn_commit(alloc: Global) -> Result<Msg, Fail> {
+    let mut facts = Facts::new(alloc);
+    let of = FIRST;
+    let torn = edges(alloc, Some(deferrable(SECOND)))?;
+    facts.push(KnownList { of, edges: torn })?;
+    let id = FIRST;
+    let edges = Edges::new(alloc);
+    Ok(Msg::Commit { id, edges, facts })
 }
 
-fn known(alloc: Global, id: TxnId) -> Msg {
-    let edges = Edges::new(alloc);
-    Msg::Known { id, edges }
+fn deferrable(from: TxnId) -> Edge {
+    Edge::new(from, false, true, Shard(0))
+}
+
+fn immediate(from: TxnId) -> Edge {
+    Edge::new(from, true, false, Shard(0))
 }
 
 // Has a message taken, or ignored for a reason.
@@ -70,133 +128,92 @@ fn handles(
 // Has messages handled in turn.
 fn handles_all(
     rt: &impl Abort,
+    alloc: Global,
     plan: &Plan,
     server: &mut Server,
-    cases: &[(Msg, Option<Reason>)],
+    cases: &[Case],
     out: &mut Outbox,
-)
+) -> Result<(), Fail>
     requires fits { ServerFits plan.now server.old }
 {
-    for (msg, wanted) in cases {
-        handles(rt, plan, server, msg, out, *wanted);
+    for (sent, wanted) in cases {
+        let msg = message(alloc, *sent)?;
+        handles(rt, plan, server, &msg, out, *wanted);
     }
+    Ok(())
 }
 
 // Has messages handled in turn by a new server of a plan, which sends so many in all.
-fn check_under(
+fn check(
     rt: &impl Abort,
     alloc: Global,
     plan: &Plan,
-    cases: &[(Msg, Option<Reason>)],
+    cases: &[Case],
     sent: usize,
 ) -> Result<(), Fail> {
     let mut server = Server::new(alloc, plan, Shard(0))?;
     let mut out = Outbox::new(alloc);
-    handles_all(rt, plan, &mut server, cases, &mut out);
+    handles_all(rt, alloc, plan, &mut server, cases, &mut out)?;
     assert_eq!(rt; out.messages.len(), sent);
     Ok(())
 }
 
-// The same by a server of the counter.
-fn check(
-    rt: &impl Abort,
-    alloc: Global,
-    cases: &[(Msg, Option<Reason>)],
-    sent: usize,
-) -> Result<(), Fail> {
-    check_under(rt, alloc, &counter(alloc)?, cases, sent)
-}
-
 #[test]
 fn forged_messages_are_ignored(rt: HostRuntime) -> Result<(), Fail> {
-    let alloc = rt.alloc();
-    let foreign = Msg::CommitOk {
-        id: FIRST,
-        shard: Shard(0),
-        outs: Nums::new(alloc),
-    };
     let cases = [
-        (foreign, Some(Reason::Foreign)),
-        (Msg::Stop, Some(Reason::Foreign)),
-        (start(alloc, FIRST, 1, 0, &[5])?, Some(Reason::BadProc)),
-        (start(alloc, FIRST, 0, 1, &[5])?, Some(Reason::BadGroup)),
-        (start(alloc, FIRST, 0, 0, &[])?, Some(Reason::BadInputs)),
-        (commit(alloc, FIRST, &[])?, Some(Reason::NotHere)),
-        (fetch(FIRST), Some(Reason::NotHere)),
-        (known(alloc, FIRST), Some(Reason::NotHere)),
+        (Sent::CommitOk, Some(Reason::Foreign)),
+        (Sent::Stop, Some(Reason::Foreign)),
+        (Sent::Start(FIRST, 1, 0, Some(5)), Some(Reason::BadProc)),
+        (Sent::Start(FIRST, 0, 1, Some(5)), Some(Reason::BadGroup)),
+        (Sent::Start(FIRST, 0, 0, None), Some(Reason::BadInputs)),
+        (Sent::Commit(FIRST, None), Some(Reason::NotHere)),
+        (Sent::Fetch, Some(Reason::NotHere)),
+        (Sent::Known, Some(Reason::NotHere)),
     ];
-    check(&rt, alloc, cases.as_slice(), 0)
+    check(&rt, rt.alloc(), &counter(rt.alloc())?, &cases, 0)
 }
 
 #[test]
 fn repeated_messages_are_answered_again(rt: HostRuntime) -> Result<(), Fail> {
-    let alloc = rt.alloc();
     let cases = [
-        (start(alloc, FIRST, 0, 0, &[5])?, None),
-        (start(alloc, FIRST, 0, 0, &[5])?, None),
-        (start(alloc, FIRST, 0, 0, &[6])?, Some(Reason::Differs)),
-        (commit(alloc, FIRST, &[])?, None),
-        (commit(alloc, FIRST, &[])?, None),
+        (Sent::Start(FIRST, 0, 0, Some(5)), None),
+        (Sent::Start(FIRST, 0, 0, Some(5)), None),
+        (Sent::Start(FIRST, 0, 0, Some(6)), Some(Reason::Differs)),
+        (Sent::Commit(FIRST, None), None),
+        (Sent::Commit(FIRST, None), None),
     ];
-    check(&rt, alloc, cases.as_slice(), 4)
+    check(&rt, rt.alloc(), &counter(rt.alloc())?, &cases, 4)
 }
 
 #[test]
-fn an_unlike_list_is_ignored(rt: HostRuntime) -> Result<(), Fail> {
-    let alloc = rt.alloc();
-    let before = Edge::new(SECOND, false, true, Shard(0));
+fn unlike_lists_are_ignored(rt: HostRuntime) -> Result<(), Fail> {
     let cases = [
-        (start(alloc, FIRST, 0, 0, &[5])?, None),
-        (commit(alloc, FIRST, &[before])?, None),
-        (commit(alloc, FIRST, &[])?, Some(Reason::Differs)),
+        (Sent::Start(FIRST, 0, 0, Some(5)), None),
+        (Sent::TornCommit, Some(Reason::Differs)),
+        (Sent::Commit(FIRST, Some(deferrable(SECOND))), None),
+        (Sent::Commit(FIRST, None), Some(Reason::Differs)),
     ];
-    check(&rt, alloc, cases.as_slice(), 2)
+    check(&rt, rt.alloc(), &counter(rt.alloc())?, &cases, 2)
 }
 
 #[test]
 fn a_group_that_starts_late_is_ignored(rt: HostRuntime) -> Result<(), Fail> {
-    let alloc = rt.alloc();
     let cases = [
-        (start(alloc, FIRST, 0, 0, &[5])?, None),
-        (commit(alloc, FIRST, &[])?, None),
-        (start(alloc, FIRST, 0, 1, &[5])?, Some(Reason::Late)),
-        (fetch(FIRST), None),
+        (Sent::Start(FIRST, 0, 0, Some(5)), None),
+        (Sent::Commit(FIRST, None), None),
+        (Sent::Start(FIRST, 0, 1, Some(5)), Some(Reason::Late)),
+        (Sent::Fetch, None),
     ];
-    check_under(&rt, alloc, &twins(alloc)?, cases.as_slice(), 3)
-}
-
-// A commit with a fact that is unlike its own list.
-fn torn_commit(alloc: Global) -> Result<Msg, Fail> {
-    let before = Edge::new(SECOND, false, true, Shard(0));
-    let mut facts = Facts::new(alloc);
-    let of = FIRST;
-    let torn = edges(alloc, &[before])?;
-    facts.push(KnownList { of, edges: torn })?;
-    let id = FIRST;
-    let edges = Edges::new(alloc);
-    Ok(Msg::Commit { id, edges, facts })
-}
-
-#[test]
-fn a_commit_of_two_lists_is_ignored(rt: HostRuntime) -> Result<(), Fail> {
-    let alloc = rt.alloc();
-    let cases = [
-        (start(alloc, FIRST, 0, 0, &[5])?, None),
-        (torn_commit(alloc)?, Some(Reason::Differs)),
-    ];
-    check(&rt, alloc, cases.as_slice(), 1)
+    check(&rt, rt.alloc(), &twins(rt.alloc())?, &cases, 3)
 }
 
 #[test]
 fn a_circle_of_immediate_edges_is_taken(rt: HostRuntime) -> Result<(), Fail> {
-    let alloc = rt.alloc();
-    let of_second = Edge::new(SECOND, true, false, Shard(0));
-    let of_first = Edge::new(FIRST, true, false, Shard(0));
     let cases = [
-        (start(alloc, FIRST, 0, 0, &[5])?, None),
-        (start(alloc, SECOND, 0, 0, &[5])?, None),
-        (commit(alloc, FIRST, &[of_second])?, None),
-        (commit(alloc, SECOND, &[of_first])?, None),
+        (Sent::Start(FIRST, 0, 0, Some(5)), None),
+        (Sent::Start(SECOND, 0, 0, Some(5)), None),
+        (Sent::Commit(FIRST, Some(immediate(SECOND))), None),
+        (Sent::Commit(SECOND, Some(immediate(FIRST))), None),
     ];
-    check(&rt, alloc, cases.as_slice(), 4)
+    check(&rt, rt.alloc(), &counter(rt.alloc())?, &cases, 4)
 }

@@ -11,7 +11,7 @@ use Rattle.roc_wire.specs.declared.fault.WireFault.{WireFault}
 use Rattle.roc_wire.specs.declared.fault.WireFault.TheVariants.{Short, Count}
 use Rattle.roc_wire.specs.Fits.{AllAlong}
 use Rattle.roc_wire.specs.Spelling.{counted_bytes}
-use Rattle.roc_wire.specs.Reading.{IsBytes, ◌>>=◌, Reader, number_at, bytes_at, then_at, made_at, judged_at, several_at, within_at, counted_at}
+use Rattle.roc_wire.specs.Reading.{IsBytes, ◌>>=◌, Field, number_read, bytes_read, then_read, made_read, judged_read, several_read, within_read, counted_read}
 
 IsBytes-drop : (n : ℕ) (bytes : List ℕ) → IsBytes bytes → IsBytes (drop n bytes)
 IsBytes-drop n bytes h i = rw get_or-drop (h (n + i))
@@ -50,13 +50,13 @@ Takes-then : (a x b y c : List ℕ) → Takes a x b → Takes b y c → Takes a 
 Takes-then a x b y c p q = record { parts = p.parts ∙ ap (λ (t : List ℕ). x ++ t) q.parts ∙ sym (append_assoc x y c); rest_fits = q.rest_fits }
 
 -- the reader reads a spelling of what fits, and nothing else
-pub record IsField {X : Type 0} (read : Reader X) (spell : X → List ℕ) (fits : X → Type 0) : Type 0 where
+pub record IsField {X : Type 0} (read : Field X) (spell : X → List ℕ) (fits : X → Type 0) : Type 0 where
   pub takes : (bytes : List ℕ) (x : X) (rest : List ℕ) → IsBytes bytes → read bytes ≡ Ok (x, rest) → Takes bytes (spell x) rest × fits x
   pub again : (x : X) (rest : List ℕ) → fits x → read (spell x ++ rest) ≡ Ok (x, rest)
 
 -- one behind the other
-pub then_field : {A B : Type 0} (r : Reader A) (s : A → List ℕ) (f : A → Type 0) (q : A → Reader B) (t : A → B → List ℕ) (g : A → B → Type 0)
-    → IsField r s f → ((a : A) → f a → IsField (q a) (t a) (g a)) → IsField (then_at r q) (λ p. s p.0 ++ t p.0 p.1) (λ p. f p.0 × g p.0 p.1)
+pub then_field : {A B : Type 0} (r : Field A) (s : A → List ℕ) (f : A → Type 0) (q : A → Field B) (t : A → B → List ℕ) (g : A → B → Type 0)
+    → IsField r s f → ((a : A) → f a → IsField (q a) (t a) (g a)) → IsField (then_read r q) (λ p. s p.0 ++ t p.0 p.1) (λ p. f p.0 × g p.0 p.1)
 then_field {A} {B} r s f q t g first second = record {
   takes = λ bytes p rest fits e.
       let a = bind_ok (r bytes) (λ a. q a.0 a.1 >>= λ b. Ok ((a.0, b.0), b.1)) (p, rest) e in
@@ -73,8 +73,8 @@ then_field {A} {B} r s f q t g first second = record {
 }
 
 -- what is made of a field
-pub made_field : {A B : Type 0} (r : Reader A) (s : A → List ℕ) (f : A → Type 0) (make : A → B) (t : B → List ℕ) (g : B → Type 0)
-    → IsField r s f → ((a : A) → f a → g (make a) × (s a ≡ t (make a))) → ((b : B) → g b → (a : A) × f a × (make a ≡ b)) → IsField (made_at make r) t g
+pub made_field : {A B : Type 0} (r : Field A) (s : A → List ℕ) (f : A → Type 0) (make : A → B) (t : B → List ℕ) (g : B → Type 0)
+    → IsField r s f → ((a : A) → f a → g (make a) × (s a ≡ t (make a))) → ((b : B) → g b → (a : A) × f a × (make a ≡ b)) → IsField (made_read make r) t g
 made_field {A} {B} r s f make t g field to back = record {
   takes = λ bytes b rest fits e.
       let a = bind_ok (r bytes) (λ a. Ok (make a.0, a.1)) (b, rest) e in
@@ -84,14 +84,14 @@ made_field {A} {B} r s f make t g field to back = record {
       subst (λ (x : B × List ℕ). Takes bytes (t x.0) x.1 × g x.0) same (subst (λ (l : List ℕ). Takes bytes l a.0.1) fit.1 one.0, fit.0);
   again = λ b rest fits.
       let a = back b fits in
-      let one : made_at make r (s a.0 ++ rest) ≡ Ok (make a.0, rest) = ap (λ o. o >>= λ x. Ok (make x.0, x.1)) (field.again a.0 rest a.1) in
+      let one : made_read make r (s a.0 ++ rest) ≡ Ok (make a.0, rest) = ap (λ o. o >>= λ x. Ok (make x.0, x.1)) (field.again a.0 rest a.1) in
       let text : t b ++ rest ≡ s a.0 ++ rest = ap (λ (x : B). t x ++ rest) (sym a.2) ∙ ap (λ (l : List ℕ). l ++ rest) (sym (to a.0 a.1).1) in
-      ap (made_at make r) text ∙ one ∙ ap (λ (x : B). done (x, rest)) a.2;
+      ap (made_read make r) text ∙ one ∙ ap (λ (x : B). done (x, rest)) a.2;
 }
 
 -- where a test holds
-pub judged_field : {A : Type 0} (r : Reader A) (s : A → List ℕ) (f : A → Type 0) (test : A → Bool) (d : WireFault)
-    → IsField r s f → IsField (judged_at test d r) s (λ a. f a × (test a ≡ true))
+pub judged_field : {A : Type 0} (r : Field A) (s : A → List ℕ) (f : A → Type 0) (test : A → Bool) (d : WireFault)
+    → IsField r s f → IsField (judged_read test d r) s (λ a. f a × (test a ≡ true))
 judged_field {A} r s f test d field = record {
   takes = λ bytes x rest fits e.
       let a = bind_ok (r bytes) (λ a. cond (test a.0) (Ok (a.0, a.1)) (Err d)) (x, rest) e in
@@ -104,7 +104,7 @@ judged_field {A} r s f test d field = record {
 }
 
 -- the same, said otherwise
-pub as_field : {C : Type 0} (r : Reader C) (s : C → List ℕ) (f g : C → Type 0) → IsField r s f → ((c : C) → f c → g c) → ((c : C) → g c → f c) → IsField r s g
+pub as_field : {C : Type 0} (r : Field C) (s : C → List ℕ) (f g : C → Type 0) → IsField r s f → ((c : C) → f c → g c) → ((c : C) → g c → f c) → IsField r s g
 as_field r s f g p to back = record {
   takes = λ bytes c rest fits e. let o = p.takes bytes c rest fits e in (o.0, to c o.1);
   again = λ c rest h. p.again c rest (back c h);
@@ -115,9 +115,9 @@ abbrev cons_at : {A : Type 0} → A → List A × List ℕ → Result (List A ×
 cons_at a b = Ok (a ∷ b.0, b.1)
 
 -- so many, one after the other; P holds all along
-pub several_field : {A S : Type 0} (read : S → Reader A) (next : S → A → S) (spell : A → List ℕ) (fits : S → A → Type 0) (P : S → Type 0) → ((s : S) (a : A) → P s → fits s a → P (next s a)) → ((s : S) → P s → IsField (read s) spell (fits s))
-    → (n : ℕ) (s : S) → P s → IsField (several_at read next n s) (flat_map spell) (λ xs. (length xs ≡ n) × AllAlong fits next s xs)
-unfolding several_at
+pub several_field : {A S : Type 0} (read : S → Field A) (next : S → A → S) (spell : A → List ℕ) (fits : S → A → Type 0) (P : S → Type 0) → ((s : S) (a : A) → P s → fits s a → P (next s a)) → ((s : S) → P s → IsField (read s) spell (fits s))
+    → (n : ℕ) (s : S) → P s → IsField (several_read read next n s) (flat_map spell) (λ xs. (length xs ≡ n) × AllAlong fits next s xs)
+unfolding several_read
 several_field {A} {S} read next spell fits P kept each zero s p = record {
   takes = λ bytes xs rest h e.
       let same = ok_is ([], bytes) (xs, rest) e in
@@ -130,8 +130,8 @@ several_field {A} {S} read next spell fits P kept each zero s p = record {
     none (x ∷ xs) rest e = absurd (omega arith)
 several_field {A} {S} read next spell fits P kept each (suc n) s p = record {
   takes = λ bytes xs rest h e.
-      let a = bind_ok (read s bytes) (λ a. several_at read next n (next s a.0) a.1 >>= cons_at a.0) (xs, rest) e in
-      let b = bind_ok (several_at read next n (next s a.0.0) a.0.1) (cons_at a.0.0) (xs, rest) a.2 in
+      let a = bind_ok (read s bytes) (λ a. several_read read next n (next s a.0) a.1 >>= cons_at a.0) (xs, rest) e in
+      let b = bind_ok (several_read read next n (next s a.0.0) a.0.1) (cons_at a.0.0) (xs, rest) a.2 in
       let one = (each s p).takes bytes a.0.0 a.0.1 h a.1 in
       let two = (several_field read next spell fits P kept each n (next s a.0.0) (kept s a.0.0 p one.1)).takes a.0.1 b.0.0 b.0.1 one.0.rest_fits b.1 in
       let same = ok_is (a.0.0 ∷ b.0.0, b.0.1) (xs, rest) b.2 in
@@ -141,20 +141,20 @@ several_field {A} {S} read next spell fits P kept each (suc n) s p = record {
   again = λ xs rest h. more (several_field read next spell fits P kept each n) xs rest h;
 }
   where
-    more : ((s : S) → P s → IsField (several_at read next n s) (flat_map spell) (λ xs. (length xs ≡ n) × AllAlong fits next s xs)) → (xs : List A) (rest : List ℕ) → (length xs ≡ suc n) × AllAlong fits next s xs
-        → (read s (flat_map spell xs ++ rest) >>= λ a. several_at read next n (next s a.0) a.1 >>= cons_at a.0) ≡ Ok (xs, rest)
+    more : ((s : S) → P s → IsField (several_read read next n s) (flat_map spell) (λ xs. (length xs ≡ n) × AllAlong fits next s xs)) → (xs : List A) (rest : List ℕ) → (length xs ≡ suc n) × AllAlong fits next s xs
+        → (read s (flat_map spell xs ++ rest) >>= λ a. several_read read next n (next s a.0) a.1 >>= cons_at a.0) ≡ Ok (xs, rest)
     more ih [] rest h = let e = h.0 in absurd (omega arith)
     more ih (x ∷ xs) rest h =
         let count = h.0 in
         let text : flat_map spell (x ∷ xs) ++ rest ≡ spell x ++ (flat_map spell xs ++ rest) = ap (λ (l : List ℕ). l ++ rest) (flat_map-cons spell x xs) ∙ append_assoc (spell x) (flat_map spell xs) rest in
-        ap (λ l. read s l >>= λ a. several_at read next n (next s a.0) a.1 >>= cons_at a.0) text
-        ∙ ap (λ o. o >>= λ a. several_at read next n (next s a.0) a.1 >>= cons_at a.0) ((each s p).again x (flat_map spell xs ++ rest) h.1.0)
+        ap (λ l. read s l >>= λ a. several_read read next n (next s a.0) a.1 >>= cons_at a.0) text
+        ∙ ap (λ o. o >>= λ a. several_read read next n (next s a.0) a.1 >>= cons_at a.0) ((each s p).again x (flat_map spell xs ++ rest) h.1.0)
         ∙ ap (λ o. o >>= cons_at x) ((ih (next s x) (kept s x p h.1.0)).again xs rest (omega arith, h.1.1))
 
 -- ---- bytes and numbers
 
 -- so many bytes
-pub bytes_field : (n : ℕ) → IsField (bytes_at n) (λ text. text) (λ text. length text ≡ n)
+pub bytes_field : (n : ℕ) → IsField (bytes_read n) (λ text. text) (λ text. length text ≡ n)
 bytes_field n = record {
   takes = λ bytes text rest fits e.
       let g = guard_ok (ltb (length bytes) n) Short (take n bytes, drop n bytes) (text, rest) e in
@@ -210,7 +210,7 @@ wide64 = record {
   below = λ bytes fits. omega (arith, fits 0, fits 1, fits 2, fits 3, fits 4, fits 5, fits 6, fits 7);
 }
 
-pub number_field : (w : Width) (limit : ℕ) → IsWide w limit → IsField (number_at w) (to_be_bytes w) (λ n. n < limit)
+pub number_field : (w : Width) (limit : ℕ) → IsWide w limit → IsField (number_read w) (to_be_bytes w) (λ n. n < limit)
 number_field w limit wide = record {
   takes = λ bytes n rest fits e.
       let g = guard_ok (ltb (length bytes) (byte_len w)) Short (from_be_bytes w (take (byte_len w) bytes), drop (byte_len w) bytes) (n, rest) e in
@@ -232,23 +232,23 @@ within_is : (low n high : ℕ) → low ≤ n → n ≤ high → (nat_le low n &&
 within_is low n high a b = grind arith
 
 -- a number that is judged by its range
-pub ranged_field : (w : Width) (limit low high : ℕ) (d : WireFault) → IsWide w limit → high < limit → IsField (judged_at (λ n. nat_le low n && nat_le n high) d (number_at w)) (to_be_bytes w) (λ n. (low ≤ n) × (n ≤ high))
-ranged_field w limit low high d wide fits = as_field _ _ _ _ (judged_field (number_at w) (to_be_bytes w) (λ n. n < limit) (λ n. nat_le low n && nat_le n high) d (number_field w limit wide))
+pub ranged_field : (w : Width) (limit low high : ℕ) (d : WireFault) → IsWide w limit → high < limit → IsField (judged_read (λ n. nat_le low n && nat_le n high) d (number_read w)) (to_be_bytes w) (λ n. (low ≤ n) × (n ≤ high))
+ranged_field w limit low high d wide fits = as_field _ _ _ _ (judged_field (number_read w) (to_be_bytes w) (λ n. n < limit) (λ n. nat_le low n && nat_le n high) d (number_field w limit wide))
     (λ n h. is_within low n high h.1)
     (λ n h. (omega arith, within_is low n high h.0 h.1))
 
-pub within_field : (w : Width) (limit low high : ℕ) → IsWide w limit → high < limit → IsField (within_at w low high) (to_be_bytes w) (λ n. (low ≤ n) × (n ≤ high))
-unfolding within_at
+pub within_field : (w : Width) (limit low high : ℕ) → IsWide w limit → high < limit → IsField (within_read w low high) (to_be_bytes w) (λ n. (low ≤ n) × (n ≤ high))
+unfolding within_read
 within_field w limit low high wide fits = ranged_field w limit low high Count wide fits
 
 -- how many there are, and each
-pub counted_field : {A S : Type 0} (most : ℕ) (read : S → Reader A) (next : S → A → S) (spell : A → List ℕ) (fits : S → A → Type 0) (P : S → Type 0) → ((s : S) (a : A) → P s → fits s a → P (next s a)) → most < 2 ^ 16 → ((s : S) → P s → IsField (read s) spell (fits s))
-    → (s : S) → P s → IsField (counted_at most read next s) (counted_bytes spell) (λ xs. (length xs ≤ most) × AllAlong fits next s xs)
+pub counted_field : {A S : Type 0} (most : ℕ) (read : S → Field A) (next : S → A → S) (spell : A → List ℕ) (fits : S → A → Type 0) (P : S → Type 0) → ((s : S) (a : A) → P s → fits s a → P (next s a)) → most < 2 ^ 16 → ((s : S) → P s → IsField (read s) spell (fits s))
+    → (s : S) → P s → IsField (counted_read most read next s) (counted_bytes spell) (λ xs. (length xs ≤ most) × AllAlong fits next s xs)
 counted_field {A} {S} most read next spell fits P kept few each s start = made_field
-    (then_at (within_at w16 0 most) (λ count. several_at read next count s)) (λ p. to_be_bytes w16 p.0 ++ flat_map spell p.1)
+    (then_read (within_read w16 0 most) (λ count. several_read read next count s)) (λ p. to_be_bytes w16 p.0 ++ flat_map spell p.1)
     (λ p. ((0 ≤ p.0) × (p.0 ≤ most)) × ((length p.1 ≡ p.0) × AllAlong fits next s p.1))
     (λ p. p.1) (counted_bytes spell) (λ xs. (length xs ≤ most) × AllAlong fits next s xs)
-    (then_field (within_at w16 0 most) (to_be_bytes w16) (λ n. (0 ≤ n) × (n ≤ most)) (λ count. several_at read next count s) (λ count xs. flat_map spell xs) (λ count xs. (length xs ≡ count) × AllAlong fits next s xs)
+    (then_field (within_read w16 0 most) (to_be_bytes w16) (λ n. (0 ≤ n) × (n ≤ most)) (λ count. several_read read next count s) (λ count xs. flat_map spell xs) (λ count xs. (length xs ≡ count) × AllAlong fits next s xs)
     (within_field w16 (2 ^ 16) 0 most wide16 few)
     (λ count h. several_field read next spell fits P kept each count s start))
     (λ p h. (let e = h.1.0 in (omega arith, h.1.1), ap (λ n. to_be_bytes w16 n ++ flat_map spell p.1) (sym h.1.0)))

@@ -15,7 +15,7 @@ use Rattle.roc_msg.specs.Facts.{is_behind_facts}
 use Rattle.roc_wire.specs.declared.fault.WireFault.{WireFault}
 use Rattle.roc_wire.specs.Spelling.{edge_bytes}
 use Rattle.roc_wire.specs.Fits.{AllAlong, FitsEdge, last_from, FitsFact, Room, rises}
-use Rattle.roc_wire.specs.Reading.{IsBytes, Gives, several_at, edge_at, fact_at}
+use Rattle.roc_wire.specs.Reading.{IsBytes, IsRead, several_read, edge_read, fact_read}
 use Rattle.roc_wire.proofs.Exact.{several_field}
 use Rattle.roc_wire.proofs.Members.{edge_field, fact_field}
 
@@ -31,13 +31,13 @@ rises_all : (last : Option TxnId) (es : List Dependency) → AllAlong FitsEdge l
 rises_all last [] h = tt
 rises_all last (e ∷ es) h = (below_all e.from es h.1, rises_all (Some e.from) es h.1)
 
-pub rising_given : {X : Type 0} (view : X → List Dependency × List ℕ) (r : Result X WireFault) (count : ℕ) (bytes : List ℕ) → IsBytes bytes → Gives view r (several_at edge_at last_from count None bytes) → IfOk r (λ x. IsRising comes_before (view x).0)
+pub rising_given : {X : Type 0} (view : X → List Dependency × List ℕ) (r : Result X WireFault) (count : ℕ) (bytes : List ℕ) → IsBytes bytes → IsRead view r (several_read edge_read last_from count None bytes) → IfOk r (λ x. IsRising comes_before (view x).0)
 rising_given view (Ok x) count bytes fits h =
-    let field = several_field edge_at last_from edge_bytes FitsEdge (λ s. Unit {0}) (λ s a p q. tt) (λ s p. edge_field s) count None tt in
+    let field = several_field edge_read last_from edge_bytes FitsEdge (λ s. Unit {0}) (λ s a p q. tt) (λ s p. edge_field s) count None tt in
     rises_all None (view x).0 (field.takes bytes (view x).0 (view x).1 fits h).1.1
 rising_given view (Err e) count bytes fits h = tt
 
-pub fits_given : {X : Type 0} (view : X → KnownList × List ℕ) (r : Result X WireFault) (room : Room) (bytes : List ℕ) → room.1 < 2 ^ 16 → IsBytes bytes → Gives view r (fact_at room bytes) → IfOk r (λ x. FitsFact room (view x).0)
+pub fits_given : {X : Type 0} (view : X → KnownList × List ℕ) (r : Result X WireFault) (room : Room) (bytes : List ℕ) → room.1 < 2 ^ 16 → IsBytes bytes → IsRead view r (fact_read room bytes) → IfOk r (λ x. FitsFact room (view x).0)
 fits_given view (Ok x) room bytes few fits h = ((fact_field room few).takes bytes (view x).0 (view x).1 fits h).1
 fits_given view (Err e) room bytes few fits h = tt
 

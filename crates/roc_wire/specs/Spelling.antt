@@ -64,13 +64,13 @@ body (Known id edges) = id_bytes id ++ edges_bytes edges
 body Stop = []
 
 -- 0 for a server, 1 for a coordinator
-abbrev pub role_of : Node → ℕ
-role_of (Server shard) = 0
-role_of (Coord number) = 1
+abbrev pub sender_role : Node → ℕ
+sender_role (Server shard) = 0
+sender_role (Coord number) = 1
 
-abbrev pub number_of : Node → ℕ
-number_of (Server shard) = shard.0
-number_of (Coord number) = number
+abbrev pub sender_number : Node → ℕ
+sender_number (Server shard) = shard.0
+sender_number (Coord number) = number
 
 abbrev pub spelling : Header → Msg → List ℕ
-spelling header msg = magic ++ to_be_bytes w8 version ++ to_be_bytes w8 (kind_of msg) ++ header.tag ++ to_be_bytes w8 (role_of header.from) ++ to_be_bytes w16 (number_of header.from) ++ body msg
+spelling header msg = magic ++ to_be_bytes w8 version ++ to_be_bytes w8 (kind_of msg) ++ header.tag ++ to_be_bytes w8 (sender_role header.from) ++ to_be_bytes w16 (sender_number header.from) ++ body msg

@@ -2,13 +2,13 @@
 ghost use Rattle.std.specs.Prelude.{◌≡◌, ◌≤◌, ◌||◌, IfOk, IsTrue};
 ghost use Rattle.std.specs.Int.{w8, w16, w32, w64};
 ghost use Rattle.roc_wire.specs.Fits.{rises};
-ghost use Rattle.roc_wire.specs.Reading.{Gives, number_at, within_at, num_at, id_at, shard_at, rising_at, edge_at};
+ghost use Rattle.roc_wire.specs.Reading.{IsRead, number_read, within_read, num_read, id_read, shard_read, rising_read, edge_read};
 
 use crate::WireFault;
 use roc_base::{Shard, TxnId};
 
 pub(crate) fn u8_of(bytes: &[u8]) -> Result<(u8, &[u8]), WireFault>
-    ensures { Gives (λ x. (x.0, x.1.now)) result (number_at w8 bytes.now) }
+    ensures { IsRead (λ x. (x.0, x.1.now)) result (number_read w8 bytes.now) }
 {
     match bytes {
         [] => Err(WireFault::Short),
@@ -17,7 +17,7 @@ pub(crate) fn u8_of(bytes: &[u8]) -> Result<(u8, &[u8]), WireFault>
 }
 
 pub(crate) fn u16_of(bytes: &[u8]) -> Result<(u16, &[u8]), WireFault>
-    ensures { Gives (λ x. (x.0, x.1.now)) result (number_at w16 bytes.now) }
+    ensures { IsRead (λ x. (x.0, x.1.now)) result (number_read w16 bytes.now) }
 {
     if bytes.len() < 2 {
         return Err(WireFault::Short);
@@ -27,7 +27,7 @@ pub(crate) fn u16_of(bytes: &[u8]) -> Result<(u16, &[u8]), WireFault>
 }
 
 pub(crate) fn u32_of(bytes: &[u8]) -> Result<(u32, &[u8]), WireFault>
-    ensures { Gives (λ x. (x.0, x.1.now)) result (number_at w32 bytes.now) }
+    ensures { IsRead (λ x. (x.0, x.1.now)) result (number_read w32 bytes.now) }
 {
     if bytes.len() < 4 {
         return Err(WireFault::Short);
@@ -38,7 +38,7 @@ pub(crate) fn u32_of(bytes: &[u8]) -> Result<(u32, &[u8]), WireFault>
 }
 
 pub(crate) fn u64_of(bytes: &[u8]) -> Result<(u64, &[u8]), WireFault>
-    ensures { Gives (λ x. (x.0, x.1.now)) result (number_at w64 bytes.now) }
+    ensures { IsRead (λ x. (x.0, x.1.now)) result (number_read w64 bytes.now) }
 {
     if bytes.len() < 8 {
         return Err(WireFault::Short);
@@ -50,17 +50,17 @@ pub(crate) fn u64_of(bytes: &[u8]) -> Result<(u64, &[u8]), WireFault>
     Ok((number, rest))
 }
 
-#[tactic(auto, unfolding(crate::specs::Reading::num_at))]
+#[tactic(auto, unfolding(crate::specs::Reading::num_read))]
 pub(crate) fn num_of(bytes: &[u8]) -> Result<(i64, &[u8]), WireFault>
-    ensures { Gives (λ x. (x.0, x.1.now)) result (num_at tt bytes.now) }
+    ensures { IsRead (λ x. (x.0, x.1.now)) result (num_read tt bytes.now) }
 {
     let (number, rest) = u64_of(bytes)?;
     Ok((number.cast_signed(), rest))
 }
 
-#[tactic(auto, unfolding(crate::specs::Reading::within_at))]
+#[tactic(auto, unfolding(crate::specs::Reading::within_read))]
 pub(crate) fn u8_within(bytes: &[u8], low: u8, high: u8) -> Result<(u8, &[u8]), WireFault>
-    ensures { Gives (λ x. (x.0, x.1.now)) result (within_at w8 low high bytes.now) }
+    ensures { IsRead (λ x. (x.0, x.1.now)) result (within_read w8 low high bytes.now) }
 {
     let (number, rest) = u8_of(bytes)?;
     if low <= number && number <= high {
@@ -70,9 +70,9 @@ pub(crate) fn u8_within(bytes: &[u8], low: u8, high: u8) -> Result<(u8, &[u8]), 
     }
 }
 
-#[tactic(auto, unfolding(crate::specs::Reading::within_at))]
+#[tactic(auto, unfolding(crate::specs::Reading::within_read))]
 pub(crate) fn u16_within(bytes: &[u8], low: u16, high: u16) -> Result<(u16, &[u8]), WireFault>
-    ensures given { Gives (λ x. (x.0, x.1.now)) result (within_at w16 low high bytes.now) }
+    ensures given { IsRead (λ x. (x.0, x.1.now)) result (within_read w16 low high bytes.now) }
     ensures range { IfOk result (λ x. x.0 ≤ high) }
 {
     let (number, rest) = u16_of(bytes)?;
@@ -83,18 +83,18 @@ pub(crate) fn u16_within(bytes: &[u8], low: u16, high: u16) -> Result<(u16, &[u8
     }
 }
 
-#[tactic(auto, unfolding(crate::specs::Reading::id_at))]
+#[tactic(auto, unfolding(crate::specs::Reading::id_read))]
 pub(crate) fn id_of(bytes: &[u8]) -> Result<(TxnId, &[u8]), WireFault>
-    ensures { Gives (λ x. (x.0, x.1.now)) result (id_at bytes.now) }
+    ensures { IsRead (λ x. (x.0, x.1.now)) result (id_read bytes.now) }
 {
     let (coord, rest) = u16_within(bytes, 0, 15)?;
     let (seq, rest) = u32_of(rest)?;
     Ok((TxnId { coord, seq }, rest))
 }
 
-#[tactic(auto, unfolding(crate::specs::Reading::shard_at))]
+#[tactic(auto, unfolding(crate::specs::Reading::shard_read))]
 pub(crate) fn shard_of(bytes: &[u8]) -> Result<(Shard, &[u8]), WireFault>
-    ensures { Gives (λ x. (x.0, x.1.now)) result (shard_at bytes.now) }
+    ensures { IsRead (λ x. (x.0, x.1.now)) result (shard_read bytes.now) }
 {
     let (number, rest) = u8_within(bytes, 0, 63)?;
     Ok((Shard(number), rest))
@@ -109,9 +109,9 @@ pub(crate) fn is_rising(last: Option<TxnId>, id: TxnId) -> bool
     }
 }
 
-#[tactic(auto, unfolding(crate::specs::Reading::rising_at))]
+#[tactic(auto, unfolding(crate::specs::Reading::rising_read))]
 pub(crate) fn rising_of(last: Option<TxnId>, bytes: &[u8]) -> Result<(TxnId, &[u8]), WireFault>
-    ensures { Gives (λ x. (x.0, x.1.now)) result (rising_at last bytes.now) }
+    ensures { IsRead (λ x. (x.0, x.1.now)) result (rising_read last bytes.now) }
 {
     let (id, rest) = id_of(bytes)?;
     if is_rising(last, id) {
@@ -122,12 +122,12 @@ pub(crate) fn rising_of(last: Option<TxnId>, bytes: &[u8]) -> Result<(TxnId, &[u
 }
 
 // Its transaction, whether it has each tag, and its shard.
-#[tactic(auto, unfolding(crate::specs::Reading::edge_at))]
+#[tactic(auto, unfolding(crate::specs::Reading::edge_read))]
 pub(crate) fn edge_of(
     last: Option<TxnId>,
     bytes: &[u8],
 ) -> Result<(TxnId, bool, bool, Shard, &[u8]), WireFault>
-    ensures given { Gives (λ x. (record { from = x.0; imm = x.1; def = x.2; at = x.3 }, x.4.now)) result (edge_at last bytes.now) }
+    ensures given { IsRead (λ x. (record { from = x.0; imm = x.1; def = x.2; at = x.3 }, x.4.now)) result (edge_read last bytes.now) }
     ensures tagged { IfOk result (λ x. IsTrue (x.1 || x.2)) }
 {
     let (id, rest) = rising_of(last, bytes)?;

@@ -4,7 +4,7 @@ ghost use Rattle.roc_base.specs.Edges.{comes_before};
 ghost use Rattle.roc_msg.specs.Facts.{most_fact_edges};
 ghost use Rattle.roc_sequence.specs.Rising.{IsRising};
 ghost use Rattle.roc_wire.specs.Fits.{FitsFact, last_from, room_behind};
-ghost use Rattle.roc_wire.specs.Reading.{Gives, several_at, num_at, nums_at, edge_at, edges_at, fact_at, facts_at};
+ghost use Rattle.roc_wire.specs.Reading.{IsRead, several_read, num_read, nums_read, edge_read, edges_read, fact_read, facts_read};
 
 use crate::WireFault;
 use crate::fields::{edge_of, num_of, rising_of, u16_within};
@@ -13,9 +13,9 @@ use roc_depgraph::KnownList;
 use roc_msg::Facts;
 use std::alloc::Global;
 
-#[tactic(auto, unfolding(crate::specs::Reading::nums_at))]
+#[tactic(auto, unfolding(crate::specs::Reading::nums_read))]
 pub(crate) fn nums_of(alloc: Global, most: u16, bytes: &[u8]) -> Result<(Nums, &[u8]), WireFault>
-    ensures { Gives (λ x. (x.0, x.1.now)) result (nums_at most bytes.now) }
+    ensures { IsRead (λ x. (x.0, x.1.now)) result (nums_read most bytes.now) }
 {
     let (count, rest) = u16_within(bytes, 0, most)?;
     let (nums, rest) = several_nums(alloc, count, rest)?;
@@ -23,7 +23,7 @@ pub(crate) fn nums_of(alloc: Global, most: u16, bytes: &[u8]) -> Result<(Nums, &
 }
 
 fn several_nums(alloc: Global, count: u16, bytes: &[u8]) -> Result<(Nums, &[u8]), WireFault>
-    ensures { Gives (λ x. (x.0, x.1.now)) result (several_at num_at (λ s n. s) count tt bytes.now) }
+    ensures { IsRead (λ x. (x.0, x.1.now)) result (several_read num_read (λ s n. s) count tt bytes.now) }
 {
     let mut nums = Nums::new(alloc);
     let mut rest = bytes;
@@ -35,9 +35,9 @@ fn several_nums(alloc: Global, count: u16, bytes: &[u8]) -> Result<(Nums, &[u8])
     Ok((nums, rest))
 }
 
-#[tactic(auto, unfolding(crate::specs::Reading::edges_at))]
+#[tactic(auto, unfolding(crate::specs::Reading::edges_read))]
 pub(crate) fn edges_of(alloc: Global, most: u16, bytes: &[u8]) -> Result<(Edges, &[u8]), WireFault>
-    ensures { Gives (λ x. (x.0, x.1.now)) result (edges_at most bytes.now) }
+    ensures { IsRead (λ x. (x.0, x.1.now)) result (edges_read most bytes.now) }
 {
     let (count, rest) = u16_within(bytes, 0, most)?;
     let (entries, rest) = rising_entries(alloc, count, rest)?;
@@ -56,14 +56,14 @@ fn list_of(alloc: Global, entries: &[Edge]) -> Result<Edges, NoMemory>
 }
 
 fn rising_entries(alloc: Global, count: u16, bytes: &[u8]) -> Result<(Vec<Edge>, &[u8]), WireFault>
-    ensures given { Gives (λ x. (x.0.items, x.1.now)) result (several_at edge_at last_from count None bytes.now) }
+    ensures given { IsRead (λ x. (x.0.items, x.1.now)) result (several_read edge_read last_from count None bytes.now) }
     ensures rising { IfOk result (λ x. IsRising comes_before x.0.items) }
 {
     several_entries(alloc, count, bytes)
 }
 
 fn several_entries(alloc: Global, count: u16, bytes: &[u8]) -> Result<(Vec<Edge>, &[u8]), WireFault>
-    ensures { Gives (λ x. (x.0.items, x.1.now)) result (several_at edge_at last_from count None bytes.now) }
+    ensures { IsRead (λ x. (x.0.items, x.1.now)) result (several_read edge_read last_from count None bytes.now) }
 {
     let mut entries = Vec::new(alloc);
     let mut last = None;
@@ -79,9 +79,9 @@ fn several_entries(alloc: Global, count: u16, bytes: &[u8]) -> Result<(Vec<Edge>
     Ok((entries, rest))
 }
 
-#[tactic(auto, unfolding(crate::specs::Reading::facts_at))]
+#[tactic(auto, unfolding(crate::specs::Reading::facts_read))]
 pub(crate) fn facts_of(alloc: Global, bytes: &[u8]) -> Result<(Facts, &[u8]), WireFault>
-    ensures { Gives (λ x. (x.0, x.1.now)) result (facts_at bytes.now) }
+    ensures { IsRead (λ x. (x.0, x.1.now)) result (facts_read bytes.now) }
 {
     let (count, rest) = u16_within(bytes, 0, 16)?;
     let (facts, rest) = several_facts(alloc, count, rest)?;
@@ -89,7 +89,7 @@ pub(crate) fn facts_of(alloc: Global, bytes: &[u8]) -> Result<(Facts, &[u8]), Wi
 }
 
 fn several_facts(alloc: Global, count: u16, bytes: &[u8]) -> Result<(Facts, &[u8]), WireFault>
-    ensures { Gives (λ x. (x.0, x.1.now)) result (several_at fact_at room_behind count (None, most_fact_edges) bytes.now) }
+    ensures { IsRead (λ x. (x.0, x.1.now)) result (several_read fact_read room_behind count (None, most_fact_edges) bytes.now) }
 {
     let mut facts = Facts::new(alloc);
     let mut last = None;
@@ -111,20 +111,20 @@ fn fitting_fact(
     left: u16,
     bytes: &[u8],
 ) -> Result<(KnownList, &[u8]), WireFault>
-    ensures given { Gives (λ x. (x.0, x.1.now)) result (fact_at (last, left) bytes.now) }
+    ensures given { IsRead (λ x. (x.0, x.1.now)) result (fact_read (last, left) bytes.now) }
     ensures fits { IfOk result (λ x. FitsFact (last, left) x.0) }
 {
     fact_of(alloc, last, left, bytes)
 }
 
-#[tactic(auto, unfolding(crate::specs::Reading::fact_at))]
+#[tactic(auto, unfolding(crate::specs::Reading::fact_read))]
 fn fact_of(
     alloc: Global,
     last: Option<TxnId>,
     left: u16,
     bytes: &[u8],
 ) -> Result<(KnownList, &[u8]), WireFault>
-    ensures { Gives (λ x. (x.0, x.1.now)) result (fact_at (last, left) bytes.now) }
+    ensures { IsRead (λ x. (x.0, x.1.now)) result (fact_read (last, left) bytes.now) }
 {
     let (of, rest) = rising_of(last, bytes)?;
     let (edges, rest) = edges_of(alloc, left, rest)?;

@@ -1,6 +1,6 @@
 //! Reading a datagram.
 ghost use Rattle.std.specs.Prelude.{◌≡◌, Ok, take, IfOk};
-ghost use Rattle.roc_wire.specs.Reading.{Gives, bytes_at, start_at, start_ok_at, commit_at, commit_ok_at, fetch_at, known_at, body_at, magic_at, version_at, kind_at, node_at, whole_at, datagram, pair};
+ghost use Rattle.roc_wire.specs.Reading.{IsRead, bytes_read, start_read, start_ok_read, commit_read, commit_ok_read, fetch_read, known_read, body_read, magic_read, version_read, kind_read, node_read, whole_read, datagram, pair};
 ghost use Rattle.roc_wire.specs.Fits.{IsSpellable};
 ghost use Rattle.roc_wire.specs.Spelling.{spelling};
 ghost use Rattle.roc_wire.specs.declared.header.Header.{Header as HeaderValue};
@@ -13,9 +13,9 @@ use roc_base::{Node, Shard};
 use roc_msg::Msg;
 use std::alloc::Global;
 
-#[tactic(auto, unfolding(crate::specs::Reading::start_at))]
+#[tactic(auto, unfolding(crate::specs::Reading::start_read))]
 fn start_of(alloc: Global, bytes: &[u8]) -> Result<(Msg, &[u8]), WireFault>
-    ensures { Gives (λ x. (x.0, x.1.now)) result (start_at bytes.now) }
+    ensures { IsRead (λ x. (x.0, x.1.now)) result (start_read bytes.now) }
 {
     let (id, rest) = id_of(bytes)?;
     let (proc, rest) = u16_of(rest)?;
@@ -32,9 +32,9 @@ fn start_of(alloc: Global, bytes: &[u8]) -> Result<(Msg, &[u8]), WireFault>
     Ok((msg, rest))
 }
 
-#[tactic(auto, unfolding(crate::specs::Reading::start_ok_at))]
+#[tactic(auto, unfolding(crate::specs::Reading::start_ok_read))]
 fn start_ok_of(alloc: Global, bytes: &[u8]) -> Result<(Msg, &[u8]), WireFault>
-    ensures { Gives (λ x. (x.0, x.1.now)) result (start_ok_at bytes.now) }
+    ensures { IsRead (λ x. (x.0, x.1.now)) result (start_ok_read bytes.now) }
 {
     let (id, rest) = id_of(bytes)?;
     let (group, rest) = u16_of(rest)?;
@@ -55,9 +55,9 @@ fn start_ok_of(alloc: Global, bytes: &[u8]) -> Result<(Msg, &[u8]), WireFault>
     Ok((msg, rest))
 }
 
-#[tactic(auto, unfolding(crate::specs::Reading::commit_at))]
+#[tactic(auto, unfolding(crate::specs::Reading::commit_read))]
 fn commit_of(alloc: Global, bytes: &[u8]) -> Result<(Msg, &[u8]), WireFault>
-    ensures { Gives (λ x. (x.0, x.1.now)) result (commit_at bytes.now) }
+    ensures { IsRead (λ x. (x.0, x.1.now)) result (commit_read bytes.now) }
 {
     let (id, rest) = id_of(bytes)?;
     let (edges, rest) = edges_of(alloc, 4096, rest)?;
@@ -65,9 +65,9 @@ fn commit_of(alloc: Global, bytes: &[u8]) -> Result<(Msg, &[u8]), WireFault>
     Ok((Msg::Commit { id, edges, facts }, rest))
 }
 
-#[tactic(auto, unfolding(crate::specs::Reading::commit_ok_at))]
+#[tactic(auto, unfolding(crate::specs::Reading::commit_ok_read))]
 fn commit_ok_of(alloc: Global, bytes: &[u8]) -> Result<(Msg, &[u8]), WireFault>
-    ensures { Gives (λ x. (x.0, x.1.now)) result (commit_ok_at bytes.now) }
+    ensures { IsRead (λ x. (x.0, x.1.now)) result (commit_ok_read bytes.now) }
 {
     let (id, rest) = id_of(bytes)?;
     let (shard, rest) = shard_of(rest)?;
@@ -75,27 +75,27 @@ fn commit_ok_of(alloc: Global, bytes: &[u8]) -> Result<(Msg, &[u8]), WireFault>
     Ok((Msg::CommitOk { id, shard, outs }, rest))
 }
 
-#[tactic(auto, unfolding(crate::specs::Reading::fetch_at))]
+#[tactic(auto, unfolding(crate::specs::Reading::fetch_read))]
 fn fetch_of(bytes: &[u8]) -> Result<(Msg, &[u8]), WireFault>
-    ensures { Gives (λ x. (x.0, x.1.now)) result (fetch_at bytes.now) }
+    ensures { IsRead (λ x. (x.0, x.1.now)) result (fetch_read bytes.now) }
 {
     let (id, rest) = id_of(bytes)?;
     let (asker, rest) = shard_of(rest)?;
     Ok((Msg::Fetch { id, asker }, rest))
 }
 
-#[tactic(auto, unfolding(crate::specs::Reading::known_at))]
+#[tactic(auto, unfolding(crate::specs::Reading::known_read))]
 fn known_of(alloc: Global, bytes: &[u8]) -> Result<(Msg, &[u8]), WireFault>
-    ensures { Gives (λ x. (x.0, x.1.now)) result (known_at bytes.now) }
+    ensures { IsRead (λ x. (x.0, x.1.now)) result (known_read bytes.now) }
 {
     let (id, rest) = id_of(bytes)?;
     let (edges, rest) = edges_of(alloc, 4096, rest)?;
     Ok((Msg::Known { id, edges }, rest))
 }
 
-#[tactic(auto, unfolding(crate::specs::Reading::body_at))]
+#[tactic(auto, unfolding(crate::specs::Reading::body_read))]
 fn body_of(alloc: Global, kind: u8, bytes: &[u8]) -> Result<(Msg, &[u8]), WireFault>
-    ensures { Gives (λ x. (x.0, x.1.now)) result (body_at kind bytes.now) }
+    ensures { IsRead (λ x. (x.0, x.1.now)) result (body_read kind bytes.now) }
 {
     if kind == 1 {
         return start_of(alloc, bytes);
@@ -118,9 +118,9 @@ fn body_of(alloc: Global, kind: u8, bytes: &[u8]) -> Result<(Msg, &[u8]), WireFa
     Ok((Msg::Stop, bytes))
 }
 
-#[tactic(auto, unfolding(crate::specs::Reading::magic_at))]
+#[tactic(auto, unfolding(crate::specs::Reading::magic_read))]
 fn magic_of(bytes: &[u8]) -> Result<&[u8], WireFault>
-    ensures { Gives (λ x. (take 4 bytes.now, x.now)) result (magic_at bytes.now) }
+    ensures { IsRead (λ x. (take 4 bytes.now, x.now)) result (magic_read bytes.now) }
 {
     if bytes.len() < 4 {
         return Err(WireFault::Short);
@@ -133,9 +133,9 @@ fn magic_of(bytes: &[u8]) -> Result<&[u8], WireFault>
     }
 }
 
-#[tactic(auto, unfolding(crate::specs::Reading::version_at))]
+#[tactic(auto, unfolding(crate::specs::Reading::version_read))]
 fn version_of(bytes: &[u8]) -> Result<(u8, &[u8]), WireFault>
-    ensures { Gives (λ x. (x.0, x.1.now)) result (version_at bytes.now) }
+    ensures { IsRead (λ x. (x.0, x.1.now)) result (version_read bytes.now) }
 {
     let (version, rest) = u8_of(bytes)?;
     if version == 1 {
@@ -145,9 +145,9 @@ fn version_of(bytes: &[u8]) -> Result<(u8, &[u8]), WireFault>
     }
 }
 
-#[tactic(auto, unfolding(crate::specs::Reading::kind_at))]
+#[tactic(auto, unfolding(crate::specs::Reading::kind_read))]
 fn kind_of(bytes: &[u8]) -> Result<(u8, &[u8]), WireFault>
-    ensures { Gives (λ x. (x.0, x.1.now)) result (kind_at bytes.now) }
+    ensures { IsRead (λ x. (x.0, x.1.now)) result (kind_read bytes.now) }
 {
     let (kind, rest) = u8_of(bytes)?;
     if 1 <= kind && kind <= 7 {
@@ -158,7 +158,7 @@ fn kind_of(bytes: &[u8]) -> Result<(u8, &[u8]), WireFault>
 }
 
 fn tag_of(bytes: &[u8]) -> Result<([u8; 8], &[u8]), WireFault>
-    ensures { Gives (λ x. (x.0, x.1.now)) result (bytes_at 8 bytes.now) }
+    ensures { IsRead (λ x. (x.0, x.1.now)) result (bytes_read 8 bytes.now) }
 {
     if bytes.len() < 8 {
         return Err(WireFault::Short);
@@ -169,9 +169,9 @@ fn tag_of(bytes: &[u8]) -> Result<([u8; 8], &[u8]), WireFault>
     Ok((tag, rest))
 }
 
-#[tactic(auto, unfolding(crate::specs::Reading::node_at))]
+#[tactic(auto, unfolding(crate::specs::Reading::node_read))]
 fn node_of(bytes: &[u8]) -> Result<(Node, &[u8]), WireFault>
-    ensures { Gives (λ x. (x.0, x.1.now)) result (node_at bytes.now) }
+    ensures { IsRead (λ x. (x.0, x.1.now)) result (node_read bytes.now) }
 {
     let (role, rest) = u8_within(bytes, 0, 1)?;
     if role == 0 {
@@ -183,9 +183,9 @@ fn node_of(bytes: &[u8]) -> Result<(Node, &[u8]), WireFault>
     }
 }
 
-#[tactic(auto, unfolding(crate::specs::Reading::whole_at))]
+#[tactic(auto, unfolding(crate::specs::Reading::whole_read))]
 fn whole_of(alloc: Global, bytes: &[u8]) -> Result<(Header, Msg, &[u8]), WireFault>
-    ensures { Gives (λ x. ((x.0, x.1), x.2.now)) result (whole_at bytes.now) }
+    ensures { IsRead (λ x. ((x.0, x.1), x.2.now)) result (whole_read bytes.now) }
 {
     let rest = magic_of(bytes)?;
     let (_version, rest) = version_of(rest)?;
@@ -198,7 +198,7 @@ fn whole_of(alloc: Global, bytes: &[u8]) -> Result<(Header, Msg, &[u8]), WireFau
 
 #[tactic(auto, unfolding(crate::specs::Reading::datagram))]
 fn datagram_of(alloc: Global, bytes: &[u8]) -> Result<(Header, Msg), WireFault>
-    ensures { Gives (λ x. (x.0, x.1)) result (datagram bytes.now) }
+    ensures { IsRead (λ x. (x.0, x.1)) result (datagram bytes.now) }
 {
     let (header, msg, rest) = whole_of(alloc, bytes)?;
     if rest.is_empty() {
@@ -214,9 +214,9 @@ pub fn decode(alloc: Global, bytes: &[u8]) -> Result<(Header, Msg), WireFault>
     // What is read is spelled so.
     ensures found { IfOk result (λ x. IsSpellable x.0 x.1 × (bytes.now ≡ spelling x.0 x.1)) }
     // What is spelled so is read, unless memory runs out.
-    ensures only { (header : HeaderValue) (msg : MsgValue) → IsSpellable header msg → bytes.now ≡ spelling header msg → Gives (λ x. (x.0, x.1)) result (Ok (pair header msg)) }
+    ensures only { (header : HeaderValue) (msg : MsgValue) → IsSpellable header msg → bytes.now ≡ spelling header msg → IsRead (λ x. (x.0, x.1)) result (Ok (pair header msg)) }
     // Which fault it is.
-    ensures exact { Gives (λ x. (x.0, x.1)) result (datagram bytes.now) }
+    ensures exact { IsRead (λ x. (x.0, x.1)) result (datagram bytes.now) }
 {
     datagram_of(alloc, bytes)
 }

@@ -3,7 +3,7 @@ ghost use Rattle.std.specs.Prelude.{◌≡◌, ◌≤◌, ◌<◌, ◌^◌, ◌+
 ghost use Rattle.std.specs.List.{flat_map, All};
 ghost use Rattle.std.specs.Int.{w8, w16, to_be_bytes};
 ghost use Rattle.roc_msg.specs.Msg.{kind_of};
-ghost use Rattle.roc_wire.specs.Spelling.{id_bytes, shard_bytes, num_bytes, nums_bytes, tags_of, edge_bytes, edges_bytes, fact_bytes, facts_bytes, body, role_of, number_of, spelling};
+ghost use Rattle.roc_wire.specs.Spelling.{id_bytes, shard_bytes, num_bytes, nums_bytes, tags_of, edge_bytes, edges_bytes, fact_bytes, facts_bytes, body, sender_role, sender_number, spelling};
 ghost use Rattle.roc_wire.specs.Fits.{FitsFacts, FitsMsg, IsSpellable};
 
 use crate::Header;
@@ -28,7 +28,7 @@ pub fn encode(alloc: Global, header: &Header, msg: &Msg) -> Result<Vec<u8>, NoMe
 }
 
 fn put_sender(out: &mut Vec<u8>, from: Node) -> Result<(), NoMemory>
-    ensures { OnOk result (out.new.items ≡ out.old.items ++ to_be_bytes w8 (role_of from) ++ to_be_bytes w16 (number_of from)) }
+    ensures { OnOk result (out.new.items ≡ out.old.items ++ to_be_bytes w8 (sender_role from) ++ to_be_bytes w16 (sender_number from)) }
 {
     match from {
         Node::Server(Shard(number)) => {

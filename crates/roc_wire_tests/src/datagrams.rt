@@ -10,18 +10,18 @@ use std::process::Abort;
 const TAG: [u8; 8] = [1, 2, 3, 4, 5, 6, 7, 8];
 
 /// Coordinator 0 starts group 0 of procedure 0 with the argument 5.
-const START: &[u8] =
+pub(crate) const START: &[u8] =
     b"RCO1\x01\x01\x01\x02\x03\x04\x05\x06\x07\x08\x01\x00\x00\x00\x00\x00\x00\x00\x00\x00\x00\x00\x00\x00\x01\x00\x00\x00\x00\x00\x00\x00\x05\x00\x00";
 
 /// Shard 1 asks for the list of transaction 0.0.
-const FETCH: &[u8] =
+pub(crate) const FETCH: &[u8] =
     b"RCO1\x01\x05\x01\x02\x03\x04\x05\x06\x07\x08\x00\x00\x01\x00\x00\x00\x00\x00\x00\x01";
 
 /// A known with two entries of one transaction.
-const TWICE: &[u8] =
+pub(crate) const TWICE: &[u8] =
     b"RCO1\x01\x06\x01\x02\x03\x04\x05\x06\x07\x08\x00\x00\x01\x00\x00\x00\x00\x00\x00\x00\x02\x00\x01\x00\x00\x00\x00\x02\x01\x00\x01\x00\x00\x00\x00\x02\x01";
 
-fn written_again(alloc: Global, bytes: &[u8]) -> Result<Vec<u8>, WireFault>
+pub(crate) fn written_again(alloc: Global, bytes: &[u8]) -> Result<Vec<u8>, WireFault>
     ensures { IfOk result (λ again. again.items ≡ bytes.now) }
 {
     let (header, msg) = decode(alloc, bytes)?;
@@ -61,23 +61,13 @@ fn is_refused(rt: &impl Abort, alloc: Global, cases: &[(&[u8], WireFault)]) {
 }
 
 #[test]
-fn bytes_have_their_first_fault(rt: HostRuntime) {
-    let cases: [(&[u8], WireFault); 9] = [
+fn headers_have_their_first_fault(rt: HostRuntime) {
+    let cases: [(&[u8], WireFault); 5] = [
         (b"", WireFault::Short),
         (b"RCO", WireFault::Short),
         (b"RCO2", WireFault::Magic),
         (b"RCO1\x02", WireFault::Version),
         (b"RCO1\x01\x08", WireFault::Kind),
-        (&START[..38], WireFault::Short),
-        (
-            b"RCO1\x01\x05\x01\x02\x03\x04\x05\x06\x07\x08\x02",
-            WireFault::Count,
-        ),
-        (TWICE, WireFault::Order),
-        (
-            b"RCO1\x01\x07\x01\x02\x03\x04\x05\x06\x07\x08\x00\x00\x00\x00",
-            WireFault::Rest,
-        ),
     ];
     is_refused(&rt, rt.alloc(), &cases);
 }

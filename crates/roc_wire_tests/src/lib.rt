@@ -3,3 +3,5 @@
 
 #[cfg(test)]
 mod datagrams;
+#[cfg(test)]
+mod limits;

@@ -3,7 +3,7 @@ use Rattle.std.specs.Prelude.{None}
 use Rattle.roc_base.specs.declared.id.TxnId.{TxnId}
 use Rattle.roc_msg.specs.Facts.{is_behind_facts, most_fact_edges}
 use Rattle.roc_wire.specs.Fits.{rises, room_behind}
-use Rattle.roc_wire.specs.Reading.{several_at, fact_at}
+use Rattle.roc_wire.specs.Reading.{several_read, fact_read}
 use Rattle.roc_wire.proofs.Loop.{with_front}
 use Rattle.roc_wire.proofs.lists.several_facts.Given as goal
 
@@ -11,6 +11,6 @@ use Rattle.roc_wire.proofs.lists.several_facts.Given as goal
 abbrev pub invariant-loop : goal.invariant-loop
 invariant-loop l =
     record {
-      read : with_front l.facts (several_at fact_at room_behind (l.count - l.counter) (l.last, l.left) l.rest) ≡ several_at fact_at room_behind l.count (None, most_fact_edges) l.bytes;
+      read : with_front l.facts (several_read fact_read room_behind (l.count - l.counter) (l.last, l.left) l.rest) ≡ several_read fact_read room_behind l.count (None, most_fact_edges) l.bytes;
       behind : (id : TxnId) → IsTrue (rises l.last id) → IsTrue (is_behind_facts l.facts id);
     }
