@@ -1,7 +1,9 @@
 -- Lacks, once one more list is known
-use Rattle.std.proofs.Common.{◌≡◌, ◌⊎◌, inl, inr, ◌<◌, Bool, true, false, not, List, [], ◌∷◌, ◌++◌, length, map, filter, None, is_some, refl, sym, ap, subst, ◌∙◌, arith}
+use Rattle.std.proofs.Common.{◌≡◌, ℕ, zero, suc, ◌+◌, ◌-◌, get_or, take, ◌⊎◌, inl, inr, ◌<◌, Bool, true, false, not, List, [], ◌∷◌, ◌++◌, length, map, filter, None, is_some, refl, sym, ap, subst, ◌∙◌, arith}
 use Rattle.std.proofs.lemmas.Bool.{false≢true, not-true, eqb-true, eqb-false}
+use Rattle.std.proofs.lemmas.List.{get_or_default, get_or-take, length-take-le}
 use Rattle.std.specs.List.{AllByRecursion}
+use Rattle.roc_sequence.proofs.Fronts.{front_more}
 use Rattle.roc_sequence.specs.Lists.{Has}
 use Rattle.roc_sequence.specs.Places.{IsListed, is_listed}
 use Rattle.roc_sequence.proofs.Appended.{listed_front, listed_behind, listed_either}
@@ -174,3 +176,42 @@ its_own u fresh [] [] so = refl
 its_own u fresh [] (n ∷ ns) so = absurd so
 its_own u fresh (l ∷ ls) [] so = absurd so
 its_own u fresh (l ∷ ls) (n ∷ ns) so = (so.0, its_own u fresh ls ns so.1)
+
+-- each of them stands where it stood
+pub grown_length : (u : TxnId) (fresh : List TxnId) (olds news : List Lack) → AreGrownSoFar u fresh olds news → length news ≡ length olds
+grown_length u fresh [] [] so = refl
+grown_length u fresh [] (n ∷ ns) so = absurd so
+grown_length u fresh (l ∷ ls) [] so = absurd so
+grown_length u fresh (l ∷ ls) (n ∷ ns) so = ap suc (grown_length u fresh ls ns so.1)
+
+pub grown_there : (u : TxnId) (fresh : List TxnId) (olds news : List Lack) (i : ℕ) (d e : Lack) → AreGrownSoFar u fresh olds news → i < length olds → IsGrown u fresh (get_or olds i d) (get_or news i e)
+grown_there u fresh [] news i d e so h = absurd (omega arith)
+grown_there u fresh (l ∷ ls) [] i d e so h = absurd so
+grown_there u fresh (l ∷ ls) (n ∷ ns) zero d e so h = so.0
+grown_there u fresh (l ∷ ls) (n ∷ ns) (suc i) d e so h = grown_there u fresh ls ns i d e so.1 (omega arith)
+
+-- what is missing for two alike is so afterwards
+pub grown_alike : (u : TxnId) (fresh : List TxnId) (old new other after : Lack) → IsGrown u fresh old new → other.missing ≡ old.missing → after.of ≡ other.of → after.missing ≡ new.missing → IsGrown u fresh other after
+grown_alike u fresh old new other after g same of e = record {
+  of = of;
+  missing = subst (λ ids. Grows other.missing u fresh ids (is_listed is_txn other.missing u)) (sym e) (subst (λ ids. Grows ids u fresh new.missing (is_listed is_txn ids u)) (sym same) g.missing);
+}
+
+-- the lack behind another for which the same is missing
+pub grown_as_before : (u : TxnId) (fresh : List TxnId) (lacks grown : List Lack) (at : ℕ) (a b g : Lack) → 0 < at → at < length lacks → AreGrownSoFar u fresh (take at lacks) grown → a ≡ get_or lacks at a → b ≡ get_or lacks (at - 1) b → g ≡ get_or grown (at - 1) g → a.missing ≡ b.missing → (d after : Lack) → after.of ≡ a.of → after.missing ≡ g.missing → IsGrown u fresh (get_or lacks at d) after
+grown_as_before u fresh lacks grown at a b g some within so is_a is_b is_g same d after of missing =
+    subst (λ old. IsGrown u fresh old after) (is_a ∙ get_or_default lacks at a d within) (grown_alike u fresh b g a after before same of missing)
+  where
+    before : IsGrown u fresh b g
+    before =
+        let n = length-take-le at lacks (omega arith) in
+        let p = grown_there u fresh (take at lacks) grown (at - 1) b g so (omega arith) in
+        subst (λ old. IsGrown u fresh old g) (get_or-take at lacks (at - 1) b (omega arith) ∙ sym is_b) (subst (IsGrown u fresh (get_or (take at lacks) (at - 1) b)) (sym is_g) p)
+
+-- the next one
+pub next_grown : (u : TxnId) (fresh : List TxnId) (lacks grown after : List Lack) (at : ℕ) (new : Lack) → at < length lacks → AreGrownSoFar u fresh (take at lacks) grown → ((d : Lack) → IsGrown u fresh (get_or lacks at d) new) → after ≡ grown ++ new ∷ [] → AreGrownSoFar u fresh (take (at + 1) lacks) after
+next_grown u fresh lacks grown after at new within so is e =
+    let old = get_or lacks at new in
+    subst (AreGrownSoFar u fresh (take (at + 1) lacks)) (sym e)
+    (subst (λ olds. AreGrownSoFar u fresh olds (grown ++ new ∷ [])) (front_more lacks at old within (get_or_default lacks at new old within))
+    (one_more_grown u fresh (take at lacks) grown old new so (is new)))

@@ -3,3 +3,4 @@ pub mod NamedMissing
 pub mod GrownLacks
 pub mod Asking
 pub mod More
+pub mod Counted

@@ -1,10 +1,12 @@
 -- Which transactions with a known list are not decided, and for want of which lists: docs/PROTOCOL.md, "Server"
-use Rattle.std.specs.Prelude.{◌⊎◌, ◌<◌, List, length, map}
+use Rattle.std.specs.Prelude.{ℕ, ◌⊎◌, ◌<◌, List, length, map}
 use Rattle.std.specs.List.{AllByRecursion}
 use Rattle.roc_sequence.specs.Places.{IsListed}
 use Rattle.roc_base.specs.declared.id.TxnId.{TxnId}
 use Rattle.roc_base.specs.TxnId.{is_txn}
 use Rattle.roc_depgraph.specs.declared.known.KnownList.{KnownList}
+use Rattle.roc_depgraph.specs.declared.closure.Closure.{Closure}
+use Rattle.roc_depgraph.specs.declared.closure.Closure.TheVariants.{Whole, Missing}
 use Rattle.roc_depgraph.specs.Closure.{IsRisingListOf}
 use Rattle.roc_depgraph.specs.Deps.{Precedes, IsKnown, IsDecided}
 use Rattle.roc_depgraph.specs.Reach.{ReachesOrIs}
@@ -29,3 +31,8 @@ pub record AreLacks (known : List KnownList) (lacks : List Lack) : Type 0 where
 pub record AreDecidedBy (known more : List KnownList) (ids : List TxnId) : Type 0 where
   pub only : (t : TxnId) → IsListed is_txn ids t → IsDecided more t × ¬ IsDecided known t
   pub all : (t : TxnId) → IsDecided more t → ¬ IsDecided known t → IsListed is_txn ids t
+
+-- how many ids a closure names as missing; none where it is whole
+abbrev pub count_of_missing : Closure → ℕ
+count_of_missing (Whole ids) = 0
+count_of_missing (Missing ids) = length ids.items

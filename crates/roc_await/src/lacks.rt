@@ -1,11 +1,14 @@
 //! Which transactions are not decided, and for want of which lists.
-ghost use Rattle.std.specs.Prelude.{◌≡◌, None, [], OnOk, IfOk};
-ghost use Rattle.roc_depgraph.specs.Deps.{list_of, learnt};
-ghost use Rattle.roc_await.specs.Lacks.{AreLacks, AreDecidedBy};
+ghost use Rattle.std.specs.Prelude.{◌≡◌, List, None, [], OnOk, IfOk};
+ghost use Rattle.roc_depgraph.specs.declared.closure.Closure.{Closure as Reached};
+ghost use Rattle.roc_depgraph.specs.declared.known.KnownList.{KnownList as Told};
+ghost use Rattle.roc_depgraph.specs.Closure.{IsClosure};
+ghost use Rattle.roc_depgraph.specs.Deps.{IsKnown, list_of, learnt};
+ghost use Rattle.roc_await.specs.Lacks.{AreLacks, AreDecidedBy, count_of_missing};
 
 use crate::Lack;
 use crate::grown::{all_grown, with_none, with_some};
-use crate::missing::missing_for;
+use crate::missing::{find_lack, missing_for};
 use roc_base::{NoMemory, TxnId};
 use roc_depgraph::{Deps, KnownList};
 use std::alloc::Global;
@@ -50,8 +53,19 @@ impl Lacks {
     {
         let fresh = missing_for(self.alloc, deps, &self.lacks, more)?;
         let grown = all_grown(self.alloc, &self.lacks, more.of, &fresh)?;
-        self.lacks = with_some(self.alloc, &grown)?;
         let decided = with_none(self.alloc, &grown)?;
+        self.lacks = with_some(grown);
         Ok(decided)
+    }
+
+    /// How many ids are missing for a transaction whose list is known: as many as its closure finds, and none where it is decided.
+    /// Takes no memory.
+    pub fn missing(&self, id: TxnId) -> usize
+        ensures { (known : List Told) (closure : Reached) → AreLacks known self.now → IsKnown known id → IsClosure known id closure → result ≡ count_of_missing closure }
+    {
+        match find_lack(&self.lacks, id) {
+            Some(lack) => lack.missing.len(),
+            None => 0,
+        }
     }
 }

@@ -81,7 +81,7 @@ fn push_missing(
 }
 
 // What a transaction lacks.
-fn find_lack(lacks: &[Lack], id: TxnId) -> Option<&Lack>
+pub(crate) fn find_lack(lacks: &[Lack], id: TxnId) -> Option<&Lack>
     ensures { option_copied result ≡ find (λ l. is_txn l.of id) lacks.now }
 {
     lacks.iter().find(|lack| lack.of == id)

@@ -10,3 +10,5 @@ pub mod Taking
 pub mod Alike
 pub mod Paths
 pub mod Exists
+pub mod SortedIds
+pub mod FoundRows

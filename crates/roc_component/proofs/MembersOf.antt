@@ -40,9 +40,9 @@ pub ancestries_more : (lists : List KnownList) (ids : List TxnId) (i : ℕ) (id 
 ancestries_more lists ids i id none rows more from l e a f m =
     subst (AreAncestries lists (take (i + 1) ids)) (sym m) (record {
       of = map-append (λ r. r.of) rows (new ∷ []) ∙ (ap (λ xs. xs ++ id ∷ []) a.of ∙ (ap (λ x. take i ids ++ x ∷ []) e ∙ sym (take_more ids i none l)));
-      from = λ r h u. elim (has_more r new rows h) [
-        | inl k ↦ a.from r k u
-        | inr k ↦ subst (λ r. IsListed is_txn r.from u ↔ ReachesOrIs (Precedes lists) u r.of) (sym k) (f.sound u, f.complete u)
+      from = λ r h. elim (has_more r new rows h) [
+        | inl k ↦ a.from r k
+        | inr k ↦ subst (λ r. IsRisingListOf (λ u. ReachesOrIs (Precedes lists) u r.of) r.from) (sym k) f
       ];
     })
   where
@@ -91,12 +91,12 @@ module _ (known : List KnownList) (M S : List TxnId) (all : IsRisingListOf (IsLi
   leads_from u t h =
       let r = any_has (λ r. is_txn r.of t && is_listed is_txn r.from u) rows h in
       let q = and_parts (is_txn r.0.of t) (is_listed is_txn r.0.from u) r.2 in
-      subst (ReachesOrIs A u) (is_txn-true r.0.of t q.0) (reach_from u r.0.of ((a.from r.0 r.1 u).0 (listed_true is_txn r.0.from u q.1)))
+      subst (ReachesOrIs A u) (is_txn-true r.0.of t q.0) (reach_from u r.0.of ((a.from r.0 r.1).sound u (listed_true is_txn r.0.from u q.1)))
 
   leads_to : (u t : TxnId) → IsListed is_txn M t → ReachesOrIs A u t → leads rows u t ≡ true
   leads_to u t h p =
       let r = has_under (λ r. r.of) rows t (subst (λ l. IsListed is_txn l t) (sym a.of) (all.complete t h)) in
-      let l = (a.from r.0 r.1 u).1 (subst (ReachesOrIs (Precedes L) u) (sym r.2) (reach_to u t p)) in
+      let l = (a.from r.0 r.1).complete u (subst (ReachesOrIs (Precedes L) u) (sym r.2) (reach_to u t p)) in
       has_any (λ r. is_txn r.of t && is_listed is_txn r.from u) rows r.0 r.1
       (and_from (is_txn r.0.of t) (is_listed is_txn r.0.from u) (subst (λ v. is_txn v t ≡ true) (sym r.2) (is_txn-same t)) (listed_test is_txn r.0.from u l))
 
@@ -105,10 +105,10 @@ module _ (known : List KnownList) (M S : List TxnId) (all : IsRisingListOf (IsLi
     m = member_of L rows r
 
     from_listed : (u : TxnId) → IsListed is_txn r.from u → ReachesOrIs A u r.of
-    from_listed u l = reach_from u r.of ((a.from r h u).0 l)
+    from_listed u l = reach_from u r.of ((a.from r h).sound u l)
 
     to_listed : (u : TxnId) → ReachesOrIs A u r.of → IsListed is_txn r.from u
-    to_listed u p = (a.from r h u).1 (reach_to u r.of p)
+    to_listed u p = (a.from r h).complete u (reach_to u r.of p)
 
     mates_to : (u : TxnId) → IsListed is_txn m.mates u → Mates A r.of u
     mates_to u l =

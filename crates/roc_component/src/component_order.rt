@@ -4,7 +4,7 @@ ghost use Rattle.std.specs.Option.{option_copied, option_or};
 ghost use Rattle.roc_component.specs.Components.{IsTakingOrder};
 ghost use Rattle.roc_component.specs.Inner.Member.{is_begun, is_ready, is_free, is_left_of, next_of};
 
-use crate::ancestry::ancestries;
+use crate::ancestry::Ancestries;
 use crate::member::{Member, members};
 use crate::taken::Taken;
 use crate::within::{lists_within, rising};
@@ -14,14 +14,13 @@ use std::alloc::Global;
 
 /// The ids of a set in component order (ROCOCO, OSDI 2014: strongly connected components, executed
 /// deterministically), by their known lists. An id that stands in `ids` more than once is taken
-/// once; one whose list is not known counts as one without predecessors. The time it takes grows
-/// with the cube of their number, and with their number times the length of their lists.
+/// once; one whose list is not known counts as one without predecessors.
 pub fn order(alloc: Global, deps: &Deps, ids: &[TxnId]) -> Result<Vec<TxnId>, NoMemory>
     ensures { IfOk result (λ order. IsTakingOrder deps.now ids.now order.items) }
 {
     let set = rising(alloc, ids)?;
     let lists = lists_within(alloc, deps, &set)?;
-    let rows = ancestries(alloc, &lists, &set)?;
+    let rows = Ancestries::of_all(alloc, &lists, &set)?;
     let members = members(alloc, &lists, &rows)?;
     let mut taken = Taken::new(alloc);
     'take: while let Some(next) = next(&members, &taken) {

@@ -4,7 +4,7 @@ ghost use Rattle.roc_component.specs.Inner.Ancestry.{leads};
 ghost use Rattle.roc_component.specs.Inner.Member.{member_of, immediate_of, is_left, is_begun, is_ready, is_free, is_left_of};
 ghost use Rattle.roc_depgraph.specs.Deps.{entries_of};
 
-use crate::ancestry::{Ancestry, is_led};
+use crate::ancestry::{Ancestries, Ancestry};
 use crate::taken::Taken;
 use roc_base::{Edge, NoMemory, TxnId, is_among};
 use roc_depgraph::Deps;
@@ -64,12 +64,12 @@ impl Member {
 pub(crate) fn members(
     alloc: Global,
     lists: &Deps,
-    rows: &[Ancestry],
+    rows: &Ancestries,
 ) -> Result<Vec<Member>, NoMemory>
     ensures { IfOk result (λ members. members.items ≡ map (member_of lists.now rows.now) rows.now) }
 {
     let mut members = Vec::new(alloc);
-    for row in rows {
+    for row in rows.as_slice() {
         members.push(described(alloc, lists, rows, row)?)?;
     }
     Ok(members)
@@ -78,7 +78,7 @@ pub(crate) fn members(
 fn described(
     alloc: Global,
     lists: &Deps,
-    rows: &[Ancestry],
+    rows: &Ancestries,
     row: &Ancestry,
 ) -> Result<Member, NoMemory>
     ensures { IfOk result (λ member. member ≡ member_of lists.now rows.now row.now) }
@@ -95,7 +95,7 @@ fn described(
 }
 
 // Those of an ancestry to which a chain leads back.
-fn mates(alloc: Global, rows: &[Ancestry], row: &Ancestry) -> Result<Vec<TxnId>, NoMemory>
+fn mates(alloc: Global, rows: &Ancestries, row: &Ancestry) -> Result<Vec<TxnId>, NoMemory>
     ensures { IfOk result (λ ids. ids.items ≡ filter (λ u. leads rows.now row.now.of u) row.now.from) }
 {
     Ok(
@@ -103,13 +103,13 @@ fn mates(alloc: Global, rows: &[Ancestry], row: &Ancestry) -> Result<Vec<TxnId>,
             .as_slice()
             .iter()
             .copied()
-            .filter(|id| is_led(rows, row.of, *id))
+            .filter(|id| rows.is_led(row.of, *id))
             .collect(alloc)?,
     )
 }
 
 // Those of an ancestry to which none leads back.
-fn before(alloc: Global, rows: &[Ancestry], row: &Ancestry) -> Result<Vec<TxnId>, NoMemory>
+fn before(alloc: Global, rows: &Ancestries, row: &Ancestry) -> Result<Vec<TxnId>, NoMemory>
     ensures { IfOk result (λ ids. ids.items ≡ filter (λ u. not (leads rows.now row.now.of u)) row.now.from) }
 {
     Ok(
@@ -117,7 +117,7 @@ fn before(alloc: Global, rows: &[Ancestry], row: &Ancestry) -> Result<Vec<TxnId>
             .as_slice()
             .iter()
             .copied()
-            .filter(|id| !is_led(rows, row.of, *id))
+            .filter(|id| !rows.is_led(row.of, *id))
             .collect(alloc)?,
     )
 }
@@ -126,7 +126,7 @@ fn before(alloc: Global, rows: &[Ancestry], row: &Ancestry) -> Result<Vec<TxnId>
 fn immediate_mates(
     alloc: Global,
     lists: &Deps,
-    rows: &[Ancestry],
+    rows: &Ancestries,
     of: TxnId,
 ) -> Result<Vec<TxnId>, NoMemory>
     ensures { IfOk result (λ ids. ids.items ≡ immediate_of rows.now of (entries_of lists.now of)) }
@@ -140,7 +140,7 @@ fn immediate_mates(
 fn immediate_among(
     alloc: Global,
     edges: &[Edge],
-    rows: &[Ancestry],
+    rows: &Ancestries,
     of: TxnId,
 ) -> Result<Vec<TxnId>, NoMemory>
     ensures { IfOk result (λ ids. ids.items ≡ immediate_of rows.now of edges.now) }
@@ -148,7 +148,7 @@ fn immediate_among(
     Ok(
         edges
             .iter()
-            .filter(|edge| edge.imm() && is_led(rows, of, edge.from()))
+            .filter(|edge| edge.imm() && rows.is_led(of, edge.from()))
             .map(|edge| edge.from())
             .collect(alloc)?,
     )

@@ -4,3 +4,5 @@ pub mod Visited
 pub mod Walk
 pub mod Decided
 pub mod Laws
+pub mod Rising_lists
+pub mod Searched

@@ -7,11 +7,13 @@
 //! what is reached and unknown; an unlike list is told apart from an equal one.
 #![tactic(auto)]
 
+mod among;
 mod closure;
 mod deps;
 mod known;
 mod learnt;
 
+pub use among::is_among_rising;
 pub use closure::Closure;
 pub use deps::Deps;
 pub use known::KnownList;

@@ -7,7 +7,6 @@ mod Learnable
 mod Led_search
 mod Message_steps
 mod One_step
-mod Rising_lists
 mod Same_groups
 mod Start_steps
 mod Teach_steps

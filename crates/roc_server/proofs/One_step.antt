@@ -9,7 +9,7 @@ use Rattle.roc_plan.specs.Groups.{Plan}
 use Rattle.roc_server.specs.State.{ServerState, ServerStep}
 use Rattle.roc_server.specs.New.{AreNew, AreLedTo}
 use Rattle.roc_server.specs.Step.{edges_told, after_message, Handles}
-use Rattle.roc_server.proofs.Rising_lists.{rising_one}
+use Rattle.roc_depgraph.proofs.Rising_lists.{rising_one}
 
 one_new : (before : TxnId → Type 0) (known : List KnownList) (ts us : List TxnId) → AreNew before known ts → AreNew before known us → ts ≡ us
 one_new before known ts us p q = one_by_members known ts us ts us (λ t. (λ h. q.members.all t (p.members.only t h), λ h. p.members.all t (q.members.only t h))) p.ordered q.ordered

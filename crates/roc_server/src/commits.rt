@@ -17,8 +17,8 @@ use crate::groups::is_here;
 use crate::kept::Kept;
 use crate::news::{news_of_commit, push_unknown};
 use crate::teach::teach;
-use roc_base::{Edges, NoMemory, Shard, TxnId, is_among};
-use roc_depgraph::{Deps, KnownList};
+use roc_base::{Edges, NoMemory, Shard, TxnId};
+use roc_depgraph::{Deps, KnownList, is_among_rising};
 use roc_msg::{Outbox, Reason};
 use roc_plan::Plan;
 use std::alloc::Global;
@@ -44,7 +44,7 @@ pub(crate) fn take_commit(
     if let Some(reason) = commit_fault(kept, id, edges, facts) {
         return Ok(Handled::Ignored(reason));
     }
-    let again = is_among(kept.decided.as_slice(), id);
+    let again = is_among_rising(kept.decided.as_slice(), id);
     let news = news_of_commit(alloc, &kept.deps, id, edges, facts)?;
     teach(alloc, plan, shard, kept, &news, out)?;
     if again {

@@ -14,7 +14,8 @@ use crate::fetches::{fetch_again, take_fetch};
 use crate::first::first_rows;
 use crate::kept::Kept;
 use crate::starts::{Request, take_start};
-use roc_base::{NoMemory, Shard, TxnId, is_among};
+use roc_base::{NoMemory, Shard, TxnId};
+use roc_depgraph::is_among_rising;
 use roc_msg::{Msg, NodeFault, Outbox, Reason};
 use roc_plan::{Known, Plan};
 use roc_rows::{Cell, Rows};
@@ -121,7 +122,7 @@ impl Server {
     pub fn decided(&self, id: TxnId) -> bool
         ensures { IsTrue result ↔ IsDecided self.now.lists.known id }
     {
-        is_among(self.kept.decided.as_slice(), id)
+        is_among_rising(self.kept.decided.as_slice(), id)
     }
 
     /// The cells that are not 0, each with its number, by cell rising.

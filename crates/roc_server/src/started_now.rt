@@ -1,5 +1,7 @@
 //! A group that starts now.
 ghost use Rattle.std.specs.Prelude.{◌≡◌, ◌<◌, [], length, not, map, filter, if◌then◌else◌, IfOk, OnOk};
+ghost use Rattle.std.specs.List.Sorted.{IsStrictlySortedBy};
+ghost use Rattle.roc_base.specs.TxnId.{txn_cmp};
 ghost use Rattle.roc_group.specs.declared.access.Access.{Access as Use};
 ghost use Rattle.roc_group.specs.Group_run.{GroupCall, call, group_run, group_uses, bound_by_run};
 ghost use Rattle.roc_plan.specs.Groups.{groups_of, is_immediate_of, procedure_of, inputs_of};
@@ -14,7 +16,8 @@ use crate::kept::Kept;
 use crate::led::led_to;
 use crate::starts::Request;
 use crate::told::facts_of;
-use roc_base::{Edge, Edges, NoMemory, Shard, TxnId, is_among};
+use roc_base::{Edge, Edges, NoMemory, Shard, TxnId};
+use roc_depgraph::is_among_rising;
 use roc_group::{Access, Outputs, cells, conflict, run_group};
 use roc_plan::{Class, Known, Plan};
 use roc_rows::Rows;
@@ -63,13 +66,14 @@ fn is_predecessor(
     cells: &[Access],
     e: &StartedGroup,
 ) -> bool
-    requires { e.now.group < length (groups_of plan.now e.now.proc) }
+    requires exists { e.now.group < length (groups_of plan.now e.now.proc) }
+    requires rising { IsStrictlySortedBy txn_cmp decided.now }
     ensures { result ≡ comes_before plan.now decided.now id immediate cells.now e.now }
 {
     if e.id == id {
         return false;
     }
-    if is_among(decided, e.id) {
+    if is_among_rising(decided, e.id) {
         return false;
     }
     if is_immediate(plan, e.proc, e.group) != immediate {
@@ -89,7 +93,8 @@ fn edges_for(
     immediate: bool,
     cells: &[Access],
 ) -> Result<Edges, NoMemory>
-    requires { AreGroupsOf plan.now started.now }
+    requires fits { AreGroupsOf plan.now started.now }
+    requires rising { IsStrictlySortedBy txn_cmp decided.now }
     ensures { IfOk result (λ edges. edges ≡ united (map (edge_to shard immediate) (filter (comes_before plan.now decided.now id immediate cells.now) started.now))) }
 {
     let mut met = Vec::new(alloc);
@@ -113,6 +118,7 @@ pub(crate) fn new_group(
 ) -> Result<StartedGroup, NoMemory>
     requires call { IsCallOf plan.now (asked request) }
     requires fits { AreGroupsOf plan.now kept.old.started.items }
+    requires rising { IsStrictlySortedBy txn_cmp kept.old.decided }
     ensures { IfOk result (λ e. IsNewGroup plan.now shard kept.old kept.new request.id (asked request) e) }
 {
     let Request {

@@ -1,9 +1,10 @@
 -- How lacks grow by one more list
 use Rattle.std.specs.Prelude.{◌≡◌, ◌≢◌, ◌==◌, not, Bool, true, false, List, [], ◌∷◌, ◌++◌, filter, length, IsTrue}
 use Rattle.std.specs.List.{list_any}
+use Rattle.std.specs.List.Sorted.{IsStrictlySortedBy}
 use Rattle.roc_sequence.specs.Places.{IsListed, is_listed}
 use Rattle.roc_base.specs.declared.id.TxnId.{TxnId}
-use Rattle.roc_base.specs.TxnId.{is_txn}
+use Rattle.roc_base.specs.TxnId.{is_txn, txn_cmp}
 use Rattle.roc_base.specs.Edge.{Dependency}
 use Rattle.roc_depgraph.specs.declared.known.KnownList.{KnownList}
 use Rattle.roc_depgraph.specs.Closure.{IsRisingListOf}
@@ -57,3 +58,7 @@ AreGrownSoFar u fresh [] [] = Unit {0}
 AreGrownSoFar u fresh [] (n ∷ ns) = ⊥
 AreGrownSoFar u fresh (l ∷ ls) [] = ⊥
 AreGrownSoFar u fresh (l ∷ ls) (n ∷ ns) = IsGrown u fresh l n × AreGrownSoFar u fresh ls ns
+
+-- what a lack names as missing rises
+abbrev pub IsRisingLack : Lack → Type 0
+IsRisingLack l = IsStrictlySortedBy txn_cmp l.missing
