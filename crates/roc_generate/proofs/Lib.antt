@@ -1,0 +1,11 @@
+mod Loops
+mod Parts
+mod Written
+mod Read
+mod Lexing
+mod Trees
+mod Tokens
+mod Parsed
+mod Planned
+mod Canonical_text
+mod Fitting

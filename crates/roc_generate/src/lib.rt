@@ -1,0 +1,14 @@
+//! Generated load: a workload and a schedule for it, made out of a number.
+//!
+//! [`generate`] gives exactly the two texts of `specs/Workload_text.antt` and `specs/Schedule_text.antt`; what the schedule asks for
+//! stands in `specs/Drawn.antt`, and how its numbers are drawn in `specs/Draws.antt` (`docs/FORMATS.md`, "Generated load"). The layers
+//! above may rely on what [`laws`] says of these texts: the workload has a plan, and the schedule is one of it.
+#![tactic(auto)]
+
+mod draws;
+mod generator;
+pub mod laws;
+mod schedule;
+mod workload;
+
+pub use generator::generate;
