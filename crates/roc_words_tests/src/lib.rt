@@ -1,0 +1,5 @@
+//! Tests of the words of the command line. It gives nothing to use.
+#![tactic(auto)]
+
+#[cfg(test)]
+mod lines;
