@@ -36,4 +36,11 @@ impl Cluster {
     {
         self.addrs.as_slice()[usize::from(shard.0)]
     }
+
+    /// The addresses of all shards, in order. Takes no memory.
+    pub fn addrs(&self) -> &[Addr]
+        ensures { result.now ≡ self.now }
+    {
+        self.addrs.as_slice()
+    }
 }

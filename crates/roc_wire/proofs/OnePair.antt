@@ -9,7 +9,7 @@ use Rattle.roc_wire.proofs.Exact.{done, ok_is}
 use Rattle.roc_wire.proofs.Whole.{found, again}
 
 -- what spells a pair is read as it
-reads_as : (bytes : List ℕ) (h : Header) (m : Msg) → Spells bytes h m → datagram bytes ≡ done (pair h m)
+pub reads_as : (bytes : List ℕ) (h : Header) (m : Msg) → Spells bytes h m → datagram bytes ≡ done (pair h m)
 reads_as bytes h m s = ap datagram s.text ∙ again h m s.fits
 
 pub one_pair : (bytes : List ℕ) (g h : Header) (m n : Msg) → Spells bytes g m → Spells bytes h n → pair g m ≡ pair h n

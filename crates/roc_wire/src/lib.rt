@@ -3,8 +3,8 @@
 //! A header and a message whose counts, numbers and orders are in range (`specs/Fits.antt`) have one
 //! spelling (`specs/Spelling.antt`), and [`encode`] writes it. [`decode`] reads exactly these: what
 //! is no spelling has a first fault from left to right, by a grammar of fields
-//! (`specs/Reading.antt`). That bytes spell at most one pair, and have a fault exactly where they
-//! spell none, are [`laws`].
+//! (`specs/Reading.antt`). That bytes spell at most one pair, are read as the pair that they spell,
+//! and have a fault exactly where they spell none, are [`laws`].
 #![tactic(auto)]
 
 mod fault;

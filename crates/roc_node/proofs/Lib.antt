@@ -1,0 +1,6 @@
+mod Coords
+mod Desks
+mod Served
+mod Servers
+mod Submitted
+mod Texts

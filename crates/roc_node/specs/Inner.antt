@@ -1,0 +1,3 @@
+-- What stands here is of private functions alone
+pub mod ServerTurn
+pub mod CoordTurn

@@ -1,0 +1,24 @@
+-- What a turn of a node takes: docs/PROTOCOL.md, "Running nodes"
+use Rattle.std.specs.Prelude.{List, [], ◌∷◌}
+use Rattle.roc_io.specs.declared.link.Addr.{Addr}
+use Rattle.roc_io.specs.Packet.{Packet}
+use Rattle.roc_plan.specs.Groups.{Plan}
+use Rattle.roc_wire.specs.declared.header.Header.{Header}
+
+-- a datagram that came, or that none came in time
+pub data NodeEvent : Type 0 where
+  took : Packet → NodeEvent
+  silent : NodeEvent
+
+-- the datagrams that came
+abbrev pub arrived : List NodeEvent → List Packet
+arrived [] = []
+arrived (took packet ∷ events) = packet ∷ arrived events
+arrived (silent ∷ events) = arrived events
+
+-- what stays the same while a node runs: the plan, the addresses of the shards, and what stands before each message that it sends, which
+-- is the workload's tag and who the node is
+pub record NodeSetting : Type 0 where
+  pub plan : Plan
+  pub header : Header
+  pub cluster : List Addr

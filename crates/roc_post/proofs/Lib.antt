@@ -1,0 +1,3 @@
+pub mod Moving
+mod Ranges
+mod Sets

@@ -1,0 +1,5 @@
+pub mod Judgement
+pub mod Spellable
+pub mod Posting
+pub mod Moves
+pub mod Inner

@@ -1,0 +1,7 @@
+mod Stepping
+mod Owned
+mod WorldFolds
+mod OneFold
+mod Spelled
+mod ServerFolds
+mod CoordFolds
