@@ -11,29 +11,17 @@ use Rattle.roc_sched.specs.Schedule.{most_bytes}
 use Rattle.roc_cli.specs.declared.fault.Fault.{Fault}
 use Rattle.roc_cli.specs.declared.fault.Fault.TheVariants.{TooLong, At, Scope, Rejected, Memory, File, Sink}
 use Rattle.roc_cli.specs.Call.{RunCall, TakesNothing}
-use Rattle.roc_cli.specs.Words.{IsReplay, IsPrint, IsCheck, AreReplayWords, ArePrintWords, AreCheckWords, AreCommandWords, NamesProgram, NamesWorkload}
+use Rattle.roc_words.specs.declared.value.Part.{Part}
+use Rattle.roc_words.specs.Commands.{print}
+use Rattle.roc_cli.specs.Words.{IsReplay, IsPrint, IsCheck, IsGen, NamesProgram, NamesWorkload}
+use Rattle.roc_cli.proofs.Naming.{as_workload}
 use Rattle.roc_cli.specs.Held.{Holds, HoldsPlan}
 use Rattle.roc_cli.specs.Says.{long_line, fault_line}
 use Rattle.roc_cli.specs.Done.{IsReplayOf}
-use Rattle.roc_cli.specs.Stopped.{the_workload, the_schedule, with_nothing, with_lines, in_report, in_text, in_check, in_rejection}
+use Rattle.roc_cli.specs.Stopped.{the_workload, the_schedule, with_nothing, with_lines, in_report, in_text, in_check, in_rejection, in_generated}
 use Rattle.roc_cli.specs.Refused.{IsRefused, long_workload, no_text, out_of_scope, long_schedule, bad_schedule}
 use Rattle.roc_cli.specs.Inner.Input.{HoldsWithin, IsReadFault, IsProgramFault, PlanFails}
-use Rattle.roc_cli.specs.Inner.Ends.{Fails, Ends, ReplayEnds, PrintEnds, CheckEnds, Blames}
-
--- words that name a workload, whose names have to be in scope, are those of a command
-pub program_words : (words : List (List ℕ)) (workload : List ℕ) → NamesProgram words workload → AreCommandWords words
-program_words words workload (inl (schedule, given)) = inl (workload, schedule, given)
-program_words words workload (inr given) = inr (inr (workload, given))
-
-pub workload_words : (words : List (List ℕ)) (workload : List ℕ) → NamesWorkload words workload → AreCommandWords words
-workload_words words workload (inl names) = program_words words workload names
-workload_words words workload (inr given) = inr (inl (workload, given))
-
--- words that are none of the commands
-pub no_command : (words : List (List ℕ)) → (AreReplayWords words → ⊥) → (ArePrintWords words → ⊥) → (AreCheckWords words → ⊥) → AreCommandWords words → ⊥
-no_command words a b c (inl h) = a h
-no_command words a b c (inr (inl h)) = b h
-no_command words a b c (inr (inr h)) = c h
+use Rattle.roc_cli.specs.Inner.Ends.{Fails, Ends, ReplayEnds, PrintEnds, CheckEnds, GenEnds, Blames}
 
 module _ (call : RunCall) where
   -- where a file's name, a line and what is wrong there are known, so is the line of standard error
@@ -51,17 +39,17 @@ module _ (call : RunCall) where
       → IsReadFault call.content workload text_limit fault → Fails call fault
   workload_unread workload (TooLong file) names same blames (e, more) = subst (λ n. IsRefused call (long_line n)) (sym e) (long_workload workload names more same)
   workload_unread workload (File file) names same blames e = record { input = the_workload (subst (NamesWorkload call.words) (sym e) names); only = blames; untouched = same }
-  workload_unread workload Memory names same blames h = with_nothing (workload_words call.words workload names) same
+  workload_unread workload Memory names same blames h = with_nothing same
   workload_unread workload _ names same blames h = absurd h
 
   -- the workload gave no program
   pub program_fails : (workload : List ℕ) (fault : Fault) → NamesProgram call.words workload → TakesNothing call → Blames call.failed_before call.failed_after fault
       → IsProgramFault call.content workload fault → Fails call fault
   program_fails workload (At file line what) names same blames (e, (w, held, g)) =
-      line_known file.now workload line line what.now (what_text w) e refl g (no_text workload line w (inl names) held same)
+      line_known file.now workload line line what.now (what_text w) e refl g (no_text workload line w (as_workload call.words workload names) held same)
   program_fails workload (Scope file line what) names same blames (e, held) =
       subst (λ n. IsRefused call (fault_line n line (scope_text what))) (sym e) (out_of_scope workload (record { kind = kind what; line = line }) names held same)
-  program_fails workload fault names same blames h = workload_unread workload fault (inl names) same blames h
+  program_fails workload fault names same blames h = workload_unread workload fault (as_workload call.words workload names) same blames h
 
   -- the workload gave no plan
   pub plan_fails : (workload : List ℕ) (fault : Fault) → NamesProgram call.words workload → Blames call.failed_before call.failed_after fault
@@ -77,7 +65,7 @@ module _ (call : RunCall) where
       subst (λ n. IsRefused call (long_line n)) (sym e) (long_schedule workload schedule plan given planned more same)
   schedule_unread workload schedule plan (File file) given planned same blames e =
       record { input = the_schedule workload plan (subst (IsReplay call.words workload) (sym e) given) planned; only = blames; untouched = same }
-  schedule_unread workload schedule plan Memory given planned same blames h = with_nothing (inl (workload, schedule, given)) same
+  schedule_unread workload schedule plan Memory given planned same blames h = with_nothing same
   schedule_unread workload schedule plan _ given planned same blames h = absurd h
 
   -- ---- replay
@@ -110,8 +98,8 @@ module _ (call : RunCall) where
       inr (inl (record { workload = workload; given = given; tree = tree; held = record { bytes = taken; held = subst (Holds call.content workload) (sym e) held.held; is = is }; taken = adds }))
   print_ends workload bytes taken (Err (At file line what)) given held e (w, first, named, said, same) =
       line_known file.now workload line line what.now (what_text w) named refl said
-      (no_text workload line w (inr given) (record { bytes = taken; held = subst (Holds call.content workload) (sym e) held.held; size = subst (λ n. n ≤ text_limit) (sym (ap length e)) held.few; fault = first }) same)
-  print_ends workload bytes taken (Err Memory) given held e same = with_nothing (inr (inl (workload, given))) same
+      (no_text workload line w (print workload, given, refl) (record { bytes = taken; held = subst (Holds call.content workload) (sym e) held.held; size = subst (λ n. n ≤ text_limit) (sym (ap length e)) held.few; fault = first }) same)
+  print_ends workload bytes taken (Err Memory) given held e same = with_nothing same
   print_ends workload bytes taken (Err Sink) given held e (tree, is, front) =
       in_text workload tree given (record { bytes = taken; held = subst (Holds call.content workload) (sym e) held.held; is = is }) front
   print_ends workload bytes taken (Err _) given held e h = absurd h
@@ -119,8 +107,8 @@ module _ (call : RunCall) where
   -- the plan was found, and its text was written or not
   written : (workload : List ℕ) (plan : Plan) (result : Result Unit Fault) → IsCheck call.words workload → HoldsPlan call.content workload plan
       → CheckEnds plan call.out_before call.out_after result → Ends call result
-  written workload plan (Ok done) given held adds = inr (inr (record { workload = workload; given = given; plan = plan; held = held; taken = adds }))
-  written workload plan (Err Memory) given held same = with_nothing (inr (inr (workload, given))) same
+  written workload plan (Ok done) given held adds = inr (inr (inl (record { workload = workload; given = given; plan = plan; held = held; taken = adds })))
+  written workload plan (Err Memory) given held same = with_nothing same
   written workload plan (Err Sink) given held front = in_check workload plan given held front
   written workload plan (Err _) given held h = absurd h
 
@@ -128,6 +116,16 @@ module _ (call : RunCall) where
       → middle ≡ call.out_before → CheckEnds plan middle call.out_after result → Ends call result
   check_ends workload plan middle result given held untouched ends =
       written workload plan result given held (subst (λ (o : Option (List ℕ)). CheckEnds plan o call.out_after result) untouched ends)
+
+  -- ---- gen
+
+  pub gen_ends : (seed shards txns : ℕ) (part : Part) (result : Result Unit Fault) → IsGen call.words seed shards txns part
+      → GenEnds seed shards txns part call.out_before call.out_after result → Ends call result
+  gen_ends seed shards txns part (Ok done) given (text, generated, adds) =
+      inr (inr (inr (record { seed = seed; shards = shards; txns = txns; part = part; given = given; text = text; generated = generated; taken = adds })))
+  gen_ends seed shards txns part (Err Memory) given same = with_nothing same
+  gen_ends seed shards txns part (Err Sink) given (text, generated, front) = in_generated seed shards txns part text given generated front
+  gen_ends seed shards txns part (Err _) given h = absurd h
 
 -- the end of what was done behind a first step that left all as it was
 pub behind : (words : List (List ℕ)) (later content : List ℕ → Option (List ℕ)) (between before after : Option (List (List ℕ))) (middle old new : Option (List ℕ)) (result : Result Unit Fault)

@@ -1,6 +1,12 @@
-pub mod Counted
-pub mod Faults
-pub mod Told
-pub mod Reading
 pub mod Naming
+pub mod Commands
+pub mod Reading
+pub mod Faults
+pub mod Loading
+pub mod Listing
+pub mod Looping
 pub mod Fitting
+pub mod FittingNodes
+pub mod Loads
+pub mod Counts
+pub mod Told

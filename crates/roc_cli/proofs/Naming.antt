@@ -1,61 +1,82 @@
--- Which workload and schedule words name
-use Rattle.std.proofs.Common.{◌≡◌, inl, inr, ℕ, List, [], ◌∷◌, length, sym, ap, ◌∙◌, arith, get_or}
-use Rattle.roc_cli.specs.Words.{IsReplay, IsPrint, IsCheck, NamesProgram, NamesWorkload}
+-- Which command words ask for, and which files they name
+use Rattle.std.proofs.Common.{◌≡◌, ℕ, List, [], Option, Some, None, Result, Ok, Err, false, refl, sym, ap, ◌∙◌, ◌==◌}
+use Rattle.std.specs.Option.{option_map}
+use Rattle.std.proofs.lemmas.Bool.{eq-eqb, false≢true}
+use Rattle.std.proofs.lemmas.Option.{same_Some, none-some}
+use Rattle.roc_words.specs.declared.value.ValueName.{ValueName}
+use Rattle.roc_words.specs.Commands.{Command, check, print, replay, serve, submit, stop, local, gen, command_by}
+use Rattle.roc_words.specs.Answer.{AreWordsOf}
+use Rattle.roc_cli.specs.Words.{IsReplay, NodeFiles, node_files, program_of, workload_of, Name, NamesProgram, NamesWorkload, NamesNodeFiles}
 
--- the name that stands at a place of the words
-name_at : ℕ → List (List ℕ) → List ℕ
-name_at n words = get_or words n []
+command_or : Command → Option (Result Command ValueName) → Command
+command_or c (Some (Ok d)) = d
+command_or c (Some (Err name)) = c
+command_or c None = c
+
+-- words ask for one command
+pub one_command : (words : List (List ℕ)) (c d : Command) → AreWordsOf words c → AreWordsOf words d → c ≡ d
+unfolding command_or
+one_command words c d is other = sym (ap (command_or c) is.asked) ∙ ap (command_or c) other.asked
+
+-- what tells commands apart
+abbrev pub kind : Command → ℕ
+kind (check workload) = 0
+kind (print workload) = 1
+kind (replay workload schedule) = 2
+kind (serve workload cluster shard turns counts) = 3
+kind (submit workload cluster requests coord turns) = 4
+kind (stop workload cluster) = 5
+kind (local workload cluster requests turns) = 6
+kind (gen seed shards txns part) = 7
 
 -- the words of one command are not those of another
-pub longer : (A : Type 0) (words : List (List ℕ)) (a b c d e : List ℕ) → words ≡ a ∷ b ∷ c ∷ [] → words ≡ d ∷ e ∷ [] → A
-longer A words a b c d e f g =
-    let h : length words ≡ 3 = ap length f in
-    let k : length words ≡ 2 = ap length g in
-    absurd (omega arith)
+pub unlike : (A : Type 0) (words : List (List ℕ)) (c d : Command) → AreWordsOf words c → AreWordsOf words d → (kind c == kind d) ≡ false → A
+unlike A words c d is other differ = absurd (false≢true (sym differ ∙ eq-eqb (kind c) (kind d) (ap kind (one_command words c d is other))))
 
--- the words of a print are not those of a check: what differs is the third letter
-third_letter : List (List ℕ) → ℕ
-third_letter [] = 0
-third_letter (word ∷ words) = get_or word 2 0
+-- words name one thing of a kind, or none
+pub same_name : {A : Type 0} (of : Command → Option A) (words : List (List ℕ)) (a b : A) → Name of words a → Name of words b → a ≡ b
+same_name of words a b (c, is, e) (d, other, f) = same_Some a b (sym e ∙ (ap of (one_command words c d is other) ∙ f))
 
-pub unlike : (A : Type 0) (words : List (List ℕ)) (name checked : List ℕ) → IsPrint words name → IsCheck words checked → A
-unfolding third_letter
-unlike A words name checked e f =
-    let g : third_letter words ≡ 105 = ap third_letter e in
-    let h : third_letter words ≡ 101 = ap third_letter f in
-    absurd (omega arith)
+pub no_name : {A : Type 0} (of : Command → Option A) (words : List (List ℕ)) (c : Command) → AreWordsOf words c → of c ≡ None → (a : A) → Name of words a → ⊥
+no_name of words c is none a (d, other, f) = none-some a (sym none ∙ (ap of (one_command words c d is other) ∙ f))
 
--- the workload that words of a replay or a check name is one
-module _ (words : List (List ℕ)) (workload schedule : List ℕ) (given : IsReplay words workload schedule) where
-  pub replay_program : (name : List ℕ) → NamesProgram words name → name ≡ workload
-  unfolding name_at
-  replay_program name (inl (other, is)) = sym (ap (name_at 1) is) ∙ ap (name_at 1) given
-  replay_program name (inr is) = longer (name ≡ workload) words _ _ _ _ _ given is
+-- the schedule of a replay is one
+second_name : Command → List ℕ
+second_name (replay workload schedule) = schedule
+second_name _ = []
 
-  pub replay_workload : (name : List ℕ) → NamesWorkload words name → name ≡ workload
-  replay_workload name (inl names) = replay_program name names
-  replay_workload name (inr is) = longer (name ≡ workload) words _ _ _ _ _ given is
+pub replay_schedule : (words : List (List ℕ)) (workload schedule name other : List ℕ) → IsReplay words workload schedule → IsReplay words name other → other ≡ schedule
+unfolding second_name
+replay_schedule words workload schedule name other given is = ap second_name (one_command words (replay name other) (replay workload schedule) is given)
 
-  pub replay_schedule : (name other : List ℕ) → IsReplay words name other → other ≡ schedule
-  unfolding name_at
-  replay_schedule name other is = sym (ap (name_at 2) is) ∙ ap (name_at 2) given
+-- ---- the workload
 
-module _ (words : List (List ℕ)) (workload : List ℕ) (given : IsCheck words workload) where
-  pub check_program : (name : List ℕ) → NamesProgram words name → name ≡ workload
-  unfolding name_at
-  check_program name (inl (other, is)) = longer (name ≡ workload) words _ _ _ _ _ is given
-  check_program name (inr is) = sym (ap (name_at 1) is) ∙ ap (name_at 1) given
+program_is_workload : (c : Command) (name : List ℕ) → program_of c ≡ Some name → workload_of c ≡ Some name
+program_is_workload (check workload) name e = e
+program_is_workload (print workload) name e = absurd (none-some name e)
+program_is_workload (replay workload schedule) name e = e
+program_is_workload (serve workload cluster shard turns counts) name e = e
+program_is_workload (submit workload cluster requests coord turns) name e = e
+program_is_workload (stop workload cluster) name e = e
+program_is_workload (local workload cluster requests turns) name e = e
+program_is_workload (gen seed shards txns part) name e = absurd (none-some name e)
 
-  pub check_workload : (name : List ℕ) → NamesWorkload words name → name ≡ workload
-  check_workload name (inl names) = check_program name names
-  check_workload name (inr is) = unlike (name ≡ workload) words name workload is given
+pub as_workload : (words : List (List ℕ)) (name : List ℕ) → NamesProgram words name → NamesWorkload words name
+as_workload words name (c, is, e) = (c, is, program_is_workload c name e)
 
-module _ (words : List (List ℕ)) (workload : List ℕ) (given : IsPrint words workload) where
-  pub print_no_program : (A : Type 0) (name : List ℕ) → NamesProgram words name → A
-  print_no_program A name (inl (other, is)) = longer A words _ _ _ _ _ is given
-  print_no_program A name (inr is) = unlike A words workload name given is
+workload_in : Option NodeFiles → Option (List ℕ)
+workload_in files = option_map (λ (f : NodeFiles). f.workload) files
 
-  pub print_workload : (name : List ℕ) → NamesWorkload words name → name ≡ workload
-  unfolding name_at
-  print_workload name (inl names) = print_no_program (name ≡ workload) name names
-  print_workload name (inr is) = sym (ap (name_at 1) is) ∙ ap (name_at 1) given
+files_name_program : (c : Command) (files : NodeFiles) → node_files c ≡ Some files → program_of c ≡ Some files.workload
+unfolding workload_in
+files_name_program (check workload) files e = absurd (none-some files e)
+files_name_program (print workload) files e = absurd (none-some files e)
+files_name_program (replay workload schedule) files e = absurd (none-some files e)
+files_name_program (serve workload cluster shard turns counts) files e = ap workload_in e
+files_name_program (submit workload cluster requests coord turns) files e = ap workload_in e
+files_name_program (stop workload cluster) files e = ap workload_in e
+files_name_program (local workload cluster requests turns) files e = ap workload_in e
+files_name_program (gen seed shards txns part) files e = absurd (none-some files e)
+
+pub as_program : (words : List (List ℕ)) (files : NodeFiles) → NamesNodeFiles words files → NamesProgram words files.workload
+as_program words files (c, is, e) = (c, is, files_name_program c files e)

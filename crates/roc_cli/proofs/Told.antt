@@ -1,253 +1,372 @@
 -- What the status says, where a fault was told
-use Rattle.std.proofs.Common.{◌≡◌, ◌⊎◌, inl, inr, ◌↔◌, ℕ, ◌==◌, Bool, true, false, List, codes, refl, sym, ap, subst, ◌∙◌, arith, ◌∷◌, Ok}
+use Rattle.std.proofs.Common.{◌≡◌, ◌⊎◌, inl, inr, ℕ, ◌≤◌, ◌==◌, Bool, true, false, List, Option, codes, refl, sym, ap, subst, ◌∙◌, arith, ◌∷◌, Ok, Err}
 use Rattle.roc_io.specs.Cause.{HasCause}
 use Rattle.roc_replay.specs.Ended.{no_schedule, unfit, unsent, behind_lines}
 use Rattle.roc_replay.specs.Report.{report}
+use Rattle.roc_node.specs.declared.ends.ServeEnd.TheVariants as serve_end
+use Rattle.roc_node.specs.declared.ends.SubmitEnd.TheVariants as submit_end
+use Rattle.roc_base.specs.declared.node.Shard.{Shard}
+use Rattle.roc_local.specs.declared.stops.StopEnd.TheVariants as stop_end
+use Rattle.roc_local.specs.declared.local.LocalEnd.TheVariants as local_end
+use Rattle.roc_words.specs.Commands.{check, print, replay, serve, submit, stop, local, gen}
 use Rattle.roc_cli.specs.declared.fault.Fault.{Fault}
-use Rattle.roc_cli.specs.declared.fault.Fault.TheVariants.{Rejected, Words, Memory, File, Sink}
-use Rattle.roc_cli.specs.Call.{RunCall, Errors, TakesNothing, ReadsAll}
-use Rattle.roc_cli.specs.Words.{AreReplayWords, ArePrintWords, AreCheckWords, AreCommandWords}
-use Rattle.roc_cli.specs.Says.{Says, word_line, file_line}
-use Rattle.roc_cli.specs.Done.{Replays, Explains, Prints, Checks, Rejects}
-use Rattle.roc_cli.specs.Stopped.{IsInput, the_workload, the_schedule, IsUnread, RunsOut, with_nothing, with_lines, CutsOutput, in_report, in_text, in_check, in_rejection}
-use Rattle.roc_cli.specs.Refused.{IsRefused, long_workload, no_text, out_of_scope, long_schedule, bad_schedule}
-use Rattle.roc_cli.specs.Fit.{IsFit}
+use Rattle.roc_cli.specs.declared.fault.Fault.TheVariants.{Rejected, Refused, Value, NoShard, Memory, Unanswered, File, Sink, Link, Child}
+use Rattle.roc_cli.specs.Call.{RunCall, WholeCall, Errors, TakesNothing, ReadsAll}
+use Rattle.roc_cli.specs.Words.{AreReplayWords, ArePrintWords, AreCheckWords, AreGenWords, AreServeWords, AreSubmitWords, AreStopWords, AreLocalWords, AreCommandWords, NamesNodes, node_files}
+use Rattle.roc_cli.specs.Says.{Says, word_line, file_line, child_line}
+use Rattle.roc_cli.specs.Done.{Replays, Explains, Prints, Checks, Generates, Rejects}
+use Rattle.roc_cli.specs.Nodes.{ServeEnded, SubmitEnded, StopEnded, LocalEnded, AreNodesEnded, IsChildBlamed, BlamesAnyChild}
+use Rattle.roc_cli.specs.Stopped.{IsUnread, RunsOut, with_nothing, with_lines, CutsOutput}
+use Rattle.roc_cli.specs.Refused.{AreRefusedWords, IsRefused, long_workload, no_text, out_of_scope, long_schedule, bad_schedule, long_cluster, bad_cluster, long_requests, bad_requests}
 use Rattle.roc_cli.specs.Status.{Answers}
-use Rattle.roc_cli.specs.Inner.Faultless.{IsFaultless}
-use Rattle.roc_cli.specs.Inner.Fault.{IsTold, EndsWith, line_of, blames_file, blames_sink}
-use Rattle.roc_cli.specs.Inner.Ends.{Fails, Ends, Blames}
-use Rattle.roc_cli.proofs.Faults.{program_words, workload_words}
-use Rattle.roc_cli.proofs.Naming.{longer, unlike}
-
--- ---- what a fault is of
-
-module _ (call : RunCall) where
-  -- each fault of a command is of words that are a command's
-  refused_words : (line : List ℕ) → IsRefused call line → AreCommandWords call.words
-  refused_words _ (long_workload workload names more same) = workload_words call.words workload names
-  refused_words _ (no_text workload line what names held same) = workload_words call.words workload names
-  refused_words _ (out_of_scope workload fault names held same) = program_words call.words workload names
-  refused_words _ (long_schedule workload schedule plan given planned more same) = inl (workload, schedule, given)
-  refused_words _ (bad_schedule plan bytes asked number what h) = inl (asked.workload, asked.schedule, asked.given)
-
-  input_words : (name : List ℕ) → IsInput call name → AreCommandWords call.words
-  input_words name (the_workload names) = workload_words call.words name names
-  input_words name (the_schedule workload plan given planned) = inl (workload, name, given)
-
-  out_words : RunsOut call → AreCommandWords call.words
-  out_words (with_nothing are same) = are
-  out_words (with_lines plan bytes asked h) = inl (asked.workload, asked.schedule, asked.given)
-
-  cut_words : CutsOutput call → AreCommandWords call.words
-  cut_words (in_report plan bytes asked h) = inl (asked.workload, asked.schedule, asked.given)
-  cut_words (in_text workload tree given held front) = inr (inl (workload, given))
-  cut_words (in_check workload plan given held front) = inr (inr (workload, given))
-  cut_words (in_rejection workload program said names held front) = program_words call.words workload names
-
-  -- where a file is refused, and there is no memory to say so, memory ran out
-  refused_out : (line : List ℕ) → IsRefused call line → RunsOut call
-  refused_out _ (long_workload workload names more same) = with_nothing (workload_words call.words workload names) same
-  refused_out _ (no_text workload line what names held same) = with_nothing (workload_words call.words workload names) same
-  refused_out _ (out_of_scope workload fault names held same) = with_nothing (program_words call.words workload names) same
-  refused_out _ (long_schedule workload schedule plan given planned more same) = with_nothing (inl (workload, schedule, given)) same
-  refused_out _ (bad_schedule plan bytes asked number what (no_schedule fault same)) = with_nothing (inl (asked.workload, asked.schedule, asked.given)) same
-  refused_out _ (bad_schedule plan bytes asked number what (unfit fault same)) = with_nothing (inl (asked.workload, asked.schedule, asked.given)) same
-  refused_out _ (bad_schedule plan bytes asked number what (unsent is h)) =
-      with_lines plan bytes asked (behind_lines h.before (h.line ∷ h.behind) h.steps h.world h.of_schedule h.played h.taken)
+use Rattle.roc_cli.specs.Inner.Faultless.{IsFaultless, IsShardless, AreFitting}
+use Rattle.roc_cli.specs.Inner.Fault.{IsTold, EndsWith, line_of, blames_file, blames_sink, blames_link}
+use Rattle.roc_cli.specs.Inner.Ends.{RefusesWords, Fails, Ends, LoopEnds, WholeEnds, Blames}
+use Rattle.roc_cli.proofs.Naming.{unlike, no_name}
+use Rattle.roc_cli.proofs.Commands.{of_program, refused_words, input_words, cut_words, fit_names_no_nodes, nodes_named, child_named, nodes_words, served_done, stopped_done}
 
 -- ---- one fault, told
 
+module _ (call : RunCall) where
+  -- where a file is refused, and there is no memory to say so, memory ran out
+  refused_out : (line : List ℕ) → IsRefused call line → RunsOut call
+  refused_out _ (long_workload workload names more same) = with_nothing same
+  refused_out _ (no_text workload line what names held same) = with_nothing same
+  refused_out _ (out_of_scope workload fault names held same) = with_nothing same
+  refused_out _ (long_schedule workload schedule plan given planned more same) = with_nothing same
+  refused_out _ (bad_schedule plan bytes asked number what (no_schedule fault same)) = with_nothing same
+  refused_out _ (bad_schedule plan bytes asked number what (unfit fault same)) = with_nothing same
+  refused_out _ (bad_schedule plan bytes asked number what (unsent is h)) =
+      with_lines plan bytes asked (behind_lines h.before (h.line ∷ h.behind) h.steps h.world h.of_schedule h.played h.taken)
+  refused_out _ (long_cluster files plan names planned has more same) = with_nothing same
+  refused_out _ (bad_cluster files plan fault names planned has held same) = with_nothing same
+  refused_out _ (long_requests files plan addrs name names planned has held is more same) = with_nothing same
+  refused_out _ (bad_requests files plan addrs name number what names planned has held is not same) = with_nothing same
+
 -- what a call failed by, with its status and the line on standard error: one rule for each status
-data IsFailure (call : RunCall) : (status : ℕ) → (line : List ℕ) → Type 0 where
-  rejected : Rejects call → ReadsAll call → IsFailure call 1 (line_of Rejected)
-  no_words : (AreCommandWords call.words → ⊥) → TakesNothing call → ReadsAll call → IsFailure call 2 (word_line (codes "words"))
-  refused : (line : List ℕ) → IsRefused call line → ReadsAll call → IsFailure call 3 line
-  memory : RunsOut call → ReadsAll call → IsFailure call 4 (word_line (codes "memory"))
-  unread : (name : List ℕ) → IsUnread call name → IsFailure call 6 (file_line name)
-  cut : CutsOutput call → ReadsAll call → IsFailure call 7 (word_line (codes "sink"))
+data IsFailure (call : WholeCall) : (status : ℕ) → (line : List ℕ) → Type 0 where
+  rejected : Rejects call.run → ReadsAll call.run → IsFailure call 1 (line_of Rejected)
+  no_words : (line : List ℕ) → RefusesWords call.run line → ReadsAll call.run → IsFailure call 2 line
+  refused : (line : List ℕ) → IsRefused call.run line → ReadsAll call.run → IsFailure call 3 line
+  memory : RunsOut call.run ⊎ (AreNodesEnded call submit_end.NoMemory ⊎ BlamesAnyChild call) → ReadsAll call.run → IsFailure call 4 (word_line (codes "memory"))
+  unanswered : AreNodesEnded call submit_end.Unanswered → ReadsAll call.run → IsFailure call 5 (line_of Unanswered)
+  unread : (name : List ℕ) → IsUnread call.run name → IsFailure call 6 (file_line name)
+  cut : CutsOutput call.run ⊎ AreNodesEnded call submit_end.SinkFault → ReadsAll call.run → IsFailure call 7 (word_line (codes "sink"))
+  cut_off : AreNodesEnded call submit_end.LinkFault → ReadsAll call.run → IsFailure call 8 (word_line (codes "link"))
+  child : (shard : Shard) (own : Option ℕ) → IsChildBlamed call shard own → ReadsAll call.run → IsFailure call 9 (child_line shard.0 own)
 
--- a failure that was said, but for that of status 1, which is not said on standard error
-abbrev SaysUnlessRejected : Errors → (status : ℕ) → (line : List ℕ) → Type 0
-SaysUnlessRejected err status line = (status ≡ 1 → ⊥) → Says err line
+-- a failure that was said, but for that of status 1 or 5, which is not said on standard error
+abbrev SaysUnlessSilent : Errors → (status : ℕ) → (line : List ℕ) → Type 0
+SaysUnlessSilent err status line = (status ≡ 1 → ⊥) → (status ≡ 5 → ⊥) → Says err line
 
-record IsSaid (call : RunCall) (err : Errors) (status : ℕ) : Type 0 where
+record IsSaid (call : WholeCall) (err : Errors) (status : ℕ) : Type 0 where
   line : List ℕ
   is : IsFailure call status line
-  says : SaysUnlessRejected err status line
+  says : SaysUnlessSilent err status line
 
-module _ (call : RunCall) (err : Errors) where
+module _ (call : WholeCall) (err : Errors) where
   ended : (status n : ℕ) (line : List ℕ) → status ≡ n → Says err line → IsFailure call n line → IsSaid call err status
-  ended status n line e says is = record { line = line; is = subst (λ (m : ℕ). IsFailure call m line) (sym e) is; says = λ _. says }
+  ended status n line e says is = record { line = line; is = subst (λ (m : ℕ). IsFailure call m line) (sym e) is; says = λ _ _. says }
+
+  -- one that is not said on standard error
+  silent : (status n : ℕ) (line : List ℕ) → status ≡ n → (n ≡ 1) ⊎ (n ≡ 5) → IsFailure call n line → IsSaid call err status
+  silent status n line e (inl f) is = record { line = line; is = subst (λ (m : ℕ). IsFailure call m line) (sym e) is; says = λ one five. absurd (one (e ∙ f)) }
+  silent status n line e (inr f) is = record { line = line; is = subst (λ (m : ℕ). IsFailure call m line) (sym e) is; says = λ one five. absurd (five (e ∙ f)) }
 
   -- a refused file, told, if only as want of memory
-  said_refused : (status : ℕ) (line : List ℕ) → IsRefused call line → ReadsAll call → EndsWith 3 line status err ⊎ EndsWith 4 (line_of Memory) status err → IsSaid call err status
+  said_refused : (status : ℕ) (line : List ℕ) → IsRefused call.run line → ReadsAll call.run → EndsWith 3 line status err ⊎ EndsWith 4 (line_of Memory) status err → IsSaid call err status
   said_refused status line h read (inl (e, says)) = ended status 3 line e says (refused line h read)
-  said_refused status line h read (inr (e, says)) = ended status 4 (line_of Memory) e says (memory (refused_out call line h) read)
+  said_refused status line h read (inr (e, says)) = ended status 4 (line_of Memory) e says (memory (inl (refused_out call.run line h)) read)
 
-  -- each fault, told
-  said : (fault : Fault) (status : ℕ) → Fails call fault → Blames call.failed_before call.failed_after fault → IsTold fault status err → IsSaid call err status
-  said Rejected status h read e = record { line = line_of Rejected; is = subst (λ (m : ℕ). IsFailure call m (line_of Rejected)) (sym e) (rejected h read); says = λ other. absurd (other e) }
-  said Words status (none, same) read (e, says) = ended status 2 (line_of Words) e says (no_words none same read)
-  said Memory status h read (e, says) = ended status 4 (line_of Memory) e says (memory h read)
+  -- each fault, told: one that comes without nodes, and one that comes of them
+  said : (fault : Fault) (status : ℕ) → Fails call.run fault → Blames call.run.failed_before call.run.failed_after fault → IsTold fault status err → IsSaid call err status
+  said Rejected status h read e = silent status 1 (line_of Rejected) e (inl refl) (rejected h read)
+  said (Refused text) status none read (e, says) = ended status 2 (line_of (Refused text)) e says (no_words (line_of (Refused text)) none read)
+  said (Value name) status none read (e, says) = ended status 2 (line_of (Value name)) e says (no_words (line_of (Value name)) none read)
+  said NoShard status none read (e, says) = ended status 2 (line_of NoShard) e says (no_words (line_of NoShard) none read)
+  said Memory status h read (e, says) = ended status 4 (line_of Memory) e says (memory (inl h) read)
+  said Unanswered status h read told = absurd h
   said (File file) status h only (e, says) = ended status 6 (line_of (File file)) e says (unread file.now h)
-  said Sink status h read (e, says) = ended status 7 (line_of Sink) e says (cut h read)
+  said Sink status h read (e, says) = ended status 7 (line_of Sink) e says (cut (inl h) read)
+  said Link status h read told = absurd h
+  said (Child shard own) status h read told = absurd h
   said fault status h read told = said_refused status (line_of fault) h read told
+
+  said_child : (status : ℕ) (shard : Shard) (own : Option ℕ) → IsChildBlamed call shard own → ReadsAll call.run
+      → EndsWith 9 (line_of (Child shard own)) status err ⊎ EndsWith 4 (line_of Memory) status err → IsSaid call err status
+  said_child status shard own h read (inl (e, says)) = ended status 9 (line_of (Child shard own)) e says (child shard own h read)
+  said_child status shard own h read (inr (e, says)) = ended status 4 (line_of Memory) e says (memory (inr (inr (shard, own, h))) read)
+
+  said_of_nodes : (fault : Fault) (status : ℕ) → LoopEnds call.run (AreNodesEnded call) (IsChildBlamed call) (Err fault) → Blames call.run.failed_before call.run.failed_after fault → IsTold fault status err → IsSaid call err status
+  said_of_nodes Memory status (inl h) read (e, says) = ended status 4 (line_of Memory) e says (memory (inl h) read)
+  said_of_nodes Memory status (inr h) read (e, says) = ended status 4 (line_of Memory) e says (memory (inr (inl h)) read)
+  said_of_nodes Unanswered status h read e = silent status 5 (line_of Unanswered) e (inr refl) (unanswered h read)
+  said_of_nodes Sink status h read (e, says) = ended status 7 (line_of Sink) e says (cut h read)
+  said_of_nodes Link status h read (e, says) = ended status 8 (line_of Link) e says (cut_off h read)
+  said_of_nodes (Child shard own) status h read told = said_child status shard own h read told
+  said_of_nodes fault status h blames told = said fault status h blames told
+
+  said_whole : (fault : Fault) (status : ℕ) → WholeEnds call (Err fault) → Blames call.run.failed_before call.run.failed_after fault → IsTold fault status err → IsSaid call err status
+  said_whole fault status (inl h) blames told = said fault status h blames told
+  said_whole fault status (inr h) blames told = said_of_nodes fault status h blames told
 
   -- ---- what each status says of a failure
 
-  known : (status : ℕ) (line : List ℕ) → IsFailure call status line → (status ≡ 0) ⊎ ((status ≡ 1) ⊎ ((status ≡ 2) ⊎ ((status ≡ 3) ⊎ ((status ≡ 4) ⊎ ((status ≡ 6) ⊎ (status ≡ 7))))))
-  known _ _ (rejected h read) = inr (inl refl)
-  known _ _ (no_words none same read) = inr (inr (inl refl))
-  known _ _ (refused line h read) = inr (inr (inr (inl refl)))
-  known _ _ (memory h read) = inr (inr (inr (inr (inl refl))))
-  known _ _ (unread name h) = inr (inr (inr (inr (inr (inl refl)))))
-  known _ _ (cut h read) = inr (inr (inr (inr (inr (inr refl)))))
-
-  of_words : (status : ℕ) (line : List ℕ) → IsFailure call status line → (status ≡ 2) ↔ (AreCommandWords call.words → ⊥)
-  of_words _ _ (rejected h read) = (λ e. absurd (omega arith), λ none. absurd (none (program_words call.words h.workload h.named)))
-  of_words _ _ (no_words none same read) = (λ _. none, λ _. refl)
-  of_words _ _ (refused line h read) = (λ e. absurd (omega arith), λ none. absurd (none (refused_words call line h)))
-  of_words _ _ (memory h read) = (λ e. absurd (omega arith), λ none. absurd (none (out_words call h)))
-  of_words _ _ (unread name h) = (λ e. absurd (omega arith), λ none. absurd (none (input_words call name h.input)))
-  of_words _ _ (cut h read) = (λ e. absurd (omega arith), λ none. absurd (none (cut_words call h)))
+  at_most : (status : ℕ) (line : List ℕ) → IsFailure call status line → status ≤ 9
+  at_most _ _ (rejected h read) = omega arith
+  at_most _ _ (no_words said none read) = omega arith
+  at_most _ _ (refused line h read) = omega arith
+  at_most _ _ (memory h read) = omega arith
+  at_most _ _ (unanswered h read) = omega arith
+  at_most _ _ (unread name h) = omega arith
+  at_most _ _ (cut h read) = omega arith
+  at_most _ _ (cut_off h read) = omega arith
+  at_most _ _ (child shard own h read) = omega arith
 
   not_done : (A : Type 0) (status : ℕ) (line : List ℕ) → IsFailure call status line → status ≡ 0 → A
-  not_done A _ _ (no_words none same read) e = absurd (omega arith)
+  not_done A _ _ (no_words said none read) e = absurd (omega arith)
   not_done A _ _ _ e = absurd (omega arith)
 
   -- where nothing is wrong with the call
-  at_fitting : (status : ℕ) (line : List ℕ) → IsFailure call status line → (IsFit call → IsFaultless call) → IsFit call
+  at_fitting : (status : ℕ) (line : List ℕ) → IsFailure call status line → (NamesNodes call.run.words → ⊥) → IsFaultless call.run
       → (status ≡ 0) ⊎ ((status ≡ 4) ⊎ ((status ≡ 6) ⊎ (status ≡ 7)))
-  at_fitting _ _ (rejected h read) laws fit = absurd ((laws fit).acceptable h)
-  at_fitting _ _ (no_words none same read) laws fit = absurd (none (laws fit).command)
-  at_fitting _ _ (refused line h read) laws fit = absurd ((laws fit).right line h)
-  at_fitting _ _ (memory h read) laws fit = inr (inl refl)
-  at_fitting _ _ (unread name h) laws fit = inr (inr (inl refl))
-  at_fitting _ _ (cut h read) laws fit = inr (inr (inr refl))
+  at_fitting _ _ (rejected h read) none is = absurd (is.acceptable h)
+  at_fitting _ _ (no_words said refuses read) none is = absurd (is.taken said refuses.1)
+  at_fitting _ _ (refused line h read) none is = absurd (is.right line h)
+  at_fitting _ _ (memory h read) none is = inr (inl refl)
+  at_fitting _ _ (unanswered h read) none is = absurd (none (nodes_named call submit_end.Unanswered h))
+  at_fitting _ _ (unread name h) none is = inr (inr (inl refl))
+  at_fitting _ _ (cut h read) none is = inr (inr (inr refl))
+  at_fitting _ _ (cut_off h read) none is = absurd (none (nodes_named call submit_end.LinkFault h))
+  at_fitting _ _ (child shard own h read) none is = absurd (none (child_named call shard own h))
 
-  at_rejected : (status : ℕ) (line : List ℕ) → IsFailure call status line → status ≡ 1 → Rejects call
+  at_fitting_nodes : (status : ℕ) (line : List ℕ) → IsFailure call status line → IsFaultless call.run → (status ≡ 0) ⊎ (4 ≤ status)
+  at_fitting_nodes _ _ (rejected h read) is = absurd (is.acceptable h)
+  at_fitting_nodes _ _ (no_words said refuses read) is = absurd (is.taken said refuses.1)
+  at_fitting_nodes _ _ (refused line h read) is = absurd (is.right line h)
+  at_fitting_nodes _ _ (memory h read) is = inr (omega arith)
+  at_fitting_nodes _ _ (unanswered h read) is = inr (omega arith)
+  at_fitting_nodes _ _ (unread name h) is = inr (omega arith)
+  at_fitting_nodes _ _ (cut h read) is = inr (omega arith)
+  at_fitting_nodes _ _ (cut_off h read) is = inr (omega arith)
+  at_fitting_nodes _ _ (child shard own h read) is = inr (omega arith)
+
+  at_rejected : (status : ℕ) (line : List ℕ) → IsFailure call status line → status ≡ 1 → Rejects call.run
   at_rejected _ _ (rejected h read) e = h
   at_rejected _ _ _ e = absurd (omega arith)
 
-  at_words : (status : ℕ) (line : List ℕ) → IsFailure call status line → SaysUnlessRejected err status line → status ≡ 2 → TakesNothing call × Says err (word_line (codes "words"))
-  at_words _ _ (no_words none same read) says e = (same, says (λ f. absurd (omega arith)))
+  at_words : (status : ℕ) (line : List ℕ) → IsFailure call status line → SaysUnlessSilent err status line → status ≡ 2
+      → TakesNothing call.run × (said : List ℕ) × AreRefusedWords call.run said × Says err said
+  at_words _ _ (no_words said none read) says e = (none.0, said, none.1, says (λ f. absurd (omega arith)) (λ f. absurd (omega arith)))
   at_words _ _ _ says e = absurd (omega arith)
 
-  at_refused : (status : ℕ) (line : List ℕ) → IsFailure call status line → SaysUnlessRejected err status line → status ≡ 3 → (said : List ℕ) × IsRefused call said × Says err said
-  at_refused _ _ (refused line h read) says e = (line, h, says (λ f. absurd (omega arith)))
+  at_refused : (status : ℕ) (line : List ℕ) → IsFailure call status line → SaysUnlessSilent err status line → status ≡ 3 → (said : List ℕ) × IsRefused call.run said × Says err said
+  at_refused _ _ (refused line h read) says e = (line, h, says (λ f. absurd (omega arith)) (λ f. absurd (omega arith)))
   at_refused _ _ _ says e = absurd (omega arith)
 
-  at_memory : (status : ℕ) (line : List ℕ) → IsFailure call status line → SaysUnlessRejected err status line → status ≡ 4 → RunsOut call × Says err (word_line (codes "memory"))
-  at_memory _ _ (memory h read) says e = (h, says (λ f. absurd (omega arith)))
+  at_memory : (status : ℕ) (line : List ℕ) → IsFailure call status line → SaysUnlessSilent err status line → status ≡ 4
+      → (RunsOut call.run ⊎ (AreNodesEnded call submit_end.NoMemory ⊎ BlamesAnyChild call)) × Says err (word_line (codes "memory"))
+  at_memory _ _ (memory h read) says e = (h, says (λ f. absurd (omega arith)) (λ f. absurd (omega arith)))
   at_memory _ _ _ says e = absurd (omega arith)
 
-  at_unread : (status : ℕ) (line : List ℕ) → IsFailure call status line → SaysUnlessRejected err status line → status ≡ 6 → (name : List ℕ) × IsUnread call name × Says err (file_line name)
-  at_unread _ _ (unread name h) says e = (name, h, says (λ f. absurd (omega arith)))
+  at_unanswered : (status : ℕ) (line : List ℕ) → IsFailure call status line → status ≡ 5 → AreNodesEnded call submit_end.Unanswered
+  at_unanswered _ _ (unanswered h read) e = h
+  at_unanswered _ _ _ e = absurd (omega arith)
+
+  at_unread : (status : ℕ) (line : List ℕ) → IsFailure call status line → SaysUnlessSilent err status line → status ≡ 6 → (name : List ℕ) × IsUnread call.run name × Says err (file_line name)
+  at_unread _ _ (unread name h) says e = (name, h, says (λ f. absurd (omega arith)) (λ f. absurd (omega arith)))
   at_unread _ _ _ says e = absurd (omega arith)
 
-  at_cut : (status : ℕ) (line : List ℕ) → IsFailure call status line → SaysUnlessRejected err status line → status ≡ 7 → CutsOutput call × Says err (word_line (codes "sink"))
-  at_cut _ _ (cut h read) says e = (h, says (λ f. absurd (omega arith)))
+  at_cut : (status : ℕ) (line : List ℕ) → IsFailure call status line → SaysUnlessSilent err status line → status ≡ 7
+      → (CutsOutput call.run ⊎ AreNodesEnded call submit_end.SinkFault) × Says err (word_line (codes "sink"))
+  at_cut _ _ (cut h read) says e = (h, says (λ f. absurd (omega arith)) (λ f. absurd (omega arith)))
   at_cut _ _ _ says e = absurd (omega arith)
 
-  at_others : (status : ℕ) (line : List ℕ) → IsFailure call status line → (status ≡ 6 → ⊥) → ReadsAll call
+  at_cut_off : (status : ℕ) (line : List ℕ) → IsFailure call status line → SaysUnlessSilent err status line → status ≡ 8 → AreNodesEnded call submit_end.LinkFault × Says err (word_line (codes "link"))
+  at_cut_off _ _ (cut_off h read) says e = (h, says (λ f. absurd (omega arith)) (λ f. absurd (omega arith)))
+  at_cut_off _ _ _ says e = absurd (omega arith)
+
+  at_child : (status : ℕ) (line : List ℕ) → IsFailure call status line → SaysUnlessSilent err status line → status ≡ 9
+      → (shard : Shard) × (own : Option ℕ) × IsChildBlamed call shard own × Says err (child_line shard.0 own)
+  at_child _ _ (child shard own h read) says e = (shard, own, h, says (λ f. absurd (omega arith)) (λ f. absurd (omega arith)))
+  at_child _ _ _ says e = absurd (omega arith)
+
+  at_others : (status : ℕ) (line : List ℕ) → IsFailure call status line → (status ≡ 6 → ⊥) → ReadsAll call.run
   at_others _ _ (rejected h read) other = read
-  at_others _ _ (no_words none same read) other = read
+  at_others _ _ (no_words said none read) other = read
   at_others _ _ (refused line h read) other = read
   at_others _ _ (memory h read) other = read
+  at_others _ _ (unanswered h read) other = read
   at_others _ _ (unread name h) other = absurd (other refl)
   at_others _ _ (cut h read) other = read
+  at_others _ _ (cut_off h read) other = read
+  at_others _ _ (child shard own h read) other = read
 
-  pub fault_answers : (fault : Fault) (status : ℕ) → (IsFit call → IsFaultless call) → Fails call fault → Blames call.failed_before call.failed_after fault → IsTold fault status err → Answers call err status
+  -- words that are none of a command's: only refused words and want of memory
+  of_words : (status : ℕ) (line : List ℕ) → IsFailure call status line → (AreCommandWords call.run.words → ⊥) → (status ≡ 2) ⊎ (status ≡ 4)
+  of_words _ _ (rejected h read) none = absurd (none (of_program call.run.words h.workload h.named))
+  of_words _ _ (no_words said h read) none = inl refl
+  of_words _ _ (refused line h read) none = absurd (none (refused_words call.run line h))
+  of_words _ _ (memory h read) none = inr refl
+  of_words _ _ (unanswered h read) none = absurd (none (nodes_words call submit_end.Unanswered h))
+  of_words _ _ (unread name h) none = absurd (none (input_words call.run name h.input))
+  of_words _ _ (cut (inl h) read) none = absurd (none (cut_words call.run h))
+  of_words _ _ (cut (inr h) read) none = absurd (none (nodes_words call submit_end.SinkFault h))
+  of_words _ _ (cut_off h read) none = absurd (none (nodes_words call submit_end.LinkFault h))
+  of_words _ _ (child shard own h read) none = let named = child_named call shard own h in absurd (none (named.1.0, named.1.1))
+
+  -- a shard that the workload lacks
+  of_missing : (status : ℕ) (line : List ℕ) → IsFailure call status line → IsShardless call → (status ≡ 2) ⊎ ((status ≡ 4) ⊎ (status ≡ 6))
+  of_missing _ _ (rejected h read) is = absurd (is.acceptable h)
+  of_missing _ _ (no_words said h read) is = inl refl
+  of_missing _ _ (refused line h read) is = absurd (is.right line h)
+  of_missing _ _ (memory h read) is = inr (inl refl)
+  of_missing _ _ (unanswered h read) is = absurd (is.unrun submit_end.Unanswered h)
+  of_missing _ _ (unread name h) is = inr (inr refl)
+  of_missing _ _ (cut (inl h) read) is = absurd (is.uncut h)
+  of_missing _ _ (cut (inr h) read) is = absurd (is.unrun submit_end.SinkFault h)
+  of_missing _ _ (cut_off h read) is = absurd (is.unrun submit_end.LinkFault h)
+  of_missing _ _ (child shard own h read) is = absurd (is.no_child shard own h)
+
+  pub fault_answers : (fault : Fault) (status : ℕ) → AreFitting call → WholeEnds call (Err fault) → Blames call.run.failed_before call.run.failed_after fault → IsTold fault status err → Answers call err status
   fault_answers fault status laws fails blames told =
-      let h : IsSaid call err status = said fault status fails blames told in
+      let h : IsSaid call err status = said_whole fault status fails blames told in
       record {
-        statuses = known status h.line h.is;
-        replayed = not_done (AreReplayWords call.words → Replays call) status h.line h.is;
-        explained = not_done (AreReplayWords call.words → Explains call) status h.line h.is;
-        printed = not_done (ArePrintWords call.words → Prints call) status h.line h.is;
-        checked = not_done (AreCheckWords call.words → Checks call) status h.line h.is;
-        complete = at_fitting status h.line h.is laws;
+        statuses = at_most status h.line h.is;
+        replayed = not_done (AreReplayWords call.run.words → Replays call.run) status h.line h.is;
+        explained = not_done (AreReplayWords call.run.words → Explains call.run) status h.line h.is;
+        printed = not_done (ArePrintWords call.run.words → Prints call.run) status h.line h.is;
+        checked = not_done (AreCheckWords call.run.words → Checks call.run) status h.line h.is;
+        generated = not_done (AreGenWords call.run.words → Generates call.run) status h.line h.is;
+        served = not_done (AreServeWords call.run.words → ServeEnded call.run call.link serve_end.Done) status h.line h.is;
+        submitted = not_done (AreSubmitWords call.run.words → SubmitEnded call.run call.link submit_end.Done) status h.line h.is;
+        stopped = not_done (AreStopWords call.run.words → StopEnded call.run call.link stop_end.Done) status h.line h.is;
+        ran = not_done (AreLocalWords call.run.words → LocalEnded call.run call.link call.children local_end.Done) status h.line h.is;
+        childless = not_done (call.children.faults_after ≡ call.children.faults_before) status h.line h.is;
+        complete = λ fit. at_fitting status h.line h.is (fit_names_no_nodes call.run fit) (laws.files fit);
+        complete_nodes = λ fit. at_fitting_nodes status h.line h.is (laws.nodes fit);
         rejected = at_rejected status h.line h.is;
-        words = of_words status h.line h.is;
         no_words = at_words status h.line h.is h.says;
+        words = of_words status h.line h.is;
+        no_shard = λ missing. of_missing status h.line h.is (laws.shardless missing);
         refused = at_refused status h.line h.is h.says;
         memory = at_memory status h.line h.is h.says;
+        unanswered = at_unanswered status h.line h.is;
         unread = at_unread status h.line h.is h.says;
         read = at_others status h.line h.is;
         cut = at_cut status h.line h.is h.says;
+        cut_off = at_cut_off status h.line h.is h.says;
+        child = at_child status h.line h.is h.says;
       }
 
 -- ---- what was done
 
 -- of the commands, the one that the words ask for was done
-module _ (call : RunCall) where
-  done_words : Ends call (Ok tt) → AreCommandWords call.words
-  done_words (inl done) = inl (done.asked.workload, done.asked.schedule, done.asked.given)
-  done_words (inr (inl done)) = inr (inl (done.workload, done.given))
-  done_words (inr (inr done)) = inr (inr (done.workload, done.given))
+module _ (call : WholeCall) where
+  replay_done : WholeEnds call (Ok tt) → AreReplayWords call.run.words → Replays call.run
+  replay_done (inl (inl done)) are = done
+  replay_done (inl (inr (inl done))) (workload, schedule, given) = unlike (Replays call.run) call.run.words (print done.workload) (replay workload schedule) done.given given refl
+  replay_done (inl (inr (inr (inl done)))) (workload, schedule, given) = unlike (Replays call.run) call.run.words (check done.workload) (replay workload schedule) done.given given refl
+  replay_done (inl (inr (inr (inr done)))) (workload, schedule, given) = unlike (Replays call.run) call.run.words (gen done.seed done.shards done.txns done.part) (replay workload schedule) done.given given refl
+  replay_done (inr h) (workload, schedule, given) = absurd (no_name node_files call.run.words (replay workload schedule) given refl _ (nodes_named call submit_end.Done h).1)
 
-  replay_done : Ends call (Ok tt) → AreReplayWords call.words → Replays call
-  replay_done (inl done) are = done
-  replay_done (inr (inl done)) (workload, schedule, given) = longer (Replays call) call.words _ _ _ _ _ given done.given
-  replay_done (inr (inr done)) (workload, schedule, given) = longer (Replays call) call.words _ _ _ _ _ given done.given
+  print_done : WholeEnds call (Ok tt) → ArePrintWords call.run.words → Prints call.run
+  print_done (inl (inl done)) (workload, given) = unlike (Prints call.run) call.run.words (replay done.asked.workload done.asked.schedule) (print workload) done.asked.given given refl
+  print_done (inl (inr (inl done))) are = done
+  print_done (inl (inr (inr (inl done)))) (workload, given) = unlike (Prints call.run) call.run.words (check done.workload) (print workload) done.given given refl
+  print_done (inl (inr (inr (inr done)))) (workload, given) = unlike (Prints call.run) call.run.words (gen done.seed done.shards done.txns done.part) (print workload) done.given given refl
+  print_done (inr h) (workload, given) = absurd (no_name node_files call.run.words (print workload) given refl _ (nodes_named call submit_end.Done h).1)
 
-  print_done : Ends call (Ok tt) → ArePrintWords call.words → Prints call
-  print_done (inl done) (workload, given) = longer (Prints call) call.words _ _ _ _ _ done.asked.given given
-  print_done (inr (inl done)) are = done
-  print_done (inr (inr done)) (workload, given) = unlike (Prints call) call.words workload done.workload given done.given
+  check_done : WholeEnds call (Ok tt) → AreCheckWords call.run.words → Checks call.run
+  check_done (inl (inl done)) (workload, given) = unlike (Checks call.run) call.run.words (replay done.asked.workload done.asked.schedule) (check workload) done.asked.given given refl
+  check_done (inl (inr (inl done))) (workload, given) = unlike (Checks call.run) call.run.words (print done.workload) (check workload) done.given given refl
+  check_done (inl (inr (inr (inl done)))) are = done
+  check_done (inl (inr (inr (inr done)))) (workload, given) = unlike (Checks call.run) call.run.words (gen done.seed done.shards done.txns done.part) (check workload) done.given given refl
+  check_done (inr h) (workload, given) = absurd (no_name node_files call.run.words (check workload) given refl _ (nodes_named call submit_end.Done h).1)
 
-  check_done : Ends call (Ok tt) → AreCheckWords call.words → Checks call
-  check_done (inl done) (workload, given) = longer (Checks call) call.words _ _ _ _ _ done.asked.given given
-  check_done (inr (inl done)) (workload, given) = unlike (Checks call) call.words done.workload workload done.given given
-  check_done (inr (inr done)) are = done
+  gen_done : WholeEnds call (Ok tt) → AreGenWords call.run.words → Generates call.run
+  gen_done (inl (inl done)) (seed, shards, txns, part, given) = unlike (Generates call.run) call.run.words (replay done.asked.workload done.asked.schedule) (gen seed shards txns part) done.asked.given given refl
+  gen_done (inl (inr (inl done))) (seed, shards, txns, part, given) = unlike (Generates call.run) call.run.words (print done.workload) (gen seed shards txns part) done.given given refl
+  gen_done (inl (inr (inr (inl done)))) (seed, shards, txns, part, given) = unlike (Generates call.run) call.run.words (check done.workload) (gen seed shards txns part) done.given given refl
+  gen_done (inl (inr (inr (inr done)))) are = done
+  gen_done (inr h) (seed, shards, txns, part, given) = absurd (no_name node_files call.run.words (gen seed shards txns part) given refl _ (nodes_named call submit_end.Done h).1)
+
+  -- a command without nodes was done, though the words ask for one with them
+  not_without : (A : Type 0) → Ends call.run (Ok tt) → NamesNodes call.run.words → A
+  not_without A (inl done) (files, names) = absurd (no_name node_files call.run.words (replay done.asked.workload done.asked.schedule) done.asked.given refl files names)
+  not_without A (inr (inl done)) (files, names) = absurd (no_name node_files call.run.words (print done.workload) done.given refl files names)
+  not_without A (inr (inr (inl done))) (files, names) = absurd (no_name node_files call.run.words (check done.workload) done.given refl files names)
+  not_without A (inr (inr (inr done))) (files, names) = absurd (no_name node_files call.run.words (gen done.seed done.shards done.txns done.part) done.given refl files names)
+
+  serve_done : WholeEnds call (Ok tt) → AreServeWords call.run.words → ServeEnded call.run call.link serve_end.Done
+  serve_done (inl h) (workload, cluster, shard, turns, counts, given) = not_without (ServeEnded call.run call.link serve_end.Done) h (_, (serve workload cluster shard turns counts, given, refl))
+  serve_done (inr (inl (end, e, h))) are = subst (ServeEnded call.run call.link) (served_done end e) h
+  serve_done (inr (inr (inl h))) (workload, cluster, shard, turns, counts, given) = unlike (ServeEnded call.run call.link serve_end.Done) call.run.words (submit h.workload h.cluster h.listed h.coord h.turns) (serve workload cluster shard turns counts) h.given given refl
+  serve_done (inr (inr (inr (inl (end, e, h))))) (workload, cluster, shard, turns, counts, given) = unlike (ServeEnded call.run call.link serve_end.Done) call.run.words (stop h.workload h.cluster) (serve workload cluster shard turns counts) h.given given refl
+  serve_done (inr (inr (inr (inr h)))) (workload, cluster, shard, turns, counts, given) = unlike (ServeEnded call.run call.link serve_end.Done) call.run.words (local h.workload h.cluster h.listed h.turns) (serve workload cluster shard turns counts) h.given given refl
+
+  submit_done : WholeEnds call (Ok tt) → AreSubmitWords call.run.words → SubmitEnded call.run call.link submit_end.Done
+  submit_done (inl h) (workload, cluster, requests, coord, turns, given) = not_without (SubmitEnded call.run call.link submit_end.Done) h (_, (submit workload cluster requests coord turns, given, refl))
+  submit_done (inr (inl (end, e, h))) (workload, cluster, requests, coord, turns, given) = unlike (SubmitEnded call.run call.link submit_end.Done) call.run.words (serve h.workload h.cluster h.shard h.turns h.counts) (submit workload cluster requests coord turns) h.given given refl
+  submit_done (inr (inr (inl h))) are = h
+  submit_done (inr (inr (inr (inl (end, e, h))))) (workload, cluster, requests, coord, turns, given) = unlike (SubmitEnded call.run call.link submit_end.Done) call.run.words (stop h.workload h.cluster) (submit workload cluster requests coord turns) h.given given refl
+  submit_done (inr (inr (inr (inr h)))) (workload, cluster, requests, coord, turns, given) = unlike (SubmitEnded call.run call.link submit_end.Done) call.run.words (local h.workload h.cluster h.listed h.turns) (submit workload cluster requests coord turns) h.given given refl
+
+  stop_done : WholeEnds call (Ok tt) → AreStopWords call.run.words → StopEnded call.run call.link stop_end.Done
+  stop_done (inl h) (workload, cluster, given) = not_without (StopEnded call.run call.link stop_end.Done) h (_, (stop workload cluster, given, refl))
+  stop_done (inr (inl (end, e, h))) (workload, cluster, given) = unlike (StopEnded call.run call.link stop_end.Done) call.run.words (serve h.workload h.cluster h.shard h.turns h.counts) (stop workload cluster) h.given given refl
+  stop_done (inr (inr (inl h))) (workload, cluster, given) = unlike (StopEnded call.run call.link stop_end.Done) call.run.words (submit h.workload h.cluster h.listed h.coord h.turns) (stop workload cluster) h.given given refl
+  stop_done (inr (inr (inr (inl (end, e, h))))) are = subst (StopEnded call.run call.link) (stopped_done end e) h
+  stop_done (inr (inr (inr (inr h)))) (workload, cluster, given) = unlike (StopEnded call.run call.link stop_end.Done) call.run.words (local h.workload h.cluster h.listed h.turns) (stop workload cluster) h.given given refl
+
+  local_done : WholeEnds call (Ok tt) → AreLocalWords call.run.words → LocalEnded call.run call.link call.children local_end.Done
+  local_done (inl h) (workload, cluster, requests, turns, given) = not_without (LocalEnded call.run call.link call.children local_end.Done) h (_, (local workload cluster requests turns, given, refl))
+  local_done (inr (inl (end, e, h))) (workload, cluster, requests, turns, given) = unlike (LocalEnded call.run call.link call.children local_end.Done) call.run.words (serve h.workload h.cluster h.shard h.turns h.counts) (local workload cluster requests turns) h.given given refl
+  local_done (inr (inr (inl h))) (workload, cluster, requests, turns, given) = unlike (LocalEnded call.run call.link call.children local_end.Done) call.run.words (submit h.workload h.cluster h.listed h.coord h.turns) (local workload cluster requests turns) h.given given refl
+  local_done (inr (inr (inr (inl (end, e, h))))) (workload, cluster, requests, turns, given) = unlike (LocalEnded call.run call.link call.children local_end.Done) call.run.words (stop h.workload h.cluster) (local workload cluster requests turns) h.given given refl
+  local_done (inr (inr (inr (inr h)))) are = h
 
   -- what was replayed explains itself
-  replay_explains : Replays call → Explains call
+  replay_explains : Replays call.run → Explains call.run
   replay_explains done =
       record { plan = done.plan; bytes = done.bytes; asked = done.asked; lines = report done.replayed.steps done.replayed.world; taken = done.replayed.taken; explained = done.replayed.explained }
 
-  pub done_answers : (err : Errors) → Ends call (Ok tt) → ReadsAll call → Answers call err 0
-  done_answers err done read = record {
-    statuses = inl refl;
+  done_words : WholeEnds call (Ok tt) → AreCommandWords call.run.words
+  done_words (inl (inl done)) = (replay done.asked.workload done.asked.schedule, done.asked.given)
+  done_words (inl (inr (inl done))) = (print done.workload, done.given)
+  done_words (inl (inr (inr (inl done)))) = (check done.workload, done.given)
+  done_words (inl (inr (inr (inr done)))) = (gen done.seed done.shards done.txns done.part, done.given)
+  done_words (inr h) = nodes_words call submit_end.Done h
+
+  shardless_undone : IsShardless call → WholeEnds call (Ok tt) → ⊥
+  shardless_undone is (inl h) = is.undone h
+  shardless_undone is (inr h) = is.unrun submit_end.Done h
+
+  pub done_answers : (err : Errors) → AreFitting call → WholeEnds call (Ok tt) → ReadsAll call.run → call.children.faults_after ≡ call.children.faults_before → Answers call err 0
+  done_answers err laws done read childless = record {
+    statuses = omega arith;
     replayed = λ _ are. replay_done done are;
     explained = λ _ are. replay_explains (replay_done done are);
     printed = λ _ are. print_done done are;
     checked = λ _ are. check_done done are;
+    generated = λ _ are. gen_done done are;
+    served = λ _ are. serve_done done are;
+    submitted = λ _ are. submit_done done are;
+    stopped = λ _ are. stop_done done are;
+    ran = λ _ are. local_done done are;
+    childless = λ _. childless;
     complete = λ _. inl refl;
+    complete_nodes = λ _. inl refl;
     rejected = λ e. absurd (omega arith);
-    words = (λ e. absurd (omega arith), λ none. absurd (none (done_words done)));
     no_words = λ e. absurd (omega arith);
+    words = λ none. absurd (none (done_words done));
+    no_shard = λ missing. absurd (shardless_undone (laws.shardless missing) done);
     refused = λ e. absurd (omega arith);
     memory = λ e. absurd (omega arith);
+    unanswered = λ e. absurd (omega arith);
     unread = λ e. absurd (omega arith);
     read = λ _. read;
     cut = λ e. absurd (omega arith);
+    cut_off = λ e. absurd (omega arith);
+    child = λ e. absurd (omega arith);
   }
-
--- ---- counts
-
--- a count rises exactly where the status is its own
-counted_at : (status n wanted : ℕ) (test : Bool) (old new : ℕ) → status ≡ n → (n == wanted) ≡ test → HasCause test old new → HasCause (status == wanted) old new
-counted_at status n wanted test old new e f h = subst (λ b. HasCause b old new) (sym (ap (λ m. m == wanted) e ∙ f)) h
-
--- where a refused file was told, neither
-refusal_counted : (line : List ℕ) (status wanted : ℕ) (err : Errors) (old new : ℕ) → (3 == wanted) ≡ false → (4 == wanted) ≡ false
-    → EndsWith 3 line status err ⊎ EndsWith 4 (line_of Memory) status err → HasCause false old new → HasCause (status == wanted) old new
-refusal_counted line status wanted err old new f g (inl (e, says)) h = counted_at status 3 wanted false old new e f h
-refusal_counted line status wanted err old new f g (inr (e, says)) h = counted_at status 4 wanted false old new e g h
-
-pub file_counted : (fault : Fault) (status : ℕ) (err : Errors) (old new : ℕ) → IsTold fault status err → HasCause (blames_file fault) old new → HasCause (status == 6) old new
-file_counted Rejected status err old new e h = counted_at status 1 6 false old new e refl h
-file_counted Words status err old new (e, says) h = counted_at status 2 6 false old new e refl h
-file_counted Memory status err old new (e, says) h = counted_at status 4 6 false old new e refl h
-file_counted (File file) status err old new (e, says) h = counted_at status 6 6 true old new e refl h
-file_counted Sink status err old new (e, says) h = counted_at status 7 6 false old new e refl h
-file_counted fault status err old new told h = refusal_counted (line_of fault) status 6 err old new refl refl told h
-
-pub sink_counted : (fault : Fault) (status : ℕ) (err : Errors) (old new : ℕ) → IsTold fault status err → HasCause (blames_sink fault) old new → HasCause (status == 7) old new
-sink_counted Rejected status err old new e h = counted_at status 1 7 false old new e refl h
-sink_counted Words status err old new (e, says) h = counted_at status 2 7 false old new e refl h
-sink_counted Memory status err old new (e, says) h = counted_at status 4 7 false old new e refl h
-sink_counted (File file) status err old new (e, says) h = counted_at status 6 7 false old new e refl h
-sink_counted Sink status err old new (e, says) h = counted_at status 7 7 true old new e refl h
-sink_counted fault status err old new told h = refusal_counted (line_of fault) status 7 err old new refl refl told h

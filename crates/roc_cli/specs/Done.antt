@@ -1,5 +1,5 @@
 -- What was done, and what standard output took: docs/FORMATS.md, "Report", "Text of check" and "Refusals", and docs/LANGUAGE.md, "Canonical text"
-use Rattle.std.specs.Prelude.{ℕ, ◌≤◌, List, length}
+use Rattle.std.specs.Prelude.{ℕ, ◌≤◌, List, length, None}
 use Rattle.roc_io.specs.Told.{Adds}
 use Rattle.roc_lang.specs.Syntax.{Tree}
 use Rattle.roc_print.specs.Canonical.{canonical}
@@ -8,12 +8,18 @@ use Rattle.roc_plan.specs.Groups.{Plan}
 use Rattle.roc_report.specs.Line.{Line}
 use Rattle.roc_report.specs.Text.{line_text, lines_text}
 use Rattle.roc_check.specs.Lines.{check_lines}
+use Rattle.roc_check.specs.Checked.{IsPlanOfText}
 use Rattle.roc_sched.specs.Schedule.{most_bytes}
+use Rattle.roc_generate.specs.Workload_text.{generated_workload}
+use Rattle.roc_generate.specs.Schedule_text.{generated_schedule}
+use Rattle.roc_generate.specs.Summary_text.{load_summary_text}
 use Rattle.roc_replay.specs.declared.ended.Summary.{Summary}
 use Rattle.roc_replay.specs.Told.{IsExplained}
 use Rattle.roc_replay.specs.Ended.{IsReplayed}
+use Rattle.roc_words.specs.declared.value.Part.{Part}
+use Rattle.roc_words.specs.declared.value.Part.TheVariants as part
 use Rattle.roc_cli.specs.Call.{RunCall}
-use Rattle.roc_cli.specs.Words.{IsReplay, IsPrint, IsCheck, NamesProgram}
+use Rattle.roc_cli.specs.Words.{IsReplay, IsPrint, IsCheck, IsGen, NamesProgram}
 use Rattle.roc_cli.specs.Held.{Holds, HoldsPlan, HoldsText, HoldsRejected}
 
 -- ---- replay
@@ -78,3 +84,23 @@ pub record Rejects (call : RunCall) : Type 0 where
   pub said : Line
   pub held : HoldsRejected call.content workload program said
   pub taken : Adds call.out_before call.out_after (line_text program said)
+
+-- ---- gen
+
+-- what is generated: the text of the workload, or of the schedule, or the numbers of the run of that schedule under the workload's plan
+pub data IsGenerated (seed shards txns : ℕ) : Part → List ℕ → Type 0 where
+  the_workload : IsGenerated seed shards txns part.Workload (generated_workload shards)
+  the_schedule : IsGenerated seed shards txns part.Schedule (generated_schedule seed shards txns)
+  the_run : (plan : Plan) (summary : Summary) → IsPlanOfText (generated_workload shards) plan → IsReplayed plan (generated_schedule seed shards txns) summary None None
+      → IsGenerated seed shards txns part.Run (load_summary_text summary.answered summary.pending summary.messages summary.busy)
+
+-- standard output took what was to be generated
+pub record Generates (call : RunCall) : Type 0 where
+  pub seed : ℕ
+  pub shards : ℕ
+  pub txns : ℕ
+  pub part : Part
+  pub given : IsGen call.words seed shards txns part
+  pub text : List ℕ
+  pub generated : IsGenerated seed shards txns part text
+  pub taken : Adds call.out_before call.out_after text

@@ -1,5 +1,11 @@
 -- Words and files for which a command is done: docs/FORMATS.md, "The program"
-use Rattle.std.specs.Prelude.{◌≡◌, ◌⊎◌, ℕ, List, Some}
+use Rattle.std.specs.Prelude.{◌≡◌, ◌⊎◌, ℕ, ◌≤◌, List, length, Option, Some, IfSome}
+use Rattle.roc_io.specs.declared.link.Addr.{Addr}
+use Rattle.roc_lang.specs.Grammar.{text_limit}
+use Rattle.roc_program.specs.Program.{Workload}
+use Rattle.roc_cluster.specs.File.{IsClusterFile}
+use Rattle.roc_sched.specs.declared.line.Request.{Request}
+use Rattle.roc_sched.specs.Schedule.{most_bytes}
 use Rattle.roc_lang.specs.Syntax.{Tree}
 use Rattle.roc_parse.specs.Fault.{IsWorkloadText}
 use Rattle.roc_plan.specs.Groups.{Plan}
@@ -10,7 +16,17 @@ use Rattle.roc_replay.specs.declared.asked.Asked.{Asked}
 use Rattle.roc_replay.specs.Asked.{IsScheduleOf}
 use Rattle.roc_replay.specs.Played.{IsPlayed}
 use Rattle.roc_cli.specs.Call.{RunCall}
-use Rattle.roc_cli.specs.Words.{IsReplay, IsPrint, IsCheck}
+use Rattle.roc_cli.specs.Words.{IsReplay, IsPrint, IsCheck, AreGenWords, NodeFiles, NamesNodeFiles}
+use Rattle.roc_cli.specs.Requests.{AreRequestsOf}
+use Rattle.roc_cli.specs.Held.{HasShard}
+
+-- the name holds a request file whose requests fit the program
+pub record IsListOfRequests (content : List ℕ → Option (List ℕ)) (program : Workload) (name : List ℕ) : Type 0 where
+  pub text : List ℕ
+  pub held : content name ≡ Some text
+  pub few : length text ≤ most_bytes
+  pub requests : List Request
+  pub are : AreRequestsOf program text requests
 
 -- the words ask for a replay; the named files hold a workload that has a plan, and a schedule that fits this and delivers only what was
 -- sent, so that it can be played
@@ -48,5 +64,34 @@ pub record PrintFits (call : RunCall) : Type 0 where
   pub tree : Tree
   pub text : IsWorkloadText bytes tree
 
+-- the words ask for a command with nodes, and the named files hold what it needs
+pub record NodesFit (call : RunCall) : Type 0 where
+  pub files : NodeFiles
+  pub given : NamesNodeFiles call.words files
+  pub bytes : List ℕ
+  pub held : call.content files.workload ≡ Some bytes
+  pub plan : Plan
+  pub planned : IsPlanOfText bytes plan
+  pub has_shard : HasShard files plan
+  pub text : List ℕ
+  pub clustered : call.content files.cluster ≡ Some text
+  pub few : length text ≤ text_limit
+  pub addrs : List Addr
+  pub of_text : IsClusterFile plan.program.shards text addrs
+  pub listed : IfSome files.requests (IsListOfRequests call.content plan.program)
+
+-- the words ask to serve a shard that the named workload does not have
+pub record MissesShard (call : RunCall) : Type 0 where
+  pub files : NodeFiles
+  pub given : NamesNodeFiles call.words files
+  pub bytes : List ℕ
+  pub held : call.content files.workload ≡ Some bytes
+  pub plan : Plan
+  pub planned : IsPlanOfText bytes plan
+  pub number : ℕ
+  pub asked : files.shard ≡ Some number
+  pub past : plan.program.shards ≤ number
+
+-- a command of one or two files; generated load needs none
 abbrev pub IsFit : RunCall → Type 0
-IsFit call = ReplayFits call ⊎ (PrintFits call ⊎ CheckFits call)
+IsFit call = ReplayFits call ⊎ (PrintFits call ⊎ (CheckFits call ⊎ AreGenWords call.words))

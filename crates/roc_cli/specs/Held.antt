@@ -1,5 +1,5 @@
 -- What a named file holds, as far as that is told: docs/FORMATS.md, "The program"
-use Rattle.std.specs.Prelude.{◌≡◌, ℕ, ◌<◌, ◌≤◌, List, length, Option, Some, IfSome}
+use Rattle.std.specs.Prelude.{◌≡◌, ℕ, ◌<◌, ◌≤◌, List, [], length, Option, Some, None, IfSome}
 use Rattle.roc_lang.specs.Syntax.{Tree}
 use Rattle.roc_lang.specs.Grammar.{text_limit}
 use Rattle.roc_lang.specs.Scope.{Fault, faults}
@@ -10,6 +10,16 @@ use Rattle.roc_program.specs.Program.{Workload}
 use Rattle.roc_plan.specs.Groups.{Plan}
 use Rattle.roc_report.specs.Line.{Line}
 use Rattle.roc_check.specs.Checked.{IsPlanOfText, IsRefusedText}
+use Rattle.roc_io.specs.declared.link.Addr.{Addr}
+use Rattle.roc_cluster.specs.declared.fault.ClusterFault.{ClusterFault}
+use Rattle.roc_cluster.specs.declared.fault.ClusterFault.TheVariants.{NoMemory}
+use Rattle.roc_cluster.specs.File.{IsClusterFile}
+use Rattle.roc_cluster.specs.Answer.{IsClusterFault}
+use Rattle.roc_sched.specs.declared.fault.What.{What as ScheduleWhat}
+use Rattle.roc_sched.specs.declared.line.Request.{Request}
+use Rattle.roc_sched.specs.Schedule.{most_bytes}
+use Rattle.roc_cli.specs.Requests.{AreRequestsOf, IsRequestsFault}
+use Rattle.roc_cli.specs.Words.{NodeFiles}
 
 -- these are the bytes that the name holds, where they are told
 abbrev pub Holds : (List ℕ → Option (List ℕ)) → List ℕ → List ℕ → Type 0
@@ -49,3 +59,60 @@ pub record HoldsRejected (content : List ℕ → Option (List ℕ)) (name : List
   pub bytes : List ℕ
   pub held : Holds content name bytes
   pub is : IsRefusedText bytes program said
+
+-- ---- the files of a command with nodes
+
+-- the name holds a cluster file for so many shards, of this cluster, and not too many bytes
+pub record HoldsCluster (content : List ℕ → Option (List ℕ)) (name : List ℕ) (shards : ℕ) (cluster : List Addr) : Type 0 where
+  pub bytes : List ℕ
+  pub held : Holds content name bytes
+  pub size : length bytes ≤ text_limit
+  pub is : IsClusterFile shards bytes cluster
+
+-- the name holds bytes that are none, and this is their first fault
+pub record HoldsNoCluster (content : List ℕ → Option (List ℕ)) (name : List ℕ) (shards : ℕ) (fault : ClusterFault) : Type 0 where
+  pub bytes : List ℕ
+  pub held : Holds content name bytes
+  pub size : length bytes ≤ text_limit
+  pub is : IsClusterFault shards bytes fault
+  pub of_bytes : fault ≡ NoMemory → ⊥
+
+-- the name holds a request file of these requests, all of which fit the program
+pub record HoldsRequests (content : List ℕ → Option (List ℕ)) (name : List ℕ) (program : Workload) (requests : List Request) : Type 0 where
+  pub bytes : List ℕ
+  pub held : Holds content name bytes
+  pub size : length bytes ≤ most_bytes
+  pub are : AreRequestsOf program bytes requests
+
+-- the name holds bytes that are none, and this is their first fault
+pub record HoldsNoRequests (content : List ℕ → Option (List ℕ)) (name : List ℕ) (program : Workload) (line : ℕ) (what : ScheduleWhat) : Type 0 where
+  pub bytes : List ℕ
+  pub held : Holds content name bytes
+  pub size : length bytes ≤ most_bytes
+  pub fault : IsRequestsFault program bytes line what
+
+-- there are requests only where a file of them is named
+abbrev pub HoldsListed : (List ℕ → Option (List ℕ)) → Option (List ℕ) → Workload → List Request → Type 0
+HoldsListed content None program requests = requests ≡ []
+HoldsListed content (Some name) program requests = HoldsRequests content name program requests
+
+-- the shard that is to be served is one of the plan's
+abbrev pub HasShard : NodeFiles → Plan → Type 0
+HasShard files plan = IfSome files.shard (λ n. n < plan.program.shards)
+
+-- the files of a command with nodes hold a workload, of these bytes and with this plan, which has the shard that is to be served; this cluster;
+-- and these requests
+pub record HoldNodes (content : List ℕ → Option (List ℕ)) (files : NodeFiles) (bytes : List ℕ) (plan : Plan) (cluster : List Addr) (requests : List Request) : Type 0 where
+  pub of_workload : Holds content files.workload bytes
+  pub planned : IsPlanOfText bytes plan
+  pub has_shard : HasShard files plan
+  pub of_cluster : HoldsCluster content files.cluster plan.program.shards cluster
+  pub of_requests : HoldsListed content files.requests plan.program requests
+
+-- the shard that is to be served is not one of the workload
+pub record LacksShard (content : List ℕ → Option (List ℕ)) (files : NodeFiles) : Type 0 where
+  pub plan : Plan
+  pub of_workload : HoldsPlan content files.workload plan
+  pub number : ℕ
+  pub asked : files.shard ≡ Some number
+  pub past : plan.program.shards ≤ number

@@ -1,10 +1,12 @@
 pub mod Call
 pub mod Words
+pub mod Requests
 pub mod Held
 pub mod Says
 pub mod Done
 pub mod Refused
 pub mod Stopped
 pub mod Fit
+pub mod Nodes
 pub mod Status
 pub mod Inner

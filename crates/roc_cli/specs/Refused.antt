@@ -1,5 +1,5 @@
--- Which files are refused, and what is said of them: docs/FORMATS.md, "The program"
-use Rattle.std.specs.Prelude.{ℕ, List}
+-- Which words and files are refused, and what is said of them: docs/FORMATS.md, "The program"
+use Rattle.std.specs.Prelude.{◌≡◌, ℕ, List, Some, codes}
 use Rattle.roc_lang.specs.FaultText.{what_text}
 use Rattle.roc_lang.specs.Grammar.{text_limit}
 use Rattle.roc_lang.specs.Scope.{Fault}
@@ -7,16 +7,31 @@ use Rattle.roc_lang.specs.declared.fault.What.{What}
 use Rattle.roc_scope.specs.FaultText.{kind_text}
 use Rattle.roc_plan.specs.Groups.{Plan}
 use Rattle.roc_sched.specs.Schedule.{most_bytes}
+use Rattle.roc_io.specs.declared.link.Addr.{Addr}
+use Rattle.roc_cluster.specs.declared.fault.ClusterFault.{ClusterFault}
+use Rattle.roc_cluster.specs.FaultText.{fault_text as cluster_text}
 use Rattle.roc_sched.specs.declared.fault.What.{What as ScheduleWhat}
 use Rattle.roc_sched.specs.FaultText.{what_text as schedule_text}
 use Rattle.roc_replay.specs.Ended.{IsTextFault}
+use Rattle.roc_words.specs.declared.value.ValueName.{ValueName}
+use Rattle.roc_words.specs.FaultText.{value_text}
+use Rattle.roc_words.specs.Program.{IsTakenByClap}
+use Rattle.roc_words.specs.Answer.{HaveNoValue}
 use Rattle.roc_cli.specs.Call.{RunCall, TakesNothing}
-use Rattle.roc_cli.specs.Words.{IsReplay, NamesProgram, NamesWorkload}
-use Rattle.roc_cli.specs.Held.{HoldsMore, HoldsFault, HoldsMisuse, HoldsPlan}
+use Rattle.roc_cli.specs.Words.{IsReplay, NodeFiles, NamesProgram, NamesWorkload, NamesNodeFiles}
+use Rattle.roc_cli.specs.Held.{HoldsMore, HoldsFault, HoldsMisuse, HoldsPlan, HoldsCluster, HoldsNoCluster, HoldsNoRequests, HasShard, LacksShard}
 use Rattle.roc_cli.specs.Done.{IsReplayOf}
-use Rattle.roc_cli.specs.Says.{long_line, fault_line}
+use Rattle.roc_cli.specs.Says.{word_line, long_line, text_line, fault_line}
 
--- the first file that is too long, no text of its grammar or out of scope, or does not fit the plan or the run, with its line on standard error, and what standard output took before
+-- words that are refused, with what is said on standard error: the text of `clap`, which no clause tells, where it refuses them; or the name
+-- of the first value that is none; or `shard`, where the shard that is to be served is not one of the workload
+pub data AreRefusedWords (call : RunCall) : List ℕ → Type 0 where
+  by_clap : (text : List ℕ) → (IsTakenByClap call.words → ⊥) → AreRefusedWords call text
+  no_value : (name : ValueName) → HaveNoValue call.words name → AreRefusedWords call (word_line (value_text name))
+  no_shard : (files : NodeFiles) → NamesNodeFiles call.words files → LacksShard call.content files → AreRefusedWords call (word_line (codes "shard"))
+
+-- the first file that is too long, no text of its grammar or out of scope, or does not fit the plan or the run, with its line on standard
+-- error, and what standard output took before
 pub data IsRefused (call : RunCall) : List ℕ → Type 0 where
   long_workload : (workload : List ℕ) → NamesWorkload call.words workload → HoldsMore call.content workload text_limit → TakesNothing call
       → IsRefused call (long_line workload)
@@ -28,3 +43,13 @@ pub data IsRefused (call : RunCall) : List ℕ → Type 0 where
       → IsRefused call (long_line schedule)
   bad_schedule : (plan : Plan) (bytes : List ℕ) (asked : IsReplayOf call plan bytes) (number : ℕ) (what : ScheduleWhat) → IsTextFault plan bytes number what call.out_before call.out_after
       → IsRefused call (fault_line asked.schedule number (schedule_text what))
+  long_cluster : (files : NodeFiles) (plan : Plan) → NamesNodeFiles call.words files → HoldsPlan call.content files.workload plan → HasShard files plan
+      → HoldsMore call.content files.cluster text_limit → TakesNothing call → IsRefused call (long_line files.cluster)
+  bad_cluster : (files : NodeFiles) (plan : Plan) (fault : ClusterFault) → NamesNodeFiles call.words files → HoldsPlan call.content files.workload plan → HasShard files plan
+      → HoldsNoCluster call.content files.cluster plan.program.shards fault → TakesNothing call → IsRefused call (text_line files.cluster (cluster_text fault))
+  long_requests : (files : NodeFiles) (plan : Plan) (addrs : List Addr) (name : List ℕ) → NamesNodeFiles call.words files → HoldsPlan call.content files.workload plan → HasShard files plan
+      → HoldsCluster call.content files.cluster plan.program.shards addrs → files.requests ≡ Some name
+      → HoldsMore call.content name most_bytes → TakesNothing call → IsRefused call (long_line name)
+  bad_requests : (files : NodeFiles) (plan : Plan) (addrs : List Addr) (name : List ℕ) (number : ℕ) (what : ScheduleWhat) → NamesNodeFiles call.words files
+      → HoldsPlan call.content files.workload plan → HasShard files plan → HoldsCluster call.content files.cluster plan.program.shards addrs → files.requests ≡ Some name
+      → HoldsNoRequests call.content name plan.program number what → TakesNothing call → IsRefused call (fault_line name number (schedule_text what))

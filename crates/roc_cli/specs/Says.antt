@@ -1,12 +1,12 @@
 -- The one line on standard error: docs/FORMATS.md, "The program"
-use Rattle.std.specs.Prelude.{ℕ, List, [], ◌∷◌, ◌++◌, codes}
+use Rattle.std.specs.Prelude.{ℕ, List, [], ◌∷◌, ◌++◌, Option, Some, None, codes}
 use Rattle.std.specs.Fmt.{decimal}
 use Rattle.roc_io.specs.declared.sink.Written.{Written}
 use Rattle.roc_io.specs.Cause.{HasCause}
 use Rattle.roc_io.specs.Sink.{write_failed, Takes}
 use Rattle.roc_cli.specs.Call.{Errors}
 
--- `words`, `memory` or `sink`
+-- `words`, `memory`, `sink`, or the name of a value
 abbrev pub word_line : List ℕ → List ℕ
 word_line word = word ++ 10 ∷ []
 
@@ -18,9 +18,18 @@ file_line file = codes "file " ++ file ++ 10 ∷ []
 abbrev pub long_line : List ℕ → List ℕ
 long_line file = file ++ codes ": limit" ++ 10 ∷ []
 
+-- `FILE: TEXT`, of a cluster file
+abbrev pub text_line : (file text : List ℕ) → List ℕ
+text_line file text = file ++ codes ": " ++ text ++ 10 ∷ []
+
 -- `FILE:LINE: WHAT`
 abbrev pub fault_line : List ℕ → ℕ → List ℕ → List ℕ
 fault_line file number what = file ++ codes ":" ++ decimal number ++ codes ": " ++ what ++ 10 ∷ []
+
+-- `child N`, and `child N STATUS` where there is a status
+abbrev pub child_line : (shard : ℕ) → (status : Option ℕ) → List ℕ
+child_line shard None = codes "child " ++ decimal shard ++ 10 ∷ []
+child_line shard (Some status) = codes "child " ++ decimal shard ++ codes " " ++ decimal status ++ 10 ∷ []
 
 -- standard error takes this line, or a front of it at a fault of its own, which is counted
 pub record Says (err : Errors) (line : List ℕ) : Type 0 where

@@ -1,37 +1,65 @@
 -- What each status of `run` says: docs/FORMATS.md, "The program"
-use Rattle.std.specs.Prelude.{◌≡◌, ◌↔◌, ◌⊎◌, ℕ, List, codes}
-use Rattle.roc_cli.specs.Call.{RunCall, Errors, TakesNothing, ReadsAll}
-use Rattle.roc_cli.specs.Words.{AreReplayWords, ArePrintWords, AreCheckWords, AreCommandWords}
-use Rattle.roc_cli.specs.Says.{Says, word_line, file_line}
-use Rattle.roc_cli.specs.Done.{Replays, Explains, Prints, Checks, Rejects}
-use Rattle.roc_cli.specs.Fit.{IsFit}
-use Rattle.roc_cli.specs.Refused.{IsRefused}
+use Rattle.std.specs.Prelude.{◌≡◌, ◌≤◌, ◌⊎◌, ℕ, List, Option, codes}
+use Rattle.roc_node.specs.declared.ends.ServeEnd.TheVariants as serve_end
+use Rattle.roc_node.specs.declared.ends.SubmitEnd.TheVariants as submit_end
+use Rattle.roc_base.specs.declared.node.Shard.{Shard}
+use Rattle.roc_local.specs.declared.stops.StopEnd.TheVariants as stop_end
+use Rattle.roc_local.specs.declared.local.LocalEnd.TheVariants as local_end
+use Rattle.roc_cli.specs.Call.{WholeCall, Errors, TakesNothing, ReadsAll}
+use Rattle.roc_cli.specs.Words.{AreReplayWords, ArePrintWords, AreCheckWords, AreGenWords, AreServeWords, AreSubmitWords, AreStopWords, AreLocalWords, AreCommandWords, NamesNodes}
+use Rattle.roc_cli.specs.Says.{Says, word_line, file_line, child_line}
+use Rattle.roc_cli.specs.Done.{Replays, Explains, Prints, Checks, Generates, Rejects}
+use Rattle.roc_cli.specs.Nodes.{ServeEnded, SubmitEnded, StopEnded, LocalEnded, AreNodesEnded, IsChildBlamed, BlamesAnyChild}
+use Rattle.roc_cli.specs.Fit.{IsFit, NodesFit, MissesShard}
+use Rattle.roc_cli.specs.Refused.{AreRefusedWords, IsRefused}
 use Rattle.roc_cli.specs.Stopped.{IsUnread, RunsOut, CutsOutput}
 
 -- what the call did, by the status with which it answers
-pub record Answers (call : RunCall) (err : Errors) (status : ℕ) : Type 0 where
-  -- there are seven
-  pub statuses : (status ≡ 0) ⊎ ((status ≡ 1) ⊎ ((status ≡ 2) ⊎ ((status ≡ 3) ⊎ ((status ≡ 4) ⊎ ((status ≡ 6) ⊎ (status ≡ 7))))))
+pub record Answers (call : WholeCall) (err : Errors) (status : ℕ) : Type 0 where
+  pub statuses : status ≤ 9
   -- 0: the schedule was replayed, and its report was written
-  pub replayed : status ≡ 0 → AreReplayWords call.words → Replays call
+  pub replayed : status ≡ 0 → AreReplayWords call.run.words → Replays call.run
   -- ..and the report explains itself: every reply that it shows is the one that the serial order which it shows gives, in real-time order
-  pub explained : status ≡ 0 → AreReplayWords call.words → Explains call
+  pub explained : status ≡ 0 → AreReplayWords call.run.words → Explains call.run
   -- ..or the workload's canonical text was written, or the text of its check, which is acceptable
-  pub printed : status ≡ 0 → ArePrintWords call.words → Prints call
-  pub checked : status ≡ 0 → AreCheckWords call.words → Checks call
+  pub printed : status ≡ 0 → ArePrintWords call.run.words → Prints call.run
+  pub checked : status ≡ 0 → AreCheckWords call.run.words → Checks call.run
+  -- ..or what was to be generated was written
+  pub generated : status ≡ 0 → AreGenWords call.run.words → Generates call.run
+  -- ..or the shard was served to the end, or each request has its reply
+  pub served : status ≡ 0 → AreServeWords call.run.words → ServeEnded call.run call.link serve_end.Done
+  pub submitted : status ≡ 0 → AreSubmitWords call.run.words → SubmitEnded call.run call.link submit_end.Done
+  -- ..or the stops were sent
+  pub stopped : status ≡ 0 → AreStopWords call.run.words → StopEnded call.run call.link stop_end.Done
+  -- ..or servers were started, each request has its reply, and the servers ended well
+  pub ran : status ≡ 0 → AreLocalWords call.run.words → LocalEnded call.run call.link call.children local_end.Done
+  pub childless : status ≡ 0 → call.children.faults_after ≡ call.children.faults_before
   -- a command whose words and files fit is done, unless memory, a file or standard output failed it
-  pub complete : IsFit call → (status ≡ 0) ⊎ ((status ≡ 4) ⊎ ((status ≡ 6) ⊎ (status ≡ 7)))
+  pub complete : IsFit call.run → (status ≡ 0) ⊎ ((status ≡ 4) ⊎ ((status ≡ 6) ⊎ (status ≡ 7)))
+  -- ..and one with nodes is done, or as far as its turns led, unless the link failed it too
+  pub complete_nodes : NodesFit call.run → (status ≡ 0) ⊎ (4 ≤ status)
   -- 1: the workload is not acceptable, and the line that says why was written
-  pub rejected : status ≡ 1 → Rejects call
-  -- 2: exactly where the words are not those of a command
-  pub words : (status ≡ 2) ↔ (AreCommandWords call.words → ⊥)
-  pub no_words : status ≡ 2 → TakesNothing call × Says err (word_line (codes "words"))
+  pub rejected : status ≡ 1 → Rejects call.run
+  -- 2: exactly where the words are not those of a command, or ask for a shard that the workload lacks, unless memory or a file failed it before
+  pub no_words : status ≡ 2 → TakesNothing call.run × (line : List ℕ) × AreRefusedWords call.run line × Says err line
+  pub words : (AreCommandWords call.run.words → ⊥) → (status ≡ 2) ⊎ (status ≡ 4)
+  pub no_shard : MissesShard call.run → (status ≡ 2) ⊎ ((status ≡ 4) ⊎ (status ≡ 6))
   -- 3: a file is too long, no text of its grammar, out of scope, or does not fit the plan or the run
-  pub refused : status ≡ 3 → (line : List ℕ) × IsRefused call line × Says err line
-  -- 4: no memory
-  pub memory : status ≡ 4 → RunsOut call × Says err (word_line (codes "memory"))
+  pub refused : status ≡ 3 → (line : List ℕ) × IsRefused call.run line × Says err line
+  -- 4: no memory, if only for the line of status 3 or 9
+  pub memory : status ≡ 4 → (RunsOut call.run ⊎ (AreNodesEnded call submit_end.NoMemory ⊎ BlamesAnyChild call)) × Says err (word_line (codes "memory"))
+  -- 5: all turns were taken, and a request is unanswered or was not submitted
+  pub unanswered : status ≡ 5 → AreNodesEnded call submit_end.Unanswered
   -- 6: a file could not be read; at any other status no read failed
-  pub unread : status ≡ 6 → (name : List ℕ) × IsUnread call name × Says err (file_line name)
-  pub read : (status ≡ 6 → ⊥) → ReadsAll call
+  pub unread : status ≡ 6 → (name : List ℕ) × IsUnread call.run name × Says err (file_line name)
+  pub read : (status ≡ 6 → ⊥) → ReadsAll call.run
   -- 7: what was due could not be written
-  pub cut : status ≡ 7 → CutsOutput call × Says err (word_line (codes "sink"))
+  pub cut : status ≡ 7 → (CutsOutput call.run ⊎ AreNodesEnded call submit_end.SinkFault) × Says err (word_line (codes "sink"))
+  -- 8: the link could not be bound, or a receive failed
+  pub cut_off : status ≡ 8 → AreNodesEnded call submit_end.LinkFault × Says err (word_line (codes "link"))
+  -- 9: a server that was started as a child could not be started or awaited, or ended with another status than 0
+  pub child : status ≡ 9 → (shard : Shard) × (own : Option ℕ) × IsChildBlamed call shard own × Says err (child_line shard.0 own)
+
+-- the words are not those of a command with nodes, or it ended before any of these ran
+abbrev pub IsQuiet : List (List ℕ) → (status : ℕ) → Type 0
+IsQuiet words status = (NamesNodes words → ⊥) ⊎ ((status ≡ 1) ⊎ ((status ≡ 2) ⊎ ((status ≡ 3) ⊎ (status ≡ 6))))

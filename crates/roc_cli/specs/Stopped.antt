@@ -1,5 +1,6 @@
 -- What stopped a command on the way, and what standard output took before: docs/FORMATS.md, "The program"
-use Rattle.std.specs.Prelude.{ℕ, List, [], ◌∷◌}
+use Rattle.std.specs.Prelude.{◌≡◌, ℕ, List, [], ◌∷◌, Some}
+use Rattle.roc_io.specs.declared.link.Addr.{Addr}
 use Rattle.roc_io.specs.Told.{Adds, AddsFront}
 use Rattle.roc_lang.specs.Syntax.{Tree}
 use Rattle.roc_print.specs.Canonical.{canonical}
@@ -9,14 +10,19 @@ use Rattle.roc_report.specs.Line.{Line}
 use Rattle.roc_report.specs.Text.{line_text}
 use Rattle.roc_replay.specs.Ended.{IsCut, IsUnfinished}
 use Rattle.roc_cli.specs.Call.{RunCall, TakesNothing}
-use Rattle.roc_cli.specs.Words.{IsReplay, IsPrint, IsCheck, NamesProgram, NamesWorkload, AreCommandWords}
-use Rattle.roc_cli.specs.Held.{HoldsPlan, HoldsText, HoldsRejected}
-use Rattle.roc_cli.specs.Done.{IsReplayOf, check_text}
+use Rattle.roc_words.specs.declared.value.Part.{Part}
+use Rattle.roc_cli.specs.Words.{IsReplay, IsPrint, IsCheck, IsGen, NodeFiles, NamesProgram, NamesWorkload, NamesNodeFiles}
+use Rattle.roc_cli.specs.Held.{HoldsPlan, HoldsText, HoldsRejected, HoldsCluster, HasShard}
+use Rattle.roc_cli.specs.Done.{IsReplayOf, IsGenerated, check_text}
 
--- the name is that of a file that is to be read: the workload, or the schedule where the workload has a plan
+-- the name is that of a file that is to be read: the workload; the schedule or the cluster file where the workload has a plan; the requests where
+-- the cluster file is one of the workload
 pub data IsInput (call : RunCall) (name : List ℕ) : Type 0 where
   the_workload : NamesWorkload call.words name → IsInput call name
   the_schedule : (workload : List ℕ) (plan : Plan) → IsReplay call.words workload name → HoldsPlan call.content workload plan → IsInput call name
+  the_cluster : (files : NodeFiles) (plan : Plan) → NamesNodeFiles call.words files → HoldsPlan call.content files.workload plan → HasShard files plan → files.cluster ≡ name → IsInput call name
+  the_requests : (files : NodeFiles) (plan : Plan) (addrs : List Addr) → NamesNodeFiles call.words files → HoldsPlan call.content files.workload plan → HasShard files plan
+      → HoldsCluster call.content files.cluster plan.program.shards addrs → files.requests ≡ Some name → IsInput call name
 
 -- the file of this name could not be read, and no other read failed; standard output took nothing
 pub record IsUnread (call : RunCall) (name : List ℕ) : Type 0 where
@@ -26,13 +32,17 @@ pub record IsUnread (call : RunCall) (name : List ℕ) : Type 0 where
 
 -- memory ran out: standard output took nothing, or the whole text of some first lines of the named schedule
 pub data RunsOut (call : RunCall) : Type 0 where
-  with_nothing : AreCommandWords call.words → TakesNothing call → RunsOut call
+  with_nothing : TakesNothing call → RunsOut call
   with_lines : (plan : Plan) (bytes : List ℕ) → IsReplayOf call plan bytes → IsUnfinished plan bytes call.out_before call.out_after → RunsOut call
 
--- standard output failed at a text that was due, and took a front of it: of the named workload's canonical text, the text of its check or the line that says why it is not acceptable, or of a next line's or the closing lines' text in the report of the named schedule
+-- standard output failed at a text that was due, and took a front of it: of the named workload's canonical text, the text of its check or the
+-- line that says why it is not acceptable, of what was to be generated, or of a next line's or the closing lines' text in the report of the
+-- named schedule
 pub data CutsOutput (call : RunCall) : Type 0 where
   in_report : (plan : Plan) (bytes : List ℕ) → IsReplayOf call plan bytes → IsCut plan bytes call.out_before call.out_after → CutsOutput call
   in_text : (workload : List ℕ) (tree : Tree) → IsPrint call.words workload → HoldsText call.content workload tree → AddsFront call.out_before call.out_after (canonical tree) → CutsOutput call
   in_check : (workload : List ℕ) (plan : Plan) → IsCheck call.words workload → HoldsPlan call.content workload plan → AddsFront call.out_before call.out_after (check_text plan) → CutsOutput call
   in_rejection : (workload : List ℕ) (program : Workload) (said : Line) → NamesProgram call.words workload → HoldsRejected call.content workload program said
       → AddsFront call.out_before call.out_after (line_text program said) → CutsOutput call
+  in_generated : (seed shards txns : ℕ) (part : Part) (text : List ℕ) → IsGen call.words seed shards txns part → IsGenerated seed shards txns part text
+      → AddsFront call.out_before call.out_after text → CutsOutput call

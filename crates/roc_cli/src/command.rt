@@ -1,33 +1,31 @@
 //! What the program does for its words.
-ghost use Rattle.std.specs.Prelude.{◌≡◌, ℕ, ◌<◌, ◌==◌, List, map, string_bytes};
+ghost use Rattle.std.specs.Prelude.{◌≡◌, ℕ, ◌<◌, ◌==◌, IsTrue, List, map, string_bytes};
 ghost use Rattle.roc_io.specs.Cause.{HasCause};
-ghost use Rattle.roc_cli.specs.Words.{IsReplay, IsPrint, IsCheck};
+ghost use Rattle.roc_cli.specs.Words.{IsReplay, IsPrint, IsCheck, NamesNodes};
 ghost use Rattle.roc_cli.specs.Held.{HoldsPlan};
-ghost use Rattle.roc_cli.specs.Status.{Answers};
-ghost use Rattle.roc_cli.specs.Inner.Fault.{blames_file, blames_sink};
-ghost use Rattle.roc_cli.specs.Inner.Ends.{Ends, ReplayEnds, ReadsBut, fails_by};
+ghost use Rattle.roc_cli.specs.Status.{Answers, IsQuiet};
+ghost use Rattle.roc_cli.specs.Inner.Fault.{blames_file, blames_sink, blames_link, precedes_loop};
+ghost use Rattle.roc_cli.specs.Inner.Ends.{Ends, WholeEnds, ReplayEnds, ReadsBut, CountsChildren, fails_by};
 
 use crate::check::write_check;
 use crate::fault::Fault;
 use crate::fit::fitting_calls_are_faultless;
+use crate::generated::write_generated;
 use crate::input::{bytes_of, plan_of};
+use crate::listed::MOST_LISTED_BYTES;
+use crate::running::{local_files, serve_files, stop_files, submit_files};
 use crate::text::print_text;
-use crate::words::{check_name, print_name, replay_names};
 use roc_io::{Files, Link, Sink, Spawner};
 use roc_lang::limits::TEXT_BYTES;
 use roc_plan::Plan;
 use roc_replay::{Ended, replay};
+use roc_words::{Ask, ValueName, WordsFault, ask};
 use std::alloc::Global;
 
-/// How many bytes a schedule may have.
-const MOST_SCHEDULE_BYTES: usize = 8_388_608;
-
-/// Does what the words behind the program's name ask for, and answers the status with which the program is to end. The commands
-/// are `replay WORKLOAD SCHEDULE`, which reads both files, in this order, and writes the report of the schedule's run to `out`;
-/// `print WORKLOAD`, which writes the workload's canonical text; and `check WORKLOAD`, which writes which of its pieces are
-/// immediate, how they are grouped and which conflict. Of a workload that is not acceptable, `replay` and `check` write the one line
-/// that says why to `out`. Nothing but `err` is told of all else that went wrong, in one line; whether `err` takes it changes no
-/// status. The link and the children are for commands to come.
+/// Does what the words behind the program's name ask for, and answers the status with which the program is to end. The commands are those
+/// of `docs/FORMATS.md`, "The program". Files are read in the order of the words, each judged before the next is read; then nodes run over the
+/// link. Of a workload that is not acceptable, every command but `print` writes the one line that says why to `out`. Nothing but `err` is told of
+/// all else that went wrong, in one line; whether `err` takes it changes no status.
 ///
 /// The status is 4 where memory runs out, which no clause gives a cause.
 pub fn run<F: Files, S: Sink, E: Sink, L: Link, P: Spawner>(
@@ -39,57 +37,131 @@ pub fn run<F: Files, S: Sink, E: Sink, L: Link, P: Spawner>(
     link: &mut L,
     children: &mut P,
 ) -> u8
-    // What each status says of the words, of what the named files hold, and of what standard output and standard error took.
+    // What each status says of the words, of what the named files hold, of what standard output and standard error took, and of the link.
     ensures answers { Answers
         (record {
-          words = map string_bytes words.now;
-          content = F.content files.old;
-          failed_before = F.failed_names files.old;
-          failed_after = F.failed_names files.new;
-          out_before = S.taken out.old;
-          out_after = S.taken out.new;
+          run = record {
+            words = map string_bytes words.now;
+            content = F.content files.old;
+            failed_before = F.failed_names files.old;
+            failed_after = F.failed_names files.new;
+            out_before = S.taken out.old;
+            out_after = S.taken out.new;
+          };
+          link = record {
+            bound_before = L.bound link.old;
+            bound_after = L.bound link.new;
+            before = record { arrivals = L.arrivals link.old; sent = L.sent link.old; lost = L.lost link.old };
+            after = record { arrivals = L.arrivals link.new; sent = L.sent link.new; lost = L.lost link.new };
+          };
+          children = record {
+            started_before = P.started children.old;
+            started_after = P.started children.new;
+            awaited_before = P.awaited children.old;
+            awaited_after = P.awaited children.new;
+            faults_before = P.faults children.old;
+            faults_after = P.faults children.new;
+          };
         })
         (record { before = E.taken err.old; after = E.taken err.new; faults_before = E.faults err.old; faults_after = E.faults err.new })
         result }
     ensures silent { result < 2 → err.new ≡ err.old }
+    ensures unsaid { result ≡ 5 → err.new ≡ err.old }
 
     // A count of faults rises exactly at the status that blames it.
     ensures file_faults { HasCause (result == 6) (F.faults files.old) (F.faults files.new) }
     ensures sink_faults { HasCause (result == 7) (S.faults out.old) (S.faults out.new) }
+    ensures link_faults { HasCause (result == 8) (L.faults link.old) (L.faults link.new) }
 
     ensures content { (name : List ℕ) → F.content files.new name ≡ F.content files.old name }
-    ensures others { (link.new ≡ link.old) × (children.new ≡ children.old) }
+    // The link and the children are used by commands with nodes alone, once their files were read.
+    ensures quiet { IsQuiet (map string_bytes words.now) result → (link.new ≡ link.old) × (children.new ≡ children.old) }
 {
     fitting_calls_are_faultless();
-    match perform(alloc, words, files, out) {
+    match perform(alloc, words, files, out, link, children) {
         Ok(()) => 0,
         Err(fault) => fault.tell(alloc, err),
     }
 }
 
 // Does what the words ask for.
-fn perform<'a, F: Files, S: Sink>(
+fn perform<'a, F: Files, S: Sink, L: Link, P: Spawner>(
     alloc: Global,
     words: &'a [String],
     files: &mut F,
     out: &mut S,
+    link: &mut L,
+    children: &mut P,
 ) -> Result<(), Fault<'a>>
-    ensures ends { Ends (record { words = map string_bytes words.entry.now; content = F.content files.old; failed_before = F.failed_names files.old; failed_after = F.failed_names files.new; out_before = S.taken out.old; out_after = S.taken out.new }) result }
+    ensures ends { WholeEnds (record { run = (record { words = map string_bytes words.entry.now; content = F.content files.old; failed_before = F.failed_names files.old; failed_after = F.failed_names files.new; out_before = S.taken out.old; out_after = S.taken out.new }); link = (record { bound_before = L.bound link.old; bound_after = L.bound link.new; before = record { arrivals = L.arrivals link.old; sent = L.sent link.old; lost = L.lost link.old }; after = record { arrivals = L.arrivals link.new; sent = L.sent link.new; lost = L.lost link.new } }); children = record { started_before = P.started children.old; started_after = P.started children.new; awaited_before = P.awaited children.old; awaited_after = P.awaited children.new; faults_before = P.faults children.old; faults_after = P.faults children.new } }) result }
+    ensures untouched { IsTrue (fails_by precedes_loop result) → (link.new ≡ link.old) × (children.new ≡ children.old) }
+    ensures quiet { (NamesNodes (map string_bytes words.entry.now) → ⊥) → (link.new ≡ link.old) × (children.new ≡ children.old) }
+    ensures childless { CountsChildren result (P.faults children.old) (P.faults children.new) }
     ensures failed { ReadsBut (F.failed_names files.old) (F.failed_names files.new) result }
     ensures file_faults { HasCause (fails_by blames_file result) (F.faults files.old) (F.faults files.new) }
     ensures sink_faults { HasCause (fails_by blames_sink result) (S.faults out.old) (S.faults out.new) }
+    ensures link_faults { HasCause (fails_by blames_link result) (L.faults link.old) (L.faults link.new) }
     ensures content { (name : List ℕ) → F.content files.new name ≡ F.content files.old name }
 {
-    match replay_names(words) {
-        Some((workload, schedule)) => replay_files(alloc, workload, schedule, files, out),
-        None => match print_name(words) {
-            Some(workload) => print_file(alloc, workload, files, out),
-            None => match check_name(words) {
-                Some(workload) => check_file(alloc, workload, files, out),
-                None => Err(Fault::Words),
+    match ask(alloc, words) {
+        Ok(Ask::Replay { workload, schedule }) => {
+            replay_files(alloc, workload, schedule, files, out)
+        }
+        Ok(Ask::Print { workload }) => print_file(alloc, workload, files, out),
+        Ok(Ask::Check { workload }) => check_file(alloc, workload, files, out),
+        Ok(
+            Ask::Gen {
+                seed,
+                shards,
+                txns,
+                part,
             },
-        },
+        ) => write_generated(alloc, seed, shards, txns, part, out),
+        Ok(
+            Ask::Serve {
+                workload,
+                cluster,
+                shard,
+                turns,
+                counts,
+            },
+        ) => serve_files(
+            alloc, workload, cluster, shard, turns, counts, files, out, link,
+        ),
+        Ok(
+            Ask::Submit {
+                workload,
+                cluster,
+                requests,
+                coord,
+                turns,
+            },
+        ) => submit_files(
+            alloc, workload, cluster, requests, coord, turns, files, out, link,
+        ),
+        Ok(Ask::Stop { workload, cluster }) => {
+            stop_files(alloc, workload, cluster, files, out, link)
+        }
+        Ok(
+            Ask::Local {
+                workload,
+                cluster,
+                requests,
+                turns,
+            },
+        ) => local_files(
+            alloc, workload, cluster, requests, turns, files, out, link, children,
+        ),
+        Err(WordsFault::Refused(text)) => Err(Fault::Refused(text)),
+        Err(WordsFault::Value(name)) => Err(no_value(name)),
+        Err(WordsFault::NoMemory) => Err(Fault::Memory),
     }
+}
+
+fn no_value<'a>(name: ValueName) -> Fault<'a>
+    ensures { result ≡ Fault.Value name }
+{
+    Fault::Value(name)
 }
 
 // Replays a schedule under the plan of a workload.
@@ -126,7 +198,7 @@ fn replay_schedule<'a, F: Files, S: Sink>(
     ensures sink_faults { HasCause (fails_by blames_sink result) (S.faults out.old) (S.faults out.new) }
     ensures content { (name : List ℕ) → F.content files.new name ≡ F.content files.old name }
 {
-    match bytes_of(alloc, files, schedule, MOST_SCHEDULE_BYTES) {
+    match bytes_of(alloc, files, schedule, MOST_LISTED_BYTES) {
         Ok(bytes) => replay_file(alloc, plan, schedule, &bytes, out),
         Err(fault) => Err(fault),
     }

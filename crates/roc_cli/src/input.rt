@@ -1,10 +1,10 @@
 //! The files that the words name.
-ghost use Rattle.std.specs.Prelude.{◌≡◌, ℕ, List, IfOk, IfErr};
+ghost use Rattle.std.specs.Prelude.{◌≡◌, ℕ, List, false, IfOk, IfErr};
 ghost use Rattle.roc_io.specs.Cause.{HasCause};
 ghost use Rattle.roc_report.specs.Shown.{shown_check};
 ghost use Rattle.roc_check.specs.Checked.{IsCheckFault};
 ghost use Rattle.roc_cli.specs.Inner.Input.{HoldsWithin, IsReadFault, PlanEnds, TextEnds, TextFails, RejectionEnds, TellsError, TellsMisuse};
-ghost use Rattle.roc_cli.specs.Inner.Fault.{blames_file, blames_sink};
+ghost use Rattle.roc_cli.specs.Inner.Fault.{blames_file, blames_sink, blames_link};
 ghost use Rattle.roc_cli.specs.Inner.Ends.{fails_by, ReadsBut};
 
 use crate::fault::Fault;
@@ -30,6 +30,7 @@ pub(crate) fn bytes_of<'a, F: Files>(
     ensures cause { HasCause (fails_by blames_file result) (F.faults files.old) (F.faults files.new) }
     ensures failed { ReadsBut (F.failed_names files.old) (F.failed_names files.new) result }
     ensures unchanged { (other : List ℕ) → F.content files.new other ≡ F.content files.old other }
+    ensures no_link { fails_by blames_link result ≡ false }
 {
     let mut bytes = Vec::new(alloc);
     match files.read(name, &mut bytes, most) {
@@ -59,8 +60,8 @@ pub(crate) fn plan_of<'a, F: Files, S: Sink>(
     }
 }
 
-// The plan of the workload of these bytes, of the file of this name.
-fn checked<'a, S: Sink>(
+/// The plan of the workload of these bytes, of the file of this name.
+pub(crate) fn checked<'a, S: Sink>(
     alloc: Global,
     name: &'a str,
     bytes: &[u8],
@@ -68,6 +69,7 @@ fn checked<'a, S: Sink>(
 ) -> Result<Plan, Fault<'a>>
     ensures ends { TextEnds bytes.now name.entry.now (S.taken out.old) (S.taken out.new) result }
     ensures faults { HasCause (fails_by blames_sink result) (S.faults out.old) (S.faults out.new) }
+    ensures no_link { fails_by blames_link result ≡ false }
 {
     match check(alloc, bytes) {
         Ok(plan) => Ok(plan),
@@ -84,6 +86,7 @@ fn fault_of_check<'a, S: Sink>(
 ) -> Fault<'a>
     ensures ends { (bytes : List ℕ) → IsCheckFault bytes fault → TextFails bytes name.entry.now (S.taken out.old) (S.taken out.new) result }
     ensures faults { HasCause (blames_sink result) (S.faults out.old) (S.faults out.new) }
+    ensures no_link { blames_link result ≡ false }
 {
     match fault {
         CheckFault::Lang(error) => fault_of(name, error),
@@ -125,6 +128,7 @@ fn reject<'a, S: Sink>(
 ) -> Fault<'a>
     ensures ends { RejectionEnds workload.now (shown_check line.now) (S.taken out.old) (S.taken out.new) result }
     ensures faults { HasCause (blames_sink result) (S.faults out.old) (S.faults out.new) }
+    ensures no_link { blames_link result ≡ false }
 {
     let mut text = Vec::new(alloc);
     let Ok(()) = append_check(alloc, &mut text, workload, line) else {
@@ -138,7 +142,8 @@ fn reject<'a, S: Sink>(
 
 /// A fault of a workload's text, with the file's name.
 pub(crate) fn fault_of(name: &str, error: LangError) -> Fault<'_>
-    ensures { TellsError name.entry.now error result }
+    ensures told { TellsError name.entry.now error result }
+    ensures no_link { blames_link result ≡ false }
 {
     match error {
         LangError::At { line, what } => Fault::At {
@@ -152,7 +157,8 @@ pub(crate) fn fault_of(name: &str, error: LangError) -> Fault<'_>
 
 /// A fault of a workload's scope, with the file's name.
 pub(crate) fn misuse_of(name: &str, fault: ScopeFault) -> Fault<'_>
-    ensures { TellsMisuse name.entry.now fault result }
+    ensures told { TellsMisuse name.entry.now fault result }
+    ensures no_link { blames_link result ≡ false }
 {
     match fault {
         ScopeFault::At { line, what } => Fault::Scope {

@@ -12,8 +12,13 @@ mod check;
 mod command;
 mod fault;
 mod fit;
+mod generated;
 mod input;
+mod listed;
+mod nodes;
+mod requests;
+mod running;
 mod text;
-mod words;
+mod unseen;
 
 pub use command::run;

@@ -29,7 +29,7 @@ use Rattle.roc_replay.specs.Inner.Reading.{GivesAtLine, DoFit, IsUnfitBy}
 -- ---- what each line asks for
 
 -- what follows for each member from what it was made of
-each_made : {A B : Type 0} (f : A → Option B) (P : A → Type 0) (Q : B → Type 0) → ((x : A) (y : B) → P x → f x ≡ Some y → Q y)
+pub each_made : {A B : Type 0} (f : A → Option B) (P : A → Type 0) (Q : B → Type 0) → ((x : A) (y : B) → P x → f x ≡ Some y → Q y)
     → (xs : List A) (ys : List B) → AllByRecursion P xs → each f xs ≡ Some ys → AllByRecursion Q ys
 each_made f P Q keeps [] ys all e = subst (AllByRecursion Q) (same_Some [] ys e) tt
 each_made f P Q keeps (x ∷ xs) ys all e =

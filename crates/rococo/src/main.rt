@@ -1,5 +1,6 @@
 //! The program. Its words are those of `docs/FORMATS.md`, "The program"; what they do stands in `roc_cli`. Here are the
-//! machine's own files and streams, each of which counts its faults and tells nothing of what it holds or takes.
+//! machine's own files and streams, each of which counts its faults and tells nothing of what it holds or takes; its network and processes stand
+//! in `roc_real`.
 #![tactic(auto)]
 
 mod files;
@@ -7,7 +8,8 @@ mod streams;
 
 use files::RealFiles;
 use roc_cli::run;
-use roc_io::{CalmLink, CalmSpawner, Sink};
+use roc_io::Sink;
+use roc_real::{RealLink, RealSpawner};
 use std::io::ErrorKind;
 use std::process::ExitCode;
 use std::{env, io};
@@ -27,8 +29,8 @@ fn main(rt: HostRuntime) -> ExitCode {
     };
     let mut files = RealFiles::new(&rt);
     let mut out = Stream::new(rt.stdout());
-    let mut link = CalmLink::new(alloc, Vec::new(alloc));
-    let mut children = CalmSpawner::new(alloc, Vec::new(alloc));
+    let mut link = RealLink::new(&rt);
+    let mut children = RealSpawner::new(alloc, &rt);
     let status = run(
         alloc,
         words.as_slice(),

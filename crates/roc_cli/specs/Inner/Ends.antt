@@ -1,5 +1,6 @@
 -- How the work for some words ends, before it is told
 use Rattle.std.specs.Prelude.{◌≡◌, ◌⊎◌, ℕ, Bool, false, List, [], ◌∷◌, Option, Result, Ok, Err}
+use Rattle.roc_base.specs.declared.node.Shard.{Shard}
 use Rattle.roc_io.specs.Told.{Adds, AddsFront}
 use Rattle.roc_lang.specs.Syntax.{Tree}
 use Rattle.roc_lang.specs.FaultText.{what_text}
@@ -12,11 +13,14 @@ use Rattle.roc_sched.specs.FaultText.{what_text as schedule_text}
 use Rattle.roc_replay.specs.declared.ended.Summary.{Summary}
 use Rattle.roc_replay.specs.Ended.{IsReplayed, IsTextFault, IsCut, IsUnfinished}
 use Rattle.roc_cli.specs.declared.fault.Fault.{Fault}
-use Rattle.roc_cli.specs.declared.fault.Fault.TheVariants.{Words, At, Rejected, Memory, File, Sink}
-use Rattle.roc_cli.specs.Call.{RunCall, TakesNothing}
-use Rattle.roc_cli.specs.Words.{AreCommandWords}
-use Rattle.roc_cli.specs.Done.{Replays, Prints, Checks, Rejects, check_text}
-use Rattle.roc_cli.specs.Refused.{IsRefused}
+use Rattle.roc_cli.specs.declared.fault.Fault.TheVariants.{Refused, Value, NoShard, At, Rejected, Memory, Unanswered, File, Sink, Link, Child}
+use Rattle.roc_words.specs.declared.value.Part.{Part}
+use Rattle.roc_node.specs.declared.ends.SubmitEnd.{SubmitEnd}
+use Rattle.roc_node.specs.declared.ends.SubmitEnd.TheVariants as submit_end
+use Rattle.roc_cli.specs.Call.{RunCall, WholeCall, TakesNothing}
+use Rattle.roc_cli.specs.Nodes.{AreNodesEnded, IsChildBlamed}
+use Rattle.roc_cli.specs.Done.{Replays, Prints, Checks, Generates, IsGenerated, Rejects, check_text}
+use Rattle.roc_cli.specs.Refused.{AreRefusedWords, IsRefused}
 use Rattle.roc_cli.specs.Stopped.{IsUnread, RunsOut, CutsOutput}
 use Rattle.roc_cli.specs.Inner.Fault.{line_of}
 
@@ -46,20 +50,71 @@ CheckEnds plan old new (Err Memory) = new ≡ old
 CheckEnds plan old new (Err Sink) = AddsFront old new (check_text plan)
 CheckEnds plan old new _ = ⊥
 
+-- how generated load ends
+abbrev pub GenEnds : (seed shards txns : ℕ) → Part → (old new : Option (List ℕ)) → Result Unit Fault → Type 0
+GenEnds seed shards txns part old new (Ok done) = (text : List ℕ) × IsGenerated seed shards txns part text × Adds old new text
+GenEnds seed shards txns part old new (Err Memory) = new ≡ old
+GenEnds seed shards txns part old new (Err Sink) = (text : List ℕ) × IsGenerated seed shards txns part text × AddsFront old new text
+GenEnds seed shards txns part old new _ = ⊥
+
 -- ---- any command
 
--- what each fault means
+-- the words are refused, before anything is written
+abbrev pub RefusesWords : RunCall → (line : List ℕ) → Type 0
+RefusesWords call line = TakesNothing call × AreRefusedWords call line
+
+-- what each fault means that does not come of running nodes
 abbrev pub Fails : RunCall → Fault → Type 0
 Fails call Rejected = Rejects call
-Fails call Words = (AreCommandWords call.words → ⊥) × TakesNothing call
+Fails call (Refused text) = RefusesWords call (line_of (Refused text))
+Fails call (Value name) = RefusesWords call (line_of (Value name))
+Fails call NoShard = RefusesWords call (line_of NoShard)
 Fails call Memory = RunsOut call
+Fails call Unanswered = ⊥
 Fails call (File file) = IsUnread call file.now
 Fails call Sink = CutsOutput call
+Fails call Link = ⊥
+Fails call (Child shard status) = ⊥
 Fails call fault = IsRefused call (line_of fault)
 
 abbrev pub Ends : RunCall → Result Unit Fault → Type 0
-Ends call (Ok done) = Replays call ⊎ (Prints call ⊎ Checks call)
+Ends call (Ok done) = Replays call ⊎ (Prints call ⊎ (Checks call ⊎ Generates call))
 Ends call (Err fault) = Fails call fault
+
+-- ---- nodes
+
+-- how a loop ends, once the files were read, or why they were not: P is what is told of each end, and C of a child that is to blame
+abbrev pub LoopEnds : RunCall → (P : SubmitEnd → Type 0) → (C : Shard → Option ℕ → Type 0) → Result Unit Fault → Type 0
+LoopEnds call P C (Ok done) = P submit_end.Done
+LoopEnds call P C (Err Memory) = RunsOut call ⊎ P submit_end.NoMemory
+LoopEnds call P C (Err Unanswered) = P submit_end.Unanswered
+LoopEnds call P C (Err Sink) = CutsOutput call ⊎ P submit_end.SinkFault
+LoopEnds call P C (Err Link) = P submit_end.LinkFault
+LoopEnds call P C (Err (Child shard status)) = C shard status
+LoopEnds call P C (Err fault) = Fails call fault
+
+-- the same of the loop alone
+abbrev pub LoopEnded : (P : SubmitEnd → Type 0) → (C : Shard → Option ℕ → Type 0) → Result Unit Fault → Type 0
+LoopEnded P C (Ok done) = P submit_end.Done
+LoopEnded P C (Err Memory) = P submit_end.NoMemory
+LoopEnded P C (Err Unanswered) = P submit_end.Unanswered
+LoopEnded P C (Err Sink) = P submit_end.SinkFault
+LoopEnded P C (Err Link) = P submit_end.LinkFault
+LoopEnded P C (Err (Child shard status)) = C shard status
+LoopEnded P C (Err _) = ⊥
+
+-- no child is to blame
+abbrev pub no_child : Shard → Option ℕ → Type 0
+no_child shard status = ⊥
+
+-- how any command ends: without nodes, or with them
+abbrev pub WholeEnds : WholeCall → Result Unit Fault → Type 0
+WholeEnds call result = Ends call.run result ⊎ LoopEnds call.run (AreNodesEnded call) (IsChildBlamed call) result
+
+-- where all is done, no start or wait failed
+abbrev pub CountsChildren : Result Unit Fault → (old new : ℕ) → Type 0
+CountsChildren (Ok done) old new = new ≡ old
+CountsChildren (Err fault) old new = Unit {0}
 
 -- ---- causes
 

@@ -1,12 +1,32 @@
--- Calls that nothing is wrong with
-use Rattle.std.specs.Prelude.{ℕ, List}
-use Rattle.roc_cli.specs.Call.{RunCall}
+-- Calls that nothing is wrong with, and calls for a shard that the workload lacks
+use Rattle.std.specs.Prelude.{ℕ, List, Option, Ok}
+use Rattle.roc_base.specs.declared.node.Shard.{Shard}
+use Rattle.roc_node.specs.declared.ends.SubmitEnd.{SubmitEnd}
+use Rattle.roc_cli.specs.Call.{RunCall, WholeCall}
 use Rattle.roc_cli.specs.Done.{Rejects}
-use Rattle.roc_cli.specs.Refused.{IsRefused}
-use Rattle.roc_cli.specs.Words.{AreCommandWords}
+use Rattle.roc_cli.specs.Nodes.{AreNodesEnded, IsChildBlamed}
+use Rattle.roc_cli.specs.Refused.{AreRefusedWords, IsRefused}
+use Rattle.roc_cli.specs.Stopped.{CutsOutput}
+use Rattle.roc_cli.specs.Fit.{IsFit, NodesFit, MissesShard}
+use Rattle.roc_cli.specs.Inner.Ends.{Ends}
 
--- the words are a command's, and no file is to blame
+-- the words are taken, and no file is to blame
 pub record IsFaultless (call : RunCall) : Type 0 where
-  pub command : AreCommandWords call.words
+  pub taken : (line : List ℕ) → AreRefusedWords call line → ⊥
   pub acceptable : Rejects call → ⊥
   pub right : (line : List ℕ) → IsRefused call line → ⊥
+
+-- no file is to blame, nothing was due to be written, and nothing was done
+pub record IsShardless (call : WholeCall) : Type 0 where
+  pub acceptable : Rejects call.run → ⊥
+  pub right : (line : List ℕ) → IsRefused call.run line → ⊥
+  pub uncut : CutsOutput call.run → ⊥
+  pub unrun : (end : SubmitEnd) → AreNodesEnded call end → ⊥
+  pub no_child : (shard : Shard) (status : Option ℕ) → IsChildBlamed call shard status → ⊥
+  pub undone : Ends call.run (Ok tt) → ⊥
+
+-- what is known of calls that fit, and of those for a shard that is missing
+pub record AreFitting (call : WholeCall) : Type 0 where
+  pub files : IsFit call.run → IsFaultless call.run
+  pub nodes : NodesFit call.run → IsFaultless call.run
+  pub shardless : MissesShard call.run → IsShardless call

@@ -1,4 +1,5 @@
-use Rattle.std.proofs.Common.{inr}
+use Rattle.std.proofs.Common.{refl}
+use Rattle.roc_words.specs.Commands.{check}
 use Rattle.roc_cli.proofs.Faults.{plan_fails, check_ends}
 use Rattle.roc_cli.proofs.command.check_file.Goals as goal
 
@@ -8,4 +9,4 @@ returns-in-Ok-clause-ends g c words given = check_ends _ _ _ _ _ given c.in-Ok.e
 
 -- the workload
 pub returns-in-Err-clause-ends : goal.returns-in-Err-clause-ends
-returns-in-Err-clause-ends g c words given = plan_fails _ _ c.in-Err.fault (inr given) c.in-Err.ensures.failed c.in-Err.ensures.ends
+returns-in-Err-clause-ends g c words given = plan_fails _ _ c.in-Err.fault (check _, given, refl) c.in-Err.ensures.failed c.in-Err.ensures.ends

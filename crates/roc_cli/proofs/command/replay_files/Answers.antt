@@ -1,4 +1,5 @@
-use Rattle.std.proofs.Common.{inl}
+use Rattle.std.proofs.Common.{refl}
+use Rattle.roc_words.specs.Commands.{replay}
 use Rattle.roc_cli.proofs.Faults.{plan_fails, behind}
 use Rattle.roc_cli.proofs.Reading.{held_later}
 use Rattle.roc_cli.proofs.command.replay_files.Goals as goal
@@ -11,4 +12,4 @@ returns-in-Ok-clause-ends g c words given =
 
 -- the workload
 pub returns-in-Err-clause-ends : goal.returns-in-Err-clause-ends
-returns-in-Err-clause-ends g c words given = plan_fails _ _ c.in-Err.fault (inl (_, given)) c.in-Err.ensures.failed c.in-Err.ensures.ends
+returns-in-Err-clause-ends g c words given = plan_fails _ _ c.in-Err.fault (replay _ _, given, refl) c.in-Err.ensures.failed c.in-Err.ensures.ends

@@ -1,0 +1,86 @@
+-- A count rises exactly where the status is its own
+use Rattle.std.proofs.Common.{◌≡◌, ◌⊎◌, inl, inr, ℕ, ◌≤◌, ◌==◌, Bool, IsTrue, true, false, List, refl, sym, ap, subst, ◌∙◌, arith}
+use Rattle.roc_io.specs.Cause.{HasCause}
+use Rattle.roc_cli.specs.declared.fault.Fault.{Fault}
+use Rattle.roc_cli.specs.declared.fault.Fault.TheVariants.{Rejected, Refused, Value, NoShard, Memory, Unanswered, File, Sink, Link, Child}
+use Rattle.roc_cli.specs.Call.{Errors}
+use Rattle.roc_cli.specs.Words.{NamesNodes}
+use Rattle.roc_cli.specs.Status.{IsQuiet}
+use Rattle.roc_cli.specs.Inner.Fault.{IsTold, EndsWith, line_of, blames_file, blames_sink, blames_link, precedes_loop}
+
+counted_at : (status n wanted : ℕ) (test : Bool) (old new : ℕ) → status ≡ n → (n == wanted) ≡ test → HasCause test old new → HasCause (status == wanted) old new
+counted_at status n wanted test old new e f h = subst (λ b. HasCause b old new) (sym (ap (λ m. m == wanted) e ∙ f)) h
+
+-- where a child was told, none
+child_counted : (line : List ℕ) (status wanted : ℕ) (err : Errors) (old new : ℕ) → (9 == wanted) ≡ false → (4 == wanted) ≡ false
+    → EndsWith 9 line status err ⊎ EndsWith 4 (line_of Memory) status err → HasCause false old new → HasCause (status == wanted) old new
+child_counted line status wanted err old new f g (inl (e, says)) h = counted_at status 9 wanted false old new e f h
+child_counted line status wanted err old new f g (inr (e, says)) h = counted_at status 4 wanted false old new e g h
+
+-- where a refused file was told, neither
+refusal_counted : (line : List ℕ) (status wanted : ℕ) (err : Errors) (old new : ℕ) → (3 == wanted) ≡ false → (4 == wanted) ≡ false
+    → EndsWith 3 line status err ⊎ EndsWith 4 (line_of Memory) status err → HasCause false old new → HasCause (status == wanted) old new
+refusal_counted line status wanted err old new f g (inl (e, says)) h = counted_at status 3 wanted false old new e f h
+refusal_counted line status wanted err old new f g (inr (e, says)) h = counted_at status 4 wanted false old new e g h
+
+pub file_counted : (fault : Fault) (status : ℕ) (err : Errors) (old new : ℕ) → IsTold fault status err → HasCause (blames_file fault) old new → HasCause (status == 6) old new
+file_counted Rejected status err old new e h = counted_at status 1 6 false old new e refl h
+file_counted Unanswered status err old new e h = counted_at status 5 6 false old new e refl h
+file_counted (Refused text) status err old new (e, says) h = counted_at status 2 6 false old new e refl h
+file_counted (Value name) status err old new (e, says) h = counted_at status 2 6 false old new e refl h
+file_counted NoShard status err old new (e, says) h = counted_at status 2 6 false old new e refl h
+file_counted Memory status err old new (e, says) h = counted_at status 4 6 false old new e refl h
+file_counted (File file) status err old new (e, says) h = counted_at status 6 6 true old new e refl h
+file_counted Sink status err old new (e, says) h = counted_at status 7 6 false old new e refl h
+file_counted Link status err old new (e, says) h = counted_at status 8 6 false old new e refl h
+file_counted (Child shard own) status err old new told h = child_counted (line_of (Child shard own)) status 6 err old new refl refl told h
+file_counted fault status err old new told h = refusal_counted (line_of fault) status 6 err old new refl refl told h
+
+pub sink_counted : (fault : Fault) (status : ℕ) (err : Errors) (old new : ℕ) → IsTold fault status err → HasCause (blames_sink fault) old new → HasCause (status == 7) old new
+sink_counted Rejected status err old new e h = counted_at status 1 7 false old new e refl h
+sink_counted Unanswered status err old new e h = counted_at status 5 7 false old new e refl h
+sink_counted (Refused text) status err old new (e, says) h = counted_at status 2 7 false old new e refl h
+sink_counted (Value name) status err old new (e, says) h = counted_at status 2 7 false old new e refl h
+sink_counted NoShard status err old new (e, says) h = counted_at status 2 7 false old new e refl h
+sink_counted Memory status err old new (e, says) h = counted_at status 4 7 false old new e refl h
+sink_counted (File file) status err old new (e, says) h = counted_at status 6 7 false old new e refl h
+sink_counted Sink status err old new (e, says) h = counted_at status 7 7 true old new e refl h
+sink_counted Link status err old new (e, says) h = counted_at status 8 7 false old new e refl h
+sink_counted (Child shard own) status err old new told h = child_counted (line_of (Child shard own)) status 7 err old new refl refl told h
+sink_counted fault status err old new told h = refusal_counted (line_of fault) status 7 err old new refl refl told h
+
+pub link_counted : (fault : Fault) (status : ℕ) (err : Errors) (old new : ℕ) → IsTold fault status err → HasCause (blames_link fault) old new → HasCause (status == 8) old new
+link_counted Rejected status err old new e h = counted_at status 1 8 false old new e refl h
+link_counted Unanswered status err old new e h = counted_at status 5 8 false old new e refl h
+link_counted (Refused text) status err old new (e, says) h = counted_at status 2 8 false old new e refl h
+link_counted (Value name) status err old new (e, says) h = counted_at status 2 8 false old new e refl h
+link_counted NoShard status err old new (e, says) h = counted_at status 2 8 false old new e refl h
+link_counted Memory status err old new (e, says) h = counted_at status 4 8 false old new e refl h
+link_counted (File file) status err old new (e, says) h = counted_at status 6 8 false old new e refl h
+link_counted Sink status err old new (e, says) h = counted_at status 7 8 false old new e refl h
+link_counted Link status err old new (e, says) h = counted_at status 8 8 true old new e refl h
+link_counted (Child shard own) status err old new told h = child_counted (line_of (Child shard own)) status 8 err old new refl refl told h
+link_counted fault status err old new told h = refusal_counted (line_of fault) status 8 err old new refl refl told h
+
+-- ---- statuses that come before any node runs
+
+early_is_not : (n status : ℕ) → (4 ≤ n) × (n ≡ 6 → ⊥) → status ≡ n → (status ≡ 1) ⊎ ((status ≡ 2) ⊎ ((status ≡ 3) ⊎ (status ≡ 6))) → ⊥
+early_is_not n status late e (inl f) = let most = late.0 in absurd (omega arith)
+early_is_not n status late e (inr (inl f)) = let most = late.0 in absurd (omega arith)
+early_is_not n status late e (inr (inr (inl f))) = let most = late.0 in absurd (omega arith)
+early_is_not n status late e (inr (inr (inr f))) = late.1 (sym e ∙ f)
+
+pub told_early : (fault : Fault) (status : ℕ) (err : Errors) → IsTold fault status err → (status ≡ 1) ⊎ ((status ≡ 2) ⊎ ((status ≡ 3) ⊎ (status ≡ 6))) → IsTrue (precedes_loop fault)
+told_early Memory status err (e, says) h = absurd (early_is_not 4 status (omega arith, λ f. absurd (omega arith)) e h)
+told_early Unanswered status err e h = absurd (early_is_not 5 status (omega arith, λ f. absurd (omega arith)) e h)
+told_early Sink status err (e, says) h = absurd (early_is_not 7 status (omega arith, λ f. absurd (omega arith)) e h)
+told_early (Child shard own) status err (inl (e, says)) h = absurd (early_is_not 9 status (omega arith, λ f. absurd (omega arith)) e h)
+told_early (Child shard own) status err (inr (e, says)) h = absurd (early_is_not 4 status (omega arith, λ f. absurd (omega arith)) e h)
+told_early Link status err (e, says) h = absurd (early_is_not 8 status (omega arith, λ f. absurd (omega arith)) e h)
+told_early _ status err told h = refl
+
+-- what holds of words without nodes, and of all that comes before nodes run, holds where all is quiet
+pub quiet_told : (words : List (List ℕ)) (fault : Fault) (status : ℕ) (err : Errors) (P : Type 0) → IsTold fault status err → ((NamesNodes words → ⊥) → P) → (IsTrue (precedes_loop fault) → P)
+    → IsQuiet words status → P
+quiet_told words fault status err P told without before (inl none) = without none
+quiet_told words fault status err P told without before (inr early) = before (told_early fault status err told early)

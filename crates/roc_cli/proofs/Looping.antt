@@ -1,0 +1,209 @@
+-- What the loops of nodes tell of their commands
+use Rattle.std.proofs.Common.{◌≡◌, inl, inr, ℕ, zero, suc, ◌<◌, Bool, List, [], ◌∷◌, length, Option, Some, None, IfSome, Result, Ok, Err, slice_get, refl, sym, subst, arith}
+use Rattle.roc_base.specs.declared.node.Shard.{Shard}
+use Rattle.roc_base.specs.declared.node.Node.TheVariants.{Server, Coord}
+use Rattle.roc_io.specs.declared.link.Addr.{Addr}
+use Rattle.roc_plan.specs.Groups.{Plan}
+use Rattle.roc_sched.specs.declared.line.Request.{Request}
+use Rattle.roc_words.specs.Commands.{serve, submit, stop, local}
+use Rattle.roc_words.specs.declared.value.ValueName.{ValueName}
+use Rattle.roc_words.specs.Answer.{AreWordsOf, HaveNoValue}
+use Rattle.roc_node.specs.declared.ends.SubmitEnd.{SubmitEnd}
+use Rattle.roc_node.specs.ServeEnd.{Serves}
+use Rattle.roc_node.specs.SubmitEnd.{BindsAndSubmits}
+use Rattle.roc_local.specs.declared.local.LocalEnd.{LocalEnd}
+use Rattle.roc_local.specs.declared.local.LocalEnd.TheVariants.{ChildFault}
+use Rattle.roc_local.specs.Stops.{SendsStops}
+use Rattle.roc_local.specs.Local.{RunsLocal, local_end_of}
+use Rattle.roc_cli.specs.declared.fault.Fault.{Fault}
+use Rattle.roc_cli.specs.declared.fault.Fault.TheVariants.{Value}
+use Rattle.roc_cli.specs.declared.nodes.Nodes.{Nodes}
+use Rattle.roc_cli.specs.Call.{RunCall, LinkCall, ChildrenCall, WholeCall, TakesNothing}
+use Rattle.roc_cli.specs.Refused.{no_value}
+use Rattle.roc_cli.specs.Held.{HoldNodes}
+use Rattle.roc_cli.specs.Nodes.{tag_of_bytes, setting_of, serve_call, turns_call, local_call, IsServed, SubmitEnded, AreStopped, LocalEnded, AreNodesEnded, IsChildBlamed}
+use Rattle.roc_cli.specs.Inner.NodeNames.{HoldsAll}
+use Rattle.roc_cli.specs.Inner.Ends.{Fails, LoopEnds, LoopEnded, WholeEnds, no_child}
+use Rattle.roc_cli.specs.Inner.Running.{ServesAs, StopsAs, loop_call, LocalAs, LocalBlames}
+use Rattle.roc_cli.proofs.Loading.{loop_ends, loop_fails, loop_among}
+
+-- one that is there can be had
+address_there : (addrs : List Addr) (n : ℕ) → n < length addrs → (own : Addr) × (slice_get addrs n ≡ Some own)
+address_there [] n h = absurd (omega (arith, h))
+address_there (addr ∷ addrs) zero h = (addr, refl)
+address_there (addr ∷ addrs) (suc n) h = address_there addrs n (omega (arith, h))
+
+-- the requests of a command that names none
+without_requests : (content : List ℕ → Option (List ℕ)) (workload cluster : List ℕ) (shard : Option ℕ) (bytes : List ℕ) (plan : Plan) (addrs : List Addr) (requests : List Request)
+    → HoldNodes content (record { workload = workload; cluster = cluster; requests = None; shard = shard }) bytes plan addrs requests
+    → HoldNodes content (record { workload = workload; cluster = cluster; requests = None; shard = shard }) bytes plan addrs []
+without_requests content workload cluster shard bytes plan addrs requests h =
+    record { of_workload = h.of_workload; planned = h.planned; has_shard = h.has_shard; of_cluster = h.of_cluster; of_requests = refl }
+
+module _ (call : RunCall) (link : LinkCall) (nodes : Nodes) (middle : Option (List ℕ)) (same : middle ≡ call.out_before) (workload cluster : List ℕ) where
+  -- a server
+  module _ (shard : Shard) (turns : ℕ) (counts : Bool) (given : AreWordsOf call.words (serve workload cluster shard.0 turns counts))
+      (held : HoldsAll call.content (record { workload = workload; cluster = cluster; requests = None; shard = Some shard.0 }) nodes) where
+    served : (own : Addr) → slice_get nodes.cluster shard.0 ≡ Some own → (end : SubmitEnd)
+        → ServesAs (record { plan = nodes.plan; header = record { tag = nodes.tag; from = Server shard }; cluster = nodes.cluster }) shard own turns counts
+        (record { bound_old = link.bound_before; bound_new = link.bound_after; link_old = link.before; link_new = link.after; out_old = middle; out_new = call.out_after }) end
+        → IsServed call link end
+    served own address end (e, is, serves) = (
+      e,
+      is,
+      record {
+        workload = workload;
+        cluster = cluster;
+        shard = shard.0;
+        turns = turns;
+        counts = counts;
+        given = given;
+        bytes = held.0;
+        plan = nodes.plan;
+        addrs = nodes.cluster;
+        held = without_requests call.content workload cluster (Some shard.0) held.0 nodes.plan nodes.cluster nodes.requests.items held.1;
+        own = own;
+        address = address;
+        serves =
+            subst (λ (tag : List ℕ). Serves (record { plan = nodes.plan; header = record { tag = tag; from = Server shard }; cluster = nodes.cluster }) shard own turns counts (serve_call call link) e) held.2
+            (subst (λ (o : Option (List ℕ)). Serves (record { plan = nodes.plan; header = record { tag = nodes.tag; from = Server shard }; cluster = nodes.cluster }) shard own turns counts
+            (record { bound_old = link.bound_before; bound_new = link.bound_after; link_old = link.before; link_new = link.after; out_old = o; out_new = call.out_after }) e) same serves);
+      },
+    )
+
+    pub serve_ended : (result : Result Unit Fault)
+        → ((own : Addr) → slice_get nodes.cluster shard.0 ≡ Some own
+        → LoopEnded (ServesAs (record { plan = nodes.plan; header = record { tag = nodes.tag; from = Server shard }; cluster = nodes.cluster }) shard own turns counts
+        (record { bound_old = link.bound_before; bound_new = link.bound_after; link_old = link.before; link_new = link.after; out_old = middle; out_new = call.out_after })) no_child result)
+        → LoopEnds call (IsServed call link) no_child result
+    serve_ended result ends =
+        let each : length nodes.cluster ≡ nodes.plan.program.shards = held.1.of_cluster.is.is_cluster.each in
+        let there = address_there nodes.cluster shard.0 (subst (λ n. shard.0 < n) (sym each) held.1.has_shard) in
+        loop_ends call _ (IsServed call link) no_child no_child result (served there.0 there.1) (λ shard status h. h) (ends there.0 there.1)
+
+  -- stops
+  module _ (given : AreWordsOf call.words (stop workload cluster)) (held : HoldsAll call.content (record { workload = workload; cluster = cluster; requests = None; shard = None }) nodes)
+      (silent : call.out_after ≡ call.out_before) where
+    stopped : (end : SubmitEnd) → StopsAs nodes.tag nodes.cluster link end → AreStopped call link end
+    stopped end (e, is, h) = (
+      e,
+      is,
+      record {
+        workload = workload;
+        cluster = cluster;
+        given = given;
+        bytes = held.0;
+        plan = nodes.plan;
+        addrs = nodes.cluster;
+        held = without_requests call.content workload cluster None held.0 nodes.plan nodes.cluster nodes.requests.items held.1;
+        bound = h.bound;
+        sends = subst (λ (tag : List ℕ). SendsStops e tag nodes.cluster link.before.lost link.after.lost link.before.sent link.after.sent) held.2 h.sends;
+        arrivals = h.arrivals;
+        silent = silent;
+      },
+    )
+
+    pub stop_ended : (result : Result Unit Fault) → LoopEnded (StopsAs nodes.tag nodes.cluster link) no_child result → LoopEnds call (AreStopped call link) no_child result
+    stop_ended result ends = loop_ends call _ (AreStopped call link) no_child no_child result stopped (λ shard status h. h) ends
+
+  module _ (listed : List ℕ) (turns : ℕ) (held : HoldsAll call.content (record { workload = workload; cluster = cluster; requests = Some listed; shard = None }) nodes) where
+    -- a coordinator
+    module _ (coord : ℕ) (given : AreWordsOf call.words (submit workload cluster listed coord turns)) where
+      submitted : (end : SubmitEnd)
+          → BindsAndSubmits (record { plan = nodes.plan; header = record { tag = nodes.tag; from = Coord coord }; cluster = nodes.cluster }) coord nodes.requests.items turns link.bound_before link.bound_after
+          (record { link_old = link.before; link_new = link.after; out_old = middle; out_new = call.out_after }) end
+          → SubmitEnded call link end
+      submitted end h = record {
+        workload = workload;
+        cluster = cluster;
+        listed = listed;
+        coord = coord;
+        turns = turns;
+        given = given;
+        bytes = held.0;
+        plan = nodes.plan;
+        addrs = nodes.cluster;
+        requests = nodes.requests.items;
+        held = held.1;
+        submits =
+            subst (λ (tag : List ℕ). BindsAndSubmits (record { plan = nodes.plan; header = record { tag = tag; from = Coord coord }; cluster = nodes.cluster }) coord nodes.requests.items turns
+            link.bound_before link.bound_after (turns_call call link) end) held.2
+            (subst (λ (o : Option (List ℕ)). BindsAndSubmits (record { plan = nodes.plan; header = record { tag = nodes.tag; from = Coord coord }; cluster = nodes.cluster }) coord nodes.requests.items turns
+            link.bound_before link.bound_after (record { link_old = link.before; link_new = link.after; out_old = o; out_new = call.out_after }) end) same h);
+      }
+
+      pub submit_ended : (result : Result Unit Fault)
+          → LoopEnded (BindsAndSubmits (record { plan = nodes.plan; header = record { tag = nodes.tag; from = Coord coord }; cluster = nodes.cluster }) coord nodes.requests.items turns
+          link.bound_before link.bound_after (record { link_old = link.before; link_new = link.after; out_old = middle; out_new = call.out_after })) no_child result
+          → LoopEnds call (SubmitEnded call link) no_child result
+      submit_ended result ends = loop_ends call _ (SubmitEnded call link) no_child no_child result submitted (λ shard status h. h) ends
+
+    -- servers and a coordinator
+    module _ (children : ChildrenCall) (given : AreWordsOf call.words (local workload cluster listed turns)) where
+      ran : (end : LocalEnd) → RunsLocal (record { setting = record { plan = nodes.plan; header = record { tag = nodes.tag; from = Coord 0 }; cluster = nodes.cluster }; requests = nodes.requests.items; workload = workload; cluster = cluster; turns = turns })
+          (loop_call middle call.out_after link children) end
+          → LocalEnded call link children end
+      ran end h = record {
+        workload = workload;
+        cluster = cluster;
+        listed = listed;
+        turns = turns;
+        given = given;
+        bytes = held.0;
+        plan = nodes.plan;
+        addrs = nodes.cluster;
+        requests = nodes.requests.items;
+        held = held.1;
+        runs =
+            subst (λ (tag : List ℕ). RunsLocal (record { setting = record { plan = nodes.plan; header = record { tag = tag; from = Coord 0 }; cluster = nodes.cluster }; requests = nodes.requests.items; workload = workload; cluster = cluster; turns = turns })
+            (local_call call link children) end) held.2
+            (subst (λ (o : Option (List ℕ)). RunsLocal (record { setting = record { plan = nodes.plan; header = record { tag = nodes.tag; from = Coord 0 }; cluster = nodes.cluster }; requests = nodes.requests.items; workload = workload; cluster = cluster; turns = turns })
+            (loop_call o call.out_after link children) end) same h);
+      }
+
+      pub local_ended : (result : Result Unit Fault)
+          → LoopEnded
+          (LocalAs (record { setting = record { plan = nodes.plan; header = record { tag = nodes.tag; from = Coord 0 }; cluster = nodes.cluster }; requests = nodes.requests.items; workload = workload; cluster = cluster; turns = turns })
+          middle call.out_after link children)
+          (LocalBlames (record { setting = record { plan = nodes.plan; header = record { tag = nodes.tag; from = Coord 0 }; cluster = nodes.cluster }; requests = nodes.requests.items; workload = workload; cluster = cluster; turns = turns })
+          middle call.out_after link children)
+          result
+          → LoopEnds call (λ end. LocalEnded call link children (local_end_of end)) (IsChildBlamed (record { run = call; link = link; children = children })) result
+      local_ended result ends =
+          loop_ends call _ (λ end. LocalEnded call link children (local_end_of end)) _ (IsChildBlamed (record { run = call; link = link; children = children })) result
+          (λ end h. ran (local_end_of end) h) (λ shard status h. record { ended = ran (ChildFault shard status) h.0; cause = h.1 }) ends
+
+-- ---- faults that come before a loop
+
+module _ (call : RunCall) (link : LinkCall) (fault : Fault) (fails : Fails call fault) where
+  pub unserved : LoopEnds call (IsServed call link) no_child (Err fault)
+  unserved = loop_fails call (IsServed call link) no_child fault fails
+
+  pub unsubmitted : LoopEnds call (SubmitEnded call link) no_child (Err fault)
+  unsubmitted = loop_fails call (SubmitEnded call link) no_child fault fails
+
+  pub unstopped : LoopEnds call (AreStopped call link) no_child (Err fault)
+  unstopped = loop_fails call (AreStopped call link) no_child fault fails
+
+  pub unrun : (children : ChildrenCall) → LoopEnds call (λ end. LocalEnded call link children (local_end_of end)) (IsChildBlamed (record { run = call; link = link; children = children })) (Err fault)
+  unrun children = loop_fails call (λ end. LocalEnded call link children (local_end_of end)) (IsChildBlamed (record { run = call; link = link; children = children })) fault fails
+
+-- ---- one command among all
+
+module _ (call : WholeCall) (result : Result Unit Fault) where
+  pub served_among : LoopEnds call.run (IsServed call.run call.link) no_child result → WholeEnds call result
+  served_among h = inr (loop_among call.run (IsServed call.run call.link) (AreNodesEnded call) no_child (IsChildBlamed call) result (λ end h. inl h) (λ shard status h. absurd h) h)
+
+  pub submitted_among : LoopEnds call.run (SubmitEnded call.run call.link) no_child result → WholeEnds call result
+  submitted_among h = inr (loop_among call.run (SubmitEnded call.run call.link) (AreNodesEnded call) no_child (IsChildBlamed call) result (λ end h. inr (inl h)) (λ shard status h. absurd h) h)
+
+  pub stopped_among : LoopEnds call.run (AreStopped call.run call.link) no_child result → WholeEnds call result
+  stopped_among h = inr (loop_among call.run (AreStopped call.run call.link) (AreNodesEnded call) no_child (IsChildBlamed call) result (λ end h. inr (inr (inl h))) (λ shard status h. absurd h) h)
+
+  pub local_among : LoopEnds call.run (λ end. LocalEnded call.run call.link call.children (local_end_of end)) (IsChildBlamed call) result → WholeEnds call result
+  local_among h = inr (loop_among call.run (λ end. LocalEnded call.run call.link call.children (local_end_of end)) (AreNodesEnded call) (IsChildBlamed call) (IsChildBlamed call) result (λ end h. inr (inr (inr h))) (λ shard status h. h) h)
+
+-- ---- words that name no command
+
+pub value_refused : (call : WholeCall) (name : ValueName) (fault : Fault) → fault ≡ Value name → TakesNothing call.run → HaveNoValue call.run.words name → WholeEnds call (Err fault)
+value_refused call name fault e same h = subst (λ f. WholeEnds call (Err f)) (sym e) (inl (same, no_value name h))

@@ -1,0 +1,13 @@
+use Rattle.std.proofs.Common.{refl}
+use Rattle.roc_words.specs.Commands.{local}
+use Rattle.roc_cli.proofs.Looping.{local_ended, unrun}
+use Rattle.roc_cli.proofs.running.local_files.Goals as goal
+
+-- the files were read
+pub returns-in-Ok-clause-ends : goal.returns-in-Ok-clause-ends
+returns-in-Ok-clause-ends g c words given =
+    local_ended _ _ c.in-Ok.nodes _ c.in-Ok.ensures.untouched c.args.workload.now c.args.cluster.now c.args.listed.now c.args.turns c.in-Ok.ensures.held _ given _ c.local_nodes.ensures.ends
+
+-- they were not
+pub returns-in-Err-clause-ends : goal.returns-in-Err-clause-ends
+returns-in-Err-clause-ends g c words given = unrun _ _ c.in-Err.fault (c.in-Err.ensures.fails words (local _ _ _ _, given, refl)) _

@@ -1,0 +1,13 @@
+use Rattle.std.proofs.Common.{refl}
+use Rattle.roc_words.specs.Commands.{serve}
+use Rattle.roc_cli.proofs.Looping.{serve_ended, unserved}
+use Rattle.roc_cli.proofs.running.serve_files.Goals as goal
+
+-- the files were read
+pub returns-in-Ok-clause-ends : goal.returns-in-Ok-clause-ends
+returns-in-Ok-clause-ends g c words given =
+    serve_ended _ _ c.in-Ok.nodes _ c.in-Ok.ensures.untouched c.args.workload.now c.args.cluster.now c.args.shard c.args.turns c.args.counts given c.in-Ok.ensures.held _ c.serve_nodes.ensures.ends
+
+-- they were not
+pub returns-in-Err-clause-ends : goal.returns-in-Err-clause-ends
+returns-in-Err-clause-ends g c words given = unserved _ _ c.in-Err.fault (c.in-Err.ensures.fails words (serve _ _ _ _ _, given, refl))

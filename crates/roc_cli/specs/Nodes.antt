@@ -1,0 +1,160 @@
+-- Commands with nodes: what their files held, and how their loops ended: docs/FORMATS.md, "The program", and docs/PROTOCOL.md, "Running nodes"
+use Rattle.std.specs.Prelude.{◌≡◌, ◌⊎◌, ℕ, Bool, List, [], take, Option, Some, None, slice_get}
+use Rattle.sha2.specs.Sha256.{sha256}
+use Rattle.roc_base.specs.declared.node.Shard.{Shard}
+use Rattle.roc_base.specs.declared.node.Node.{Node}
+use Rattle.roc_base.specs.declared.node.Node.TheVariants.{Server, Coord}
+use Rattle.roc_io.specs.declared.link.Addr.{Addr}
+use Rattle.roc_plan.specs.Groups.{Plan}
+use Rattle.roc_sched.specs.declared.line.Request.{Request}
+use Rattle.roc_io.specs.Told.{AddsUnless}
+use Rattle.roc_local.specs.declared.stops.StopEnd.{StopEnd}
+use Rattle.roc_local.specs.declared.stops.StopEnd.TheVariants as stop_end
+use Rattle.roc_node.specs.SubmitEnd.{any_address}
+use Rattle.roc_local.specs.Stops.{SendsStops, stops_unbound}
+use Rattle.roc_local.specs.declared.local.LocalEnd.{LocalEnd}
+use Rattle.roc_local.specs.declared.local.LocalEnd.TheVariants.{ChildFault}
+use Rattle.roc_local.specs.Local.{LocalCall, RunsLocal, BlamesChild, local_end_of}
+use Rattle.roc_words.specs.Commands.{serve, submit, stop, local}
+use Rattle.roc_words.specs.Answer.{AreWordsOf}
+use Rattle.roc_node.specs.NodeEvent.{NodeSetting}
+use Rattle.roc_node.specs.declared.ends.ServeEnd.{ServeEnd}
+use Rattle.roc_node.specs.declared.ends.ServeEnd.TheVariants as serve_end
+use Rattle.roc_node.specs.declared.ends.SubmitEnd.{SubmitEnd}
+use Rattle.roc_node.specs.declared.ends.SubmitEnd.TheVariants as submit_end
+use Rattle.roc_node.specs.ServeEnd.{ServeCall, Serves}
+use Rattle.roc_node.specs.SubmitEnd.{TurnsCall, BindsAndSubmits}
+use Rattle.roc_cli.specs.Call.{RunCall, LinkCall, ChildrenCall, WholeCall, TakesNothing}
+use Rattle.roc_cli.specs.Held.{HoldNodes}
+
+-- the tag that is the workload's: the front of the digest of the bytes that its file holds
+abbrev pub tag_of_bytes : List ℕ → List ℕ
+tag_of_bytes bytes = take 8 (sha256 bytes)
+
+-- what stays the same while a node of a workload of these bytes runs
+abbrev pub setting_of : (bytes : List ℕ) → Plan → Node → (cluster : List Addr) → NodeSetting
+setting_of bytes plan node cluster = record { plan = plan; header = record { tag = tag_of_bytes bytes; from = node }; cluster = cluster }
+
+-- a call, as the loops of nodes see it
+abbrev pub serve_call : RunCall → LinkCall → ServeCall
+serve_call call link = record {
+  bound_old = link.bound_before;
+  bound_new = link.bound_after;
+  link_old = link.before;
+  link_new = link.after;
+  out_old = call.out_before;
+  out_new = call.out_after;
+}
+
+abbrev pub turns_call : RunCall → LinkCall → TurnsCall
+turns_call call link = record {
+  link_old = link.before;
+  link_new = link.after;
+  out_old = call.out_before;
+  out_new = call.out_after;
+}
+
+abbrev pub local_call : RunCall → LinkCall → ChildrenCall → LocalCall
+local_call call link children = record {
+  turns = turns_call call link;
+  bound_old = link.bound_before;
+  bound_new = link.bound_after;
+  started_old = children.started_before;
+  started_new = children.started_after;
+  awaited_old = children.awaited_before;
+  awaited_new = children.awaited_after;
+}
+
+-- a shard of the workload was served, at its address in the cluster, and that ended so
+pub record ServeEnded (call : RunCall) (link : LinkCall) (end : ServeEnd) : Type 0 where
+  pub workload : List ℕ
+  pub cluster : List ℕ
+  pub shard : ℕ
+  pub turns : ℕ
+  pub counts : Bool
+  pub given : AreWordsOf call.words (serve workload cluster shard turns counts)
+  pub bytes : List ℕ
+  pub plan : Plan
+  pub addrs : List Addr
+  pub held : HoldNodes call.content (record { workload = workload; cluster = cluster; requests = None; shard = Some shard }) bytes plan addrs []
+  pub own : Addr
+  pub address : slice_get addrs shard ≡ Some own
+  pub serves : Serves (setting_of bytes plan (Server (record { 0 = shard })) addrs) (record { 0 = shard }) own turns counts (serve_call call link) end
+
+-- the requests were submitted by a coordinator, and that ended so
+pub record SubmitEnded (call : RunCall) (link : LinkCall) (end : SubmitEnd) : Type 0 where
+  pub workload : List ℕ
+  pub cluster : List ℕ
+  pub listed : List ℕ
+  pub coord : ℕ
+  pub turns : ℕ
+  pub given : AreWordsOf call.words (submit workload cluster listed coord turns)
+  pub bytes : List ℕ
+  pub plan : Plan
+  pub addrs : List Addr
+  pub requests : List Request
+  pub held : HoldNodes call.content (record { workload = workload; cluster = cluster; requests = Some listed; shard = None }) bytes plan addrs requests
+  pub submits : BindsAndSubmits (setting_of bytes plan (Coord coord) addrs) coord requests turns link.bound_before link.bound_after (turns_call call link) end
+
+-- each server was sent its stops, or nothing was sent, and that ended so
+pub record StopEnded (call : RunCall) (link : LinkCall) (end : StopEnd) : Type 0 where
+  pub workload : List ℕ
+  pub cluster : List ℕ
+  pub given : AreWordsOf call.words (stop workload cluster)
+  pub bytes : List ℕ
+  pub plan : Plan
+  pub addrs : List Addr
+  pub held : HoldNodes call.content (record { workload = workload; cluster = cluster; requests = None; shard = None }) bytes plan addrs []
+  pub bound : AddsUnless (stops_unbound end) link.bound_before link.bound_after any_address
+  pub sends : SendsStops end (tag_of_bytes bytes) addrs link.before.lost link.after.lost link.before.sent link.after.sent
+  pub arrivals : link.after.arrivals ≡ link.before.arrivals
+  pub silent : TakesNothing call
+
+-- the end of a server, or of one that sends stops, as that of a coordinator
+abbrev pub as_submit_end : ServeEnd → SubmitEnd
+as_submit_end serve_end.Done = submit_end.Done
+as_submit_end serve_end.LinkFault = submit_end.LinkFault
+as_submit_end serve_end.SinkFault = submit_end.SinkFault
+as_submit_end serve_end.NoMemory = submit_end.NoMemory
+
+abbrev pub stop_as_submit_end : StopEnd → SubmitEnd
+stop_as_submit_end stop_end.Done = submit_end.Done
+stop_as_submit_end stop_end.LinkFault = submit_end.LinkFault
+stop_as_submit_end stop_end.NoMemory = submit_end.NoMemory
+
+-- the same, by the end of a coordinator
+abbrev pub IsServed : RunCall → LinkCall → SubmitEnd → Type 0
+IsServed call link end = (own : ServeEnd) × (as_submit_end own ≡ end) × ServeEnded call link own
+
+abbrev pub AreStopped : RunCall → LinkCall → SubmitEnd → Type 0
+AreStopped call link end = (own : StopEnd) × (stop_as_submit_end own ≡ end) × StopEnded call link own
+
+-- servers were started as children, the requests submitted, and the servers stopped and awaited, and that ended so
+pub record LocalEnded (call : RunCall) (link : LinkCall) (children : ChildrenCall) (end : LocalEnd) : Type 0 where
+  pub workload : List ℕ
+  pub cluster : List ℕ
+  pub listed : List ℕ
+  pub turns : ℕ
+  pub given : AreWordsOf call.words (local workload cluster listed turns)
+  pub bytes : List ℕ
+  pub plan : Plan
+  pub addrs : List Addr
+  pub requests : List Request
+  pub held : HoldNodes call.content (record { workload = workload; cluster = cluster; requests = Some listed; shard = None }) bytes plan addrs requests
+  pub runs : RunsLocal
+      (record { setting = setting_of bytes plan (Coord 0) addrs; requests = requests; workload = workload; cluster = cluster; turns = turns })
+      (local_call call link children) end
+
+-- how a command with nodes ended, once its files were read
+abbrev pub AreNodesEnded : WholeCall → SubmitEnd → Type 0
+AreNodesEnded call end =
+    IsServed call.run call.link end ⊎ (SubmitEnded call.run call.link end ⊎ (AreStopped call.run call.link end ⊎ LocalEnded call.run call.link call.children (local_end_of end)))
+
+-- the server of a shard was to blame, which was started as a child: it could not be started or awaited, and that was counted, or ended with
+-- another status than 0
+pub record IsChildBlamed (call : WholeCall) (shard : Shard) (status : Option ℕ) : Type 0 where
+  pub ended : LocalEnded call.run call.link call.children (ChildFault shard status)
+  pub cause : BlamesChild (ChildFault shard status) call.children.faults_before call.children.faults_after
+
+abbrev pub BlamesAnyChild : WholeCall → Type 0
+BlamesAnyChild call = (shard : Shard) × (status : Option ℕ) × IsChildBlamed call shard status
