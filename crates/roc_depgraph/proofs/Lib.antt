@@ -6,3 +6,4 @@ pub mod Decided
 pub mod Laws
 pub mod Rising_lists
 pub mod Searched
+pub mod Looked_up

@@ -13,7 +13,7 @@ use Rattle.roc_base.specs.Inner.Equalities.{is_txn-same, is_txn-true}
 use Rattle.roc_base.proofs.Ids.{is_lt-txn_cmp, txn_lt-asym, txn_lt-itself}
 use Rattle.roc_depgraph.specs.Closure.{IsRisingListOf}
 
-below : (x u : TxnId) (xs : List TxnId) → AllByRecursion (λ y. txn_cmp x y ≡ Less) xs → IsListed is_txn xs u → txn_lt x u ≡ true
+pub below : (x u : TxnId) (xs : List TxnId) → AllByRecursion (λ y. txn_cmp x y ≡ Less) xs → IsListed is_txn xs u → txn_lt x u ≡ true
 below x u [] h l = absurd (omega arith)
 below x u (y ∷ xs) h l =
     elim (listed_cases is_txn y xs u l) [
@@ -21,7 +21,7 @@ below x u (y ∷ xs) h l =
       | inr k ↦ below x u xs h.1 k.1
     ]
 
-none_listed : (u : TxnId) → ¬ IsListed is_txn [] u
+pub none_listed : (u : TxnId) → ¬ IsListed is_txn [] u
 none_listed u l = omega arith
 
 same_members : (xs ys : List TxnId) → IsStrictlySortedBy txn_cmp xs → IsStrictlySortedBy txn_cmp ys → ((u : TxnId) → IsListed is_txn xs u → IsListed is_txn ys u) → ((u : TxnId) → IsListed is_txn ys u → IsListed is_txn xs u) → xs ≡ ys

@@ -1,5 +1,5 @@
 //! The known lists, and what follows from them.
-ghost use Rattle.std.specs.Prelude.{◌≡◌, ◌↔◌, ◌==◌, [], length, None, not, IsTrue, IfOk, OnOk, OnErr, filter};
+ghost use Rattle.std.specs.Prelude.{◌≡◌, ◌↔◌, ◌==◌, [], length, None, not, IsTrue, IfOk, OnOk, OnErr, filter, option_map, slice_get};
 ghost use Rattle.std.specs.Option.{option_copied};
 ghost use Rattle.roc_base.specs.declared.id.TxnId.{TxnId};
 ghost use Rattle.roc_depgraph.specs.Closure.{IsClosure, IsRisingListOf};
@@ -10,7 +10,7 @@ ghost use Rattle.roc_depgraph.specs.Inner.Visits.{Visits};
 
 use crate::{Closure, KnownList, Learnt};
 use roc_base::{Edge, Edges, NoMemory, TxnId};
-use roc_sequence::Sequence;
+use roc_places::Places;
 use std::alloc::Global;
 use std::collections::BTreeSet;
 use std::marker::Model;
@@ -19,16 +19,19 @@ use std::marker::Model;
 #[derive(Drop)]
 pub struct Deps {
     alloc: Global,
-    lists: Sequence<KnownList>,
+    lists: Vec<KnownList>,
+    places: Places,
 }
 
 impl Model for Deps {
-    ghost use Rattle.std.specs.Prelude.{List};
+    ghost use Rattle.std.specs.Prelude.{◌≡◌, List, map};
     ghost use Rattle.roc_depgraph.specs.declared.known.KnownList.{KnownList};
 
     ghost Value = { List KnownList };
 
-    ghost view = { λ d. d.lists };
+    ghost view = { λ d. d.lists.items };
+
+    ghost invariant = { λ d. d.places ≡ map (λ k. k.of) d.lists.items };
 }
 
 impl Deps {
@@ -38,7 +41,8 @@ impl Deps {
     {
         Deps {
             alloc,
-            lists: Sequence::new(alloc),
+            lists: Vec::new(alloc),
+            places: Places::new(alloc),
         }
     }
 
@@ -67,12 +71,10 @@ impl Deps {
     pub fn list(&self, id: TxnId) -> Option<&Edges>
         ensures { option_copied result ≡ list_of id self.now }
     {
-        for known in self.lists.as_slice() {
-            if known.of == id {
-                return Some(&known.edges);
-            }
+        match self.places.first(id) {
+            Some(at) => edges_at(self.lists.as_slice(), at),
+            None => None,
         }
-        None
     }
 
     /// Learns a list, where none is known of its transaction. `NoMemory` comes only then, and
@@ -88,7 +90,9 @@ impl Deps {
             return Ok(Learnt::Differs);
         }
         let edges = edges.clone()?;
-        self.lists.push(KnownList { of: id, edges })?;
+        self.lists.reserve(1)?;
+        self.places.push(id)?;
+        self.lists.push(KnownList { of: id, edges }).unwrap();
         Ok(Learnt::New)
     }
 
@@ -145,6 +149,13 @@ impl Deps {
         }
         Ok(missing)
     }
+}
+
+// The list that stands at a place.
+fn edges_at(lists: &[KnownList], at: usize) -> Option<&Edges>
+    ensures { option_copied result ≡ option_map (λ k. k.edges) (slice_get lists.now at) }
+{
+    lists.get(at).map(|known| &known.edges)
 }
 
 // Puts the ids of entries among those that were found, and the new ones on the list of what is

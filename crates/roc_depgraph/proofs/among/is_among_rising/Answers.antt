@@ -1,4 +1,4 @@
-use Rattle.std.proofs.Common.{◌≡◌, ◌∙◌, sym, ap}
+use Rattle.std.proofs.Common.{◌∙◌}
 use Rattle.roc_depgraph.proofs.Searched.{searched_among}
 use Rattle.roc_depgraph.proofs.among.is_among_rising.Goals as goal
 
