@@ -10,7 +10,7 @@ use Rattle.roc_component.specs.Components.{Mates, IsReady, IsNextInside, IsNext,
 use Rattle.roc_component.proofs.OneOrder.{one_order}
 
 module _ (A B : TxnId → TxnId → Type 0) (to : (u t : TxnId) → A u t → B u t) where
-  mates_to : (a b : TxnId) → Mates A a b → Mates B a b
+  pub mates_to : (a b : TxnId) → Mates A a b → Mates B a b
   mates_to a b (inl e) = inl e
   mates_to a b (inr p) = inr (weaker_chain A B to a b p.0, weaker_chain A B to b a p.1)
 

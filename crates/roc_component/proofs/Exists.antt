@@ -25,9 +25,9 @@ use Rattle.roc_depgraph.specs.Deps.{entries_of, Precedes, PrecedesNow}
 use Rattle.roc_depgraph.specs.Reach.{Reaches}
 use Rattle.roc_depgraph.proofs.Chains.{weaker_chain}
 use Rattle.roc_depgraph.proofs.Listed.{has_listed, listed_has, has_under, under_has}
-use Rattle.roc_component.specs.declared.member.Member.{Member}
+use Rattle.roc_component.proofs.Member.{Member}
 use Rattle.roc_component.specs.Components.{Mates, among, IsTakingOrder}
-use Rattle.roc_component.specs.Inner.Member.{next_of}
+use Rattle.roc_component.proofs.Member.{next_of}
 use Rattle.roc_component.proofs.Front.{front_none, front_next, front_done}
 use Rattle.roc_component.proofs.MembersOf.{IsMember, AreMembers}
 use Rattle.roc_component.proofs.NextMember.{IsFront}
@@ -178,13 +178,13 @@ module _ (known : List KnownList) (M : List TxnId) where
   described_ids [] = refl
   described_ids (u ∷ us) = ap (λ l. u ∷ l) (described_ids us)
 
-  abbrev members : List Member
+  abbrev pub members : List Member
   members = map described S
 
   in_ids : (u : TxnId) → Has u S → IsListed is_txn M u
   in_ids u h = ids_sound M u (has_listed S u h)
 
-  are_described : AreMembers (Precedes known) (PrecedesNow known) M members
+  pub are_described : AreMembers (Precedes known) (PrecedesNow known) M members
   are_described =
       record {
         rising = subst (IsStrictlySortedBy txn_cmp) (sym (described_ids S)) (ids_rise M);

@@ -1,5 +1,5 @@
 -- Taking members one by one
-use Rattle.std.proofs.Common.{◌≡◌, ◌-◌, ◌<◌, ◌≤◌, Bool, true, false, List, [], ◌∷◌, ◌++◌, map, length, refl, sym, ◌∙◌, ap, subst, inl, inr, arith, length-append, Some, None}
+use Rattle.std.proofs.Common.{◌≡◌, ◌-◌, ◌<◌, ◌≤◌, Bool, true, false, List, [], ◌∷◌, ◌++◌, map, length, refl, sym, ap, subst, inl, inr, arith, length-append, Some, None}
 use Rattle.std.proofs.lemmas.Map.Made.{length-le_from_is_member}
 use Rattle.std.specs.Cmp.{eq_by_cmp_equiv}
 use Rattle.std.specs.List.{AllByRecursion, IsDistinct}
@@ -12,17 +12,10 @@ use Rattle.roc_base.specs.TxnId.{is_txn, txn_cmp}
 use Rattle.roc_base.proofs.Ids.{txn_cmp-total}
 use Rattle.roc_base.specs.Inner.Equalities.{is_txn-same}
 use Rattle.roc_depgraph.proofs.Listed.{under_has, has_from_listed, listed_from_has, is_eq-true, listed_one, in_one}
-use Rattle.roc_depgraph.specs.declared.known.KnownList.{KnownList}
-use Rattle.roc_depgraph.specs.Closure.{IsRisingListOf}
-use Rattle.roc_depgraph.specs.Deps.{Precedes, PrecedesNow, IsDecided}
-use Rattle.roc_component.specs.declared.ancestry.Ancestry.{Ancestry}
-use Rattle.roc_component.specs.declared.member.Member.{Member}
+use Rattle.roc_component.proofs.Member.{Member}
 use Rattle.roc_component.specs.Components.{IsNext, among, IsComponentOrder}
-use Rattle.roc_component.specs.Inner.Member.{next_of, member_of}
-use Rattle.roc_component.specs.Inner.Ancestry.{AreAncestries}
-use Rattle.roc_component.specs.Inner.Within.{within}
-use Rattle.roc_component.proofs.ListsWithin.{decided_within}
-use Rattle.roc_component.proofs.MembersOf.{AreMembers, are_members}
+use Rattle.roc_component.proofs.Member.{next_of}
+use Rattle.roc_component.proofs.MembersOf.{AreMembers}
 use Rattle.roc_component.proofs.NextMember.{IsFront, next_is, none_is}
 use Rattle.roc_component.proofs.Relations.{next_by}
 
@@ -101,17 +94,3 @@ module _ (E I : TxnId → TxnId → Type 0) (M : List TxnId) where
 
     pub front_done : (xs : List TxnId) → IsFront E I M xs → None ≡ next_of xs members → IsComponentOrder E I M xs
     front_done xs f e = record { once = f.once; from = f.from; all = none_is E I M members ms xs f (sym e); next = f.next }
-
--- the members, as they are made of known lists step by step
-module _ (known : List KnownList) (M S S1 S2 : List TxnId) (lists : List KnownList) (all : IsRisingListOf (IsListed is_txn M) S) (e : S1 ≡ S) (l : lists ≡ within known S1 S1) (f : S2 ≡ S) where
-  lists_are : lists ≡ within known S S
-  lists_are = l ∙ ap (λ s. within known s s) e
-
-  pub lists_decided : (t : TxnId) → IsListed is_txn S2 t → IsDecided lists t
-  lists_decided t h = subst (λ v. IsDecided v t) (sym lists_are) (decided_within known M S all t (subst (λ s. IsListed is_txn s t) f h))
-
-  pub members_are : (rows rows1 : List Ancestry) (members : List Member) → AreAncestries lists S2 rows → rows1 ≡ rows → members ≡ map (member_of lists rows1) rows1 → AreMembers (Precedes known) (PrecedesNow known) M members
-  members_are rows rows1 members a g m =
-      let b : AreAncestries (within known S S) S rows = subst (λ s. AreAncestries (within known S S) s rows) f (subst (λ v. AreAncestries v S2 rows) lists_are a) in
-      let n : members ≡ map (member_of (within known S S) rows) rows = m ∙ (ap (λ r. map (member_of lists r) r) g ∙ ap (λ v. map (member_of v rows) rows) lists_are) in
-      subst (AreMembers (Precedes known) (PrecedesNow known) M) (sym n) (are_members known M S all rows b)

@@ -11,4 +11,16 @@ pub mod Alike
 pub mod Paths
 pub mod Exists
 pub mod SortedIds
-pub mod FoundRows
+pub mod Member
+pub mod OneChange
+pub mod SearchPath
+pub mod SearchOpened
+pub mod SearchLast
+pub mod SearchJoined
+pub mod Queued
+pub mod LeadingTo
+pub mod TurnsOf
+pub mod Ordered
+pub mod SearchSteps
+pub mod QueueSteps
+pub mod OrderOf

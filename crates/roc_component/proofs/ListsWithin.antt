@@ -1,10 +1,10 @@
 -- What the lists of a set say of chains, once what leads out of it is left out
-use Rattle.std.proofs.Common.{◌≡◌, ℕ, zero, suc, ◌+◌, ◌<◌, ◌&&◌, ◌++◌, Bool, true, false, cond, List, [], ◌∷◌, filter, take, get_or, length, Option, Some, None, is_some, unwrap_or, refl, sym, ◌∙◌, ap, subst, ◌⊎◌, inl, inr, arith}
-use Rattle.std.proofs.lemmas.Bool.{false≢true, cond-true, cond-false, and_parts}
+use Rattle.std.proofs.Common.{◌≡◌, ℕ, zero, suc, ◌+◌, ◌<◌, ◌&&◌, ◌++◌, Bool, true, false, cond, List, [], ◌∷◌, filter, take, get_or, length, Option, Some, None, unwrap_or, refl, sym, ◌∙◌, ap, subst, inl, inr, arith}
+use Rattle.std.proofs.lemmas.Bool.{false≢true, cond-false, and_parts}
 use Rattle.std.proofs.lemmas.List.{take_more}
 use Rattle.std.specs.List.{list_any, AllByRecursion}
 use Rattle.std.specs.List.Sorted.{IsStrictlySortedBy}
-use Rattle.std.specs.Ordering.{is_eq, is_lt}
+use Rattle.std.specs.Ordering.{is_lt}
 use Rattle.std.specs.declared.cmp.Ordering.TheVariants.{Less}
 use Rattle.std.proofs.lemmas.Map.Keys.{sorted_head, sorted_tail}
 use Rattle.roc_sequence.specs.Lists.{Has}
@@ -12,7 +12,6 @@ use Rattle.roc_sequence.specs.Places.{IsListed, NoneTwice, is_listed}
 use Rattle.roc_sequence.proofs.Holds.{any_has, has_any}
 use Rattle.roc_sequence.proofs.Members.{has_filter, from_has_filter}
 use Rattle.roc_sequence.proofs.Places.{listed_true, listed_test, listed_or_not, listed_head, listed_tail, listed_cases}
-use Rattle.roc_sequence.proofs.Appended.{listed_front, listed_behind, listed_either}
 use Rattle.roc_base.specs.declared.id.TxnId.{TxnId}
 use Rattle.roc_base.specs.TxnId.{is_txn, txn_cmp, txn_lt}
 use Rattle.roc_base.proofs.Ids.{is_txn-ne, is_lt-txn_cmp, txn_lt-itself}
@@ -26,10 +25,8 @@ use Rattle.roc_depgraph.specs.declared.known.KnownList.{KnownList}
 use Rattle.roc_depgraph.specs.declared.learnt.Learnt.{Learnt}
 use Rattle.roc_depgraph.specs.declared.learnt.Learnt.TheVariants.{New, Repeat, Differs}
 use Rattle.roc_depgraph.specs.Closure.{IsRisingListOf}
-use Rattle.roc_depgraph.specs.Deps.{list_of, entries_of, IsKnown, Precedes, PrecedesNow, IsDecided, learnt}
+use Rattle.roc_depgraph.specs.Deps.{list_of, entries_of, Precedes, PrecedesNow, learnt}
 use Rattle.roc_depgraph.specs.Learnt.{Learns}
-use Rattle.roc_depgraph.specs.Reach.{Reaches, direct, through}
-use Rattle.roc_depgraph.proofs.Listed.{has, has_from_listed, listed_from_has, is_eq-same, is_eq-true, listed_one, in_one}
 use Rattle.roc_component.specs.Components.{among}
 use Rattle.roc_component.specs.Inner.Within.{within}
 
@@ -44,33 +41,6 @@ rising_filter p (e ∷ es) h = elim (p e) as (λ b. IsRising comes_before (cond 
 
 pub united_within : (p : Dependency → Bool) (es among edges : List Dependency) → IsRising comes_before es → among ≡ filter p es → edges ≡ united ([] ++ among) → edges ≡ filter p es
 united_within p es among edges r e f = f ∙ (ap united e ∙ united-rising (filter p es) (rising_filter p es r))
-
--- ids that are put into a set one by one
-module _ (ids : List TxnId) (i : ℕ) (id none : TxnId) (below : i < length ids) (is : id ≡ get_or ids i none) (keys more : List TxnId) where
-  upto : take (i + 1) ids ≡ take i ids ++ id ∷ []
-  upto = take_more ids i none below ∙ ap (λ x. take i ids ++ x ∷ []) (sym is)
-
-  pub rising_more : IsRisingListOf (IsListed is_txn (take i ids)) keys → ((q : TxnId) → has more q ≡ cond (is_eq (txn_cmp id q)) true (has keys q)) → IsStrictlySortedBy txn_cmp more → IsRisingListOf (IsListed is_txn (take (i + 1) ids)) more
-  rising_more k at r =
-      record {
-        rising = r;
-        sound = λ u h. subst (λ l. IsListed is_txn l u) (sym upto) (sound u h);
-        complete = λ u h. complete u (listed_either is_txn (take i ids) (id ∷ []) u (subst (λ l. IsListed is_txn l u) upto h));
-      }
-    where
-      sound : (u : TxnId) → IsListed is_txn more u → IsListed is_txn (take i ids ++ id ∷ []) u
-      sound u h = go (is_eq (txn_cmp id u)) refl
-        where
-          go : (b : Bool) → is_eq (txn_cmp id u) ≡ b → IsListed is_txn (take i ids ++ id ∷ []) u
-          go true e = subst (IsListed is_txn (take i ids ++ id ∷ [])) (is_eq-true id u e) (listed_behind is_txn (take i ids) (id ∷ []) id (in_one id))
-          go false e = listed_front is_txn (take i ids) (id ∷ []) u (k.sound u (listed_from_has keys u (sym (cond-false (is_eq (txn_cmp id u)) true (has keys u) e) ∙ (sym (at u) ∙ has_from_listed more u h))))
-
-      complete : (u : TxnId) → IsListed is_txn (take i ids) u ⊎ ((¬ IsListed is_txn (take i ids) u) × IsListed is_txn (id ∷ []) u) → IsListed is_txn more u
-      complete u (inl h) = listed_from_has more u (at u ∙ elim (is_eq (txn_cmp id u)) as (λ b. cond b true (has keys u) ≡ true) [ true ↦ refl | false ↦ has_from_listed keys u (k.complete u h) ])
-      complete u (inr h) = subst (IsListed is_txn more) (sym (listed_one id u h.1)) (listed_from_has more id (at id ∙ cond-true (is_eq (txn_cmp id id)) true (has keys id) (is_eq-same id)))
-
-pub rising_none : (keys : List TxnId) → IsStrictlySortedBy txn_cmp keys → keys ≡ [] → IsRisingListOf (IsListed is_txn []) keys
-rising_none keys r e = record { rising = r; sound = λ u h. subst (λ l. IsListed is_txn l u) e h; complete = λ u h. absurd (omega arith) }
 
 -- in a list that rises strictly no id stands twice
 pub not_behind : (x : TxnId) (xs : List TxnId) → AllByRecursion (λ y. txn_cmp x y ≡ Less) xs → ¬ IsListed is_txn xs x
@@ -191,14 +161,3 @@ module _ (known : List KnownList) (M S : List TxnId) (all : IsRisingListOf (IsLi
 
   pub among_now_to : (u t : TxnId) → among M (PrecedesNow known) u t → PrecedesNow L u t
   among_now_to u t e = to_entry (λ d. is_txn d.from u && d.imm) u t (now_key u) e.0 e.1 e.2
-
-  -- all lists that are reached are known
-  known_within : (t : TxnId) → IsListed is_txn M t → IsKnown L t
-  known_within t h = ap is_some (list_of-listed known S S t (all.complete t h))
-
-  starts : (u t : TxnId) → Reaches (Precedes L) u t → IsListed is_txn M u
-  starts u t (direct e) = (among_from u t e).0
-  starts u t (through p e) = starts u _ p
-
-  pub decided_within : (t : TxnId) → IsListed is_txn S t → IsDecided L t
-  decided_within t h = record { own = known_within t (all.sound t h); ancestors = λ u p. known_within u (starts u t p) }

@@ -15,9 +15,9 @@ use Rattle.roc_base.specs.TxnId.{is_txn, txn_lt}
 use Rattle.roc_base.specs.Inner.Equalities.{is_txn-true}
 use Rattle.roc_depgraph.specs.Reach.{Reaches, direct, through, ReachesOrIs}
 use Rattle.roc_depgraph.proofs.Chains.{chain_before}
-use Rattle.roc_component.specs.declared.member.Member.{Member}
+use Rattle.roc_component.proofs.Member.{Member}
 use Rattle.roc_component.specs.Components.{Mates, IsFree, IsNextInside, IsReady, IsNext, among}
-use Rattle.roc_component.specs.Inner.Member.{is_left, is_begun, is_ready, is_left_of, is_free, next_component, next_inside, next_of}
+use Rattle.roc_component.proofs.Member.{is_left, is_begun, is_ready, is_left_of, is_free, next_component, next_inside, next_of}
 use Rattle.roc_component.proofs.Least.{some_low, found_least}
 use Rattle.roc_component.proofs.MembersOf.{AreMembers}
 use Rattle.roc_component.proofs.Relations.{chain_starts, mate_in, mates_sym, mates_trans, mates_reach, mates_from, reach_trans, ready_mate}
@@ -45,7 +45,7 @@ module _ (xs : List TxnId) where
   all_from : (ids : List TxnId) → ((u : TxnId) → IsListed is_txn ids u → T u) → list_all (is_listed is_txn xs) ids ≡ true
   all_from ids h = has_every (is_listed is_txn xs) ids (λ u k. listed_test is_txn xs u (h u (has_listed ids u k)))
 
-  begun_to : (m : Member) → is_begun xs m ≡ true → (¬ T m.id) × ((u : TxnId) × IsListed is_txn m.mates u × T u)
+  pub begun_to : (m : Member) → is_begun xs m ≡ true → (¬ T m.id) × ((u : TxnId) × IsListed is_txn m.mates u × T u)
   begun_to m h =
       let q = and_parts (is_left xs m) (list_any (is_listed is_txn xs) m.mates) h in
       let u = any_has (is_listed is_txn xs) m.mates q.1 in
@@ -54,7 +54,7 @@ module _ (xs : List TxnId) where
   begun_from : (m : Member) → ¬ T m.id → (u : TxnId) → IsListed is_txn m.mates u → T u → is_begun xs m ≡ true
   begun_from m n u l t = and_from (is_left xs m) (list_any (is_listed is_txn xs) m.mates) (left_from m n) (has_any (is_listed is_txn xs) m.mates u (listed_has m.mates u l) (listed_test is_txn xs u t))
 
-  ready_to : (m : Member) → is_ready xs m ≡ true → (¬ T m.id) × ((u : TxnId) → IsListed is_txn m.before u → T u)
+  pub ready_to : (m : Member) → is_ready xs m ≡ true → (¬ T m.id) × ((u : TxnId) → IsListed is_txn m.before u → T u)
   ready_to m h = let q = and_parts (is_left xs m) (list_all (is_listed is_txn xs) m.before) h in (left_to m q.0, all_to m.before q.1)
 
   ready_from : (m : Member) → ¬ T m.id → ((u : TxnId) → IsListed is_txn m.before u → T u) → is_ready xs m ≡ true
@@ -185,7 +185,7 @@ module _ (E I : TxnId → TxnId → Type 0) (M : List TxnId) (members : List Mem
           }
 
       -- where a member is left, one is ready
-      some_ready : (x : TxnId) → IsListed is_txn M x → ¬ T xs x → (m : Member) × Has m members × (is_ready xs m ≡ true)
+      pub some_ready : (x : TxnId) → IsListed is_txn M x → ¬ T xs x → (m : Member) × Has m members × (is_ready xs m ≡ true)
       some_ready x l n =
           let z = some_low (ReachesOrIs A) (λ a. inl refl) (reach_trans A) left_ids x (in_left x l n) (λ a b h k. reach_or_not a b (left_in b k).0) in
           let o = left_in z.0 z.1 in

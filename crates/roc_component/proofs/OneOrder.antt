@@ -10,7 +10,7 @@ use Rattle.roc_base.specs.Inner.Equalities.{is_txn-true, is_txn-same}
 use Rattle.roc_component.specs.Components.{Mates, IsNextInside, IsNext, among, IsComponentOrder}
 use Rattle.roc_component.proofs.Relations.{mates_sym, mates_trans, ready_mate, free_mate, next_by, no_descent}
 
-cases_txn : (a b : TxnId) → (a ≡ b) ⊎ (¬ (a ≡ b))
+pub cases_txn : (a b : TxnId) → (a ≡ b) ⊎ (¬ (a ≡ b))
 cases_txn a b = go (is_txn a b) refl
   where
     go : (c : Bool) → is_txn a b ≡ c → (a ≡ b) ⊎ (¬ (a ≡ b))

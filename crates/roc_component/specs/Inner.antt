@@ -1,4 +1,6 @@
--- What the contracts of private functions alone cite: the lists of a set of transactions, who reaches whom, and which member comes next
+-- What the contracts of private functions alone cite: the lists of a set of transactions, what comes before what, the search for components, and turns
 pub mod Within
-pub mod Ancestry
-pub mod Member
+pub mod Before
+pub mod Search
+pub mod Turns
+pub mod Queue

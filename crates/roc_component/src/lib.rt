@@ -7,11 +7,13 @@
 //! are known.
 #![tactic(auto)]
 
-mod ancestry;
+mod before;
 mod component_order;
 pub mod laws;
-mod member;
+mod queue;
+mod search;
 mod taken;
+mod turn;
 mod within;
 
 pub use component_order::order;

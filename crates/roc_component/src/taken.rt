@@ -1,6 +1,5 @@
 //! The members that were taken so far.
 ghost use Rattle.std.specs.Prelude.{◌≡◌, ◌++◌, ◌∷◌, [], OnOk};
-ghost use Rattle.std.specs.List.{list_any, list_all};
 ghost use Rattle.roc_base.specs.TxnId.{is_txn};
 ghost use Rattle.roc_sequence.specs.Places.{is_listed};
 
@@ -48,22 +47,18 @@ impl Taken {
         self.ids.contains(&id)
     }
 
-    // Whether one of the ids was taken.
-    pub(crate) fn contains_any(&self, ids: &[TxnId]) -> bool
-        ensures { result ≡ list_any (is_listed is_txn self.now) ids.now }
+    // Takes ids one after another.
+    pub(crate) fn extend(&mut self, ids: &[TxnId]) -> Result<(), NoMemory>
+        ensures { OnOk result (self.new ≡ self.old ++ ids.now) }
     {
-        ids.iter().any(|id| self.contains(*id))
-    }
-
-    // Whether all of the ids were taken.
-    pub(crate) fn contains_all(&self, ids: &[TxnId]) -> bool
-        ensures { result ≡ list_all (is_listed is_txn self.now) ids.now }
-    {
-        ids.iter().all(|id| self.contains(*id))
+        for id in ids {
+            self.push(*id)?;
+        }
+        Ok(())
     }
 
     // Takes an id.
-    pub(crate) fn push(&mut self, id: TxnId) -> Result<(), NoMemory>
+    fn push(&mut self, id: TxnId) -> Result<(), NoMemory>
         ensures { OnOk result (self.new ≡ self.old ++ id ∷ []) }
     {
         self.order.reserve(1)?;
