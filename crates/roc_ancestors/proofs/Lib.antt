@@ -1,0 +1,4 @@
+pub mod Fronts
+pub mod Put
+pub mod Leads
+pub mod Kept_rows
