@@ -1,9 +1,6 @@
 -- Lacks, once one more list is known
-use Rattle.std.proofs.Common.{◌≡◌, ℕ, zero, suc, ◌+◌, ◌-◌, get_or, take, ◌⊎◌, inl, inr, ◌<◌, Bool, true, false, not, List, [], ◌∷◌, ◌++◌, length, map, filter, None, is_some, refl, sym, ap, subst, ◌∙◌, arith}
+use Rattle.std.proofs.Common.{◌≡◌, ◌⊎◌, inl, inr, ◌<◌, Bool, true, false, not, List, [], ◌∷◌, ◌++◌, length, map, filter, None, is_some, refl, sym, ap, subst, ◌∙◌, arith}
 use Rattle.std.proofs.lemmas.Bool.{false≢true, not-true, eqb-true, eqb-false}
-use Rattle.std.proofs.lemmas.List.{get_or_default, get_or-take, length-take-le}
-use Rattle.std.specs.List.{AllByRecursion}
-use Rattle.roc_sequence.proofs.Fronts.{front_more}
 use Rattle.roc_sequence.specs.Lists.{Has}
 use Rattle.roc_sequence.specs.Places.{IsListed, is_listed}
 use Rattle.roc_sequence.proofs.Appended.{listed_front, listed_behind, listed_either}
@@ -20,10 +17,11 @@ use Rattle.roc_depgraph.specs.Closure.{IsRisingListOf}
 use Rattle.roc_depgraph.specs.Deps.{list_of, is_known, IsKnown, IsDecided, learnt}
 use Rattle.roc_depgraph.proofs.Decided.{known_of_decided}
 use Rattle.roc_depgraph.proofs.Laws.{learnt_keeps, list_of-learnt_other, known_stays, decided_stays}
-use Rattle.roc_depgraph.proofs.Listed.{has_under, under_has, in_one}
+use Rattle.roc_depgraph.proofs.Listed.{has_under, under_has}
 use Rattle.roc_await.specs.declared.lack.Lack.{Lack}
 use Rattle.roc_await.specs.Lacks.{IsMissing, IsLack, AreLacks, AreDecidedBy}
-use Rattle.roc_await.specs.Inner.Grown.{IsGrown, Grows, AreEachGrown, AreGrownSoFar, others, lacks_none}
+use Rattle.roc_await.specs.Inner.Grown.{IsGrown, Grows, AreGrown, GrewFrom, others, lacks_none}
+use Rattle.roc_await.specs.Inner.Taken.{AreLacksSince}
 use Rattle.roc_await.proofs.OneMore.{u_known, u_unknown, unknown_other, missing_stays, missing_through, missing_split}
 use Rattle.roc_await.proofs.NamedMissing.{other_test, test_other}
 
@@ -99,119 +97,80 @@ module _ (known : List KnownList) (u : TxnId) (edges : List Dependency) (none : 
 
   -- ---- all lacks
 
-  record WereGrown (olds news : List Lack) : Type 0 where
-    each : AllByRecursion (IsLack more) news
-    before : AllByRecursion (λ l. ¬ IsDecided known l.of) news
-    ofs : map (λ l. l.of) news ≡ map (λ l. l.of) olds ++ u ∷ []
+  own_lack : IsLack more (record { of = u; missing = fresh })
+  own_lack = record { known_of = u_known known u edges none; missing = are_fresh }
 
-  all_grow : (olds news : List Lack) → AllByRecursion (IsLack known) olds → AllByRecursion (λ l. 0 < length l.missing) olds → AreEachGrown u fresh olds news → WereGrown olds news
-  all_grow [] news each some e = subst (WereGrown []) (sym e) (record {
-    each = (record { known_of = u_known known u edges none; missing = are_fresh }, tt);
-    before = (λ d. u_unknown known u edges none d.own, tt);
-    ofs = refl;
-  })
-  all_grow (l ∷ ls) [] each some g = absurd g
-  all_grow (l ∷ ls) (n ∷ ns) each some g =
-      let rest : WereGrown ls ns = all_grow ls ns each.1 some.1 g.1 in
-      record {
-        each = (lack_grows l n each.0 g.0, rest.each);
-        before = (λ d. some_undecided known l each.0 some.0 (subst (IsDecided known) g.0.of d), rest.before);
-        ofs = ap (λ t. t ∷ map (λ l. l.of) ns) g.0.of ∙ ap (λ ts. l.of ∷ ts) rest.ofs;
-      }
+  module _ (before : List KnownList) (olds news : List Lack) (since : AreLacksSince before known olds) (g : AreGrown u fresh olds news) where
+    still_lack : (l : Lack) → GrewFrom u fresh olds l → IsLack more l
+    still_lack l w = lack_grows w.old l (since.each w.old w.there) w.grown
 
-  module _ (lacks grown : List Lack) (are : AreLacks known lacks) (g : AreEachGrown u fresh lacks grown) where
-    were : WereGrown lacks grown
-    were = all_grow lacks grown are.each are.some g
+    -- u was unknown even before
+    u_undecided : ¬ IsDecided before u
+    u_undecided d = u_unknown known u edges none (known_stays before known since.keeps u d.own)
 
-    -- of a known transaction, that was not decided, there is a lack among those that grew
-    grown_of : (t : TxnId) → IsKnown more t → IsDecided known t ⊎ ((l : Lack) × Has l grown × (l.of ≡ t))
-    grown_of t k = go (is_txn u t) refl
+    of_known : (t : TxnId) → IsKnown more t → IsDecided before t ⊎ ((l : Lack) × Has l news × (l.of ≡ t))
+    of_known t k = go (is_txn u t) refl
       where
-        behind : IsListed is_txn (map (λ l. l.of) lacks ++ u ∷ []) t → (l : Lack) × Has l grown × (l.of ≡ t)
-        behind l = has_under (λ l. l.of) grown t (subst (λ ts. IsListed is_txn ts t) (sym were.ofs) l)
+        go : (b : Bool) → is_txn u t ≡ b → IsDecided before t ⊎ ((l : Lack) × Has l news × (l.of ≡ t))
+        go true e = inr (record { of = u; missing = fresh }, g.own, is_txn-true u t e)
+        go false e =
+            let back : IsKnown known t = subst (λ o. is_some o ≡ true) (list_of-learnt_other known u edges t e) k in
+            elim (since.all t back) [
+              | inl d ↦ inl d
+              | inr w ↦ (let n = g.each w.0 w.1 in inr (n.new, n.there, n.of ∙ w.2))
+            ]
 
-        go : (b : Bool) → is_txn u t ≡ b → IsDecided known t ⊎ ((l : Lack) × Has l grown × (l.of ≡ t))
-        go true e = inr (behind (subst (IsListed is_txn (map (λ l. l.of) lacks ++ u ∷ [])) (is_txn-true u t e) (listed_behind is_txn (map (λ l. l.of) lacks) (u ∷ []) u (in_one u))))
-        go false e = elim (are.all t (known_back t e k)) [ inl d ↦ inl d | inr l ↦ inr (behind (listed_front is_txn (map (λ l. l.of) lacks) (u ∷ []) t l)) ]
-          where
-            known_back : (t : TxnId) → is_txn u t ≡ false → IsKnown more t → IsKnown known t
-            known_back t e k = subst (λ o. is_some o ≡ true) (list_of-learnt_other known u edges t e) k
-
-    pub some_left : AreLacks more (filter (λ l. not (lacks_none l)) grown)
-    some_left = record {
-      each = has_all (IsLack more) (filter (λ l. not (lacks_none l)) grown) (λ l h. all_has (IsLack more) l grown were.each (from_has_filter (λ l. not (lacks_none l)) l grown h).0);
-      some = has_all (λ l. 0 < length l.missing) (filter (λ l. not (lacks_none l)) grown) (λ l h. some_of_test l (not-true (lacks_none l) (from_has_filter (λ l. not (lacks_none l)) l grown h).1));
-      all = λ t k. elim (grown_of t k) [ inl d ↦ inl (decided_stays known more (learnt_keeps known u edges) t d) | inr w ↦ go t w.0 w.1 w.2 (lacks_none w.0) refl ];
+    pub grown_since : AreLacksSince before more news
+    grown_since = record {
+      keeps = λ t k. learnt_keeps known u edges t (known_stays before known since.keeps t k) ∙ since.keeps t k;
+      each = λ l h. elim (g.only l h) [ inl w ↦ still_lack l w | inr e ↦ subst (IsLack more) (sym e) own_lack ];
+      undecided = λ l h d. elim (g.only l h) [
+        | inl w ↦ since.undecided w.old w.there (subst (IsDecided before) w.grown.of d)
+        | inr e ↦ u_undecided (subst (λ (x : Lack). IsDecided before x.of) e d)
+      ];
+      all = of_known;
     }
-      where
-        go : (t : TxnId) (l : Lack) → Has l grown → l.of ≡ t → (b : Bool) → lacks_none l ≡ b → IsDecided more t ⊎ IsListed is_txn (map (λ l. l.of) (filter (λ l. not (lacks_none l)) grown)) t
-        go t l h e true n = inl (subst (IsDecided more) e (none_decided more l (all_has (IsLack more) l grown were.each h) n))
-        go t l h e false n =
-            inr (subst (IsListed is_txn (map (λ l. l.of) (filter (λ l. not (lacks_none l)) grown))) e
-            (under_has (λ l. l.of) (filter (λ l. not (lacks_none l)) grown) l (has_filter (λ l. not (lacks_none l)) l grown h (ap not n))))
 
-    pub newly : AreDecidedBy known more (map (λ l. l.of) (filter lacks_none grown))
-    newly = record {
-      only = λ t h.
-          let w = has_under (λ l. l.of) (filter lacks_none grown) t h in
-          let f = from_has_filter lacks_none w.0 grown w.1 in
-          (subst (IsDecided more) w.2 (none_decided more w.0 (all_has (IsLack more) w.0 grown were.each f.0) f.1), λ d. all_has (λ l. ¬ IsDecided known l.of) w.0 grown were.before f.0 (subst (IsDecided known) (sym w.2) d));
-      all = λ t d n. elim (grown_of t d.own) [ inl before ↦ absurd (n before) | inr w ↦ go t w.0 w.1 w.2 d (lacks_none w.0) refl ];
-    }
-      where
-        go : (t : TxnId) (l : Lack) → Has l grown → l.of ≡ t → IsDecided more t → (b : Bool) → lacks_none l ≡ b → IsListed is_txn (map (λ l. l.of) (filter lacks_none grown)) t
-        go t l h e d true n = subst (IsListed is_txn (map (λ l. l.of) (filter lacks_none grown))) e (under_has (λ l. l.of) (filter lacks_none grown) l (has_filter lacks_none l grown h n))
-        go t l h e d false n = absurd (some_undecided more l (all_has (IsLack more) l grown were.each h) (some_of_test l n) (subst (IsDecided more) (sym e) d))
+-- ---- from what was lacking before to what is lacking now
 
--- ---- lacks that grow one by one
-
-pub one_more_grown : (u : TxnId) (fresh : List TxnId) (olds news : List Lack) (old new : Lack) → AreGrownSoFar u fresh olds news → IsGrown u fresh old new → AreGrownSoFar u fresh (olds ++ old ∷ []) (news ++ new ∷ [])
-one_more_grown u fresh [] [] old new so g = (g, tt)
-one_more_grown u fresh [] (n ∷ ns) old new so g = absurd so
-one_more_grown u fresh (l ∷ ls) [] old new so g = absurd so
-one_more_grown u fresh (l ∷ ls) (n ∷ ns) old new so g = (so.0, one_more_grown u fresh ls ns old new so.1 g)
-
-pub its_own : (u : TxnId) (fresh : List TxnId) (olds news : List Lack) → AreGrownSoFar u fresh olds news → AreEachGrown u fresh olds (news ++ record { of = u; missing = fresh } ∷ [])
-its_own u fresh [] [] so = refl
-its_own u fresh [] (n ∷ ns) so = absurd so
-its_own u fresh (l ∷ ls) [] so = absurd so
-its_own u fresh (l ∷ ls) (n ∷ ns) so = (so.0, its_own u fresh ls ns so.1)
-
--- each of them stands where it stood
-pub grown_length : (u : TxnId) (fresh : List TxnId) (olds news : List Lack) → AreGrownSoFar u fresh olds news → length news ≡ length olds
-grown_length u fresh [] [] so = refl
-grown_length u fresh [] (n ∷ ns) so = absurd so
-grown_length u fresh (l ∷ ls) [] so = absurd so
-grown_length u fresh (l ∷ ls) (n ∷ ns) so = ap suc (grown_length u fresh ls ns so.1)
-
-pub grown_there : (u : TxnId) (fresh : List TxnId) (olds news : List Lack) (i : ℕ) (d e : Lack) → AreGrownSoFar u fresh olds news → i < length olds → IsGrown u fresh (get_or olds i d) (get_or news i e)
-grown_there u fresh [] news i d e so h = absurd (omega arith)
-grown_there u fresh (l ∷ ls) [] i d e so h = absurd so
-grown_there u fresh (l ∷ ls) (n ∷ ns) zero d e so h = so.0
-grown_there u fresh (l ∷ ls) (n ∷ ns) (suc i) d e so h = grown_there u fresh ls ns i d e so.1 (omega arith)
-
--- what is missing for two alike is so afterwards
-pub grown_alike : (u : TxnId) (fresh : List TxnId) (old new other after : Lack) → IsGrown u fresh old new → other.missing ≡ old.missing → after.of ≡ other.of → after.missing ≡ new.missing → IsGrown u fresh other after
-grown_alike u fresh old new other after g same of e = record {
-  of = of;
-  missing = subst (λ ids. Grows other.missing u fresh ids (is_listed is_txn other.missing u)) (sym e) (subst (λ ids. Grows ids u fresh new.missing (is_listed is_txn ids u)) (sym same) g.missing);
+pub lacks_since : (before : List KnownList) (lacks : List Lack) → AreLacks before lacks → AreLacksSince before before lacks
+lacks_since before lacks are = record {
+  keeps = λ t k. refl;
+  each = λ l h. all_has (IsLack before) l lacks are.each h;
+  undecided = λ l h. some_undecided before l (all_has (IsLack before) l lacks are.each h) (all_has (λ (x : Lack). 0 < length x.missing) l lacks are.some h);
+  all = λ t k. elim (are.all t k) [ inl d ↦ inl d | inr l ↦ inr (has_under (λ (x : Lack). x.of) lacks t l) ];
 }
 
--- the lack behind another for which the same is missing
-pub grown_as_before : (u : TxnId) (fresh : List TxnId) (lacks grown : List Lack) (at : ℕ) (a b g : Lack) → 0 < at → at < length lacks → AreGrownSoFar u fresh (take at lacks) grown → a ≡ get_or lacks at a → b ≡ get_or lacks (at - 1) b → g ≡ get_or grown (at - 1) g → a.missing ≡ b.missing → (d after : Lack) → after.of ≡ a.of → after.missing ≡ g.missing → IsGrown u fresh (get_or lacks at d) after
-grown_as_before u fresh lacks grown at a b g some within so is_a is_b is_g same d after of missing =
-    subst (λ old. IsGrown u fresh old after) (is_a ∙ get_or_default lacks at a d within) (grown_alike u fresh b g a after before same of missing)
-  where
-    before : IsGrown u fresh b g
-    before =
-        let n = length-take-le at lacks (omega arith) in
-        let p = grown_there u fresh (take at lacks) grown (at - 1) b g so (omega arith) in
-        subst (λ old. IsGrown u fresh old g) (get_or-take at lacks (at - 1) b (omega arith) ∙ sym is_b) (subst (IsGrown u fresh (get_or (take at lacks) (at - 1) b)) (sym is_g) p)
+module _ (before known : List KnownList) (lacks : List Lack) (since : AreLacksSince before known lacks) where
+  abbrev lacks_some : Lack → Bool
+  lacks_some l = not (lacks_none l)
 
--- the next one
-pub next_grown : (u : TxnId) (fresh : List TxnId) (lacks grown after : List Lack) (at : ℕ) (new : Lack) → at < length lacks → AreGrownSoFar u fresh (take at lacks) grown → ((d : Lack) → IsGrown u fresh (get_or lacks at d) new) → after ≡ grown ++ new ∷ [] → AreGrownSoFar u fresh (take (at + 1) lacks) after
-next_grown u fresh lacks grown after at new within so is e =
-    let old = get_or lacks at new in
-    subst (AreGrownSoFar u fresh (take (at + 1) lacks)) (sym e)
-    (subst (λ olds. AreGrownSoFar u fresh olds (grown ++ new ∷ [])) (front_more lacks at old within (get_or_default lacks at new old within))
-    (one_more_grown u fresh (take at lacks) grown old new so (is new)))
+  pub some_left : AreLacks known (filter lacks_some lacks)
+  some_left = record {
+    each = has_all (IsLack known) (filter lacks_some lacks) (λ l h. since.each l (from_has_filter lacks_some l lacks h).0);
+    some = has_all (λ (l : Lack). 0 < length l.missing) (filter lacks_some lacks) (λ l h. some_of_test l (not-true (lacks_none l) (from_has_filter lacks_some l lacks h).1));
+    all = λ t k. elim (since.all t k) [ inl d ↦ inl (decided_stays before known since.keeps t d) | inr w ↦ go t w.0 w.1 w.2 (lacks_none w.0) refl ];
+  }
+    where
+      go : (t : TxnId) (l : Lack) → Has l lacks → l.of ≡ t → (b : Bool) → lacks_none l ≡ b → IsDecided known t ⊎ IsListed is_txn (map (λ l. l.of) (filter lacks_some lacks)) t
+      go t l h e true n = inl (subst (IsDecided known) e (none_decided known l (since.each l h) n))
+      go t l h e false n =
+          inr (subst (IsListed is_txn (map (λ l. l.of) (filter lacks_some lacks))) e
+          (under_has (λ (x : Lack). x.of) (filter lacks_some lacks) l (has_filter lacks_some l lacks h (ap not n))))
+
+  pub newly : AreDecidedBy before known (map (λ l. l.of) (filter lacks_none lacks))
+  newly = record {
+    only = λ t h.
+        let w = has_under (λ (x : Lack). x.of) (filter lacks_none lacks) t h in
+        let f = from_has_filter lacks_none w.0 lacks w.1 in
+        (subst (IsDecided known) w.2 (none_decided known w.0 (since.each w.0 f.0) f.1), λ d. since.undecided w.0 f.0 (subst (IsDecided before) (sym w.2) d));
+    all = λ t d n. elim (since.all t d.own) [ inl was ↦ absurd (n was) | inr w ↦ go t w.0 w.1 w.2 d (lacks_none w.0) refl ];
+  }
+    where
+      go : (t : TxnId) (l : Lack) → Has l lacks → l.of ≡ t → IsDecided known t → (b : Bool) → lacks_none l ≡ b → IsListed is_txn (map (λ l. l.of) (filter lacks_none lacks)) t
+      go t l h e d true n = subst (IsListed is_txn (map (λ l. l.of) (filter lacks_none lacks))) e (under_has (λ (x : Lack). x.of) (filter lacks_none lacks) l (has_filter lacks_none l lacks h n))
+      go t l h e d false n = absurd (some_undecided known l (since.each l h) (some_of_test l n) (subst (IsDecided known) (sym e) d))
+
+-- the same ids in another order, and each once
+pub same_decided : (before known : List KnownList) (ids rising : List TxnId) → AreDecidedBy before known ids → IsRisingListOf (IsListed is_txn ids) rising → AreDecidedBy before known rising
+same_decided before known ids rising d r = record { only = λ t l. d.only t (r.sound t l); all = λ t k n. r.complete t (d.all t k n) }

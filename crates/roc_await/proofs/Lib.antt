@@ -1,6 +1,9 @@
 pub mod OneMore
 pub mod NamedMissing
 pub mod GrownLacks
+pub mod InGroups
+pub mod NextList
+pub mod Taking
+pub mod Regrouped
 pub mod Asking
-pub mod More
 pub mod Counted

@@ -1,2 +1,4 @@
 -- What stands here is of private functions alone
+pub mod Groups
 pub mod Grown
+pub mod Taken

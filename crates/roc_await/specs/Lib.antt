@@ -1,3 +1,4 @@
 pub mod Waits
 pub mod Lacks
+pub mod Learning
 pub mod Inner

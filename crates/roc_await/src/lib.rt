@@ -1,10 +1,12 @@
 //! What a server waits for.
 #![tactic(auto)]
 
+mod group;
 mod grown;
 mod lack;
 mod lacks;
 mod missing;
+mod taught;
 mod waits;
 
 pub use lack::Lack;

@@ -1,90 +1,99 @@
 //! What is missing for a transaction whose list is new.
-ghost use Rattle.std.specs.Prelude.{◌≡◌, ◌++◌, None, List, not, filter, find, IfOk, OnOk};
-ghost use Rattle.std.specs.Option.{option_copied};
-ghost use Rattle.roc_base.specs.declared.id.TxnId.{TxnId as Id};
-ghost use Rattle.roc_base.specs.TxnId.{is_txn};
+ghost use Rattle.std.specs.Prelude.{◌≡◌, ◌∷◌, ◌++◌, List, Some, map, filter, IfOk, OnOk};
+ghost use Rattle.std.specs.List.{flat_map};
+ghost use Rattle.roc_depgraph.specs.declared.known.KnownList.{KnownList as Told};
 ghost use Rattle.roc_depgraph.specs.Closure.{IsRisingListOf};
 ghost use Rattle.roc_depgraph.specs.Deps.{list_of, learnt};
-ghost use Rattle.roc_await.specs.Lacks.{IsMissing, AreLacks};
-ghost use Rattle.roc_await.specs.Inner.Grown.{AreListed, IsMissingBut, IsMissingFor, others};
+ghost use Rattle.roc_await.specs.Lacks.{IsMissing};
+ghost use Rattle.roc_await.specs.Inner.Grown.{others};
+ghost use Rattle.roc_await.specs.Inner.Groups.{all_lacks, is_other_unknown, missing_if_named, names_any};
+ghost use Rattle.roc_await.specs.Inner.Taken.{AreTaken};
 
-use crate::Lack;
-use roc_base::{Edge, NoMemory, TxnId};
+use crate::group::Group;
+use roc_base::{Edge, Edges, NoMemory, TxnId, is_among};
 use roc_component::rising;
-use roc_depgraph::{Deps, KnownList};
+use roc_depgraph::Deps;
 use std::alloc::Global;
 
-// What is missing for a transaction once its list is known, rising.
+// What is missing for a transaction once its list is known, rising. The lists of the later ones count as unknown.
 pub(crate) fn missing_for(
     alloc: Global,
     deps: &Deps,
-    lacks: &[Lack],
-    more: &KnownList,
+    groups: &[Group],
+    id: TxnId,
+    edges: &Edges,
+    later: &[TxnId],
 ) -> Result<Vec<TxnId>, NoMemory>
-    requires lacks { AreLacks deps.now lacks.now }
-    requires unknown { list_of more.now.of deps.now ≡ None }
-    ensures { IfOk result (λ ids. IsRisingListOf (IsMissing (learnt deps.now more.now.of more.now.edges) more.now.of) ids.items) }
+    ensures { IfOk result (λ ids. (before : List Told) → (taken : AreTaken before deps.now (id ∷ later.now) (all_lacks groups.now)) → list_of id deps.now ≡ Some edges.now → IsRisingListOf (IsMissing (learnt taken.known id edges.now) id) ids.items) }
 {
-    let ids = missing_for_all(alloc, deps, lacks, more.of, more.edges.as_slice())?;
-    let all = rising(alloc, &ids)?;
-    Ok(all)
+    let mut ids = missing_for_named(alloc, groups, id, edges)?;
+    let unknown = unknown_named(alloc, deps, edges.as_slice(), id, later)?;
+    ids.extend_from_slice(&unknown)?;
+    let missing = rising(alloc, &ids)?;
+    Ok(missing)
 }
 
-// What is missing for what these entries name, but for one.
-fn missing_for_all(
+// What is missing for those that entries name, but for one. A group is looked at once, however many of it are named.
+fn missing_for_named(
     alloc: Global,
-    deps: &Deps,
-    lacks: &[Lack],
+    groups: &[Group],
     but: TxnId,
-    edges: &[Edge],
+    edges: &Edges,
 ) -> Result<Vec<TxnId>, NoMemory>
-    requires lacks { AreLacks deps.now lacks.now }
-    requires unknown { list_of but deps.now ≡ None }
-    ensures { IfOk result (λ ids. AreListed (IsMissingFor deps.now but edges.now) ids.items) }
+    ensures { IfOk result (λ ids. ids.items ≡ flat_map (missing_if_named but edges.now) groups.now) }
 {
     let mut ids = Vec::new(alloc);
-    for edge in edges {
-        push_missing(alloc, deps, lacks, but, edge.from(), &mut ids)?;
+    for group in groups {
+        push_missing(alloc, group, but, edges, &mut ids)?;
     }
     Ok(ids)
 }
 
-// What is missing for one that an entry names, but for another.
 fn push_missing(
     alloc: Global,
-    deps: &Deps,
-    lacks: &[Lack],
+    group: &Group,
     but: TxnId,
-    id: TxnId,
+    edges: &Edges,
     ids: &mut Vec<TxnId>,
 ) -> Result<(), NoMemory>
-    requires lacks { AreLacks deps.now lacks.now }
-    requires unknown { list_of but deps.now ≡ None }
-    ensures { OnOk result ((more : List Id) × (ids.new.items ≡ ids.old.items ++ more) × AreListed (IsMissingBut deps.now but id) more) }
+    ensures { OnOk result (ids.new.items ≡ ids.old.items ++ missing_if_named but edges.now group.now) }
 {
-    if id == but {
+    if !names_any(edges, group.of.as_slice()) {
         return Ok(());
     }
-    match deps.list(id) {
-        None => {
-            ids.push(id)?;
-            Ok(())
-        }
-        Some(_) => match find_lack(lacks, id) {
-            Some(lack) => {
-                push_others(alloc, lack.missing.as_slice(), but, ids)?;
-                Ok(())
-            }
-            None => Ok(()),
-        },
-    }
+    push_others(alloc, group.missing.as_slice(), but, ids)
 }
 
-// What a transaction lacks.
-pub(crate) fn find_lack(lacks: &[Lack], id: TxnId) -> Option<&Lack>
-    ensures { option_copied result ≡ find (λ l. is_txn l.of id) lacks.now }
+// Whether entries name one of these.
+fn names_any(edges: &Edges, ids: &[TxnId]) -> bool
+    ensures { result ≡ names_any edges.now ids.now }
 {
-    lacks.iter().find(|lack| lack.of == id)
+    ids.iter().any(|id| edges.find(*id).is_some())
+}
+
+// Those that entries name and whose lists are unknown, but for one.
+fn unknown_named(
+    alloc: Global,
+    deps: &Deps,
+    edges: &[Edge],
+    but: TxnId,
+    later: &[TxnId],
+) -> Result<Vec<TxnId>, NoMemory>
+    ensures { IfOk result (λ ids. ids.items ≡ filter (is_other_unknown deps.now later.now but) (map (λ d. d.from) edges.now)) }
+{
+    Ok(
+        edges
+            .iter()
+            .map(|edge| edge.from())
+            .filter(|id| is_other_unknown(deps, later, but, *id))
+            .collect(alloc)?,
+    )
+}
+
+fn is_other_unknown(deps: &Deps, later: &[TxnId], but: TxnId, id: TxnId) -> bool
+    ensures { result ≡ is_other_unknown deps.now later.now but id }
+{
+    id != but && (is_among(later, id) || deps.list(id).is_none())
 }
 
 // Adds ids, but for one.

@@ -25,7 +25,6 @@ mod Serial
 mod Earlier
 pub mod Carried
 mod Gathered
-mod Unions
 mod Networks
 mod Finals
 mod Fetches

@@ -85,10 +85,10 @@ module _ (plan : Plan) (shard : Shard) (old : Kept) (before : Outbox) (id : TxnI
             decides = h.decides;
           })
 
-      pub commit_repeated : (after : Outbox) → is_listed is_txn old.decided id ≡ true → after ≡ record mid { messages = mid.messages ++ commitok plan shard new.started.items id ∷ [] } → Commits plan shard old new before after id edges facts Done
+      pub commit_repeated : (after : Outbox) → is_listed is_txn old.decided id ≡ true → after ≡ record mid { messages = mid.messages ++ commitok plan shard new.started id ∷ [] } → Commits plan shard old new before after id edges facts Done
       commit_repeated after b sent =
           let h = taught_here.shown in
-          let own : commitok plan shard new.started.items id ≡ commitok_of plan step.state id = ap (λ (st : ServerState). commitok_of plan st id) (sym h.keeps) in
+          let own : commitok plan shard new.started id ≡ commitok_of plan step.state id = ap (λ (st : ServerState). commitok_of plan st id) (sym h.keeps) in
           made after (record {
             answers = refl;
             keeps = h.keeps;

@@ -1,5 +1,5 @@
 -- A server that keeps nothing but cells
-use Rattle.std.proofs.Common.{◌≡◌, List, [], sym, subst, arith, false}
+use Rattle.std.proofs.Common.{◌≡◌, List, [], refl, sym, subst, arith, false}
 use Rattle.std.proofs.lemmas.Bool.{false≢true}
 use Rattle.std.specs.List.Sorted.{IsStrictlySortedBy}
 use Rattle.roc_sequence.specs.Places.{IsListed, NoneTwice}
@@ -9,7 +9,10 @@ use Rattle.roc_depgraph.specs.declared.known.KnownList.{KnownList}
 use Rattle.roc_depgraph.specs.Deps.{IsDecided}
 use Rattle.roc_server.specs.declared.kept.Kept.{Kept}
 use Rattle.std.specs.List.{AllByRecursion, flat_map}
+use Rattle.std.proofs.lemmas.Option.{none-some}
+use Rattle.roc_ancestors.specs.Least.{AreRows}
 use Rattle.roc_await.specs.Lacks.{AreLacks}
+use Rattle.roc_server.specs.Inner.Indexed.{IsIndexOf}
 use Rattle.roc_server.specs.Inner.Kept.{IsConsistent, is_left, is_same_group}
 
 pub none_rise : IsStrictlySortedBy txn_cmp []
@@ -25,14 +28,19 @@ unlisted_none t l = omega arith
 no_lacks : AreLacks [] []
 no_lacks = record { each = tt; some = tt; all = λ t h. absurd (false≢true h) }
 
-pub nothing_sound : (k : Kept) → k.started.items ≡ [] → k.deps ≡ [] → k.decided ≡ [] → k.lacks ≡ [] → IsConsistent k
-nothing_sound k started deps decided lacks =
+no_spots : IsIndexOf [] [] []
+no_spots c = refl
+
+pub nothing_sound : (k : Kept) → k.started ≡ [] → k.deps ≡ [] → k.decided ≡ [] → k.ancestors ≡ [] → k.lacks ≡ [] → k.index ≡ [] → IsConsistent k
+nothing_sound k started deps decided ancestors lacks index =
     let once : NoneTwice is_same_group [] = tt in
     record {
       groups_once = subst (NoneTwice is_same_group) (sym started) once;
       decided_rising = subst (IsStrictlySortedBy txn_cmp) (sym decided) none_rise;
       decided_only = λ t l. absurd (unlisted_none t (subst (λ (ids : List TxnId). IsListed is_txn ids t) decided l));
       decided_all = λ t d. absurd (none_decided t (subst (λ (ks : List KnownList). IsDecided ks t) deps d));
+      rows = subst (AreRows k.deps) (sym ancestors) (λ t ids is. absurd (none-some ids is));
       lacks = subst (λ (ks : List KnownList). AreLacks ks k.lacks) (sym deps) (subst (AreLacks []) (sym lacks) no_lacks);
+      index = subst (λ es. IsIndexOf k.index k.decided es) (sym started) (subst (λ ids. IsIndexOf k.index ids []) (sym decided) (subst (λ i. IsIndexOf i [] []) (sym index) no_spots));
       none_left = subst (λ (ks : List KnownList). AllByRecursion (λ d. is_left k d ≡ false) (flat_map (λ list. list.edges) ks)) (sym deps) tt;
     }

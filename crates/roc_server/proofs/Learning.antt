@@ -4,39 +4,34 @@ use Rattle.std.proofs.lemmas.Option.{none-some}
 use Rattle.roc_sequence.proofs.Fronts.{front_more, rest_at}
 use Rattle.roc_base.specs.declared.id.TxnId.{TxnId}
 use Rattle.roc_base.specs.Edge.{Dependency}
-use Rattle.roc_await.specs.declared.lack.Lack.{Lack}
-use Rattle.roc_await.specs.Lacks.{AreLacks, AreDecidedBy}
-use Rattle.roc_await.proofs.More.{decided_by_both}
+use Rattle.roc_await.specs.Lacks.{AreDecidedBy}
 use Rattle.roc_depgraph.specs.declared.known.KnownList.{KnownList}
 use Rattle.roc_depgraph.specs.declared.learnt.Learnt.{Learnt}
 use Rattle.roc_depgraph.specs.declared.learnt.Learnt.TheVariants.{New, Repeat, Differs}
 use Rattle.roc_depgraph.specs.Deps.{list_of, learnt}
 use Rattle.roc_depgraph.specs.Learnt.{Learns}
-use Rattle.roc_depgraph.proofs.Laws.{KeepsLists, learnt_keeps}
 use Rattle.roc_sequence.specs.Places.{IsListed}
 use Rattle.roc_base.specs.TxnId.{is_txn}
 use Rattle.roc_server.specs.declared.kept.Kept.{Kept}
 use Rattle.roc_server.specs.New.{AreAllNew}
 use Rattle.roc_server.specs.Inner.Kept.{IsConsistent}
 use Rattle.roc_server.specs.Inner.News.{AreLearnable}
-use Rattle.roc_server.proofs.Teach_steps.{keeps_front}
 
 -- a list of a transaction of which none was known is learnt
-pub learns_new : (id : TxnId) (edges : List Dependency) (old new : List KnownList) (answer : Learnt) → list_of id old ≡ None → Learns id edges old answer new → new ≡ learnt old id edges
+learns_new : (id : TxnId) (edges : List Dependency) (old new : List KnownList) (answer : Learnt) → list_of id old ≡ None → Learns id edges old answer new → new ≡ learnt old id edges
 learns_new id edges old new New none h = h.1
 learns_new id edges old new Repeat none h = absurd (none-some edges (sym none ∙ h.0))
 learns_new id edges old new Differs none h = absurd (none-some h.0.0 (sym none ∙ h.0.1))
 
-module _ (first deps new : List KnownList) (lacks : List Lack) (ids more : List TxnId) (news : List KnownList) (at : ℕ) (k : KnownList) (within : at < length news) (is : k ≡ get_or news at k)
-    (learnt_is : deps ≡ first ++ take at news) (learnable : AreLearnable deps (drop at news)) (lacks_are : AreLacks deps lacks) (decided : AreDecidedBy first deps ids)
-    (answer : Learnt) (learns : Learns k.of k.edges deps answer new) (decides : AreDecidedBy deps (learnt deps k.of k.edges) more) where
+module _ (first deps new : List KnownList) (news : List KnownList) (at : ℕ) (k : KnownList) (within : at < length news) (is : k ≡ get_or news at k)
+    (learnt_is : deps ≡ first ++ take at news) (learnable : AreLearnable deps (drop at news)) (answer : Learnt) (learns : Learns k.of k.edges deps answer new) where
   rest : drop at news ≡ k ∷ drop (at + 1) news
   rest = rest_at news at k within ∙ ap (λ x. x ∷ drop (at + 1) news) (sym is)
 
   next : AreLearnable deps (k ∷ drop (at + 1) news)
   next = subst (AreLearnable deps) rest learnable
 
-  pub new_is : new ≡ learnt deps k.of k.edges
+  new_is : new ≡ learnt deps k.of k.edges
   new_is = learns_new k.of k.edges deps new answer next.0 learns
 
   pub learnt_more : new ≡ first ++ take (at + 1) news
@@ -44,12 +39,6 @@ module _ (first deps new : List KnownList) (lacks : List Lack) (ids more : List 
 
   pub learnable_more : AreLearnable new (drop (at + 1) news)
   learnable_more = subst (λ ks. AreLearnable ks (drop (at + 1) news)) (sym new_is) next.1
-
-  pub decided_more : AreDecidedBy first new (ids ++ more)
-  decided_more =
-      subst (λ ks. AreDecidedBy first ks (ids ++ more)) (sym new_is)
-      (decided_by_both first deps (learnt deps k.of k.edges) lacks lacks_are
-      (subst (KeepsLists first) (sym learnt_is) (keeps_front first (take at news))) (learnt_keeps deps k.of k.edges) ids more decided decides)
 
 -- what new lists decide was not decided before, as it is kept
 pub not_taken : (old : Kept) (more : List KnownList) (ids : List TxnId) → IsConsistent old → AreDecidedBy old.deps more ids → AreAllNew (IsListed is_txn old.decided) more ids

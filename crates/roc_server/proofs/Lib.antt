@@ -1,10 +1,10 @@
+mod Added
 mod Commit_steps
 mod Dropped_askers
 mod First_cells
 mod Group_runs
 mod Kept_first
 mod Learnable
-mod Led_search
 mod Message_steps
 mod One_step
 mod Same_groups
@@ -14,3 +14,8 @@ mod Told_facts
 mod InOrder
 mod LeftOut
 mod Learning
+pub mod Unions
+mod Stands
+mod CellByCell
+mod Pairs
+mod Index_steps

@@ -1,5 +1,5 @@
 -- What comes of lists that are taught
-use Rattle.std.proofs.Common.{◌≡◌, Bool, true, false, cond, List, [], ◌∷◌, ◌++◌, Some, is_some, map, filter, refl, sym, ap, subst, ◌∙◌, append_assoc, inl, inr}
+use Rattle.std.proofs.Common.{◌≡◌, Bool, true, false, cond, List, [], ◌∷◌, ◌++◌, ◌||◌, Some, is_some, map, filter, refl, sym, ap, subst, ◌∙◌, append_assoc, inl, inr}
 use Rattle.std.proofs.lemmas.Bool.{false≢true}
 use Rattle.std.specs.List.{AllByRecursion, flat_map}
 use Rattle.roc_sequence.specs.Lists.{Has}
@@ -11,12 +11,15 @@ use Rattle.roc_await.specs.Waits.{Waiting, was_asked_for, with_all_asked}
 use Rattle.roc_await.specs.Lacks.{AreLacks}
 use Rattle.roc_await.proofs.Asking.{asked_still, asked_all}
 use Rattle.roc_server.proofs.LeftOut.{left_still, left_by_third, passed, missing_of}
-use Rattle.roc_sequence.specs.Places.{IsListed}
-use Rattle.roc_sequence.proofs.Places.{listed_or_not}
+use Rattle.roc_sequence.specs.Places.{is_listed, IsListed}
+use Rattle.roc_sequence.proofs.Places.{listed_or_not, listed_true, listed_false, listed_test, unlisted_test}
 use Rattle.roc_sequence.proofs.Appended.{listed_front, listed_behind, listed_either}
 use Rattle.roc_base.specs.declared.id.TxnId.{TxnId}
 use Rattle.roc_base.specs.declared.node.Shard.{Shard}
 use Rattle.roc_base.specs.TxnId.{is_txn}
+use Rattle.roc_base.proofs.Ids.{is_listed-any}
+use Rattle.roc_depgraph.specs.Closure.{IsRisingListOf}
+use Rattle.std.proofs.lemmas.List.Folds.{list_any-append}
 use Rattle.roc_await.specs.declared.waits.Asked.{Asked}
 use Rattle.roc_depgraph.specs.declared.known.KnownList.{KnownList}
 use Rattle.roc_depgraph.specs.Deps.{list_of, is_known, IsKnown, IsDecided}
@@ -29,11 +32,13 @@ use Rattle.roc_server.specs.declared.kept.Kept.{Kept}
 use Rattle.roc_server.specs.Runs.{commitok, commitok_of, take_all}
 use Rattle.roc_server.specs.New.{AreNew}
 use Rattle.roc_server.specs.Lists.{knowns_for, is_missing, asked_of, missing_from, fetch_from, waiting_after, lists_after, taught}
+use Rattle.roc_server.specs.Inner.Indexed.{AreOut}
 use Rattle.roc_server.specs.Inner.Kept.{state_of, holding, unrun, is_left, AreSameGroups, IsConsistent}
 use Rattle.roc_server.specs.Inner.Taught.{KnowsMore, DecidedTaken, Teaches}
 use Rattle.roc_server.specs.State.{is_here, ServerState}
 use Rattle.roc_server.specs.Step.{Shows}
 use Rattle.roc_server.proofs.Same_groups.{once_same, here_same}
+use Rattle.roc_server.proofs.Index_steps.{index_decided}
 
 -- more lists keep those that are known
 pub keeps_front : (old news : List KnownList) → KeepsLists old (old ++ news)
@@ -43,6 +48,17 @@ keeps_front (k ∷ ks) news t h = go (is_txn k.of t) h (keeps_front ks news t)
     go : (b : Bool) → is_some (cond b (Some k.edges) (list_of t ks)) ≡ true → (IsKnown ks t → list_of t (ks ++ news) ≡ list_of t ks) → cond b (Some k.edges) (list_of t (ks ++ news)) ≡ cond b (Some k.edges) (list_of t ks)
     go true e ih = refl
     go false e ih = ih e
+
+-- what is decided then, as a test
+decided_test : (before ids after : List TxnId) → IsRisingListOf (IsListed is_txn (before ++ ids)) after → (t : TxnId) → is_listed is_txn after t ≡ (is_listed is_txn before t || is_listed is_txn ids t)
+decided_test before ids after h t = go (is_listed is_txn (before ++ ids) t) refl ∙ parts
+  where
+    parts : is_listed is_txn (before ++ ids) t ≡ (is_listed is_txn before t || is_listed is_txn ids t)
+    parts = is_listed-any (before ++ ids) t ∙ list_any-append (λ x. is_txn x t) before ids ∙ (λ i. sym (is_listed-any before t) i || sym (is_listed-any ids t) i)
+
+    go : (b : Bool) → is_listed is_txn (before ++ ids) t ≡ b → is_listed is_txn after t ≡ is_listed is_txn (before ++ ids) t
+    go true e = listed_test is_txn after t (h.complete t (listed_true is_txn (before ++ ids) t e)) ∙ sym e
+    go false e = unlisted_test is_txn after t (λ l. listed_false is_txn (before ++ ids) t e (h.sound t l)) ∙ sym e
 
 module _ (plan : Plan) (shard : Shard) (old mid new : Kept) (before first second after : Outbox) (news : List KnownList) (ids : List TxnId) (found : List TxnId) (asks : List Asked) (sound : IsConsistent old) (m : KnowsMore shard old mid before first news asks found) (h : DecidedTaken plan shard mid new first second ids) (sent : after ≡ record second { messages = second.messages ++ map (fetch_from shard) asks }) where
   abbrev s : ServerState
@@ -78,21 +94,21 @@ module _ (plan : Plan) (shard : Shard) (old mid new : Kept) (before first second
 
   reached : take_all plan knowing ids ≡ state_of shard new false
   reached =
-      (λ i. take_all plan (holding knowing (sym m.rows i).store (sym m.started i).items) ids)
+      (λ i. take_all plan (holding knowing (sym m.rows i).store (sym m.started i)) ids)
       ∙ h.runs knowing
-      ∙ (λ i. let t : ServerState = record { shard = shard; store = new.rows.store; started = new.started.items; lists = record { known = known_is i; waiting = waiting_is i }; stopped = false } in t)
+      ∙ (λ i. let t : ServerState = record { shard = shard; store = new.rows.store; started = new.started; lists = record { known = known_is i; waiting = waiting_is i }; stopped = false } in t)
 
-  groups : AreSameGroups old.started.items new.started.items
-  groups = h.groups ∙ (λ i. map unrun (m.started i).items)
+  groups : AreSameGroups old.started new.started
+  groups = h.groups ∙ (λ i. map unrun (m.started i))
 
-  told_here : map (commitok plan shard new.started.items) (filter (λ t. is_here t new.started.items) ids) ≡ map (commitok_of plan (take_all plan knowing ids)) (filter (λ t. is_here t old.started.items) ids)
-  told_here i = map (commitok_of plan (sym reached i)) (filter (λ t. here_same t old.started.items new.started.items groups i) ids)
+  told_here : map (commitok plan shard new.started) (filter (λ t. is_here t new.started) ids) ≡ map (commitok_of plan (take_all plan knowing ids)) (filter (λ t. is_here t old.started) ids)
+  told_here i = map (commitok_of plan (sym reached i)) (filter (λ t. here_same t old.started new.started groups i) ids)
 
   abbrev knowns : List Outgoing
   knowns = flat_map (knowns_for old.waits.askers) news
 
   abbrev oks : List Outgoing
-  oks = map (commitok_of plan (take_all plan knowing ids)) (filter (λ t. is_here t old.started.items) ids)
+  oks = map (commitok_of plan (take_all plan knowing ids)) (filter (λ t. is_here t old.started) ids)
 
   abbrev fetches : List Outgoing
   fetches = map (fetch_from shard) (missing_from s all)
@@ -121,8 +137,8 @@ module _ (plan : Plan) (shard : Shard) (old mid new : Kept) (before first second
       known_now : IsKnown all d.from → is_known new.deps d.from ≡ true
       known_now k = subst (λ (ks : List KnownList). is_known ks d.from ≡ true) known_is k
 
-      here_now : is_here d.from old.started.items ≡ true → is_here d.from new.started.items ≡ true
-      here_now e = here_same d.from old.started.items new.started.items groups ∙ e
+      here_now : is_here d.from old.started ≡ true → is_here d.from new.started ≡ true
+      here_now e = here_same d.from old.started new.started groups ∙ e
 
       asked_is : with_all_asked (missing_from s all) old.waits.asked ≡ new.waits.asked
       asked_is = ap (λ (w : Waiting). w.asked) waiting_is
@@ -134,9 +150,9 @@ module _ (plan : Plan) (shard : Shard) (old mid new : Kept) (before first second
       go true e =
           let u = passed missing (λ a b f. missing_of s all a b f) (flat_map (λ (k : KnownList). k.edges) all) d named e in
           let a : was_asked_for u.0.from (with_all_asked (missing_from s all) old.waits.asked) ≡ true = asked_all (asked_of u.0) (missing_from s all) old.waits.asked (has_map asked_of u.0 (filter missing (united (flat_map (λ (k : KnownList). k.edges) all))) u.1) in
-          left_by_third (is_known new.deps d.from) (is_here d.from new.started.items) (was_asked_for d.from new.waits.asked) (asked_now (subst (λ (t : TxnId). was_asked_for t (with_all_asked (missing_from s all) old.waits.asked) ≡ true) u.2 a))
+          left_by_third (is_known new.deps d.from) (is_here d.from new.started) (was_asked_for d.from new.waits.asked) (asked_now (subst (λ (t : TxnId). was_asked_for t (with_all_asked (missing_from s all) old.waits.asked) ≡ true) u.2 a))
       go false e =
-          left_still (is_known all d.from) (is_here d.from old.started.items) (was_asked_for d.from old.waits.asked) (is_known new.deps d.from) (is_here d.from new.started.items) (was_asked_for d.from new.waits.asked)
+          left_still (is_known all d.from) (is_here d.from old.started) (was_asked_for d.from old.waits.asked) (is_known new.deps d.from) (is_here d.from new.started) (was_asked_for d.from new.waits.asked)
           known_now here_now (λ k. asked_now (asked_still d.from (missing_from s all) old.waits.asked k)) e
 
   left_after : AllByRecursion (λ d. is_left new d ≡ false) (flat_map (λ (k : KnownList). k.edges) all)
@@ -147,7 +163,7 @@ module _ (plan : Plan) (shard : Shard) (old mid new : Kept) (before first second
       let Decided : (t : TxnId) → List KnownList → Type 0 = λ t k. IsDecided k t in
       let Listed : (t : TxnId) → List TxnId → Type 0 = λ t d. IsListed is_txn (d ++ ids) t in
       record {
-        groups_once = once_same old.started.items new.started.items groups sound.groups_once;
+        groups_once = once_same old.started new.started groups sound.groups_once;
         decided_rising = h.decided.rising;
         decided_only = λ t l.
             subst (Decided t) known_is
@@ -157,7 +173,11 @@ module _ (plan : Plan) (shard : Shard) (old mid new : Kept) (before first second
             h.decided.complete t
             (subst (Listed t) (sym m.decided)
             (elim (listed_or_not is_txn old.decided t) [ inl k ↦ listed_front is_txn old.decided ids t k | inr n ↦ listed_behind is_txn old.decided ids t (chosen.members.all t (now, n)) ]));
+        rows = h.least;
         lacks = subst (λ (ks : List KnownList). AreLacks ks new.lacks) (sym h.lists) (subst (AreLacks mid.deps) (sym h.lacks) m.lacks);
+        index =
+            index_decided old.index new.index old.decided ids new.decided old.started new.started sound.index (subst (λ i. AreOut ids i new.index) m.index h.index) groups
+            (subst (λ d. (t : TxnId) → is_listed is_txn new.decided t ≡ (is_listed is_txn d t || is_listed is_txn ids t)) m.decided (decided_test mid.decided ids new.decided h.decided));
         none_left = subst (λ (ks : List KnownList). AllByRecursion (λ d. is_left new d ≡ false) (flat_map (λ list. list.edges) ks)) known_is left_after;
       }
 

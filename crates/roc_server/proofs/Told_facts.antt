@@ -1,5 +1,5 @@
 -- What travels along of known lists, one after another
-use Rattle.std.proofs.Common.{◌≡◌, ℕ, zero, suc, ◌<◌, ◌≤◌, ◌+◌, ◌-◌, true, false, nat_le, cond, List, [], ◌∷◌, ◌++◌, length, map, get_or, drop, IsTrue, refl, sym, ap, subst, ◌∙◌, arith}
+use Rattle.std.proofs.Common.{◌≡◌, ℕ, zero, suc, ◌<◌, ◌≤◌, ◌+◌, ◌-◌, true, false, nat_le, cond, List, [], ◌∷◌, ◌++◌, length, map, get_or, take, drop, IsTrue, refl, sym, ap, subst, ◌∙◌, arith}
 use Rattle.std.proofs.lemmas.Bool.Decides.{nat_tests}
 use Rattle.std.proofs.lemmas.Bool.{and_from}
 use Rattle.std.proofs.lemmas.List.Folds.{list_all-append}
@@ -86,3 +86,9 @@ behind_rest taken all i none h k = (subst (AreBehind taken) (drop_more all i non
 
 pub behind_next : (taken : List KnownList) (all : List TxnId) (i : ℕ) (x none : TxnId) → i < length all → x ≡ get_or all i none → AreBehind taken (drop i all) → IsTrue (is_behind_facts taken x)
 behind_next taken all i x none h e k = subst (λ (v : TxnId). IsTrue (is_behind_facts taken v)) (sym e) (subst (AreBehind taken) (drop_more all i none h) k).0
+
+-- of a list no more travels along than of its front
+pub front_of_front : (f : TxnId → KnownList) (room left : ℕ) (xs : List TxnId) → front_of_facts room left (map f (take room xs)) ≡ front_of_facts room left (map f xs)
+front_of_front f zero left xs = refl
+front_of_front f (suc room) left [] = refl
+front_of_front f (suc room) left (x ∷ xs) = ap (λ rest. cond (nat_le (length (f x).edges) left) (f x ∷ rest) []) (front_of_front f room (left - length (f x).edges) xs)

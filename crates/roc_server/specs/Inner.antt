@@ -1,4 +1,5 @@
 -- What stands here is of private functions alone, or is a law that a type needs
+pub mod Indexed
 pub mod Kept
 pub mod Codes
 pub mod Starts

@@ -1,15 +1,14 @@
 -- What follows from known lists, as a step reads it off them: docs/PROTOCOL.md, "Lists"
 use Rattle.std.specs.Prelude.{List}
-use Rattle.roc_sequence.specs.Lists.{Has}
 use Rattle.roc_sequence.specs.Places.{IsListed}
 use Rattle.roc_base.specs.declared.id.TxnId.{TxnId}
 use Rattle.roc_base.specs.TxnId.{is_txn}
 use Rattle.roc_base.specs.Edge.{Dependency}
+use Rattle.roc_ancestors.specs.Led.{IsKnownAndLedTo}
 use Rattle.roc_component.specs.Components.{IsTakingOrder}
 use Rattle.roc_depgraph.specs.declared.known.KnownList.{KnownList}
 use Rattle.roc_depgraph.specs.Closure.{IsRisingListOf}
-use Rattle.roc_depgraph.specs.Deps.{Precedes, IsKnown, IsDecided}
-use Rattle.roc_depgraph.specs.Reach.{ReachesOrIs}
+use Rattle.roc_depgraph.specs.Deps.{IsDecided}
 
 -- ---- what is newly decided
 
@@ -33,12 +32,6 @@ pub record AreNew (before : TxnId → Type 0) (known : List KnownList) (ts : Lis
 abbrev pub AreDecided : List KnownList → List TxnId → Type 0
 AreDecided known ids = IsRisingListOf (IsDecided known) ids
 
--- an entry names u, or one from which u is reached over known lists
-pub record IsLedTo (known : List KnownList) (edges : List Dependency) (u : TxnId) : Type 0 where
-  pub entry : Dependency
-  pub is : Has entry edges
-  pub from : ReachesOrIs (Precedes known) u entry.from
-
--- all those whose lists are known, by id rising
+-- all that entries lead to and whose lists are known, by id rising
 abbrev pub AreLedTo : List KnownList → List Dependency → List TxnId → Type 0
-AreLedTo known edges ids = IsRisingListOf (λ u. IsKnown known u × IsLedTo known edges u) ids
+AreLedTo known edges ids = IsRisingListOf (IsKnownAndLedTo known edges) ids

@@ -1,6 +1,6 @@
 -- A start: docs/PROTOCOL.md, "Start"
-use Rattle.std.specs.Prelude.{ℕ, Bool, not, ◌&&◌, ◌==◌, nat_lt, List, [], ◌∷◌, ◌++◌, Option, Some, None, is_none, length, map, filter, if◌then◌else◌}
-use Rattle.std.specs.List.{list_any}
+use Rattle.std.specs.Prelude.{ℕ, Bool, true, false, not, ◌&&◌, ◌==◌, nat_lt, List, [], ◌∷◌, ◌++◌, Option, Some, None, is_none, length, map, filter, if◌then◌else◌}
+use Rattle.std.specs.List.{list_any, flat_map}
 use Rattle.roc_sequence.specs.Places.{is_listed}
 use Rattle.roc_base.specs.declared.id.TxnId.{TxnId}
 use Rattle.roc_base.specs.declared.node.Shard.{Shard}
@@ -16,10 +16,14 @@ use Rattle.roc_msg.specs.declared.outbox.Outgoing.{Outgoing}
 use Rattle.roc_msg.specs.declared.reason.Reason.{Reason}
 use Rattle.roc_msg.specs.declared.reason.Reason.TheVariants.{BadProc, BadGroup, BadInputs, NotHere, Late, Differs}
 use Rattle.roc_msg.specs.Facts.{fitting}
+use Rattle.roc_plan.specs.declared.group.Class.{Class}
+use Rattle.roc_plan.specs.declared.group.Class.TheVariants.{Immediate, Deferrable}
 use Rattle.roc_plan.specs.Groups.{Plan, procedure_of, groups_of, is_immediate_of, inputs_of, shard_of, group_place}
 use Rattle.roc_group.specs.declared.access.Access.{Access}
 use Rattle.roc_group.specs.Accesses.{do_conflict}
 use Rattle.roc_group.specs.Group_run.{GroupCall, group_run, group_uses, bound_by_run}
+use Rattle.roc_rows.specs.declared.cell.Cell.{Cell}
+use Rattle.roc_rows.specs.Cells.{is_cell}
 use Rattle.roc_server.specs.declared.handled.Handled.TheVariants.{Done}
 use Rattle.roc_server.specs.declared.started.StartedGroup.{StartedGroup}
 use Rattle.roc_server.specs.State.{ignored, answered, find_group, ServerState, ServerStep}
@@ -60,19 +64,41 @@ start_fault plan s id c =
 abbrev pub is_immediate_group : Plan → GroupCall → Bool
 is_immediate_group plan c = is_immediate_of plan c.proc c.group
 
--- an earlier group of another transaction that is not left out, of the same class, with a cell in common that one of the two writes
+abbrev pub is_immediate : Class → Bool
+is_immediate Immediate = true
+is_immediate Deferrable = false
+
+-- an earlier group of another transaction that is not left out, of this class, with a cell in common that one of the two writes
+abbrev pub comes_before : Plan → (out : List TxnId) → TxnId → (immediate : Bool) → List Access → StartedGroup → Bool
+comes_before plan out id immediate cells e =
+    not (is_txn e.id id) && (not (is_listed is_txn out e.id) && (same_tag (is_immediate_of plan e.proc e.group) immediate && do_conflict e.cells cells))
+
 abbrev pub is_predecessor : Plan → (out : List TxnId) → TxnId → GroupCall → List Access → StartedGroup → Bool
-is_predecessor plan out id c cells e =
-    not (is_txn e.id id) && (not (is_listed is_txn out e.id) && (same_tag (is_immediate_of plan e.proc e.group) (is_immediate_group plan c) && do_conflict e.cells cells))
+is_predecessor plan out id c cells e = comes_before plan out id (is_immediate_group plan c) cells e
 
 -- the entry for it: its tag is the class, its shard this one
 abbrev pub edge_to : Shard → (immediate : Bool) → StartedGroup → Dependency
 edge_to shard immediate e = record { from = e.id; imm = immediate; def = not immediate; at = shard }
 
--- the entries for all of them
+-- the entries for all of them, where a group of this class with these cells starts
+abbrev pub entries_for : Plan → (out : List TxnId) → ServerState → TxnId → (immediate : Bool) → List Access → List Dependency
+entries_for plan out s id immediate cells = united (map (edge_to s.shard immediate) (filter (comes_before plan out id immediate cells) s.started))
+
 abbrev pub edges_for : Plan → (out : List TxnId) → ServerState → TxnId → GroupCall → List Dependency
-edges_for plan out s id c =
-    united (map (edge_to s.shard (is_immediate_group plan c)) (filter (is_predecessor plan out id c (group_uses plan c s.store)) s.started))
+edges_for plan out s id c = entries_for plan out s id (is_immediate_group plan c) (group_uses plan c s.store)
+
+-- ---- how many started groups a start looks at
+
+abbrev pub uses_cell : Cell → StartedGroup → Bool
+uses_cell c e = list_any (λ a. is_cell a.cell c) e.cells
+
+-- a group that is not left out, of this class, that uses the cell
+abbrev pub is_user : Plan → (out : List TxnId) → (immediate : Bool) → Cell → StartedGroup → Bool
+is_user plan out immediate c e = not (is_listed is_txn out e.id) && (same_tag (is_immediate_of plan e.proc e.group) immediate && uses_cell c e)
+
+-- for each cell of the list the groups that use it: there are as many as pairs of a cell and such a group
+abbrev pub users : Plan → (out : List TxnId) → (immediate : Bool) → List Access → List StartedGroup → List StartedGroup
+users plan out immediate cells started = flat_map (λ a. filter (is_user plan out immediate a.cell) started) cells
 
 -- known lists of these transactions, as many as travel along
 abbrev pub facts_of : List KnownList → List TxnId → List KnownList

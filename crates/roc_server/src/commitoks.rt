@@ -4,9 +4,9 @@ ghost use Rattle.roc_server.specs.Fits.{AreGroupsOf};
 ghost use Rattle.roc_server.specs.Runs.{commitok};
 ghost use Rattle.roc_server.specs.State.{is_here};
 
-use crate::StartedGroup;
 use crate::groups::is_here;
 use crate::runs::outs_here;
+use crate::started_groups::StartedGroups;
 use roc_base::{NoMemory, Node, Shard, TxnId};
 use roc_msg::{Msg, Outbox};
 use roc_plan::Plan;
@@ -17,7 +17,7 @@ pub(crate) fn send_commitoks(
     alloc: Global,
     plan: &Plan,
     shard: Shard,
-    started: &[StartedGroup],
+    started: &StartedGroups,
     ids: &[TxnId],
     out: &mut Outbox,
 ) -> Result<(), NoMemory>
@@ -37,7 +37,7 @@ pub(crate) fn send_commitok(
     alloc: Global,
     plan: &Plan,
     shard: Shard,
-    started: &[StartedGroup],
+    started: &StartedGroups,
     id: TxnId,
     out: &mut Outbox,
 ) -> Result<(), NoMemory>

@@ -18,7 +18,7 @@ use crate::kept::Kept;
 use crate::news::{news_of_commit, push_unknown};
 use crate::teach::teach;
 use roc_base::{Edges, NoMemory, Shard, TxnId};
-use roc_depgraph::{Deps, KnownList, is_among_rising};
+use roc_depgraph::{Deps, KnownList};
 use roc_msg::{Outbox, Reason};
 use roc_plan::Plan;
 use std::alloc::Global;
@@ -34,17 +34,17 @@ pub(crate) fn take_commit(
     facts: &[KnownList],
     out: &mut Outbox,
 ) -> Result<Handled, NoMemory>
-    requires fits { AreGroupsOf plan.now kept.old.started.items }
+    requires fits { AreGroupsOf plan.now kept.old.started }
     requires sound { IsConsistent kept.old }
     requires facts { AreFacts facts.now }
     ensures step { IfOk result (Commits plan.now shard kept.old kept.new out.old out.new id edges.now facts.now) }
-    ensures fits { OnOk result (AreGroupsOf plan.now kept.new.started.items) }
+    ensures fits { OnOk result (AreGroupsOf plan.now kept.new.started) }
     ensures sound { OnOk result (IsConsistent kept.new) }
 {
     if let Some(reason) = commit_fault(kept, id, edges, facts) {
         return Ok(Handled::Ignored(reason));
     }
-    let again = is_among_rising(kept.decided.as_slice(), id);
+    let again = kept.decided.contains(id);
     let news = news_of_commit(alloc, &kept.deps, id, edges, facts)?;
     teach(alloc, plan, shard, kept, &news, out)?;
     if again {
@@ -64,10 +64,10 @@ pub(crate) fn take_known(
     edges: &Edges,
     out: &mut Outbox,
 ) -> Result<Handled, NoMemory>
-    requires fits { AreGroupsOf plan.now kept.old.started.items }
+    requires fits { AreGroupsOf plan.now kept.old.started }
     requires sound { IsConsistent kept.old }
     ensures step { IfOk result (Knows plan.now shard kept.old kept.new out.old out.new id edges.now) }
-    ensures fits { OnOk result (AreGroupsOf plan.now kept.new.started.items) }
+    ensures fits { OnOk result (AreGroupsOf plan.now kept.new.started) }
     ensures sound { OnOk result (IsConsistent kept.new) }
 {
     if let Some(reason) = known_fault(kept, id, edges) {

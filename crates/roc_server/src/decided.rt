@@ -1,15 +1,77 @@
-//! What is newly decided.
-ghost use Rattle.std.specs.Prelude.{◌++◌, IfOk};
-ghost use Rattle.roc_base.specs.TxnId.{is_txn};
+//! What is decided, and what is newly so.
+ghost use Rattle.std.specs.Prelude.{◌≡◌, ◌++◌, [], IfOk, OnOk};
+ghost use Rattle.std.specs.List.Sorted.{IsStrictlySortedBy};
+ghost use Rattle.roc_base.specs.TxnId.{is_txn, txn_cmp};
+ghost use Rattle.roc_base.specs.declared.id.TxnId.{TxnId as Id};
+ghost use Rattle.roc_ancestors.specs.Least.{AreRows};
 ghost use Rattle.roc_depgraph.specs.Closure.{IsRisingListOf};
-ghost use Rattle.roc_sequence.specs.Places.{IsListed};
+ghost use Rattle.roc_depgraph.specs.Deps.{IsDecided};
+ghost use Rattle.roc_sequence.specs.Places.{IsListed, is_listed};
 ghost use Rattle.roc_server.specs.New.{AreAllNew, AreNew};
 
 use crate::kept::Kept;
+use roc_ancestors::Ancestors;
 use roc_base::{NoMemory, TxnId};
-use roc_component::{order, rising};
-use roc_sequence::Sequence;
+use roc_component::order;
+use roc_depgraph::Deps;
 use std::alloc::Global;
+use std::collections::BTreeSet;
+use std::marker::Model;
+
+// The transactions that are decided, rising.
+#[derive(Drop)]
+pub(crate) struct Decided {
+    ids: BTreeSet<TxnId>,
+}
+
+impl Model for Decided {
+    ghost use Rattle.std.specs.Prelude.{List};
+    ghost use Rattle.std.specs.List.Sorted.{IsStrictlySortedBy};
+    ghost use Rattle.roc_base.specs.declared.id.TxnId.{TxnId};
+    ghost use Rattle.roc_base.specs.TxnId.{txn_cmp};
+
+    ghost Value = { List TxnId };
+
+    ghost view = { λ d. d.ids.keys };
+
+    ghost invariant = { λ d. IsStrictlySortedBy txn_cmp d.ids.keys };
+}
+
+impl Decided {
+    // None is decided.
+    pub(crate) fn new(alloc: Global) -> Decided
+        ensures { result ≡ [] }
+    {
+        Decided {
+            ids: BTreeSet::new(alloc),
+        }
+    }
+
+    // Whether a transaction is decided.
+    pub(crate) fn contains(&self, id: TxnId) -> bool
+        ensures { result ≡ is_listed is_txn self.now id }
+    {
+        self.ids.contains(&id)
+    }
+
+    // These are decided too.
+    pub(crate) fn take(&mut self, ids: &[TxnId]) -> Result<(), NoMemory>
+        ensures { OnOk result (IsRisingListOf (IsListed is_txn (self.old ++ ids.now)) self.new) }
+    {
+        add_all(&mut self.ids, ids)
+    }
+}
+
+// Adds ids to a set.
+fn add_all(set: &mut BTreeSet<TxnId>, ids: &[TxnId]) -> Result<(), NoMemory>
+    ensures added { OnOk result ((u : Id) → is_listed is_txn set.new.keys u ≡ is_listed is_txn (set.old.keys ++ ids.now) u) }
+    ensures rising { IsStrictlySortedBy txn_cmp set.old.keys → IsStrictlySortedBy txn_cmp set.new.keys }
+{
+    for id in ids {
+        set.insert(*id)?;
+    }
+    Ok(())
+}
 
 // What is decided and was not before, in component order.
 pub(crate) fn newly_decided(
@@ -23,17 +85,18 @@ pub(crate) fn newly_decided(
     order(alloc, &kept.deps, ids)
 }
 
-// What was decided, and what is newly so, rising.
-pub(crate) fn with_decided(
-    alloc: Global,
-    decided: &[TxnId],
+// Keeps the least of each of these and its ancestors.
+pub(crate) fn keep_least(
+    ancestors: &mut Ancestors,
+    deps: &Deps,
     ids: &[TxnId],
-) -> Result<Sequence<TxnId>, NoMemory>
-    ensures { IfOk result (λ all. IsRisingListOf (IsListed is_txn (decided.now ++ ids.now)) all) }
+) -> Result<(), NoMemory>
+    requires rows { AreRows deps.now ancestors.old }
+    requires decided { (t : Id) → IsListed is_txn ids.now t → IsDecided deps.now t }
+    ensures { OnOk result (AreRows deps.now ancestors.new) }
 {
-    let mut all = Vec::new(alloc);
-    all.extend_from_slice(decided)?;
-    all.extend_from_slice(ids)?;
-    let rising = rising(alloc, &all)?;
-    Ok(Sequence::from_vec(rising))
+    for id in ids {
+        ancestors.keep(deps, *id)?;
+    }
+    Ok(())
 }

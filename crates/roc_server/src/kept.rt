@@ -1,22 +1,26 @@
 //! What a server keeps.
-use crate::StartedGroup;
+use crate::decided::Decided;
+use crate::started_groups::StartedGroups;
+use roc_ancestors::Ancestors;
 use roc_await::{Lacks, Waits};
-use roc_base::TxnId;
 use roc_depgraph::Deps;
+use roc_index::Index;
 use roc_rows::Rows;
-use roc_sequence::Sequence;
 use std::alloc::Global;
 
 // The cells, the groups in the order of their arrival, the known lists, the transactions that are
-// decided by them, and what the others lack.
+// decided by them with the least of their ancestors, what the others lack, and at each cell the
+// groups of these others that use it.
 #[derive(Drop)]
 pub(crate) struct Kept {
     pub rows: Rows,
-    pub started: Vec<StartedGroup>,
+    pub started: StartedGroups,
     pub deps: Deps,
     pub waits: Waits,
-    pub decided: Sequence<TxnId>,
+    pub decided: Decided,
+    pub ancestors: Ancestors,
     pub lacks: Lacks,
+    pub index: Index,
 }
 
 impl Kept {
@@ -27,7 +31,7 @@ impl Kept {
     // Cells, and nothing else.
     pub(crate) fn new(alloc: Global, rows: Rows) -> Kept
         ensures rows { result.rows ≡ rows }
-        ensures started { result.started.items ≡ [] }
+        ensures started { result.started ≡ [] }
         ensures deps { result.deps ≡ [] }
         ensures waits { result.waits ≡ none_waiting }
         ensures decided { result.decided ≡ [] }
@@ -35,11 +39,13 @@ impl Kept {
     {
         Kept {
             rows,
-            started: Vec::new(alloc),
+            started: StartedGroups::new(alloc),
             deps: Deps::new(alloc),
             waits: Waits::new(alloc),
-            decided: Sequence::new(alloc),
+            decided: Decided::new(alloc),
+            ancestors: Ancestors::new(alloc),
             lacks: Lacks::new(alloc),
+            index: Index::new(alloc),
         }
     }
 }

@@ -6,9 +6,9 @@ ghost use Rattle.roc_await.specs.Waits.{with_all_asked};
 ghost use Rattle.roc_server.specs.Lists.{is_missing, asked_of, fetch_from};
 ghost use Rattle.roc_server.specs.State.{ServerState};
 
-use crate::StartedGroup;
 use crate::fetches::send_fetch;
 use crate::groups::is_here;
+use crate::started_groups::StartedGroups;
 use roc_await::{Asked, Waits};
 use roc_base::{Edge, Edges, NoMemory, Shard};
 use roc_depgraph::{Deps, KnownList};
@@ -20,7 +20,7 @@ pub(crate) fn missing_from(
     alloc: Global,
     news: &[KnownList],
     deps: &Deps,
-    started: &[StartedGroup],
+    started: &StartedGroups,
     waits: &Waits,
 ) -> Result<Vec<Asked>, NoMemory>
     ensures { IfOk result (λ asks. (s : ServerState) → s.started ≡ started.now → s.lists.waiting.asked ≡ waits.now.asked → asks.items ≡ map asked_of (filter (is_missing s deps.now) (united (flat_map (λ k. k.edges) news.now)))) }
@@ -39,7 +39,7 @@ pub(crate) fn missing_from(
 }
 
 // Whether what an entry names is missing.
-fn is_missing(deps: &Deps, started: &[StartedGroup], waits: &Waits, edge: Edge) -> bool
+fn is_missing(deps: &Deps, started: &StartedGroups, waits: &Waits, edge: Edge) -> bool
     ensures { (s : ServerState) → s.started ≡ started.now → s.lists.waiting.asked ≡ waits.now.asked → result ≡ is_missing s deps.now edge }
 {
     let id = edge.from();

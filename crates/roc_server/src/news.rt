@@ -1,5 +1,5 @@
 //! Lists that a message teaches.
-ghost use Rattle.std.specs.Prelude.{◌≡◌, ◌++◌, ◌∷◌, [], filter, IfOk, OnOk};
+ghost use Rattle.std.specs.Prelude.{◌≡◌, ◌++◌, ◌∷◌, [], map, filter, IfOk, OnOk};
 ghost use Rattle.roc_await.specs.Lacks.{AreLacks, AreDecidedBy};
 ghost use Rattle.roc_base.specs.TxnId.{txn_lt};
 ghost use Rattle.roc_server.specs.Inner.News.{AreLearnable};
@@ -78,7 +78,7 @@ fn push_behind(
     Ok(())
 }
 
-// Learns lists, where none is known of their transactions, and gives what they decide, in no order.
+// Learns lists, where none is known of their transactions, and gives what they decide.
 pub(crate) fn learn_all(
     alloc: Global,
     deps: &mut Deps,
@@ -91,11 +91,17 @@ pub(crate) fn learn_all(
     ensures lacks { OnOk result (AreLacks deps.new lacks.new) }
     ensures decided { IfOk result (λ ids. AreDecidedBy deps.old deps.new ids.items) }
 {
-    let mut ids = Vec::new(alloc);
     for k in news {
-        let more = lacks.learn(deps, k)?;
-        ids.extend_from_slice(&more)?;
         deps.learn(k.of, &k.edges)?;
     }
-    Ok(ids)
+    let ids = ids_of(alloc, news)?;
+    let decided = lacks.learnt(deps, &ids)?;
+    Ok(decided)
+}
+
+// Whose they are.
+fn ids_of(alloc: Global, news: &[KnownList]) -> Result<Vec<TxnId>, NoMemory>
+    ensures { IfOk result (λ ids. ids.items ≡ map (λ k. k.of) news.now) }
+{
+    Ok(news.iter().map(|k| k.of).collect(alloc)?)
 }

@@ -1,5 +1,5 @@
 //! Runs of the groups that have started.
-ghost use Rattle.std.specs.Prelude.{◌≡◌, ◌<◌, ◌++◌, [], vec_len, unwrap_or, Some, slice_get, IfOk, OnOk};
+ghost use Rattle.std.specs.Prelude.{◌≡◌, ◌<◌, ◌++◌, [], length, unwrap_or, Some, slice_get, IfOk, OnOk};
 ghost use Rattle.std.specs.Option.{option_to_list};
 ghost use Rattle.roc_sequence.specs.Places.{NoneTwice};
 ghost use Rattle.roc_server.specs.Runs.{buffered_here, outs_here, run_groups, take_all};
@@ -11,6 +11,7 @@ ghost use Rattle.roc_server.specs.State.{find_group, ServerState};
 
 use crate::StartedGroup;
 use crate::groups::{count_of_groups, find_group, place_of_group};
+use crate::started_groups::StartedGroups;
 use crate::started_now::is_immediate;
 use roc_base::{NoMemory, Nums, TxnId};
 use roc_group::{Outputs, run_group};
@@ -23,13 +24,13 @@ pub(crate) fn run_all(
     alloc: Global,
     plan: &Plan,
     ids: &[TxnId],
-    started: &mut Vec<StartedGroup>,
+    started: &mut StartedGroups,
     rows: &mut Rows,
 ) -> Result<(), NoMemory>
-    requires fits { AreGroupsOf plan.now started.old.items }
-    requires once { NoneTwice is_same_group started.old.items }
-    ensures runs { OnOk result ((s : ServerState) → take_all plan.now (holding s rows.old.store started.old.items) ids.now ≡ holding s rows.new.store started.new.items) }
-    ensures groups { OnOk result (AreSameGroups started.old.items started.new.items) }
+    requires fits { AreGroupsOf plan.now started.old }
+    requires once { NoneTwice is_same_group started.old }
+    ensures runs { OnOk result ((s : ServerState) → take_all plan.now (holding s rows.old.store started.old) ids.now ≡ holding s rows.new.store started.new) }
+    ensures groups { OnOk result (AreSameGroups started.old started.new) }
 {
     for id in ids {
         run_transaction(alloc, plan, *id, started, rows)?;
@@ -42,13 +43,13 @@ fn run_transaction(
     alloc: Global,
     plan: &Plan,
     id: TxnId,
-    started: &mut Vec<StartedGroup>,
+    started: &mut StartedGroups,
     rows: &mut Rows,
 ) -> Result<(), NoMemory>
-    requires fits { AreGroupsOf plan.now started.old.items }
-    requires once { NoneTwice is_same_group started.old.items }
-    ensures runs { OnOk result ((s : ServerState) → run_groups plan.now (holding s rows.old.store started.old.items) (buffered_here plan.now id started.old.items) ≡ holding s rows.new.store started.new.items) }
-    ensures groups { OnOk result (AreSameGroups started.old.items started.new.items) }
+    requires fits { AreGroupsOf plan.now started.old }
+    requires once { NoneTwice is_same_group started.old }
+    ensures runs { OnOk result ((s : ServerState) → run_groups plan.now (holding s rows.old.store started.old) (buffered_here plan.now id started.old) ≡ holding s rows.new.store started.new) }
+    ensures groups { OnOk result (AreSameGroups started.old started.new) }
 {
     let count = count_of_groups(plan, started, id);
     for number in 0..count {
@@ -63,13 +64,13 @@ fn run_number(
     plan: &Plan,
     id: TxnId,
     number: u16,
-    started: &mut Vec<StartedGroup>,
+    started: &mut StartedGroups,
     rows: &mut Rows,
 ) -> Result<(), NoMemory>
-    requires fits { AreGroupsOf plan.now started.old.items }
-    requires once { NoneTwice is_same_group started.old.items }
-    ensures runs { OnOk result ((s : ServerState) → run_groups plan.now (holding s rows.old.store started.old.items) (buffered plan.now (option_to_list (find_group id number started.old.items))) ≡ holding s rows.new.store started.new.items) }
-    ensures groups { OnOk result (AreSameGroups started.old.items started.new.items) }
+    requires fits { AreGroupsOf plan.now started.old }
+    requires once { NoneTwice is_same_group started.old }
+    ensures runs { OnOk result ((s : ServerState) → run_groups plan.now (holding s rows.old.store started.old) (buffered plan.now (option_to_list (find_group id number started.old))) ≡ holding s rows.new.store started.new) }
+    ensures groups { OnOk result (AreSameGroups started.old started.new) }
 {
     match place_of_group(started, id, number) {
         Some(at) => run_if_buffered(alloc, plan, at, started, rows),
@@ -82,14 +83,15 @@ fn run_if_buffered(
     alloc: Global,
     plan: &Plan,
     at: usize,
-    started: &mut Vec<StartedGroup>,
+    started: &mut StartedGroups,
     rows: &mut Rows,
 ) -> Result<(), NoMemory>
-    requires exists { at < vec_len started.old }
-    requires fits { AreGroupsOf plan.now started.old.items }
-    ensures { OnOk result ((e : Group) → slice_get started.old.items at ≡ Some e → RunsIfBuffered plan.now e at started.old.items started.new.items rows.old.store rows.new.store) }
+    requires exists { at < length started.old }
+    requires fits { AreGroupsOf plan.now started.old }
+    ensures { OnOk result ((e : Group) → slice_get started.old at ≡ Some e → RunsIfBuffered plan.now e at started.old started.new rows.old.store rows.new.store) }
 {
-    if is_immediate(plan, started[at].proc, started[at].group) {
+    let group = &started.as_slice()[at];
+    if is_immediate(plan, group.proc, group.group) {
         return Ok(());
     }
     run_at(alloc, plan, at, started, rows)
@@ -100,14 +102,14 @@ fn run_at(
     alloc: Global,
     plan: &Plan,
     at: usize,
-    started: &mut Vec<StartedGroup>,
+    started: &mut StartedGroups,
     rows: &mut Rows,
 ) -> Result<(), NoMemory>
-    requires exists { at < vec_len started.old }
-    requires fits { AreGroupsOf plan.now started.old.items }
-    ensures { OnOk result ((e : Group) → slice_get started.old.items at ≡ Some e → RunsAt plan.now e at started.old.items started.new.items rows.old.store rows.new.store) }
+    requires exists { at < length started.old }
+    requires fits { AreGroupsOf plan.now started.old }
+    ensures { OnOk result ((e : Group) → slice_get started.old at ≡ Some e → RunsAt plan.now e at started.old started.new rows.old.store rows.new.store) }
 {
-    let group = &started[at];
+    let group = &started.as_slice()[at];
     let known = Known {
         args: group.args.clone()?,
         inputs: group.inputs.clone()?,
@@ -115,8 +117,7 @@ fn run_at(
     let (proc, number) = (group.proc, group.group);
     let mut out = Outputs::new(alloc);
     run_group(alloc, plan, proc, number, &known, rows, &mut out)?;
-    let group = &mut started[at];
-    group.later = Some(out.outs);
+    started.keep_later(at, out.outs);
     Ok(())
 }
 
@@ -125,7 +126,7 @@ pub(crate) fn outs_here(
     alloc: Global,
     plan: &Plan,
     id: TxnId,
-    started: &[StartedGroup],
+    started: &StartedGroups,
 ) -> Result<Nums, NoMemory>
     requires { AreGroupsOf plan.now started.now }
     ensures { IfOk result (λ outs. outs ≡ outs_here plan.now id started.now) }

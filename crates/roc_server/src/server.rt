@@ -1,10 +1,13 @@
 //! The server.
-ghost use Rattle.std.specs.Prelude.{◌≡◌, ◌↔◌, ◌++◌, true, false, IsTrue, IfOk, OnOk};
+ghost use Rattle.std.specs.Prelude.{◌≡◌, ◌↔◌, ◌+◌, ◌≤◌, ◌++◌, List, length, true, false, IsTrue, IfOk, OnOk};
+ghost use Rattle.roc_base.specs.declared.id.TxnId.{TxnId as Id};
 ghost use Rattle.roc_depgraph.specs.Deps.{IsDecided};
 ghost use Rattle.roc_rows.specs.Store.{entries};
 ghost use Rattle.roc_server.specs.First.{first_server};
 ghost use Rattle.roc_server.specs.Fits.{AreGroupsOf, ServerFits};
 ghost use Rattle.roc_server.specs.Inner.Kept.{state_of, IsConsistent};
+ghost use Rattle.roc_server.specs.New.{AreDecided};
+ghost use Rattle.roc_server.specs.Start.{is_immediate, entries_for, users};
 ghost use Rattle.roc_server.specs.State.{ServerStep};
 ghost use Rattle.roc_server.specs.Step.{Handles, Shows, tick_sends};
 
@@ -13,14 +16,17 @@ use crate::commits::{take_commit, take_known};
 use crate::fetches::{fetch_again, take_fetch};
 use crate::first::first_rows;
 use crate::kept::Kept;
+use crate::looks::{Starting, entries};
 use crate::starts::{Request, take_start};
-use roc_base::{NoMemory, Shard, TxnId};
-use roc_depgraph::is_among_rising;
+use roc_base::{Edges, NoMemory, Shard, TxnId};
+use roc_group::Access;
 use roc_msg::{Msg, NodeFault, Outbox, Reason};
-use roc_plan::{Known, Plan};
+use roc_plan::{Class, Known, Plan};
 use roc_rows::{Cell, Rows};
+use roc_steps::Steps;
 use std::alloc::Global;
 use std::marker::Model;
+use std::sync::ledger::Ledger;
 
 /// The server of a shard, as ROCOCO (OSDI 2014, section 3) has it: it buffers a deferrable group
 /// until its transaction is decided, and runs what is decided in component order.
@@ -122,7 +128,30 @@ impl Server {
     pub fn decided(&self, id: TxnId) -> bool
         ensures { IsTrue result ↔ IsDecided self.now.lists.known id }
     {
-        is_among_rising(self.kept.decided.as_slice(), id)
+        self.kept.decided.contains(id)
+    }
+
+    /// The entries of a group of this class that would start now and use these cells. A step is one look at a started group. What is
+    /// looked at are groups of this class that use one of the cells and whose transactions are not decided, each once for each of the
+    /// cells; however many groups have started, no other one is.
+    pub fn entries<L: Ledger>(
+        &self,
+        plan: &Plan,
+        id: TxnId,
+        class: Class,
+        cells: &[Access],
+        steps: &mut Steps<L>,
+    ) -> Result<Edges, NoMemory>
+        requires fits { ServerFits plan.now self.now }
+        ensures entries { IfOk result (λ edges. (out : List Id) → AreDecided self.now.lists.known out → edges ≡ entries_for plan.now out self.now id (is_immediate class) cells.now) }
+        ensures steps { (out : List Id) → AreDecided self.now.lists.known out → steps.new ≤ steps.old + length (users plan.now out (is_immediate class) cells.now self.now.started) }
+    {
+        let starting = Starting {
+            shard: self.shard,
+            id,
+            immediate: is_immediate(class),
+        };
+        entries(self.alloc, plan, &self.kept, starting, cells, steps)
     }
 
     /// The cells that are not 0, each with its number, by cell rising.
@@ -131,6 +160,13 @@ impl Server {
     {
         self.kept.rows.nonzero()
     }
+}
+
+// Whether groups of a class are immediate.
+fn is_immediate(class: Class) -> bool
+    ensures { result ≡ is_immediate class }
+{
+    class == Class::Immediate
 }
 
 // Takes a message, or ignores it.
@@ -142,10 +178,10 @@ fn take(
     msg: &Msg,
     out: &mut Outbox,
 ) -> Result<Handled, NoMemory>
-    requires fits { AreGroupsOf plan.now kept.old.started.items }
+    requires fits { AreGroupsOf plan.now kept.old.started }
     requires sound { IsConsistent kept.old }
     ensures step { IfOk result (λ answer. (r : ServerStep) × Handles plan.now (state_of shard kept.old false) msg.now r × Shows r answer (state_of shard kept.new false) out.old out.new) }
-    ensures fits { OnOk result (AreGroupsOf plan.now kept.new.started.items) }
+    ensures fits { OnOk result (AreGroupsOf plan.now kept.new.started) }
     ensures sound { OnOk result (IsConsistent kept.new) }
 {
     match msg {

@@ -1,27 +1,28 @@
 //! A group that starts now.
-ghost use Rattle.std.specs.Prelude.{◌≡◌, ◌<◌, [], length, not, map, filter, if◌then◌else◌, IfOk, OnOk};
-ghost use Rattle.std.specs.List.Sorted.{IsStrictlySortedBy};
-ghost use Rattle.roc_base.specs.TxnId.{txn_cmp};
-ghost use Rattle.roc_group.specs.declared.access.Access.{Access as Use};
-ghost use Rattle.roc_group.specs.Group_run.{GroupCall, call, group_run, group_uses, bound_by_run};
-ghost use Rattle.roc_plan.specs.Groups.{groups_of, is_immediate_of, procedure_of, inputs_of};
+ghost use Rattle.std.specs.Prelude.{◌≡◌, ◌<◌, [], length, map, filter, if◌then◌else◌, IfOk, OnOk};
 ghost use Rattle.roc_base.specs.Edges.{united};
+ghost use Rattle.roc_group.specs.Group_run.{call, group_run, group_uses, bound_by_run};
+ghost use Rattle.roc_plan.specs.Groups.{groups_of, is_immediate_of, procedure_of, inputs_of};
+ghost use Rattle.roc_ancestors.specs.Least.{AreRows};
 ghost use Rattle.roc_server.specs.Fits.{IsCallOf, AreGroupsOf};
+ghost use Rattle.roc_server.specs.Inner.Indexed.{IsIndexOf};
 ghost use Rattle.roc_server.specs.Inner.Kept.{asked};
-ghost use Rattle.roc_server.specs.Inner.Starts.{comes_before, IsNewGroup};
-ghost use Rattle.roc_server.specs.Start.{edge_to};
+ghost use Rattle.roc_server.specs.Inner.Starts.{IsNewGroup};
+ghost use Rattle.roc_server.specs.Start.{comes_before, edge_to};
 
 use crate::StartedGroup;
 use crate::kept::Kept;
-use crate::led::led_to;
+use crate::looks::{Starting, entries};
 use crate::starts::Request;
-use crate::told::facts_of;
-use roc_base::{Edge, Edges, NoMemory, Shard, TxnId};
-use roc_depgraph::is_among_rising;
-use roc_group::{Access, Outputs, cells, conflict, run_group};
+use crate::told::facts_for;
+use roc_base::{Edges, NoMemory, Shard};
+use roc_group::{Access, Outputs, cells, run_group};
 use roc_plan::{Class, Known, Plan};
 use roc_rows::Rows;
+use roc_steps::Steps;
 use std::alloc::Global;
+use std::marker::Brand;
+use std::sync::ledger::{Blank, Ledger};
 
 // Whether a group is immediate.
 pub(crate) fn is_immediate(plan: &Plan, proc: u16, group: u16) -> bool
@@ -57,55 +58,24 @@ fn begun(
     Ok(out)
 }
 
-// Whether a group comes before one that starts now.
-fn is_predecessor(
-    plan: &Plan,
-    decided: &[TxnId],
-    id: TxnId,
-    immediate: bool,
-    cells: &[Access],
-    e: &StartedGroup,
-) -> bool
-    requires exists { e.now.group < length (groups_of plan.now e.now.proc) }
-    requires rising { IsStrictlySortedBy txn_cmp decided.now }
-    ensures { result ≡ comes_before plan.now decided.now id immediate cells.now e.now }
-{
-    if e.id == id {
-        return false;
-    }
-    if is_among_rising(decided, e.id) {
-        return false;
-    }
-    if is_immediate(plan, e.proc, e.group) != immediate {
-        return false;
-    }
-    conflict(e.cells.as_slice(), cells)
-}
-
-// The entries for each transaction that comes before: one list, rising by id.
-fn edges_for(
+// The entries of a group that starts now, where no steps are counted.
+fn edges_for<L: Ledger>(
     alloc: Global,
     plan: &Plan,
-    shard: Shard,
-    decided: &[TxnId],
-    started: &[StartedGroup],
-    id: TxnId,
-    immediate: bool,
+    kept: &Kept,
+    starting: Starting,
     cells: &[Access],
+    blank: Blank,
 ) -> Result<Edges, NoMemory>
-    requires fits { AreGroupsOf plan.now started.now }
-    requires rising { IsStrictlySortedBy txn_cmp decided.now }
-    ensures { IfOk result (λ edges. edges ≡ united (map (edge_to shard immediate) (filter (comes_before plan.now decided.now id immediate cells.now) started.now))) }
+    requires name { blank.name ≡ L.name }
+    requires parts { blank.parts ≡ L.parts }
+    requires some { 0 < blank.parts }
+    requires fits { AreGroupsOf plan.now kept.now.started }
+    requires index { IsIndexOf kept.now.index kept.now.decided kept.now.started }
+    ensures { IfOk result (λ edges. edges ≡ united (map (edge_to starting.shard starting.immediate) (filter (comes_before plan.now kept.now.decided starting.id starting.immediate cells.now) kept.now.started))) }
 {
-    let mut met = Vec::new(alloc);
-    for e in started {
-        if is_predecessor(plan, decided, id, immediate, cells, e) {
-            met.push(Edge::new(e.id, immediate, !immediate, shard))?;
-        }
-    }
-    let mut edges = Edges::new(alloc);
-    edges.unite(&met)?;
-    Ok(edges)
+    let mut steps = Steps::<L>::new(blank);
+    entries(alloc, plan, kept, starting, cells, &mut steps)
 }
 
 // What is kept of a group that starts now. An immediate one runs.
@@ -117,8 +87,9 @@ pub(crate) fn new_group(
     request: Request,
 ) -> Result<StartedGroup, NoMemory>
     requires call { IsCallOf plan.now (asked request) }
-    requires fits { AreGroupsOf plan.now kept.old.started.items }
-    requires rising { IsStrictlySortedBy txn_cmp kept.old.decided }
+    requires fits { AreGroupsOf plan.now kept.old.started }
+    requires index { IsIndexOf kept.old.index kept.old.decided kept.old.started }
+    requires rows { AreRows kept.old.deps kept.old.ancestors }
     ensures { IfOk result (λ e. IsNewGroup plan.now shard kept.old kept.new request.id (asked request) e) }
 {
     let Request {
@@ -129,19 +100,14 @@ pub(crate) fn new_group(
     } = request;
     let immediate = is_immediate(plan, proc, group);
     let Outputs { bound, outs, cells } = begun(alloc, plan, proc, group, &known, &mut kept.rows)?;
-    let decided = kept.decided.as_slice();
-    let edges = edges_for(
-        alloc,
-        plan,
+    let starting = Starting {
         shard,
-        decided,
-        &kept.started,
         id,
         immediate,
-        cells.as_slice(),
-    )?;
-    let reached = led_to(alloc, &kept.deps, edges.as_slice())?;
-    let facts = facts_of(alloc, &kept.deps, &reached)?;
+    };
+    let blank = Blank::new(1);
+    let edges = edges_for::<Brand>(alloc, plan, kept, starting, cells.as_slice(), blank)?;
+    let facts = facts_for(alloc, &kept.deps, &kept.ancestors, edges.as_slice())?;
     let Known { args, inputs } = known;
     Ok(StartedGroup {
         id,

@@ -1,5 +1,6 @@
 //! Starts.
 ghost use Rattle.std.specs.Prelude.{◌≡◌, ◌++◌, ◌∷◌, [], ◌<◌, length, None, false, IfOk, OnOk};
+ghost use Rattle.roc_depgraph.specs.Deps.{is_known};
 ghost use Rattle.roc_group.specs.Group_run.{call};
 ghost use Rattle.roc_plan.specs.Groups.{groups_of};
 ghost use Rattle.roc_server.specs.Fits.{IsCallOf, AreGroupsOf};
@@ -9,6 +10,7 @@ ghost use Rattle.roc_server.specs.Start.{has_counts, start_fault, startok_of};
 ghost use Rattle.roc_server.specs.State.{find_group};
 
 use crate::groups::{differs, find_group};
+use crate::indexed::add_group;
 use crate::kept::Kept;
 use crate::started_now::new_group;
 use crate::{Handled, StartedGroup};
@@ -35,10 +37,10 @@ pub(crate) fn take_start(
     request: Request,
     out: &mut Outbox,
 ) -> Result<Handled, NoMemory>
-    requires fits { AreGroupsOf plan.now kept.old.started.items }
+    requires fits { AreGroupsOf plan.now kept.old.started }
     requires sound { IsConsistent kept.old }
     ensures step { IfOk result (StartTaken plan.now shard kept.old kept.new out.old out.new request.id (asked request)) }
-    ensures fits { OnOk result (AreGroupsOf plan.now kept.new.started.items) }
+    ensures fits { OnOk result (AreGroupsOf plan.now kept.new.started) }
     ensures sound { OnOk result (IsConsistent kept.new) }
 {
     if let Some(reason) = start_fault(plan, shard, kept, &request) {
@@ -63,15 +65,18 @@ fn start_new(
     out: &mut Outbox,
 ) -> Result<Handled, NoMemory>
     requires call { IsCallOf plan.now (asked request) }
-    requires absent { find_group request.id request.group kept.old.started.items ≡ None }
-    requires fits { AreGroupsOf plan.now kept.old.started.items }
+    requires absent { find_group request.id request.group kept.old.started ≡ None }
+    requires unknown { is_known kept.old.deps request.id ≡ false }
+    requires fits { AreGroupsOf plan.now kept.old.started }
     requires sound { IsConsistent kept.old }
     ensures step { IfOk result (StartsNew plan.now shard kept.old kept.new out.old out.new request.id (asked request)) }
-    ensures fits { OnOk result (AreGroupsOf plan.now kept.new.started.items) }
+    ensures fits { OnOk result (AreGroupsOf plan.now kept.new.started) }
     ensures sound { OnOk result (IsConsistent kept.new) }
 {
     let started = new_group(alloc, plan, shard, kept, request)?;
     send_startok(shard, &started, out)?;
+    let at = kept.started.as_slice().len();
+    add_group(&mut kept.index, at, &started)?;
     kept.started.push(started)?;
     Ok(Handled::Done)
 }

@@ -1,17 +1,20 @@
 //! Lists that are new are taught.
 ghost use Rattle.std.specs.Prelude.{◌≡◌, ◌++◌, false, IfOk, OnOk};
 ghost use Rattle.roc_base.specs.declared.node.Shard.{Shard as At};
+ghost use Rattle.roc_ancestors.specs.Least.{AreRows};
 ghost use Rattle.roc_base.specs.TxnId.{is_txn};
 ghost use Rattle.roc_sequence.specs.Places.{IsListed, NoneTwice};
 ghost use Rattle.roc_server.specs.Fits.{AreGroupsOf};
 ghost use Rattle.roc_server.specs.Inner.Kept.{is_same_group, IsConsistent};
+ghost use Rattle.roc_server.specs.Inner.Indexed.{AreSpotsOf};
 ghost use Rattle.roc_server.specs.Inner.News.{AreLearnable};
 ghost use Rattle.roc_server.specs.Inner.Taught.{KnowsMore, TakesNew, Teaches};
 ghost use Rattle.roc_server.specs.New.{AreAllNew};
 
 use crate::askers::{drop_all, tell_all};
 use crate::commitoks::send_commitoks;
-use crate::decided::{newly_decided, with_decided};
+use crate::decided::{keep_least, newly_decided};
+use crate::indexed::take_out;
 use crate::kept::Kept;
 use crate::missing::{keep_asked, missing_from, send_fetches};
 use crate::news::learn_all;
@@ -32,7 +35,7 @@ pub(crate) fn teach(
     news: &[KnownList],
     out: &mut Outbox,
 ) -> Result<(), NoMemory>
-    requires fits { AreGroupsOf plan.now kept.old.started.items }
+    requires fits { AreGroupsOf plan.now kept.old.started }
     requires sound { IsConsistent kept.old }
     requires learnable { AreLearnable kept.old.deps news.now }
     ensures { OnOk result (Teaches plan.now shard kept.old kept.new out.old out.new news.now) }
@@ -71,14 +74,18 @@ fn take_new(
     ids: &[TxnId],
     out: &mut Outbox,
 ) -> Result<(), NoMemory>
-    requires fits { AreGroupsOf plan.now kept.old.started.items }
-    requires once { NoneTwice is_same_group kept.old.started.items }
+    requires fits { AreGroupsOf plan.now kept.old.started }
+    requires once { NoneTwice is_same_group kept.old.started }
     requires new { AreAllNew (IsListed is_txn kept.old.decided) kept.old.deps ids.now }
+    requires rows { AreRows kept.old.deps kept.old.ancestors }
+    requires spots { AreSpotsOf kept.old.started kept.old.index }
     ensures { OnOk result (TakesNew plan.now shard kept.old kept.new out.old out.new) }
 {
     let ids = newly_decided(alloc, kept, ids)?;
+    keep_least(&mut kept.ancestors, &kept.deps, &ids)?;
+    take_out(&mut kept.index, &kept.started, &ids);
     run_all(alloc, plan, &ids, &mut kept.started, &mut kept.rows)?;
-    kept.decided = with_decided(alloc, kept.decided.as_slice(), &ids)?;
+    kept.decided.take(&ids)?;
     out.decided.extend_from_slice(&ids)?;
     send_commitoks(alloc, plan, shard, &kept.started, &ids, out)?;
     Ok(())

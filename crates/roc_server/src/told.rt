@@ -3,9 +3,12 @@ ghost use Rattle.std.specs.Prelude.{◌≡◌, IfOk};
 ghost use Rattle.std.specs.List.Sorted.{IsStrictlySortedBy};
 ghost use Rattle.roc_base.specs.TxnId.{txn_cmp};
 ghost use Rattle.roc_depgraph.specs.Deps.{entries_of};
+ghost use Rattle.roc_ancestors.specs.Least.{AreRows};
+ghost use Rattle.roc_server.specs.Inner.Starts.{AreFactsFor};
 ghost use Rattle.roc_server.specs.Start.{facts_of};
 
-use roc_base::{Edges, NoMemory, TxnId};
+use roc_ancestors::Ancestors;
+use roc_base::{Edge, Edges, NoMemory, TxnId};
 use roc_depgraph::{Deps, KnownList};
 use roc_msg::Facts;
 use std::alloc::Global;
@@ -16,8 +19,23 @@ const MOST_FACTS: usize = 16;
 /// How many entries these have together.
 const MOST_FACT_EDGES: usize = 1000;
 
+// The known lists of what entries lead to, as many as travel along.
+pub(crate) fn facts_for(
+    alloc: Global,
+    deps: &Deps,
+    ancestors: &Ancestors,
+    edges: &[Edge],
+) -> Result<Facts, NoMemory>
+    requires { AreRows deps.now ancestors.now }
+    ensures { IfOk result (AreFactsFor deps.now edges.now) }
+{
+    let least = ancestors.led_to(deps, edges)?;
+    let facts = facts_of(alloc, deps, &least)?;
+    Ok(facts)
+}
+
 // The known lists of these, which rise strictly, as many as travel along.
-pub(crate) fn facts_of(alloc: Global, deps: &Deps, ids: &[TxnId]) -> Result<Facts, NoMemory>
+fn facts_of(alloc: Global, deps: &Deps, ids: &[TxnId]) -> Result<Facts, NoMemory>
     requires { IsStrictlySortedBy txn_cmp ids.now }
     ensures { IfOk result (λ facts. facts ≡ facts_of deps.now ids.now) }
 {

@@ -1,13 +1,14 @@
 -- How lacks grow by one more list
-use Rattle.std.specs.Prelude.{◌≡◌, ◌≢◌, ◌==◌, not, Bool, true, false, List, [], ◌∷◌, ◌++◌, filter, length, IsTrue}
+use Rattle.std.specs.Prelude.{◌≡◌, ◌≢◌, ◌==◌, ◌⊎◌, not, Bool, true, false, List, ◌++◌, filter, length, IsTrue}
 use Rattle.std.specs.List.{list_any}
-use Rattle.std.specs.List.Sorted.{IsStrictlySortedBy}
+use Rattle.roc_sequence.specs.Lists.{Has}
 use Rattle.roc_sequence.specs.Places.{IsListed, is_listed}
 use Rattle.roc_base.specs.declared.id.TxnId.{TxnId}
-use Rattle.roc_base.specs.TxnId.{is_txn, txn_cmp}
+use Rattle.roc_base.specs.TxnId.{is_txn}
 use Rattle.roc_base.specs.Edge.{Dependency}
 use Rattle.roc_depgraph.specs.declared.known.KnownList.{KnownList}
 use Rattle.roc_depgraph.specs.Closure.{IsRisingListOf}
+use Rattle.roc_await.specs.declared.group.Group.{Group}
 use Rattle.roc_await.specs.declared.lack.Lack.{Lack}
 use Rattle.roc_await.specs.Lacks.{IsMissing}
 
@@ -43,22 +44,27 @@ pub record IsGrown (u : TxnId) (fresh : List TxnId) (old new : Lack) : Type 0 wh
   pub of : new.of ≡ old.of
   pub missing : Grows old.missing u fresh new.missing (is_listed is_txn old.missing u)
 
+pub record IsGrownGroup (u : TxnId) (fresh : List TxnId) (old new : Group) : Type 0 where
+  pub of : new.of ≡ old.of
+  pub missing : Grows old.missing u fresh new.missing (is_listed is_txn old.missing u)
+
 abbrev pub lacks_none : Lack → Bool
 lacks_none l = length l.missing == 0
 
--- each lack grew, and that of u, for which the fresh ones are missing, stands behind them
-abbrev pub AreEachGrown : TxnId → List TxnId → (old new : List Lack) → Type 0
-AreEachGrown u fresh [] new = new ≡ record { of = u; missing = fresh } ∷ []
-AreEachGrown u fresh (l ∷ ls) [] = ⊥
-AreEachGrown u fresh (l ∷ ls) (n ∷ ns) = IsGrown u fresh l n × AreEachGrown u fresh ls ns
+-- a lack that one of these grew into
+pub record GrewFrom (u : TxnId) (fresh : List TxnId) (olds : List Lack) (new : Lack) : Type 0 where
+  pub old : Lack
+  pub there : Has old olds
+  pub grown : IsGrown u fresh old new
 
--- the same without its own
-abbrev pub AreGrownSoFar : TxnId → List TxnId → (old new : List Lack) → Type 0
-AreGrownSoFar u fresh [] [] = Unit {0}
-AreGrownSoFar u fresh [] (n ∷ ns) = ⊥
-AreGrownSoFar u fresh (l ∷ ls) [] = ⊥
-AreGrownSoFar u fresh (l ∷ ls) (n ∷ ns) = IsGrown u fresh l n × AreGrownSoFar u fresh ls ns
+-- of the same transaction as one of these
+pub record IsOfOne (news : List Lack) (old : Lack) : Type 0 where
+  pub new : Lack
+  pub there : Has new news
+  pub of : new.of ≡ old.of
 
--- what a lack names as missing rises
-abbrev pub IsRisingLack : Lack → Type 0
-IsRisingLack l = IsStrictlySortedBy txn_cmp l.missing
+-- each lack grew, and u has one too, for which the fresh ones are missing
+pub record AreGrown (u : TxnId) (fresh : List TxnId) (olds news : List Lack) : Type 0 where
+  pub only : (l : Lack) → Has l news → GrewFrom u fresh olds l ⊎ (l ≡ record { of = u; missing = fresh })
+  pub each : (l : Lack) → Has l olds → IsOfOne news l
+  pub own : Has (record { of = u; missing = fresh }) news

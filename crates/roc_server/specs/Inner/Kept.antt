@@ -9,6 +9,7 @@ use Rattle.roc_base.specs.TxnId.{is_txn, txn_cmp}
 use Rattle.roc_base.specs.Edge.{Dependency}
 use Rattle.roc_depgraph.specs.Deps.{is_known, IsDecided}
 use Rattle.roc_await.specs.Waits.{was_asked_for}
+use Rattle.roc_ancestors.specs.Least.{AreRows}
 use Rattle.roc_await.specs.Lacks.{AreLacks}
 use Rattle.roc_group.specs.Group_run.{GroupCall, call}
 use Rattle.roc_rows.specs.Store.{Store}
@@ -16,9 +17,10 @@ use Rattle.roc_server.specs.declared.kept.Kept.{Kept}
 use Rattle.roc_server.specs.declared.started.StartedGroup.{StartedGroup}
 use Rattle.roc_server.specs.declared.starts.Request.{Request}
 use Rattle.roc_server.specs.State.{is_group, is_here, ServerState}
+use Rattle.roc_server.specs.Inner.Indexed.{IsIndexOf}
 
 abbrev pub state_of : Shard → Kept → Bool → ServerState
-state_of shard k stopped = record { shard = shard; store = k.rows.store; started = k.started.items; lists = record { known = k.deps; waiting = k.waits }; stopped = stopped }
+state_of shard k stopped = record { shard = shard; store = k.rows.store; started = k.started; lists = record { known = k.deps; waiting = k.waits }; stopped = stopped }
 
 -- the same with these cells and groups
 abbrev pub holding : ServerState → Store → List StartedGroup → ServerState
@@ -30,16 +32,18 @@ is_same_group a b = is_group a.id a.group b
 
 -- what an entry names is unknown, has no group here and was not asked for
 abbrev pub is_left : Kept → Dependency → Bool
-is_left k d = not (is_known k.deps d.from) && (not (is_here d.from k.started.items) && not (was_asked_for d.from k.waits.asked))
+is_left k d = not (is_known k.deps d.from) && (not (is_here d.from k.started) && not (was_asked_for d.from k.waits.asked))
 
--- each group of a transaction once; as decided exactly what is decided by the known lists, rising; what the others lack; and all that known
--- lists name is known, here or asked for
+-- each group of a transaction once; as decided exactly what is decided by the known lists, rising, and the least of its ancestors; what the
+-- others lack, and where their groups are found by the cells that they use; and all that known lists name is known, here or asked for
 pub record IsConsistent (k : Kept) : Type 0 where
-  pub groups_once : NoneTwice is_same_group k.started.items
+  pub groups_once : NoneTwice is_same_group k.started
   pub decided_rising : IsStrictlySortedBy txn_cmp k.decided
   pub decided_only : (t : TxnId) → IsListed is_txn k.decided t → IsDecided k.deps t
   pub decided_all : (t : TxnId) → IsDecided k.deps t → IsListed is_txn k.decided t
+  pub rows : AreRows k.deps k.ancestors
   pub lacks : AreLacks k.deps k.lacks
+  pub index : IsIndexOf k.index k.decided k.started
   pub none_left : AllByRecursion (λ d. is_left k d ≡ false) (flat_map (λ list. list.edges) k.deps)
 
 -- a group without what it gave

@@ -1,27 +1,25 @@
 -- A group that starts, as its parts are made
-use Rattle.std.specs.Prelude.{◌≡◌, ◌&&◌, not, Bool, false, if◌then◌else◌, List}
-use Rattle.roc_sequence.specs.Places.{is_listed}
+use Rattle.std.specs.Prelude.{◌≡◌, false, if◌then◌else◌, List}
 use Rattle.roc_base.specs.declared.id.TxnId.{TxnId}
-use Rattle.roc_base.specs.TxnId.{is_txn}
-use Rattle.roc_base.specs.Equality.{same_tag}
-use Rattle.roc_group.specs.declared.access.Access.{Access}
-use Rattle.roc_group.specs.Accesses.{do_conflict}
+use Rattle.roc_base.specs.Edge.{Dependency}
+use Rattle.roc_depgraph.specs.declared.known.KnownList.{KnownList}
 use Rattle.roc_base.specs.declared.node.Shard.{Shard}
 use Rattle.roc_group.specs.Group_run.{GroupCall, group_run}
 use Rattle.roc_msg.specs.declared.outbox.Outbox.{Outbox}
-use Rattle.roc_plan.specs.Groups.{Plan, is_immediate_of}
+use Rattle.roc_plan.specs.Groups.{Plan}
 use Rattle.roc_server.specs.declared.handled.Handled.{Handled}
 use Rattle.roc_server.specs.declared.kept.Kept.{Kept}
 use Rattle.roc_server.specs.declared.started.StartedGroup.{StartedGroup}
 use Rattle.roc_server.specs.Inner.Kept.{state_of}
 use Rattle.roc_server.specs.New.{AreLedTo}
-use Rattle.roc_server.specs.Start.{is_immediate_group, edges_for, new_group, start_new, after_start}
+use Rattle.roc_server.specs.Start.{is_immediate_group, edges_for, facts_of, new_group, start_new, after_start}
 use Rattle.roc_server.specs.Step.{Shows, edges_of_new}
 
--- a group comes before one of this class with these cells
-abbrev pub comes_before : Plan → (out : List TxnId) → TxnId → (immediate : Bool) → List Access → StartedGroup → Bool
-comes_before plan out id immediate cells e =
-    not (is_txn e.id id) && (not (is_listed is_txn out e.id) && (same_tag (is_immediate_of plan e.proc e.group) immediate && do_conflict e.cells cells))
+-- the known lists of what entries lead to, as many as travel along
+pub record AreFactsFor (known : List KnownList) (edges : List Dependency) (facts : List KnownList) : Type 0 where
+  pub reached : List TxnId
+  pub led : AreLedTo known edges reached
+  pub are : facts ≡ facts_of known reached
 
 -- e is what is kept of a group that starts, and an immediate one ran
 pub record IsNewGroup (plan : Plan) (shard : Shard) (old new : Kept) (id : TxnId) (c : GroupCall) (e : StartedGroup) : Type 0 where
@@ -33,7 +31,9 @@ pub record IsNewGroup (plan : Plan) (shard : Shard) (old new : Kept) (id : TxnId
   pub deps : new.deps ≡ old.deps
   pub waits : new.waits ≡ old.waits
   pub decided : new.decided ≡ old.decided
+  pub ancestors : new.ancestors ≡ old.ancestors
   pub lacks : new.lacks ≡ old.lacks
+  pub index : new.index ≡ old.index
 
 -- a start was taken, or ignored
 pub record StartTaken (plan : Plan) (shard : Shard) (old new : Kept) (before after : Outbox) (id : TxnId) (c : GroupCall) (answer : Handled) : Type 0 where

@@ -7,6 +7,7 @@ use Rattle.roc_base.specs.declared.id.TxnId.{TxnId}
 use Rattle.roc_base.specs.declared.node.Shard.{Shard}
 use Rattle.roc_base.specs.Edge.{Dependency}
 use Rattle.roc_await.specs.declared.waits.Asked.{Asked}
+use Rattle.roc_ancestors.specs.Least.{AreRows}
 use Rattle.roc_await.specs.Lacks.{AreLacks, AreDecidedBy}
 use Rattle.roc_depgraph.specs.declared.known.KnownList.{KnownList}
 use Rattle.roc_depgraph.specs.Closure.{IsRisingListOf}
@@ -19,6 +20,7 @@ use Rattle.roc_server.specs.declared.kept.Kept.{Kept}
 use Rattle.roc_server.specs.Runs.{commitok, take_all}
 use Rattle.roc_server.specs.New.{AreNew}
 use Rattle.roc_server.specs.Lists.{knowns_for, missing_from, waiting_after, taught, list_with, carried, unknown_of, commit_fault, after_commit, known_fault, after_known}
+use Rattle.roc_server.specs.Inner.Indexed.{AreOut}
 use Rattle.roc_server.specs.Inner.Kept.{state_of, holding, AreSameGroups, IsConsistent}
 use Rattle.roc_server.specs.State.{is_here, ServerState}
 use Rattle.roc_server.specs.Step.{Shows, unless_ignored}
@@ -28,6 +30,8 @@ pub record KnowsMore (shard : Shard) (old new : Kept) (before after : Outbox) (n
   pub rows : new.rows ≡ old.rows
   pub started : new.started ≡ old.started
   pub decided : new.decided ≡ old.decided
+  pub ancestors : new.ancestors ≡ old.ancestors
+  pub index : new.index ≡ old.index
   pub deps : new.deps ≡ old.deps ++ news
   pub lacks : AreLacks new.deps new.lacks
   pub news_decide : AreDecidedBy old.deps (old.deps ++ news) ids
@@ -41,11 +45,13 @@ pub record DecidedTaken (plan : Plan) (shard : Shard) (old new : Kept) (before a
   pub lists : new.deps ≡ old.deps
   pub waits : new.waits ≡ old.waits
   pub lacks : new.lacks ≡ old.lacks
+  pub least : AreRows new.deps new.ancestors
   pub decided : IsRisingListOf (IsListed is_txn (old.decided ++ ids)) new.decided
-  pub runs : (s : ServerState) → take_all plan (holding s old.rows.store old.started.items) ids ≡ holding s new.rows.store new.started.items
-  pub groups : AreSameGroups old.started.items new.started.items
+  pub index : AreOut ids old.index new.index
+  pub runs : (s : ServerState) → take_all plan (holding s old.rows.store old.started) ids ≡ holding s new.rows.store new.started
+  pub groups : AreSameGroups old.started new.started
   pub told : after.decided ≡ before.decided ++ ids
-  pub sent : after.messages ≡ before.messages ++ map (commitok plan shard new.started.items) (filter (λ t. is_here t new.started.items) ids)
+  pub sent : after.messages ≡ before.messages ++ map (commitok plan shard new.started) (filter (λ t. is_here t new.started) ids)
 
 abbrev pub TakesNew : Plan → Shard → (old new : Kept) → (before after : Outbox) → Type 0
 TakesNew plan shard old new before after = (ids : List TxnId) × DecidedTaken plan shard old new before after ids
@@ -55,7 +61,7 @@ pub record Teaches (plan : Plan) (shard : Shard) (old new : Kept) (before after 
   pub ids : List TxnId
   pub new_ids : AreNew (IsDecided old.deps) (old.deps ++ news) ids
   pub shown : Shows (taught plan (state_of shard old false) news ids) Done (state_of shard new false) before after
-  pub groups : AreSameGroups old.started.items new.started.items
+  pub groups : AreSameGroups old.started new.started
   pub sound : IsConsistent new
 
 -- a commit was taken, or ignored

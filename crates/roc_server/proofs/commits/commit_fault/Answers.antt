@@ -1,15 +1,14 @@
-use Rattle.std.proofs.Common.{true, false, refl, sym, ap, ◌∙◌}
+use Rattle.std.proofs.Common.{true, false, refl, sym, ◌∙◌}
 use Rattle.roc_server.specs.Inner.Kept.{state_of}
-use Rattle.roc_server.specs.State.{is_here}
 use Rattle.roc_server.proofs.Commit_steps.{fault_is}
 use Rattle.roc_server.proofs.commits.commit_fault.Goals as goal
 
 pub returns-then-commit_differs : goal.returns-then-commit_differs
 returns-then-commit_differs c shard =
     let s = state_of shard c.args.kept.now false in
-    sym (fault_is s c.args.id c.args.edges.now c.args.facts.now true true (ap (is_here c.args.id) (sym c.deref.ensures.value) ∙ sym c.is_here.ensures ∙ c.if-not-is_here.false) (sym (c.commit_differs.ensures s refl) ∙ c.if-commit_differs.true))
+    sym (fault_is s c.args.id c.args.edges.now c.args.facts.now true true (sym c.is_here.ensures ∙ c.if-not-is_here.false) (sym (c.commit_differs.ensures s refl) ∙ c.if-commit_differs.true))
 
 pub returns : goal.returns
 returns c shard =
     let s = state_of shard c.args.kept.now false in
-    sym (fault_is s c.args.id c.args.edges.now c.args.facts.now true false (ap (is_here c.args.id) (sym c.deref.ensures.value) ∙ sym c.is_here.ensures ∙ c.if-not-is_here.false) (sym (c.commit_differs.ensures s refl) ∙ c.if-commit_differs.false))
+    sym (fault_is s c.args.id c.args.edges.now c.args.facts.now true false (sym c.is_here.ensures ∙ c.if-not-is_here.false) (sym (c.commit_differs.ensures s refl) ∙ c.if-commit_differs.false))

@@ -14,4 +14,4 @@ returns-clause-step c =
     (c.deref.ensures.value ∙ c.in_ok-push_unknown.ensures ∙ ap (λ xs. xs ++ unknown_of c.args.kept.now.deps (list_with c.args.id c.args.edges.now ∷ [])) c.new-news.ensures.items) c.in_ok-teach.ensures
 
 pub returns-clause-fits : goal.returns-clause-fits
-returns-clause-fits c = fits_same c.args.plan.now c.args.kept.now.started.items c.teach.new.kept.started.items c.in_ok-teach.ensures.groups c.requires.fits
+returns-clause-fits c = fits_same c.args.plan.now c.args.kept.now.started c.teach.new.kept.started c.in_ok-teach.ensures.groups c.requires.fits

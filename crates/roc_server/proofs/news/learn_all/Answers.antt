@@ -1,28 +1,26 @@
-use Rattle.std.proofs.Common.{◌++◌, List, sym, subst, ap, ◌∙◌}
-use Rattle.roc_base.specs.declared.id.TxnId.{TxnId}
+use Rattle.std.proofs.Common.{◌++◌, ◌∙◌, List, ap}
+use Rattle.roc_sequence.proofs.Fronts.{front_whole}
 use Rattle.roc_depgraph.specs.declared.known.KnownList.{KnownList}
-use Rattle.roc_await.specs.Lacks.{AreLacks, AreDecidedBy}
-use Rattle.roc_server.proofs.Learning.{new_is, learnt_more, learnable_more, decided_more}
+use Rattle.roc_server.proofs.Learning.{learnt_more, learnable_more}
 use Rattle.roc_server.proofs.news.learn_all.Goals as goal
 
 pub loop-k-preserved : goal.loop-k-preserved
 loop-k-preserved c =
-    let first = c.args.deps.now in
-    let deps = c.loop-k.deps in
-    let new = c.learn-in-loop-k.new.self in
-    let lacks = c.loop-k.lacks in
-    let ids = c.loop-k.ids.items in
-    let more = c.in_ok-more.more.items in
     let i = c.loop-k.invariant in
-    let m = c.in_ok-more.ensures in
-    let learns = c.in_ok-learn.ensures.ok in
+    let first = c.args.deps.now in
     record {
-      learnt = learnt_more first deps new lacks ids more c.args.news.now c.loop-k.k-index c.k-item.result c.loop-k-test.true c.k-item.is i.learnt i.learnable i.lacks i.decided c.in_ok-learn.field-0 learns m.decided;
-      learnable = learnable_more first deps new lacks ids more c.args.news.now c.loop-k.k-index c.k-item.result c.loop-k-test.true c.k-item.is i.learnt i.learnable i.lacks i.decided c.in_ok-learn.field-0 learns m.decided;
-      lacks =
-          subst (λ (ks : List KnownList). AreLacks ks c.learn.new.self)
-          (sym (new_is first deps new lacks ids more c.args.news.now c.loop-k.k-index c.k-item.result c.loop-k-test.true c.k-item.is i.learnt i.learnable i.lacks i.decided c.in_ok-learn.field-0 learns m.decided)) m.lacks;
-      decided =
-          subst (AreDecidedBy first new) (sym (c.in_ok-extend_from_slice.ensures.items ∙ ap (λ (xs : List TxnId). ids ++ xs) c.deref.ensures.value))
-          (decided_more first deps new lacks ids more c.args.news.now c.loop-k.k-index c.k-item.result c.loop-k-test.true c.k-item.is i.learnt i.learnable i.lacks i.decided c.in_ok-learn.field-0 learns m.decided);
+      learnt = learnt_more first c.loop-k.deps c.learn.new.self c.args.news.now c.loop-k.k-index c.k-item.result c.loop-k-test.true c.k-item.is i.learnt i.learnable c.in_ok-learn.field-0 c.in_ok-learn.ensures.ok;
+      learnable = learnable_more first c.loop-k.deps c.learn.new.self c.args.news.now c.loop-k.k-index c.k-item.result c.loop-k-test.true c.k-item.is i.learnt i.learnable c.in_ok-learn.field-0 c.in_ok-learn.ensures.ok;
     }
+
+pub returns-clause-decided : goal.returns-clause-decided
+returns-clause-decided c =
+    let behind : List KnownList → List KnownList = λ ks. c.args.deps.now ++ ks in
+    c.in_ok-decided.ensures.decided (record {
+      before = c.args.deps.now;
+      news = c.args.news.now;
+      known_are = c.loop-k.invariant.learnt ∙ ap behind (front_whole c.args.news.now c.loop-k.k-index c.loop-k-test.false);
+      ids_are = c.deref.ensures.value ∙ c.in_ok-ids.ensures;
+      learnable = c.requires.learnable;
+      lacks_were = c.requires.lacks;
+    })

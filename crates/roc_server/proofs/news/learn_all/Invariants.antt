@@ -1,5 +1,4 @@
 use Rattle.std.proofs.Common.{◌≡◌, ◌++◌, take, drop}
-use Rattle.roc_await.specs.Lacks.{AreLacks, AreDecidedBy}
 use Rattle.roc_server.specs.Inner.News.{AreLearnable}
 use Rattle.roc_server.proofs.news.learn_all.Given as goal
 
@@ -7,6 +6,4 @@ abbrev pub invariant-loop-k : goal.invariant-loop-k
 invariant-loop-k l = record {
   learnt : l.deps ≡ l.initial.deps ++ take l.k-index l.news;
   learnable : AreLearnable l.deps (drop l.k-index l.news);
-  lacks : AreLacks l.deps l.lacks;
-  decided : AreDecidedBy l.initial.deps l.deps l.ids.items;
 }

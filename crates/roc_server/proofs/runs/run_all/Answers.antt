@@ -11,6 +11,6 @@ loop-id-preserved c =
     let none : TxnId = record { coord = 0; seq = 0 } in
     let within : i < length ids = omega arith in
     let next : suc i ≡ i + 1 = omega arith in
-    takes_more c.args.plan.now ids (drop i ids) (drop (i + 1) ids) (get_or ids i none) c.args.started.now.items c.loop-id.started.items c.run_transaction.new.started.items
+    takes_more c.args.plan.now ids (drop i ids) (drop (i + 1) ids) (get_or ids i none) c.args.started.now c.loop-id.started c.run_transaction.new.started
     c.args.rows.now.store c.loop-id.rows.store c.run_transaction.new.rows.store
     (drop-cons ids i none within ∙ ap (λ k. get_or ids i none ∷ drop k ids) next) c.loop-id.invariant c.in_ok-run_transaction.ensures.runs c.in_ok-run_transaction.ensures.groups

@@ -3,4 +3,4 @@ use Rattle.roc_server.proofs.Group_runs.{TakesFrom}
 use Rattle.roc_server.proofs.runs.run_all.Given as goal
 
 abbrev pub invariant-loop-id : goal.invariant-loop-id
-invariant-loop-id l = TakesFrom l.plan l.ids (drop l.id-index l.ids) l.initial.started.items l.started.items l.initial.rows.store l.rows.store
+invariant-loop-id l = TakesFrom l.plan l.ids (drop l.id-index l.ids) l.initial.started l.started l.initial.rows.store l.rows.store

@@ -8,16 +8,16 @@ use Rattle.roc_server.proofs.runs.run_transaction.Goals as goal
 
 pub loop-number-preserved : goal.loop-number-preserved
 loop-number-preserved c =
-    runs_more c.args.plan.now c.args.id c.count_of_groups-count.result c.loop-number.number c.args.started.now.items c.loop-number.started.items c.run_number.new.started.items
+    runs_more c.args.plan.now c.args.id c.count_of_groups-count.result c.loop-number.number c.args.started.now c.loop-number.started c.run_number.new.started
     c.args.rows.now.store c.loop-number.rows.store c.run_number.new.rows.store (omega arith) c.loop-number.invariant c.in_ok-run_number.ensures.runs c.in_ok-run_number.ensures.groups
 
 pub returns-clause-runs : goal.returns-clause-runs
 returns-clause-runs c s =
     let plan = c.args.plan.now in
-    let first = c.args.started.now.items in
+    let first = c.args.started.now in
     let counted : c.count_of_groups-count.result ≡ count_of_groups plan (find (λ e. is_txn e.id c.args.id) first) =
-    c.count_of_groups-count.ensures ∙ ap (λ xs. count_of_groups plan (find (λ e. is_txn e.id c.args.id) xs)) c.deref.ensures.value in
+    c.count_of_groups-count.ensures in
     let all : c.count_of_groups-count.result ≤ c.loop-number.number = omega arith in
     ap (λ es. run_groups plan (holding s c.args.rows.now.store first) (buffered plan es)) (groups_here-from plan c.args.id first c.count_of_groups-count.result counted)
     ∙ sym (c.loop-number.invariant.runs s)
-    ∙ ap (λ es. run_groups plan (holding s c.loop-number.rows.store c.loop-number.started.items) (buffered plan es)) (groups_from-end c.args.id first c.loop-number.number c.count_of_groups-count.result all)
+    ∙ ap (λ es. run_groups plan (holding s c.loop-number.rows.store c.loop-number.started) (buffered plan es)) (groups_from-end c.args.id first c.loop-number.number c.count_of_groups-count.result all)

@@ -1,8 +1,7 @@
-use Rattle.std.proofs.Common.{sym, ap, ◌∙◌}
+use Rattle.std.proofs.Common.{false, sym, ap, ◌∙◌}
 use Rattle.std.specs.Option.{option_copied}
-use Rattle.roc_server.specs.Inner.Kept.{asked}
-use Rattle.roc_server.specs.State.{find_group}
-use Rattle.roc_server.proofs.Start_steps.{start_ignored, start_repeated, start_made}
+use Rattle.roc_server.specs.Inner.Kept.{asked, state_of}
+use Rattle.roc_server.proofs.Start_steps.{start_ignored, start_repeated, start_made, not_late}
 use Rattle.roc_server.proofs.starts.take_start.Goals as goal
 
 pub returns-in-Some-clause-step : goal.returns-in-Some-clause-step
@@ -12,11 +11,15 @@ returns-in-Some-clause-step c =
 pub returns-in_ok-send_startok-in-Some-find_group-clause-step : goal.returns-in_ok-send_startok-in-Some-find_group-clause-step
 returns-in_ok-send_startok-in-Some-find_group-clause-step c =
     start_repeated c.args.plan.now c.args.shard c.args.kept.now c.args.request.id (asked c.args.request) c.args.out.now c.send_startok.new.out c.in-Some-find_group.earlier.now (sym c.start_fault.ensures.reason ∙ c.in_default.is)
-    (ap (find_group c.args.request.id c.args.request.group) (sym c.deref.ensures.value) ∙ sym c.find_group.ensures ∙ ap option_copied c.in-Some-find_group.is)
+    (sym c.find_group.ensures ∙ ap option_copied c.in-Some-find_group.is)
     c.in_ok-send_startok-in-Some-find_group.ensures
+
+pub start_new-requires-clause-unknown : goal.start_new-requires-clause-unknown
+start_new-requires-clause-unknown c =
+    not_late c.args.plan.now (state_of c.args.shard c.args.kept.now false) c.args.request.id (asked c.args.request) (sym c.start_fault.ensures.reason ∙ c.in_default.is) (sym c.find_group.ensures ∙ ap option_copied c.in-None.is)
 
 pub returns-in-None-clause-step : goal.returns-in-None-clause-step
 returns-in-None-clause-step c =
     start_made c.args.plan.now c.args.shard c.args.kept.now c.args.request.id (asked c.args.request) c.start_new.result c.start_new.new.kept c.args.out.now c.start_new.new.out (sym c.start_fault.ensures.reason ∙ c.in_default.is)
-    (ap (find_group c.args.request.id c.args.request.group) (sym c.deref.ensures.value) ∙ sym c.find_group.ensures ∙ ap option_copied c.in-None.is)
+    (sym c.find_group.ensures ∙ ap option_copied c.in-None.is)
     c.start_new.ensures.step

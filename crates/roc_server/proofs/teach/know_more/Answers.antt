@@ -1,4 +1,4 @@
-use Rattle.std.proofs.Common.{◌≡◌, ◌++◌, false, List, map, filter, refl, sym, subst, ap, ◌∙◌}
+use Rattle.std.proofs.Common.{◌≡◌, ◌++◌, false, List, map, filter, refl, subst, ap, ◌∙◌}
 use Rattle.std.specs.List.{flat_map}
 use Rattle.roc_base.specs.Edges.{united}
 use Rattle.roc_await.specs.declared.waits.Asked.{Asked}
@@ -25,13 +25,15 @@ returns c shard =
       rows = refl;
       started = refl;
       decided = refl;
+      ancestors = refl;
+      index = refl;
       deps = c.in_ok-ids.ensures.learnt;
       lacks = c.in_ok-ids.ensures.lacks;
       news_decide = subst (λ (ks : List KnownList). AreDecidedBy old.deps ks c.in_ok-ids.ids.items) c.in_ok-ids.ensures.learnt c.in_ok-ids.ensures.decided;
       missing =
-          subst Found c.in_ok-ids.ensures.learnt (c.in_ok-asks.ensures s (sym c.deref.ensures.value) refl)
+          subst Found c.in_ok-ids.ensures.learnt (c.in_ok-asks.ensures s refl refl)
           ∙ ap (map asked_of) (missing_of_news s old.deps news (keeps_front old.deps news) c.requires.sound.none_left);
       waits =
-          c.in_ok-keep_asked.ensures ∙ ap (λ (xs : List Asked). record c.drop_all.new.waits { asked = with_all_asked xs c.drop_all.new.waits.asked }) c.deref-2.ensures.value ∙ ap Dropped c.in_ok-drop_all.ensures;
+          c.in_ok-keep_asked.ensures ∙ ap (λ (xs : List Asked). record c.drop_all.new.waits { asked = with_all_asked xs c.drop_all.new.waits.asked }) c.deref.ensures.value ∙ ap Dropped c.in_ok-drop_all.ensures;
       sent = c.in_ok-tell_all.ensures ∙ ap Told c.askers.ensures;
     }

@@ -1,4 +1,4 @@
-use Rattle.std.proofs.Common.{◌++◌, List, Vec, Global, map, sym, subst, ap, ◌∙◌}
+use Rattle.std.proofs.Common.{◌++◌, List, map, sym, subst, ap, ◌∙◌}
 use Rattle.roc_sequence.specs.Places.{NoneTwice}
 use Rattle.roc_await.specs.declared.waits.Asked.{Asked}
 use Rattle.roc_msg.specs.declared.outbox.Outbox.{Outbox}
@@ -11,18 +11,22 @@ use Rattle.roc_base.specs.declared.id.TxnId.{TxnId}
 use Rattle.roc_base.specs.TxnId.{is_txn}
 use Rattle.roc_depgraph.specs.declared.known.KnownList.{KnownList}
 use Rattle.roc_server.specs.New.{AreAllNew}
+use Rattle.roc_server.specs.Inner.Indexed.{AreSpotsOf}
+use Rattle.roc_server.proofs.Index_steps.{indexed_spots}
 use Rattle.roc_server.proofs.Learning.{not_taken}
-use Rattle.roc_server.proofs.Teach_steps.{teaches}
+use Rattle.roc_ancestors.specs.Least.{AreRows}
+use Rattle.roc_ancestors.proofs.Kept_rows.{rows_stay}
+use Rattle.roc_server.proofs.Teach_steps.{teaches, keeps_front}
 use Rattle.roc_server.proofs.teach.teach.Goals as goal
 
 pub take_new-requires-clause-fits : goal.take_new-requires-clause-fits
 take_new-requires-clause-fits c =
-    let P : Vec StartedGroup Global → Type 0 = λ v. AreGroupsOf c.args.plan.now v.items in
+    let P : List StartedGroup → Type 0 = AreGroupsOf c.args.plan.now in
     subst P (sym (c.in_ok-asks.ensures c.args.shard).started) c.requires.fits
 
 pub take_new-requires-clause-once : goal.take_new-requires-clause-once
 take_new-requires-clause-once c =
-    let P : Vec StartedGroup Global → Type 0 = λ v. NoneTwice is_same_group v.items in
+    let P : List StartedGroup → Type 0 = NoneTwice is_same_group in
     subst P (sym (c.in_ok-asks.ensures c.args.shard).started) c.requires.sound.groups_once
 
 pub take_new-requires-clause-new : goal.take_new-requires-clause-new
@@ -32,6 +36,19 @@ take_new-requires-clause-new c =
     subst (AreAllNew (IsListed is_txn c.know_more.new.kept.decided) c.know_more.new.kept.deps) (sym c.deref.ensures.value)
     (subst (λ (ks : List KnownList). New ks c.know_more.new.kept.decided) (sym m.deps)
     (subst (New (c.args.kept.now.deps ++ c.args.news.now)) (sym m.decided) (not_taken c.args.kept.now (c.args.kept.now.deps ++ c.args.news.now) c.in_ok-asks.ids.items c.requires.sound m.news_decide)))
+
+pub take_new-requires-clause-rows : goal.take_new-requires-clause-rows
+take_new-requires-clause-rows c =
+    let m = c.in_ok-asks.ensures c.args.shard in
+    let old = c.args.kept.now in
+    subst (λ (ks : List KnownList). AreRows ks c.know_more.new.kept.ancestors) (sym m.deps)
+    (subst (AreRows (old.deps ++ c.args.news.now)) (sym m.ancestors) (rows_stay old.deps (old.deps ++ c.args.news.now) (keeps_front old.deps c.args.news.now) old.ancestors c.requires.sound.rows))
+
+pub take_new-requires-clause-spots : goal.take_new-requires-clause-spots
+take_new-requires-clause-spots c =
+    let m = c.in_ok-asks.ensures c.args.shard in
+    let sound = c.requires.sound in
+    subst (λ es. AreSpotsOf es c.know_more.new.kept.index) (sym m.started) (subst (AreSpotsOf c.args.kept.now.started) (sym m.index) (indexed_spots c.args.kept.now.index c.args.kept.now.decided c.args.kept.now.started sound.index))
 
 pub returns : goal.returns
 returns c =

@@ -1,0 +1,71 @@
+//! What the index has of a group.
+ghost use Rattle.std.specs.Prelude.{◌<◌, OnOk};
+ghost use Rattle.std.specs.List.{AllByRecursion, list_any};
+ghost use Rattle.roc_rows.specs.declared.cell.Cell.{Cell};
+ghost use Rattle.roc_rows.specs.Cells.{is_cell};
+ghost use Rattle.roc_index.specs.Spots.{spots_at};
+ghost use Rattle.roc_places.specs.Inner.Passing.{passes_at};
+ghost use Rattle.roc_server.specs.Start.{uses_cell};
+ghost use Rattle.roc_server.specs.Inner.Indexed.{spot_of, IsAddedAt, IsOutOf, IsOut, AreSpotsOf, AreOut};
+
+use crate::StartedGroup;
+use crate::started_groups::StartedGroups;
+use roc_base::{NoMemory, TxnId};
+use roc_group::Access;
+use roc_index::{Index, Spot};
+
+// Adds the spot of a group that stands at this place, behind all others, at each cell that it uses.
+pub(crate) fn add_group(index: &mut Index, at: usize, e: &StartedGroup) -> Result<(), NoMemory>
+    requires { (c : Cell) → AllByRecursion (λ s. s.at < at) (spots_at c index.old) }
+    ensures { OnOk result (IsAddedAt (spot_of at e.now) e.now.cells index.old index.new) }
+{
+    let spot = Spot {
+        id: e.id,
+        at,
+        proc: e.proc,
+        group: e.group,
+    };
+    for access in e.cells.as_slice() {
+        index.add(access.cell, spot)?;
+    }
+    Ok(())
+}
+
+// Takes out the spots of transactions.
+pub(crate) fn take_out(index: &mut Index, started: &StartedGroups, ids: &[TxnId])
+    requires { AreSpotsOf started.now index.old }
+    ensures { AreOut ids.now index.old index.new }
+{
+    for id in ids {
+        take_out_one(index, started, *id);
+    }
+}
+
+// Takes out the spots of a transaction: they stand at the cells that its groups use.
+fn take_out_one(index: &mut Index, started: &StartedGroups, id: TxnId)
+    requires { AreSpotsOf started.now index.old }
+    ensures { IsOut id index.old index.new }
+{
+    let groups = started.as_slice();
+    for at in started.all(id) {
+        take_out_at(index, groups, *at, id);
+    }
+}
+
+// Takes out those at the cells that the group at a place uses.
+fn take_out_at(index: &mut Index, groups: &[StartedGroup], at: usize, id: TxnId)
+    ensures { IsOutOf id (λ c. passes_at (uses_cell c) groups.now at) index.old index.new }
+{
+    if let Some(e) = groups.get(at) {
+        take_out_of(index, e.cells.as_slice(), id);
+    }
+}
+
+// Takes out those at the cells of these uses.
+fn take_out_of(index: &mut Index, cells: &[Access], id: TxnId)
+    ensures { IsOutOf id (λ c. list_any (λ a. is_cell a.cell c) cells.now) index.old index.new }
+{
+    for access in cells {
+        index.take_out(access.cell, id);
+    }
+}

@@ -1,0 +1,115 @@
+//! The started groups that one that starts looks at: those that are undecided, of its class, and use one of its cells.
+ghost use Rattle.std.specs.Prelude.{◌≡◌, ◌+◌, ◌≤◌, ◌<◌, ◌++◌, length, map, filter, slice_get, Some, if◌then◌else◌, IfOk, OnOk};
+ghost use Rattle.std.specs.List.{AllByRecursion};
+ghost use Rattle.roc_base.specs.Edges.{united};
+ghost use Rattle.roc_server.specs.Fits.{AreGroupsOf};
+ghost use Rattle.roc_server.specs.Inner.Indexed.{IsIndexOf, IsWithin, is_looked_at, is_met, edge_from};
+ghost use Rattle.roc_server.specs.Start.{comes_before, edge_to, users};
+
+use crate::StartedGroup;
+use crate::kept::Kept;
+use crate::started_now::is_immediate;
+use roc_base::{Edge, Edges, NoMemory, Shard, TxnId};
+use roc_group::{Access, conflict};
+use roc_index::Spot;
+use roc_plan::Plan;
+use roc_steps::Steps;
+use std::alloc::Global;
+use std::sync::ledger::Ledger;
+
+// What starts: a group of this transaction and class, on this shard.
+#[derive(Clone, Copy)]
+pub(crate) struct Starting {
+    pub shard: Shard,
+    pub id: TxnId,
+    pub immediate: bool,
+}
+
+// The entries for each transaction that comes before: one list, rising by id.
+pub(crate) fn entries<L: Ledger>(
+    alloc: Global,
+    plan: &Plan,
+    kept: &Kept,
+    starting: Starting,
+    cells: &[Access],
+    steps: &mut Steps<L>,
+) -> Result<Edges, NoMemory>
+    requires fits { AreGroupsOf plan.now kept.now.started }
+    requires index { IsIndexOf kept.now.index kept.now.decided kept.now.started }
+    ensures entries { IfOk result (λ edges. edges ≡ united (map (edge_to starting.shard starting.immediate) (filter (comes_before plan.now kept.now.decided starting.id starting.immediate cells.now) kept.now.started))) }
+    ensures steps { steps.new ≤ steps.old + length (users plan.now kept.now.decided starting.immediate cells.now kept.now.started) }
+{
+    let mut met = Vec::new(alloc);
+    let started = kept.started.as_slice();
+    for access in cells {
+        let spots = kept.index.at(access.cell);
+        push_met(plan, started, spots, starting, access, &mut met, steps)?;
+    }
+    let mut edges = Edges::new(alloc);
+    edges.unite(&met)?;
+    Ok(edges)
+}
+
+// Adds the entries for the groups of these spots that come before one that makes this use.
+fn push_met<L: Ledger>(
+    plan: &Plan,
+    started: &[StartedGroup],
+    spots: &[Spot],
+    starting: Starting,
+    access: &Access,
+    met: &mut Vec<Edge>,
+    steps: &mut Steps<L>,
+) -> Result<(), NoMemory>
+    requires { AllByRecursion (IsWithin plan.now started.now) spots.now }
+    ensures met { OnOk result (met.new.items ≡ met.old.items ++ map (edge_from starting.shard starting.immediate) (filter (is_met plan.now started.now starting.id starting.immediate access.now) spots.now)) }
+    ensures steps { steps.new ≤ steps.old + length (filter (is_looked_at plan.now starting.id starting.immediate) spots.now) }
+{
+    let Starting {
+        shard,
+        id: _,
+        immediate,
+    } = starting;
+    for spot in spots {
+        if is_met(plan, started, *spot, starting, access, steps) {
+            met.push(Edge::new(spot.id, immediate, !immediate, shard))?;
+        }
+    }
+    Ok(())
+}
+
+// Whether the group of a spot comes before one that makes this use.
+fn is_met<L: Ledger>(
+    plan: &Plan,
+    started: &[StartedGroup],
+    spot: Spot,
+    starting: Starting,
+    access: &Access,
+    steps: &mut Steps<L>,
+) -> bool
+    requires { IsWithin plan.now started.now spot }
+    ensures met { result ≡ is_met plan.now started.now starting.id starting.immediate access.now spot }
+    ensures steps { steps.new ≡ steps.old + (if is_looked_at plan.now starting.id starting.immediate spot then 1 else 0) }
+{
+    if spot.id == starting.id {
+        return false;
+    }
+    if is_immediate(plan, spot.proc, spot.group) != starting.immediate {
+        return false;
+    }
+    let group = look(started, spot.at, steps);
+    conflict(group.cells.as_slice(), &[*access])
+}
+
+// The group at a place: a step.
+fn look<'a, L: Ledger>(
+    started: &'a [StartedGroup],
+    at: usize,
+    steps: &mut Steps<L>,
+) -> &'a StartedGroup
+    requires { at < length started.now }
+    ensures group { slice_get started.now at ≡ Some result.now }
+    ensures steps { steps.new ≡ steps.old + 1 }
+{
+    steps.tick();
+    &started[at]
+}
