@@ -18,9 +18,8 @@ use Rattle.roc_depgraph.specs.Reach.{Reaches}
 use Rattle.roc_depgraph.proofs.Chains.{chain_before}
 use Rattle.roc_depgraph.proofs.Listed.{has_listed, listed_has}
 use Rattle.roc_component.specs.declared.turn.Turn.{Turn}
-use Rattle.roc_component.specs.Components.{among, Mates, IsReady, IsFree, IsNext, IsNextInside, IsComponentOrder}
-use Rattle.roc_component.specs.Inner.Search.{AreComponents}
-use Rattle.roc_component.specs.Inner.Turns.{IsLeft, IsDue, IsLowest, IsNextTurn, AreTaken, none, more, AreAllTaken, IsTurnOf, AreTurnsOf, turn_of}
+use Rattle.roc_component.specs.Components.{among, Mates, IsReady, IsFree, IsNext, IsNextInside, IsComponentOrder, AreComponents}
+use Rattle.roc_component.specs.Inner.Turns.{IsLeft, IsDue, IsLowest, IsNextTurn, AreTurnsTaken, none, more, AreAllTaken, IsComponentTurn, AreComponentTurns, turn_of}
 use Rattle.roc_component.proofs.Alike.{mates_to}
 use Rattle.roc_component.proofs.Exists.{members, are_described}
 use Rattle.roc_component.proofs.Front.{front_none, front_more}
@@ -50,7 +49,7 @@ module _ (known : List KnownList) (S : List TxnId) (inside : (u t : TxnId) → P
   mates_off : (a b : TxnId) → Mates A a b → Mates E a b
   mates_off = mates_to A E (λ u t e. e.2)
 
-  module _ (cs : List (List TxnId)) (ac : AreComponents E S cs) (ts : List Turn) (to : AreTurnsOf known cs ts) where
+  module _ (cs : List (List TxnId)) (ac : AreComponents E S cs) (ts : List Turn) (to : AreComponentTurns known cs ts) where
     mates_in : (c : List TxnId) → Has c cs → (x u : TxnId) → Has x c → Has u c → Mates A x u
     mates_in c h x u i j = mates_on x u ((ac.each c h).sound x u i j)
 
@@ -61,7 +60,7 @@ module _ (known : List KnownList) (S : List TxnId) (inside : (u t : TxnId) → P
     in_set c h x i = has_listed S x (ac.only c h x i)
 
     -- the first member of a component is the least
-    first_least : (c : List TxnId) → Has c cs → (t : Turn) → IsTurnOf known c t → (z k : TxnId) → Has z c → txn_lt z k ≡ true → txn_lt t.key k ≡ true
+    first_least : (c : List TxnId) → Has c cs → (t : Turn) → IsComponentTurn known c t → (z k : TxnId) → Has z c → txn_lt z k ≡ true → txn_lt t.key k ≡ true
     first_least c h t i z k m l = go (subst (Has z) i.first.1 m)
       where
         go : Has z (t.key ∷ i.first.0) → txn_lt t.key k ≡ true
@@ -75,7 +74,7 @@ module _ (known : List KnownList) (S : List TxnId) (inside : (u t : TxnId) → P
     AreWhole xs = (y z : TxnId) → IsListed is_txn xs y → Mates A y z → IsListed is_txn S z → IsListed is_txn xs z
 
     -- the turn of a component that has a member
-    its_turn : (z : TxnId) → IsListed is_txn S z → (c : List TxnId) × Has c cs × Has z c × ((t : Turn) × Has t ts × IsTurnOf known c t)
+    its_turn : (z : TxnId) → IsListed is_txn S z → (c : List TxnId) × Has c cs × Has z c × ((t : Turn) × Has t ts × IsComponentTurn known c t)
     its_turn z l = let w = ac.all z (listed_has S z l) in let t = to.each w.0 w.1 z w.2 in (w.0, w.1, w.2, t)
 
     module _ (xs : List TxnId) (f : IsFront E (PrecedesNow known) S xs) (whole : AreWhole xs) where
@@ -105,7 +104,7 @@ module _ (known : List KnownList) (S : List TxnId) (inside : (u t : TxnId) → P
           )
 
       -- the turn of a component comes next
-      module _ (c : List TxnId) (h : Has c cs) (t : Turn) (i : IsTurnOf known c t) (left : IsLeft xs t) (due : IsDue xs t) (lowest : IsLowest (IsDue xs) ts xs t.key) where
+      module _ (c : List TxnId) (h : Has c cs) (t : Turn) (i : IsComponentTurn known c t) (left : IsLeft xs t) (due : IsDue xs t) (lowest : IsLowest (IsDue xs) ts xs t.key) where
         none_taken : (x : TxnId) → Has x c → ¬ IsListed is_txn xs x
         none_taken x m l = left (whole x t.key l (mates_in c h x t.key m (key_in known c t i)) (in_set c h t.key (key_in known c t i)))
 
@@ -173,7 +172,7 @@ module _ (known : List KnownList) (S : List TxnId) (inside : (u t : TxnId) → P
           next : IsNextTurn (singles known c) ys (turn_of known c x) → IsNext A J S T x
           next n = record { ready = ready; ends = ends; least = least; inside = within n }
 
-        inside_front : (ys : List TxnId) → AreTaken (singles known c) ys → IsFront E (PrecedesNow known) S (xs ++ ys)
+        inside_front : (ys : List TxnId) → AreTurnsTaken (singles known c) ys → IsFront E (PrecedesNow known) S (xs ++ ys)
         inside_front _ none = subst (IsFront E (PrecedesNow known) S) (sym (append-nil xs)) f
         inside_front _ (more {taken = ys} u p hu n nx e) =
             let x = from_has_map (turn_of known c) u c hu in
@@ -185,7 +184,7 @@ module _ (known : List KnownList) (S : List TxnId) (inside : (u t : TxnId) → P
             subst (IsFront E (PrecedesNow known) S) (append_assoc xs ys (x.0 ∷ []) ∙ ap (λ l. xs ++ l) (sym (e ∙ ap (λ (v : Turn). ys ++ v.ids) x.2))) g
 
     module _ (xs : List TxnId) (f : IsFront E (PrecedesNow known) S xs) (whole : AreWhole xs) (t : Turn) (h : Has t ts) (n : IsLeft xs t) where
-      its : (c : List TxnId) × Has c cs × IsTurnOf known c t
+      its : (c : List TxnId) × Has c cs × IsComponentTurn known c t
       its = to.from t h
 
       front_longer : IsNextTurn ts xs t → IsFront E (PrecedesNow known) S (xs ++ t.ids)
@@ -198,7 +197,7 @@ module _ (known : List KnownList) (S : List TxnId) (inside : (u t : TxnId) → P
         | inr j ↦ listed_behind is_txn xs t.ids z (inside_has known its.0 t.ids its.2.inside z (in_mates its.0 its.1 y z (taken_inside known its.0 t.ids its.2.inside.0 y j.1) k))
       ]
 
-    front_of : (order : List TxnId) → AreTaken ts order → IsFront E (PrecedesNow known) S order × AreWhole order
+    front_of : (order : List TxnId) → AreTurnsTaken ts order → IsFront E (PrecedesNow known) S order × AreWhole order
     front_of _ none = (front_none E (PrecedesNow known) S, λ y z l. absurd (omega arith))
     front_of _ (more {taken = xs} t p h n nx e) =
         let ih = front_of xs p in

@@ -274,15 +274,15 @@ module _ (turns : List Turn) (a : AreTurns turns) (taken : List TxnId) (left : T
     | inr r ↦ elim r [ inl p ↦ absurd p.1 | inr p ↦ absurd (p.5 (d p.0 p.4)) ]
   ]
 
-  abbrev IsNamed : TxnId → Type 0
-  IsNamed k = (t : Turn) × Has t turns × (t.key ≡ k) × IsLeft taken t × IsNextTurn turns taken t
+  abbrev IsNextTurnOfKey : TxnId → Type 0
+  IsNextTurnOfKey k = (t : Turn) × Has t turns × (t.key ≡ k) × IsLeft taken t × IsNextTurn turns taken t
 
-  pub next_ready : (k : TxnId) → ready k ≡ true → ((q : TxnId) → ready q ≡ true → is_gt (txn_cmp k q) ≡ false) → IsNamed k
+  pub next_ready : (k : TxnId) → ready k ≡ true → ((q : TxnId) → ready q ≡ true → is_gt (txn_cmp k q) ≡ false) → IsNextTurnOfKey k
   next_ready k r least =
       let t = s.free k r in
       (t.0, t.1, t.2, t.3, inl (t.4, λ o h l d lt. false≢true (sym (least o.key (due_ready o h l d)) ∙ (is_gt-txn_cmp k o.key ∙ subst (λ v. txn_lt o.key v ≡ true) t.2 lt))))
 
-  pub next_left : ((q : TxnId) → ready q ≡ true → ⊥) → (k : TxnId) (ids : List TxnId) → left k ≡ Some ids → ((q : TxnId) (other : List TxnId) → left q ≡ Some other → is_gt (txn_cmp k q) ≡ false) → IsNamed k
+  pub next_left : ((q : TxnId) → ready q ≡ true → ⊥) → (k : TxnId) (ids : List TxnId) → left k ≡ Some ids → ((q : TxnId) (other : List TxnId) → left q ≡ Some other → is_gt (txn_cmp k q) ≡ false) → IsNextTurnOfKey k
   next_left none k ids e least =
       let t = s.from k ids e in
       (t.0, t.1, t.2, t.4, inr (λ o h l d. none o.key (due_ready o h l d), λ o h l d lt. false≢true (sym (least o.key o.ids (s.here o h l)) ∙ (is_gt-txn_cmp k o.key ∙ subst (λ v. txn_lt o.key v ≡ true) t.2 lt))))

@@ -5,7 +5,7 @@ use Rattle.roc_sequence.specs.Places.{IsListed}
 use Rattle.roc_base.specs.declared.id.TxnId.{TxnId}
 use Rattle.roc_base.specs.TxnId.{is_txn, txn_lt}
 use Rattle.roc_depgraph.specs.Reach.{Reaches, direct, through, ReachesOrIs}
-use Rattle.roc_depgraph.proofs.Chains.{joined_chain}
+use Rattle.roc_depgraph.proofs.Chains.{joined_chain, weaker_chain}
 use Rattle.roc_component.specs.Components.{among, Mates, IsFree, IsNextInside, IsReady, IsNext}
 
 module _ (E : TxnId → TxnId → Type 0) where
@@ -97,3 +97,8 @@ module _ (P : TxnId → Type 0) (lower : (z : TxnId) → P z → (w : TxnId) × 
 
   pub no_descent : (z : TxnId) → ¬ P z
   no_descent z = by_coordinator (suc z.coord) z (omega arith)
+
+-- by more edges too
+pub mates_weaker : (E F : TxnId → TxnId → Type 0) → ((u t : TxnId) → E u t → F u t) → (a b : TxnId) → Mates E a b → Mates F a b
+mates_weaker E F more a b (inl e) = inl e
+mates_weaker E F more a b (inr p) = inr (weaker_chain E F more a b p.0, weaker_chain E F more b a p.1)

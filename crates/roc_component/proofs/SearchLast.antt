@@ -8,9 +8,9 @@ use Rattle.roc_base.specs.TxnId.{is_txn}
 use Rattle.roc_depgraph.specs.Closure.{IsRisingListOf}
 use Rattle.roc_depgraph.proofs.Chains.{closed_from}
 use Rattle.roc_depgraph.proofs.Listed.{has_listed, listed_has}
-use Rattle.roc_component.specs.Components.{Mates}
+use Rattle.roc_component.specs.Components.{Mates, IsComponent}
 use Rattle.roc_component.specs.declared.search.Part.{Part}
-use Rattle.roc_component.specs.Inner.Search.{IsComponent, IsOn, IsSearch, IsOpenable}
+use Rattle.roc_component.specs.Inner.Search.{IsOn, IsSearch, IsOpenable}
 use Rattle.roc_component.proofs.Relations.{mates_sym, mates_reach, mates_from}
 use Rattle.roc_component.proofs.SearchPath.{path_more, path_front, path_last, apart_more}
 

@@ -7,7 +7,8 @@ use Rattle.roc_base.specs.declared.id.TxnId.{TxnId}
 use Rattle.roc_base.specs.TxnId.{txn_cmp}
 use Rattle.roc_depgraph.specs.Reach.{direct, ReachesOrIs}
 use Rattle.roc_component.specs.declared.search.Part.{Part}
-use Rattle.roc_component.specs.Inner.Search.{AreComponents, IsOn, IsMet, IsSearch, IsOpenable}
+use Rattle.roc_component.specs.Components.{AreComponents}
+use Rattle.roc_component.specs.Inner.Search.{IsOn, WasNumbered, IsSearch, IsOpenable}
 use Rattle.roc_component.proofs.Relations.{reach_trans}
 use Rattle.roc_component.proofs.OneChange.{at_same, at_other}
 use Rattle.roc_component.proofs.OneOrder.{cases_txn}
@@ -177,7 +178,7 @@ module _ (E : TxnId → TxnId → Type 0) (S : List TxnId) where
         }
 
   -- all is done where the path has ended
-  pub search_ended : (met : TxnId → Option ℕ) (count : ℕ) (done : List TxnId) (components : List (List TxnId)) → IsSearch E S met count [] done components → ((u : TxnId) → Has u S → IsMet met u) → AreComponents E S components
+  pub search_ended : (met : TxnId → Option ℕ) (count : ℕ) (done : List TxnId) (components : List (List TxnId)) → IsSearch E S met count [] done components → ((u : TxnId) → Has u S → WasNumbered met u) → AreComponents E S components
   search_ended met count done components s all =
       record {
         each = s.each;

@@ -4,7 +4,8 @@ use Rattle.roc_sequence.specs.Lists.{Has}
 use Rattle.roc_sequence.proofs.Members.{has_left, has_right, has_append, has_more}
 use Rattle.roc_base.specs.declared.id.TxnId.{TxnId}
 use Rattle.roc_component.specs.declared.search.Part.{Part}
-use Rattle.roc_component.specs.Inner.Search.{AreApart, IsRisingPath, weight, IsUnited}
+use Rattle.roc_component.specs.Components.{ShareNoMember}
+use Rattle.roc_component.specs.Inner.Search.{IsRisingPath, weight, IsUnited}
 
 pub path_more : (xs : List Part) (p : Part) → IsRisingPath xs → ((q : Part) → Has q xs → q.start < p.start) → IsRisingPath (xs ++ p ∷ [])
 path_more [] p r h = (λ q k. absurd k, tt)
@@ -27,7 +28,7 @@ pub weight_more : (xs : List Part) (p : Part) → weight (xs ++ p ∷ []) ≡ we
 weight_more [] p = omega arith
 weight_more (x ∷ xs) p = let e = weight_more xs p in omega arith
 
-pub apart_more : (cs : List (List TxnId)) (c : List TxnId) → AreApart cs → ((d : List TxnId) → Has d cs → (u : TxnId) → Has u d → ¬ Has u c) → AreApart (cs ++ c ∷ [])
+pub apart_more : (cs : List (List TxnId)) (c : List TxnId) → ShareNoMember cs → ((d : List TxnId) → Has d cs → (u : TxnId) → Has u d → ¬ Has u c) → ShareNoMember (cs ++ c ∷ [])
 apart_more [] c a h = (λ d k. absurd k, tt)
 apart_more (x ∷ xs) c a h = (λ d k. go d (has_more d c xs k), apart_more xs c a.1 (λ d k. h d (inr k)))
   where

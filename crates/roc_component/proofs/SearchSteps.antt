@@ -14,12 +14,12 @@ use Rattle.roc_depgraph.specs.Closure.{IsRisingListOf}
 use Rattle.roc_depgraph.proofs.Listed.{has_listed, listed_has}
 use Rattle.roc_component.specs.declared.search.Part.{Part}
 use Rattle.roc_component.specs.declared.search.Search.{Search}
-use Rattle.roc_component.specs.Inner.Search.{IsClosed, IsMerged, IsMet, IsOn, IsOpenable, IsSearch, IsUnmet, IsUnited, IsAhead, met_of, weight}
+use Rattle.roc_component.specs.Inner.Search.{IsComponentClosed, ArePartsMerged, WasNumbered, IsOn, IsOpenable, IsSearch, IsUnmet, IsUnited, IsAhead, met_of, weight}
 use Rattle.roc_component.proofs.SearchJoined.{merges}
 use Rattle.roc_component.proofs.SearchLast.{openable, of_last, of_earlier, changes, closes}
 use Rattle.roc_component.proofs.SearchPath.{weight_more, nothing_in, some_length}
 
-pub closed_less : (old new : Search) (p : Part) (members : List TxnId) → IsClosed members old new → weight new.path.items < weight (old.path.items ++ p ∷ [])
+pub closed_less : (old new : Search) (p : Part) (members : List TxnId) → IsComponentClosed members old new → weight new.path.items < weight (old.path.items ++ p ∷ [])
 closed_less old new p members c = let e = weight_more old.path.items p in let f = ap weight c.path in omega arith
 
 pub joined_less : (old lower new : List Part) (last part both : Part) → old ≡ lower ++ last ∷ [] → new ≡ lower ++ both ∷ [] → IsUnited last.todo.items part.todo.items both.todo.items → weight new < weight (old ++ part ∷ [])
@@ -36,7 +36,7 @@ pub replaced_less : (below new : List Part) (p r : Part) → new ≡ below ++ r 
 replaced_less below new p r e l = let a = weight_more below p in let b = weight_more below r in let f = ap weight e in omega arith
 
 module _ (E : TxnId → TxnId → Type 0) (S : List TxnId) (met : TxnId → Option ℕ) (count : ℕ) where
-  pub step_closed : (old new : Search) (p : Part) (members : List TxnId) → IsSearch E S met count (old.path.items ++ p ∷ []) old.done old.components.items → length p.todo.items ≡ 0 → members ≡ p.members.items → IsClosed members old new → IsSearch E S met count new.path.items new.done new.components.items
+  pub step_closed : (old new : Search) (p : Part) (members : List TxnId) → IsSearch E S met count (old.path.items ++ p ∷ []) old.done old.components.items → length p.todo.items ≡ 0 → members ≡ p.members.items → IsComponentClosed members old new → IsSearch E S met count new.path.items new.done new.components.items
   step_closed old new p members s z e c =
       let w = c.component in
       let n = closes E S met count old.path.items p old.done old.components.items s (λ u. nothing_in p.todo.items u z) w.0 (subst (λ l. IsRisingListOf (IsListed is_txn l) w.0) e w.1) in
@@ -85,7 +85,7 @@ module _ (E : TxnId → TxnId → Type 0) (S : List TxnId) (met : TxnId → Opti
     pub some_earlier : 0 < length old.path.items
     some_earlier = let w = in_earlier in some_length old.path.items w.0 w.1
 
-    pub step_merged : (rest : List TxnId) → p.todo.items ≡ rest ++ u ∷ [] → IsMerged old p new → IsSearch E S met count new.path.items new.done new.components.items
+    pub step_merged : (rest : List TxnId) → p.todo.items ≡ rest ++ u ∷ [] → ArePartsMerged old p new → IsSearch E S met count new.path.items new.done new.components.items
     step_merged rest f g =
         let w = g.parts in
         let a = in_earlier in
@@ -101,8 +101,8 @@ module _ (E : TxnId → TxnId → Type 0) (S : List TxnId) (met : TxnId → Opti
 pub front_cases : (xs : List TxnId) (i : ℕ) (x none u : TxnId) → i < length xs → x ≡ get_or xs i none → Has u (take (i + 1) xs) → Has u (take i xs) ⊎ (u ≡ x)
 front_cases xs i x none u l e h = elim (has_more u (get_or xs i none) (take i xs) (subst (Has u) (take_more xs i none l) h)) [ inl k ↦ inl k | inr k ↦ inr (k ∙ sym e) ]
 
-pub met_or_new : (met : TxnId → Option ℕ) (x u : TxnId) (o : Option TxnId) → IsUnmet met x o → u ≡ x → IsMet met u ⊎ (o ≡ Some u)
-met_or_new met x u None h e = inl (subst (IsMet met) (sym e) h)
+pub met_or_new : (met : TxnId → Option ℕ) (x u : TxnId) (o : Option TxnId) → IsUnmet met x o → u ≡ x → WasNumbered met u ⊎ (o ≡ Some u)
+met_or_new met x u None h e = inl (subst (WasNumbered met) (sym e) h)
 met_or_new met x u (Some t) h e = inr (ap Some (h.0 ∙ sym e))
 
 pub walk_starts : (known : List KnownList) (S : List TxnId) (met : BTreeMap TxnId ℕ) (s : Search) (x : TxnId) (o : Option TxnId) → IsUnmet (met_of met) x o → s.path.items ≡ [] → Has x S → IsAhead known S met s o

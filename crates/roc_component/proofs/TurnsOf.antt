@@ -10,8 +10,8 @@ use Rattle.roc_base.specs.TxnId.{is_txn}
 use Rattle.roc_depgraph.specs.declared.known.KnownList.{KnownList}
 use Rattle.roc_depgraph.proofs.Listed.{listed_one, in_one}
 use Rattle.roc_component.specs.declared.turn.Turn.{Turn}
-use Rattle.roc_component.specs.Inner.Search.{AreApart}
-use Rattle.roc_component.specs.Inner.Turns.{AreTurns, AreTaken, none, more, IsInside, IsTurnOf, AreTurnsOf, turn_of}
+use Rattle.roc_component.specs.Components.{ShareNoMember}
+use Rattle.roc_component.specs.Inner.Turns.{AreTurns, AreTurnsTaken, none, more, IsInside, IsComponentTurn, AreComponentTurns, turn_of}
 
 -- ---- of members
 
@@ -31,7 +31,7 @@ module _ (known : List KnownList) (c : List TxnId) where
       }
 
   -- what is taken is of the component
-  pub taken_inside : (ys : List TxnId) → AreTaken singles ys → (u : TxnId) → IsListed is_txn ys u → Has u c
+  pub taken_inside : (ys : List TxnId) → AreTurnsTaken singles ys → (u : TxnId) → IsListed is_txn ys u → Has u c
   taken_inside _ none u l = absurd (omega arith)
   taken_inside _ (more {taken = xs} t p h n i e) u l =
       elim (listed_either is_txn xs t.ids u (subst (λ zs. IsListed is_txn zs u) e l)) [
@@ -42,23 +42,23 @@ module _ (known : List KnownList) (c : List TxnId) where
   pub inside_has : (ys : List TxnId) → IsInside known c ys → (u : TxnId) → Has u c → IsListed is_txn ys u
   inside_has ys i u h = i.1 (turn_of known c u) (has_map (turn_of known c) u c h)
 
-  pub key_in : (t : Turn) → IsTurnOf known c t → Has t.key c
+  pub key_in : (t : Turn) → IsComponentTurn known c t → Has t.key c
   key_in t i = subst (Has t.key) (sym i.first.1) (inl refl)
 
 -- ---- of components
 
-pub apart_parts : (xs : List (List TxnId)) (c : List TxnId) (rest : List (List TxnId)) → AreApart (xs ++ c ∷ rest) → (d : List TxnId) → Has d xs → (u : TxnId) → Has u d → ¬ Has u c
+pub apart_parts : (xs : List (List TxnId)) (c : List TxnId) (rest : List (List TxnId)) → ShareNoMember (xs ++ c ∷ rest) → (d : List TxnId) → Has d xs → (u : TxnId) → Has u d → ¬ Has u c
 apart_parts [] c rest a d h u k = absurd h
 apart_parts (x ∷ xs) c rest a d (inl e) u k = a.0 c (has_right c xs (c ∷ rest) (inl refl)) u (subst (Has u) e k)
 apart_parts (x ∷ xs) c rest a d (inr h) u k = apart_parts xs c rest a.1 d h u k
 
 module _ (known : List KnownList) where
-  pub turns_none : AreTurnsOf known [] []
+  pub turns_none : AreComponentTurns known [] []
   turns_none = record { turns = record { key = λ t h. absurd h; own = λ t o h. absurd h }; from = λ t h. absurd h; each = λ c h. absurd h }
 
-  module _ (cs : List (List TxnId)) (ts : List Turn) (a : AreTurnsOf known cs ts) (c : List TxnId) where
+  module _ (cs : List (List TxnId)) (ts : List Turn) (a : AreComponentTurns known cs ts) (c : List TxnId) where
     -- nothing is taken for an empty one
-    pub turns_skip : c ≡ [] → AreTurnsOf known (cs ++ c ∷ []) ts
+    pub turns_skip : c ≡ [] → AreComponentTurns known (cs ++ c ∷ []) ts
     turns_skip e =
         record {
           turns = a.turns;
@@ -66,7 +66,7 @@ module _ (known : List KnownList) where
           each = λ d h x k. elim (has_more d c cs h) [ inl i ↦ a.each d i x k | inr i ↦ absurd (subst (Has x) (i ∙ e) k) ];
         }
 
-    module _ (t : Turn) (i : IsTurnOf known c t) (apart : (d : List TxnId) → Has d cs → (u : TxnId) → Has u d → ¬ Has u c) where
+    module _ (t : Turn) (i : IsComponentTurn known c t) (apart : (d : List TxnId) → Has d cs → (u : TxnId) → Has u d → ¬ Has u c) where
       ids_in : (o : Turn) → o ≡ t → (u : TxnId) → IsListed is_txn o.ids u → Has u c
       ids_in o e u l = taken_inside known c t.ids i.inside.0 u (subst (λ (v : Turn). IsListed is_txn v.ids u) e l)
 
@@ -78,7 +78,7 @@ module _ (known : List KnownList) where
           (let w = a.from d h in
           apart w.0 w.1 o.key (taken_inside known w.0 d.ids w.2.inside.0 o.key l) (subst (λ (v : Turn). Has v.key c) (sym e) (key_in known c t i)))
 
-      pub turns_push : AreTurnsOf known (cs ++ c ∷ []) (ts ++ t ∷ [])
+      pub turns_push : AreComponentTurns known (cs ++ c ∷ []) (ts ++ t ∷ [])
       turns_push =
           record {
             turns = record {
@@ -93,11 +93,11 @@ module _ (known : List KnownList) where
             };
             from = λ o h. elim (has_more o t ts h) [
               | inl k ↦ (let d = a.from o k in (d.0, has_left d.0 cs (c ∷ []) d.1, d.2))
-              | inr k ↦ (c, has_right c cs (c ∷ []) (inl refl), subst (IsTurnOf known c) (sym k) i)
+              | inr k ↦ (c, has_right c cs (c ∷ []) (inl refl), subst (IsComponentTurn known c) (sym k) i)
             ];
             each = λ d h x k. elim (has_more d c cs h) [
               | inl m ↦ (let o = a.each d m x k in (o.0, has_left o.0 ts (t ∷ []) o.1, o.2))
-              | inr m ↦ (t, has_right t ts (t ∷ []) (inl refl), subst (λ e. IsTurnOf known e t) (sym m) i)
+              | inr m ↦ (t, has_right t ts (t ∷ []) (inl refl), subst (λ e. IsComponentTurn known e t) (sym m) i)
             ];
           }
 

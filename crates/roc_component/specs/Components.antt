@@ -1,8 +1,10 @@
 -- The order in which transactions that precede one another are taken: docs/PROTOCOL.md, "Component order"
-use Rattle.std.specs.Prelude.{◌≡◌, ◌↔◌, List, IsTrue, ◌⊎◌}
+use Rattle.std.specs.Prelude.{◌≡◌, ◌↔◌, List, [], ◌∷◌, IsTrue, ◌⊎◌}
+use Rattle.std.specs.List.Sorted.{IsStrictlySortedBy}
+use Rattle.roc_sequence.specs.Lists.{Has}
 use Rattle.roc_sequence.specs.Places.{IsListed, IsListedBefore, NoneTwice}
 use Rattle.roc_base.specs.declared.id.TxnId.{TxnId}
-use Rattle.roc_base.specs.TxnId.{is_txn, txn_lt}
+use Rattle.roc_base.specs.TxnId.{is_txn, txn_cmp, txn_lt}
 use Rattle.roc_depgraph.specs.declared.known.KnownList.{KnownList}
 use Rattle.roc_depgraph.specs.Deps.{Precedes, PrecedesNow}
 use Rattle.roc_depgraph.specs.Reach.{Reaches}
@@ -14,6 +16,24 @@ among M E u t = IsListed is_txn M u × IsListed is_txn M t × E u t
 -- the two are in one strongly connected component
 abbrev pub Mates : (TxnId → TxnId → Type 0) → TxnId → TxnId → Type 0
 Mates E a b = (a ≡ b) ⊎ (Reaches E a b × Reaches E b a)
+
+-- c rises, and is a strongly connected component
+pub record IsComponent (E : TxnId → TxnId → Type 0) (c : List TxnId) : Type 0 where
+  pub rising : IsStrictlySortedBy txn_cmp c
+  pub sound : (x u : TxnId) → Has x c → Has u c → Mates E x u
+  pub complete : (x u : TxnId) → Has x c → Mates E x u → Has u c
+
+-- no id is in two of the lists
+abbrev pub ShareNoMember : List (List TxnId) → Type 0
+ShareNoMember [] = Unit {0}
+ShareNoMember (c ∷ cs) = ((d : List TxnId) → Has d cs → (u : TxnId) → Has u c → ¬ Has u d) × ShareNoMember cs
+
+-- the components of S, in any order
+pub record AreComponents (E : TxnId → TxnId → Type 0) (S : List TxnId) (components : List (List TxnId)) : Type 0 where
+  pub each : (c : List TxnId) → Has c components → IsComponent E c
+  pub apart : ShareNoMember components
+  pub all : (u : TxnId) → Has u S → (c : List TxnId) × Has c components × Has u c
+  pub only : (c : List TxnId) → Has c components → (u : TxnId) → Has u c → Has u S
 
 -- each predecessor of x's component that is outside it was taken
 abbrev pub IsReady : (E : TxnId → TxnId → Type 0) → (taken : TxnId → Type 0) → TxnId → Type 0
@@ -66,3 +86,7 @@ pub record HaveSameEdges (M : List TxnId) (known other : List KnownList) : Type 
 -- the two lists have the same members, in any order
 abbrev pub HaveSameMembers : (M N : List TxnId) → Type 0
 HaveSameMembers M N = (t : TxnId) → IsListed is_txn M t ↔ IsListed is_txn N t
+
+-- the members of M in lists: each list is a strongly connected component of M
+abbrev pub AreComponentsOf : List KnownList → (M : List TxnId) → List (List TxnId) → Type 0
+AreComponentsOf known M lists = AreComponents (among M (Precedes known)) M lists

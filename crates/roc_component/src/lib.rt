@@ -12,9 +12,11 @@ mod component_order;
 pub mod laws;
 mod queue;
 mod search;
+mod set_components;
 mod taken;
 mod turn;
 mod within;
 
 pub use component_order::order;
+pub use set_components::component_lists;
 pub use within::rising;

@@ -2,7 +2,8 @@
 ghost use Rattle.std.specs.Prelude.{◌≡◌, ◌<◌, ◌||◌, ◌++◌, ◌∷◌, [], IfOk, OnOk, List, length, nat_le};
 ghost use Rattle.roc_base.specs.declared.id.TxnId.{TxnId as Id};
 ghost use Rattle.roc_base.specs.TxnId.{is_txn};
-ghost use Rattle.roc_component.specs.Inner.Search.{AreComponents, IsAhead, IsClosed, IsLess, IsMerged, IsOpenable, IsOpened, IsSearchOf, IsSearchOver, IsStep, IsUnited, IsUnmet, met_of, weight};
+ghost use Rattle.roc_component.specs.Components.{AreComponents};
+ghost use Rattle.roc_component.specs.Inner.Search.{IsAhead, IsComponentClosed, IsLess, ArePartsMerged, IsOpenable, IsOpened, IsSearchOf, IsSearchOver, IsStep, IsUnited, IsUnmet, met_of, weight};
 ghost use Rattle.roc_depgraph.specs.declared.known.KnownList.{KnownList as Known};
 ghost use Rattle.roc_depgraph.specs.Deps.{Precedes};
 ghost use Rattle.roc_sequence.specs.Lists.{Has};
@@ -167,7 +168,7 @@ impl Search {
 
     // Joins a part to the last one of the path.
     fn merge(&mut self, part: Part) -> Result<(), NoMemory>
-        ensures merged { 0 < length self.old.path.items → OnOk result (IsMerged self.old part self.new) }
+        ensures merged { 0 < length self.old.path.items → OnOk result (ArePartsMerged self.old part self.new) }
         ensures less { OnOk result (weight self.new.path.items < weight (self.old.path.items ++ part ∷ [])) }
     {
         let Some(last) = self.path.pop() else {
@@ -185,7 +186,7 @@ impl Search {
 
     // Ends a component.
     fn close(&mut self, alloc: Global, members: &[TxnId]) -> Result<(), NoMemory>
-        ensures { OnOk result (IsClosed members.now self.old self.new) }
+        ensures { OnOk result (IsComponentClosed members.now self.old self.new) }
     {
         let ids = rising(alloc, members)?;
         self.done.extend(&ids)?;

@@ -3,8 +3,8 @@ ghost use Rattle.std.specs.Prelude.{◌≡◌, IfOk, map};
 ghost use Rattle.std.specs.List.Sorted.{IsStrictlySortedBy};
 ghost use Rattle.roc_base.specs.TxnId.{txn_cmp};
 ghost use Rattle.roc_component.specs.Inner.Before.{leading_to};
-ghost use Rattle.roc_component.specs.Inner.Search.{AreComponents};
-ghost use Rattle.roc_component.specs.Inner.Turns.{AreTurnsOf, IsInside, turn_of};
+ghost use Rattle.roc_component.specs.Components.{AreComponents};
+ghost use Rattle.roc_component.specs.Inner.Turns.{AreComponentTurns, IsInside, turn_of};
 ghost use Rattle.roc_depgraph.specs.Deps.{Precedes};
 
 use crate::before::{immediate_among, leading_to};
@@ -31,7 +31,7 @@ pub(crate) fn turns(
     components: &[Sequence<TxnId>],
 ) -> Result<Vec<Turn>, NoMemory>
     requires { AreComponents (Precedes lists.now) ids.now components.now }
-    ensures { IfOk result (λ turns. AreTurnsOf lists.now components.now turns.items) }
+    ensures { IfOk result (λ turns. AreComponentTurns lists.now components.now turns.items) }
 {
     let mut turns = Vec::new(alloc);
     for component in components {

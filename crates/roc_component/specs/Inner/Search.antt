@@ -1,6 +1,5 @@
 -- The search for strongly connected components, along what comes before each id
 use Rattle.std.specs.Prelude.{◌≡◌, ℕ, suc, ◌+◌, ◌<◌, ◌≤◌, ◌++◌, List, [], ◌∷◌, length, Option, Some, None, ◌⊎◌}
-use Rattle.std.specs.List.Sorted.{IsStrictlySortedBy}
 use Rattle.std.specs.BTreeMap.{BTreeMap, get, btree_map_len}
 use Rattle.roc_sequence.specs.Lists.{Has}
 use Rattle.roc_sequence.specs.Places.{IsListed}
@@ -10,27 +9,9 @@ use Rattle.roc_depgraph.specs.declared.known.KnownList.{KnownList}
 use Rattle.roc_depgraph.specs.Deps.{Precedes}
 use Rattle.roc_depgraph.specs.Closure.{IsRisingListOf}
 use Rattle.roc_depgraph.specs.Reach.{ReachesOrIs}
-use Rattle.roc_component.specs.Components.{Mates}
+use Rattle.roc_component.specs.Components.{IsComponent, ShareNoMember}
 use Rattle.roc_component.specs.declared.search.Part.{Part}
 use Rattle.roc_component.specs.declared.search.Search.{Search}
-
--- c rises, and is a strongly connected component
-pub record IsComponent (E : TxnId → TxnId → Type 0) (c : List TxnId) : Type 0 where
-  pub rising : IsStrictlySortedBy txn_cmp c
-  pub sound : (x u : TxnId) → Has x c → Has u c → Mates E x u
-  pub complete : (x u : TxnId) → Has x c → Mates E x u → Has u c
-
--- no id is in two of the lists
-abbrev pub AreApart : List (List TxnId) → Type 0
-AreApart [] = Unit {0}
-AreApart (c ∷ cs) = ((d : List TxnId) → Has d cs → (u : TxnId) → Has u c → ¬ Has u d) × AreApart cs
-
--- the components of S, in any order
-pub record AreComponents (E : TxnId → TxnId → Type 0) (S : List TxnId) (components : List (List TxnId)) : Type 0 where
-  pub each : (c : List TxnId) → Has c components → IsComponent E c
-  pub apart : AreApart components
-  pub all : (u : TxnId) → Has u S → (c : List TxnId) × Has c components × Has u c
-  pub only : (c : List TxnId) → Has c components → (u : TxnId) → Has u c → Has u S
 
 -- each starts later than the one before
 abbrev pub IsRisingPath : List Part → Type 0
@@ -41,8 +22,8 @@ IsRisingPath (p ∷ ps) = ((q : Part) → Has q ps → p.start < q.start) × IsR
 abbrev pub IsOn : List Part → ℕ → TxnId → Type 0
 IsOn parts n u = (p : Part) × Has p parts × (n ≤ p.start) × Has u p.members.items
 
-abbrev pub IsMet : (TxnId → Option ℕ) → TxnId → Type 0
-IsMet met u = (n : ℕ) × (met u ≡ Some n)
+abbrev pub WasNumbered : (TxnId → Option ℕ) → TxnId → Type 0
+WasNumbered met u = (n : ℕ) × (met u ≡ Some n)
 
 -- Ids are met one after another. Those on the path are in parts, whose members reach one another and all members of earlier
 -- parts; those that are done make up whole components
@@ -55,13 +36,13 @@ pub record IsSearch (E : TxnId → TxnId → Type 0) (S : List TxnId) (met : Txn
   pub numbered : (p : Part) → Has p parts → (u : TxnId) → Has u p.members.items → (n : ℕ) × (met u ≡ Some n) × (p.start ≤ n) × ((q : Part) → Has q parts → p.start < q.start → n < q.start)
   pub bounded : (u : TxnId) (n : ℕ) → met u ≡ Some n → n < count
   pub known : (u : TxnId) (n : ℕ) → met u ≡ Some n → Has u done ⊎ IsOn parts 0 u
-  pub over : (u : TxnId) → Has u done → IsMet met u
+  pub over : (u : TxnId) → Has u done → WasNumbered met u
   pub alive : (p : Part) → Has p parts → (u : TxnId) → Has u p.members.items → ¬ Has u done
   pub within : (u : TxnId) (n : ℕ) → met u ≡ Some n → Has u S
   pub todo_within : (p : Part) → Has p parts → (u : TxnId) → Has u p.todo.items → Has u S
   pub closed : (u t : TxnId) → Has t done → E u t → Has u done
   pub each : (c : List TxnId) → Has c components → IsComponent E c
-  pub apart : AreApart components
+  pub apart : ShareNoMember components
   pub told : (c : List TxnId) → Has c components → (u : TxnId) → Has u c → Has u done
   pub placed : (u : TxnId) → Has u done → (c : List TxnId) × Has c components × Has u c
 
@@ -89,7 +70,7 @@ IsSearchOf known S met s = IsSearchOver known S met s s.path.items
 
 -- the id where it was not met
 abbrev pub IsUnmet : (TxnId → Option ℕ) → TxnId → Option TxnId → Type 0
-IsUnmet met u None = IsMet met u
+IsUnmet met u None = WasNumbered met u
 IsUnmet met u (Some t) = (t ≡ u) × (met u ≡ None)
 
 -- one more id was met
@@ -97,8 +78,8 @@ pub record IsOpened (known : List KnownList) (S : List TxnId) (u : TxnId) (met m
   pub search : IsSearchOf known S more s
   pub longer : btree_map_len more ≡ suc (btree_map_len met)
   pub bounded : btree_map_len more ≤ length S
-  pub keeps : (t : TxnId) → IsMet (met_of met) t → IsMet (met_of more) t
-  pub own : IsMet (met_of more) u
+  pub keeps : (t : TxnId) → WasNumbered (met_of met) t → WasNumbered (met_of more) t
+  pub own : WasNumbered (met_of more) u
 
 -- an id that is met for the first time, or the end of the path
 abbrev pub IsAhead : List KnownList → (S : List TxnId) → BTreeMap TxnId ℕ → Search → Option TxnId → Type 0
@@ -122,7 +103,7 @@ pub record IsUnited {A : Type 0} (xs ys all : List A) : Type 0 where
   pub count : length all ≡ length xs + length ys
 
 -- a part was joined to the last one of the path
-pub record IsMerged (old : Search) (part : Part) (new : Search) : Type 0 where
+pub record ArePartsMerged (old : Search) (part : Part) (new : Search) : Type 0 where
   pub done : new.done ≡ old.done
   pub components : new.components.items ≡ old.components.items
   pub parts :
@@ -130,6 +111,6 @@ pub record IsMerged (old : Search) (part : Part) (new : Search) : Type 0 where
       × (both.start ≡ last.start) × IsUnited last.members.items part.members.items both.members.items × IsUnited last.todo.items part.todo.items both.todo.items
 
 -- ids became a component
-pub record IsClosed (ids : List TxnId) (old new : Search) : Type 0 where
+pub record IsComponentClosed (ids : List TxnId) (old new : Search) : Type 0 where
   pub path : new.path.items ≡ old.path.items
   pub component : (c : List TxnId) × IsRisingListOf (IsListed is_txn ids) c × (new.done ≡ old.done ++ c) × (new.components.items ≡ old.components.items ++ c ∷ [])

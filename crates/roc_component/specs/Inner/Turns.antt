@@ -32,13 +32,13 @@ IsNextTurn turns taken t =
     ⊎ (((o : Turn) → Has o turns → IsLeft taken o → ¬ IsDue taken o) × IsLowest (λ o. Unit {0}) turns taken t.key)
 
 -- ids that are taken turn by turn
-pub data AreTaken (turns : List Turn) : List TxnId → Type 0 where
-  none : AreTaken turns []
-  more : {taken longer : List TxnId} (t : Turn) → AreTaken turns taken → Has t turns → IsLeft taken t → IsNextTurn turns taken t → longer ≡ taken ++ t.ids → AreTaken turns longer
+pub data AreTurnsTaken (turns : List Turn) : List TxnId → Type 0 where
+  none : AreTurnsTaken turns []
+  more : {taken longer : List TxnId} (t : Turn) → AreTurnsTaken turns taken → Has t turns → IsLeft taken t → IsNextTurn turns taken t → longer ≡ taken ++ t.ids → AreTurnsTaken turns longer
 
 -- until all were taken
 abbrev pub AreAllTaken : (turns : List Turn) → List TxnId → Type 0
-AreAllTaken turns order = AreTaken turns order × ((t : Turn) → Has t turns → IsListed is_txn order t.key)
+AreAllTaken turns order = AreTurnsTaken turns order × ((t : Turn) → Has t turns → IsListed is_txn order t.key)
 
 -- ---- the turns of members of a component, and of components
 
@@ -51,12 +51,12 @@ abbrev pub IsInside : List KnownList → (c : List TxnId) → List TxnId → Typ
 IsInside known c order = AreAllTaken (map (turn_of known c) c) order
 
 -- the turn of a component, by its first member
-pub record IsTurnOf (known : List KnownList) (c : List TxnId) (t : Turn) : Type 0 where
+pub record IsComponentTurn (known : List KnownList) (c : List TxnId) (t : Turn) : Type 0 where
   pub first : (rest : List TxnId) × (c ≡ t.key ∷ rest)
   pub inside : IsInside known c t.ids
   pub before : t.before ≡ leading_to known c c
 
-pub record AreTurnsOf (known : List KnownList) (components : List (List TxnId)) (ts : List Turn) : Type 0 where
+pub record AreComponentTurns (known : List KnownList) (components : List (List TxnId)) (ts : List Turn) : Type 0 where
   pub turns : AreTurns ts
-  pub from : (t : Turn) → Has t ts → (c : List TxnId) × Has c components × IsTurnOf known c t
-  pub each : (c : List TxnId) → Has c components → (x : TxnId) → Has x c → (t : Turn) × Has t ts × IsTurnOf known c t
+  pub from : (t : Turn) → Has t ts → (c : List TxnId) × Has c components × IsComponentTurn known c t
+  pub each : (c : List TxnId) → Has c components → (x : TxnId) → Has x c → (t : Turn) × Has t ts × IsComponentTurn known c t

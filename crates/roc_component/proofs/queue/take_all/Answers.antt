@@ -1,11 +1,11 @@
 use Rattle.std.proofs.Common.{◌∙◌, ◌++◌, [], ap, sym, subst}
 use Rattle.roc_component.specs.Inner.Queue.{IsQueueOf, left_of}
-use Rattle.roc_component.specs.Inner.Turns.{AreTaken, none, more}
+use Rattle.roc_component.specs.Inner.Turns.{AreTurnsTaken, none, more}
 use Rattle.roc_component.proofs.queue.take_all.Goals as goal
 
 pub take-init : goal.take-init
 take-init c = (
-  subst (AreTaken c.args.turns.items) (sym c.new-taken.ensures) none,
+  subst (AreTurnsTaken c.args.turns.items) (sym c.new-taken.ensures) none,
   subst (λ k. IsQueueOf c.args.turns.items k [] [] (left_of c.fill.new.left) c.fill.new.self) (sym c.new-taken.ensures) c.in_ok-fill.ensures,
 )
 

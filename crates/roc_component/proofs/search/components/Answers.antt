@@ -4,7 +4,7 @@ use Rattle.std.specs.BTreeMap.{btree_map_len}
 use Rattle.roc_sequence.proofs.Fronts.{front_whole}
 use Rattle.roc_sequence.specs.Lists.{Has}
 use Rattle.roc_depgraph.specs.Deps.{Precedes}
-use Rattle.roc_component.specs.Inner.Search.{IsAhead, IsMet, IsSearch, met_of}
+use Rattle.roc_component.specs.Inner.Search.{IsAhead, WasNumbered, IsSearch, met_of}
 use Rattle.roc_component.proofs.SearchOpened.{search_ended}
 use Rattle.roc_component.proofs.SearchPath.{has_there}
 use Rattle.roc_component.proofs.SearchSteps.{front_cases, met_or_new, walk_starts}
@@ -29,7 +29,7 @@ walk-preserved c =
       a.1,
       λ u h. elim (i.2 u h) [
         | inl m ↦ inl (o.keeps u m)
-        | inr e ↦ (let f : Some c.in-Some.next ≡ Some u = sym c.in-Some.is ∙ e in let g : c.in-Some.next ≡ u = cc in inl (subst (IsMet (met_of c.open.new.met)) g o.own))
+        | inr e ↦ (let f : Some c.in-Some.next ≡ Some u = sym c.in-Some.is ∙ e in let g : c.in-Some.next ≡ u = cc in inl (subst (WasNumbered (met_of c.open.new.met)) g o.own))
       ],
     )
 
