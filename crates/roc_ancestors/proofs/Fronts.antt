@@ -10,7 +10,7 @@ use Rattle.roc_base.specs.TxnId.{is_txn, txn_cmp, txn_lt}
 use Rattle.roc_base.proofs.Ids.{txn_lt-itself, txn_lt-asym}
 use Rattle.roc_depgraph.proofs.Rising_lists.{none_listed}
 use Rattle.roc_ancestors.specs.Least.{most_least, AreLeast}
-use Rattle.roc_ancestors.specs.Inner.Met.{HasBefore, IsMet}
+use Rattle.roc_ancestors.specs.Inner.Met.{HasBefore, CoversLeast}
 use Rattle.roc_ancestors.proofs.Put.{rises, first_before, rest_rises, none_rise, first_or_rest, in_first, in_rest, has_rising}
 
 not_before_itself : (u v : TxnId) → txn_lt u v ≡ true → u ≡ v → ⊥
@@ -133,7 +133,7 @@ same_front (suc n) (x ∷ xs) (y ∷ ys) r q among near =
     λ i. first i ∷ rest i
 
 -- the least of what was met of all of which P holds
-pub least_met : (P : TxnId → Type 0) (met ids : List TxnId) → IsMet P met → AreLeast (IsListed is_txn met) ids → AreLeast P ids
+pub least_met : (P : TxnId → Type 0) (met ids : List TxnId) → CoversLeast P met → AreLeast (IsListed is_txn met) ids → AreLeast P ids
 least_met P met ids m l =
     let full = has_rising m.full in
     record {

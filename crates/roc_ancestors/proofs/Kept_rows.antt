@@ -1,8 +1,9 @@
 -- What is kept of decided transactions
 use Rattle.std.proofs.Common.{◌≡◌, Bool, true, false, cond, List, [], ◌∷◌, ◌++◌, Option, Some, refl, sym, ap, ◌∙◌, subst, inl, inr, unwrap_or}
 use Rattle.std.specs.BTreeMap.{is_at}
-use Rattle.std.specs.List.{list_any}
+use Rattle.std.specs.List.{list_any, AllByRecursion}
 use Rattle.roc_sequence.specs.Places.{IsListed}
+use Rattle.roc_sequence.proofs.Holds.{has_all}
 use Rattle.roc_sequence.proofs.Appended.{listed_front, listed_behind, listed_either}
 use Rattle.roc_base.specs.declared.id.TxnId.{TxnId}
 use Rattle.roc_base.specs.TxnId.{is_txn, txn_cmp}
@@ -12,10 +13,12 @@ use Rattle.roc_depgraph.specs.Deps.{Precedes, IsDecided, list_of}
 use Rattle.roc_depgraph.specs.Reach.{Reaches, direct, through, ReachesOrIs}
 use Rattle.roc_depgraph.specs.Inner.Visits.{IsNamed}
 use Rattle.roc_depgraph.proofs.Laws.{KeepsLists, ancestor_stays, ancestor_back, decided_stays}
-use Rattle.roc_depgraph.proofs.Listed.{is_eq-true, listed_one, in_one}
+use Rattle.roc_depgraph.proofs.Listed.{is_eq-true, listed_has, has_listed, listed_one, in_one}
+use Rattle.roc_component.specs.Components.{among, AreComponentsOf, Mates}
+use Rattle.roc_component.proofs.Relations.{mates_sym, mates_reach, mates_weaker, reach_trans}
 use Rattle.roc_ancestors.specs.Led.{IsLedTo, IsKnownAndLedTo}
 use Rattle.roc_ancestors.specs.Least.{most_least, AreLeast, IsRow, AreRows, row_of}
-use Rattle.roc_ancestors.specs.Inner.Met.{IsMet}
+use Rattle.roc_ancestors.specs.Inner.Met.{CoversLeast, AreDecidedMates}
 use Rattle.roc_ancestors.proofs.Fronts.{before_more, least_met}
 use Rattle.roc_ancestors.proofs.Leads.{named_own, entry_named}
 
@@ -72,7 +75,7 @@ module _ (known : List KnownList) (id : TxnId) (es : List Dependency) (decided :
   led_from u (direct e) = let d = entry_named es u (named_by u e) in record { entry = d.0; is = d.1; from = inl (sym d.2) }
   led_from u (through {s} p e) = let d = entry_named es s (named_by s e) in record { entry = d.0; is = d.1; from = inr (subst (λ v. Reaches (Precedes known) u v) (sym d.2) p) }
 
-  met_with_own : (met : List TxnId) → IsMet (IsKnownAndLedTo known es) met → IsMet (λ u. ReachesOrIs (Precedes known) u id) (met ++ id ∷ [])
+  met_with_own : (met : List TxnId) → CoversLeast (IsKnownAndLedTo known es) met → CoversLeast (λ u. ReachesOrIs (Precedes known) u id) (met ++ id ∷ [])
   met_with_own met m =
       record {
         full = m.full ++ id ∷ [];
@@ -91,5 +94,33 @@ module _ (known : List KnownList) (id : TxnId) (es : List Dependency) (decided :
         ];
       }
 
-  pub least_with_own : (met ids : List TxnId) → IsMet (IsKnownAndLedTo known es) met → AreLeast (IsListed is_txn (met ++ id ∷ [])) ids → AreLeast (λ u. ReachesOrIs (Precedes known) u id) ids
+  pub least_with_own : (met ids : List TxnId) → CoversLeast (IsKnownAndLedTo known es) met → AreLeast (IsListed is_txn (met ++ id ∷ [])) ids → AreLeast (λ u. ReachesOrIs (Precedes known) u id) ids
   least_with_own met ids m l = least_met (λ u. ReachesOrIs (Precedes known) u id) (met ++ id ∷ []) ids (met_with_own met m) l
+
+-- mates have the same ancestors
+row_of_mate : (known : List KnownList) (x u : TxnId) (ids : List TxnId) → Mates (Precedes known) x u → IsDecided known u → IsRow known x ids → IsRow known u ids
+row_of_mate known x u ids m decided r =
+    record {
+      decided = decided;
+      least = record {
+        all = r.least.all;
+        rising = record {
+          rising = r.least.rising.rising;
+          sound = λ v l. reach_trans (Precedes known) v x u (r.least.rising.sound v l) (mates_reach (Precedes known) x u m);
+          complete = λ v p. r.least.rising.complete v (reach_trans (Precedes known) v u x p (mates_reach (Precedes known) u x (mates_sym (Precedes known) x u m)));
+        };
+        first = r.least.first;
+      };
+    }
+
+-- the row of one is that of all
+pub rows_of_mates : (known : List KnownList) (all : List TxnId) (x : TxnId) (ids : List TxnId) → AreDecidedMates known all → IsListed is_txn all x → IsRow known x ids → (t : TxnId) → IsListed is_txn all t → IsRow known t ids
+rows_of_mates known all x ids are here r t l = row_of_mate known x t ids (are.mates x t here l) (are.decided t l) r
+
+-- the components of decided transactions
+pub decided_mates : (known : List KnownList) (M : List TxnId) (lists : List (List TxnId)) → ((t : TxnId) → IsListed is_txn M t → IsDecided known t) → AreComponentsOf known M lists → AllByRecursion (AreDecidedMates known) lists
+decided_mates known M lists decided are =
+    has_all (AreDecidedMates known) lists (λ c h. record {
+      decided = λ t l. decided t (has_listed M t (are.only c h t (listed_has c t l)));
+      mates = λ x u k l. mates_weaker (among M (Precedes known)) (Precedes known) (λ a b p. p.2) x u ((are.each c h).sound x u (listed_has c x k) (listed_has c u l));
+    })

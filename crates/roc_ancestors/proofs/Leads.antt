@@ -25,7 +25,7 @@ use Rattle.roc_depgraph.proofs.Decided.{known_of_decided}
 use Rattle.roc_depgraph.proofs.Listed.{has_from_listed, listed_from_has, listed_one, in_one}
 use Rattle.roc_ancestors.specs.Led.{IsLedTo, IsKnownAndLedTo}
 use Rattle.roc_ancestors.specs.Least.{most_least, IsRow, AreRows, row_of}
-use Rattle.roc_ancestors.specs.Inner.Met.{HasBefore, IsMet}
+use Rattle.roc_ancestors.specs.Inner.Met.{HasBefore, CoversLeast}
 use Rattle.roc_ancestors.proofs.Fronts.{before_more, listed_taken, near_front}
 
 -- ---- what can be found at all
@@ -254,7 +254,7 @@ module _ (known : List KnownList) (first : List Dependency) where
       length-le_from_is_member (eq_by_cmp_equiv txn_cmp-total) found (findable known first) (IsDistinct-from_sorted txn_cmp found s.rising)
       (λ q h. has_from_listed (findable known first) q (findable_from known first q (s.sound q (listed_from_has found q h))))
 
-  pub search_done : (found todo met : List TxnId) → IsSearch found todo met → length todo ≡ 0 → IsMet (IsKnownAndLedTo known first) met
+  pub search_done : (found todo met : List TxnId) → IsSearch found todo met → length todo ≡ 0 → CoversLeast (IsKnownAndLedTo known first) met
   search_done found todo met s e =
       record {
         full = s.full;

@@ -1,15 +1,19 @@
 //! The least of decided transactions and their ancestors.
-ghost use Rattle.std.specs.Prelude.{◌≡◌, [], IfOk, OnOk};
+ghost use Rattle.std.specs.Prelude.{◌≡◌, ◌++◌, ◌∷◌, [], List, IfOk, OnOk};
+ghost use Rattle.std.specs.List.{AllByRecursion};
+ghost use Rattle.roc_base.specs.declared.id.TxnId.{TxnId as Id};
 ghost use Rattle.roc_base.specs.TxnId.{is_txn};
+ghost use Rattle.roc_depgraph.specs.declared.known.KnownList.{KnownList as Known};
 ghost use Rattle.roc_depgraph.specs.Deps.{IsDecided, Precedes};
 ghost use Rattle.roc_depgraph.specs.Reach.{ReachesOrIs};
 ghost use Rattle.roc_sequence.specs.Places.{IsListed};
 ghost use Rattle.roc_ancestors.specs.Led.{IsKnownAndLedTo};
-ghost use Rattle.roc_ancestors.specs.Least.{AreLeast, AreRows};
+ghost use Rattle.roc_ancestors.specs.Least.{AreLeast, AreRows, IsRow};
+ghost use Rattle.roc_ancestors.specs.Inner.Met.{AreDecidedMates};
 
 use crate::search::met_from;
 use roc_base::{Edge, NoMemory, TxnId};
-use roc_component::rising;
+use roc_component::component_lists;
 use roc_depgraph::Deps;
 use roc_sequence::Sequence;
 use std::alloc::Global;
@@ -56,16 +60,66 @@ impl Ancestors {
         Ok(ids)
     }
 
-    /// Keeps the least of a decided transaction and its ancestors. `NoMemory` promises nothing of what is kept.
-    pub fn keep(&mut self, deps: &Deps, id: TxnId) -> Result<(), NoMemory>
+    /// Keeps the least of each of these decided transactions and its ancestors. `NoMemory` promises nothing of what is kept.
+    pub fn keep(&mut self, deps: &Deps, ids: &[TxnId]) -> Result<(), NoMemory>
         requires rows { AreRows deps.now self.old }
-        requires decided { IsDecided deps.now id }
+        requires decided { (t : Id) → IsListed is_txn ids.now t → IsDecided deps.now t }
         ensures { OnOk result (AreRows deps.now self.new) }
     {
-        let ids = least_of(self.alloc, &self.rows, deps, id)?;
-        self.rows.insert(id, Sequence::from_vec(ids))?;
+        let lists = component_lists(self.alloc, deps, ids)?;
+        keep_all(self.alloc, &mut self.rows, deps, &lists)?;
         Ok(())
     }
+}
+
+// Keeps the least of each transaction of these lists, each of one component.
+fn keep_all(
+    alloc: Global,
+    rows: &mut BTreeMap<TxnId, Sequence<TxnId>>,
+    deps: &Deps,
+    lists: &[Sequence<TxnId>],
+) -> Result<(), NoMemory>
+    requires rows { AreRows deps.now rows.old.entries }
+    requires mates { AllByRecursion (AreDecidedMates deps.now) lists.now }
+    ensures { OnOk result (AreRows deps.now rows.new.entries) }
+{
+    for list in lists {
+        keep_mates(alloc, rows, deps, list.as_slice())?;
+    }
+    Ok(())
+}
+
+// What is in one component has the same ancestors, so one search serves all of it.
+fn keep_mates(
+    alloc: Global,
+    rows: &mut BTreeMap<TxnId, Sequence<TxnId>>,
+    deps: &Deps,
+    ids: &[TxnId],
+) -> Result<(), NoMemory>
+    requires rows { AreRows deps.now rows.old.entries }
+    requires mates { AreDecidedMates deps.now ids.now }
+    ensures { OnOk result (AreRows deps.now rows.new.entries) }
+{
+    let Some(first) = ids.first() else {
+        return Ok(());
+    };
+    let least = least_of(alloc, rows, deps, *first)?;
+    put_all(alloc, rows, ids, &least)
+}
+
+// Puts the same in the row of each of these.
+fn put_all(
+    alloc: Global,
+    rows: &mut BTreeMap<TxnId, Sequence<TxnId>>,
+    ids: &[TxnId],
+    least: &[TxnId],
+) -> Result<(), NoMemory>
+    ensures { (known : List Known) → AreRows known rows.old.entries → ((t : Id) → IsListed is_txn ids.now t → IsRow known t least.now) → OnOk result (AreRows known rows.new.entries) }
+{
+    for id in ids {
+        rows.insert(*id, Sequence::from_slice(alloc, least)?)?;
+    }
+    Ok(())
 }
 
 // The least of a decided transaction and its ancestors.
@@ -94,7 +148,22 @@ fn least_of(
 fn least(alloc: Global, met: &[TxnId]) -> Result<Vec<TxnId>, NoMemory>
     ensures { IfOk result (λ ids. AreLeast (IsListed is_txn met.now) ids.items) }
 {
-    let mut ids = rising(alloc, met)?;
-    ids.truncate(MOST_LEAST);
+    let mut ids = Vec::new(alloc);
+    for id in met {
+        take_in(&mut ids, *id)?;
+    }
     Ok(ids)
+}
+
+// Takes one more in among the least, if it is one of them.
+fn take_in(ids: &mut Vec<TxnId>, id: TxnId) -> Result<(), NoMemory>
+    ensures { (met : List Id) → AreLeast (IsListed is_txn met) ids.old.items → OnOk result (AreLeast (IsListed is_txn (met ++ id ∷ [])) ids.new.items) }
+{
+    if let Err(at) = ids.binary_search(&id) {
+        if at < MOST_LEAST {
+            ids.insert(at, id)?;
+            ids.truncate(MOST_LEAST);
+        }
+    }
+    Ok(())
 }

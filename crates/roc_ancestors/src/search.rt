@@ -6,7 +6,7 @@ ghost use Rattle.roc_depgraph.specs.Deps.{list_of};
 ghost use Rattle.roc_depgraph.specs.Inner.Visits.{Visits};
 ghost use Rattle.roc_ancestors.specs.Led.{IsKnownAndLedTo};
 ghost use Rattle.roc_ancestors.specs.Least.{AreRows, row_of};
-ghost use Rattle.roc_ancestors.specs.Inner.Met.{IsMet};
+ghost use Rattle.roc_ancestors.specs.Inner.Met.{CoversLeast};
 
 use roc_base::{Edge, NoMemory, TxnId};
 use roc_depgraph::Deps;
@@ -23,7 +23,7 @@ pub(crate) fn met_from(
     edges: &[Edge],
 ) -> Result<Vec<TxnId>, NoMemory>
     requires { AreRows deps.now rows.now.entries }
-    ensures { IfOk result (λ met. IsMet (IsKnownAndLedTo deps.now edges.now) met.items) }
+    ensures { IfOk result (λ met. CoversLeast (IsKnownAndLedTo deps.now edges.now) met.items) }
 {
     let mut found = BTreeSet::new(alloc);
     let mut todo = Vec::new(alloc);

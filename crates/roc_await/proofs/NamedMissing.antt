@@ -24,7 +24,8 @@ use Rattle.roc_depgraph.proofs.Listed.{has_under, under_has}
 use Rattle.roc_await.specs.declared.group.Group.{Group}
 use Rattle.roc_await.specs.declared.lack.Lack.{Lack}
 use Rattle.roc_await.specs.Lacks.{IsMissing, IsLack}
-use Rattle.roc_await.specs.Inner.Grown.{AreListed, IsNamed, IsMissingFor, others}
+use Rattle.roc_depgraph.specs.Inner.Visits.{IsNamed}
+use Rattle.roc_await.specs.Inner.Grown.{AreListed, IsMissingFor, others}
 use Rattle.roc_await.specs.Inner.Groups.{lack_with, all_lacks, names_any, missing_if_named, is_other_unknown}
 use Rattle.roc_await.specs.Inner.Taken.{AreLacksSince}
 use Rattle.roc_await.proofs.InGroups.{IsInGroup, has_lack, lack_has, listed_flat, from_listed_flat}

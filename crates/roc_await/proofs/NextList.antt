@@ -10,7 +10,7 @@ use Rattle.roc_depgraph.specs.declared.known.KnownList.{KnownList}
 use Rattle.roc_depgraph.specs.Deps.{list_of}
 use Rattle.roc_await.specs.declared.lack.Lack.{Lack}
 use Rattle.roc_await.specs.Learning.{AreLearnable}
-use Rattle.roc_await.specs.Inner.Taken.{AreTaken}
+use Rattle.roc_await.specs.Inner.Taken.{AreLacksTaken}
 
 -- ---- in two lists, one behind the other
 
@@ -61,7 +61,7 @@ pub record IsNext (known all : List KnownList) (u : TxnId) (later : List TxnId) 
   pub later_none : (t : TxnId) → IsListed is_txn later t → list_of t known ≡ None
   pub others : (t : TxnId) → t ≢ u → ¬ IsListed is_txn later t → list_of t all ≡ list_of t known
 
-module _ (before all : List KnownList) (u : TxnId) (later : List TxnId) (lacks : List Lack) (taken : AreTaken before all (u ∷ later) lacks) where
+module _ (before all : List KnownList) (u : TxnId) (later : List TxnId) (lacks : List Lack) (taken : AreLacksTaken before all (u ∷ later) lacks) where
   in_news : (t : TxnId) → IsListed is_txn (u ∷ later) t → IsListed is_txn (ofs taken.news) t
   in_news t l = subst (λ ids. IsListed is_txn ids t) taken.left_are l
 

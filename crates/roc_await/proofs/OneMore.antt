@@ -12,7 +12,8 @@ use Rattle.roc_depgraph.specs.Reach.{Reaches, direct, through, ReachesOrIs}
 use Rattle.roc_depgraph.proofs.Laws.{learnt_keeps, list_of-learnt, list_of-learnt_other, known_stays}
 use Rattle.roc_depgraph.proofs.Chains.{joined_chain, weaker_chain}
 use Rattle.roc_await.specs.Lacks.{IsMissing}
-use Rattle.roc_await.specs.Inner.Grown.{IsNamed, IsMissingFor}
+use Rattle.roc_depgraph.specs.Inner.Visits.{IsNamed}
+use Rattle.roc_await.specs.Inner.Grown.{IsMissingFor}
 
 module _ (known : List KnownList) (u : TxnId) (edges : List Dependency) (none : list_of u known ≡ None) where
   abbrev pub more : List KnownList

@@ -15,14 +15,14 @@ use Rattle.roc_await.specs.Lacks.{IsMissing, AreLacks, AreDecidedBy}
 use Rattle.roc_await.specs.Learning.{AreLacksBefore}
 use Rattle.roc_await.specs.Inner.Grown.{AreListed, IsMissingFor, AreGrown}
 use Rattle.roc_await.specs.Inner.Groups.{all_lacks, missing_if_named, is_other_unknown, misses_nothing, decided_of}
-use Rattle.roc_await.specs.Inner.Taken.{AreLacksSince, AreTaken}
+use Rattle.roc_await.specs.Inner.Taken.{AreLacksSince, AreLacksTaken}
 use Rattle.roc_await.proofs.GrownLacks.{lacks_since, grown_since, some_left, newly, same_decided}
 use Rattle.roc_await.proofs.InGroups.{lacks_of_filter, decided_are}
 use Rattle.roc_await.proofs.NamedMissing.{are_listed, all_missing}
 use Rattle.roc_await.proofs.NextList.{ofs, IsNext, next_is, IsFirstNew, first_new}
 
 -- at first all new lists are left
-pub first_taken : (all : List KnownList) (ids : List TxnId) (lacks : List Lack) (were : AreLacksBefore all ids lacks) → AreTaken were.before all ids lacks
+pub first_taken : (all : List KnownList) (ids : List TxnId) (lacks : List Lack) (were : AreLacksBefore all ids lacks) → AreLacksTaken were.before all ids lacks
 first_taken all ids lacks were = record {
   known = were.before;
   news = were.news;
@@ -33,7 +33,7 @@ first_taken all ids lacks were = record {
 }
 
 -- and at last none
-pub last_taken : (before all : List KnownList) (left : List TxnId) (lacks : List Lack) → length left ≡ 0 → AreTaken before all left lacks → AreLacksSince before all lacks
+pub last_taken : (before all : List KnownList) (left : List TxnId) (lacks : List Lack) → length left ≡ 0 → AreLacksTaken before all left lacks → AreLacksSince before all lacks
 last_taken before all (u ∷ left) lacks none taken = absurd (omega arith)
 last_taken before all [] lacks none taken = go taken.news taken.all_are taken.left_are
   where
@@ -42,7 +42,7 @@ last_taken before all [] lacks none taken = go taken.news taken.all_are taken.le
     go (k ∷ ks) a e = absurd (cc)
 
 -- the same of other words for the same lacks
-pub taken_others : (before all : List KnownList) (left : List TxnId) (lacks others : List Lack) → lacks ≡ others → AreTaken before all left lacks → AreTaken before all left others
+pub taken_others : (before all : List KnownList) (left : List TxnId) (lacks others : List Lack) → lacks ≡ others → AreLacksTaken before all left lacks → AreLacksTaken before all left others
 taken_others before all left lacks others e taken = record {
   known = taken.known;
   news = taken.news;
@@ -53,19 +53,19 @@ taken_others before all left lacks others e taken = record {
 }
 
 pub missing_others : (before all : List KnownList) (u : TxnId) (later : List TxnId) (edges : List Dependency) (ids : List TxnId) (lacks others : List Lack) → lacks ≡ others
-    → ((taken : AreTaken before all (u ∷ later) others) → IsRisingListOf (IsMissing (learnt taken.known u edges) u) ids)
-    → (taken : AreTaken before all (u ∷ later) lacks) → IsRisingListOf (IsMissing (learnt taken.known u edges) u) ids
+    → ((taken : AreLacksTaken before all (u ∷ later) others) → IsRisingListOf (IsMissing (learnt taken.known u edges) u) ids)
+    → (taken : AreLacksTaken before all (u ∷ later) lacks) → IsRisingListOf (IsMissing (learnt taken.known u edges) u) ids
 unfolding taken_others
 missing_others before all u later edges ids lacks others e h taken = h (taken_others before all (u ∷ later) lacks others e taken)
 
 module _ (before all : List KnownList) (u : TxnId) (later : List TxnId) where
   -- the list of the next one is there
-  pub next_there : (lacks : List Lack) → AreTaken before all (u ∷ later) lacks → list_of u all ≡ None → ⊥
+  pub next_there : (lacks : List Lack) → AreLacksTaken before all (u ∷ later) lacks → list_of u all ≡ None → ⊥
   next_there lacks taken none = none-some (first_new before all u later lacks taken).first.edges (sym none ∙ (first_new before all u later lacks taken).list)
 
   module _ (edges : List Dependency) (is : list_of u all ≡ Some edges) where
     -- what is missing for it is what was found
-    pub found_missing : (groups : List Group) (taken : AreTaken before all (u ∷ later) (all_lacks groups)) (found ids : List TxnId)
+    pub found_missing : (groups : List Group) (taken : AreLacksTaken before all (u ∷ later) (all_lacks groups)) (found ids : List TxnId)
         → found ≡ flat_map (missing_if_named u edges) groups ++ filter (is_other_unknown all later u) (map (λ d. d.from) edges)
         → IsRisingListOf (IsListed is_txn found) ids → IsRisingListOf (IsMissing (learnt taken.known u edges) u) ids
     found_missing groups taken found ids e rising =
@@ -74,8 +74,8 @@ module _ (before all : List KnownList) (u : TxnId) (later : List TxnId) where
         (subst (AreListed (IsMissingFor taken.known u edges)) (sym e) (are_listed before taken.known all u edges later groups taken.since next)) rising
 
     -- it is taken in
-    pub one_taken : (olds news : List Lack) (fresh : List TxnId) (taken : AreTaken before all (u ∷ later) olds) → IsRisingListOf (IsMissing (learnt taken.known u edges) u) fresh → AreGrown u fresh olds news
-        → AreTaken before all later news
+    pub one_taken : (olds news : List Lack) (fresh : List TxnId) (taken : AreLacksTaken before all (u ∷ later) olds) → IsRisingListOf (IsMissing (learnt taken.known u edges) u) fresh → AreGrown u fresh olds news
+        → AreLacksTaken before all later news
     one_taken olds news fresh taken are_fresh g = record {
       known = taken.known ++ new.first ∷ [];
       news = new.behind;

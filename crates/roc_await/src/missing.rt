@@ -7,7 +7,7 @@ ghost use Rattle.roc_depgraph.specs.Deps.{list_of, learnt};
 ghost use Rattle.roc_await.specs.Lacks.{IsMissing};
 ghost use Rattle.roc_await.specs.Inner.Grown.{others};
 ghost use Rattle.roc_await.specs.Inner.Groups.{all_lacks, is_other_unknown, missing_if_named, names_any};
-ghost use Rattle.roc_await.specs.Inner.Taken.{AreTaken};
+ghost use Rattle.roc_await.specs.Inner.Taken.{AreLacksTaken};
 
 use crate::group::Group;
 use roc_base::{Edge, Edges, NoMemory, TxnId, is_among};
@@ -24,7 +24,7 @@ pub(crate) fn missing_for(
     edges: &Edges,
     later: &[TxnId],
 ) -> Result<Vec<TxnId>, NoMemory>
-    ensures { IfOk result (λ ids. (before : List Told) → (taken : AreTaken before deps.now (id ∷ later.now) (all_lacks groups.now)) → list_of id deps.now ≡ Some edges.now → IsRisingListOf (IsMissing (learnt taken.known id edges.now) id) ids.items) }
+    ensures { IfOk result (λ ids. (before : List Told) → (taken : AreLacksTaken before deps.now (id ∷ later.now) (all_lacks groups.now)) → list_of id deps.now ≡ Some edges.now → IsRisingListOf (IsMissing (learnt taken.known id edges.now) id) ids.items) }
 {
     let mut ids = missing_for_named(alloc, groups, id, edges)?;
     let unknown = unknown_named(alloc, deps, edges.as_slice(), id, later)?;

@@ -3,7 +3,7 @@ ghost use Rattle.std.specs.Prelude.{◌∷◌, List, IfOk};
 ghost use Rattle.roc_depgraph.specs.declared.known.KnownList.{KnownList as Told};
 ghost use Rattle.roc_await.specs.Learning.{AreLacksBefore};
 ghost use Rattle.roc_await.specs.Inner.Groups.{all_lacks};
-ghost use Rattle.roc_await.specs.Inner.Taken.{AreLacksSince, AreTaken};
+ghost use Rattle.roc_await.specs.Inner.Taken.{AreLacksSince, AreLacksTaken};
 
 use crate::group::{Group, copied};
 use crate::grown::grown;
@@ -38,7 +38,7 @@ fn with_list(
     id: TxnId,
     later: &[TxnId],
 ) -> Result<Vec<Group>, NoMemory>
-    ensures { IfOk result (λ grown. (before : List Told) → AreTaken before deps.now (id ∷ later.now) (all_lacks groups.items) → AreTaken before deps.now later.now (all_lacks grown.items)) }
+    ensures { IfOk result (λ grown. (before : List Told) → AreLacksTaken before deps.now (id ∷ later.now) (all_lacks groups.items) → AreLacksTaken before deps.now later.now (all_lacks grown.items)) }
 {
     match deps.list(id) {
         None => Ok(groups),

@@ -17,7 +17,7 @@ use Rattle.roc_server.specs.Fits.{IsCallOf, AreGroupsOf}
 use Rattle.roc_server.specs.Runs.{group_call}
 use Rattle.roc_server.specs.Start.{uses_cell}
 use Rattle.roc_server.specs.Inner.Kept.{unrun, AreSameGroups}
-use Rattle.roc_server.specs.Inner.Indexed.{spot_of, spots_from, IsIndexOf, IsSpotOf, IsWithin}
+use Rattle.roc_server.specs.Inner.Indexed.{spot_of, spots_from, IsIndexOf, IsSpotOf, IsSpotWithin}
 
 -- ---- where groups stand
 
@@ -56,9 +56,9 @@ indexed_is c index decided es h s k =
     spot_is c es 0 es (all_stand es) s (from_has_filter (λ (x : Spot). not (is_listed is_txn decided x.id)) s (spots_from c 0 es) (subst (Has s) (h c) k)).0
 
 -- of each the group stands, and the plan has it
-pub indexed_within : (plan : Plan) (c : Cell) (index : List (Cell × List Spot)) (decided : List TxnId) (es : List StartedGroup) → AreGroupsOf plan es → IsIndexOf index decided es → AllByRecursion (IsWithin plan es) (spots_at c index)
+pub indexed_within : (plan : Plan) (c : Cell) (index : List (Cell × List Spot)) (decided : List TxnId) (es : List StartedGroup) → AreGroupsOf plan es → IsIndexOf index decided es → AllByRecursion (IsSpotWithin plan es) (spots_at c index)
 indexed_within plan c index decided es fits h =
-    has_all (IsWithin plan es) (spots_at c index) (λ s k.
+    has_all (IsSpotWithin plan es) (spots_at c index) (λ s k.
     let p = indexed_is c index decided es h s k in
     let fit = all_has (λ e. IsCallOf plan (group_call e)) p.group es fits p.has in
     (slice_get_within es s.at p.group p.stands, subst (λ (x : Spot). x.group < length (groups_of plan x.proc)) (sym p.is) fit.group))

@@ -3,17 +3,13 @@ ghost use Rattle.std.specs.Prelude.{◌≡◌, ◌++◌, [], IfOk, OnOk};
 ghost use Rattle.std.specs.List.Sorted.{IsStrictlySortedBy};
 ghost use Rattle.roc_base.specs.TxnId.{is_txn, txn_cmp};
 ghost use Rattle.roc_base.specs.declared.id.TxnId.{TxnId as Id};
-ghost use Rattle.roc_ancestors.specs.Least.{AreRows};
 ghost use Rattle.roc_depgraph.specs.Closure.{IsRisingListOf};
-ghost use Rattle.roc_depgraph.specs.Deps.{IsDecided};
 ghost use Rattle.roc_sequence.specs.Places.{IsListed, is_listed};
 ghost use Rattle.roc_server.specs.New.{AreAllNew, AreNew};
 
 use crate::kept::Kept;
-use roc_ancestors::Ancestors;
 use roc_base::{NoMemory, TxnId};
 use roc_component::order;
-use roc_depgraph::Deps;
 use std::alloc::Global;
 use std::collections::BTreeSet;
 use std::marker::Model;
@@ -83,20 +79,4 @@ pub(crate) fn newly_decided(
     ensures { IfOk result (λ ordered. AreNew (IsListed is_txn kept.now.decided) kept.now.deps ordered.items) }
 {
     order(alloc, &kept.deps, ids)
-}
-
-// Keeps the least of each of these and its ancestors.
-pub(crate) fn keep_least(
-    ancestors: &mut Ancestors,
-    deps: &Deps,
-    ids: &[TxnId],
-) -> Result<(), NoMemory>
-    requires rows { AreRows deps.now ancestors.old }
-    requires decided { (t : Id) → IsListed is_txn ids.now t → IsDecided deps.now t }
-    ensures { OnOk result (AreRows deps.now ancestors.new) }
-{
-    for id in ids {
-        ancestors.keep(deps, *id)?;
-    }
-    Ok(())
 }

@@ -3,7 +3,7 @@ ghost use Rattle.std.specs.Prelude.{◌≡◌, ◌+◌, ◌≤◌, ◌<◌, ◌+
 ghost use Rattle.std.specs.List.{AllByRecursion};
 ghost use Rattle.roc_base.specs.Edges.{united};
 ghost use Rattle.roc_server.specs.Fits.{AreGroupsOf};
-ghost use Rattle.roc_server.specs.Inner.Indexed.{IsIndexOf, IsWithin, is_looked_at, is_met, edge_from};
+ghost use Rattle.roc_server.specs.Inner.Indexed.{IsIndexOf, IsSpotWithin, is_looked_at, is_met, edge_from};
 ghost use Rattle.roc_server.specs.Start.{comes_before, edge_to, users};
 
 use crate::StartedGroup;
@@ -60,7 +60,7 @@ fn push_met<L: Ledger>(
     met: &mut Vec<Edge>,
     steps: &mut Steps<L>,
 ) -> Result<(), NoMemory>
-    requires { AllByRecursion (IsWithin plan.now started.now) spots.now }
+    requires { AllByRecursion (IsSpotWithin plan.now started.now) spots.now }
     ensures met { OnOk result (met.new.items ≡ met.old.items ++ map (edge_from starting.shard starting.immediate) (filter (is_met plan.now started.now starting.id starting.immediate access.now) spots.now)) }
     ensures steps { steps.new ≤ steps.old + length (filter (is_looked_at plan.now starting.id starting.immediate) spots.now) }
 {
@@ -86,7 +86,7 @@ fn is_met<L: Ledger>(
     access: &Access,
     steps: &mut Steps<L>,
 ) -> bool
-    requires { IsWithin plan.now started.now spot }
+    requires { IsSpotWithin plan.now started.now spot }
     ensures met { result ≡ is_met plan.now started.now starting.id starting.immediate access.now spot }
     ensures steps { steps.new ≡ steps.old + (if is_looked_at plan.now starting.id starting.immediate spot then 1 else 0) }
 {

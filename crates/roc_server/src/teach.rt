@@ -13,7 +13,7 @@ ghost use Rattle.roc_server.specs.New.{AreAllNew};
 
 use crate::askers::{drop_all, tell_all};
 use crate::commitoks::send_commitoks;
-use crate::decided::{keep_least, newly_decided};
+use crate::decided::newly_decided;
 use crate::indexed::take_out;
 use crate::kept::Kept;
 use crate::missing::{keep_asked, missing_from, send_fetches};
@@ -82,7 +82,7 @@ fn take_new(
     ensures { OnOk result (TakesNew plan.now shard kept.old kept.new out.old out.new) }
 {
     let ids = newly_decided(alloc, kept, ids)?;
-    keep_least(&mut kept.ancestors, &kept.deps, &ids)?;
+    kept.ancestors.keep(&kept.deps, &ids)?;
     take_out(&mut kept.index, &kept.started, &ids);
     run_all(alloc, plan, &ids, &mut kept.started, &mut kept.rows)?;
     kept.decided.take(&ids)?;

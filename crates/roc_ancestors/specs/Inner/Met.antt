@@ -5,6 +5,9 @@ use Rattle.std.specs.List.Sorted.{IsStrictlySortedBy}
 use Rattle.roc_sequence.specs.Places.{IsListed}
 use Rattle.roc_base.specs.declared.id.TxnId.{TxnId}
 use Rattle.roc_base.specs.TxnId.{is_txn, txn_cmp, txn_lt}
+use Rattle.roc_depgraph.specs.declared.known.KnownList.{KnownList}
+use Rattle.roc_depgraph.specs.Deps.{Precedes, IsDecided}
+use Rattle.roc_component.specs.Components.{Mates}
 use Rattle.roc_ancestors.specs.Least.{most_least}
 
 -- n of xs come before u
@@ -15,9 +18,14 @@ pub record HasBefore (n : ℕ) (xs : List TxnId) (u : TxnId) : Type 0 where
   pub each : AllByRecursion (λ k. IsListed is_txn xs k × IsTrue (txn_lt k u)) ids
 
 -- all of which P holds is met, or as many that were met come before it as are the least
-pub record IsMet (P : TxnId → Type 0) (met : List TxnId) : Type 0 where
+pub record CoversLeast (P : TxnId → Type 0) (met : List TxnId) : Type 0 where
   pub full : List TxnId
   pub sound : (u : TxnId) → IsListed is_txn full u → P u
   pub complete : (u : TxnId) → P u → IsListed is_txn full u
   pub among : (u : TxnId) → IsListed is_txn met u → IsListed is_txn full u
   pub near : (u : TxnId) → IsListed is_txn full u → IsListed is_txn met u ⊎ HasBefore most_least met u
+
+-- they are decided, and reach one another
+pub record AreDecidedMates (known : List KnownList) (ids : List TxnId) : Type 0 where
+  pub decided : (t : TxnId) → IsListed is_txn ids t → IsDecided known t
+  pub mates : (x u : TxnId) → IsListed is_txn ids x → IsListed is_txn ids u → Mates (Precedes known) x u

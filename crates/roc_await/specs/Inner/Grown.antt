@@ -1,6 +1,5 @@
 -- How lacks grow by one more list
-use Rattle.std.specs.Prelude.{◌≡◌, ◌≢◌, ◌==◌, ◌⊎◌, not, Bool, true, false, List, ◌++◌, filter, length, IsTrue}
-use Rattle.std.specs.List.{list_any}
+use Rattle.std.specs.Prelude.{◌≡◌, ◌≢◌, ◌==◌, ◌⊎◌, not, Bool, true, false, List, ◌++◌, filter, length}
 use Rattle.roc_sequence.specs.Lists.{Has}
 use Rattle.roc_sequence.specs.Places.{IsListed, is_listed}
 use Rattle.roc_base.specs.declared.id.TxnId.{TxnId}
@@ -8,6 +7,7 @@ use Rattle.roc_base.specs.TxnId.{is_txn}
 use Rattle.roc_base.specs.Edge.{Dependency}
 use Rattle.roc_depgraph.specs.declared.known.KnownList.{KnownList}
 use Rattle.roc_depgraph.specs.Closure.{IsRisingListOf}
+use Rattle.roc_depgraph.specs.Inner.Visits.{IsNamed}
 use Rattle.roc_await.specs.declared.group.Group.{Group}
 use Rattle.roc_await.specs.declared.lack.Lack.{Lack}
 use Rattle.roc_await.specs.Lacks.{IsMissing}
@@ -16,10 +16,6 @@ use Rattle.roc_await.specs.Lacks.{IsMissing}
 pub record AreListed (P : TxnId → Type 0) (ids : List TxnId) : Type 0 where
   pub sound : (v : TxnId) → IsListed is_txn ids v → P v
   pub complete : (v : TxnId) → P v → IsListed is_txn ids v
-
--- an entry names x
-abbrev pub IsNamed : List Dependency → TxnId → Type 0
-IsNamed edges x = IsTrue (list_any (λ d. is_txn d.from x) edges)
 
 -- v is missing for what an entry names, and is not u
 pub record IsMissingBut (known : List KnownList) (u x v : TxnId) : Type 0 where

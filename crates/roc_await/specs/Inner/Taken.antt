@@ -16,7 +16,7 @@ pub record AreLacksSince (before known : List KnownList) (lacks : List Lack) : T
   pub all : (t : TxnId) → IsKnown known t → IsDecided before t ⊎ ((l : Lack) × Has l lacks × (l.of ≡ t))
 
 -- so where the last lists, which are those of these ids, are still to be taken in
-pub record AreTaken (before all : List KnownList) (left : List TxnId) (lacks : List Lack) : Type 0 where
+pub record AreLacksTaken (before all : List KnownList) (left : List TxnId) (lacks : List Lack) : Type 0 where
   pub known : List KnownList
   pub news : List KnownList
   pub all_are : all ≡ known ++ news

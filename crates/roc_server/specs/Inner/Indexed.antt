@@ -46,8 +46,8 @@ abbrev pub AreSpotsOf : List StartedGroup → List (Cell × List Spot) → Type 
 AreSpotsOf started index = (c : Cell) (s : Spot) → Has s (spots_at c index) → IsSpotOf started started c s
 
 -- a group stands there, and the plan has it
-abbrev pub IsWithin : Plan → List StartedGroup → Spot → Type 0
-IsWithin plan started s = (s.at < length started) × (s.group < length (groups_of plan s.proc))
+abbrev pub IsSpotWithin : Plan → List StartedGroup → Spot → Type 0
+IsSpotWithin plan started s = (s.at < length started) × (s.group < length (groups_of plan s.proc))
 
 -- ---- changes
 

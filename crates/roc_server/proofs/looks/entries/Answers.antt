@@ -8,7 +8,7 @@ use Rattle.roc_group.specs.declared.access.Access.{Access}
 use Rattle.roc_index.specs.declared.spot.Spot.{Spot}
 use Rattle.roc_index.specs.Spots.{spots_at}
 use Rattle.roc_server.specs.declared.started.StartedGroup.{StartedGroup}
-use Rattle.roc_server.specs.Inner.Indexed.{IsWithin, is_looked_at}
+use Rattle.roc_server.specs.Inner.Indexed.{IsSpotWithin, is_looked_at}
 use Rattle.roc_server.proofs.Stands.{indexed_within}
 use Rattle.roc_server.proofs.Pairs.{looked_within}
 use Rattle.roc_server.proofs.CellByCell.{met_at, all_met}
@@ -18,8 +18,8 @@ pub push_met-requires : goal.push_met-requires
 push_met-requires g c =
     let k = c.args.kept.now in
     let plan = c.args.plan.now in
-    subst (AllByRecursion (IsWithin plan c.as_slice-started.result.now)) (sym c.at-spots.ensures)
-    (subst (λ (es : List StartedGroup). AllByRecursion (IsWithin plan es) (spots_at c.access-item.result.cell k.index)) (sym c.as_slice-started.ensures)
+    subst (AllByRecursion (IsSpotWithin plan c.as_slice-started.result.now)) (sym c.at-spots.ensures)
+    (subst (λ (es : List StartedGroup). AllByRecursion (IsSpotWithin plan es) (spots_at c.access-item.result.cell k.index)) (sym c.as_slice-started.ensures)
     (indexed_within plan c.access-item.result.cell k.index k.decided k.started c.requires.fits c.requires.index))
 
 pub returns-in_err-push_met-clause-steps : goal.returns-in_err-push_met-clause-steps

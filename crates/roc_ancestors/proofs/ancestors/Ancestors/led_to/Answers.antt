@@ -1,7 +1,7 @@
 use Rattle.std.proofs.Common.{subst, sym}
 use Rattle.roc_ancestors.specs.Led.{IsKnownAndLedTo}
 use Rattle.roc_ancestors.specs.Least.{AreRows}
-use Rattle.roc_ancestors.specs.Inner.Met.{IsMet}
+use Rattle.roc_ancestors.specs.Inner.Met.{CoversLeast}
 use Rattle.roc_ancestors.proofs.Fronts.{least_met}
 use Rattle.roc_ancestors.proofs.ancestors.Ancestors.led_to.Goals as goal
 
@@ -11,4 +11,4 @@ met_from-requires c = subst (AreRows c.args.deps.now) (sym c.self.view_is) c.req
 pub returns : goal.returns
 returns c =
     least_met (IsKnownAndLedTo c.args.deps.now c.args.edges.now) c.deref.result.now c.in_ok-ids.ids.items
-    (subst (IsMet (IsKnownAndLedTo c.args.deps.now c.args.edges.now)) (sym c.deref.ensures.value) c.in_ok-met.ensures) c.in_ok-ids.ensures
+    (subst (CoversLeast (IsKnownAndLedTo c.args.deps.now c.args.edges.now)) (sym c.deref.ensures.value) c.in_ok-met.ensures) c.in_ok-ids.ensures
