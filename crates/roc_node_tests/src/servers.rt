@@ -1,14 +1,20 @@
 //! What a server makes of messages that no honest node sends, and of repeated ones.
+ghost use Rattle.std.specs.Prelude.{◌≡◌, ◌<◌};
 ghost use Rattle.roc_server.specs.Fits.{ServerFits};
 
 use crate::workloads::{counter, twins};
-use roc_base::{Edge, Edges, Nums, Shard, TxnId};
+use roc_base::{Edge, Edges, Key, Nums, Shard, TxnId};
 use roc_depgraph::KnownList;
+use roc_group::Access;
 use roc_msg::{Facts, Msg, Outbox, Reason};
-use roc_plan::Plan;
+use roc_plan::{Class, Plan};
+use roc_rows::Cell;
 use roc_server::{Handled, Server};
+use roc_steps::Steps;
 use std::alloc::Global;
+use std::marker::Brand;
 use std::process::Abort;
+use std::sync::ledger::{Blank, Ledger};
 use std::test::Fail;
 
 const FIRST: TxnId = TxnId { coord: 0, seq: 0 };
@@ -135,6 +141,7 @@ fn handles_all(
     out: &mut Outbox,
 ) -> Result<(), Fail>
     requires fits { ServerFits plan.now server.old }
+    ensures { ServerFits plan.now server.new }
 {
     for (sent, wanted) in cases {
         let msg = message(alloc, *sent)?;
@@ -155,6 +162,75 @@ fn check(
     let mut out = Outbox::new(alloc);
     handles_all(rt, alloc, plan, &mut server, cases, &mut out)?;
     assert_eq!(rt; out.messages.len(), sent);
+    Ok(())
+}
+
+// The entries of a second transaction's group that would write the counter.
+fn counted_entries<L: Ledger>(
+    plan: &Plan,
+    server: &Server,
+    class: Class,
+    blank: Blank,
+) -> Result<Edges, Fail>
+    requires fits { ServerFits plan.now server.now }
+    requires name { blank.name ≡ L.name }
+    requires parts { blank.parts ≡ L.parts }
+    requires some { 0 < blank.parts }
+{
+    let cell = Cell {
+        table: 0,
+        place: 0,
+        id: Key::from_slice(&[0]),
+        column: 0,
+    };
+    let cells = [Access { cell, writes: true }];
+    let mut steps = Steps::<L>::new(blank);
+    Ok(server.entries(plan, SECOND, class, &cells, &mut steps)?)
+}
+
+fn entries(plan: &Plan, server: &Server, class: Class) -> Result<Edges, Fail>
+    requires fits { ServerFits plan.now server.now }
+{
+    counted_entries::<Brand>(plan, server, class, Blank::new(1))
+}
+
+// The entries of each class, deferrable first, after messages that are handled in turn by a new server of a plan.
+fn entries_behind(
+    rt: &impl Abort,
+    alloc: Global,
+    plan: &Plan,
+    cases: &[Case],
+) -> Result<(Edges, Edges), Fail> {
+    let mut server = Server::new(alloc, plan, Shard(0))?;
+    let mut out = Outbox::new(alloc);
+    handles_all(rt, alloc, plan, &mut server, cases, &mut out)?;
+    Ok((
+        entries(plan, &server, Class::Deferrable)?,
+        entries(plan, &server, Class::Immediate)?,
+    ))
+}
+
+#[test]
+fn entries_name_what_is_undecided(rt: HostRuntime) -> Result<(), Fail> {
+    let alloc = rt.alloc();
+    let cases = [(Sent::Start(FIRST, 0, 0, Some(5)), None)];
+    let found = entries_behind(&rt, alloc, &counter(alloc)?, &cases)?;
+    assert_eq!(&rt;
+        found,
+        (edges(alloc, Some(deferrable(FIRST)))?, Edges::new(alloc))
+    );
+    Ok(())
+}
+
+#[test]
+fn entries_leave_out_what_is_decided(rt: HostRuntime) -> Result<(), Fail> {
+    let alloc = rt.alloc();
+    let cases = [
+        (Sent::Start(FIRST, 0, 0, Some(5)), None),
+        (Sent::Commit(FIRST, None), None),
+    ];
+    let found = entries_behind(&rt, alloc, &counter(alloc)?, &cases)?;
+    assert_eq!(&rt; found, (Edges::new(alloc), Edges::new(alloc)));
     Ok(())
 }
 
