@@ -3,3 +3,4 @@ pub mod Put
 pub mod Leads
 pub mod Kept_rows
 pub mod TakenIn
+pub mod Told

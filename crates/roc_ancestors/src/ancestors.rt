@@ -8,8 +8,8 @@ ghost use Rattle.roc_depgraph.specs.Deps.{IsDecided, Precedes};
 ghost use Rattle.roc_depgraph.specs.Reach.{ReachesOrIs};
 ghost use Rattle.roc_sequence.specs.Places.{IsListed};
 ghost use Rattle.roc_ancestors.specs.Led.{IsKnownAndLedTo};
-ghost use Rattle.roc_ancestors.specs.Least.{AreLeast, AreRows, IsRow};
-ghost use Rattle.roc_ancestors.specs.Inner.Met.{AreDecidedMates};
+ghost use Rattle.roc_ancestors.specs.Least.{AreLeast, AreRows, IsRow, KeepsRows};
+ghost use Rattle.roc_ancestors.specs.Inner.Met.{AreDecidedMates, KeepAllRows};
 
 use crate::search::met_from;
 use roc_base::{Edge, NoMemory, TxnId};
@@ -60,11 +60,12 @@ impl Ancestors {
         Ok(ids)
     }
 
-    /// Keeps the least of each of these decided transactions and its ancestors. `NoMemory` promises nothing of what is kept.
+    /// Keeps the least of each of these decided transactions and its ancestors, beside what is kept. `NoMemory` promises nothing of what is kept.
     pub fn keep(&mut self, deps: &Deps, ids: &[TxnId]) -> Result<(), NoMemory>
         requires rows { AreRows deps.now self.old }
         requires decided { (t : Id) → IsListed is_txn ids.now t → IsDecided deps.now t }
-        ensures { OnOk result (AreRows deps.now self.new) }
+        ensures rows { OnOk result (AreRows deps.now self.new) }
+        ensures kept { OnOk result (KeepsRows ids.now self.old self.new) }
     {
         let lists = component_lists(self.alloc, deps, ids)?;
         keep_all(self.alloc, &mut self.rows, deps, &lists)?;
@@ -81,7 +82,8 @@ fn keep_all(
 ) -> Result<(), NoMemory>
     requires rows { AreRows deps.now rows.old.entries }
     requires mates { AllByRecursion (AreDecidedMates deps.now) lists.now }
-    ensures { OnOk result (AreRows deps.now rows.new.entries) }
+    ensures rows { OnOk result (AreRows deps.now rows.new.entries) }
+    ensures kept { OnOk result (KeepAllRows lists.now rows.old.entries rows.new.entries) }
 {
     for list in lists {
         keep_mates(alloc, rows, deps, list.as_slice())?;
@@ -98,7 +100,8 @@ fn keep_mates(
 ) -> Result<(), NoMemory>
     requires rows { AreRows deps.now rows.old.entries }
     requires mates { AreDecidedMates deps.now ids.now }
-    ensures { OnOk result (AreRows deps.now rows.new.entries) }
+    ensures rows { OnOk result (AreRows deps.now rows.new.entries) }
+    ensures kept { OnOk result (KeepsRows ids.now rows.old.entries rows.new.entries) }
 {
     let Some(first) = ids.first() else {
         return Ok(());
@@ -114,7 +117,8 @@ fn put_all(
     ids: &[TxnId],
     least: &[TxnId],
 ) -> Result<(), NoMemory>
-    ensures { (known : List Known) → AreRows known rows.old.entries → ((t : Id) → IsListed is_txn ids.now t → IsRow known t least.now) → OnOk result (AreRows known rows.new.entries) }
+    ensures kept { OnOk result (KeepsRows ids.now rows.old.entries rows.new.entries) }
+    ensures rows { (known : List Known) → AreRows known rows.old.entries → ((t : Id) → IsListed is_txn ids.now t → IsRow known t least.now) → OnOk result (AreRows known rows.new.entries) }
 {
     for id in ids {
         rows.insert(*id, Sequence::from_slice(alloc, least)?)?;
