@@ -7,6 +7,7 @@ use roc_parse::parse;
 use roc_plan::{Class, Input, Known, Plan, PlanFault};
 use roc_program::{Workload, resolve};
 use std::alloc::Global;
+use std::process::Abort;
 use std::test::Fail;
 
 /// m and n are contended, and l takes what m binds.
@@ -30,9 +31,7 @@ fn plan(alloc: Global) -> Result<Plan, Fail> {
     Ok(Plan::try_new(alloc, workload, classes, groups)?)
 }
 
-#[test]
-fn readers_of_two_groups(rt: HostRuntime) -> Result<(), Fail> {
-    let plan = plan(rt.alloc())?;
+fn has_two_groups(rt: &impl Abort, plan: &Plan) {
     assert_eq!(rt; plan.procedures(), 1);
     assert_eq!(rt; plan.groups(0), 2);
     assert_eq!(rt; plan.class(0, 0), Class::Immediate);
@@ -41,13 +40,16 @@ fn readers_of_two_groups(rt: HostRuntime) -> Result<(), Fail> {
     assert_eq!(rt; (plan.bound(0, 0), plan.bound(0, 1)), (1, 0));
     assert_eq!(rt; plan.outs(0, 1), [1].as_slice());
     assert_eq!(rt; plan.inputs(0, 1), [Input { group: 0, at: 0 }].as_slice());
-    Ok(())
 }
 
 #[test]
-fn a_place_follows_from_inputs(rt: HostRuntime) -> Result<(), Fail> {
-    let alloc = rt.alloc();
-    let plan = plan(alloc)?;
+fn readers_of_two_groups(rt: HostRuntime) -> Result<(), Fail> {
+    let plan = plan(rt.alloc())?;
+    has_two_groups(&rt, &plan);
+    Ok(())
+}
+
+fn has_place(rt: &impl Abort, alloc: Global, plan: &Plan) -> Result<(), Fail> {
     let known = Known {
         args: Nums::from_slice(alloc, &[5, 7])?,
         inputs: Nums::from_slice(alloc, &[-9])?,
@@ -59,6 +61,12 @@ fn a_place_follows_from_inputs(rt: HostRuntime) -> Result<(), Fail> {
     let place = plan.place(0, 1, &known);
     assert_eq!(rt; (place, plan.shard_of(place)), (-2, Shard(2)));
     Ok(())
+}
+
+#[test]
+fn a_place_follows_from_inputs(rt: HostRuntime) -> Result<(), Fail> {
+    let alloc = rt.alloc();
+    has_place(&rt, alloc, &plan(alloc)?)
 }
 
 #[test]

@@ -3,6 +3,7 @@ ghost use Rattle.std.specs.Prelude.{◌≡◌, ◌≢◌};
 
 use roc_io::{AllStarted, CalmSpawner, Child, ChildWait, MemSpawner, Spawner, start_all, wait_all};
 use std::alloc::{AllocError, Global};
+use std::process::Abort;
 use std::test::Fail;
 
 fn two_commands(alloc: Global) -> Result<Vec<Vec<String>>, AllocError> {
@@ -22,12 +23,9 @@ fn start_all_calmly(
     start_all(spawner, commands, children)
 }
 
-#[test]
-fn a_calm_spawner_keeps_the_words_of_each_start(rt: HostRuntime) -> Result<(), Fail> {
-    let alloc = rt.alloc();
-    let mut spawner = CalmSpawner::new(alloc, Vec::new(alloc));
+fn keeps_words(rt: &impl Abort, alloc: Global, spawner: &mut CalmSpawner) -> Result<(), Fail> {
     let mut children = Vec::new(alloc);
-    let started = start_all_calmly(&mut spawner, &two_commands(alloc)?, &mut children);
+    let started = start_all_calmly(spawner, &two_commands(alloc)?, &mut children);
     assert_eq!(rt;
         (started, children.len(), spawner.faults()),
         (AllStarted::Ok, 2, 0)
@@ -39,25 +37,33 @@ fn a_calm_spawner_keeps_the_words_of_each_start(rt: HostRuntime) -> Result<(), F
 }
 
 #[test]
-fn the_first_child_that_ends_badly_is_answered(rt: HostRuntime) -> Result<(), Fail> {
+fn a_calm_spawner_keeps_the_words_of_each_start(rt: HostRuntime) -> Result<(), Fail> {
     let alloc = rt.alloc();
-    let mut spawner = CalmSpawner::new(alloc, vec![in alloc; 0, 3, 4]?);
+    let mut spawner = CalmSpawner::new(alloc, Vec::new(alloc));
+    keeps_words(&rt, alloc, &mut spawner)
+}
+
+fn answers_the_second(rt: &impl Abort, spawner: &mut CalmSpawner) -> Result<(), Fail> {
     let children = [Child::new(0), Child::new(1), Child::new(2)];
     let bad = ChildWait {
         child: Child::new(1),
         status: Some(3),
     };
-    assert_eq!(rt; wait_all(&mut spawner, &children), Some(bad));
+    assert_eq!(rt; wait_all(spawner, &children), Some(bad));
     assert_eq!(rt; spawner.awaited().ok_or("told")?.len(), 3);
     Ok(())
 }
 
 #[test]
-fn a_start_fails_where_told(rt: HostRuntime) -> Result<(), Fail> {
+fn the_first_child_that_ends_badly_is_answered(rt: HostRuntime) -> Result<(), Fail> {
     let alloc = rt.alloc();
-    let mut spawner = MemSpawner::new(alloc, Vec::new(alloc), vec![in alloc; 2]?);
+    let mut spawner = CalmSpawner::new(alloc, vec![in alloc; 0, 3, 4]?);
+    answers_the_second(&rt, &mut spawner)
+}
+
+fn fails_a_start(rt: &impl Abort, alloc: Global, spawner: &mut MemSpawner) -> Result<(), Fail> {
     let mut children = Vec::new(alloc);
-    let started = start_all(&mut spawner, &two_commands(alloc)?, &mut children);
+    let started = start_all(spawner, &two_commands(alloc)?, &mut children);
     assert_eq!(rt;
         (started, children.len(), spawner.faults()),
         (AllStarted::Failed, 1, 1)
@@ -67,14 +73,25 @@ fn a_start_fails_where_told(rt: HostRuntime) -> Result<(), Fail> {
 }
 
 #[test]
-fn a_wait_fails_where_told_and_without_a_status(rt: HostRuntime) -> Result<(), Fail> {
+fn a_start_fails_where_told(rt: HostRuntime) -> Result<(), Fail> {
     let alloc = rt.alloc();
-    let statuses = vec![in alloc; Some(0), None]?;
-    let mut spawner = MemSpawner::new(alloc, statuses, vec![in alloc; 1]?);
+    let mut spawner = MemSpawner::new(alloc, Vec::new(alloc), vec![in alloc; 2]?);
+    fails_a_start(&rt, alloc, &mut spawner)
+}
+
+fn fails_two_waits(rt: &impl Abort, spawner: &mut MemSpawner) -> Result<(), Fail> {
     let [zero, one] = [Child::new(0), Child::new(1)];
     assert_eq!(rt; (spawner.wait(zero), spawner.faults()), (None, 1));
     assert_eq!(rt; (spawner.wait(zero), spawner.faults()), (Some(0), 1));
     assert_eq!(rt; (spawner.wait(one), spawner.faults()), (None, 2));
     assert_eq!(rt; spawner.awaited().ok_or("told")?.len(), 3);
     Ok(())
+}
+
+#[test]
+fn a_wait_fails_where_told_and_without_a_status(rt: HostRuntime) -> Result<(), Fail> {
+    let alloc = rt.alloc();
+    let statuses = vec![in alloc; Some(0), None]?;
+    let mut spawner = MemSpawner::new(alloc, statuses, vec![in alloc; 1]?);
+    fails_two_waits(&rt, &mut spawner)
 }

@@ -7,6 +7,7 @@ use roc_io::{
     read_two, write_all,
 };
 use std::alloc::{AllocError, Global};
+use std::process::Abort;
 use std::test::Fail;
 
 // One file, of the name plan.
@@ -22,10 +23,7 @@ fn read_two_calmly(files: &mut CalmFiles, first: &mut Vec<u8>, second: &mut Vec<
     read_two(files, ("plan", "none"), first, second, 4)
 }
 
-#[test]
-fn a_read_stops_at_the_limit(rt: HostRuntime) -> Result<(), Fail> {
-    let alloc = rt.alloc();
-    let mut files = MemFiles::new(alloc, one_file(alloc)?, Vec::new(alloc));
+fn reads_four(rt: &impl Abort, alloc: Global, files: &mut MemFiles) -> Result<(), Fail> {
     let mut into = b"before".to_vec(alloc)?;
     assert_eq!(rt; files.read("plan", &mut into, 4), Read::Ok);
     assert_eq!(rt; into.as_slice(), b"abcd".as_slice());
@@ -35,15 +33,26 @@ fn a_read_stops_at_the_limit(rt: HostRuntime) -> Result<(), Fail> {
 }
 
 #[test]
-fn a_read_fails_where_told_and_at_a_missing_name(rt: HostRuntime) -> Result<(), Fail> {
+fn a_read_stops_at_the_limit(rt: HostRuntime) -> Result<(), Fail> {
     let alloc = rt.alloc();
-    let mut files = MemFiles::new(alloc, one_file(alloc)?, vec![in alloc; 1]?);
+    let mut files = MemFiles::new(alloc, one_file(alloc)?, Vec::new(alloc));
+    reads_four(&rt, alloc, &mut files)
+}
+
+fn fails_two_reads(rt: &impl Abort, alloc: Global, files: &mut MemFiles) -> Result<(), Fail> {
     let mut into = b"before".to_vec(alloc)?;
     assert_eq!(rt; files.read("plan", &mut into, 4), Read::Failed);
     assert_eq!(rt; (into.len(), files.faults()), (0, 1));
     assert_eq!(rt; files.read("none", &mut into, 4), Read::Failed);
     assert_eq!(rt; files.faults(), 2);
     Ok(())
+}
+
+#[test]
+fn a_read_fails_where_told_and_at_a_missing_name(rt: HostRuntime) -> Result<(), Fail> {
+    let alloc = rt.alloc();
+    let mut files = MemFiles::new(alloc, one_file(alloc)?, vec![in alloc; 1]?);
+    fails_two_reads(&rt, alloc, &mut files)
 }
 
 #[test]
@@ -76,12 +85,26 @@ fn write_all_calmly(sink: &mut CalmSink, pieces: &[&[u8]]) -> Written
     write_all(sink, pieces)
 }
 
+fn takes_both(rt: &impl Abort, sink: &mut CalmSink) -> Result<(), Fail> {
+    let written = write_all_calmly(sink, &[b"ab".as_slice(), b"c".as_slice()]);
+    assert_eq!(rt; (written, sink.faults()), (Written::Ok, 0));
+    assert_eq!(rt; sink.bytes().ok_or("told")?, b"abc".as_slice());
+    Ok(())
+}
+
 #[test]
 fn a_calm_sink_takes_all_pieces(rt: HostRuntime) -> Result<(), Fail> {
     let mut sink = CalmSink::new(rt.alloc());
-    let written = write_all_calmly(&mut sink, &[b"ab".as_slice(), b"c".as_slice()]);
-    assert_eq!(rt; (written, sink.faults()), (Written::Ok, 0));
-    assert_eq!(rt; sink.bytes().ok_or("told")?, b"abc".as_slice());
+    takes_both(&rt, &mut sink)
+}
+
+fn takes_one_and_a_half(rt: &impl Abort, sink: &mut MemSink) -> Result<(), Fail> {
+    let written = write_all(
+        sink,
+        &[b"one ".as_slice(), b"two!".as_slice(), b"six".as_slice()],
+    );
+    assert_eq!(rt; (written, sink.faults()), (Written::Failed, 1));
+    assert_eq!(rt; sink.bytes().ok_or("told")?, b"one tw".as_slice());
     Ok(())
 }
 
@@ -89,11 +112,5 @@ fn a_calm_sink_takes_all_pieces(rt: HostRuntime) -> Result<(), Fail> {
 fn a_failed_write_takes_the_first_half(rt: HostRuntime) -> Result<(), Fail> {
     let alloc = rt.alloc();
     let mut sink = MemSink::new(alloc, vec![in alloc; 2]?);
-    let written = write_all(
-        &mut sink,
-        &[b"one ".as_slice(), b"two!".as_slice(), b"six".as_slice()],
-    );
-    assert_eq!(rt; (written, sink.faults()), (Written::Failed, 1));
-    assert_eq!(rt; sink.bytes().ok_or("told")?, b"one tw".as_slice());
-    Ok(())
+    takes_one_and_a_half(&rt, &mut sink)
 }

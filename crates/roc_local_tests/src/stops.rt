@@ -47,21 +47,38 @@ fn are_stops_to(rt: &impl Abort, sent: &[Datagram], wanted: &[Addr]) {
     }
 }
 
-#[test]
-fn each_server_gets_three_stops(rt: HostRuntime) -> Result<(), Fail> {
-    let alloc = rt.alloc();
-    let mut link = CalmLink::new(alloc, Vec::new(alloc));
+fn stops_all(rt: &impl Abort, alloc: Global, link: &mut CalmLink) -> Result<(), Fail> {
     let cluster = two_shards(alloc)?;
     assert_eq!(rt;
-        send_stops(alloc, *b"tagoften", &cluster, &mut link),
+        send_stops(alloc, *b"tagoften", &cluster, link),
         StopEnd::Done
     );
     assert_eq!(rt; link.bound().ok_or("told")?, [ANY].as_slice());
     are_stops_to(
-        &rt,
+        rt,
         link.sent().ok_or("told")?,
         &[FIRST, FIRST, FIRST, SECOND, SECOND, SECOND],
     );
+    Ok(())
+}
+
+#[test]
+fn each_server_gets_three_stops(rt: HostRuntime) -> Result<(), Fail> {
+    let alloc = rt.alloc();
+    let mut link = CalmLink::new(alloc, Vec::new(alloc));
+    stops_all(&rt, alloc, &mut link)
+}
+
+fn stops_some(
+    rt: &impl Abort,
+    alloc: Global,
+    link: &mut MemLink,
+    end: StopEnd,
+    wanted: &[Addr],
+) -> Result<(), Fail> {
+    let cluster = two_shards(alloc)?;
+    assert_eq!(rt; send_stops(alloc, *b"tagoften", &cluster, link), end);
+    are_stops_to(rt, link.sent().ok_or("told")?, wanted);
     Ok(())
 }
 
@@ -70,22 +87,14 @@ fn stops_that_fail_are_lost(rt: HostRuntime) -> Result<(), Fail> {
     let alloc = rt.alloc();
     let losing = vec![in alloc; 1, 5]?;
     let mut link = MemLink::new(alloc, Vec::new(alloc), Vec::new(alloc), losing);
-    let cluster = two_shards(alloc)?;
-    assert_eq!(rt;
-        send_stops(alloc, *b"tagoften", &cluster, &mut link),
-        StopEnd::Done
-    );
-    are_stops_to(
-        &rt,
-        link.sent().ok_or("told")?,
-        &[FIRST, FIRST, SECOND, SECOND],
-    );
+    let wanted = [FIRST, FIRST, SECOND, SECOND];
+    stops_some(&rt, alloc, &mut link, StopEnd::Done, &wanted)
+}
+
+#[test]
+fn no_stop_is_sent_where_the_bind_fails(rt: HostRuntime) -> Result<(), Fail> {
+    let alloc = rt.alloc();
     let failing = vec![in alloc; 1]?;
     let mut link = MemLink::new(alloc, Vec::new(alloc), failing, Vec::new(alloc));
-    assert_eq!(rt;
-        send_stops(alloc, *b"tagoften", &cluster, &mut link),
-        StopEnd::LinkFault
-    );
-    are_stops_to(&rt, link.sent().ok_or("told")?, &[]);
-    Ok(())
+    stops_some(&rt, alloc, &mut link, StopEnd::LinkFault, &[])
 }

@@ -1,8 +1,8 @@
 //! A run with servers as children, and a check of what it is to start, stop, await and write.
 use crate::datagrams::{Packet, TAG};
-use crate::outside::{Failing, Seen, have_seen, link_of, sink_of};
+use crate::outside::{Failing, Outside, Seen, have_seen, outside_of};
 use crate::workloads::Texts;
-use roc_io::{ChildStart, ChildWait, MemLink, MemSink, MemSpawner};
+use roc_io::{ChildStart, ChildWait, MemSpawner};
 use roc_local::{LocalEnd, run_local};
 use roc_sched::parse_requests;
 use std::alloc::{AllocError, Global};
@@ -73,9 +73,8 @@ fn run(
     alloc: Global,
     texts: Texts,
     requests: &[u8],
-    link: &mut MemLink,
+    outside: &mut Outside,
     spawner: &mut MemSpawner,
-    out: &mut MemSink,
 ) -> Result<LocalEnd, Fail> {
     let plan = texts.plan(alloc)?;
     let cluster = texts.cluster_of(alloc, &plan)?;
@@ -83,8 +82,52 @@ fn run(
     assert_eq!(rt; cluster.addrs().len(), shards);
     let requests = parse_requests(alloc, requests)?;
     Ok(run_local(
-        alloc, &plan, TAG, "w.rcw", "c.toml", &cluster, &requests, link, spawner, TURNS, out,
+        alloc,
+        &plan,
+        TAG,
+        "w.rcw",
+        "c.toml",
+        &cluster,
+        &requests,
+        &mut outside.link,
+        spawner,
+        TURNS,
+        &mut outside.out,
     ))
+}
+
+fn have_children(
+    rt: &impl Abort,
+    name: &str,
+    spawner: &MemSpawner,
+    family: Family,
+) -> Result<(), Fail> {
+    let started = spawner.started().ok_or("told")?;
+    are_started(rt, name, started, family.started);
+    let awaited = spawner.awaited().ok_or("told")?;
+    are_awaited(rt, name, awaited, family.awaited);
+    Ok(())
+}
+
+fn check_run(
+    rt: &impl Abort,
+    alloc: Global,
+    texts: Texts,
+    case: &Case,
+    outside: &mut Outside,
+    spawner: &mut MemSpawner,
+) -> Result<(), Fail> {
+    let end = run(rt, alloc, texts, case.requests, outside, spawner)?;
+    let name = case.seen.name;
+    assert_eq!(rt; end, case.end, "{name}");
+    have_seen(rt, outside, case.seen)?;
+    have_children(rt, name, spawner, case.family)
+}
+
+fn check_case(rt: &impl Abort, alloc: Global, texts: Texts, case: &Case) -> Result<(), Fail> {
+    let mut outside = outside_of(alloc, case.arrivals, case.failing)?;
+    let mut spawner = spawner_of(alloc, case.children)?;
+    check_run(rt, alloc, texts, case, &mut outside, &mut spawner)
 }
 
 /// Runs each case over the workload.
@@ -95,33 +138,7 @@ pub(crate) fn check(
     cases: &[Case],
 ) -> Result<(), Fail> {
     for case in cases {
-        let mut link = link_of(alloc, case.arrivals, case.failing)?;
-        let mut out = sink_of(alloc, case.failing)?;
-        let mut spawner = spawner_of(alloc, case.children)?;
-        let end = run(
-            rt,
-            alloc,
-            texts,
-            case.requests,
-            &mut link,
-            &mut spawner,
-            &mut out,
-        )?;
-        let name = case.seen.name;
-        assert_eq!(rt; end, case.end, "{name}");
-        have_seen(rt, &link, &out, case.seen)?;
-        are_started(
-            rt,
-            name,
-            spawner.started().ok_or("told")?,
-            case.family.started,
-        );
-        are_awaited(
-            rt,
-            name,
-            spawner.awaited().ok_or("told")?,
-            case.family.awaited,
-        );
+        check_case(rt, alloc, texts, case)?;
     }
     Ok(())
 }

@@ -24,11 +24,7 @@ pub(crate) struct Seen {
     pub lines: &'static [u8],
 }
 
-pub(crate) fn link_of(
-    alloc: Global,
-    arrivals: &[Packet],
-    failing: Failing,
-) -> Result<MemLink, AllocError> {
+fn link_of(alloc: Global, arrivals: &[Packet], failing: Failing) -> Result<MemLink, AllocError> {
     let arrivals = arrivals_of(alloc, arrivals)?;
     let mut calls = Vec::new(alloc);
     let mut sends = Vec::new(alloc);
@@ -40,7 +36,7 @@ pub(crate) fn link_of(
     Ok(MemLink::new(alloc, arrivals, calls, sends))
 }
 
-pub(crate) fn sink_of(alloc: Global, failing: Failing) -> Result<MemSink, AllocError> {
+fn sink_of(alloc: Global, failing: Failing) -> Result<MemSink, AllocError> {
     let mut writes = Vec::new(alloc);
     if let Failing::Write(number) = failing {
         writes.push(number)?;
@@ -48,13 +44,27 @@ pub(crate) fn sink_of(alloc: Global, failing: Failing) -> Result<MemSink, AllocE
     Ok(MemSink::new(alloc, writes))
 }
 
+/// The link and the sink of a node.
+#[derive(Drop)]
+pub(crate) struct Outside {
+    pub link: MemLink,
+    pub out: MemSink,
+}
+
+pub(crate) fn outside_of(
+    alloc: Global,
+    arrivals: &[Packet],
+    failing: Failing,
+) -> Result<Outside, AllocError> {
+    Ok(Outside {
+        link: link_of(alloc, arrivals, failing)?,
+        out: sink_of(alloc, failing)?,
+    })
+}
+
 /// Asserts that a link and a sink have seen exactly this.
-pub(crate) fn have_seen(
-    rt: &impl Abort,
-    link: &MemLink,
-    out: &MemSink,
-    seen: Seen,
-) -> Result<(), Fail> {
+pub(crate) fn have_seen(rt: &impl Abort, outside: &Outside, seen: Seen) -> Result<(), Fail> {
+    let (link, out) = (&outside.link, &outside.out);
     let name = seen.name;
     assert_eq!(rt; link.bound().ok_or("told")?, seen.bound, "{name}");
     are_sent(rt, name, link.sent().ok_or("told")?, seen.sent);

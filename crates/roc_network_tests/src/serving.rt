@@ -5,10 +5,10 @@ use crate::datagrams::{
     START_OF_PROCEDURE_1, START_WITHOUT_ARGUMENTS, STARTOK, STARTOK_BEHIND_FIRST, STOP,
     STRANGE_START, TAG,
 };
-use crate::outside::{Failing, Seen, have_seen, link_of, sink_of};
+use crate::outside::{Failing, Outside, Seen, have_seen, outside_of};
 use crate::workloads::{BANK, COUNTER, FIRST_SHARD, Texts};
 use roc_base::Shard;
-use roc_io::{Addr, MemLink, MemSink};
+use roc_io::Addr;
 use roc_node::{ServeEnd, serve};
 use std::alloc::Global;
 use std::process::Abort;
@@ -40,15 +40,15 @@ fn serve_first(
     alloc: Global,
     texts: Texts,
     counts: bool,
-    link: &mut MemLink,
+    outside: &mut Outside,
     turns: u32,
-    out: &mut MemSink,
 ) -> Result<ServeEnd, Fail> {
     let plan = texts.plan(alloc)?;
     let cluster = texts.cluster_of(alloc, &plan)?;
     let shards = usize::from(plan.workload().shards());
     assert_eq!(rt; cluster.addrs().len(), shards);
     assert!(rt; shards > 0);
+    let Outside { link, out } = outside;
     Ok(serve(
         alloc,
         &plan,
@@ -62,6 +62,20 @@ fn serve_first(
     ))
 }
 
+fn check_run(
+    rt: &impl Abort,
+    alloc: Global,
+    texts: Texts,
+    counts: bool,
+    case: &Case,
+    outside: &mut Outside,
+) -> Result<(), Fail> {
+    let end = serve_first(rt, alloc, texts, counts, outside, case.turns)?;
+    let name = case.seen.name;
+    assert_eq!(rt; end, case.end, "{name}");
+    have_seen(rt, outside, case.seen)
+}
+
 fn check(
     rt: &impl Abort,
     alloc: Global,
@@ -70,12 +84,8 @@ fn check(
     cases: &[Case],
 ) -> Result<(), Fail> {
     for case in cases {
-        let mut link = link_of(alloc, case.arrivals, case.failing)?;
-        let mut out = sink_of(alloc, case.failing)?;
-        let end = serve_first(rt, alloc, texts, counts, &mut link, case.turns, &mut out)?;
-        let name = case.seen.name;
-        assert_eq!(rt; end, case.end, "{name}");
-        have_seen(rt, &link, &out, case.seen)?;
+        let mut outside = outside_of(alloc, case.arrivals, case.failing)?;
+        check_run(rt, alloc, texts, counts, case, &mut outside)?;
     }
     Ok(())
 }

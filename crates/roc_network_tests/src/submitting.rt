@@ -1,8 +1,7 @@
 //! Coordinators that submit requests: silence, answers and calls that fail.
 use crate::datagrams::{COMMIT, COMMITOK, Packet, START, STARTOK, STRANGE_START, TAG};
-use crate::outside::{Failing, Seen, have_seen, link_of, sink_of};
+use crate::outside::{Failing, Outside, Seen, have_seen, outside_of};
 use crate::workloads::{ANY, COUNTER, FIRST_SHARD};
-use roc_io::{MemLink, MemSink};
 use roc_node::{SubmitEnd, submit_all};
 use roc_sched::parse_requests;
 use std::alloc::Global;
@@ -25,26 +24,34 @@ fn submit(
     rt: &impl Abort,
     alloc: Global,
     requests: &[u8],
-    link: &mut MemLink,
+    outside: &mut Outside,
     turns: u32,
-    out: &mut MemSink,
 ) -> Result<SubmitEnd, Fail> {
     let plan = COUNTER.plan(alloc)?;
     let cluster = COUNTER.cluster_of(alloc, &plan)?;
     let shards = usize::from(plan.workload().shards());
     assert_eq!(rt; cluster.addrs().len(), shards);
     let requests = parse_requests(alloc, requests)?;
+    let Outside { link, out } = outside;
     Ok(submit_all(alloc, &plan, TAG, 0, &cluster, &requests, link, turns, out))
+}
+
+fn check_run(
+    rt: &impl Abort,
+    alloc: Global,
+    case: &Case,
+    outside: &mut Outside,
+) -> Result<(), Fail> {
+    let end = submit(rt, alloc, case.requests, outside, case.turns)?;
+    let name = case.seen.name;
+    assert_eq!(rt; end, case.end, "{name}");
+    have_seen(rt, outside, case.seen)
 }
 
 fn check(rt: &impl Abort, alloc: Global, cases: &[Case]) -> Result<(), Fail> {
     for case in cases {
-        let mut link = link_of(alloc, case.arrivals, case.failing)?;
-        let mut out = sink_of(alloc, case.failing)?;
-        let end = submit(rt, alloc, case.requests, &mut link, case.turns, &mut out)?;
-        let name = case.seen.name;
-        assert_eq!(rt; end, case.end, "{name}");
-        have_seen(rt, &link, &out, case.seen)?;
+        let mut outside = outside_of(alloc, case.arrivals, case.failing)?;
+        check_run(rt, alloc, case, &mut outside)?;
     }
     Ok(())
 }

@@ -5,6 +5,8 @@ use Rattle.roc_io.specs.declared.link.Addr.{Addr}
 use Rattle.roc_io.specs.Packet.{Packet}
 use Rattle.roc_io.specs.Told.{Adds, AddsFront}
 use Rattle.roc_io.proofs.Told.{Adds-trans, AddsThenFront-behind}
+use Rattle.roc_plan.specs.Groups.{Plan}
+use Rattle.roc_wire.specs.declared.header.Header.{Header}
 use Rattle.roc_post.specs.Moves.{LinkView, Moves}
 use Rattle.roc_post.proofs.Moving.{Moves-behind}
 use Rattle.roc_node.specs.declared.station.Station.{Station}
@@ -24,6 +26,11 @@ unwrap (Some a) d = a
 -- the address that was bound is the shard's
 own_bound : (at : Option Addr) (own found : Addr) (old new : Option (List Addr)) → at ≡ Some own → at ≡ Some found → Adds old new (found ∷ []) → Adds old new (own ∷ [])
 own_bound at own found old new p q h = subst (λ a. Adds old new (a ∷ [])) (ap (λ o. unwrap o own) (sym q ∙ p)) h
+
+-- under the header that it is given
+pub ends_headed : (plan : Plan) (cluster : List Addr) (h k : Header) (shard : Shard) (own : Addr) (turns : ℕ) (counts : Bool) (call : ServeCall) (e : ServeEnd) → h ≡ k
+    → Serves (record { plan = plan; header = h; cluster = cluster }) shard own turns counts call e → Serves (record { plan = plan; header = k; cluster = cluster }) shard own turns counts call e
+ends_headed plan cluster h k shard own turns counts call e same = subst (λ v. Serves (record { plan = plan; header = v; cluster = cluster }) shard own turns counts call e) same
 
 module _ (S : NodeSetting) (shard : Shard) (own found : Addr) (turns : ℕ) (counts : Bool) (call : ServeCall) (at : Option Addr) (is : at ≡ Some own) (has : at ≡ Some found) where
   pub ends_unserved : (piece : List ℕ) → Adds call.bound_old call.bound_new (found ∷ []) → Moves call.link_old call.link_new [] [] → piece ≡ first_text shard → AddsFront call.out_old call.out_new piece

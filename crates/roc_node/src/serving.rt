@@ -56,10 +56,55 @@ pub fn serve<L: Link, S: Sink>(
         result }
 {
     let header = own_header(plan, tag, shard);
-    let mut station = match open_station(alloc, plan, shard) {
-        Ok(station) => station,
-        Err(_) => return ServeEnd::NoMemory,
-    };
+    match open_station(alloc, plan, shard) {
+        Ok(mut station) => serve_from(
+            alloc,
+            plan,
+            cluster,
+            &header,
+            shard,
+            &mut station,
+            counts,
+            link,
+            turns,
+            out,
+        ),
+        Err(_) => ServeEnd::NoMemory,
+    }
+}
+
+// Serves from what a server keeps before any turn.
+fn serve_from<L: Link, S: Sink>(
+    alloc: Global,
+    plan: &Plan,
+    cluster: &Cluster,
+    header: &Header,
+    shard: Shard,
+    station: &mut Station,
+    counts: bool,
+    link: &mut L,
+    turns: u32,
+    out: &mut S,
+) -> ServeEnd
+    requires cluster { length cluster.now ≡ plan.now.program.shards }
+    requires shard { shard.0 < plan.now.program.shards }
+    requires header { FitsHeader header.now }
+    requires first { station.old ≡ first_station plan.now shard }
+    requires fits { ServerFits plan.now station.old.server }
+    ensures link_cause { HasCause (serve_link_failed result) (L.faults link.old) (L.faults link.new) }
+    ensures sink_cause { HasCause (serve_sink_failed result) (S.faults out.old) (S.faults out.new) }
+    ensures serves { (own : Addr) → slice_get cluster.now shard.0 ≡ Some own
+        → Serves (record { plan = plan.now; header = header.now; cluster = cluster.now }) shard own turns counts
+        (record {
+          bound_old = L.bound link.old;
+          bound_new = L.bound link.new;
+          link_old = record { arrivals = L.arrivals link.old; sent = L.sent link.old; lost = L.lost link.old };
+          link_new = record { arrivals = L.arrivals link.new; sent = L.sent link.new; lost = L.lost link.new };
+          out_old = S.taken out.old;
+          out_new = S.taken out.new;
+        })
+        result }
+{
     let first = match first_text(alloc, shard) {
         Ok(first) => first,
         Err(_) => return ServeEnd::NoMemory,
@@ -72,17 +117,8 @@ pub fn serve<L: Link, S: Sink>(
         Written::Failed => return ServeEnd::SinkFault,
         Written::Ok => {}
     }
-    match run_turns(
-        alloc,
-        plan,
-        cluster,
-        &header,
-        shard,
-        &mut station,
-        link,
-        turns,
-    ) {
-        RunEnd::Over(stopped) => close(alloc, shard, stopped, counts, &station, out),
+    match run_turns(alloc, plan, cluster, header, shard, station, link, turns) {
+        RunEnd::Over(stopped) => close(alloc, shard, stopped, counts, station, out),
         RunEnd::NoMemory => ServeEnd::NoMemory,
         RunEnd::LinkFault => ServeEnd::LinkFault,
     }

@@ -1,4 +1,4 @@
-//! What a server makes of messages that no honest node sends, and of repeated ones.
+//! What a server makes of messages that no honest node sends, and of repeated ones; and the entries that a start is given.
 ghost use Rattle.std.specs.Prelude.{◌≡◌, ◌<◌};
 ghost use Rattle.roc_server.specs.Fits.{ServerFits};
 
@@ -150,7 +150,24 @@ fn handles_all(
     Ok(())
 }
 
-// Has messages handled in turn by a new server of a plan, which sends so many in all.
+// Has messages handled in turn by a server, which sends so many in all.
+fn sends(
+    rt: &impl Abort,
+    alloc: Global,
+    plan: &Plan,
+    server: &mut Server,
+    cases: &[Case],
+    sent: usize,
+) -> Result<(), Fail>
+    requires fits { ServerFits plan.now server.old }
+{
+    let mut out = Outbox::new(alloc);
+    handles_all(rt, alloc, plan, server, cases, &mut out)?;
+    assert_eq!(rt; out.messages.len(), sent);
+    Ok(())
+}
+
+// The same of a new server.
 fn check(
     rt: &impl Abort,
     alloc: Global,
@@ -159,10 +176,7 @@ fn check(
     sent: usize,
 ) -> Result<(), Fail> {
     let mut server = Server::new(alloc, plan, Shard(0))?;
-    let mut out = Outbox::new(alloc);
-    handles_all(rt, alloc, plan, &mut server, cases, &mut out)?;
-    assert_eq!(rt; out.messages.len(), sent);
-    Ok(())
+    sends(rt, alloc, plan, &mut server, cases, sent)
 }
 
 // The entries of a second transaction's group that would write the counter.
@@ -194,7 +208,30 @@ fn entries(plan: &Plan, server: &Server, class: Class) -> Result<Edges, Fail>
     counted_entries::<Brand>(plan, server, class, Blank::new(1))
 }
 
-// The entries of each class, deferrable first, after messages that are handled in turn by a new server of a plan.
+// The entries of each class, deferrable first.
+fn entries_of_both(plan: &Plan, server: &Server) -> Result<(Edges, Edges), Fail>
+    requires fits { ServerFits plan.now server.now }
+{
+    let deferrable = entries(plan, server, Class::Deferrable)?;
+    Ok((deferrable, entries(plan, server, Class::Immediate)?))
+}
+
+// The same after messages that are handled in turn.
+fn entries_after(
+    rt: &impl Abort,
+    alloc: Global,
+    plan: &Plan,
+    server: &mut Server,
+    cases: &[Case],
+) -> Result<(Edges, Edges), Fail>
+    requires fits { ServerFits plan.now server.old }
+{
+    let mut out = Outbox::new(alloc);
+    handles_all(rt, alloc, plan, server, cases, &mut out)?;
+    entries_of_both(plan, server)
+}
+
+// The same of a new server.
 fn entries_behind(
     rt: &impl Abort,
     alloc: Global,
@@ -202,12 +239,7 @@ fn entries_behind(
     cases: &[Case],
 ) -> Result<(Edges, Edges), Fail> {
     let mut server = Server::new(alloc, plan, Shard(0))?;
-    let mut out = Outbox::new(alloc);
-    handles_all(rt, alloc, plan, &mut server, cases, &mut out)?;
-    Ok((
-        entries(plan, &server, Class::Deferrable)?,
-        entries(plan, &server, Class::Immediate)?,
-    ))
+    entries_after(rt, alloc, plan, &mut server, cases)
 }
 
 #[test]

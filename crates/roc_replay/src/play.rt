@@ -3,6 +3,7 @@ ghost use Rattle.std.specs.Prelude.{◌≡◌, ℕ, ◌≤◌, List, length, Som
 ghost use Rattle.std.specs.List.{AllByRecursion};
 ghost use Rattle.roc_io.specs.Cause.{HasCause};
 ghost use Rattle.roc_protocol.specs.Fits.{FitsWorld};
+ghost use Rattle.roc_protocol.specs.World.{first_world};
 ghost use Rattle.roc_protocol.specs.Run.{IsEventOf};
 ghost use Rattle.roc_replay.specs.Asked.{IsScheduleOf, WantedFits, coordinators, chosen, event_in};
 ghost use Rattle.roc_replay.specs.Inner.Closed.{IsClosed, asks_unsent, wants_unsent};
@@ -33,10 +34,27 @@ pub fn play<S: Sink>(alloc: Global, plan: &Plan, lines: &[Asked], sink: &mut S) 
     ensures ends { (schedule : List ℕ) → IsScheduleOf plan.now.program schedule lines.now → IsEnd plan.now schedule result (S.taken sink.old) (S.taken sink.new) }
     ensures sink { HasCause (is_sink_fault result) (S.faults sink.old) (S.faults sink.new) }
 {
-    report_explains_itself();
     let Ok(mut world) = World::new(alloc, plan, COORDINATORS) else {
         return Ended::NoMemory;
     };
+    play_lines(alloc, plan, lines, &mut world, sink)
+}
+
+// The same, from the first world.
+fn play_lines<S: Sink>(
+    alloc: Global,
+    plan: &Plan,
+    lines: &[Asked],
+    world: &mut World,
+    sink: &mut S,
+) -> Ended
+    requires fits { AllByRecursion (λ line. WantedFits plan.now.program line.wanted) lines.now }
+    requires first { world.old ≡ first_world plan.now coordinators }
+    requires world { FitsWorld plan.now world.old }
+    ensures ends { (schedule : List ℕ) → IsScheduleOf plan.now.program schedule lines.now → IsEnd plan.now schedule result (S.taken sink.old) (S.taken sink.new) }
+    ensures sink { HasCause (is_sink_fault result) (S.faults sink.old) (S.faults sink.new) }
+{
+    report_explains_itself();
     let mut busy = 0;
     for line in lines {
         if is_unsent(&line.wanted, world.sent().len()) {
@@ -45,7 +63,7 @@ pub fn play<S: Sink>(alloc: Global, plan: &Plan, lines: &[Asked], sink: &mut S) 
                 what: What::Message,
             };
         }
-        let Ok(played) = play_line(alloc, plan, &mut world, &line.wanted) else {
+        let Ok(played) = play_line(alloc, plan, world, &line.wanted) else {
             return Ended::NoMemory;
         };
         busy += played.busy;
@@ -53,7 +71,7 @@ pub fn play<S: Sink>(alloc: Global, plan: &Plan, lines: &[Asked], sink: &mut S) 
             return Ended::SinkFault;
         }
     }
-    close(alloc, plan.workload(), &world, busy, sink)
+    close(alloc, plan.workload(), world, busy, sink)
 }
 
 // Writes the closing lines.

@@ -48,4 +48,12 @@ impl Kept {
             index: Index::new(alloc),
         }
     }
+
+    // Keeps nothing any more.
+    pub(crate) fn clear(&mut self, alloc: Global)
+        ensures started { self.new.started ≡ [] }
+        ensures sound { IsConsistent self.new }
+    {
+        *self = Kept::new(alloc, Rows::new(alloc));
+    }
 }

@@ -22,7 +22,7 @@ use roc_base::{Edges, NoMemory, Shard, TxnId};
 use roc_group::Access;
 use roc_msg::{Msg, NodeFault, Outbox, Reason};
 use roc_plan::{Class, Known, Plan};
-use roc_rows::{Cell, Rows};
+use roc_rows::Cell;
 use roc_steps::Steps;
 use std::alloc::Global;
 use std::marker::Model;
@@ -93,7 +93,7 @@ impl Server {
             Ok(handled) => Ok(handled),
             Err(NoMemory) => {
                 // A part may be done and another not, so nothing is kept.
-                self.kept = Kept::new(self.alloc, Rows::new(self.alloc));
+                self.kept.clear(self.alloc);
                 self.stopped = true;
                 Err(NodeFault::NoMemory)
             }
@@ -116,7 +116,7 @@ impl Server {
         match fetch_again(self.shard, &self.kept.deps, self.kept.waits.asked(), out) {
             Ok(()) => Ok(()),
             Err(NoMemory) => {
-                self.kept = Kept::new(self.alloc, Rows::new(self.alloc));
+                self.kept.clear(self.alloc);
                 self.stopped = true;
                 Err(NodeFault::NoMemory)
             }

@@ -1,5 +1,5 @@
 //! The groups that have started on a server, found by their transactions.
-ghost use Rattle.std.specs.Prelude.{◌≡◌, ◌<◌, ◌++◌, ◌∷◌, [], length, map, position, slice_get, slice_set, vec_len, Some, OnOk};
+ghost use Rattle.std.specs.Prelude.{◌≡◌, ◌<◌, ◌++◌, ◌∷◌, [], length, map, position, slice_get, slice_set, vec_len, vec_capacity, Some, OnOk, OnErr};
 ghost use Rattle.roc_base.specs.TxnId.{is_txn};
 ghost use Rattle.roc_places.specs.Places.{places_from};
 ghost use Rattle.roc_server.specs.declared.started.StartedGroup.{StartedGroup as Group};
@@ -50,8 +50,7 @@ impl StartedGroups {
     pub(crate) fn push(&mut self, group: StartedGroup) -> Result<(), NoMemory>
         ensures { OnOk result (self.new ≡ self.old ++ group ∷ []) }
     {
-        self.groups.reserve(1)?;
-        self.places.push(group.id)?;
+        expect(&mut self.groups, &mut self.places, group.id)?;
         self.groups.push(group).unwrap();
         Ok(())
     }
@@ -77,6 +76,17 @@ impl StartedGroups {
     {
         set_later(&mut self.groups, at, given);
     }
+}
+
+// Makes room for a group of this transaction, and notes where it will stand.
+fn expect(groups: &mut Vec<StartedGroup>, places: &mut Places, id: TxnId) -> Result<(), NoMemory>
+    ensures groups { groups.new.items ≡ groups.old.items }
+    ensures room { OnOk result (vec_len groups.new < vec_capacity groups.new) }
+    ensures ok { OnOk result (places.new ≡ places.old ++ id ∷ []) }
+    ensures err { OnErr result (places.new ≡ places.old) }
+{
+    groups.reserve(1)?;
+    places.push(id)
 }
 
 // Keeps with the group at an index what it gave.

@@ -7,33 +7,33 @@ use Rattle.roc_replay.specs.declared.asked.Asked.{Asked}
 use Rattle.roc_replay.specs.Inner.Closed.{IsClosed, wants_unsent}
 use Rattle.roc_replay.proofs.Exits.{unsent_end, stopped_end, failed_end, closed_end}
 use Rattle.roc_replay.proofs.SoFar.{IsSoFar, nothing_so_far, one_more}
-use Rattle.roc_replay.proofs.play.play.Goals as goal
+use Rattle.roc_replay.proofs.play.play_lines.Goals as goal
 
 pub loop-line-init : goal.loop-line-init
-loop-line-init g c = (refl, nothing_so_far c.args.plan.now c.in-Ok.world _ c.in-Ok.ensures.first c.in-Ok.ensures.fits)
+loop-line-init g c = (refl, nothing_so_far c.args.plan.now c.args.world.now _ c.requires.first c.requires.world)
 
 pub returns-then-is_unsent-clause-ends : goal.returns-then-is_unsent-clause-ends
 returns-then-is_unsent-clause-ends g c schedule of =
     let asks : wants_unsent c.line-item.result.wanted (length c.loop-line.world.sent) ≡ true = cc in
     (refl, unsent_end c.args.plan.now schedule c.args.lines.now of c.loop-line.line-index c.line-item.result c.loop-line.world c.loop-line.busy _ _ c.loop-line-test.true c.line-item.is c.loop-line.invariant.1 asks)
 
-pub returns-in_default-play_line-clause-ends : goal.returns-in_default-play_line-clause-ends
-returns-in_default-play_line-clause-ends g c schedule of =
+pub returns-in_default-clause-ends : goal.returns-in_default-clause-ends
+returns-in_default-clause-ends g c schedule of =
     stopped_end c.args.plan.now schedule c.args.lines.now of c.loop-line.line-index c.loop-line.world c.loop-line.busy _ _ c.loop-line.invariant.1
 
 pub returns-in-Failed-clause-ends : goal.returns-in-Failed-clause-ends
 returns-in-Failed-clause-ends g c schedule of =
-    failed_end c.args.plan.now schedule c.args.lines.now of c.loop-line.line-index c.line-item.result c.loop-line.world c.play_line.new.world _ c.loop-line.busy c.in-Ok-play_line.played.busy _ _ _
-    c.loop-line-test.true c.line-item.is c.loop-line.invariant.1 c.in-Ok-play_line.ensures.played
+    failed_end c.args.plan.now schedule c.args.lines.now of c.loop-line.line-index c.line-item.result c.loop-line.world c.play_line.new.world _ c.loop-line.busy c.in-Ok.played.busy _ _ _
+    c.loop-line-test.true c.line-item.is c.loop-line.invariant.1 c.in-Ok.ensures.played
     (subst (AddsFront (g.S.Sink.taken c.loop-line.sink) (g.S.Sink.taken c.write.new.self)) c.deref.ensures.value c.in-Failed.ensures.taken)
 
 pub loop-line-preserved : goal.loop-line-preserved
 loop-line-preserved g c = (
   c.in_default-write.ensures.cause ∙ c.loop-line.invariant.0,
-  subst (λ (lines : List Asked). IsSoFar c.args.plan.now lines c.play_line.new.world (c.loop-line.busy + c.in-Ok-play_line.played.busy) (g.S.Sink.taken c.args.sink.now) (g.S.Sink.taken c.write.new.self))
+  subst (λ (lines : List Asked). IsSoFar c.args.plan.now lines c.play_line.new.world (c.loop-line.busy + c.in-Ok.played.busy) (g.S.Sink.taken c.args.sink.now) (g.S.Sink.taken c.write.new.self))
       (front_more c.args.lines.now c.loop-line.line-index c.line-item.result c.loop-line-test.true c.line-item.is)
-      (one_more c.args.plan.now (take c.loop-line.line-index c.args.lines.now) c.line-item.result c.loop-line.world c.play_line.new.world _ c.loop-line.busy c.in-Ok-play_line.played.busy _ _ _
-      c.loop-line.invariant.1 c.in-Ok-play_line.ensures.played c.in-Ok-play_line.ensures.fits c.in-Ok-play_line.ensures.coords c.in-Ok-play_line.ensures.few
+      (one_more c.args.plan.now (take c.loop-line.line-index c.args.lines.now) c.line-item.result c.loop-line.world c.play_line.new.world _ c.loop-line.busy c.in-Ok.played.busy _ _ _
+      c.loop-line.invariant.1 c.in-Ok.ensures.played c.in-Ok.ensures.fits c.in-Ok.ensures.coords c.in-Ok.ensures.few
       (subst (Adds (g.S.Sink.taken c.loop-line.sink) (g.S.Sink.taken c.write.new.self)) c.deref.ensures.value c.in_default-write.ensures.taken)),
 )
 

@@ -1,7 +1,7 @@
 -- the lines so far were played, the sink took their text, and it has not failed
 use Rattle.std.proofs.Common.{◌≡◌, take}
 use Rattle.roc_replay.proofs.SoFar.{IsSoFar}
-use Rattle.roc_replay.proofs.play.play.Given as goal
+use Rattle.roc_replay.proofs.play.play_lines.Given as goal
 
 abbrev pub invariant-loop-line : goal.invariant-loop-line
 invariant-loop-line g l =
