@@ -16,15 +16,15 @@ use Rattle.roc_base.specs.Inner.Equalities.{is_txn-true, is_txn-same}
 use Rattle.roc_depgraph.specs.declared.known.KnownList.{KnownList}
 use Rattle.roc_depgraph.specs.Deps.{entries_of, Precedes, PrecedesNow}
 use Rattle.roc_depgraph.proofs.Listed.{has_under, under_has, has_listed, listed_has}
-use Rattle.roc_component.specs.Inner.Before.{ids_of, now_among, outside, leading_to}
+use Rattle.roc_component.specs.Inner.Before.{from_ids, now_among, outside, leading_to}
 
 -- the ids of entries
-pub listed_ids : (es : List Dependency) (u : TxnId) → list_any (λ d. is_txn d.from u) es ≡ true → IsListed is_txn (ids_of es) u
+pub listed_ids : (es : List Dependency) (u : TxnId) → list_any (λ d. is_txn d.from u) es ≡ true → IsListed is_txn (from_ids es) u
 listed_ids es u h =
     let d = any_has (λ (d : Dependency). is_txn d.from u) es h in
-    subst (IsListed is_txn (ids_of es)) (is_txn-true d.0.from u d.2) (under_has (λ d. d.from) es d.0 d.1)
+    subst (IsListed is_txn (from_ids es)) (is_txn-true d.0.from u d.2) (under_has (λ d. d.from) es d.0 d.1)
 
-pub from_listed_ids : (es : List Dependency) (u : TxnId) → IsListed is_txn (ids_of es) u → list_any (λ d. is_txn d.from u) es ≡ true
+pub from_listed_ids : (es : List Dependency) (u : TxnId) → IsListed is_txn (from_ids es) u → list_any (λ d. is_txn d.from u) es ≡ true
 from_listed_ids es u h =
     let d = has_under (λ (d : Dependency). d.from) es u h in
     has_any (λ d. is_txn d.from u) es d.0 d.1 (subst (λ v. is_txn v u ≡ true) (sym d.2) (is_txn-same u))
@@ -66,21 +66,21 @@ module _ (known : List KnownList) (c : List TxnId) where
   pub listed_leading : (some : List TxnId) (t u : TxnId) → Has t some → Precedes known u t → is_out u → IsListed is_txn (leading_to known c some) u
   listed_leading [] t u h p n = absurd h
   listed_leading (x ∷ some) t u (inl e) p n =
-      listed_front is_txn (outside c (ids_of (entries_of known x))) (leading_to known c some) u
-      (listed_outside (ids_of (entries_of known x)) u (listed_ids (entries_of known x) u (subst (Precedes known u) e p)) n)
-  listed_leading (x ∷ some) t u (inr h) p n = listed_behind is_txn (outside c (ids_of (entries_of known x))) (leading_to known c some) u (listed_leading some t u h p n)
+      listed_front is_txn (outside c (from_ids (entries_of known x))) (leading_to known c some) u
+      (listed_outside (from_ids (entries_of known x)) u (listed_ids (entries_of known x) u (subst (Precedes known u) e p)) n)
+  listed_leading (x ∷ some) t u (inr h) p n = listed_behind is_txn (outside c (from_ids (entries_of known x))) (leading_to known c some) u (listed_leading some t u h p n)
 
   pub from_listed_leading : (some : List TxnId) (u : TxnId) → IsListed is_txn (leading_to known c some) u → is_out u × ((t : TxnId) × Has t some × Precedes known u t)
   from_listed_leading [] u h = absurd (omega arith)
   from_listed_leading (x ∷ some) u h =
-      elim (listed_either is_txn (outside c (ids_of (entries_of known x))) (leading_to known c some) u h) [
-        | inl k ↦ (let f = from_listed_outside (ids_of (entries_of known x)) u k in (f.0, (x, inl refl, from_listed_ids (entries_of known x) u f.1)))
+      elim (listed_either is_txn (outside c (from_ids (entries_of known x))) (leading_to known c some) u h) [
+        | inl k ↦ (let f = from_listed_outside (from_ids (entries_of known x)) u k in (f.0, (x, inl refl, from_listed_ids (entries_of known x) u f.1)))
         | inr k ↦ (let f = from_listed_leading some u k.1 in (f.0, (f.1.0, inr f.1.1, f.1.2)))
       ]
 
 -- what is looked at before a member are its predecessors
-pub todo_are : (known : List KnownList) (t : TxnId) (ids : List TxnId) → ids ≡ ids_of (entries_of known t) → (u : TxnId) → (Has u ids → Precedes known u t) × (Precedes known u t → Has u ids)
+pub todo_are : (known : List KnownList) (t : TxnId) (ids : List TxnId) → ids ≡ from_ids (entries_of known t) → (u : TxnId) → (Has u ids → Precedes known u t) × (Precedes known u t → Has u ids)
 todo_are known t ids e u = (
-  λ h. from_listed_ids (entries_of known t) u (has_listed (ids_of (entries_of known t)) u (subst (Has u) e h)),
-  λ p. subst (Has u) (sym e) (listed_has (ids_of (entries_of known t)) u (listed_ids (entries_of known t) u p)),
+  λ h. from_listed_ids (entries_of known t) u (has_listed (from_ids (entries_of known t)) u (subst (Has u) e h)),
+  λ p. subst (Has u) (sym e) (listed_has (from_ids (entries_of known t)) u (listed_ids (entries_of known t) u p)),
 )

@@ -2,7 +2,7 @@
 ghost use Rattle.std.specs.Prelude.{◌≡◌, IfOk, filter};
 ghost use Rattle.std.specs.List.Sorted.{IsStrictlySortedBy};
 ghost use Rattle.roc_base.specs.TxnId.{txn_cmp};
-ghost use Rattle.roc_component.specs.Inner.Before.{ids_of, leading_to, now_among, outside};
+ghost use Rattle.roc_component.specs.Inner.Before.{from_ids, leading_to, now_among, outside};
 ghost use Rattle.roc_depgraph.specs.Deps.{entries_of};
 
 use crate::within::among;
@@ -12,7 +12,7 @@ use std::alloc::Global;
 
 // The ids of a transaction's entries.
 pub(crate) fn before(alloc: Global, lists: &Deps, of: TxnId) -> Result<Vec<TxnId>, NoMemory>
-    ensures { IfOk result (λ ids. ids.items ≡ ids_of (entries_of lists.now of)) }
+    ensures { IfOk result (λ ids. ids.items ≡ from_ids (entries_of lists.now of)) }
 {
     match lists.list(of) {
         None => Ok(Vec::new(alloc)),
@@ -21,7 +21,7 @@ pub(crate) fn before(alloc: Global, lists: &Deps, of: TxnId) -> Result<Vec<TxnId
 }
 
 fn from_ids(alloc: Global, edges: &[Edge]) -> Result<Vec<TxnId>, NoMemory>
-    ensures { IfOk result (λ ids. ids.items ≡ ids_of edges.now) }
+    ensures { IfOk result (λ ids. ids.items ≡ from_ids edges.now) }
 {
     Ok(edges.iter().map(|edge| edge.from()).collect(alloc)?)
 }
@@ -46,7 +46,7 @@ pub(crate) fn immediate_among(
 }
 
 fn immediate(alloc: Global, edges: &[Edge]) -> Result<Vec<TxnId>, NoMemory>
-    ensures { IfOk result (λ found. found.items ≡ ids_of (filter (λ d. d.imm) edges.now)) }
+    ensures { IfOk result (λ found. found.items ≡ from_ids (filter (λ d. d.imm) edges.now)) }
 {
     Ok(
         edges

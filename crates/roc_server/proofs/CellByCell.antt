@@ -21,7 +21,7 @@ use Rattle.roc_index.specs.declared.spot.Spot.{Spot}
 use Rattle.roc_index.specs.Spots.{spots_at}
 use Rattle.roc_plan.specs.Groups.{Plan, is_immediate_of}
 use Rattle.roc_server.specs.declared.started.StartedGroup.{StartedGroup}
-use Rattle.roc_server.specs.Start.{comes_before, edge_to, uses_cell}
+use Rattle.roc_server.specs.Start.{conflicts_before, edge_to, uses_cell}
 use Rattle.roc_server.specs.Inner.Indexed.{spot_of, spots_from, undecided, IsIndexOf, conflicts_with, is_met, edge_from}
 use Rattle.roc_server.proofs.Stands.{Stand, all_stand}
 use Rattle.roc_server.proofs.Unions.{same_members}
@@ -52,7 +52,7 @@ module _ (plan : Plan) (shard : Shard) (out : List TxnId) (id : TxnId) (immediat
   met_at whole a ss = map (edge_from shard immediate) (filter (is_met plan whole id immediate a) ss)
 
   abbrev pub before : List Access → List StartedGroup → List Dependency
-  before cells es = map entry (filter (comes_before plan out id immediate cells) es)
+  before cells es = map entry (filter (conflicts_before plan out id immediate cells) es)
 
   abbrev own : StartedGroup → Bool
   own e = is_txn e.id id
@@ -105,10 +105,10 @@ module _ (plan : Plan) (shard : Shard) (out : List TxnId) (id : TxnId) (immediat
             → met_at whole a (undecided out (if u then spot_of at e ∷ spots_from a.cell (suc at) es else spots_from a.cell (suc at) es)) ≡ before (a ∷ []) (e ∷ es)
         go true u ih =
             used at e (undecided out (spots_from a.cell (suc at) es)) (before (a ∷ []) es) (left e) (own e) (kind e) (conflicts e) (ap (λ o. (not (own e) && kind e) && conflicts_with a o) h.0) ih
-            ∙ sym (pick e (filter (comes_before plan out id immediate (a ∷ [])) es) (comes_before plan out id immediate (a ∷ []) e))
+            ∙ sym (pick e (filter (conflicts_before plan out id immediate (a ∷ [])) es) (conflicts_before plan out id immediate (a ∷ []) e))
         go false u ih =
             ih ∙ unused e (before (a ∷ []) es) (left e) (own e) (kind e) (conflicts e) (conflict_uses e a u)
-            ∙ sym (pick e (filter (comes_before plan out id immediate (a ∷ [])) es) (comes_before plan out id immediate (a ∷ []) e))
+            ∙ sym (pick e (filter (conflicts_before plan out id immediate (a ∷ [])) es) (conflicts_before plan out id immediate (a ∷ []) e))
 
   -- what is met at a cell's spots are the entries of the groups that come before one that makes this use alone
   pub met_is : (index : List (Cell × List Spot)) (es : List StartedGroup) (a : Access) → IsIndexOf index out es → met_at es a (spots_at a.cell index) ≡ before (a ∷ []) es
@@ -147,20 +147,20 @@ module _ (plan : Plan) (shard : Shard) (out : List TxnId) (id : TxnId) (immediat
   of_any : (cells : List Access) (es : List StartedGroup) (d : Dependency) → Has d (flat_map (λ a. before (a ∷ []) es) cells) → Has d (before cells es)
   of_any cells es d h =
       let a = from_has_flat_map (λ a. before (a ∷ []) es) d cells h in
-      let g = from_has_map entry d (filter (comes_before plan out id immediate (a.0 ∷ [])) es) a.2 in
-      let e = from_has_filter (comes_before plan out id immediate (a.0 ∷ [])) g.0 es g.1 in
+      let g = from_has_map entry d (filter (conflicts_before plan out id immediate (a.0 ∷ [])) es) a.2 in
+      let e = from_has_filter (conflicts_before plan out id immediate (a.0 ∷ [])) g.0 es g.1 in
       let f = last_test (own g.0) (left g.0) (kind g.0) (do_conflict g.0.cells (a.0 ∷ [])) e.1 in
       let passes = other_test (own g.0) (left g.0) (kind g.0) (do_conflict g.0.cells (a.0 ∷ [])) (do_conflict g.0.cells cells) e.1 (of_one cells g.0 a.0 a.1 f) in
-      subst (λ x. Has x (before cells es)) (sym g.2) (has_map entry g.0 (filter (comes_before plan out id immediate cells) es) (has_filter (comes_before plan out id immediate cells) g.0 es e.0 passes))
+      subst (λ x. Has x (before cells es)) (sym g.2) (has_map entry g.0 (filter (conflicts_before plan out id immediate cells) es) (has_filter (conflicts_before plan out id immediate cells) g.0 es e.0 passes))
 
   in_any : (cells : List Access) (es : List StartedGroup) (d : Dependency) → Has d (before cells es) → Has d (flat_map (λ a. before (a ∷ []) es) cells)
   in_any cells es d h =
-      let g = from_has_map entry d (filter (comes_before plan out id immediate cells) es) h in
-      let e = from_has_filter (comes_before plan out id immediate cells) g.0 es g.1 in
+      let g = from_has_map entry d (filter (conflicts_before plan out id immediate cells) es) h in
+      let e = from_has_filter (conflicts_before plan out id immediate cells) g.0 es g.1 in
       let a = one_of cells g.0 (last_test (own g.0) (left g.0) (kind g.0) (do_conflict g.0.cells cells) e.1) in
       let passes = other_test (own g.0) (left g.0) (kind g.0) (do_conflict g.0.cells cells) (do_conflict g.0.cells (a.0 ∷ [])) e.1 a.2 in
       subst (λ x. Has x (flat_map (λ a. before (a ∷ []) es) cells)) (sym g.2)
-      (has_flat_map (λ a. before (a ∷ []) es) (entry g.0) a.0 cells a.1 (has_map entry g.0 (filter (comes_before plan out id immediate (a.0 ∷ [])) es) (has_filter (comes_before plan out id immediate (a.0 ∷ [])) g.0 es e.0 passes)))
+      (has_flat_map (λ a. before (a ∷ []) es) (entry g.0) a.0 cells a.1 (has_map entry g.0 (filter (conflicts_before plan out id immediate (a.0 ∷ [])) es) (has_filter (conflicts_before plan out id immediate (a.0 ∷ [])) g.0 es e.0 passes)))
 
   -- cell by cell, with repetitions, it is the same list
   pub over_cells : (cells : List Access) (es : List StartedGroup) → united (flat_map (λ a. before (a ∷ []) es) cells) ≡ united (before cells es)

@@ -69,12 +69,12 @@ is_immediate Immediate = true
 is_immediate Deferrable = false
 
 -- an earlier group of another transaction that is not left out, of this class, with a cell in common that one of the two writes
-abbrev pub comes_before : Plan → (out : List TxnId) → TxnId → (immediate : Bool) → List Access → StartedGroup → Bool
-comes_before plan out id immediate cells e =
+abbrev pub conflicts_before : Plan → (out : List TxnId) → TxnId → (immediate : Bool) → List Access → StartedGroup → Bool
+conflicts_before plan out id immediate cells e =
     not (is_txn e.id id) && (not (is_listed is_txn out e.id) && (same_tag (is_immediate_of plan e.proc e.group) immediate && do_conflict e.cells cells))
 
 abbrev pub is_predecessor : Plan → (out : List TxnId) → TxnId → GroupCall → List Access → StartedGroup → Bool
-is_predecessor plan out id c cells e = comes_before plan out id (is_immediate_group plan c) cells e
+is_predecessor plan out id c cells e = conflicts_before plan out id (is_immediate_group plan c) cells e
 
 -- the entry for it: its tag is the class, its shard this one
 abbrev pub edge_to : Shard → (immediate : Bool) → StartedGroup → Dependency
@@ -82,7 +82,7 @@ edge_to shard immediate e = record { from = e.id; imm = immediate; def = not imm
 
 -- the entries for all of them, where a group of this class with these cells starts
 abbrev pub entries_for : Plan → (out : List TxnId) → ServerState → TxnId → (immediate : Bool) → List Access → List Dependency
-entries_for plan out s id immediate cells = united (map (edge_to s.shard immediate) (filter (comes_before plan out id immediate cells) s.started))
+entries_for plan out s id immediate cells = united (map (edge_to s.shard immediate) (filter (conflicts_before plan out id immediate cells) s.started))
 
 abbrev pub edges_for : Plan → (out : List TxnId) → ServerState → TxnId → GroupCall → List Dependency
 edges_for plan out s id c = entries_for plan out s id (is_immediate_group plan c) (group_uses plan c s.store)

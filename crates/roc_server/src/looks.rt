@@ -4,7 +4,7 @@ ghost use Rattle.std.specs.List.{AllByRecursion};
 ghost use Rattle.roc_base.specs.Edges.{united};
 ghost use Rattle.roc_server.specs.Fits.{AreGroupsOf};
 ghost use Rattle.roc_server.specs.Inner.Indexed.{IsIndexOf, IsSpotWithin, is_looked_at, is_met, edge_from};
-ghost use Rattle.roc_server.specs.Start.{comes_before, edge_to, users};
+ghost use Rattle.roc_server.specs.Start.{conflicts_before, edge_to, users};
 
 use crate::StartedGroup;
 use crate::kept::Kept;
@@ -36,7 +36,7 @@ pub(crate) fn entries<L: Ledger>(
 ) -> Result<Edges, NoMemory>
     requires fits { AreGroupsOf plan.now kept.now.started }
     requires index { IsIndexOf kept.now.index kept.now.decided kept.now.started }
-    ensures entries { IfOk result (λ edges. edges ≡ united (map (edge_to starting.shard starting.immediate) (filter (comes_before plan.now kept.now.decided starting.id starting.immediate cells.now) kept.now.started))) }
+    ensures entries { IfOk result (λ edges. edges ≡ united (map (edge_to starting.shard starting.immediate) (filter (conflicts_before plan.now kept.now.decided starting.id starting.immediate cells.now) kept.now.started))) }
     ensures steps { steps.new ≤ steps.old + length (users plan.now kept.now.decided starting.immediate cells.now kept.now.started) }
 {
     let mut met = Vec::new(alloc);

@@ -94,13 +94,13 @@ pub(crate) fn learn_all(
     for k in news {
         deps.learn(k.of, &k.edges)?;
     }
-    let ids = ids_of(alloc, news)?;
+    let ids = ids_of_news(alloc, news)?;
     let decided = lacks.learnt(deps, &ids)?;
     Ok(decided)
 }
 
 // Whose they are.
-fn ids_of(alloc: Global, news: &[KnownList]) -> Result<Vec<TxnId>, NoMemory>
+fn ids_of_news(alloc: Global, news: &[KnownList]) -> Result<Vec<TxnId>, NoMemory>
     ensures { IfOk result (λ ids. ids.items ≡ map (λ k. k.of) news.now) }
 {
     Ok(news.iter().map(|k| k.of).collect(alloc)?)

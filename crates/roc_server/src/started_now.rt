@@ -8,7 +8,7 @@ ghost use Rattle.roc_server.specs.Fits.{IsCallOf, AreGroupsOf};
 ghost use Rattle.roc_server.specs.Inner.Indexed.{IsIndexOf};
 ghost use Rattle.roc_server.specs.Inner.Kept.{asked};
 ghost use Rattle.roc_server.specs.Inner.Starts.{IsNewGroup};
-ghost use Rattle.roc_server.specs.Start.{comes_before, edge_to};
+ghost use Rattle.roc_server.specs.Start.{conflicts_before, edge_to};
 
 use crate::StartedGroup;
 use crate::kept::Kept;
@@ -72,7 +72,7 @@ fn edges_for<L: Ledger>(
     requires some { 0 < blank.parts }
     requires fits { AreGroupsOf plan.now kept.now.started }
     requires index { IsIndexOf kept.now.index kept.now.decided kept.now.started }
-    ensures { IfOk result (λ edges. edges ≡ united (map (edge_to starting.shard starting.immediate) (filter (comes_before plan.now kept.now.decided starting.id starting.immediate cells.now) kept.now.started))) }
+    ensures { IfOk result (λ edges. edges ≡ united (map (edge_to starting.shard starting.immediate) (filter (conflicts_before plan.now kept.now.decided starting.id starting.immediate cells.now) kept.now.started))) }
 {
     let mut steps = Steps::<L>::new(blank);
     entries(alloc, plan, kept, starting, cells, &mut steps)

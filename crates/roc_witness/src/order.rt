@@ -19,7 +19,7 @@ fn is_before(one: Vertex, other: Vertex) -> bool
 }
 
 // Whether a list comes before another by the first place at which they differ.
-fn comes_before(one: &[Vertex], other: &[Vertex]) -> bool
+fn stands_before(one: &[Vertex], other: &[Vertex]) -> bool
     ensures { result ≡ stands_before one.now other.now }
 {
     let (mut left, mut right) = (one, other);
@@ -40,5 +40,5 @@ fn comes_before(one: &[Vertex], other: &[Vertex]) -> bool
 pub(crate) fn is_better(one: &[Vertex], other: &[Vertex]) -> bool
     ensures { result ≡ is_better one.now other.now }
 {
-    one.len() < other.len() || (one.len() == other.len() && comes_before(one, other))
+    one.len() < other.len() || (one.len() == other.len() && stands_before(one, other))
 }

@@ -8,12 +8,12 @@ use Rattle.roc_depgraph.specs.declared.known.KnownList.{KnownList}
 use Rattle.roc_depgraph.specs.Deps.{entries_of}
 
 -- the ids of a list's entries
-abbrev pub ids_of : List Dependency → List TxnId
-ids_of es = map (λ d. d.from) es
+abbrev pub from_ids : List Dependency → List TxnId
+from_ids es = map (λ d. d.from) es
 
 -- those of its immediate entries that are among ids
 abbrev pub now_among : (ids : List TxnId) → List Dependency → List TxnId
-now_among ids es = ids_of (filter (λ d. d.imm) (filter (λ d. is_listed is_txn ids d.from) es))
+now_among ids es = from_ids (filter (λ d. d.imm) (filter (λ d. is_listed is_txn ids d.from) es))
 
 -- those that are not among ids
 abbrev pub outside : (ids : List TxnId) → List TxnId → List TxnId
@@ -22,4 +22,4 @@ outside ids us = filter (λ u. not (is_listed is_txn ids u)) us
 -- what leads to some of the ids from outside them
 abbrev pub leading_to : List KnownList → (ids some : List TxnId) → List TxnId
 leading_to known ids [] = []
-leading_to known ids (t ∷ ts) = outside ids (ids_of (entries_of known t)) ++ leading_to known ids ts
+leading_to known ids (t ∷ ts) = outside ids (from_ids (entries_of known t)) ++ leading_to known ids ts

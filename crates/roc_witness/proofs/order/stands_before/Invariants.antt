@@ -1,6 +1,6 @@
 use Rattle.std.proofs.Common.{◌≡◌, length}
 use Rattle.roc_witness.specs.Order.{stands_before}
-use Rattle.roc_witness.proofs.order.comes_before.Given as goal
+use Rattle.roc_witness.proofs.order.stands_before.Given as goal
 
 abbrev pub invariant-loop-a : goal.invariant-loop-a
 invariant-loop-a l = stands_before l.left l.right ≡ stands_before l.one l.other
