@@ -1,9 +1,9 @@
 -- A list put into its place among facts
-use Rattle.std.proofs.Common.{◌≡◌, ℕ, zero, suc, ◌<◌, ◌≤◌, ◌+◌, Bool, true, false, not, cond, List, [], ◌∷◌, ◌++◌, length, get_or, drop, set, IsTrue, refl, sym, ap, subst, ◌∙◌, arith}
+use Rattle.std.proofs.Common.{◌≡◌, ℕ, zero, suc, ◌<◌, ◌≤◌, ◌+◌, ◌-◌, Bool, true, false, not, cond, List, [], ◌∷◌, ◌++◌, length, get_or, drop, set, IsTrue, refl, sym, ap, subst, ◌∙◌, arith}
 use Rattle.std.specs.Prelude.{insert}
 use Rattle.std.proofs.lemmas.List.{drop_more}
 use Rattle.std.proofs.lemmas.List.Recursion.{is_position_or_len}
-use Rattle.std.specs.List.{filter, position_or_len, AllByRecursion}
+use Rattle.std.specs.List.{filter, flat_map, position_or_len, AllByRecursion}
 use Rattle.roc_sequence.specs.Places.{place_of}
 use Rattle.roc_sequence.proofs.Holds.{all_append}
 use Rattle.roc_sequence.proofs.Places.{place_of-le}
@@ -162,3 +162,12 @@ AreFacts-in_place f (x ∷ xs) r = go (txn_lt x.of f.of) (txn_lt f.of x.of) refl
         let all : ComesBeforeAll f.of (x ∷ xs) = (k, before_chain f.of x.of xs k r.0) in
         subst AreFacts (sym (put_first f (x ∷ xs) all)) (all, r)
     go false false e k ih = subst AreFacts (sym (put_over f x xs e k)) ih
+
+-- what one more of several has comes before what those behind it have
+pub flat_drop : {A B : Type 0} (f : A → List B) (xs : List A) (i : ℕ) (x : A) → 0 < i → i ≤ length xs → x ≡ get_or xs (i - 1) x → flat_map f (drop (i - 1) xs) ≡ f x ++ flat_map f (drop i xs)
+flat_drop {A} {B} f xs i x some most is =
+    let within : i - 1 < length xs = omega arith in
+    let next : (i - 1) + 1 ≡ i = omega arith in
+    let first : A → List B = λ y. f y ++ flat_map f (drop ((i - 1) + 1) xs) in
+    let behind : ℕ → List B = λ n. f x ++ flat_map f (drop n xs) in
+    ap (flat_map f) (drop_more xs (i - 1) x within) ∙ ap first (sym is) ∙ ap behind next

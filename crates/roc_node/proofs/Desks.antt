@@ -1,5 +1,5 @@
 -- Submissions, one behind the other.
-use Rattle.std.proofs.Common.{◌≡◌, ℕ, ◌+◌, ◌-◌, ◌<◌, ◌≤◌, ℤ, Bool, true, false, List, [], ◌∷◌, ◌++◌, length, length-drop, get_or, take, drop, refl, sym, ◌∙◌, ap, subst, append-nil, append_assoc, arith, Option, Some, None, Ok, nat_lt, cond}
+use Rattle.std.proofs.Common.{◌≡◌, ℕ, ◌+◌, ◌-◌, ◌<◌, ◌≤◌, ℤ, Bool, true, false, List, [], ◌∷◌, ◌++◌, length, length-drop, get_or, take, drop, refl, sym, ◌∙◌, ap, subst, append-nil, append_assoc, arith, Option, Some, None, Ok, Err, nat_lt, cond}
 use Rattle.std.proofs.lemmas.Grind.{flat_map-append}
 use Rattle.std.proofs.lemmas.Bool.{ltb-true, lt-ltb}
 use Rattle.std.proofs.lemmas.List.{drop-drop}
@@ -12,8 +12,9 @@ use Rattle.roc_program.specs.LookUps.{procedure_named}
 use Rattle.roc_report.specs.Line.{Line, Submit}
 use Rattle.roc_report.specs.Text.{line_text, lines_text}
 use Rattle.roc_sched.specs.declared.line.Request.{Request}
+use Rattle.roc_coord.specs.declared.handled.SubmitFault.{SubmitFault}
 use Rattle.roc_coord.specs.State.{CoordState}
-use Rattle.roc_coord.specs.Submit.{after_submit, IsSubmitted, most_pending}
+use Rattle.roc_coord.specs.Submit.{after_submit, IsSubmitted, UnlessStopped, most_pending}
 use Rattle.roc_node.specs.declared.desk.Desk.{Desk}
 use Rattle.roc_node.specs.CoordRun.{Submissions, none_submitted, submitted, submitted_call, submitted_all, submit_lines}
 use Rattle.roc_node.specs.Inner.CoordTurn.{SubmitsOne, SubmitsSome}
@@ -51,6 +52,32 @@ submits_call plan request proc id old new out_old out_new text_old text_new name
       outbox = ap (λ (o : Outbox). o.messages) h.sent;
       text = text ∙ ap (λ l. text_old ++ l) (sym (append-nil (line_text plan.program (Submit id proc request.args))) ∙ ap (lines_text plan.program) (sym lines));
     }
+
+-- a call that is refused shows nothing
+refused_submits : (plan : Plan) (request : Request) (proc : ℕ) (fault : SubmitFault) (old new : CoordState) (out_old out_new : Outbox) (text name : List ℕ) (args : List ℤ) → name ≡ request.name → Some proc ≡ procedure_named plan.program name
+    → args ≡ request.args → IsSubmitted (after_submit plan old proc args) (Err fault) new out_old out_new
+    → SubmitsOne plan request old new out_old.messages out_new.messages text text
+refused_submits plan request proc fault old new out_old out_new text name args same named given step =
+    let e : procedure_named plan.program request.name ≡ Some proc = ap (procedure_named plan.program) (sym same) ∙ sym named in
+    let h = subst (λ a. IsSubmitted (after_submit plan old proc a) (Err fault) new out_old out_new) given step in
+    let sub = after_submit plan old proc request.args in
+    let lines : submit_lines proc request.args sub.answer ≡ [] = ap (submit_lines proc request.args) (sym h.answer) in record {
+      sends = sub.sends;
+      lines = submit_lines proc request.args sub.answer;
+      is = ap (submitted_call plan (none_submitted old) request.args) e
+          ∙ ap (λ s. record { state = s; left = []; messages = sub.sends; lines = submit_lines proc request.args sub.answer }) (sym h.state);
+      outbox = ap (λ (o : Outbox). o.messages) h.sent;
+      text = sym (append-nil text) ∙ ap (λ l. text ++ lines_text plan.program l) (sym lines);
+    }
+
+-- the same of a fault that is told by what it equals, where that fault promises the step
+pub submits_refused : (plan : Plan) (request : Request) (proc : ℕ) (fault kind : SubmitFault) (old new : CoordState) (out_old out_new : Outbox) (text name : List ℕ) (args : List ℤ) → name ≡ request.name → Some proc ≡ procedure_named plan.program name
+    → args ≡ request.args → fault ≡ kind → UnlessStopped (Err fault) (IsSubmitted (after_submit plan old proc args) (Err fault) new out_old out_new)
+    → (UnlessStopped (Err kind) (IsSubmitted (after_submit plan old proc args) (Err kind) new out_old out_new) → IsSubmitted (after_submit plan old proc args) (Err kind) new out_old out_new)
+    → SubmitsOne plan request old new out_old.messages out_new.messages text text
+submits_refused plan request proc fault kind old new out_old out_new text name args same named given is step promised =
+    refused_submits plan request proc kind old new out_old out_new text name args same named given
+    (promised (subst (λ (f : SubmitFault). UnlessStopped (Err f) (IsSubmitted (after_submit plan old proc args) (Err f) new out_old out_new)) is step))
 
 -- ---- several
 

@@ -4,3 +4,4 @@ mod Served
 mod Servers
 mod Submitted
 mod Texts
+mod Told

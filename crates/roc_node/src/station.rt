@@ -37,12 +37,12 @@ fn is_stop(msg: &Msg) -> bool
 {
     match msg {
         Msg::Stop => true,
-        Msg::Start { .. }
-        | Msg::StartOk { .. }
-        | Msg::Commit { .. }
-        | Msg::CommitOk { .. }
-        | Msg::Fetch { .. }
-        | Msg::Known { .. } => false,
+        Msg::Start { .. } => false,
+        Msg::StartOk { .. } => false,
+        Msg::Commit { .. } => false,
+        Msg::CommitOk { .. } => false,
+        Msg::Fetch { .. } => false,
+        Msg::Known { .. } => false,
     }
 }
 

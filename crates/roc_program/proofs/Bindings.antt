@@ -1,6 +1,7 @@
 -- The names that the code's tree binds, part by part
-use Rattle.std.proofs.Common.{◌≡◌, ◌∙◌, ℕ, List, [], ◌∷◌, ◌++◌, map, refl, ap}
-use Rattle.std.proofs.lemmas.List.{map-append}
+use Rattle.std.proofs.Common.{◌≡◌, ◌∙◌, ℕ, ◌+◌, ◌<◌, List, [], ◌∷◌, ◌++◌, length, get_or, take, map, refl, ap, sym, append-nil, append_assoc}
+use Rattle.std.proofs.lemmas.List.{map-append, take_more}
+use Rattle.std.proofs.lemmas.List.Concat.{flat_map-append}
 use Rattle.std.specs.List.{flat_map}
 use Rattle.std.specs.String.{string_bytes}
 use Rattle.roc_lang.specs.declared.syntax.Name as source
@@ -44,3 +45,27 @@ pub names_of-tree : (p : source_procedure.Procedure) → names_of (procedure_tre
 names_of-tree p =
     map-append (λ n. n.text) (map name_tree p.arguments.items) (flat_map (λ piece. flat_map bound_by piece.body) (map piece_tree p.pieces.items))
     ∙ joined (of_arguments p.arguments.items) (of_pieces p.pieces.items)
+
+-- one more name was added
+pub name_pushed : {A B C : Type 0} (f : A → B) (now : C → B) (xs : List A) (i : ℕ) (x : A) (y : C) (ys zs : List C) → i < length xs → x ≡ get_or xs i x → now y ≡ f x → zs ≡ ys ++ y ∷ []
+    → map now ys ≡ map f (take i xs) → map now zs ≡ map f (take (i + 1) xs)
+name_pushed {A} {B} f now xs i x y ys zs within is same pushed so_far =
+    let behind : List B → List B = λ us. us ++ now y ∷ [] in
+    let last : B → List B = λ v. map f (take i xs) ++ v ∷ [] in
+    let with_last : A → List B = λ v. map f (take i xs) ++ f v ∷ [] in
+    ap (map now) pushed ∙ map-append now ys (y ∷ []) ∙ ap behind so_far ∙ ap last same ∙ ap with_last is
+    ∙ sym (map-append f (take i xs) (get_or xs i x ∷ [])) ∙ ap (map f) (sym (take_more xs i x within))
+
+-- the names of one more piece were added
+pub names_pushed : (pieces : List source_piece.Piece) (i : ℕ) (p : source_piece.Piece) (first before after : List (List ℕ)) → i < length pieces → p ≡ get_or pieces i p → after ≡ before ++ body_names p.body.items
+    → before ≡ first ++ pieces_names (take i pieces) → after ≡ first ++ pieces_names (take (i + 1) pieces)
+names_pushed pieces i p first before after within is pushed so_far =
+    let behind : List (List ℕ) → List (List ℕ) = λ us. us ++ body_names p.body.items in
+    let add : List (List ℕ) → List (List ℕ) = λ us. first ++ us in
+    let with_last : source_piece.Piece → List (List ℕ) = λ v. first ++ pieces_names (take i pieces ++ v ∷ []) in
+    let piece_names : source_piece.Piece → List (List ℕ) = λ v. body_names v.body.items in
+    let so_far_names : List (List ℕ) → List (List ℕ) = λ us. first ++ (pieces_names (take i pieces) ++ us) in
+    let all_names : List source_piece.Piece → List (List ℕ) = λ ps. first ++ pieces_names ps in
+    pushed ∙ ap behind so_far ∙ append_assoc first (pieces_names (take i pieces)) (body_names p.body.items)
+    ∙ ap so_far_names (sym (append-nil (body_names p.body.items))) ∙ ap add (sym (flat_map-append piece_names (take i pieces) (p ∷ [])))
+    ∙ ap with_last is ∙ ap all_names (sym (take_more pieces i p within))

@@ -1,7 +1,7 @@
 //! The command line as `clap` is given it.
 ghost use Rattle.std.specs.Prelude.{◌≡◌, IfOk, false, codes};
-ghost use Rattle.clap.specs.Words.{app_of, rule_of, shape_of};
-ghost use Rattle.clap.specs.declared.Command.TheViews.{out-Command};
+ghost use Rattle.clap.specs.Words.{app_of, rule_of};
+ghost use Rattle.roc_words.specs.Inner.Building.{IsSoFar};
 ghost use Rattle.roc_words.specs.Program.{standing_rule, named_rule, flag_rule, workload_app, replay_app, cluster_app, serve_app, submit_app, local_app, gen_app, bare_app, program_app};
 
 use clap::{Arg, ArgAction, Command};
@@ -35,29 +35,25 @@ fn flag<'a>(alloc: Global, name: &'a str) -> Arg<'a>
 }
 
 fn workload_command<'a>(alloc: Global, name: &'a str) -> Result<Command<'a>, AllocError>
-    ensures shape { IfOk result (λ c. app_of c ≡ workload_app name.entry.now) }
-    ensures local { IfOk result (λ c. (out-Command c).has_globals ≡ false) }
+    ensures { IfOk result (λ c. IsSoFar c (workload_app name.entry.now)) }
 {
     Command::new(alloc, name).arg(standing(alloc, "workload"))
 }
 
 fn replay_command<'a>(alloc: Global) -> Result<Command<'a>, AllocError>
-    ensures shape { IfOk result (λ c. shape_of c ≡ replay_app.top) }
-    ensures local { IfOk result (λ c. (out-Command c).has_globals ≡ false) }
+    ensures { IfOk result (λ c. IsSoFar c replay_app) }
 {
     workload_command(alloc, "replay")?.arg(standing(alloc, "schedule"))
 }
 
 fn cluster_command<'a>(alloc: Global, name: &'a str) -> Result<Command<'a>, AllocError>
-    ensures shape { IfOk result (λ c. app_of c ≡ cluster_app name.entry.now) }
-    ensures local { IfOk result (λ c. (out-Command c).has_globals ≡ false) }
+    ensures { IfOk result (λ c. IsSoFar c (cluster_app name.entry.now)) }
 {
     workload_command(alloc, name)?.arg(standing(alloc, "cluster"))
 }
 
 fn serve_command<'a>(alloc: Global) -> Result<Command<'a>, AllocError>
-    ensures shape { IfOk result (λ c. shape_of c ≡ serve_app.top) }
-    ensures local { IfOk result (λ c. (out-Command c).has_globals ≡ false) }
+    ensures { IfOk result (λ c. IsSoFar c serve_app) }
 {
     cluster_command(alloc, "serve")?
         .arg(named(alloc, "shard"))?
@@ -66,8 +62,7 @@ fn serve_command<'a>(alloc: Global) -> Result<Command<'a>, AllocError>
 }
 
 fn submit_command<'a>(alloc: Global) -> Result<Command<'a>, AllocError>
-    ensures shape { IfOk result (λ c. shape_of c ≡ submit_app.top) }
-    ensures local { IfOk result (λ c. (out-Command c).has_globals ≡ false) }
+    ensures { IfOk result (λ c. IsSoFar c submit_app) }
 {
     cluster_command(alloc, "submit")?
         .arg(standing(alloc, "requests"))?
@@ -76,8 +71,7 @@ fn submit_command<'a>(alloc: Global) -> Result<Command<'a>, AllocError>
 }
 
 fn local_command<'a>(alloc: Global) -> Result<Command<'a>, AllocError>
-    ensures shape { IfOk result (λ c. shape_of c ≡ local_app.top) }
-    ensures local { IfOk result (λ c. (out-Command c).has_globals ≡ false) }
+    ensures { IfOk result (λ c. IsSoFar c local_app) }
 {
     cluster_command(alloc, "local")?
         .arg(standing(alloc, "requests"))?
@@ -85,8 +79,7 @@ fn local_command<'a>(alloc: Global) -> Result<Command<'a>, AllocError>
 }
 
 fn gen_command<'a>(alloc: Global) -> Result<Command<'a>, AllocError>
-    ensures shape { IfOk result (λ c. shape_of c ≡ gen_app.top) }
-    ensures local { IfOk result (λ c. (out-Command c).has_globals ≡ false) }
+    ensures { IfOk result (λ c. IsSoFar c gen_app) }
 {
     Command::new(alloc, "gen")
         .arg(standing(alloc, "seed"))?

@@ -1,4 +1,4 @@
-use Rattle.std.proofs.Common.{◌≡◌, ◌∙◌, Some, sym, subst, get_or, inl, inr, refl}
+use Rattle.std.proofs.Common.{◌≡◌, ◌∙◌, ℕ, suc, ◌-◌, ◌<◌, ◌≤◌, length, Some, sym, subst, get_or, inl, inr, refl, arith}
 use Rattle.roc_base.specs.declared.id.TxnId.{TxnId}
 use Rattle.std.specs.BTreeMap.{btree_map_len}
 use Rattle.roc_sequence.proofs.Fronts.{front_whole}
@@ -44,3 +44,12 @@ returns c =
     search_ended (Precedes c.args.lists.now) c.args.ids.now (met_of c.loop-id.met) (btree_map_len c.loop-id.met) c.loop-id.search.done c.loop-id.search.components.items
     (subst (λ l. IsSearch (Precedes c.args.lists.now) c.args.ids.now (met_of c.loop-id.met) (btree_map_len c.loop-id.met) l c.loop-id.search.done c.loop-id.search.components.items) i.1 i.0)
     (λ u h. i.2 u (subst (Has u) (sym (front_whole c.args.ids.now c.loop-id.id-index c.loop-id-test.false)) h))
+
+fewer : (n a b : ℕ) → b ≡ suc a → b ≤ n → n - b < n - a
+fewer n a b e l = omega arith
+
+pub walk-smaller : goal.walk-smaller
+walk-smaller c =
+    let i = c.walk.invariant in
+    let o = c.in_ok-open.ensures c.args.ids.now c.requires i.0 (subst (IsAhead c.args.lists.now c.args.ids.now c.walk.met c.walk.search) c.in-Some.is i.1) in
+    fewer (length c.args.ids.now) (btree_map_len c.walk.met) (btree_map_len c.open.new.met) o.longer o.bounded

@@ -1,8 +1,10 @@
-use Rattle.std.proofs.Common.{◌∙◌, ◌+◌, ◌++◌, ◌∷◌, [], sym, ap, arith}
+use Rattle.std.proofs.Common.{ℕ, ◌≡◌, ◌∙◌, ◌+◌, ◌++◌, ◌∷◌, [], List, length, map, filter, sym, ap, arith}
+use Rattle.std.proofs.lemmas.List.{take_all}
 use Rattle.std.proofs.lemmas.List.Filters.{length-filter_more}
+use Rattle.roc_sequence.proofs.Holds.{all_at}
 use Rattle.roc_base.specs.Edge.{Dependency}
 use Rattle.roc_index.specs.declared.spot.Spot.{Spot}
-use Rattle.roc_server.specs.Inner.Indexed.{is_looked_at, is_met, edge_from}
+use Rattle.roc_server.specs.Inner.Indexed.{IsSpotWithin, is_looked_at, is_met, edge_from}
 use Rattle.roc_server.proofs.Pairs.{count_within, passed_more, failed_more}
 use Rattle.roc_server.proofs.looks.push_met.Goals as goal
 use Rattle.roc_server.proofs.looks.push_met.Goals.{then-is_met+in_ok-push, else-is_met}
@@ -41,3 +43,18 @@ loop-spot-preserved g c =
           ];
       steps = omega (arith, c.is_met.ensures.steps, more, c.loop-spot.invariant.steps);
     }
+
+pub is_met-requires : goal.is_met-requires
+is_met-requires g c = all_at (IsSpotWithin c.args.plan.now c.args.started.now) c.args.spots.now c.loop-spot.spot-index no_spot c.requires c.loop-spot-test.true
+
+pub returns-clause-met : goal.returns-clause-met
+returns-clause-met g c =
+    let p = c.args.starting in
+    let all : List Spot → List Dependency = λ ss. c.args.met.now.items ++ map (edge_from p.shard p.immediate) (filter (is_met c.args.plan.now c.args.started.now p.id p.immediate c.args.access.now) ss) in
+    c.loop-spot.invariant.met ∙ ap all (take_all c.loop-spot.spot-index c.args.spots.now c.loop-spot-test.false)
+
+pub returns-clause-steps : goal.returns-clause-steps
+returns-clause-steps g c =
+    let count : List Spot → ℕ = λ ss. length (filter (is_looked_at c.args.plan.now c.args.starting.id c.args.starting.immediate) ss) in
+    let whole = ap count (take_all c.loop-spot.spot-index c.args.spots.now c.loop-spot-test.false) in
+    omega (arith, c.loop-spot.invariant.steps, whole)

@@ -1,10 +1,12 @@
-use Rattle.std.proofs.Common.{◌≡◌, ℕ, ◌+◌, ◌-◌, ◌<◌, ◌≤◌, ◌∷◌, [], ◌++◌, List, length, map, drop, get_or, refl, ap, subst, sym, ◌∙◌, append_assoc, arith}
+use Rattle.std.proofs.Common.{◌≡◌, ℕ, zero, suc, ◌+◌, ◌-◌, ◌<◌, ◌≤◌, ◌∷◌, [], ◌++◌, List, length, map, drop, get_or, refl, ap, subst, sym, ◌∙◌, append_assoc, append-nil, arith}
+use Rattle.std.proofs.lemmas.List.{drop_all}
 use Rattle.roc_base.specs.declared.id.TxnId.{TxnId}
 use Rattle.roc_base.specs.Edge.{Dependency}
 use Rattle.roc_depgraph.specs.declared.known.KnownList.{KnownList}
 use Rattle.roc_depgraph.specs.Deps.{entries_of}
 use Rattle.roc_msg.specs.Facts.{front_of_facts}
-use Rattle.roc_server.proofs.Told_facts.{AreBehind, goes_on, behind_more, next_before, behind_rest}
+use Rattle.roc_server.specs.Start.{facts_of}
+use Rattle.roc_server.proofs.Told_facts.{AreBehind, goes_on, behind_none, behind_more, next_before, behind_rest}
 use Rattle.roc_server.proofs.told.facts_of.Goals as goal
 
 pub loop-id-preserved : goal.loop-id-preserved
@@ -31,3 +33,28 @@ loop-id-preserved c =
       whole = c.loop-id.invariant.whole ∙ ap add (more ∙ ap next same_left) ∙ sym (append_assoc facts (f x ∷ []) (rest c.len-left.result)) ∙ ap before_rest (sym pushed);
       behind = subst (λ ys. AreBehind ys (drop (i + 1) all)) (sym pushed) (behind_more facts (f x) (drop (i + 1) all) (behind_rest facts all i none c.loop-id-test.true c.loop-id.invariant.behind) (next_before all i x none c.requires c.loop-id-test.true refl));
     }
+
+pub loop-id-init : goal.loop-id-init
+loop-id-init c =
+    let ids : List TxnId = c.args.ids.now in
+    record {
+      whole = ap (λ xs. xs ++ facts_of c.args.deps.now ids) (sym c.new-facts.ensures);
+      behind = subst (λ (xs : List KnownList). AreBehind xs ids) (sym c.new-facts.ensures) (behind_none ids);
+    }
+
+pub returns-then-room-eq0 : goal.returns-then-room-eq0
+returns-then-room-eq0 c =
+    let f : TxnId → KnownList = λ u. record { of = u; edges = entries_of c.args.deps.now u } in
+    let front : ℕ → List KnownList = λ n. c.loop-id.facts ++ front_of_facts n c.loop-id.left (map f (drop c.loop-id.id-index c.args.ids.now)) in
+    sym (c.loop-id.invariant.whole ∙ ap front c.if-room-eq0.true ∙ append-nil c.loop-id.facts)
+
+none_left : (lists entries : ℕ) → front_of_facts lists entries [] ≡ []
+none_left zero entries = refl
+none_left (suc lists) entries = refl
+
+pub returns : goal.returns
+returns c =
+    let f : TxnId → KnownList = λ u. record { of = u; edges = entries_of c.args.deps.now u } in
+    let front : List TxnId → List KnownList = λ ids. c.loop-id.facts ++ front_of_facts c.loop-id.room c.loop-id.left (map f ids) in
+    sym (c.loop-id.invariant.whole ∙ ap front (drop_all c.loop-id.id-index c.args.ids.now c.loop-id-test.false)
+    ∙ ap (λ xs. c.loop-id.facts ++ xs) (none_left c.loop-id.room c.loop-id.left) ∙ append-nil c.loop-id.facts)
