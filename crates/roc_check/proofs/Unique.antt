@@ -3,8 +3,8 @@ use Rattle.std.proofs.Common.{◌≡◌, ℕ, Bool, true, false, IsTrue, List, r
 use Rattle.std.proofs.Math.Path.{fun_ext}
 use Rattle.roc_parse.proofs.Unique.{one_tree}
 use Rattle.roc_program.specs.Program.{Workload}
-use Rattle.roc_program.specs.Resolve.{resolved}
 use Rattle.roc_program.specs.declared.piece_id.PieceId.{PieceId}
+use Rattle.roc_resolve.specs.Resolve.{resolved}
 use Rattle.roc_scgraph.specs.declared.vertex.Vertex.{Vertex}
 use Rattle.roc_witness.specs.Shortest.{IsShortestOf}
 use Rattle.roc_witness.proofs.Single.{one_cycle}

@@ -9,8 +9,8 @@ use Rattle.roc_scope.specs.Fault.{kind, first}
 use Rattle.roc_scope.specs.declared.fault.ScopeFault.{ScopeFault}
 use Rattle.roc_scope.specs.declared.fault.ScopeFault.TheVariants as misuse
 use Rattle.roc_program.specs.Program.{Workload}
-use Rattle.roc_program.specs.Resolve.{resolved}
 use Rattle.roc_program.specs.declared.piece_id.PieceId.{PieceId}
+use Rattle.roc_resolve.specs.Resolve.{resolved}
 use Rattle.roc_conflict.specs.Immediate.{IsImmediate}
 use Rattle.roc_scgraph.specs.declared.vertex.Vertex.{Vertex}
 use Rattle.roc_witness.specs.Shortest.{IsShortestOf}

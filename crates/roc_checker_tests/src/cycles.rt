@@ -1,7 +1,8 @@
 //! Shortest cycles through two pieces, as lists of vertices.
 use roc_conflict::promote;
 use roc_parse::parse;
-use roc_program::{PieceId, resolve};
+use roc_program::PieceId;
+use roc_resolve::resolve;
 use roc_scgraph::{Instance, Vertex};
 use roc_witness::shortest;
 use std::alloc::Global;

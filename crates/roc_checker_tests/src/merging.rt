@@ -3,7 +3,8 @@ use roc_conflict::promote;
 use roc_groups::Groups;
 use roc_merge::{Refusal, merge};
 use roc_parse::parse;
-use roc_program::{PieceId, resolve};
+use roc_program::PieceId;
+use roc_resolve::resolve;
 use std::alloc::Global;
 use std::test::Fail;
 

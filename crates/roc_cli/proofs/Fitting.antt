@@ -8,7 +8,7 @@ use Rattle.roc_lang.specs.declared.fault.What.{What}
 use Rattle.roc_parse.specs.Fault.{IsWorkloadText, IsFirstFault}
 use Rattle.roc_scope.specs.Fault.{first}
 use Rattle.roc_program.specs.Program.{Workload}
-use Rattle.roc_program.specs.Resolve.{resolved}
+use Rattle.roc_resolve.specs.Resolve.{resolved}
 use Rattle.roc_plan.specs.Groups.{Plan}
 use Rattle.roc_io.specs.declared.link.Addr.{Addr}
 use Rattle.roc_cluster.specs.declared.fault.ClusterFault.{ClusterFault}

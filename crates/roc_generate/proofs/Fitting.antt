@@ -3,7 +3,7 @@ use Rattle.std.proofs.Common.{◌≡◌, ℕ, zero, suc, pos, ◌+◌, ◌*◌, 
 use Rattle.std.specs.List.{AllByRecursion}
 use lib.Chars.{codes}
 use Rattle.roc_program.specs.Program.{Workload}
-use Rattle.roc_program.specs.Resolve.{table, init, resolved}
+use Rattle.roc_resolve.specs.Resolve.{table, init, resolved}
 use Rattle.roc_conflict.specs.Classes.{is_immediate}
 use Rattle.roc_plan.specs.Groups.{Plan}
 use Rattle.roc_plan.specs.Accepted.{grouped_plan}

@@ -4,9 +4,9 @@ use Rattle.std.proofs.lemmas.Bool.{false≢true}
 use Rattle.std.specs.Prelude.{◌↔◌, ◌&&◌}
 use Rattle.roc_program.specs.Program.{Workload, Table, Init}
 use Rattle.roc_program.specs.declared.piece_id.PieceId.{PieceId}
-use Rattle.roc_program.specs.Resolve.{procedure}
 use Rattle.roc_program.specs.Pieces.{piece_of, pieces_in}
 use Rattle.roc_program.specs.Conflict.{are_in_conflict}
+use Rattle.roc_resolve.specs.Resolve.{procedure}
 use Rattle.roc_conflict.specs.Classes.{is_immediate}
 use Rattle.roc_conflict.specs.Immediate.{IsImmediate, declared, in_conflict}
 use Rattle.roc_conflict.specs.Contended.{is_contended, has_conflict}

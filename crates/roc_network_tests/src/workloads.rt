@@ -6,7 +6,7 @@ use roc_io::Addr;
 use roc_merge::merge;
 use roc_parse::parse;
 use roc_plan::Plan;
-use roc_program::resolve;
+use roc_resolve::resolve;
 use std::alloc::Global;
 use std::test::Fail;
 

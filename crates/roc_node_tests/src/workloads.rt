@@ -4,7 +4,8 @@ use roc_conflict::promote;
 use roc_merge::merge;
 use roc_parse::parse;
 use roc_plan::Plan;
-use roc_program::{Workload, resolve};
+use roc_program::Workload;
+use roc_resolve::resolve;
 use std::alloc::Global;
 use std::test::Fail;
 

@@ -1,23 +1,17 @@
--- The ids of a program's init lines and accesses have one to four integers
-use Rattle.std.proofs.Common.{ℕ, List, [], ◌∷◌, ◌++◌, length, map, arith}
+-- The ids of a program's accesses have one to four integers
+use Rattle.std.proofs.Common.{ℕ, List, [], ◌∷◌, ◌++◌, length, arith}
 use Rattle.std.specs.List.{AllByRecursion, range_with_len}
-use Rattle.roc_lang.specs.Syntax as syntax
 use Rattle.roc_program.specs.Keys.{IsKey, HasKey, HasKeys}
 use Rattle.roc_program.specs.LookUps.{no_table, table_at}
 use Rattle.roc_program.specs.Program.{Table, Statement, Get, Set, Out, Piece, Procedure, Workload}
-use Rattle.roc_program.specs.Resolve as resolve
-use Rattle.roc_program.specs.WellFormed.{IsTable, IsColumn, IsBody, known_behind, ArePieces, IsProcedure, IsInit, IsProgram}
+use Rattle.roc_program.specs.WellFormed.{IsTable, IsColumn, IsBody, known_behind, ArePieces, IsProcedure, IsProgram}
 use Rattle.roc_sequence.proofs.Holds.{all_at}
 
-is_key : {A : Type 0} (tables : List Table) (table column : ℕ) (id : List A) → AllByRecursion IsTable tables → IsColumn tables table (length id) column → IsKey id
+-- the id of a cell of a declared column
+pub is_key : {A : Type 0} (tables : List Table) (table column : ℕ) (id : List A) → AllByRecursion IsTable tables → IsColumn tables table (length id) column → IsKey id
 is_key tables table column id small is =
     let of : IsTable (table_at tables table) = all_at IsTable tables table no_table small is.has_table in
     record { some = omega (arith, is.arity, of.some_integer); few = omega (arith, is.arity, of.arity) }
-
-pub inits_keyed : (sources : List syntax.Table) (tables : List Table) (inits : List syntax.Init) → AllByRecursion IsTable tables → AllByRecursion (IsInit tables) (map (resolve.init sources) inits) → AllByRecursion (λ i. IsKey i.id) inits
-inits_keyed sources tables [] small formed = tt
-inits_keyed sources tables (i ∷ is) small formed =
-    (is_key tables (resolve.init sources i).table (resolve.init sources i).column i.id small formed.0.column, inits_keyed sources tables is small formed.1)
 
 body_keyed : (tables : List Table) (known own : List ℕ) (body : List Statement) → AllByRecursion IsTable tables → IsBody tables known own body → AllByRecursion HasKey body
 body_keyed tables known own [] small formed = tt

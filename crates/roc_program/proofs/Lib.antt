@@ -1,11 +1,6 @@
 pub mod Rows
 pub mod Firsts
-pub mod Bindings
-pub mod Counts
 pub mod ValueLaws
-pub mod Scoped
-pub mod Numbered
-pub mod Formed
 pub mod Collisions
 pub mod Ranges
 pub mod Keyed

@@ -4,7 +4,6 @@ pub mod Names
 pub mod LookUps
 pub mod WellFormed
 pub mod Keys
-pub mod Resolve
 pub mod Pieces
 pub mod Conflict
 pub mod Parts

@@ -33,8 +33,8 @@ impl Model for Workload {
 }
 
 impl Workload {
-    // The workload of these parts, which have to be a well-formed program.
-    pub(crate) fn new(
+    /// The workload of these parts, which have to be a well-formed program.
+    pub fn new(
         shards: u8,
         tables: Vec<Table>,
         inits: Vec<Init>,

@@ -1,0 +1,6 @@
+pub mod Bindings
+pub mod Counts
+pub mod Scoped
+pub mod Numbered
+pub mod Formed
+pub mod InitKeys
