@@ -8,15 +8,15 @@ use Rattle.roc_program.specs.WellFormed.{IsTable, IsColumn, IsBody, known_behind
 use Rattle.roc_sequence.proofs.Holds.{all_at}
 
 -- the id of a cell of a declared column
-pub is_key : {A : Type 0} (tables : List Table) (table column : ℕ) (id : List A) → AllByRecursion IsTable tables → IsColumn tables table (length id) column → IsKey id
-is_key tables table column id small is =
+pub cell_keyed : {A : Type 0} (tables : List Table) (table column : ℕ) (id : List A) → AllByRecursion IsTable tables → IsColumn tables table (length id) column → IsKey id
+cell_keyed tables table column id small is =
     let of : IsTable (table_at tables table) = all_at IsTable tables table no_table small is.has_table in
     record { some = omega (arith, is.arity, of.some_integer); few = omega (arith, is.arity, of.arity) }
 
 body_keyed : (tables : List Table) (known own : List ℕ) (body : List Statement) → AllByRecursion IsTable tables → IsBody tables known own body → AllByRecursion HasKey body
 body_keyed tables known own [] small formed = tt
-body_keyed tables known own (Get number from ∷ rest) small formed = (is_key tables from.table from.column from.id small formed.0.column, body_keyed tables known (own ++ number ∷ []) rest small formed.1)
-body_keyed tables known own (Set to value ∷ rest) small formed = (is_key tables to.table to.column to.id small formed.0.column, body_keyed tables known own rest small formed.2)
+body_keyed tables known own (Get number from ∷ rest) small formed = (cell_keyed tables from.table from.column from.id small formed.0.column, body_keyed tables known (own ++ number ∷ []) rest small formed.1)
+body_keyed tables known own (Set to value ∷ rest) small formed = (cell_keyed tables to.table to.column to.id small formed.0.column, body_keyed tables known own rest small formed.2)
 body_keyed tables known own (Out value ∷ rest) small formed = (tt, body_keyed tables known own rest small formed.1)
 
 pub pieces_keyed : (tables : List Table) (known : List ℕ) (pieces : List Piece) → AllByRecursion IsTable tables → ArePieces tables known pieces → AllByRecursion HasKeys pieces
