@@ -1,10 +1,10 @@
 -- Of which words each end is
 use Rattle.std.proofs.Common.{◌≡◌, inl, inr, ℕ, List, Option, Ok, refl}
 use Rattle.roc_base.specs.declared.node.Shard.{Shard}
-use Rattle.roc_node.specs.declared.ends.ServeEnd.{ServeEnd}
-use Rattle.roc_node.specs.declared.ends.ServeEnd.TheVariants as serve_end
-use Rattle.roc_node.specs.declared.ends.SubmitEnd.{SubmitEnd}
-use Rattle.roc_node.specs.declared.ends.SubmitEnd.TheVariants as submit_end
+use Rattle.roc_serve.specs.declared.ends.ServeEnd.{ServeEnd}
+use Rattle.roc_serve.specs.declared.ends.ServeEnd.TheVariants as serve_end
+use Rattle.roc_submit.specs.declared.ends.SubmitEnd.{SubmitEnd}
+use Rattle.roc_submit.specs.declared.ends.SubmitEnd.TheVariants as submit_end
 use Rattle.roc_local.specs.declared.stops.StopEnd.{StopEnd}
 use Rattle.roc_local.specs.declared.stops.StopEnd.TheVariants as stop_end
 use Rattle.roc_words.specs.Commands.{check, print, replay, serve, submit, stop, local, gen}

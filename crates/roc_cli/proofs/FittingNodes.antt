@@ -14,7 +14,7 @@ use Rattle.roc_cluster.specs.Answer.{IsFirstIn, IsClusterFault}
 use Rattle.roc_sched.specs.declared.fault.What.{What}
 use Rattle.roc_sched.specs.declared.line.Request.{Request}
 use Rattle.roc_sched.specs.Schedule.{most_bytes}
-use Rattle.roc_node.specs.declared.ends.SubmitEnd.{SubmitEnd}
+use Rattle.roc_submit.specs.declared.ends.SubmitEnd.{SubmitEnd}
 use Rattle.roc_words.specs.Commands.{check, print, replay, serve, submit, stop, local, gen}
 use Rattle.roc_cli.specs.Call.{RunCall, WholeCall}
 use Rattle.roc_cli.specs.Words.{IsReplay, NodeFiles, node_files, workload_of, NamesProgram, NamesWorkload, NamesNodeFiles}

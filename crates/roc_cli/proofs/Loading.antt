@@ -9,8 +9,8 @@ use Rattle.roc_program.specs.Program.{Workload}
 use Rattle.roc_plan.specs.Groups.{Plan}
 use Rattle.roc_check.specs.Checked.{IsPlanOfText}
 use Rattle.roc_sched.specs.declared.line.Request.{Request}
-use Rattle.roc_node.specs.declared.ends.SubmitEnd.{SubmitEnd}
-use Rattle.roc_node.specs.declared.ends.SubmitEnd.TheVariants as submit_end
+use Rattle.roc_submit.specs.declared.ends.SubmitEnd.{SubmitEnd}
+use Rattle.roc_submit.specs.declared.ends.SubmitEnd.TheVariants as submit_end
 use Rattle.roc_cli.specs.Nodes.{tag_of_bytes}
 use Rattle.roc_sched.specs.Schedule.{most_bytes}
 use Rattle.roc_sched.specs.FaultText.{what_text as schedule_text}

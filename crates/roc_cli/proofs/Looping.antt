@@ -8,9 +8,9 @@ use Rattle.roc_sched.specs.declared.line.Request.{Request}
 use Rattle.roc_words.specs.Commands.{serve, submit, stop, local}
 use Rattle.roc_words.specs.declared.value.ValueName.{ValueName}
 use Rattle.roc_words.specs.Answer.{AreWordsOf, HaveNoValue}
-use Rattle.roc_node.specs.declared.ends.SubmitEnd.{SubmitEnd}
-use Rattle.roc_node.specs.ServeEnd.{Serves}
-use Rattle.roc_node.specs.SubmitEnd.{BindsAndSubmits}
+use Rattle.roc_submit.specs.declared.ends.SubmitEnd.{SubmitEnd}
+use Rattle.roc_serve.specs.ServeEnd.{Serves}
+use Rattle.roc_submit.specs.SubmitEnd.{BindsAndSubmits}
 use Rattle.roc_local.specs.declared.local.LocalEnd.{LocalEnd}
 use Rattle.roc_local.specs.declared.local.LocalEnd.TheVariants.{ChildFault}
 use Rattle.roc_local.specs.Stops.{SendsStops}

@@ -3,8 +3,8 @@ use Rattle.std.proofs.Common.{◌≡◌, ◌⊎◌, inl, inr, ℕ, ◌≤◌, �
 use Rattle.roc_io.specs.Cause.{HasCause}
 use Rattle.roc_replay.specs.Ended.{no_schedule, unfit, unsent, behind_lines}
 use Rattle.roc_replay.specs.Report.{report}
-use Rattle.roc_node.specs.declared.ends.ServeEnd.TheVariants as serve_end
-use Rattle.roc_node.specs.declared.ends.SubmitEnd.TheVariants as submit_end
+use Rattle.roc_serve.specs.declared.ends.ServeEnd.TheVariants as serve_end
+use Rattle.roc_submit.specs.declared.ends.SubmitEnd.TheVariants as submit_end
 use Rattle.roc_base.specs.declared.node.Shard.{Shard}
 use Rattle.roc_local.specs.declared.stops.StopEnd.TheVariants as stop_end
 use Rattle.roc_local.specs.declared.local.LocalEnd.TheVariants as local_end

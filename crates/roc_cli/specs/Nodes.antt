@@ -10,7 +10,7 @@ use Rattle.roc_sched.specs.declared.line.Request.{Request}
 use Rattle.roc_io.specs.Told.{AddsUnless}
 use Rattle.roc_local.specs.declared.stops.StopEnd.{StopEnd}
 use Rattle.roc_local.specs.declared.stops.StopEnd.TheVariants as stop_end
-use Rattle.roc_node.specs.SubmitEnd.{any_address}
+use Rattle.roc_submit.specs.SubmitEnd.{any_address}
 use Rattle.roc_local.specs.Stops.{SendsStops, stops_unbound}
 use Rattle.roc_local.specs.declared.local.LocalEnd.{LocalEnd}
 use Rattle.roc_local.specs.declared.local.LocalEnd.TheVariants.{ChildFault}
@@ -18,12 +18,12 @@ use Rattle.roc_local.specs.Local.{LocalCall, RunsLocal, BlamesChild, local_end_o
 use Rattle.roc_words.specs.Commands.{serve, submit, stop, local}
 use Rattle.roc_words.specs.Answer.{AreWordsOf}
 use Rattle.roc_node.specs.NodeEvent.{NodeSetting}
-use Rattle.roc_node.specs.declared.ends.ServeEnd.{ServeEnd}
-use Rattle.roc_node.specs.declared.ends.ServeEnd.TheVariants as serve_end
-use Rattle.roc_node.specs.declared.ends.SubmitEnd.{SubmitEnd}
-use Rattle.roc_node.specs.declared.ends.SubmitEnd.TheVariants as submit_end
-use Rattle.roc_node.specs.ServeEnd.{ServeCall, Serves}
-use Rattle.roc_node.specs.SubmitEnd.{TurnsCall, BindsAndSubmits}
+use Rattle.roc_serve.specs.declared.ends.ServeEnd.{ServeEnd}
+use Rattle.roc_serve.specs.declared.ends.ServeEnd.TheVariants as serve_end
+use Rattle.roc_submit.specs.declared.ends.SubmitEnd.{SubmitEnd}
+use Rattle.roc_submit.specs.declared.ends.SubmitEnd.TheVariants as submit_end
+use Rattle.roc_serve.specs.ServeEnd.{ServeCall, Serves}
+use Rattle.roc_submit.specs.SubmitEnd.{TurnsCall, BindsAndSubmits}
 use Rattle.roc_cli.specs.Call.{RunCall, LinkCall, ChildrenCall, WholeCall, TakesNothing}
 use Rattle.roc_cli.specs.Held.{HoldNodes}
 

@@ -1,7 +1,7 @@
 -- What each status of `run` says: docs/FORMATS.md, "The program"
 use Rattle.std.specs.Prelude.{◌≡◌, ◌≤◌, ◌⊎◌, ℕ, List, Option, codes}
-use Rattle.roc_node.specs.declared.ends.ServeEnd.TheVariants as serve_end
-use Rattle.roc_node.specs.declared.ends.SubmitEnd.TheVariants as submit_end
+use Rattle.roc_serve.specs.declared.ends.ServeEnd.TheVariants as serve_end
+use Rattle.roc_submit.specs.declared.ends.SubmitEnd.TheVariants as submit_end
 use Rattle.roc_base.specs.declared.node.Shard.{Shard}
 use Rattle.roc_local.specs.declared.stops.StopEnd.TheVariants as stop_end
 use Rattle.roc_local.specs.declared.local.LocalEnd.TheVariants as local_end

@@ -5,8 +5,8 @@ ghost use Rattle.roc_io.specs.declared.link.Addr.{Addr};
 ghost use Rattle.roc_io.specs.Cause.{HasCause};
 ghost use Rattle.roc_words.specs.Commands.{serve, submit, stop, local};
 ghost use Rattle.roc_words.specs.Answer.{AreWordsOf};
-ghost use Rattle.roc_node.specs.ServeEnd.{Serves};
-ghost use Rattle.roc_node.specs.SubmitEnd.{BindsAndSubmits};
+ghost use Rattle.roc_serve.specs.ServeEnd.{Serves};
+ghost use Rattle.roc_submit.specs.SubmitEnd.{BindsAndSubmits};
 ghost use Rattle.roc_cli.specs.Nodes.{IsServed, SubmitEnded, AreStopped, LocalEnded, IsChildBlamed};
 ghost use Rattle.roc_cli.specs.Inner.Fault.{blames_file, blames_sink, blames_link, precedes_loop};
 ghost use Rattle.roc_cli.specs.Inner.Ends.{fails_by, ReadsBut, LoopEnds, LoopEnded, no_child, CountsChildren};
@@ -18,7 +18,8 @@ use crate::nodes::{NodeNames, Nodes, nodes_of};
 use roc_base::Shard;
 use roc_io::{Files, Link, Sink, Spawner};
 use roc_local::{LocalEnd, StopEnd, run_local, send_stops};
-use roc_node::{ServeEnd, SubmitEnd, serve, submit_all};
+use roc_serve::{ServeEnd, serve};
+use roc_submit::{SubmitEnd, submit_all};
 use std::alloc::Global;
 
 /// Serves a shard of the named workload.

@@ -13,9 +13,9 @@ use Rattle.roc_io.specs.Packet.{Packet}
 use Rattle.roc_io.specs.Spawner.{StartsAll, EndsStarts, all_start_failed, ended_badly}
 use Rattle.roc_io.specs.Start.{Start}
 use Rattle.roc_post.specs.Moves.{LinkView}
-use Rattle.roc_node.specs.SubmitEnd.{TurnsCall}
-use Rattle.roc_node.specs.declared.ends.SubmitEnd.{SubmitEnd}
-use Rattle.roc_node.specs.declared.ends.SubmitEnd.TheVariants as submit
+use Rattle.roc_submit.specs.SubmitEnd.{TurnsCall}
+use Rattle.roc_submit.specs.declared.ends.SubmitEnd.{SubmitEnd}
+use Rattle.roc_submit.specs.declared.ends.SubmitEnd.TheVariants as submit
 use Rattle.roc_local.specs.declared.children.ChildEnd.{ChildEnd}
 use Rattle.roc_local.specs.declared.local.LocalEnd.{LocalEnd}
 use Rattle.roc_local.specs.declared.local.LocalEnd.TheVariants.{Done, ChildFault}

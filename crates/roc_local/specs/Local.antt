@@ -12,9 +12,9 @@ use Rattle.roc_io.specs.Told.{Adds}
 use Rattle.roc_sched.specs.declared.line.Request.{Request}
 use Rattle.roc_post.specs.Moves.{LinkView, Moves}
 use Rattle.roc_node.specs.NodeEvent.{NodeSetting}
-use Rattle.roc_node.specs.SubmitEnd.{TurnsCall, Submits, any_address}
-use Rattle.roc_node.specs.declared.ends.SubmitEnd.{SubmitEnd}
-use Rattle.roc_node.specs.declared.ends.SubmitEnd.TheVariants as submit
+use Rattle.roc_submit.specs.SubmitEnd.{TurnsCall, Submits, any_address}
+use Rattle.roc_submit.specs.declared.ends.SubmitEnd.{SubmitEnd}
+use Rattle.roc_submit.specs.declared.ends.SubmitEnd.TheVariants as submit
 use Rattle.roc_local.specs.declared.children.ChildEnd.{ChildEnd}
 use Rattle.roc_local.specs.declared.local.LocalEnd.{LocalEnd}
 use Rattle.roc_local.specs.declared.local.LocalEnd.TheVariants.{Done, Unanswered, LinkFault, SinkFault, ChildFault, NoMemory}

@@ -13,9 +13,9 @@ use crate::stops::{ANY, send_to_each, stop_bytes};
 use roc_base::{NoMemory, Shard};
 use roc_cluster::Cluster;
 use roc_io::{AllStarted, Bound, Child, Link, Sink, Spawner, start_all};
-use roc_node::{SubmitEnd, submit_turns};
 use roc_plan::Plan;
 use roc_sched::Request;
+use roc_submit::{SubmitEnd, submit_turns};
 use std::alloc::Global;
 
 /// How a run with servers of its own ends; of several that apply the first in time.

@@ -2,7 +2,7 @@
 ghost use Rattle.std.specs.Prelude.{◌≡◌, IfOk};
 ghost use Rattle.roc_io.specs.Cause.{HasCause};
 ghost use Rattle.roc_io.specs.Told.{AddsUnless};
-ghost use Rattle.roc_node.specs.SubmitEnd.{any_address};
+ghost use Rattle.roc_submit.specs.SubmitEnd.{any_address};
 ghost use Rattle.roc_local.specs.Stops.{TakesInOrder, SendsStops, stop_bytes, stops_failed, stops_unbound, thrice_to, thrice_to_each};
 
 use roc_base::{NoMemory, Node};

@@ -9,7 +9,7 @@ use crate::outside::{Failing, Outside, Seen, have_seen, outside_of};
 use crate::workloads::{BANK, COUNTER, FIRST_SHARD, Texts};
 use roc_base::Shard;
 use roc_io::Addr;
-use roc_node::{ServeEnd, serve};
+use roc_serve::{ServeEnd, serve};
 use std::alloc::Global;
 use std::process::Abort;
 use std::test::Fail;

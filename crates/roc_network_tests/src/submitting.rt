@@ -2,8 +2,8 @@
 use crate::datagrams::{COMMIT, COMMITOK, Packet, START, STARTOK, STRANGE_START, TAG};
 use crate::outside::{Failing, Outside, Seen, have_seen, outside_of};
 use crate::workloads::{ANY, COUNTER, FIRST_SHARD};
-use roc_node::{SubmitEnd, submit_all};
 use roc_sched::parse_requests;
+use roc_submit::{SubmitEnd, submit_all};
 use std::alloc::Global;
 use std::process::Abort;
 use std::test::Fail;

@@ -1,7 +1,2 @@
-mod Coords
-mod Desks
-mod Served
-mod Servers
-mod Submitted
+pub mod Arrivals
 mod Texts
-mod Told

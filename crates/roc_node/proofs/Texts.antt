@@ -1,11 +1,9 @@
 -- Texts of lines, one behind the other.
-use Rattle.std.proofs.Common.{◌≡◌, ℕ, ◌+◌, ◌<◌, List, [], ◌∷◌, ◌++◌, length, map, take, get_or, refl, sym, ◌∙◌, ap, append_assoc, append-nil}
+use Rattle.std.proofs.Common.{◌≡◌, ℕ, ◌<◌, ◌≤◌, zero, suc, List, [], ◌∷◌, ◌++◌, sym, ◌∙◌, ap, append_assoc, append-nil, arith, cond}
+use Rattle.std.proofs.lemmas.Bool.{lt-ltb}
 use Rattle.std.proofs.lemmas.Grind.{flat_map-append}
-use Rattle.roc_sequence.proofs.Fronts.{front_more}
-use Rattle.roc_base.specs.declared.id.TxnId.{TxnId}
 use Rattle.roc_node.specs.declared.lines.NodeLine.{NodeLine}
-use Rattle.roc_node.specs.declared.lines.NodeLine.TheVariants.{Unanswered}
-use Rattle.roc_node.specs.NodeLine.{node_line_text, node_lines_text}
+use Rattle.roc_node.specs.NodeLine.{node_line_text, node_lines_text, where_some}
 
 -- lines behind those that a text has gained
 pub text_behind : (old mid new : List ℕ) (lines more : List NodeLine) → mid ≡ old ++ node_lines_text lines → new ≡ mid ++ node_lines_text more → new ≡ old ++ node_lines_text (lines ++ more)
@@ -13,15 +11,11 @@ text_behind old mid new lines more p q =
     q ∙ ap (λ l. l ++ node_lines_text more) p ∙ append_assoc old (node_lines_text lines) (node_lines_text more)
     ∙ ap (λ l. old ++ l) (sym (flat_map-append node_line_text lines more))
 
-unanswered-append : (ids more : List TxnId) → node_lines_text (map Unanswered (ids ++ more)) ≡ node_lines_text (map Unanswered ids) ++ node_lines_text (map Unanswered more)
-unanswered-append [] more = refl
-unanswered-append (id ∷ ids) more =
-    ap (λ l. node_line_text (Unanswered id) ++ l) (unanswered-append ids more) ∙ sym (append_assoc (node_line_text (Unanswered id)) (node_lines_text (map Unanswered ids)) (node_lines_text (map Unanswered more)))
+-- a line whose count is 0 is left out
+pub no_line : (count : ℕ) (line : NodeLine) (text : List ℕ) → count ≤ 0 → text ≡ text ++ node_lines_text (where_some count line)
+no_line zero line text none = sym (append-nil text)
+no_line (suc n) line text none = absurd (omega arith)
 
--- one more id's line
-pub unanswered_more : (ids : List TxnId) (i : ℕ) (id : TxnId) (old mid new : List ℕ) → i < length ids → id ≡ get_or ids i id → mid ≡ old ++ node_lines_text (map Unanswered (take i ids)) → new ≡ mid ++ node_line_text (Unanswered id)
-    → new ≡ old ++ node_lines_text (map Unanswered (take (i + 1) ids))
-unanswered_more ids i id old mid new below is p q =
-    q ∙ ap (λ l. l ++ node_line_text (Unanswered id)) p ∙ append_assoc old _ _
-    ∙ ap (λ l. old ++ l) (ap (λ l. node_lines_text (map Unanswered (take i ids)) ++ l) (sym (append-nil (node_line_text (Unanswered id))))
-    ∙ sym (unanswered-append (take i ids) (id ∷ [])) ∙ ap (λ l. node_lines_text (map Unanswered l)) (front_more ids i id below is))
+-- and stands alone where it is not
+pub some_line : (count : ℕ) (line : NodeLine) (old new : List ℕ) → 0 < count → new ≡ old ++ node_line_text line → new ≡ old ++ node_lines_text (where_some count line)
+some_line count line old new some text = text ∙ ap (λ l. old ++ l) (sym (append-nil (node_line_text line))) ∙ ap (λ b. old ++ node_lines_text (cond b (line ∷ []) [])) (sym (lt-ltb 0 count some))

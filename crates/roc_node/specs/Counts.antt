@@ -3,8 +3,6 @@ use Rattle.roc_io.specs.Calls.{one_more}
 use Rattle.roc_msg.specs.declared.reason.Reason.{Reason}
 use Rattle.roc_msg.specs.declared.reason.Reason.TheVariants.{Foreign, BadProc, BadGroup, BadInputs, NotHere, Late, Differs, Stale, Unfit}
 use Rattle.roc_wire.specs.declared.fault.WireFault.TheVariants.{Short, Magic, Version, Kind, Count, Order, Rest, NoMemory}
-use Rattle.roc_server.specs.declared.handled.Handled.{Handled}
-use Rattle.roc_server.specs.declared.handled.Handled.TheVariants.{Done, Ignored}
 use Rattle.roc_post.specs.declared.judging.Skip.{Skip}
 use Rattle.roc_post.specs.declared.judging.Skip.TheVariants.{Fault, Tag}
 use Rattle.roc_node.specs.declared.counts.SkipCounts.{SkipCounts}
@@ -50,8 +48,3 @@ with_skip c skip = record c { skipped = one_more c.skipped; skips = one_skip_mor
 -- a delivery more was taken
 abbrev pub with_taken : Counts → Counts
 with_taken c = record c { taken = one_more c.taken }
-
--- and this is what the core answered to it
-abbrev pub with_answer : Counts → Handled → Counts
-with_answer c Done = with_taken c
-with_answer c (Ignored reason) = record c { taken = one_more c.taken; ignores = one_ignore_more c.ignores reason }

@@ -1,3 +1,2 @@
--- What stands here is of private functions alone
-pub mod ServerTurn
-pub mod CoordTurn
+-- What stands here is of private functions of the crates that run nodes
+pub mod Losing

@@ -1,10 +1,9 @@
 //! What a server counts.
 ghost use Rattle.std.specs.Prelude.{◌≡◌};
-ghost use Rattle.roc_node.specs.Counts.{no_counts, one_skip_more, one_ignore_more, with_skip, with_taken, with_answer};
+ghost use Rattle.roc_node.specs.Counts.{no_counts, one_skip_more, one_ignore_more, with_skip, with_taken};
 
 use roc_msg::Reason;
 use roc_post::Skip;
-use roc_server::Handled;
 use roc_wire::WireFault;
 
 /// How many datagrams were skipped, by the word of the fault, or for the tag.
@@ -89,17 +88,6 @@ impl Counts {
     {
         self.taken = self.taken.saturating_add(1);
     }
-
-    /// One more was taken, and a server answered this to it.
-    pub fn answer(&mut self, answer: Handled)
-        ensures { self.new ≡ with_answer self.old answer }
-    {
-        self.take();
-        match answer {
-            Handled::Done => {}
-            Handled::Ignored(reason) => self.ignores.add(reason),
-        }
-    }
 }
 
 impl SkipCounts {
@@ -121,7 +109,8 @@ impl SkipCounts {
 }
 
 impl IgnoreCounts {
-    fn add(&mut self, reason: Reason)
+    /// One more was ignored for this reason.
+    pub fn add(&mut self, reason: Reason)
         ensures { self.new ≡ one_ignore_more self.old reason }
     {
         match reason {

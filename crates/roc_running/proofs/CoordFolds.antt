@@ -15,7 +15,7 @@ use Rattle.roc_post.specs.Judgement.{judged}
 use Rattle.roc_post.specs.declared.judging.Judged.{Judged}
 use Rattle.roc_post.specs.declared.judging.Judged.TheVariants.{Delivery, Skipped}
 use Rattle.roc_node.specs.NodeEvent.{NodeEvent, took, silent, NodeSetting}
-use Rattle.roc_node.specs.CoordRun.{CoordNode, Submissions, submitted, submitted_call, submitted_all, none_submitted, submissions_of, coord_submitted, first_coord_node, step_of_judged, step_of_event, coord_turn, IsCoordRun, begun, goes_on}
+use Rattle.roc_submit.specs.CoordRun.{CoordNode, Submissions, submitted, submitted_call, submitted_all, none_submitted, submissions_of, coord_submitted, first_coord_node, step_of_judged, step_of_event, coord_turn, IsCoordRun, begun, goes_on}
 use Rattle.roc_running.specs.Own.{OwnEvent, delivered, ticked, requested}
 use Rattle.roc_running.specs.Fold.{IsCoordFold, coord_begun, coord_goes_on}
 use Rattle.roc_running.specs.Turns.{judged_brings, turn_brings, is_request, own_request, own_requests, next_requests, coord_owns, AreBrought}

@@ -14,7 +14,7 @@ use Rattle.roc_post.specs.Judgement.{judged}
 use Rattle.roc_post.specs.declared.judging.Judged.{Judged}
 use Rattle.roc_post.specs.declared.judging.Judged.TheVariants.{Delivery, Skipped}
 use Rattle.roc_node.specs.NodeEvent.{NodeEvent, took, silent, NodeSetting}
-use Rattle.roc_node.specs.ServerRun.{ServerNode, is_stop, server_heard, TakesMessage, TakesJudged, AfterEvent, IsServerRun, begun, goes_on}
+use Rattle.roc_serve.specs.ServerRun.{ServerNode, is_stop, server_heard, TakesMessage, TakesJudged, AfterEvent, IsServerRun, begun, goes_on}
 use Rattle.roc_running.specs.Own.{OwnEvent, delivered, ticked, requested}
 use Rattle.roc_running.specs.Fold.{ServerSteps, IsServerFold, server_begun, server_goes_on}
 use Rattle.roc_running.specs.Turns.{judged_brings, turn_brings, turns_bring, is_for_core}

@@ -14,8 +14,8 @@ use Rattle.roc_post.specs.declared.judging.Judged.{Judged}
 use Rattle.roc_post.specs.declared.judging.Judged.TheVariants.{Delivery, Skipped}
 use Rattle.roc_post.specs.declared.judging.Skip.{Skip}
 use Rattle.roc_node.specs.NodeEvent.{NodeEvent, took, silent, NodeSetting}
-use Rattle.roc_node.specs.CoordRun.{CoordNode, submissions_of, coord_turn}
-use Rattle.roc_node.specs.ServerRun.{is_stop}
+use Rattle.roc_submit.specs.CoordRun.{CoordNode, submissions_of, coord_turn}
+use Rattle.roc_serve.specs.ServerRun.{is_stop}
 use Rattle.roc_running.specs.Own.{OwnEvent, delivered, ticked, requested}
 
 -- ---- any turns

@@ -1,5 +1,5 @@
 //! What people run is what the laws speak of: the world of `roc_protocol`, in which all nodes take their steps, and the nodes of
-//! `roc_node`, each of which leads the datagrams of its link through its own core. No code stands here but [`laws`].
+//! `roc_serve` and `roc_submit`, each of which leads the datagrams of its link through its own core. No code stands here but [`laws`].
 //!
 //! `specs/Own.antt` has a node's own events and messages in a run of the world, `specs/Fold.antt` the fold of its core's step over own
 //! events, and `specs/Turns.antt` the own events that the turns of a running node bring, and datagrams that spell them.

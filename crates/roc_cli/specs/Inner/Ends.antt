@@ -15,8 +15,8 @@ use Rattle.roc_replay.specs.Ended.{IsReplayed, IsTextFault, IsCut, IsUnfinished}
 use Rattle.roc_cli.specs.declared.fault.Fault.{Fault}
 use Rattle.roc_cli.specs.declared.fault.Fault.TheVariants.{Refused, Value, NoShard, At, Rejected, Memory, Unanswered, File, Sink, Link, Child}
 use Rattle.roc_words.specs.declared.value.Part.{Part}
-use Rattle.roc_node.specs.declared.ends.SubmitEnd.{SubmitEnd}
-use Rattle.roc_node.specs.declared.ends.SubmitEnd.TheVariants as submit_end
+use Rattle.roc_submit.specs.declared.ends.SubmitEnd.{SubmitEnd}
+use Rattle.roc_submit.specs.declared.ends.SubmitEnd.TheVariants as submit_end
 use Rattle.roc_cli.specs.Call.{RunCall, WholeCall, TakesNothing}
 use Rattle.roc_cli.specs.Nodes.{AreNodesEnded, IsChildBlamed}
 use Rattle.roc_cli.specs.Done.{Replays, Prints, Checks, Generates, IsGenerated, Rejects, check_text}

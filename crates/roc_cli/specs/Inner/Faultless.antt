@@ -1,7 +1,7 @@
 -- Calls that nothing is wrong with, and calls for a shard that the workload lacks
 use Rattle.std.specs.Prelude.{ℕ, List, Option, Ok}
 use Rattle.roc_base.specs.declared.node.Shard.{Shard}
-use Rattle.roc_node.specs.declared.ends.SubmitEnd.{SubmitEnd}
+use Rattle.roc_submit.specs.declared.ends.SubmitEnd.{SubmitEnd}
 use Rattle.roc_cli.specs.Call.{RunCall, WholeCall}
 use Rattle.roc_cli.specs.Done.{Rejects}
 use Rattle.roc_cli.specs.Nodes.{AreNodesEnded, IsChildBlamed}

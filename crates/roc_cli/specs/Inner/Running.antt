@@ -3,12 +3,12 @@ use Rattle.std.specs.Prelude.{◌≡◌, ℕ, Bool, List, Option}
 use Rattle.roc_base.specs.declared.node.Shard.{Shard}
 use Rattle.roc_io.specs.declared.link.Addr.{Addr}
 use Rattle.roc_node.specs.NodeEvent.{NodeSetting}
-use Rattle.roc_node.specs.declared.ends.ServeEnd.{ServeEnd}
-use Rattle.roc_node.specs.declared.ends.SubmitEnd.{SubmitEnd}
-use Rattle.roc_node.specs.ServeEnd.{ServeCall, Serves}
+use Rattle.roc_serve.specs.declared.ends.ServeEnd.{ServeEnd}
+use Rattle.roc_submit.specs.declared.ends.SubmitEnd.{SubmitEnd}
+use Rattle.roc_serve.specs.ServeEnd.{ServeCall, Serves}
 use Rattle.roc_io.specs.Told.{AddsUnless}
 use Rattle.roc_local.specs.declared.stops.StopEnd.{StopEnd}
-use Rattle.roc_node.specs.SubmitEnd.{any_address}
+use Rattle.roc_submit.specs.SubmitEnd.{any_address}
 use Rattle.roc_local.specs.Stops.{SendsStops, stops_unbound}
 use Rattle.roc_local.specs.declared.local.LocalEnd.TheVariants.{ChildFault}
 use Rattle.roc_local.specs.Local.{LocalAsk, LocalCall, RunsLocal, BlamesChild, local_end_of}

@@ -1,7 +1,7 @@
 use Rattle.std.proofs.Common.{◌∷◌, [], refl, sym, ap, subst, ◌∙◌}
 use Rattle.roc_io.specs.Told.{Adds}
 use Rattle.roc_program.specs.Program.{Workload}
-use Rattle.roc_node.specs.SubmitEnd.{any_address}
+use Rattle.roc_submit.specs.SubmitEnd.{any_address}
 use Rattle.roc_local.specs.Children.{serve_commands}
 use Rattle.roc_local.specs.Local.{unready, unbound, bound}
 use Rattle.roc_local.proofs.Ends.{same_view, from_bind}

@@ -1,5 +1,5 @@
 -- Nothing is added at 0, and one line at any other count.
-use Rattle.roc_node.proofs.Told.{no_line, some_line}
+use Rattle.roc_node.proofs.Texts.{no_line, some_line}
 use Rattle.roc_node.proofs.lines.append_some.Goals as goal
 
 pub returns-else-count-gt0 : goal.returns-else-count-gt0

@@ -1,0 +1,3 @@
+mod Served
+mod Servers
+mod Shards

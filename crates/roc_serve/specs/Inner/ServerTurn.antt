@@ -1,0 +1,112 @@
+-- One turn of a server's node, and several
+use Rattle.std.specs.Prelude.{◌≡◌, ℕ, ◌<◌, ◌≤◌, Bool, true, false, List, [], ◌∷◌, ◌++◌, length, Option, option_map, Result, Ok, Err}
+use Rattle.roc_base.specs.declared.node.Shard.{Shard}
+use Rattle.roc_io.specs.Packet.{Packet}
+use Rattle.roc_io.specs.Told.{Adds, AddsFront}
+use Rattle.roc_msg.specs.declared.outbox.Outgoing.{Outgoing}
+use Rattle.roc_plan.specs.Groups.{Plan}
+use Rattle.roc_server.specs.First.{first_server}
+use Rattle.roc_post.specs.Posting.{none_heard}
+use Rattle.roc_post.specs.Moves.{LinkView, Moves}
+use Rattle.roc_serve.specs.declared.station.Station.{Station}
+use Rattle.roc_serve.specs.declared.station.Given.{Given}
+use Rattle.roc_serve.specs.declared.server_turns.Turned.{Turned}
+use Rattle.roc_serve.specs.declared.server_turns.Turned.TheVariants.{Goes, Stopped, NoMemory, LinkFault}
+use Rattle.roc_serve.specs.declared.server_turns.RunEnd.{RunEnd}
+use Rattle.roc_serve.specs.declared.server_turns.RunEnd.TheVariants as run
+use Rattle.roc_serve.specs.declared.ends.ServeEnd.{ServeEnd}
+use Rattle.roc_serve.specs.declared.ends.ServeEnd.TheVariants as end
+use Rattle.roc_node.specs.Counts.{no_counts}
+use Rattle.roc_node.specs.NodeEvent.{NodeEvent, arrived, NodeSetting}
+use Rattle.roc_node.specs.Inner.Losing.{LosesOne}
+use Rattle.roc_serve.specs.ServeEnd.{AreTurnsOver, RunsServer}
+use Rattle.roc_serve.specs.ServerRun.{ServerNode, AfterEvent, IsServerRun}
+
+-- a node that keeps this, sent these and was stopped or not
+abbrev pub node_of : Station → List Outgoing → List Packet → Bool → ServerNode
+node_of station messages sends stopped = record { state = station.server; messages = messages; sends = sends; heard = station.heard; counts = station.counts; stopped = stopped }
+
+-- one of which nothing is told but what it keeps
+abbrev pub bare : Station → ServerNode
+bare station = node_of station [] [] false
+
+-- P holds of the node that keeps this and gave this
+pub record Leads (P : ServerNode → Type 0) (station : Station) (given : Given) : Type 0 where
+  pub messages : List Outgoing
+  pub is : P (node_of station messages given.sends.items given.stopped)
+
+abbrev pub turn_failed : Turned → Bool
+turn_failed LinkFault = true
+turn_failed Goes = false
+turn_failed Stopped = false
+turn_failed NoMemory = false
+
+abbrev pub event_failed : Result Given Turned → Bool
+event_failed (Ok given) = false
+event_failed (Err end) = turn_failed end
+
+-- an event was taken off the arrivals, and this is what the node makes of it
+pub record TakesEvent (S : NodeSetting) (old new : Station) (given : Given) (before after : Option (List Packet)) : Type 0 where
+  pub event : NodeEvent
+  pub leads : Leads (AfterEvent S (bare old) event) new given
+  pub arrivals : before ≡ option_map (λ left. arrived (event ∷ []) ++ left) after
+
+abbrev pub TakesOne : NodeSetting → Result Given Turned → (old new : Station) → Option (List Packet) → Option (List Packet) → Type 0
+TakesOne S (Ok given) old new before after = TakesEvent S old new given before after
+TakesOne S (Err NoMemory) old new before after = LosesOne before after
+TakesOne S (Err LinkFault) old new before after = after ≡ before
+TakesOne S (Err Goes) old new before after = ⊥
+TakesOne S (Err Stopped) old new before after = ⊥
+
+-- one event led from what a node kept to what it keeps
+pub record TurnsOnce (S : NodeSetting) (stopped : Bool) (old new : Station) (before after : LinkView) : Type 0 where
+  pub event : NodeEvent
+  pub messages : List Outgoing
+  pub sends : List Packet
+  pub leads : AfterEvent S (bare old) event (node_of new messages sends stopped)
+  pub moves : Moves before after (arrived (event ∷ [])) sends
+
+-- nothing was taken; want of memory may lose the datagram that came
+abbrev pub Loses : LinkView → LinkView → Type 0
+Loses before after = (last : List Packet) × (length last ≤ 1) × Moves before after last []
+
+abbrev pub Turns : NodeSetting → Turned → (old new : Station) → LinkView → LinkView → Type 0
+Turns S Goes old new before after = TurnsOnce S false old new before after
+Turns S Stopped old new before after = TurnsOnce S true old new before after
+Turns S NoMemory old new before after = Loses before after
+Turns S LinkFault old new before after = Moves before after [] []
+
+-- so many events, of which none stopped the node, led from its start to this
+pub record RanSo (S : NodeSetting) (shard : Shard) (count : ℕ) (stopped : Bool) (station : Station) (before after : LinkView) : Type 0 where
+  pub events : List NodeEvent
+  pub messages : List Outgoing
+  pub sends : List Packet
+  pub counted : length events ≡ count
+  pub run : IsServerRun S shard events (node_of station messages sends stopped)
+  pub moves : Moves before after (arrived events) sends
+
+-- what a node keeps before any turn
+abbrev pub first_station : Plan → Shard → Station
+first_station plan shard = record { server = first_server plan shard; heard = none_heard; counts = no_counts }
+
+abbrev pub run_failed : RunEnd → Bool
+run_failed run.LinkFault = true
+run_failed (run.Over stopped) = false
+run_failed run.NoMemory = false
+
+-- how the turns of a server ended
+abbrev pub RunsTurns : RunEnd → NodeSetting → Shard → ℕ → Station → LinkView → LinkView → Type 0
+RunsTurns (run.Over stopped) S shard turns station before after =
+    (messages : List Outgoing) × (sends : List Packet) × (events : List NodeEvent)
+    × AreTurnsOver turns events (node_of station messages sends stopped) × RunsServer S shard turns [] events (node_of station messages sends stopped) before after
+RunsTurns run.NoMemory S shard turns station before after =
+    (node : ServerNode) × (events : List NodeEvent) × (last : List Packet) × (length last ≤ 1) × RunsServer S shard turns last events node before after
+RunsTurns run.LinkFault S shard turns station before after =
+    (node : ServerNode) × (events : List NodeEvent) × (node.stopped ≡ false) × (length events < turns) × RunsServer S shard turns [] events node before after
+
+-- the last lines were written, or a front of them, or nothing
+abbrev pub ClosesServe : ServeEnd → List ℕ → Option (List ℕ) → Option (List ℕ) → Type 0
+ClosesServe end.Done text old new = Adds old new text
+ClosesServe end.SinkFault text old new = AddsFront old new text
+ClosesServe end.NoMemory text old new = new ≡ old
+ClosesServe end.LinkFault text old new = ⊥

@@ -1,0 +1,3 @@
+pub mod ServerRun
+pub mod ServeEnd
+pub mod Inner

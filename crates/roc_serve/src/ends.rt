@@ -1,0 +1,14 @@
+//! How the loop of a server ends.
+
+/// How serving ends.
+#[derive(Clone, Copy, Debug, PartialEq, Eq)]
+pub enum ServeEnd {
+    /// A stop came, or all turns were taken, and all lines are written.
+    Done,
+    /// The bind or a receive failed.
+    LinkFault,
+    /// A write failed.
+    SinkFault,
+    /// No memory.
+    NoMemory,
+}

@@ -1,0 +1,183 @@
+//! Serving a shard.
+ghost use Rattle.std.specs.Prelude.{◌≡◌, false, ◌<◌, length, Some, IfOk, slice_get};
+ghost use Rattle.roc_base.specs.declared.node.Node.TheVariants as node;
+ghost use Rattle.roc_io.specs.declared.link.Addr.{Addr};
+ghost use Rattle.roc_io.specs.Cause.{HasCause};
+ghost use Rattle.roc_server.specs.Fits.{ServerFits};
+ghost use Rattle.roc_wire.specs.Fits.{FitsHeader};
+ghost use Rattle.roc_node.specs.NodeLine.{node_lines_text, end_lines};
+ghost use Rattle.roc_serve.specs.ServeEnd.{Serves, first_text, serve_link_failed, serve_sink_failed};
+ghost use Rattle.roc_serve.specs.Inner.ServerTurn.{first_station, ClosesServe};
+
+use crate::ServeEnd;
+use crate::server_turns::{RunEnd, run_turns};
+use crate::station::Station;
+use roc_base::{NoMemory, Node, Shard};
+use roc_cluster::Cluster;
+use roc_io::{Bound, Link, Sink, Written};
+use roc_node::{Counts, NodeLine, append_end, append_line};
+use roc_plan::Plan;
+use roc_post::Heard;
+use roc_server::Server;
+use roc_wire::Header;
+use std::alloc::Global;
+
+/// Serves a shard: binds its address, writes that it serves, takes turns until a stop comes or so many were taken, and writes what came of
+/// them; with `counts` also how often each word was the cause to skip a datagram or to ignore a message.
+///
+/// A turn is one receive. The datagrams of a turn are sent behind it.
+pub fn serve<L: Link, S: Sink>(
+    alloc: Global,
+    plan: &Plan,
+    tag: [u8; 8],
+    shard: Shard,
+    cluster: &Cluster,
+    counts: bool,
+    link: &mut L,
+    turns: u32,
+    out: &mut S,
+) -> ServeEnd
+    requires cluster { length cluster.now ≡ plan.now.program.shards }
+    requires shard { shard.0 < plan.now.program.shards }
+    // A fault has its cause, and no other end comes where a count rose.
+    ensures link_cause { HasCause (serve_link_failed result) (L.faults link.old) (L.faults link.new) }
+    ensures sink_cause { HasCause (serve_sink_failed result) (S.faults out.old) (S.faults out.new) }
+    // What the node's run gives over the arrivals is what was sent and written.
+    ensures serves { (own : Addr) → slice_get cluster.now shard.0 ≡ Some own
+        → Serves (record { plan = plan.now; header = record { tag = tag; from = node.Server shard }; cluster = cluster.now }) shard own turns counts
+        (record {
+          bound_old = L.bound link.old;
+          bound_new = L.bound link.new;
+          link_old = record { arrivals = L.arrivals link.old; sent = L.sent link.old; lost = L.lost link.old };
+          link_new = record { arrivals = L.arrivals link.new; sent = L.sent link.new; lost = L.lost link.new };
+          out_old = S.taken out.old;
+          out_new = S.taken out.new;
+        })
+        result }
+{
+    let header = own_header(plan, tag, shard);
+    match open_station(alloc, plan, shard) {
+        Ok(mut station) => serve_from(
+            alloc,
+            plan,
+            cluster,
+            &header,
+            shard,
+            &mut station,
+            counts,
+            link,
+            turns,
+            out,
+        ),
+        Err(_) => ServeEnd::NoMemory,
+    }
+}
+
+// Serves from what a server keeps before any turn.
+fn serve_from<L: Link, S: Sink>(
+    alloc: Global,
+    plan: &Plan,
+    cluster: &Cluster,
+    header: &Header,
+    shard: Shard,
+    station: &mut Station,
+    counts: bool,
+    link: &mut L,
+    turns: u32,
+    out: &mut S,
+) -> ServeEnd
+    requires cluster { length cluster.now ≡ plan.now.program.shards }
+    requires shard { shard.0 < plan.now.program.shards }
+    requires header { FitsHeader header.now }
+    requires first { station.old ≡ first_station plan.now shard }
+    requires fits { ServerFits plan.now station.old.server }
+    ensures link_cause { HasCause (serve_link_failed result) (L.faults link.old) (L.faults link.new) }
+    ensures sink_cause { HasCause (serve_sink_failed result) (S.faults out.old) (S.faults out.new) }
+    ensures serves { (own : Addr) → slice_get cluster.now shard.0 ≡ Some own
+        → Serves (record { plan = plan.now; header = header.now; cluster = cluster.now }) shard own turns counts
+        (record {
+          bound_old = L.bound link.old;
+          bound_new = L.bound link.new;
+          link_old = record { arrivals = L.arrivals link.old; sent = L.sent link.old; lost = L.lost link.old };
+          link_new = record { arrivals = L.arrivals link.new; sent = L.sent link.new; lost = L.lost link.new };
+          out_old = S.taken out.old;
+          out_new = S.taken out.new;
+        })
+        result }
+{
+    let first = match first_text(alloc, shard) {
+        Ok(first) => first,
+        Err(_) => return ServeEnd::NoMemory,
+    };
+    match link.bind(cluster.addr(shard)) {
+        Bound::Failed => return ServeEnd::LinkFault,
+        Bound::Ok => {}
+    }
+    match out.write(&first) {
+        Written::Failed => return ServeEnd::SinkFault,
+        Written::Ok => {}
+    }
+    match run_turns(alloc, plan, cluster, header, shard, station, link, turns) {
+        RunEnd::Over(stopped) => close(alloc, shard, stopped, counts, station, out),
+        RunEnd::NoMemory => ServeEnd::NoMemory,
+        RunEnd::LinkFault => ServeEnd::LinkFault,
+    }
+}
+
+// What stands before each message that a server sends.
+fn own_header(plan: &Plan, tag: [u8; 8], shard: Shard) -> Header
+    requires { shard.0 < plan.now.program.shards }
+    ensures is { result ≡ record { tag = tag; from = node.Server shard } }
+    ensures fits { FitsHeader result }
+{
+    let _shards = plan.workload().shards();
+    Header {
+        tag,
+        from: Node::Server(shard),
+    }
+}
+
+// What a server keeps before any turn.
+fn open_station(alloc: Global, plan: &Plan, shard: Shard) -> Result<Station, NoMemory>
+    ensures first { IfOk result (λ station. station ≡ first_station plan.now shard) }
+    ensures fits { IfOk result (λ station. ServerFits plan.now station.server) }
+{
+    let server = Server::new(alloc, plan, shard)?;
+    Ok(Station {
+        server,
+        heard: Heard::new(),
+        counts: Counts::new(),
+    })
+}
+
+// The text of the first line.
+fn first_text(alloc: Global, shard: Shard) -> Result<Vec<u8>, NoMemory>
+    ensures { IfOk result (λ text. text.items ≡ first_text shard) }
+{
+    let mut text = Vec::new(alloc);
+    append_line(alloc, &mut text, NodeLine::Serving(shard))?;
+    Ok(text)
+}
+
+// Writes the last lines.
+fn close<S: Sink>(
+    alloc: Global,
+    shard: Shard,
+    stopped: bool,
+    counts: bool,
+    station: &Station,
+    out: &mut S,
+) -> ServeEnd
+    ensures cause { HasCause (serve_sink_failed result) (S.faults out.old) (S.faults out.new) }
+    ensures link { serve_link_failed result ≡ false }
+    ensures closes { ClosesServe result (node_lines_text (end_lines shard stopped counts station.now.counts)) (S.taken out.old) (S.taken out.new) }
+{
+    let mut text = Vec::new(alloc);
+    if append_end(alloc, &mut text, shard, stopped, counts, &station.counts).is_err() {
+        return ServeEnd::NoMemory;
+    }
+    match out.write(&text) {
+        Written::Ok => ServeEnd::Done,
+        Written::Failed => ServeEnd::SinkFault,
+    }
+}

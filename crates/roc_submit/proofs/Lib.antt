@@ -1,0 +1,5 @@
+mod Closing
+mod Coords
+mod Desks
+mod Submitted
+mod Told

@@ -1,0 +1,3 @@
+pub mod CoordRun
+pub mod SubmitEnd
+pub mod Inner

@@ -1,0 +1,261 @@
+//! What a coordinator's node makes of its requests and of one event.
+ghost use Rattle.std.specs.Prelude.{◌≡◌, ◌≤◌, ◌++◌, length, IfOk, OnOk};
+ghost use Rattle.roc_coord.specs.Fits.{CoordFits};
+ghost use Rattle.roc_wire.specs.Fits.{FitsHeader};
+ghost use Rattle.roc_report.specs.Text.{lines_text};
+ghost use Rattle.roc_post.specs.Posting.{none_heard, packets_for};
+ghost use Rattle.roc_node.specs.NodeEvent.{silent};
+ghost use Rattle.roc_coord.specs.Step.{after_message};
+ghost use Rattle.roc_post.specs.Judgement.{judged};
+ghost use Rattle.roc_submit.specs.CoordRun.{reply_lines, answered_then, step_of_judged};
+ghost use Rattle.roc_submit.specs.Inner.CoordTurn.{SubmitsOne, SubmitsSome, SubmitsHalf, TakesStep, TakesHalf};
+
+use roc_base::NoMemory;
+use roc_cluster::Cluster;
+use roc_coord::{Coord, Handled, SubmitFault};
+use roc_io::Datagram;
+use roc_msg::{Msg, Outbox};
+use roc_plan::Plan;
+use roc_post::{Heard, Judged, judge, post};
+use roc_program::Workload;
+use roc_report::{ReportLine, append};
+use roc_sched::Request;
+use roc_wire::Header;
+use std::alloc::Global;
+
+/// How many of a coordinator's transactions may be unanswered at a time.
+const MOST_PENDING: usize = 16;
+
+/// A coordinator with what its node keeps besides: how many requests it has submitted, and how many were answered.
+#[derive(Drop)]
+pub struct Desk {
+    pub coord: Coord,
+    pub next: usize,
+    pub answered: u64,
+}
+
+/// What is due: text that is to be written, and the datagrams that are to be sent behind it.
+#[derive(Debug, Drop)]
+pub struct Due {
+    pub text: Vec<u8>,
+    pub sends: Vec<Datagram>,
+}
+
+// Submits a request. One that names no procedure asks for nothing.
+fn submit_one(
+    alloc: Global,
+    plan: &Plan,
+    coord: &mut Coord,
+    request: &Request,
+    out: &mut Outbox,
+    text: &mut Vec<u8>,
+) -> Result<(), NoMemory>
+    requires { CoordFits plan.now coord.old }
+    ensures submits { OnOk result (SubmitsOne plan.now request.now coord.old coord.new out.old.messages out.new.messages text.old.items text.new.items) }
+    ensures fits { CoordFits plan.now coord.new }
+{
+    let proc = match plan.procedure_named(request.name.as_bytes()) {
+        Some(proc) => proc,
+        None => return Ok(()),
+    };
+    match coord.submit(plan, proc, request.args.as_slice(), out) {
+        Ok(id) => {
+            let line = ReportLine::Submit {
+                id,
+                proc,
+                args: &request.args,
+            };
+            append(alloc, text, plan.workload(), &line)?;
+            Ok(())
+        }
+        Err(SubmitFault::NoMemory) => Err(NoMemory),
+        Err(SubmitFault::Stopped) => Err(NoMemory),
+        Err(SubmitFault::NoProc) => Ok(()),
+        Err(SubmitFault::Args) => Ok(()),
+        Err(SubmitFault::Spent) => Ok(()),
+        Err(SubmitFault::Busy) => Ok(()),
+    }
+}
+
+// The requests that are submitted before a turn, one after another, while fewer than sixteen are unanswered.
+fn submit_some(
+    alloc: Global,
+    plan: &Plan,
+    desk: &mut Desk,
+    requests: &[Request],
+    out: &mut Outbox,
+    text: &mut Vec<u8>,
+) -> Result<(), NoMemory>
+    requires fits { CoordFits plan.now desk.old.coord }
+    requires next { desk.old.next ≤ length requests.now }
+    ensures submits { OnOk result (SubmitsSome plan.now requests.now desk.old desk.new out.old.messages out.new.messages text.old.items text.new.items) }
+    ensures fits { CoordFits plan.now desk.new.coord }
+    ensures next { desk.new.next ≤ length requests.now }
+{
+    for request in &requests[desk.next..] {
+        if desk.coord.unanswered().len() >= MOST_PENDING {
+            return Ok(());
+        }
+        submit_one(alloc, plan, &mut desk.coord, request, out, text)?;
+        desk.next += 1;
+    }
+    Ok(())
+}
+
+/// The submissions before a turn, one after another, while fewer than sixteen are unanswered.
+pub fn make_submissions(
+    alloc: Global,
+    plan: &Plan,
+    cluster: &Cluster,
+    header: &Header,
+    desk: &mut Desk,
+    requests: &[Request],
+) -> Result<Due, NoMemory>
+    requires fits { CoordFits plan.now desk.old.coord }
+    requires header { FitsHeader header.now }
+    requires cluster { length cluster.now ≡ plan.now.program.shards }
+    requires next { desk.old.next ≤ length requests.now }
+    ensures submits { IfOk result (λ due. SubmitsHalf (record { plan = plan.now; header = header.now; cluster = cluster.now }) requests.now desk.old desk.new due.text.items due.sends.items) }
+    ensures fits { CoordFits plan.now desk.new.coord }
+    ensures next { desk.new.next ≤ length requests.now }
+{
+    let mut out = Outbox::new(alloc);
+    let mut text = Vec::new(alloc);
+    submit_some(alloc, plan, desk, requests, &mut out, &mut text)?;
+    let sends = post_all(alloc, plan, cluster, header, &out)?;
+    Ok(Due { text, sends })
+}
+
+// Adds the line of a reply, if a transaction has it now.
+fn push_reply(
+    alloc: Global,
+    workload: &Workload,
+    text: &mut Vec<u8>,
+    answer: &Handled,
+) -> Result<(), NoMemory>
+    ensures { OnOk result (text.new.items ≡ text.old.items ++ lines_text workload.now (reply_lines answer.now)) }
+{
+    match answer {
+        Handled::Answered { id, reply } => append(
+            alloc,
+            text,
+            workload,
+            &ReportLine::Answer { id: *id, reply },
+        ),
+        Handled::Done => Ok(()),
+        Handled::Ignored(_) => Ok(()),
+    }
+}
+
+fn answered_then(answered: u64, answer: &Handled) -> u64
+    ensures { result ≡ answered_then answered answer.now }
+{
+    match answer {
+        Handled::Answered { .. } => answered.saturating_add(1),
+        Handled::Done => answered,
+        Handled::Ignored(_) => answered,
+    }
+}
+
+// What messages of a coordinator are sent as.
+fn post_all(
+    alloc: Global,
+    plan: &Plan,
+    cluster: &Cluster,
+    header: &Header,
+    out: &Outbox,
+) -> Result<Vec<Datagram>, NoMemory>
+    requires header { FitsHeader header.now }
+    requires cluster { length cluster.now ≡ plan.now.program.shards }
+    ensures { IfOk result (λ sends. sends.items ≡ packets_for header.now cluster.now none_heard out.now.messages) }
+{
+    let shards = plan.workload().shards();
+    post(
+        alloc,
+        header,
+        cluster,
+        shards,
+        &Heard::new(),
+        out.messages.as_slice(),
+    )
+}
+
+// A delivery.
+fn take_message(
+    alloc: Global,
+    plan: &Plan,
+    cluster: &Cluster,
+    header: &Header,
+    desk: &mut Desk,
+    msg: &Msg,
+) -> Result<Due, NoMemory>
+    requires fits { CoordFits plan.now desk.old.coord }
+    requires header { FitsHeader header.now }
+    requires cluster { length cluster.now ≡ plan.now.program.shards }
+    ensures takes { IfOk result (λ due. TakesStep (record { plan = plan.now; header = header.now; cluster = cluster.now }) (after_message plan.now desk.old.coord msg.now) desk.old desk.new due.text.items due.sends.items) }
+    ensures fits { CoordFits plan.now desk.new.coord }
+{
+    let mut out = Outbox::new(alloc);
+    let answer = match desk.coord.handle(plan, msg, &mut out) {
+        Ok(answer) => answer,
+        Err(_) => return Err(NoMemory),
+    };
+    let mut text = Vec::new(alloc);
+    push_reply(alloc, plan.workload(), &mut text, &answer)?;
+    let sends = post_all(alloc, plan, cluster, header, &out)?;
+    desk.answered = answered_then(desk.answered, &answer);
+    Ok(Due { text, sends })
+}
+
+/// A datagram.
+pub fn take_datagram(
+    alloc: Global,
+    plan: &Plan,
+    cluster: &Cluster,
+    header: &Header,
+    desk: &mut Desk,
+    bytes: &[u8],
+) -> Result<Due, NoMemory>
+    requires fits { CoordFits plan.now desk.old.coord }
+    requires header { FitsHeader header.now }
+    requires cluster { length cluster.now ≡ plan.now.program.shards }
+    ensures takes { IfOk result (λ due. TakesStep (record { plan = plan.now; header = header.now; cluster = cluster.now })
+        (step_of_judged plan.now desk.old.coord (judged header.now.tag bytes.now)) desk.old desk.new due.text.items due.sends.items) }
+    ensures fits { CoordFits plan.now desk.new.coord }
+{
+    match judge(alloc, header.tag, bytes) {
+        Ok(Judged::Delivery(_sender, msg)) => {
+            take_message(alloc, plan, cluster, header, desk, &msg)
+        }
+        Ok(Judged::Skipped(_skip)) => Ok(Due {
+            text: Vec::new(alloc),
+            sends: Vec::new(alloc),
+        }),
+        Err(NoMemory) => Err(NoMemory),
+    }
+}
+
+/// Silence.
+pub fn take_silence(
+    alloc: Global,
+    plan: &Plan,
+    cluster: &Cluster,
+    header: &Header,
+    desk: &mut Desk,
+) -> Result<Due, NoMemory>
+    requires fits { CoordFits plan.now desk.old.coord }
+    requires header { FitsHeader header.now }
+    requires cluster { length cluster.now ≡ plan.now.program.shards }
+    ensures takes { IfOk result (λ due. TakesHalf (record { plan = plan.now; header = header.now; cluster = cluster.now }) silent desk.old desk.new due.text.items due.sends.items) }
+    ensures fits { CoordFits plan.now desk.new.coord }
+{
+    let mut out = Outbox::new(alloc);
+    if desk.coord.tick(plan, &mut out).is_err() {
+        return Err(NoMemory);
+    }
+    let sends = post_all(alloc, plan, cluster, header, &out)?;
+    Ok(Due {
+        text: Vec::new(alloc),
+        sends,
+    })
+}
