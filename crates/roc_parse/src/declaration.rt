@@ -1,6 +1,6 @@
 //! Tables, init lines, and the whole of a text.
 
-ghost use Rattle.std.specs.Prelude.{◌≡◌, ◌-◌, map};
+ghost use Rattle.std.specs.Prelude.{◌≡◌, ◌-◌, map, IfOk};
 ghost use Rattle.roc_lang.specs.Grammar.{standard};
 ghost use Rattle.roc_lang.specs.Tree.{table_tree, init_tree};
 ghost use Rattle.roc_parse.specs.Inner.Views.{ReadsAs, token_views, parts_tree};
@@ -8,10 +8,11 @@ ghost use Rattle.roc_parse.specs.Inner.Parts.{signed_at, behind_comma_at, separa
 ghost use Rattle.roc_parse.specs.Inner.Reading.{said_arity_at, arity_at, table_at, row_at, init_at, front_at, end_at, tables_at, inits_at, text_at, whole_at};
 
 use crate::procedure::{names_of, procedures_of};
-use crate::refusal::{Refusal, limit_fault, token_fault};
+use crate::refusal::{Refusal, limit_fault, or_refuse, token_fault};
 use crate::statement::MORE_IDS;
 use crate::terminal::{
-    begins_mark, begins_word, bounded_of, mark, mark_line, name_of, shards_of, signed_of, word,
+    before_mark, begins_mark, begins_word, bounded_of, mark, mark_line, name_of, shards_of,
+    signed_of, word,
 };
 use crate::token::Token;
 use roc_lang::limits::{ARITY, COLUMNS, INITS, LEAST_ARITY, TABLES};
@@ -26,11 +27,10 @@ const MORE_COLUMNS: u32 = COLUMNS - 1;
 fn said_arity_of(tokens: &[Token]) -> Result<(u64, &[Token]), Refusal<'_>>
     ensures { ReadsAs (λ x. (x.0, token_views x.1.now)) result (said_arity_at standard (token_views tokens.now)) }
 {
-    let rest = mark(tokens, b'[')?;
-    let (arity, rest) = bounded_of(LEAST_ARITY, ARITY, rest)?;
-    let rest = mark(rest, b']')?;
-    let rest = mark(rest, b'{')?;
-    Ok((arity, rest))
+    let rest = or_refuse!(mark(tokens, b'['));
+    let (arity, rest) = or_refuse!(bounded_of(LEAST_ARITY, ARITY, rest));
+    let rest = or_refuse!(mark(rest, b']'));
+    before_mark(arity, rest, b'{')
 }
 
 /// The same, or the brace alone: then it is one.
@@ -41,25 +41,23 @@ fn arity_of(tokens: &[Token]) -> Result<(u64, &[Token]), Refusal<'_>>
     if begins_mark(tokens, b'[') {
         return said_arity_of(tokens);
     }
-    let rest = mark(tokens, b'{')?;
-    Ok((1, rest))
+    before_mark(1, tokens, b'{')
 }
 
 #[tactic(auto, unfolding(crate::specs::Inner::Reading::table_at))]
 fn table_of(alloc: Global, tokens: &[Token]) -> Result<(Table, &[Token]), Refusal<'_>>
     ensures { ReadsAs (λ x. (table_tree x.0, token_views x.1.now)) result (table_at standard (token_views tokens.now)) }
 {
-    let rest = word(tokens, "table")?;
-    let (name, rest) = name_of(alloc, rest)?;
-    let (arity, rest) = arity_of(rest)?;
-    let (columns, rest) = names_of(alloc, MORE_COLUMNS, rest)?;
-    let rest = mark(rest, b'}')?;
+    let rest = or_refuse!(word(tokens, "table"));
+    let (name, rest) = or_refuse!(name_of(alloc, rest));
+    let (arity, rest) = or_refuse!(arity_of(rest));
+    let (columns, rest) = or_refuse!(names_of(alloc, MORE_COLUMNS, rest));
     let table = Table {
         name,
         arity,
         columns,
     };
-    Ok((table, rest))
+    before_mark(table, rest, b'}')
 }
 
 /// As many tables as come.
@@ -72,7 +70,7 @@ fn tables_of(alloc: Global, tokens: &[Token]) -> Result<(Vec<Table>, &[Token]), 
         if !begins_word(rest, "table") {
             return Ok((tables, rest));
         }
-        let (table, after) = table_of(alloc, rest)?;
+        let (table, after) = or_refuse!(table_of(alloc, rest));
         tables.push(table)?;
         rest = after;
     }
@@ -87,7 +85,7 @@ fn tables_of(alloc: Global, tokens: &[Token]) -> Result<(Vec<Table>, &[Token]), 
 fn next_signed_of(tokens: &[Token]) -> Result<(i64, &[Token]), Refusal<'_>>
     ensures { ReadsAs (λ x. (x.0, token_views x.1.now)) result (behind_comma_at signed_at (token_views tokens.now)) }
 {
-    let rest = mark(tokens, b',')?;
+    let rest = or_refuse!(mark(tokens, b','));
     signed_of(rest)
 }
 
@@ -105,7 +103,7 @@ fn signed_behind(
         if !begins_mark(rest, b',') {
             return Ok((integers, rest));
         }
-        let (integer, after) = next_signed_of(rest)?;
+        let (integer, after) = or_refuse!(next_signed_of(rest));
         integers.push(integer)?;
         rest = after;
     }
@@ -120,12 +118,12 @@ fn signed_behind(
 fn id_of(alloc: Global, tokens: &[Token]) -> Result<(Vec<i64>, &[Token]), Refusal<'_>>
     ensures { ReadsAs (λ x. (x.0.items, token_views x.1.now)) result (separated_at signed_at (standard.ids - 1) (token_views tokens.now)) }
 {
-    let (first, rest) = signed_of(tokens)?;
+    let (first, rest) = or_refuse!(signed_of(tokens));
     signed_behind(alloc, first, rest)
 }
 
 /// Where a row stands in its table.
-#[derive(Debug, Drop)]
+#[derive(Drop)]
 struct Row {
     place: i64,
     id: Vec<i64>,
@@ -137,11 +135,11 @@ struct Row {
 fn row_of(alloc: Global, tokens: &[Token]) -> Result<(Row, &[Token]), Refusal<'_>>
     ensures { ReadsAs (λ x. ((x.0.place, x.0.id.items, x.0.line), token_views x.1.now)) result (row_at standard (token_views tokens.now)) }
 {
-    let rest = mark(tokens, b'[')?;
-    let (place, rest) = signed_of(rest)?;
-    let rest = mark(rest, b',')?;
-    let (id, rest) = id_of(alloc, rest)?;
-    let (line, rest) = mark_line(rest, b']')?;
+    let rest = or_refuse!(mark(tokens, b'['));
+    let (place, rest) = or_refuse!(signed_of(rest));
+    let rest = or_refuse!(mark(rest, b','));
+    let (id, rest) = or_refuse!(id_of(alloc, rest));
+    let (line, rest) = or_refuse!(mark_line(rest, b']'));
     Ok((Row { place, id, line }, rest))
 }
 
@@ -149,23 +147,22 @@ fn row_of(alloc: Global, tokens: &[Token]) -> Result<(Row, &[Token]), Refusal<'_
 fn init_of(alloc: Global, tokens: &[Token]) -> Result<(Init, &[Token]), Refusal<'_>>
     ensures { ReadsAs (λ x. (init_tree x.0, token_views x.1.now)) result (init_at standard (token_views tokens.now)) }
 {
-    let rest = word(tokens, "init")?;
-    let (table, rest) = name_of(alloc, rest)?;
-    let (row, rest) = row_of(alloc, rest)?;
-    let rest = mark(rest, b'.')?;
-    let (column, rest) = name_of(alloc, rest)?;
-    let rest = mark(rest, b'=')?;
-    let (value, rest) = signed_of(rest)?;
-    let rest = mark(rest, b';')?;
+    let rest = or_refuse!(word(tokens, "init"));
+    let (table, rest) = or_refuse!(name_of(alloc, rest));
+    let (Row { place, id, line }, rest) = or_refuse!(row_of(alloc, rest));
+    let rest = or_refuse!(mark(rest, b'.'));
+    let (column, rest) = or_refuse!(name_of(alloc, rest));
+    let rest = or_refuse!(mark(rest, b'='));
+    let (value, rest) = or_refuse!(signed_of(rest));
     let init = Init {
         table,
-        place: row.place,
-        id: row.id,
-        id_line: row.line,
+        place,
+        id,
+        id_line: line,
         column,
         value,
     };
-    Ok((init, rest))
+    before_mark(init, rest, b';')
 }
 
 /// As many init lines as come.
@@ -178,7 +175,7 @@ fn inits_of(alloc: Global, tokens: &[Token]) -> Result<(Vec<Init>, &[Token]), Re
         if !begins_word(rest, "init") {
             return Ok((inits, rest));
         }
-        let (init, after) = init_of(alloc, rest)?;
+        let (init, after) = or_refuse!(init_of(alloc, rest));
         inits.push(init)?;
         rest = after;
     }
@@ -193,26 +190,26 @@ fn inits_of(alloc: Global, tokens: &[Token]) -> Result<(Vec<Init>, &[Token]), Re
 fn front_of(tokens: &[Token]) -> Result<((u64, u32), &[Token]), Refusal<'_>>
     ensures { ReadsAs (λ x. (x.0, token_views x.1.now)) result (front_at (token_views tokens.now)) }
 {
-    let rest = word(tokens, "shards")?;
-    let (shards, rest) = shards_of(rest)?;
-    let rest = mark(rest, b';')?;
-    Ok((shards, rest))
+    let rest = or_refuse!(word(tokens, "shards"));
+    let (shards, rest) = or_refuse!(shards_of(rest));
+    before_mark(shards, rest, b';')
 }
 
-/// No token is left.
+/// The parts, where no token is left.
 #[tactic(auto, unfolding(crate::specs::Inner::Reading::end_at))]
-fn end_of(tokens: &[Token]) -> Result<&[Token], Refusal<'_>>
-    ensures { ReadsAs (λ x. (tt, token_views x.now)) result (end_at (token_views tokens.now)) }
+fn ended(parts: Parts, tokens: &[Token]) -> Result<(Parts, &[Token]), Refusal<'_>>
+    ensures read { ReadsAs (λ x. (tt, token_views x.1.now)) result (end_at (token_views tokens.now)) }
+    ensures value { IfOk result (λ x. x.0 ≡ parts) }
 {
     if tokens.is_empty() {
-        Ok(tokens)
+        Ok((parts, tokens))
     } else {
         Err(token_fault(tokens))
     }
 }
 
 /// The parts of a text.
-#[derive(Debug, Drop)]
+#[derive(Drop)]
 pub(crate) struct Parts {
     pub shards: u64,
     pub shards_line: u32,
@@ -226,11 +223,10 @@ pub(crate) struct Parts {
 fn text_of(alloc: Global, tokens: &[Token]) -> Result<(Parts, &[Token]), Refusal<'_>>
     ensures { ReadsAs (λ x. (parts_tree x.0, token_views x.1.now)) result (text_at standard (token_views tokens.now)) }
 {
-    let ((shards, shards_line), rest) = front_of(tokens)?;
-    let (tables, rest) = tables_of(alloc, rest)?;
-    let (inits, rest) = inits_of(alloc, rest)?;
-    let (procedures, rest) = procedures_of(alloc, rest)?;
-    let rest = end_of(rest)?;
+    let ((shards, shards_line), rest) = or_refuse!(front_of(tokens));
+    let (tables, rest) = or_refuse!(tables_of(alloc, rest));
+    let (inits, rest) = or_refuse!(inits_of(alloc, rest));
+    let (procedures, rest) = or_refuse!(procedures_of(alloc, rest));
     let parts = Parts {
         shards,
         shards_line,
@@ -238,7 +234,7 @@ fn text_of(alloc: Global, tokens: &[Token]) -> Result<(Parts, &[Token]), Refusal
         inits,
         procedures,
     };
-    Ok((parts, rest))
+    ended(parts, rest)
 }
 
 /// The source of all of the tokens.
@@ -246,7 +242,7 @@ fn text_of(alloc: Global, tokens: &[Token]) -> Result<(Parts, &[Token]), Refusal
 pub(crate) fn whole_of(alloc: Global, tokens: &[Token]) -> Result<Source, Refusal<'_>>
     ensures { ReadsAs (λ source. source) result (whole_at standard (token_views tokens.now)) }
 {
-    let (parts, _) = text_of(alloc, tokens)?;
+    let (parts, _) = or_refuse!(text_of(alloc, tokens));
     Ok(Source::new(
         parts.shards,
         parts.shards_line,

@@ -1,6 +1,6 @@
 //! Expressions with their depths, and what operators and functions make of them.
 
-ghost use Rattle.std.specs.Prelude.{◌≡◌, ◌<◌, IfOk};
+ghost use Rattle.std.specs.Prelude.{◌≡◌, ◌<◌, ◌+◌, max, IfOk};
 ghost use Rattle.roc_lang.specs.Grammar.{standard};
 ghost use Rattle.roc_lang.specs.Syntax.{Pick};
 ghost use Rattle.roc_lang.specs.Tree.{expression_tree};
@@ -11,14 +11,14 @@ use roc_lang::Expression;
 use std::alloc::{AllocError, Global};
 
 /// An expression and its depth.
-#[derive(Debug, Drop)]
+#[derive(Drop)]
 pub(crate) struct Deep {
     pub expression: Expression,
     pub depth: u32,
 }
 
 /// A function of two operands.
-#[derive(Clone, Copy, Debug, Drop)]
+#[derive(Clone, Copy, Drop)]
 pub(crate) enum Function {
     Minimum,
     Maximum,
@@ -35,35 +35,71 @@ pub(crate) fn word_of(function: Function) -> &'static str
     }
 }
 
-pub(crate) fn applied(
-    alloc: Global,
-    function: Function,
-    first: Expression,
-    second: Expression,
-) -> Result<Expression, AllocError>
-    ensures { IfOk result (λ e. expression_tree e ≡ function_of function (expression_tree first) (expression_tree second)) }
+/// An expression in parentheses.
+pub(crate) fn enclosed(inner: Deep) -> Deep
+    requires { inner.depth < standard.depth }
+    ensures { deep_view result ≡ (expression_tree inner.expression, inner.depth + 1) }
 {
-    let first = Box::new(alloc, first)?;
-    let second = Box::new(alloc, second)?;
-    match function {
-        Function::Minimum => Ok(Expression::Minimum(first, second)),
-        Function::Maximum => Ok(Expression::Maximum(first, second)),
-        Function::Less => Ok(Expression::Less(first, second)),
+    let Deep { expression, depth } = inner;
+    let depth = depth + 1;
+    Deep { expression, depth }
+}
+
+/// Two operands, and the greater of their depths.
+#[derive(Drop)]
+pub(crate) struct Operands {
+    pub first: Expression,
+    pub second: Expression,
+    pub depth: u32,
+}
+
+pub(crate) fn paired(first: Deep, second: Deep) -> Operands
+    ensures { (expression_tree result.first ≡ expression_tree first.expression) × (expression_tree result.second ≡ expression_tree second.expression) × (result.depth ≡ max first.depth second.depth) }
+{
+    let depth = first.depth.max(second.depth);
+    Operands {
+        first: first.expression,
+        second: second.expression,
+        depth,
     }
 }
 
+/// A function of two operands, which is deeper than they are.
+pub(crate) fn applied(
+    alloc: Global,
+    function: Function,
+    operands: Operands,
+) -> Result<Deep, AllocError>
+    requires { operands.depth < standard.depth }
+    ensures { IfOk result (λ d. deep_view d ≡ (function_of function (expression_tree operands.first) (expression_tree operands.second), operands.depth + 1)) }
+{
+    let depth = operands.depth + 1;
+    let first = Box::new(alloc, operands.first)?;
+    let second = Box::new(alloc, operands.second)?;
+    let expression = match function {
+        Function::Minimum => Expression::Minimum(first, second),
+        Function::Maximum => Expression::Maximum(first, second),
+        Function::Less => Expression::Less(first, second),
+    };
+    Ok(Deep { expression, depth })
+}
+
+/// `pick` of three operands.
 pub(crate) fn picked(
     alloc: Global,
-    chooser: Expression,
-    first: Expression,
-    second: Expression,
-) -> Result<Expression, AllocError>
-    ensures { IfOk result (λ e. expression_tree e ≡ Pick (expression_tree chooser) (expression_tree first) (expression_tree second)) }
+    chooser: Deep,
+    first: Deep,
+    second: Deep,
+) -> Result<Deep, AllocError>
+    requires { (chooser.depth < standard.depth) × (first.depth < standard.depth) × (second.depth < standard.depth) }
+    ensures { IfOk result (λ d. deep_view d ≡ (Pick (expression_tree chooser.expression) (expression_tree first.expression) (expression_tree second.expression), max chooser.depth (max first.depth second.depth) + 1)) }
 {
-    let chooser = Box::new(alloc, chooser)?;
-    let first = Box::new(alloc, first)?;
-    let second = Box::new(alloc, second)?;
-    Ok(Expression::Pick(chooser, first, second))
+    let depth = chooser.depth.max(first.depth.max(second.depth)) + 1;
+    let chooser = Box::new(alloc, chooser.expression)?;
+    let first = Box::new(alloc, first.expression)?;
+    let second = Box::new(alloc, second.expression)?;
+    let expression = Expression::Pick(chooser, first, second);
+    Ok(Deep { expression, depth })
 }
 
 /// The product of two expressions.

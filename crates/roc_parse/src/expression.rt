@@ -8,10 +8,13 @@ ghost use Rattle.roc_parse.specs.Inner.Views.{ReadsAs, token_views, deep_view, f
 ghost use Rattle.roc_parse.specs.Inner.Parts.{behind_comma_at};
 ghost use Rattle.roc_parse.specs.Inner.Reading.{number_at, variable_at, enclosed_at, pair_at, function_at, pick_at, atom_at, factor_at, factors_at, times, term_at, signed_term_at, sums_at, plus_or_minus, sum_at, deep_at, expression_at};
 
-use crate::deep::{Deep, Function, applied, picked, plus_or_minus, times, word_of};
-use crate::refusal::{Refusal, limit_fault};
+use crate::deep::{
+    Deep, Function, Operands, applied, enclosed, paired, picked, plus_or_minus, times, word_of,
+};
+use crate::refusal::{Refusal, limit_fault, or_refuse};
 use crate::terminal::{
-    begins_integer, begins_mark, begins_sign, begins_word, integer_of, mark, name_of, sign_at, word,
+    before_mark, begins_integer, begins_mark, begins_sign, begins_word, integer_of, mark, name_of,
+    sign_at, word,
 };
 use crate::token::Token;
 use roc_lang::Expression;
@@ -23,7 +26,7 @@ fn number_of(tokens: &[Token]) -> Result<(Deep, &[Token]), Refusal<'_>>
     ensures read { ReadsAs (λ x. (deep_view x.0, token_views x.1.now)) result (number_at (token_views tokens.now)) }
     ensures depth { IfOk result (λ x. x.0.depth ≡ 1) }
 {
-    let (value, rest) = integer_of(tokens)?;
+    let (value, rest) = or_refuse!(integer_of(tokens));
     let expression = Expression::Number(value);
     Ok((
         Deep {
@@ -39,7 +42,7 @@ fn variable_of(alloc: Global, tokens: &[Token]) -> Result<(Deep, &[Token]), Refu
     ensures read { ReadsAs (λ x. (deep_view x.0, token_views x.1.now)) result (variable_at (token_views tokens.now)) }
     ensures depth { IfOk result (λ x. x.0.depth ≡ 1) }
 {
-    let (name, rest) = name_of(alloc, tokens)?;
+    let (name, rest) = or_refuse!(name_of(alloc, tokens));
     let expression = Expression::Variable(name);
     Ok((
         Deep {
@@ -60,12 +63,9 @@ fn enclosed_of(alloc: Global, room: u32, tokens: &[Token]) -> Result<(Deep, &[To
     ensures deep { IfOk result (λ x. 0 < x.0.depth) }
     ensures fits { IfOk result (λ x. x.0.depth ≤ room + 1) }
 {
-    let rest = mark(tokens, b'(')?;
-    let (inner, rest) = deep_of(alloc, room, rest)?;
-    let rest = mark(rest, b')')?;
-    let depth = inner.depth + 1;
-    let expression = inner.expression;
-    Ok((Deep { expression, depth }, rest))
+    let rest = or_refuse!(mark(tokens, b'('));
+    let (inner, rest) = or_refuse!(deep_of(alloc, room, rest));
+    before_mark(enclosed(inner), rest, b')')
 }
 
 /// A comma and an expression behind it.
@@ -82,29 +82,23 @@ fn behind_comma_of(
     ensures deep { IfOk result (λ x. 0 < x.0.depth) }
     ensures fits { IfOk result (λ x. x.0.depth ≤ room) }
 {
-    let rest = mark(tokens, b',')?;
+    let rest = or_refuse!(mark(tokens, b','));
     deep_of(alloc, room, rest)
 }
 
 /// Two operands in parentheses, and the greater of their depths.
 #[cycle(expression)]
 #[tactic(auto, unfolding(crate::specs::Inner::Reading::pair_at))]
-fn pair_of(
-    alloc: Global,
-    room: u32,
-    tokens: &[Token],
-) -> Result<((Expression, Expression, u32), &[Token]), Refusal<'_>>
+fn pair_of(alloc: Global, room: u32, tokens: &[Token]) -> Result<(Operands, &[Token]), Refusal<'_>>
     requires above { 0 < room }
     requires below { room < standard.depth }
-    ensures read { ReadsAs (λ x. ((expression_tree x.0.0, expression_tree x.0.1, x.0.2), token_views x.1.now)) result (pair_at (deep_at room) (token_views tokens.now)) }
-    ensures fits { IfOk result (λ x. x.0.2 ≤ room) }
+    ensures read { ReadsAs (λ x. ((expression_tree x.0.first, expression_tree x.0.second, x.0.depth), token_views x.1.now)) result (pair_at (deep_at room) (token_views tokens.now)) }
+    ensures fits { IfOk result (λ x. x.0.depth ≤ room) }
 {
-    let rest = mark(tokens, b'(')?;
-    let (first, rest) = deep_of(alloc, room, rest)?;
-    let (second, rest) = behind_comma_of(alloc, room, rest)?;
-    let rest = mark(rest, b')')?;
-    let depth = first.depth.max(second.depth);
-    Ok(((first.expression, second.expression, depth), rest))
+    let rest = or_refuse!(mark(tokens, b'('));
+    let (first, rest) = or_refuse!(deep_of(alloc, room, rest));
+    let (second, rest) = or_refuse!(behind_comma_of(alloc, room, rest));
+    before_mark(paired(first, second), rest, b')')
 }
 
 /// `min`, `max` or `less`, and its operands.
@@ -122,11 +116,10 @@ fn call_of(
     ensures deep { IfOk result (λ x. 0 < x.0.depth) }
     ensures fits { IfOk result (λ x. x.0.depth ≤ room + 1) }
 {
-    let rest = word(tokens, word_of(function))?;
-    let ((first, second, greater), rest) = pair_of(alloc, room, rest)?;
-    let depth = greater + 1;
-    let expression = applied(alloc, function, first, second)?;
-    Ok((Deep { expression, depth }, rest))
+    let rest = or_refuse!(word(tokens, word_of(function)));
+    let (operands, rest) = or_refuse!(pair_of(alloc, room, rest));
+    let call = applied(alloc, function, operands)?;
+    Ok((call, rest))
 }
 
 /// `pick` and its operands.
@@ -139,20 +132,13 @@ fn pick_of(alloc: Global, room: u32, tokens: &[Token]) -> Result<(Deep, &[Token]
     ensures deep { IfOk result (λ x. 0 < x.0.depth) }
     ensures fits { IfOk result (λ x. x.0.depth ≤ room + 1) }
 {
-    let rest = word(tokens, "pick")?;
-    let rest = mark(rest, b'(')?;
-    let (chooser, rest) = deep_of(alloc, room, rest)?;
-    let (first, rest) = behind_comma_of(alloc, room, rest)?;
-    let (second, rest) = behind_comma_of(alloc, room, rest)?;
-    let rest = mark(rest, b')')?;
-    let depth = chooser.depth.max(first.depth.max(second.depth)) + 1;
-    let expression = picked(
-        alloc,
-        chooser.expression,
-        first.expression,
-        second.expression,
-    )?;
-    Ok((Deep { expression, depth }, rest))
+    let rest = or_refuse!(word(tokens, "pick"));
+    let rest = or_refuse!(mark(rest, b'('));
+    let (chooser, rest) = or_refuse!(deep_of(alloc, room, rest));
+    let (first, rest) = or_refuse!(behind_comma_of(alloc, room, rest));
+    let (second, rest) = or_refuse!(behind_comma_of(alloc, room, rest));
+    let pick = picked(alloc, chooser, first, second)?;
+    before_mark(pick, rest, b')')
 }
 
 /// An integer, a name, an expression in parentheses, or a function and its operands.
@@ -212,7 +198,7 @@ fn factor_of(alloc: Global, room: u32, tokens: &[Token]) -> Result<(Deep, &[Toke
     ensures deep { IfOk result (λ x. 0 < x.0.depth) }
     ensures fits { IfOk result (λ x. x.0.depth ≤ room) }
 {
-    let rest = mark(tokens, b'*')?;
+    let rest = or_refuse!(mark(tokens, b'*'));
     atom_of(alloc, room, rest)
 }
 
@@ -240,7 +226,7 @@ fn factors_of(
         if product.depth >= room {
             return Err(limit_fault(rest));
         }
-        let (factor, after) = factor_of(alloc, room - 1, rest)?;
+        let (factor, after) = or_refuse!(factor_of(alloc, room - 1, rest));
         product = times(alloc, product, factor)?;
         rest = after;
     }
@@ -260,7 +246,7 @@ fn term_of(alloc: Global, room: u32, tokens: &[Token]) -> Result<(Deep, &[Token]
     ensures deep { IfOk result (λ x. 0 < x.0.depth) }
     ensures fits { IfOk result (λ x. x.0.depth ≤ room) }
 {
-    let (first, rest) = atom_of(alloc, room, tokens)?;
+    let (first, rest) = or_refuse!(atom_of(alloc, room, tokens));
     factors_of(alloc, room, first, rest)
 }
 
@@ -278,8 +264,8 @@ fn signed_term_of(
     ensures deep { IfOk result (λ x. 0 < x.0.1.depth) }
     ensures fits { IfOk result (λ x. x.0.1.depth ≤ room) }
 {
-    let (is_sum, rest) = sign_at(tokens)?;
-    let (term, rest) = term_of(alloc, room, rest)?;
+    let (is_sum, rest) = or_refuse!(sign_at(tokens));
+    let (term, rest) = or_refuse!(term_of(alloc, room, rest));
     Ok(((is_sum, term), rest))
 }
 
@@ -307,7 +293,7 @@ fn sums_of(
         if sum.depth >= room {
             return Err(limit_fault(rest));
         }
-        let ((is_sum, term), after) = signed_term_of(alloc, room - 1, rest)?;
+        let ((is_sum, term), after) = or_refuse!(signed_term_of(alloc, room - 1, rest));
         sum = plus_or_minus(alloc, sum, is_sum, term)?;
         rest = after;
     }
@@ -327,7 +313,7 @@ fn sum_of(alloc: Global, room: u32, tokens: &[Token]) -> Result<(Deep, &[Token])
     ensures deep { IfOk result (λ x. 0 < x.0.depth) }
     ensures fits { IfOk result (λ x. x.0.depth ≤ room) }
 {
-    let (first, rest) = term_of(alloc, room, tokens)?;
+    let (first, rest) = or_refuse!(term_of(alloc, room, tokens));
     sums_of(alloc, room, first, rest)
 }
 
@@ -351,6 +337,6 @@ pub(crate) fn expression_of(
 ) -> Result<(Expression, &[Token]), Refusal<'_>>
     ensures { ReadsAs (λ x. (expression_tree x.0, token_views x.1.now)) result (expression_at standard.depth (token_views tokens.now)) }
 {
-    let (deep, rest) = deep_of(alloc, DEPTH, tokens)?;
+    let (deep, rest) = or_refuse!(deep_of(alloc, DEPTH, tokens));
     Ok((deep.expression, rest))
 }

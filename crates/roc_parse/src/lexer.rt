@@ -13,7 +13,7 @@ use roc_lang::limits::WORD_BYTES;
 use std::alloc::{AllocError, Global};
 
 /// The tokens of a text: all, or those before the first place where none is.
-#[derive(Debug, Drop)]
+#[derive(Drop)]
 pub(crate) struct Lexed {
     pub tokens: Vec<Token>,
     /// The line of the first place where no token is.
@@ -21,7 +21,7 @@ pub(crate) struct Lexed {
 }
 
 /// A token, or none for a blank or a comment, and what is behind it.
-#[derive(Debug, Drop)]
+#[derive(Drop)]
 struct TokenStep<'a> {
     token: Option<Token>,
     line: u32,

@@ -8,9 +8,11 @@ ghost use Rattle.roc_parse.specs.Inner.Parts.{name_at, behind_comma_at, separate
 ghost use Rattle.roc_parse.specs.Inner.Reading.{names_closed_at, names_or_none_at, arguments_at, head_at, piece_at, pieces_behind, some_pieces_at, procedure_at, procedures_at};
 
 use crate::expression::expression_of;
-use crate::refusal::{Refusal, limit_fault};
+use crate::refusal::{Refusal, limit_fault, or_refuse};
 use crate::statement::body_of;
-use crate::terminal::{begins_mark, begins_piece, begins_word, class_at, mark, name_of, word};
+use crate::terminal::{
+    before_mark, begins_mark, begins_piece, begins_word, class_at, mark, name_of, word,
+};
 use crate::token::Token;
 use roc_lang::limits::{ARGUMENTS, PIECES, PROCEDURES};
 use roc_lang::{Expression, Name, Piece, Procedure};
@@ -27,7 +29,7 @@ const MORE_PIECES: u32 = PIECES - 1;
 fn next_name_of(alloc: Global, tokens: &[Token]) -> Result<(Name, &[Token]), Refusal<'_>>
     ensures { ReadsAs (λ x. (name_tree x.0, token_views x.1.now)) result (behind_comma_at name_at (token_views tokens.now)) }
 {
-    let rest = mark(tokens, b',')?;
+    let rest = or_refuse!(mark(tokens, b','));
     name_of(alloc, rest)
 }
 
@@ -46,7 +48,7 @@ fn names_behind(
         if !begins_mark(rest, b',') {
             return Ok((names, rest));
         }
-        let (name, after) = next_name_of(alloc, rest)?;
+        let (name, after) = or_refuse!(next_name_of(alloc, rest));
         names.push(name)?;
         rest = after;
     }
@@ -65,7 +67,7 @@ pub(crate) fn names_of(
 ) -> Result<(Vec<Name>, &[Token]), Refusal<'_>>
     ensures { ReadsAs (λ x. (map name_tree x.0.items, token_views x.1.now)) result (separated_at name_at more (token_views tokens.now)) }
 {
-    let (first, rest) = name_of(alloc, tokens)?;
+    let (first, rest) = or_refuse!(name_of(alloc, tokens));
     names_behind(alloc, first, more, rest)
 }
 
@@ -74,9 +76,8 @@ pub(crate) fn names_of(
 fn names_closed_of(alloc: Global, tokens: &[Token]) -> Result<(Vec<Name>, &[Token]), Refusal<'_>>
     ensures { ReadsAs (λ x. (map name_tree x.0.items, token_views x.1.now)) result (names_closed_at (standard.arguments - 1) (token_views tokens.now)) }
 {
-    let (names, rest) = names_of(alloc, MORE_ARGUMENTS, tokens)?;
-    let rest = mark(rest, b')')?;
-    Ok((names, rest))
+    let (names, rest) = or_refuse!(names_of(alloc, MORE_ARGUMENTS, tokens));
+    before_mark(names, rest, b')')
 }
 
 /// Names, or none, and the closing parenthesis.
@@ -85,8 +86,7 @@ fn listed_of(alloc: Global, tokens: &[Token]) -> Result<(Vec<Name>, &[Token]), R
     ensures { ReadsAs (λ x. (map name_tree x.0.items, token_views x.1.now)) result (names_or_none_at (standard.arguments - 1) (token_views tokens.now)) }
 {
     if begins_mark(tokens, b')') {
-        let rest = mark(tokens, b')')?;
-        return Ok((Vec::new(alloc), rest));
+        return before_mark(Vec::new(alloc), tokens, b')');
     }
     names_closed_of(alloc, tokens)
 }
@@ -95,12 +95,12 @@ fn listed_of(alloc: Global, tokens: &[Token]) -> Result<(Vec<Name>, &[Token]), R
 fn arguments_of(alloc: Global, tokens: &[Token]) -> Result<(Vec<Name>, &[Token]), Refusal<'_>>
     ensures { ReadsAs (λ x. (map name_tree x.0.items, token_views x.1.now)) result (arguments_at (standard.arguments - 1) (token_views tokens.now)) }
 {
-    let rest = mark(tokens, b'(')?;
+    let rest = or_refuse!(mark(tokens, b'('));
     listed_of(alloc, rest)
 }
 
 /// What stands before the opening brace of a piece.
-#[derive(Debug, Drop)]
+#[derive(Drop)]
 struct Head {
     is_now: bool,
     name: Name,
@@ -111,10 +111,10 @@ struct Head {
 fn head_of(alloc: Global, tokens: &[Token]) -> Result<(Head, &[Token]), Refusal<'_>>
     ensures { ReadsAs (λ x. ((x.0.is_now, name_tree x.0.name, expression_tree x.0.place), token_views x.1.now)) result (head_at standard.depth (token_views tokens.now)) }
 {
-    let (is_now, rest) = class_at(tokens)?;
-    let (name, rest) = name_of(alloc, rest)?;
-    let rest = word(rest, "at")?;
-    let (place, rest) = expression_of(alloc, rest)?;
+    let (is_now, rest) = or_refuse!(class_at(tokens));
+    let (name, rest) = or_refuse!(name_of(alloc, rest));
+    let rest = or_refuse!(word(rest, "at"));
+    let (place, rest) = or_refuse!(expression_of(alloc, rest));
     Ok((
         Head {
             is_now,
@@ -129,17 +129,23 @@ fn head_of(alloc: Global, tokens: &[Token]) -> Result<(Head, &[Token]), Refusal<
 fn piece_of(alloc: Global, tokens: &[Token]) -> Result<(Piece, &[Token]), Refusal<'_>>
     ensures { ReadsAs (λ x. (piece_tree x.0, token_views x.1.now)) result (piece_at standard (token_views tokens.now)) }
 {
-    let (head, rest) = head_of(alloc, tokens)?;
-    let rest = mark(rest, b'{')?;
-    let (body, rest) = body_of(alloc, rest)?;
-    let rest = mark(rest, b'}')?;
+    let (
+        Head {
+            is_now,
+            name,
+            place,
+        },
+        rest,
+    ) = or_refuse!(head_of(alloc, tokens));
+    let rest = or_refuse!(mark(rest, b'{'));
+    let (body, rest) = or_refuse!(body_of(alloc, rest));
     let piece = Piece {
-        is_now: head.is_now,
-        name: head.name,
-        place: head.place,
+        is_now,
+        name,
+        place,
         body,
     };
-    Ok((piece, rest))
+    before_mark(piece, rest, b'}')
 }
 
 /// A piece that was read, and the pieces behind it.
@@ -156,7 +162,7 @@ fn pieces_behind(
         if !begins_piece(rest) {
             return Ok((pieces, rest));
         }
-        let (piece, after) = piece_of(alloc, rest)?;
+        let (piece, after) = or_refuse!(piece_of(alloc, rest));
         pieces.push(piece)?;
         rest = after;
     }
@@ -171,7 +177,7 @@ fn pieces_behind(
 fn pieces_of(alloc: Global, tokens: &[Token]) -> Result<(Vec<Piece>, &[Token]), Refusal<'_>>
     ensures { ReadsAs (λ x. (map piece_tree x.0.items, token_views x.1.now)) result (some_pieces_at standard (standard.pieces - 1) (token_views tokens.now)) }
 {
-    let (first, rest) = piece_of(alloc, tokens)?;
+    let (first, rest) = or_refuse!(piece_of(alloc, tokens));
     pieces_behind(alloc, first, rest)
 }
 
@@ -179,18 +185,17 @@ fn pieces_of(alloc: Global, tokens: &[Token]) -> Result<(Vec<Piece>, &[Token]), 
 fn procedure_of(alloc: Global, tokens: &[Token]) -> Result<(Procedure, &[Token]), Refusal<'_>>
     ensures { ReadsAs (λ x. (procedure_tree x.0, token_views x.1.now)) result (procedure_at standard (token_views tokens.now)) }
 {
-    let rest = word(tokens, "proc")?;
-    let (name, rest) = name_of(alloc, rest)?;
-    let (arguments, rest) = arguments_of(alloc, rest)?;
-    let rest = mark(rest, b'{')?;
-    let (pieces, rest) = pieces_of(alloc, rest)?;
-    let rest = mark(rest, b'}')?;
+    let rest = or_refuse!(word(tokens, "proc"));
+    let (name, rest) = or_refuse!(name_of(alloc, rest));
+    let (arguments, rest) = or_refuse!(arguments_of(alloc, rest));
+    let rest = or_refuse!(mark(rest, b'{'));
+    let (pieces, rest) = or_refuse!(pieces_of(alloc, rest));
     let procedure = Procedure {
         name,
         arguments,
         pieces,
     };
-    Ok((procedure, rest))
+    before_mark(procedure, rest, b'}')
 }
 
 /// As many procedures as come.
@@ -206,7 +211,7 @@ pub(crate) fn procedures_of(
         if !begins_word(rest, "proc") {
             return Ok((procedures, rest));
         }
-        let (procedure, after) = procedure_of(alloc, rest)?;
+        let (procedure, after) = or_refuse!(procedure_of(alloc, rest));
         procedures.push(procedure)?;
         rest = after;
     }

@@ -6,7 +6,7 @@ ghost use Rattle.roc_parse.specs.declared.refusal.Refusal.TheVariants.{NoMemory}
 use crate::token::Token;
 use std::alloc::{AllocError, AllocFailed};
 
-#[derive(Debug, Drop)]
+#[derive(Drop)]
 pub(crate) enum Refusal<'a> {
     /// No text goes on with the first of these tokens, or none within the limits. Where there is none, the text stops.
     At { is_limit: bool, rest: &'a [Token] },
@@ -28,6 +28,19 @@ impl<'a, T: Drop> From<AllocFailed<T>> for Refusal<'a> {
         Refusal::NoMemory
     }
 }
+
+/// What a rule gave; where it refused, the rule that asked for it refuses so too. `?` would do the same with a conversion between,
+/// and the proofs would be dearer by it.
+macro_rules! or_refuse {
+    ($reading:expr) => {
+        match $reading {
+            Ok(given) => given,
+            Err(refusal) => return Err(refusal),
+        }
+    };
+}
+
+pub(crate) use or_refuse;
 
 /// No text goes on with the first of these tokens.
 pub(crate) fn token_fault(rest: &[Token]) -> Refusal<'_>

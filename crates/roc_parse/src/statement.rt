@@ -8,8 +8,10 @@ ghost use Rattle.roc_parse.specs.Inner.Parts.{behind_comma_at, separated_behind,
 ghost use Rattle.roc_parse.specs.Inner.Reading.{expression_at, id_at, access_at, get_at, set_at, out_at, statement_at, body_at};
 
 use crate::expression::expression_of;
-use crate::refusal::{Refusal, limit_fault};
-use crate::terminal::{begins_mark, begins_statement, begins_word, mark, mark_line, name_of, word};
+use crate::refusal::{Refusal, limit_fault, or_refuse};
+use crate::terminal::{
+    before_mark, begins_mark, begins_statement, begins_word, mark, mark_line, name_of, word,
+};
 use crate::token::Token;
 use roc_lang::limits::{IDS, STATEMENTS};
 use roc_lang::{Access, Expression, Statement};
@@ -23,7 +25,7 @@ pub(crate) const MORE_IDS: u32 = IDS - 1;
 fn next_integer_of(alloc: Global, tokens: &[Token]) -> Result<(Expression, &[Token]), Refusal<'_>>
     ensures { ReadsAs (λ x. (expression_tree x.0, token_views x.1.now)) result (behind_comma_at (expression_at standard.depth) (token_views tokens.now)) }
 {
-    let rest = mark(tokens, b',')?;
+    let rest = or_refuse!(mark(tokens, b','));
     expression_of(alloc, rest)
 }
 
@@ -41,7 +43,7 @@ fn integers_behind(
         if !begins_mark(rest, b',') {
             return Ok((integers, rest));
         }
-        let (integer, after) = next_integer_of(alloc, rest)?;
+        let (integer, after) = or_refuse!(next_integer_of(alloc, rest));
         integers.push(integer)?;
         rest = after;
     }
@@ -56,7 +58,7 @@ fn integers_behind(
 fn id_of(alloc: Global, tokens: &[Token]) -> Result<(Vec<Expression>, &[Token]), Refusal<'_>>
     ensures { ReadsAs (λ x. (map expression_tree x.0.items, token_views x.1.now)) result (id_at standard (token_views tokens.now)) }
 {
-    let (first, rest) = expression_of(alloc, tokens)?;
+    let (first, rest) = or_refuse!(expression_of(alloc, tokens));
     integers_behind(alloc, first, rest)
 }
 
@@ -64,12 +66,12 @@ fn id_of(alloc: Global, tokens: &[Token]) -> Result<(Vec<Expression>, &[Token]),
 fn access_of(alloc: Global, tokens: &[Token]) -> Result<(Access, &[Token]), Refusal<'_>>
     ensures { ReadsAs (λ x. (access_tree x.0, token_views x.1.now)) result (access_at standard (token_views tokens.now)) }
 {
-    let (table, rest) = name_of(alloc, tokens)?;
-    let rest = mark(rest, b'[')?;
-    let (id, rest) = id_of(alloc, rest)?;
-    let (id_line, rest) = mark_line(rest, b']')?;
-    let rest = mark(rest, b'.')?;
-    let (column, rest) = name_of(alloc, rest)?;
+    let (table, rest) = or_refuse!(name_of(alloc, tokens));
+    let rest = or_refuse!(mark(rest, b'['));
+    let (id, rest) = or_refuse!(id_of(alloc, rest));
+    let (id_line, rest) = or_refuse!(mark_line(rest, b']'));
+    let rest = or_refuse!(mark(rest, b'.'));
+    let (column, rest) = or_refuse!(name_of(alloc, rest));
     let access = Access {
         table,
         id,
@@ -83,34 +85,31 @@ fn access_of(alloc: Global, tokens: &[Token]) -> Result<(Access, &[Token]), Refu
 fn get_of(alloc: Global, tokens: &[Token]) -> Result<(Statement, &[Token]), Refusal<'_>>
     ensures { ReadsAs (λ x. (statement_tree x.0, token_views x.1.now)) result (get_at standard (token_views tokens.now)) }
 {
-    let rest = word(tokens, "get")?;
-    let (name, rest) = name_of(alloc, rest)?;
-    let rest = mark(rest, b'=')?;
-    let (from, rest) = access_of(alloc, rest)?;
-    let rest = mark(rest, b';')?;
-    Ok((Statement::Get { name, from }, rest))
+    let rest = or_refuse!(word(tokens, "get"));
+    let (name, rest) = or_refuse!(name_of(alloc, rest));
+    let rest = or_refuse!(mark(rest, b'='));
+    let (from, rest) = or_refuse!(access_of(alloc, rest));
+    before_mark(Statement::Get { name, from }, rest, b';')
 }
 
 #[tactic(auto, unfolding(crate::specs::Inner::Reading::set_at))]
 fn set_of(alloc: Global, tokens: &[Token]) -> Result<(Statement, &[Token]), Refusal<'_>>
     ensures { ReadsAs (λ x. (statement_tree x.0, token_views x.1.now)) result (set_at standard (token_views tokens.now)) }
 {
-    let rest = word(tokens, "set")?;
-    let (to, rest) = access_of(alloc, rest)?;
-    let rest = mark(rest, b'=')?;
-    let (value, rest) = expression_of(alloc, rest)?;
-    let rest = mark(rest, b';')?;
-    Ok((Statement::Set { to, value }, rest))
+    let rest = or_refuse!(word(tokens, "set"));
+    let (to, rest) = or_refuse!(access_of(alloc, rest));
+    let rest = or_refuse!(mark(rest, b'='));
+    let (value, rest) = or_refuse!(expression_of(alloc, rest));
+    before_mark(Statement::Set { to, value }, rest, b';')
 }
 
 #[tactic(auto, unfolding(crate::specs::Inner::Reading::out_at))]
 fn out_of(alloc: Global, tokens: &[Token]) -> Result<(Statement, &[Token]), Refusal<'_>>
     ensures { ReadsAs (λ x. (statement_tree x.0, token_views x.1.now)) result (out_at standard (token_views tokens.now)) }
 {
-    let rest = word(tokens, "out")?;
-    let (value, rest) = expression_of(alloc, rest)?;
-    let rest = mark(rest, b';')?;
-    Ok((Statement::Out(value), rest))
+    let rest = or_refuse!(word(tokens, "out"));
+    let (value, rest) = or_refuse!(expression_of(alloc, rest));
+    before_mark(Statement::Out(value), rest, b';')
 }
 
 #[tactic(auto, unfolding(crate::specs::Inner::Reading::statement_at))]
@@ -139,7 +138,7 @@ pub(crate) fn body_of(
         if !begins_statement(rest) {
             return Ok((body, rest));
         }
-        let (statement, after) = statement_of(alloc, rest)?;
+        let (statement, after) = or_refuse!(statement_of(alloc, rest));
         body.push(statement)?;
         rest = after;
     }

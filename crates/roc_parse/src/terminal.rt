@@ -1,6 +1,6 @@
 //! The single tokens of the grammar, each with the tokens behind it.
 
-ghost use Rattle.std.specs.Prelude.{◌≡◌, pos, Some, None};
+ghost use Rattle.std.specs.Prelude.{◌≡◌, pos, Some, None, IfOk};
 ghost use Rattle.std.specs.Option.{option_map};
 ghost use Rattle.roc_lang.specs.Grammar.{is_reserved};
 ghost use Rattle.roc_lang.specs.Tree.{name_tree};
@@ -9,7 +9,7 @@ ghost use Rattle.roc_parse.specs.Inner.Views.{ReadsAs, kind_view, token_views};
 ghost use Rattle.roc_parse.specs.Inner.Parts.{has_word, has_mark, has_integer, word_at, mark_at, mark_line_at, free_word, name_at, small_integer, integer_at, bounded_at, negated, negated_at, signed_at, shards_at, piece_class, class_at, sign_of, sign_at};
 ghost use Rattle.roc_parse.specs.Inner.Reading.{starts_statement, starts_piece, is_sign};
 
-use crate::refusal::{Refusal, limit_fault, token_fault};
+use crate::refusal::{Refusal, limit_fault, or_refuse, token_fault};
 use crate::token::{GREATEST_INTEGER, Kind, Token};
 use roc_lang::Name;
 use std::alloc::Global;
@@ -110,6 +110,19 @@ pub(crate) fn mark(tokens: &[Token], mark: u8) -> Result<&[Token], Refusal<'_>>
         }
         None => Err(token_fault(tokens)),
     }
+}
+
+/// A value, where this mark comes behind it. As the end of a rule it lets go of the value where the mark is missing.
+pub(crate) fn before_mark<X: Drop>(
+    value: X,
+    tokens: &[Token],
+    closing: u8,
+) -> Result<(X, &[Token]), Refusal<'_>>
+    ensures read { ReadsAs (λ x. (tt, token_views x.1.now)) result (mark_at closing (token_views tokens.now)) }
+    ensures value { IfOk result (λ x. x.0 ≡ value) }
+{
+    let rest = or_refuse!(mark(tokens, closing));
+    Ok((value, rest))
 }
 
 /// The line of a mark.
@@ -253,7 +266,7 @@ pub(crate) fn signed_of(tokens: &[Token]) -> Result<(i64, &[Token]), Refusal<'_>
     ensures { ReadsAs (λ x. (x.0, token_views x.1.now)) result (signed_at (token_views tokens.now)) }
 {
     if begins_mark(tokens, b'-') {
-        let rest = mark(tokens, b'-')?;
+        let rest = or_refuse!(mark(tokens, b'-'));
         return negated_of(rest);
     }
     integer_of(tokens)

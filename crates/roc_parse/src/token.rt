@@ -3,7 +3,7 @@
 /// The greatest integer, which the grammar takes behind a `-` alone.
 pub(crate) const GREATEST_INTEGER: u64 = 1 << 63;
 
-#[derive(Debug, Drop)]
+#[derive(Drop)]
 pub(crate) enum Kind {
     /// A letter, then letters, digits and `_`: a name or a word of the grammar.
     Word(String),
@@ -13,7 +13,7 @@ pub(crate) enum Kind {
 }
 
 /// A token where it stands: `line` counts from 1.
-#[derive(Debug, Drop)]
+#[derive(Drop)]
 pub(crate) struct Token {
     pub kind: Kind,
     pub line: u32,

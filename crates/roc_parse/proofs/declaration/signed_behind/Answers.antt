@@ -1,5 +1,4 @@
 use Rattle.std.proofs.Common.{◌≡◌, ◌++◌, ◌∷◌, [], ◌-◌, true, false, FitsSigned, w64, refl, rules}
-use Rattle.std.proofs.lemmas.Result.{err_from_is_err_and}
 use Rattle.std.proofs.lemmas.Int.{to_z-of_z}
 use Rattle.roc_lang.specs.Grammar.{standard, comma}
 use Rattle.roc_parse.specs.Inner.Stuck.{head_is}
@@ -14,20 +13,19 @@ returns-then-not-begins_mark c =
     let e : head_is (has_mark comma) (token_views c.loop.rest.now) ≡ false = cc c.if-not-begins_mark.ensures in
     many_stops (has_mark comma) (behind_comma_at signed_at) ((standard.ids - 1) - c.loop.counter) c.loop.integers.items (token_views c.loop.rest.now) _ e inv
 
-pub returns-in_err-integer : goal.returns-in_err-integer
-returns-in_err-integer c =
+pub returns-in-Err : goal.returns-in-Err
+returns-in-Err c =
     let inv = rw (to_z-of_z w64 c.args.first c.ranges.first) at c.loop.invariant in
-    let p = err_from_is_err_and c.from_residual-in_err-integer.result c.from_residual-in_err-integer.ensures.1 in
     let e : head_is (has_mark comma) (token_views c.loop.rest.now) ≡ true = cc c.if-not-begins_mark.ensures in
-    rw (p.1, p.2) (many_refuses (has_mark comma) (behind_comma_at signed_at) (standard.ids - 1) c.loop.counter c.loop.integers.items (token_views c.loop.rest.now) _ c.in_err-integer.field-0.0 c.loop-test.true e c.in_err-integer.ensures inv)
+    many_refuses (has_mark comma) (behind_comma_at signed_at) (standard.ids - 1) c.loop.counter c.loop.integers.items (token_views c.loop.rest.now) _ c.in-Err.refusal c.loop-test.true e c.in-Err.ensures inv
 
 pub loop-preserved : goal.loop-preserved
 loop-preserved c =
     let e : head_is (has_mark comma) (token_views c.loop.rest.now) ≡ true = cc c.if-not-begins_mark.ensures in
-    let x = c.in_ok-integer.integer in
+    let x = c.in-Ok.given.0 in
     let fits : FitsSigned w64 x = search rules in
     let grown : c.push.new.self.items ≡ c.loop.integers.items ++ x ∷ [] = rw (c.in_ok-push.ensures.items, to_z-of_z w64 x fits) refl in
-    rw grown (many_goes_on (has_mark comma) (behind_comma_at signed_at) (standard.ids - 1) c.loop.counter c.loop.integers.items (token_views c.loop.rest.now) (token_views c.in_ok-integer.after.now) x _ c.loop-test.true e c.in_ok-integer.ensures c.loop.invariant)
+    rw grown (many_goes_on (has_mark comma) (behind_comma_at signed_at) (standard.ids - 1) c.loop.counter c.loop.integers.items (token_views c.loop.rest.now) (token_views c.in-Ok.given.1.now) x _ c.loop-test.true e c.in-Ok.ensures c.loop.invariant)
 
 pub returns-then-begins_mark : goal.returns-then-begins_mark
 returns-then-begins_mark c =

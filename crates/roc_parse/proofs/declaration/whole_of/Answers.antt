@@ -4,4 +4,4 @@ use Rattle.roc_parse.proofs.Answers.{text_read_is}
 use Rattle.roc_parse.proofs.declaration.whole_of.Goals as goal
 
 pub new-requires : goal.new-requires
-new-requires c = within_limits _ _ (text_read_is (token_views c.args.tokens.now) _ (parts_tree c.in_ok-parts.parts) c.in_ok-parts.ensures)
+new-requires c = within_limits _ _ (text_read_is (token_views c.args.tokens.now) _ (parts_tree c.in-Ok.given.0) c.in-Ok.ensures)

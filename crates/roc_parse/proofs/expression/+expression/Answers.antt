@@ -1,5 +1,4 @@
 use Rattle.std.proofs.Common.{◌≡◌, ℕ, ◌-◌, Bool, true, false, List, ap, arith}
-use Rattle.std.proofs.lemmas.Result.{err_from_is_err_and}
 use Rattle.roc_lang.specs.Tokens.{Token}
 use Rattle.roc_lang.specs.Grammar.{star}
 use Rattle.roc_parse.specs.Inner.Stuck.{Reading, head_is}
@@ -25,19 +24,18 @@ factors_of-returns-then-product-room-clause-read t c =
     let e : head_is (has_mark star) (token_views c.loop.rest.now) ≡ true = cc c.if-not-begins_mark.ensures in
     rw c.limit_fault.ensures (loop_past (has_mark star) (factors_of_item c.args.room) times c.args.room (c.args.room - c.loop.counter) (deep_view c.loop.product) (token_views c.loop.rest.now) _ e c.if-product-room.true c.loop.invariant.0)
 
-pub factors_of-returns-in_err-factor-clause-read : goal.factors_of-returns-in_err-factor-clause-read
-factors_of-returns-in_err-factor-clause-read t c =
-    let p = err_from_is_err_and c.from_residual.result c.from_residual.ensures.1 in
+pub factors_of-returns-in-Err-clause-read : goal.factors_of-returns-in-Err-clause-read
+factors_of-returns-in-Err-clause-read t c =
     let e : head_is (has_mark star) (token_views c.loop.rest.now) ≡ true = cc c.if-not-begins_mark.ensures in
-    rw (p.1, p.2) (loop_refuses (has_mark star) (factors_of_item c.args.room) times c.args.room c.args.room c.loop.counter (deep_view c.loop.product) (token_views c.loop.rest.now) _ c.in_err-factor.field-0.0 c.loop-test.true e c.if-product-room.false c.in_err-factor.ensures.read c.loop.invariant.0)
+    loop_refuses (has_mark star) (factors_of_item c.args.room) times c.args.room c.args.room c.loop.counter (deep_view c.loop.product) (token_views c.loop.rest.now) _ c.in-Err.refusal c.loop-test.true e c.if-product-room.false c.in-Err.ensures.read c.loop.invariant.0
 
 pub factors_of-loop-preserved : goal.factors_of-loop-preserved
 factors_of-loop-preserved t c =
     let e : head_is (has_mark star) (token_views c.loop.rest.now) ≡ true = cc c.if-not-begins_mark.ensures in
     let d = ap (λ z. z.1) c.in_ok-product.ensures in
     let l = c.if-product-room.false in
-    let f = c.in_ok-factor.ensures.fits in
-    let on = loop_goes_on (has_mark star) (factors_of_item c.args.room) times c.args.room c.args.room c.loop.counter (deep_view c.loop.product) (token_views c.loop.rest.now) (token_views c.in_ok-factor.after.now) (deep_view c.in_ok-factor.factor) _ c.loop-test.true e l c.in_ok-factor.ensures.read c.loop.invariant.0 in
+    let f = c.in-Ok.ensures.fits in
+    let on = loop_goes_on (has_mark star) (factors_of_item c.args.room) times c.args.room c.args.room c.loop.counter (deep_view c.loop.product) (token_views c.loop.rest.now) (token_views c.in-Ok.given.1.now) (deep_view c.in-Ok.given.0) _ c.loop-test.true e l c.in-Ok.ensures.read c.loop.invariant.0 in
     (rw c.in_ok-product.ensures on, omega arith, omega arith)
 
 pub factors_of-returns-then-begins_mark-clause-read : goal.factors_of-returns-then-begins_mark-clause-read
@@ -63,19 +61,18 @@ sums_of-returns-then-sum-room-clause-read t c =
     let e : head_is is_sign (token_views c.loop.rest.now) ≡ true = cc c.if-not-begins_sign.ensures in
     rw c.limit_fault.ensures (loop_past is_sign (sums_of_item c.args.room) plus_or_minus c.args.room (c.args.room - c.loop.counter) (deep_view c.loop.sum) (token_views c.loop.rest.now) _ e c.if-sum-room.true c.loop.invariant.0)
 
-pub sums_of-returns-in_err-is_sum-clause-read : goal.sums_of-returns-in_err-is_sum-clause-read
-sums_of-returns-in_err-is_sum-clause-read t c =
-    let p = err_from_is_err_and c.from_residual.result c.from_residual.ensures.1 in
+pub sums_of-returns-in-Err-clause-read : goal.sums_of-returns-in-Err-clause-read
+sums_of-returns-in-Err-clause-read t c =
     let e : head_is is_sign (token_views c.loop.rest.now) ≡ true = cc c.if-not-begins_sign.ensures in
-    rw (p.1, p.2) (loop_refuses is_sign (sums_of_item c.args.room) plus_or_minus c.args.room c.args.room c.loop.counter (deep_view c.loop.sum) (token_views c.loop.rest.now) _ c.in_err-is_sum.field-0.0 c.loop-test.true e c.if-sum-room.false c.in_err-is_sum.ensures.read c.loop.invariant.0)
+    loop_refuses is_sign (sums_of_item c.args.room) plus_or_minus c.args.room c.args.room c.loop.counter (deep_view c.loop.sum) (token_views c.loop.rest.now) _ c.in-Err.refusal c.loop-test.true e c.if-sum-room.false c.in-Err.ensures.read c.loop.invariant.0
 
 pub sums_of-loop-preserved : goal.sums_of-loop-preserved
 sums_of-loop-preserved t c =
     let e : head_is is_sign (token_views c.loop.rest.now) ≡ true = cc c.if-not-begins_sign.ensures in
     let d = ap (λ z. z.1) c.in_ok-sum.ensures in
     let l = c.if-sum-room.false in
-    let f = c.in_ok-is_sum.ensures.fits in
-    let on = loop_goes_on is_sign (sums_of_item c.args.room) plus_or_minus c.args.room c.args.room c.loop.counter (deep_view c.loop.sum) (token_views c.loop.rest.now) (token_views c.in_ok-is_sum.after.now) (c.in_ok-is_sum.is_sum, deep_view c.in_ok-is_sum.term) _ c.loop-test.true e l c.in_ok-is_sum.ensures.read c.loop.invariant.0 in
+    let f = c.in-Ok.ensures.fits in
+    let on = loop_goes_on is_sign (sums_of_item c.args.room) plus_or_minus c.args.room c.args.room c.loop.counter (deep_view c.loop.sum) (token_views c.loop.rest.now) (token_views c.in-Ok.given.1.now) (c.in-Ok.given.0.0, deep_view c.in-Ok.given.0.1) _ c.loop-test.true e l c.in-Ok.ensures.read c.loop.invariant.0 in
     (rw c.in_ok-sum.ensures on, omega arith, omega arith)
 
 pub sums_of-returns-then-begins_sign-clause-read : goal.sums_of-returns-then-begins_sign-clause-read

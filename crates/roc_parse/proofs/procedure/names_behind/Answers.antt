@@ -1,5 +1,4 @@
 use Rattle.std.proofs.Common.{◌≡◌, ◌++◌, ◌∷◌, [], ◌-◌, map, true, false}
-use Rattle.std.proofs.lemmas.Result.{err_from_is_err_and}
 use Rattle.std.proofs.lemmas.List.{map_push}
 use Rattle.roc_lang.specs.Grammar.{comma}
 use Rattle.roc_lang.specs.Tree.{name_tree}
@@ -14,18 +13,17 @@ returns-then-not-begins_mark c =
     let e : head_is (has_mark comma) (token_views c.loop.rest.now) ≡ false = cc c.if-not-begins_mark.ensures in
     many_stops (has_mark comma) (behind_comma_at name_at) (c.args.more - c.loop.counter) (map name_tree c.loop.names.items) (token_views c.loop.rest.now) _ e c.loop.invariant
 
-pub returns-in_err-name : goal.returns-in_err-name
-returns-in_err-name c =
-    let p = err_from_is_err_and c.from_residual-in_err-name.result c.from_residual-in_err-name.ensures.1 in
+pub returns-in-Err : goal.returns-in-Err
+returns-in-Err c =
     let e : head_is (has_mark comma) (token_views c.loop.rest.now) ≡ true = cc c.if-not-begins_mark.ensures in
-    rw (p.1, p.2) (many_refuses (has_mark comma) (behind_comma_at name_at) c.args.more c.loop.counter (map name_tree c.loop.names.items) (token_views c.loop.rest.now) _ c.in_err-name.field-0.0 c.loop-test.true e c.in_err-name.ensures c.loop.invariant)
+    many_refuses (has_mark comma) (behind_comma_at name_at) c.args.more c.loop.counter (map name_tree c.loop.names.items) (token_views c.loop.rest.now) _ c.in-Err.refusal c.loop-test.true e c.in-Err.ensures c.loop.invariant
 
 pub loop-preserved : goal.loop-preserved
 loop-preserved c =
     let e : head_is (has_mark comma) (token_views c.loop.rest.now) ≡ true = cc c.if-not-begins_mark.ensures in
-    let x = c.in_ok-name.name in
+    let x = c.in-Ok.given.0 in
     let grown : map name_tree c.push.new.self.items ≡ map name_tree c.loop.names.items ++ name_tree x ∷ [] = rw c.in_ok-push.ensures.items (map_push _ c.loop.names.items x) in
-    rw grown (many_goes_on (has_mark comma) (behind_comma_at name_at) c.args.more c.loop.counter (map name_tree c.loop.names.items) (token_views c.loop.rest.now) (token_views c.in_ok-name.after.now) (name_tree x) _ c.loop-test.true e c.in_ok-name.ensures c.loop.invariant)
+    rw grown (many_goes_on (has_mark comma) (behind_comma_at name_at) c.args.more c.loop.counter (map name_tree c.loop.names.items) (token_views c.loop.rest.now) (token_views c.in-Ok.given.1.now) (name_tree x) _ c.loop-test.true e c.in-Ok.ensures c.loop.invariant)
 
 pub returns-then-begins_mark : goal.returns-then-begins_mark
 returns-then-begins_mark c =

@@ -1,5 +1,4 @@
 use Rattle.std.proofs.Common.{◌≡◌, ◌++◌, ◌∷◌, [], ◌-◌, map, true, false}
-use Rattle.std.proofs.lemmas.Result.{err_from_is_err_and}
 use Rattle.std.proofs.lemmas.List.{map_push}
 use Rattle.roc_lang.specs.Grammar.{standard}
 use Rattle.roc_lang.specs.Tree.{piece_tree}
@@ -14,18 +13,17 @@ returns-then-not-begins_piece c =
     let e : head_is starts_piece (token_views c.loop.rest.now) ≡ false = cc c.if-not-begins_piece.ensures in
     many_stops starts_piece (piece_at standard) (standard.pieces - 1 - c.loop.counter) (map piece_tree c.loop.pieces.items) (token_views c.loop.rest.now) _ e c.loop.invariant
 
-pub returns-in_err-piece : goal.returns-in_err-piece
-returns-in_err-piece c =
-    let p = err_from_is_err_and c.from_residual-in_err-piece.result c.from_residual-in_err-piece.ensures.1 in
+pub returns-in-Err : goal.returns-in-Err
+returns-in-Err c =
     let e : head_is starts_piece (token_views c.loop.rest.now) ≡ true = cc c.if-not-begins_piece.ensures in
-    rw (p.1, p.2) (many_refuses starts_piece (piece_at standard) (standard.pieces - 1) c.loop.counter (map piece_tree c.loop.pieces.items) (token_views c.loop.rest.now) _ c.in_err-piece.field-0.0 c.loop-test.true e c.in_err-piece.ensures c.loop.invariant)
+    many_refuses starts_piece (piece_at standard) (standard.pieces - 1) c.loop.counter (map piece_tree c.loop.pieces.items) (token_views c.loop.rest.now) _ c.in-Err.refusal c.loop-test.true e c.in-Err.ensures c.loop.invariant
 
 pub loop-preserved : goal.loop-preserved
 loop-preserved c =
     let e : head_is starts_piece (token_views c.loop.rest.now) ≡ true = cc c.if-not-begins_piece.ensures in
-    let x = c.in_ok-piece.piece in
+    let x = c.in-Ok.given.0 in
     let grown : map piece_tree c.push.new.self.items ≡ map piece_tree c.loop.pieces.items ++ piece_tree x ∷ [] = rw c.in_ok-push.ensures.items (map_push _ c.loop.pieces.items x) in
-    rw grown (many_goes_on starts_piece (piece_at standard) (standard.pieces - 1) c.loop.counter (map piece_tree c.loop.pieces.items) (token_views c.loop.rest.now) (token_views c.in_ok-piece.after.now) (piece_tree x) _ c.loop-test.true e c.in_ok-piece.ensures c.loop.invariant)
+    rw grown (many_goes_on starts_piece (piece_at standard) (standard.pieces - 1) c.loop.counter (map piece_tree c.loop.pieces.items) (token_views c.loop.rest.now) (token_views c.in-Ok.given.1.now) (piece_tree x) _ c.loop-test.true e c.in-Ok.ensures c.loop.invariant)
 
 pub returns-then-begins_piece : goal.returns-then-begins_piece
 returns-then-begins_piece c =

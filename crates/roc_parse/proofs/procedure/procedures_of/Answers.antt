@@ -1,5 +1,4 @@
 use Rattle.std.proofs.Common.{◌≡◌, ◌++◌, ◌∷◌, [], ◌-◌, map, true, false}
-use Rattle.std.proofs.lemmas.Result.{err_from_is_err_and}
 use Rattle.std.proofs.lemmas.List.{map_push}
 use lib.Chars.{codes}
 use Rattle.roc_lang.specs.Grammar.{standard}
@@ -19,18 +18,17 @@ returns-then-not-begins_word c =
     let e : head_is (has_word (codes "proc")) (token_views c.loop.rest.now) ≡ false = cc c.if-not-begins_word.ensures in
     many_stops (has_word (codes "proc")) (procedure_at standard) (standard.procedures - c.loop.counter) (map procedure_tree c.loop.procedures.items) (token_views c.loop.rest.now) _ e c.loop.invariant
 
-pub returns-in_err-procedure : goal.returns-in_err-procedure
-returns-in_err-procedure c =
-    let p = err_from_is_err_and c.from_residual.result c.from_residual.ensures.1 in
+pub returns-in-Err : goal.returns-in-Err
+returns-in-Err c =
     let e : head_is (has_word (codes "proc")) (token_views c.loop.rest.now) ≡ true = cc c.if-not-begins_word.ensures in
-    rw (p.1, p.2) (many_refuses (has_word (codes "proc")) (procedure_at standard) standard.procedures c.loop.counter (map procedure_tree c.loop.procedures.items) (token_views c.loop.rest.now) _ c.in_err-procedure.field-0.0 c.loop-test.true e c.in_err-procedure.ensures c.loop.invariant)
+    many_refuses (has_word (codes "proc")) (procedure_at standard) standard.procedures c.loop.counter (map procedure_tree c.loop.procedures.items) (token_views c.loop.rest.now) _ c.in-Err.refusal c.loop-test.true e c.in-Err.ensures c.loop.invariant
 
 pub loop-preserved : goal.loop-preserved
 loop-preserved c =
     let e : head_is (has_word (codes "proc")) (token_views c.loop.rest.now) ≡ true = cc c.if-not-begins_word.ensures in
-    let x = c.in_ok-procedure.procedure in
+    let x = c.in-Ok.given.0 in
     let grown : map procedure_tree c.push.new.self.items ≡ map procedure_tree c.loop.procedures.items ++ procedure_tree x ∷ [] = rw c.in_ok-push.ensures.items (map_push _ c.loop.procedures.items x) in
-    rw grown (many_goes_on (has_word (codes "proc")) (procedure_at standard) standard.procedures c.loop.counter (map procedure_tree c.loop.procedures.items) (token_views c.loop.rest.now) (token_views c.in_ok-procedure.after.now) (procedure_tree x) _ c.loop-test.true e c.in_ok-procedure.ensures c.loop.invariant)
+    rw grown (many_goes_on (has_word (codes "proc")) (procedure_at standard) standard.procedures c.loop.counter (map procedure_tree c.loop.procedures.items) (token_views c.loop.rest.now) (token_views c.in-Ok.given.1.now) (procedure_tree x) _ c.loop-test.true e c.in-Ok.ensures c.loop.invariant)
 
 pub returns-then-begins_word : goal.returns-then-begins_word
 returns-then-begins_word c =

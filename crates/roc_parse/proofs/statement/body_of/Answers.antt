@@ -1,5 +1,4 @@
 use Rattle.std.proofs.Common.{◌≡◌, ◌++◌, ◌∷◌, [], ◌-◌, map, true, false}
-use Rattle.std.proofs.lemmas.Result.{err_from_is_err_and}
 use Rattle.std.proofs.lemmas.List.{map_push}
 use Rattle.roc_lang.specs.Grammar.{standard}
 use Rattle.roc_lang.specs.Tree.{statement_tree}
@@ -17,18 +16,17 @@ returns-then-not-begins_statement c =
     let e : head_is starts_statement (token_views c.loop.rest.now) ≡ false = cc c.if-not-begins_statement.ensures in
     many_stops starts_statement (statement_at standard) (standard.statements - c.loop.counter) (map statement_tree c.loop.body.items) (token_views c.loop.rest.now) _ e c.loop.invariant
 
-pub returns-in_err-statement : goal.returns-in_err-statement
-returns-in_err-statement c =
-    let p = err_from_is_err_and c.from_residual.result c.from_residual.ensures.1 in
+pub returns-in-Err : goal.returns-in-Err
+returns-in-Err c =
     let e : head_is starts_statement (token_views c.loop.rest.now) ≡ true = cc c.if-not-begins_statement.ensures in
-    rw (p.1, p.2) (many_refuses starts_statement (statement_at standard) standard.statements c.loop.counter (map statement_tree c.loop.body.items) (token_views c.loop.rest.now) _ c.in_err-statement.field-0.0 c.loop-test.true e c.in_err-statement.ensures c.loop.invariant)
+    many_refuses starts_statement (statement_at standard) standard.statements c.loop.counter (map statement_tree c.loop.body.items) (token_views c.loop.rest.now) _ c.in-Err.refusal c.loop-test.true e c.in-Err.ensures c.loop.invariant
 
 pub loop-preserved : goal.loop-preserved
 loop-preserved c =
     let e : head_is starts_statement (token_views c.loop.rest.now) ≡ true = cc c.if-not-begins_statement.ensures in
-    let x = c.in_ok-statement.statement in
+    let x = c.in-Ok.given.0 in
     let grown : map statement_tree c.push.new.self.items ≡ map statement_tree c.loop.body.items ++ statement_tree x ∷ [] = rw c.in_ok-push.ensures.items (map_push _ c.loop.body.items x) in
-    rw grown (many_goes_on starts_statement (statement_at standard) standard.statements c.loop.counter (map statement_tree c.loop.body.items) (token_views c.loop.rest.now) (token_views c.in_ok-statement.after.now) (statement_tree x) _ c.loop-test.true e c.in_ok-statement.ensures c.loop.invariant)
+    rw grown (many_goes_on starts_statement (statement_at standard) standard.statements c.loop.counter (map statement_tree c.loop.body.items) (token_views c.loop.rest.now) (token_views c.in-Ok.given.1.now) (statement_tree x) _ c.loop-test.true e c.in-Ok.ensures c.loop.invariant)
 
 pub returns-then-begins_statement : goal.returns-then-begins_statement
 returns-then-begins_statement c =

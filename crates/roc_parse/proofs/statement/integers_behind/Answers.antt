@@ -1,5 +1,4 @@
 use Rattle.std.proofs.Common.{◌≡◌, ◌++◌, ◌∷◌, [], ◌-◌, map, true, false}
-use Rattle.std.proofs.lemmas.Result.{err_from_is_err_and}
 use Rattle.std.proofs.lemmas.List.{map_push}
 use Rattle.roc_lang.specs.Grammar.{standard, comma}
 use Rattle.roc_lang.specs.Tree.{expression_tree}
@@ -15,18 +14,17 @@ returns-then-not-begins_mark c =
     let e : head_is (has_mark comma) (token_views c.loop.rest.now) ≡ false = cc c.if-not-begins_mark.ensures in
     many_stops (has_mark comma) (behind_comma_at (expression_at standard.depth)) ((standard.ids - 1) - c.loop.counter) (map expression_tree c.loop.integers.items) (token_views c.loop.rest.now) _ e c.loop.invariant
 
-pub returns-in_err-integer : goal.returns-in_err-integer
-returns-in_err-integer c =
-    let p = err_from_is_err_and c.from_residual-in_err-integer.result c.from_residual-in_err-integer.ensures.1 in
+pub returns-in-Err : goal.returns-in-Err
+returns-in-Err c =
     let e : head_is (has_mark comma) (token_views c.loop.rest.now) ≡ true = cc c.if-not-begins_mark.ensures in
-    rw (p.1, p.2) (many_refuses (has_mark comma) (behind_comma_at (expression_at standard.depth)) (standard.ids - 1) c.loop.counter (map expression_tree c.loop.integers.items) (token_views c.loop.rest.now) _ c.in_err-integer.field-0.0 c.loop-test.true e c.in_err-integer.ensures c.loop.invariant)
+    many_refuses (has_mark comma) (behind_comma_at (expression_at standard.depth)) (standard.ids - 1) c.loop.counter (map expression_tree c.loop.integers.items) (token_views c.loop.rest.now) _ c.in-Err.refusal c.loop-test.true e c.in-Err.ensures c.loop.invariant
 
 pub loop-preserved : goal.loop-preserved
 loop-preserved c =
     let e : head_is (has_mark comma) (token_views c.loop.rest.now) ≡ true = cc c.if-not-begins_mark.ensures in
-    let x = c.in_ok-integer.integer in
+    let x = c.in-Ok.given.0 in
     let grown : map expression_tree c.push.new.self.items ≡ map expression_tree c.loop.integers.items ++ expression_tree x ∷ [] = rw c.in_ok-push.ensures.items (map_push _ c.loop.integers.items x) in
-    rw grown (many_goes_on (has_mark comma) (behind_comma_at (expression_at standard.depth)) (standard.ids - 1) c.loop.counter (map expression_tree c.loop.integers.items) (token_views c.loop.rest.now) (token_views c.in_ok-integer.after.now) (expression_tree x) _ c.loop-test.true e c.in_ok-integer.ensures c.loop.invariant)
+    rw grown (many_goes_on (has_mark comma) (behind_comma_at (expression_at standard.depth)) (standard.ids - 1) c.loop.counter (map expression_tree c.loop.integers.items) (token_views c.loop.rest.now) (token_views c.in-Ok.given.1.now) (expression_tree x) _ c.loop-test.true e c.in-Ok.ensures c.loop.invariant)
 
 pub returns-then-begins_mark : goal.returns-then-begins_mark
 returns-then-begins_mark c =
