@@ -1,12 +1,13 @@
 -- A count rises exactly where the status is its own
 use Rattle.std.proofs.Common.{◌≡◌, ◌⊎◌, inl, inr, ℕ, ◌≤◌, ◌==◌, Bool, IsTrue, true, false, List, refl, sym, ap, subst, ◌∙◌, arith}
 use Rattle.roc_io.specs.Cause.{HasCause}
-use Rattle.roc_cli.specs.declared.fault.Fault.{Fault}
-use Rattle.roc_cli.specs.declared.fault.Fault.TheVariants.{Rejected, Refused, Value, NoShard, Memory, Unanswered, File, Sink, Link, Child}
-use Rattle.roc_cli.specs.Call.{Errors}
+use Rattle.roc_files.specs.declared.fault.Fault.{Fault}
+use Rattle.roc_files.specs.declared.fault.Fault.TheVariants.{Rejected, Refused, Value, NoShard, Memory, Unanswered, File, Sink, Link, Child}
+use Rattle.roc_files.specs.Says.{Errors}
 use Rattle.roc_cli.specs.Words.{NamesNodes}
 use Rattle.roc_cli.specs.Status.{IsQuiet}
-use Rattle.roc_cli.specs.Inner.Fault.{IsTold, EndsWith, line_of, blames_file, blames_sink, blames_link, precedes_loop}
+use Rattle.roc_files.specs.Fault.{IsTold, EndsWith, line_of, blames_file, blames_sink, blames_link}
+use Rattle.roc_cli.specs.Inner.Ends.{precedes_loop}
 
 counted_at : (status n wanted : ℕ) (test : Bool) (old new : ℕ) → status ≡ n → (n == wanted) ≡ test → HasCause test old new → HasCause (status == wanted) old new
 counted_at status n wanted test old new e f h = subst (λ b. HasCause b old new) (sym (ap (λ m. m == wanted) e ∙ f)) h

@@ -8,20 +8,21 @@ use Rattle.roc_sched.specs.FaultText.{what_text as schedule_text}
 use Rattle.roc_scope.specs.Fault.{kind}
 use Rattle.roc_plan.specs.Groups.{Plan}
 use Rattle.roc_sched.specs.Schedule.{most_bytes}
-use Rattle.roc_cli.specs.declared.fault.Fault.{Fault}
-use Rattle.roc_cli.specs.declared.fault.Fault.TheVariants.{TooLong, At, Scope, Rejected, Memory, File, Sink}
+use Rattle.roc_files.specs.declared.fault.Fault.{Fault}
+use Rattle.roc_files.specs.declared.fault.Fault.TheVariants.{TooLong, At, Scope, Rejected, Memory, File, Sink}
 use Rattle.roc_cli.specs.Call.{RunCall, TakesNothing}
 use Rattle.roc_words.specs.declared.value.Part.{Part}
-use Rattle.roc_words.specs.Commands.{print}
+use Rattle.roc_words.specs.Commands.{check, print}
 use Rattle.roc_cli.specs.Words.{IsReplay, IsPrint, IsCheck, IsGen, NamesProgram, NamesWorkload}
 use Rattle.roc_cli.proofs.Naming.{as_workload}
-use Rattle.roc_cli.specs.Held.{Holds, HoldsPlan}
-use Rattle.roc_cli.specs.Says.{long_line, fault_line}
+use Rattle.roc_files.specs.Held.{Holds, HoldsPlan}
+use Rattle.roc_files.specs.Says.{long_line, fault_line}
 use Rattle.roc_cli.specs.Done.{IsReplayOf}
 use Rattle.roc_cli.specs.Stopped.{the_workload, the_schedule, with_nothing, with_lines, in_report, in_text, in_check, in_rejection, in_generated}
 use Rattle.roc_cli.specs.Refused.{IsRefused, long_workload, no_text, out_of_scope, long_schedule, bad_schedule}
-use Rattle.roc_cli.specs.Inner.Input.{HoldsWithin, IsReadFault, IsProgramFault, PlanFails}
-use Rattle.roc_cli.specs.Inner.Ends.{Fails, Ends, ReplayEnds, PrintEnds, CheckEnds, GenEnds, Blames}
+use Rattle.roc_files.specs.Input.{HoldsWithin, IsReadFault, IsProgramFault, PlanFails, PrintEnds, CheckEnds}
+use Rattle.roc_cli.specs.Inner.Ends.{Fails, Ends, ReplayEnds, GenEnds}
+use Rattle.roc_files.specs.Fault.{Blames, ReadsBut}
 
 module _ (call : RunCall) where
   -- where a file's name, a line and what is wrong there are known, so is the line of standard error
@@ -91,31 +92,22 @@ module _ (call : RunCall) where
 
   -- ---- print and check
 
-  -- the workload was read, and its print ended
-  pub print_ends : (workload bytes taken : List ℕ) (result : Result Unit Fault) → IsPrint call.words workload → HoldsWithin call.content workload text_limit bytes → taken ≡ bytes
-      → PrintEnds taken workload call.out_before call.out_after result → Ends call result
-  print_ends workload bytes taken (Ok done) given held e (tree, is, adds) =
-      inr (inl (record { workload = workload; given = given; tree = tree; held = record { bytes = taken; held = subst (Holds call.content workload) (sym e) held.held; is = is }; taken = adds }))
-  print_ends workload bytes taken (Err (At file line what)) given held e (w, first, named, said, same) =
-      line_known file.now workload line line what.now (what_text w) named refl said
-      (no_text workload line w (print workload, given, refl) (record { bytes = taken; held = subst (Holds call.content workload) (sym e) held.held; size = subst (λ n. n ≤ text_limit) (sym (ap length e)) held.few; fault = first }) same)
-  print_ends workload bytes taken (Err Memory) given held e same = with_nothing same
-  print_ends workload bytes taken (Err Sink) given held e (tree, is, front) =
-      in_text workload tree given (record { bytes = taken; held = subst (Holds call.content workload) (sym e) held.held; is = is }) front
-  print_ends workload bytes taken (Err _) given held e h = absurd h
+  -- the print ended
+  pub print_ends : (workload : List ℕ) (result : Result Unit Fault) → IsPrint call.words workload → ReadsBut call.failed_before call.failed_after result
+      → PrintEnds call.content workload call.out_before call.out_after result → Ends call result
+  print_ends workload (Ok done) given reads (tree, held, adds) = inr (inl (record { workload = workload; given = given; tree = tree; held = held; taken = adds }))
+  print_ends workload (Err (At file line what)) given reads ((e, (w, held, g)), same) =
+      line_known file.now workload line line what.now (what_text w) e refl g (no_text workload line w (print workload, given, refl) held same)
+  print_ends workload (Err Sink) given reads (tree, held, front) = in_text workload tree given held front
+  print_ends workload (Err fault) given reads h = workload_unread workload fault (print workload, given, refl) h.1 reads h.0
 
-  -- the plan was found, and its text was written or not
-  written : (workload : List ℕ) (plan : Plan) (result : Result Unit Fault) → IsCheck call.words workload → HoldsPlan call.content workload plan
-      → CheckEnds plan call.out_before call.out_after result → Ends call result
-  written workload plan (Ok done) given held adds = inr (inr (inl (record { workload = workload; given = given; plan = plan; held = held; taken = adds })))
-  written workload plan (Err Memory) given held same = with_nothing same
-  written workload plan (Err Sink) given held front = in_check workload plan given held front
-  written workload plan (Err _) given held h = absurd h
-
-  pub check_ends : (workload : List ℕ) (plan : Plan) (middle : Option (List ℕ)) (result : Result Unit Fault) → IsCheck call.words workload → HoldsPlan call.content workload plan
-      → middle ≡ call.out_before → CheckEnds plan middle call.out_after result → Ends call result
-  check_ends workload plan middle result given held untouched ends =
-      written workload plan result given held (subst (λ (o : Option (List ℕ)). CheckEnds plan o call.out_after result) untouched ends)
+  -- the check ended
+  pub check_ends : (workload : List ℕ) (result : Result Unit Fault) → IsCheck call.words workload → ReadsBut call.failed_before call.failed_after result
+      → CheckEnds call.content workload call.out_before call.out_after result → Ends call result
+  check_ends workload (Ok done) given reads (plan, held, adds) = inr (inr (inl (record { workload = workload; given = given; plan = plan; held = held; taken = adds })))
+  check_ends workload (Err Sink) given reads (inl h) = plan_fails workload Sink (check workload, given, refl) reads h
+  check_ends workload (Err Sink) given reads (inr (plan, held, front)) = in_check workload plan given held front
+  check_ends workload (Err fault) given reads h = plan_fails workload fault (check workload, given, refl) reads h
 
   -- ---- gen
 

@@ -17,9 +17,9 @@ use Rattle.roc_sched.specs.Schedule.{most_bytes}
 use Rattle.roc_submit.specs.declared.ends.SubmitEnd.{SubmitEnd}
 use Rattle.roc_words.specs.Commands.{check, print, replay, serve, submit, stop, local, gen}
 use Rattle.roc_cli.specs.Call.{RunCall, WholeCall}
-use Rattle.roc_cli.specs.Words.{IsReplay, NodeFiles, node_files, workload_of, NamesProgram, NamesWorkload, NamesNodeFiles}
-use Rattle.roc_cli.specs.Requests.{request_fault, FitEach, IsFirstUnfitRequest, IsRequestsFault, no_requests, unfit_request}
-use Rattle.roc_cli.specs.Held.{HasShard, HoldsPlan, HoldsNoCluster, HoldsNoRequests}
+use Rattle.roc_cli.specs.Words.{IsReplay, node_files, workload_of, NamesProgram, NamesWorkload, NamesNodeFiles}
+use Rattle.roc_files.specs.Held.{NodeFiles, HasShard, HoldsPlan, HoldsNoCluster, HoldsNoRequests}
+use Rattle.roc_files.specs.Requests.{request_fault, FitEach, IsFirstUnfitRequest, IsRequestsFault, no_requests, unfit_request}
 use Rattle.roc_cli.specs.Nodes.{AreNodesEnded, IsChildBlamed}
 use Rattle.roc_cli.specs.Stopped.{CutsOutput, in_report, in_text, in_check, in_rejection, in_generated}
 use Rattle.roc_cli.specs.Refused.{AreRefusedWords, by_clap, no_value, no_shard, IsRefused, long_workload, no_text, out_of_scope, long_schedule, bad_schedule, long_cluster, bad_cluster, long_requests, bad_requests}

@@ -1,9 +1,7 @@
 pub mod Naming
 pub mod Commands
-pub mod Reading
 pub mod Faults
 pub mod Loading
-pub mod Listing
 pub mod Looping
 pub mod Fitting
 pub mod FittingNodes

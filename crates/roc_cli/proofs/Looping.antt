@@ -15,14 +15,14 @@ use Rattle.roc_local.specs.declared.local.LocalEnd.{LocalEnd}
 use Rattle.roc_local.specs.declared.local.LocalEnd.TheVariants.{ChildFault}
 use Rattle.roc_local.specs.Stops.{SendsStops}
 use Rattle.roc_local.specs.Local.{RunsLocal, local_end_of}
-use Rattle.roc_cli.specs.declared.fault.Fault.{Fault}
-use Rattle.roc_cli.specs.declared.fault.Fault.TheVariants.{Value}
-use Rattle.roc_cli.specs.declared.nodes.Nodes.{Nodes}
+use Rattle.roc_files.specs.declared.fault.Fault.{Fault}
+use Rattle.roc_files.specs.declared.fault.Fault.TheVariants.{Value}
+use Rattle.roc_files.specs.declared.nodes.Nodes.{Nodes}
 use Rattle.roc_cli.specs.Call.{RunCall, LinkCall, ChildrenCall, WholeCall, TakesNothing}
 use Rattle.roc_cli.specs.Refused.{no_value}
-use Rattle.roc_cli.specs.Held.{HoldNodes}
-use Rattle.roc_cli.specs.Nodes.{tag_of_bytes, setting_of, serve_call, turns_call, local_call, IsServed, SubmitEnded, AreStopped, LocalEnded, AreNodesEnded, IsChildBlamed}
-use Rattle.roc_cli.specs.Inner.NodeNames.{HoldsAll}
+use Rattle.roc_files.specs.Held.{HoldNodes}
+use Rattle.roc_files.specs.NodeNames.{tag_of_bytes, HoldsAll}
+use Rattle.roc_cli.specs.Nodes.{setting_of, serve_call, turns_call, local_call, IsServed, SubmitEnded, AreStopped, LocalEnded, AreNodesEnded, IsChildBlamed}
 use Rattle.roc_cli.specs.Inner.Ends.{Fails, LoopEnds, LoopEnded, WholeEnds, no_child}
 use Rattle.roc_cli.specs.Inner.Running.{ServesAs, StopsAs, loop_call, LocalAs, LocalBlames}
 use Rattle.roc_cli.proofs.Loading.{loop_ends, loop_fails, loop_among}

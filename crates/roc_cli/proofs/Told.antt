@@ -9,19 +9,19 @@ use Rattle.roc_base.specs.declared.node.Shard.{Shard}
 use Rattle.roc_local.specs.declared.stops.StopEnd.TheVariants as stop_end
 use Rattle.roc_local.specs.declared.local.LocalEnd.TheVariants as local_end
 use Rattle.roc_words.specs.Commands.{check, print, replay, serve, submit, stop, local, gen}
-use Rattle.roc_cli.specs.declared.fault.Fault.{Fault}
-use Rattle.roc_cli.specs.declared.fault.Fault.TheVariants.{Rejected, Refused, Value, NoShard, Memory, Unanswered, File, Sink, Link, Child}
-use Rattle.roc_cli.specs.Call.{RunCall, WholeCall, Errors, TakesNothing, ReadsAll}
+use Rattle.roc_files.specs.declared.fault.Fault.{Fault}
+use Rattle.roc_files.specs.declared.fault.Fault.TheVariants.{Rejected, Refused, Value, NoShard, Memory, Unanswered, File, Sink, Link, Child}
+use Rattle.roc_cli.specs.Call.{RunCall, WholeCall, TakesNothing, ReadsAll}
+use Rattle.roc_files.specs.Says.{Errors, Says, word_line, file_line, child_line}
 use Rattle.roc_cli.specs.Words.{AreReplayWords, ArePrintWords, AreCheckWords, AreGenWords, AreServeWords, AreSubmitWords, AreStopWords, AreLocalWords, AreCommandWords, NamesNodes, node_files}
-use Rattle.roc_cli.specs.Says.{Says, word_line, file_line, child_line}
 use Rattle.roc_cli.specs.Done.{Replays, Explains, Prints, Checks, Generates, Rejects}
 use Rattle.roc_cli.specs.Nodes.{ServeEnded, SubmitEnded, StopEnded, LocalEnded, AreNodesEnded, IsChildBlamed, BlamesAnyChild}
 use Rattle.roc_cli.specs.Stopped.{IsUnread, RunsOut, with_nothing, with_lines, CutsOutput}
 use Rattle.roc_cli.specs.Refused.{AreRefusedWords, IsRefused, long_workload, no_text, out_of_scope, long_schedule, bad_schedule, long_cluster, bad_cluster, long_requests, bad_requests}
 use Rattle.roc_cli.specs.Status.{Answers}
 use Rattle.roc_cli.specs.Inner.Faultless.{IsFaultless, IsShardless, AreFitting}
-use Rattle.roc_cli.specs.Inner.Fault.{IsTold, EndsWith, line_of, blames_file, blames_sink, blames_link}
-use Rattle.roc_cli.specs.Inner.Ends.{RefusesWords, Fails, Ends, LoopEnds, WholeEnds, Blames}
+use Rattle.roc_files.specs.Fault.{IsTold, EndsWith, line_of, blames_file, blames_sink, blames_link, Blames}
+use Rattle.roc_cli.specs.Inner.Ends.{RefusesWords, Fails, Ends, LoopEnds, WholeEnds}
 use Rattle.roc_cli.proofs.Naming.{unlike, no_name}
 use Rattle.roc_cli.proofs.Commands.{of_program, refused_words, input_words, cut_words, fit_names_no_nodes, nodes_named, child_named, nodes_words, served_done, stopped_done}
 

@@ -36,13 +36,6 @@ pub record WholeCall : Type 0 where
   pub link : LinkCall
   pub children : ChildrenCall
 
--- what standard error took, as far as that is told, and how many of its writes failed
-pub record Errors : Type 0 where
-  pub before : Option (List ℕ)
-  pub after : Option (List ℕ)
-  pub faults_before : ℕ
-  pub faults_after : ℕ
-
 -- standard output took nothing
 abbrev pub TakesNothing : RunCall → Type 0
 TakesNothing call = call.out_after ≡ call.out_before

@@ -7,7 +7,6 @@ use Rattle.roc_program.specs.Program.{Workload}
 use Rattle.roc_plan.specs.Groups.{Plan}
 use Rattle.roc_report.specs.Line.{Line}
 use Rattle.roc_report.specs.Text.{line_text, lines_text}
-use Rattle.roc_check.specs.Lines.{check_lines}
 use Rattle.roc_check.specs.Checked.{IsPlanOfText}
 use Rattle.roc_sched.specs.Schedule.{most_bytes}
 use Rattle.roc_generate.specs.Workload_text.{generated_workload}
@@ -20,7 +19,8 @@ use Rattle.roc_words.specs.declared.value.Part.{Part}
 use Rattle.roc_words.specs.declared.value.Part.TheVariants as part
 use Rattle.roc_cli.specs.Call.{RunCall}
 use Rattle.roc_cli.specs.Words.{IsReplay, IsPrint, IsCheck, IsGen, NamesProgram}
-use Rattle.roc_cli.specs.Held.{Holds, HoldsPlan, HoldsText, HoldsRejected}
+use Rattle.roc_files.specs.Held.{Holds, HoldsPlan, HoldsText, HoldsRejected}
+use Rattle.roc_files.specs.Input.{check_text}
 
 -- ---- replay
 
@@ -61,10 +61,6 @@ pub record Prints (call : RunCall) : Type 0 where
   pub taken : Adds call.out_before call.out_after (canonical tree)
 
 -- ---- check
-
--- the text of `check`
-abbrev pub check_text : Plan → List ℕ
-check_text plan = lines_text plan.program (check_lines plan)
 
 -- standard output took the text of the check of the named workload, which has this plan
 pub record Checks (call : RunCall) : Type 0 where

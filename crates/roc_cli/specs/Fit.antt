@@ -16,9 +16,9 @@ use Rattle.roc_replay.specs.declared.asked.Asked.{Asked}
 use Rattle.roc_replay.specs.Asked.{IsScheduleOf}
 use Rattle.roc_replay.specs.Played.{IsPlayed}
 use Rattle.roc_cli.specs.Call.{RunCall}
-use Rattle.roc_cli.specs.Words.{IsReplay, IsPrint, IsCheck, AreGenWords, NodeFiles, NamesNodeFiles}
-use Rattle.roc_cli.specs.Requests.{AreRequestsOf}
-use Rattle.roc_cli.specs.Held.{HasShard}
+use Rattle.roc_cli.specs.Words.{IsReplay, IsPrint, IsCheck, AreGenWords, NamesNodeFiles}
+use Rattle.roc_files.specs.Held.{NodeFiles, HasShard}
+use Rattle.roc_files.specs.Requests.{AreRequestsOf}
 
 -- the name holds a request file whose requests fit the program
 pub record IsListOfRequests (content : List ℕ → Option (List ℕ)) (program : Workload) (name : List ℕ) : Type 0 where

@@ -1,8 +1,5 @@
 pub mod Call
 pub mod Words
-pub mod Requests
-pub mod Held
-pub mod Says
 pub mod Done
 pub mod Refused
 pub mod Stopped
@@ -10,3 +7,6 @@ pub mod Fit
 pub mod Nodes
 pub mod Status
 pub mod Inner
+pub use Rattle.roc_files.specs.Held
+pub use Rattle.roc_files.specs.Requests
+pub use Rattle.roc_files.specs.Says

@@ -1,6 +1,5 @@
 -- Commands with nodes: what their files held, and how their loops ended: docs/FORMATS.md, "The program", and docs/PROTOCOL.md, "Running nodes"
-use Rattle.std.specs.Prelude.{◌≡◌, ◌⊎◌, ℕ, Bool, List, [], take, Option, Some, None, slice_get}
-use Rattle.sha2.specs.Sha256.{sha256}
+use Rattle.std.specs.Prelude.{◌≡◌, ◌⊎◌, ℕ, Bool, List, [], Option, Some, None, slice_get}
 use Rattle.roc_base.specs.declared.node.Shard.{Shard}
 use Rattle.roc_base.specs.declared.node.Node.{Node}
 use Rattle.roc_base.specs.declared.node.Node.TheVariants.{Server, Coord}
@@ -25,11 +24,8 @@ use Rattle.roc_submit.specs.declared.ends.SubmitEnd.TheVariants as submit_end
 use Rattle.roc_serve.specs.ServeEnd.{ServeCall, Serves}
 use Rattle.roc_submit.specs.SubmitEnd.{TurnsCall, BindsAndSubmits}
 use Rattle.roc_cli.specs.Call.{RunCall, LinkCall, ChildrenCall, WholeCall, TakesNothing}
-use Rattle.roc_cli.specs.Held.{HoldNodes}
-
--- the tag that is the workload's: the front of the digest of the bytes that its file holds
-abbrev pub tag_of_bytes : List ℕ → List ℕ
-tag_of_bytes bytes = take 8 (sha256 bytes)
+use Rattle.roc_files.specs.Held.{HoldNodes}
+use Rattle.roc_files.specs.NodeNames.{tag_of_bytes}
 
 -- what stays the same while a node of a workload of these bytes runs
 abbrev pub setting_of : (bytes : List ℕ) → Plan → Node → (cluster : List Addr) → NodeSetting

@@ -18,10 +18,10 @@ use Rattle.roc_words.specs.FaultText.{value_text}
 use Rattle.roc_words.specs.Program.{IsTakenByClap}
 use Rattle.roc_words.specs.Answer.{HaveNoValue}
 use Rattle.roc_cli.specs.Call.{RunCall, TakesNothing}
-use Rattle.roc_cli.specs.Words.{IsReplay, NodeFiles, NamesProgram, NamesWorkload, NamesNodeFiles}
-use Rattle.roc_cli.specs.Held.{HoldsMore, HoldsFault, HoldsMisuse, HoldsPlan, HoldsCluster, HoldsNoCluster, HoldsNoRequests, HasShard, LacksShard}
+use Rattle.roc_cli.specs.Words.{IsReplay, NamesProgram, NamesWorkload, NamesNodeFiles}
+use Rattle.roc_files.specs.Held.{NodeFiles, HoldsMore, HoldsFault, HoldsMisuse, HoldsPlan, HoldsCluster, HoldsNoCluster, HoldsNoRequests, HasShard, LacksShard}
 use Rattle.roc_cli.specs.Done.{IsReplayOf}
-use Rattle.roc_cli.specs.Says.{word_line, long_line, text_line, fault_line}
+use Rattle.roc_files.specs.Says.{word_line, long_line, text_line, fault_line}
 
 -- words that are refused, with what is said on standard error: the text of `clap`, which no clause tells, where it refuses them; or the name
 -- of the first value that is none; or `shard`, where the shard that is to be served is not one of the workload

@@ -11,9 +11,10 @@ use Rattle.roc_report.specs.Text.{line_text}
 use Rattle.roc_replay.specs.Ended.{IsCut, IsUnfinished}
 use Rattle.roc_cli.specs.Call.{RunCall, TakesNothing}
 use Rattle.roc_words.specs.declared.value.Part.{Part}
-use Rattle.roc_cli.specs.Words.{IsReplay, IsPrint, IsCheck, IsGen, NodeFiles, NamesProgram, NamesWorkload, NamesNodeFiles}
-use Rattle.roc_cli.specs.Held.{HoldsPlan, HoldsText, HoldsRejected, HoldsCluster, HasShard}
-use Rattle.roc_cli.specs.Done.{IsReplayOf, IsGenerated, check_text}
+use Rattle.roc_cli.specs.Words.{IsReplay, IsPrint, IsCheck, IsGen, NamesProgram, NamesWorkload, NamesNodeFiles}
+use Rattle.roc_files.specs.Held.{NodeFiles, HoldsPlan, HoldsText, HoldsRejected, HoldsCluster, HasShard}
+use Rattle.roc_cli.specs.Done.{IsReplayOf, IsGenerated}
+use Rattle.roc_files.specs.Input.{check_text}
 
 -- the name is that of a file that is to be read: the workload; the schedule or the cluster file where the workload has a plan; the requests where
 -- the cluster file is one of the workload

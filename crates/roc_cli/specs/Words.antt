@@ -3,6 +3,7 @@ use Rattle.std.specs.Prelude.{◌≡◌, ℕ, Bool, List, Option, Some, None}
 use Rattle.roc_words.specs.declared.value.Part.{Part}
 use Rattle.roc_words.specs.Commands.{Command, check, print, replay, serve, submit, stop, local, gen}
 use Rattle.roc_words.specs.Answer.{AreWordsOf}
+use Rattle.roc_files.specs.Held.{NodeFiles}
 
 -- ---- which command
 
@@ -60,13 +61,7 @@ AreCommandWords words = (command : Command) × AreWordsOf words command
 
 -- ---- which files
 
--- the files of a command with nodes, and the shard that it serves
-pub record NodeFiles : Type 0 where
-  pub workload : List ℕ
-  pub cluster : List ℕ
-  pub requests : Option (List ℕ)
-  pub shard : Option ℕ
-
+-- the files of a command with nodes
 abbrev pub node_files : Command → Option NodeFiles
 node_files (serve workload cluster shard turns counts) = Some (record { workload = workload; cluster = cluster; requests = None; shard = Some shard })
 node_files (submit workload cluster requests coord turns) = Some (record { workload = workload; cluster = cluster; requests = Some requests; shard = None })

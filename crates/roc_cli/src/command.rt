@@ -1,22 +1,17 @@
 //! What the program does for its words.
 ghost use Rattle.std.specs.Prelude.{◌≡◌, ℕ, ◌<◌, ◌==◌, IsTrue, List, map, string_bytes};
 ghost use Rattle.roc_io.specs.Cause.{HasCause};
-ghost use Rattle.roc_cli.specs.Words.{IsReplay, IsPrint, IsCheck, NamesNodes};
-ghost use Rattle.roc_cli.specs.Held.{HoldsPlan};
+ghost use Rattle.roc_cli.specs.Words.{IsReplay, NamesNodes};
+ghost use Rattle.roc_files.specs.Held.{HoldsPlan};
 ghost use Rattle.roc_cli.specs.Status.{Answers, IsQuiet};
-ghost use Rattle.roc_cli.specs.Inner.Fault.{blames_file, blames_sink, blames_link, precedes_loop};
-ghost use Rattle.roc_cli.specs.Inner.Ends.{Ends, WholeEnds, ReplayEnds, ReadsBut, CountsChildren, fails_by};
+ghost use Rattle.roc_files.specs.Fault.{blames_file, blames_sink, blames_link, ReadsBut, fails_by};
+ghost use Rattle.roc_cli.specs.Inner.Ends.{precedes_loop, Ends, WholeEnds, ReplayEnds, CountsChildren};
 
-use crate::check::write_check;
-use crate::fault::Fault;
 use crate::fit::fitting_calls_are_faultless;
 use crate::generated::write_generated;
-use crate::input::{bytes_of, plan_of};
-use crate::listed::MOST_LISTED_BYTES;
 use crate::running::{local_files, serve_files, stop_files, submit_files};
-use crate::text::print_text;
+use roc_files::{Fault, MOST_LISTED_BYTES, bytes_of, check_file, plan_of, print_file};
 use roc_io::{Files, Link, Sink, Spawner};
-use roc_lang::limits::TEXT_BYTES;
 use roc_plan::Plan;
 use roc_replay::{Ended, replay};
 use roc_words::{Ask, ValueName, WordsFault, ask};
@@ -107,8 +102,8 @@ fn perform<'a, F: Files, S: Sink, L: Link, P: Spawner>(
         Ok(Ask::Replay { workload, schedule }) => {
             replay_files(alloc, workload, schedule, files, out)
         }
-        Ok(Ask::Print { workload }) => print_file(alloc, workload, files, out),
-        Ok(Ask::Check { workload }) => check_file(alloc, workload, files, out),
+        Ok(Ask::Print { workload }) => print_file(alloc, files, workload, out),
+        Ok(Ask::Check { workload }) => check_file(alloc, files, workload, out),
         Ok(
             Ask::Gen {
                 seed,
@@ -200,44 +195,6 @@ fn replay_schedule<'a, F: Files, S: Sink>(
 {
     match bytes_of(alloc, files, schedule, MOST_LISTED_BYTES) {
         Ok(bytes) => replay_file(alloc, plan, schedule, &bytes, out),
-        Err(fault) => Err(fault),
-    }
-}
-
-// Prints a workload.
-fn print_file<'a, F: Files, S: Sink>(
-    alloc: Global,
-    workload: &'a str,
-    files: &mut F,
-    out: &mut S,
-) -> Result<(), Fault<'a>>
-    ensures ends { (words : List (List ℕ)) → IsPrint words workload.entry.now → Ends (record { words = words; content = F.content files.old; failed_before = F.failed_names files.old; failed_after = F.failed_names files.new; out_before = S.taken out.old; out_after = S.taken out.new }) result }
-    ensures failed { ReadsBut (F.failed_names files.old) (F.failed_names files.new) result }
-    ensures file_faults { HasCause (fails_by blames_file result) (F.faults files.old) (F.faults files.new) }
-    ensures sink_faults { HasCause (fails_by blames_sink result) (S.faults out.old) (S.faults out.new) }
-    ensures content { (name : List ℕ) → F.content files.new name ≡ F.content files.old name }
-{
-    match bytes_of(alloc, files, workload, TEXT_BYTES) {
-        Ok(bytes) => print_text(alloc, workload, &bytes, out),
-        Err(fault) => Err(fault),
-    }
-}
-
-// Checks a workload.
-fn check_file<'a, F: Files, S: Sink>(
-    alloc: Global,
-    name: &'a str,
-    files: &mut F,
-    out: &mut S,
-) -> Result<(), Fault<'a>>
-    ensures ends { (words : List (List ℕ)) → IsCheck words name.entry.now → Ends (record { words = words; content = F.content files.old; failed_before = F.failed_names files.old; failed_after = F.failed_names files.new; out_before = S.taken out.old; out_after = S.taken out.new }) result }
-    ensures failed { ReadsBut (F.failed_names files.old) (F.failed_names files.new) result }
-    ensures file_faults { HasCause (fails_by blames_file result) (F.faults files.old) (F.faults files.new) }
-    ensures sink_faults { HasCause (fails_by blames_sink result) (S.faults out.old) (S.faults out.new) }
-    ensures content { (name : List ℕ) → F.content files.new name ≡ F.content files.old name }
-{
-    match plan_of(alloc, files, name, out) {
-        Ok(plan) => write_check(alloc, &plan, out),
         Err(fault) => Err(fault),
     }
 }

@@ -6,13 +6,13 @@ ghost use Rattle.roc_generate.specs.Workload_text.{generated_workload};
 ghost use Rattle.roc_generate.specs.Schedule_text.{generated_schedule};
 ghost use Rattle.roc_generate.specs.Summary_text.{load_summary_text};
 ghost use Rattle.roc_cli.specs.Done.{IsGenerated};
-ghost use Rattle.roc_cli.specs.Inner.Fault.{blames_sink};
-ghost use Rattle.roc_cli.specs.Inner.Ends.{GenEnds, fails_by};
+ghost use Rattle.roc_files.specs.Fault.{blames_sink, fails_by};
+ghost use Rattle.roc_cli.specs.Inner.Ends.{GenEnds};
 
-use crate::fault::Fault;
 use crate::unseen::Unseen;
 use roc_base::NoMemory;
 use roc_check::{CheckFault, check};
+use roc_files::Fault;
 use roc_generate::generate;
 use roc_generate::laws::{schedules_fit, workloads_have_plans};
 use roc_io::{Sink, Written};

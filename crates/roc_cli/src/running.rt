@@ -8,14 +8,13 @@ ghost use Rattle.roc_words.specs.Answer.{AreWordsOf};
 ghost use Rattle.roc_serve.specs.ServeEnd.{Serves};
 ghost use Rattle.roc_submit.specs.SubmitEnd.{BindsAndSubmits};
 ghost use Rattle.roc_cli.specs.Nodes.{IsServed, SubmitEnded, AreStopped, LocalEnded, IsChildBlamed};
-ghost use Rattle.roc_cli.specs.Inner.Fault.{blames_file, blames_sink, blames_link, precedes_loop};
-ghost use Rattle.roc_cli.specs.Inner.Ends.{fails_by, ReadsBut, LoopEnds, LoopEnded, no_child, CountsChildren};
+ghost use Rattle.roc_files.specs.Fault.{blames_file, blames_sink, blames_link, fails_by, ReadsBut};
+ghost use Rattle.roc_cli.specs.Inner.Ends.{precedes_loop, LoopEnds, LoopEnded, no_child, CountsChildren};
 ghost use Rattle.roc_cli.specs.Inner.Running.{ServesAs, StopsAs, LocalAs, LocalBlames};
 ghost use Rattle.roc_local.specs.Local.{local_end_of};
 
-use crate::fault::Fault;
-use crate::nodes::{NodeNames, Nodes, nodes_of};
 use roc_base::Shard;
+use roc_files::{Fault, NodeNames, Nodes, nodes_of};
 use roc_io::{Files, Link, Sink, Spawner};
 use roc_local::{LocalEnd, StopEnd, run_local, send_stops};
 use roc_serve::{ServeEnd, serve};

@@ -2,9 +2,17 @@ use Rattle.std.proofs.Common.{inl, refl, subst, map, string_bytes, Err}
 use Rattle.roc_words.specs.Answer.{AreWordsOf, AnswersWords}
 use Rattle.roc_words.specs.Commands.{command_of, serve, submit, stop, local}
 use Rattle.roc_cli.specs.Refused.{by_clap}
-use Rattle.roc_cli.proofs.Faults.{gen_ends}
+use Rattle.roc_cli.proofs.Faults.{print_ends, check_ends, gen_ends}
 use Rattle.roc_cli.proofs.Looping.{served_among, submitted_among, stopped_among, local_among, value_refused}
 use Rattle.roc_cli.proofs.command.perform.Goals as goal
+
+pub returns-in-Ok-Print-clause-ends : goal.returns-in-Ok-Print-clause-ends
+returns-in-Ok-Print-clause-ends g c =
+    inl (print_ends _ _ _ (subst (λ a. AreWordsOf (map string_bytes c.args.words.now) (command_of a)) c.in-Ok-Print.field-0-is c.in-Ok-Print.ensures.answers) c.print_file.ensures.failed c.print_file.ensures.ends)
+
+pub returns-in-Ok-Check-clause-ends : goal.returns-in-Ok-Check-clause-ends
+returns-in-Ok-Check-clause-ends g c =
+    inl (check_ends _ _ _ (subst (λ a. AreWordsOf (map string_bytes c.args.words.now) (command_of a)) c.in-Ok-Check.field-0-is c.in-Ok-Check.ensures.answers) c.check_file.ensures.failed c.check_file.ensures.ends)
 
 pub returns-in-Ok-Gen-clause-ends : goal.returns-in-Ok-Gen-clause-ends
 returns-in-Ok-Gen-clause-ends g c =

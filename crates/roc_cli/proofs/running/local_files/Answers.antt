@@ -1,5 +1,6 @@
 use Rattle.std.proofs.Common.{refl}
 use Rattle.roc_words.specs.Commands.{local}
+use Rattle.roc_cli.proofs.Loading.{nodes_fail}
 use Rattle.roc_cli.proofs.Looping.{local_ended, unrun}
 use Rattle.roc_cli.proofs.running.local_files.Goals as goal
 
@@ -10,4 +11,4 @@ returns-in-Ok-clause-ends g c words given =
 
 -- they were not
 pub returns-in-Err-clause-ends : goal.returns-in-Err-clause-ends
-returns-in-Err-clause-ends g c words given = unrun _ _ c.in-Err.fault (c.in-Err.ensures.fails words (local _ _ _ _, given, refl)) _
+returns-in-Err-clause-ends g c words given = unrun _ _ c.in-Err.fault (nodes_fail _ _ c.in-Err.fault (local _ _ _ _, given, refl) c.in-Err.ensures.failed c.in-Err.ensures.fails) _

@@ -1,5 +1,6 @@
 use Rattle.std.proofs.Common.{refl}
 use Rattle.roc_words.specs.Commands.{stop}
+use Rattle.roc_cli.proofs.Loading.{nodes_fail}
 use Rattle.roc_cli.proofs.Looping.{stop_ended, unstopped}
 use Rattle.roc_cli.proofs.running.stop_files.Goals as goal
 
@@ -10,4 +11,4 @@ returns-in-Ok-clause-ends g c words given =
 
 -- they were not
 pub returns-in-Err-clause-ends : goal.returns-in-Err-clause-ends
-returns-in-Err-clause-ends g c words given = unstopped _ _ c.in-Err.fault (c.in-Err.ensures.fails words (stop _ _, given, refl))
+returns-in-Err-clause-ends g c words given = unstopped _ _ c.in-Err.fault (nodes_fail _ _ c.in-Err.fault (stop _ _, given, refl) c.in-Err.ensures.failed c.in-Err.ensures.fails)

@@ -1,0 +1,4 @@
+pub mod Requests
+pub mod Input
+pub mod Listed
+pub mod Shards

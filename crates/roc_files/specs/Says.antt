@@ -1,0 +1,44 @@
+-- The one line on standard error: docs/FORMATS.md, "The program"
+use Rattle.std.specs.Prelude.{ℕ, List, [], ◌∷◌, ◌++◌, Option, Some, None, codes}
+use Rattle.std.specs.Fmt.{decimal}
+use Rattle.roc_io.specs.declared.sink.Written.{Written}
+use Rattle.roc_io.specs.Cause.{HasCause}
+use Rattle.roc_io.specs.Sink.{write_failed, Takes}
+
+-- what standard error took, as far as that is told, and how many of its writes failed
+pub record Errors : Type 0 where
+  pub before : Option (List ℕ)
+  pub after : Option (List ℕ)
+  pub faults_before : ℕ
+  pub faults_after : ℕ
+
+-- `words`, `memory`, `sink`, or the name of a value
+abbrev pub word_line : List ℕ → List ℕ
+word_line word = word ++ 10 ∷ []
+
+-- `file FILE`
+abbrev pub file_line : List ℕ → List ℕ
+file_line file = codes "file " ++ file ++ 10 ∷ []
+
+-- `FILE: limit`, where a file is too long
+abbrev pub long_line : List ℕ → List ℕ
+long_line file = file ++ codes ": limit" ++ 10 ∷ []
+
+-- `FILE: TEXT`, of a cluster file
+abbrev pub text_line : (file text : List ℕ) → List ℕ
+text_line file text = file ++ codes ": " ++ text ++ 10 ∷ []
+
+-- `FILE:LINE: WHAT`
+abbrev pub fault_line : List ℕ → ℕ → List ℕ → List ℕ
+fault_line file number what = file ++ codes ":" ++ decimal number ++ codes ": " ++ what ++ 10 ∷ []
+
+-- `child N`, and `child N STATUS` where there is a status
+abbrev pub child_line : (shard : ℕ) → (status : Option ℕ) → List ℕ
+child_line shard None = codes "child " ++ decimal shard ++ 10 ∷ []
+child_line shard (Some status) = codes "child " ++ decimal shard ++ codes " " ++ decimal status ++ 10 ∷ []
+
+-- standard error takes this line, or a front of it at a fault of its own, which is counted
+pub record Says (err : Errors) (line : List ℕ) : Type 0 where
+  pub answer : Written
+  pub takes : Takes answer err.before err.after line
+  pub cause : HasCause (write_failed answer) err.faults_before err.faults_after

@@ -1,0 +1,23 @@
+//! What the files that the program's words name hold: read and judged, each before the next is read, and the faults that are found, with the status
+//! and the line of each. A workload is printed and checked here; what runs it stands above.
+//!
+//! What is said of the bytes that files hold, of the reads that failed and of what the sinks take holds as far as these are told; the counts of
+//! faults hold always. The definitions stand in `specs/`: `Held.antt` (what a named file holds), `Requests.antt` (request files that fit a program),
+//! `Input.antt` and `Listed.antt` (what comes of reading one file), `NodeNames.antt` (of all files of a command with nodes), `Fault.antt` and `Says.antt`
+//! (the status of each fault, and its line on standard error). `specs/Inner/` is of this crate alone.
+#![tactic(auto)]
+
+mod check;
+mod fault;
+mod input;
+mod listed;
+mod nodes;
+mod requests;
+mod text;
+
+pub use check::check_file;
+pub use fault::Fault;
+pub use input::{bytes_of, plan_of};
+pub use listed::MOST_LISTED_BYTES;
+pub use nodes::{NodeNames, Nodes, nodes_of};
+pub use text::print_file;
