@@ -8,7 +8,7 @@ use std::alloc::Global;
 use std::marker::Model;
 
 /// Transactions in the order of their first decision. It only grows, at its end.
-#[derive(Debug, Drop)]
+#[derive(Drop)]
 pub struct Order {
     ids: Vec<TxnId>,
 }

@@ -13,7 +13,7 @@ use roc_sequence::Sequence;
 use std::alloc::Global;
 
 /// Transactions whose lists are known and for which the same is missing; nothing, where they are decided.
-#[derive(Debug, Drop)]
+#[derive(Drop)]
 pub(crate) struct Group {
     pub of: Sequence<TxnId>,
     pub missing: Sequence<TxnId>,

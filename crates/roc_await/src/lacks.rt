@@ -18,7 +18,7 @@ use std::marker::Model;
 
 /// The transactions whose lists are known and that are not decided, each with what is missing for it. So what new lists decide is
 /// found from what waits for them, and not from all that is known.
-#[derive(Debug, Drop)]
+#[derive(Drop)]
 pub struct Lacks {
     alloc: Global,
     // Most that wait, wait for the same.

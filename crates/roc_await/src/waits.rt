@@ -8,21 +8,21 @@ use std::alloc::Global;
 use std::marker::Model;
 
 /// A transaction whose list was asked for, and the shard that was asked.
-#[derive(Clone, Copy, Debug, PartialEq, Eq)]
+#[derive(Clone, Copy)]
 pub struct Asked {
     pub id: TxnId,
     pub at: Shard,
 }
 
 /// A shard that asked for the list of a transaction.
-#[derive(Clone, Copy, Debug, PartialEq, Eq)]
+#[derive(Clone, Copy)]
 pub struct Asker {
     pub id: TxnId,
     pub shard: Shard,
 }
 
 /// What a server waits for, and who waits for it.
-#[derive(Debug, Drop)]
+#[derive(Drop)]
 pub struct Waits {
     alloc: Global,
     asked: Vec<Asked>,

@@ -8,7 +8,7 @@ use roc_sequence::Sequence;
 
 /// Why a text has no plan: the fault of the first step that finds one. Pieces and vertices are numbers, so a refusal hands back the
 /// workload, which has their names.
-#[derive(Debug, Drop)]
+#[derive(Drop)]
 pub enum CheckFault {
     /// The bytes are no workload text.
     Lang(LangError),

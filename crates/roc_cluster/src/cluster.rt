@@ -8,7 +8,7 @@ use roc_sequence::Sequence;
 use std::marker::Model;
 
 /// Where the server of each shard is. Contracts see the list of the addresses, one for each shard in order.
-#[derive(Debug, Drop)]
+#[derive(Drop)]
 pub struct Cluster {
     addrs: Sequence<Addr>,
 }

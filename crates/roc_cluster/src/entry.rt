@@ -17,7 +17,7 @@ use std::net::Ipv4Addr;
 use toml::{Table, Value};
 
 /// A shard, and where its server is.
-#[derive(Clone, Copy, Debug, PartialEq, Eq)]
+#[derive(Clone, Copy)]
 pub(crate) struct Entry {
     pub(crate) shard: Shard,
     pub(crate) addr: Addr,

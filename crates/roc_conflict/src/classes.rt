@@ -13,7 +13,7 @@ use std::alloc::Global;
 use std::marker::Model;
 
 /// Of each piece of a workload whether it is immediate.
-#[derive(Debug, Drop)]
+#[derive(Drop)]
 pub struct Classes {
     procedures: Vec<Vec<bool>>,
 }

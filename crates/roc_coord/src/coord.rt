@@ -28,7 +28,7 @@ const MOST_TRANSACTIONS: u32 = 4_294_967_295;
 const MOST_PENDING: usize = 16;
 
 /// A coordinator of a plan's transactions, after ROCOCO (OSDI 2014).
-#[derive(Debug, Drop)]
+#[derive(Drop)]
 pub struct Coord {
     alloc: Global,
     number: u16,

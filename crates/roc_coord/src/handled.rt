@@ -4,7 +4,7 @@ use roc_base::{Nums, TxnId};
 use roc_msg::Reason;
 
 /// What became of a message.
-#[derive(Debug, Drop)]
+#[derive(Drop)]
 pub enum Handled {
     /// It was taken.
     Done,

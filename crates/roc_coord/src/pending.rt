@@ -20,7 +20,7 @@ use std::alloc::Global;
 use std::marker::Model;
 
 /// Transactions by id rising, with their ids beside them.
-#[derive(Debug, Drop)]
+#[derive(Drop)]
 pub(crate) struct Pending {
     transactions: Vec<Transaction>,
     ids: Vec<TxnId>,

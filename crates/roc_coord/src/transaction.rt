@@ -5,14 +5,14 @@ use roc_msg::Facts;
 use roc_sequence::Sequence;
 
 /// A start that was sent.
-#[derive(Debug, Drop)]
+#[derive(Drop)]
 pub struct SentStart {
     pub group: u16,
     pub shard: Shard,
 }
 
 /// What a group's `StartOk` told.
-#[derive(Debug, Drop)]
+#[derive(Drop)]
 pub struct TakenStart {
     pub group: u16,
     pub bound: Nums,
@@ -22,14 +22,14 @@ pub struct TakenStart {
 }
 
 /// What a shard's `CommitOk` told.
-#[derive(Debug, Drop)]
+#[derive(Drop)]
 pub struct TakenCommit {
     pub shard: Shard,
     pub outs: Nums,
 }
 
 /// A transaction without a reply.
-#[derive(Debug, Drop)]
+#[derive(Drop)]
 pub struct Transaction {
     pub id: TxnId,
     pub proc: u16,

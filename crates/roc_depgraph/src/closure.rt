@@ -2,7 +2,7 @@
 use roc_base::TxnId;
 
 /// A transaction and its ancestors, as far as their lists are known.
-#[derive(Debug, Drop)]
+#[derive(Drop)]
 pub enum Closure {
     /// All lists are known: the transaction and its ancestors, rising strictly by id.
     Whole(Vec<TxnId>),

@@ -10,7 +10,7 @@ use roc_words::ValueName;
 use std::alloc::Global;
 
 /// Why the program ends without having done what it was asked.
-#[derive(Debug, Drop)]
+#[derive(Drop)]
 pub enum Fault<'a> {
     /// `clap` refuses the words, with this text.
     Refused(String),

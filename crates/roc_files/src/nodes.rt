@@ -22,7 +22,7 @@ use roc_wire::tag;
 use std::alloc::Global;
 
 /// The names of the files of a command with nodes, and the shard that it serves.
-#[derive(Clone, Copy, Debug)]
+#[derive(Clone, Copy)]
 pub struct NodeNames<'a> {
     pub workload: &'a str,
     pub cluster: &'a str,

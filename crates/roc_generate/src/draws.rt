@@ -3,7 +3,7 @@ ghost use Rattle.std.specs.Prelude.{◌≡◌, ◌<◌};
 ghost use Rattle.roc_generate.specs.Draws.{next_state, draw};
 
 /// A linear congruential generator. Its high bits are what it gives, since the low ones repeat soon.
-#[derive(Debug, Drop)]
+#[derive(Drop)]
 pub(crate) struct Draws {
     pub(crate) state: u64,
 }

@@ -5,7 +5,7 @@ ghost use Rattle.roc_group.specs.Accesses.{meets, do_conflict};
 use roc_rows::Cell;
 
 /// A cell that a group uses, and whether it writes it.
-#[derive(Clone, Copy, Debug, PartialEq, Eq)]
+#[derive(Clone, Copy)]
 pub struct Access {
     pub cell: Cell,
     pub writes: bool,

@@ -5,7 +5,7 @@ use roc_sequence::Sequence;
 use std::alloc::Global;
 
 /// What groups that ran gave, and what they used.
-#[derive(Debug, Drop)]
+#[derive(Drop)]
 pub struct Outputs {
     /// The values of the names that they bind, in the order in which they are bound.
     pub bound: Nums,

@@ -5,7 +5,7 @@ ghost use Rattle.roc_groups.specs.Groups.{groups_in, group_at};
 use std::marker::Model;
 
 /// Of each procedure of a workload its groups, each a list of piece numbers.
-#[derive(Debug, Drop)]
+#[derive(Drop)]
 pub struct Groups {
     procedures: Vec<Vec<Vec<u16>>>,
 }

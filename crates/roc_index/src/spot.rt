@@ -2,7 +2,7 @@
 use roc_base::TxnId;
 
 /// A group of a transaction that started: its place among the groups that did, and its procedure and number, which tell its class.
-#[derive(Clone, Copy, Debug)]
+#[derive(Clone, Copy)]
 pub struct Spot {
     pub id: TxnId,
     pub at: usize,

@@ -6,7 +6,7 @@ ghost use Rattle.roc_io.specs.Cause.{HasCause};
 use std::marker::Model;
 
 /// The calls made on an object in memory, by number from 1, with those that are to fail.
-#[derive(Debug, Drop)]
+#[derive(Drop)]
 pub struct Calls {
     made: u64,
     failing: Vec<u64>,

@@ -6,7 +6,7 @@ use std::alloc::{AllocError, Global};
 use std::marker::Model;
 
 /// A list that grows, seen as that list, or as nothing once memory was wanting for an item.
-#[derive(Debug, Drop)]
+#[derive(Drop)]
 pub struct Kept<T> {
     items: Vec<T>,
     complete: bool,

@@ -13,7 +13,7 @@ pub mod memory;
 use child::Child;
 
 /// What a start answers.
-#[derive(Clone, Copy, Debug, PartialEq, Eq)]
+#[derive(Clone, Copy, PartialEq, Eq)]
 pub enum Started {
     /// This child runs.
     Running(Child),

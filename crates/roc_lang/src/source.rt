@@ -7,7 +7,7 @@ use crate::{Init, Procedure, Table};
 use std::marker::Model;
 
 /// A whole workload text, within the limits of the language (`specs/Limits.antt`), in scope or not.
-#[derive(Debug, Drop)]
+#[derive(Drop)]
 pub struct Source {
     shards: u64,
     shards_line: u32,

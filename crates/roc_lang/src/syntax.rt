@@ -1,14 +1,14 @@
 //! The parts of the syntax tree of a workload text. `specs/Tree.antt` says what each is apart from where it lies in memory.
 
 /// A name where it stands: `line` counts from 1.
-#[derive(Debug, Drop)]
+#[derive(Drop)]
 pub struct Name {
     pub text: String,
     pub line: u32,
 }
 
 /// A value of 64 bits. Parentheses leave no trace in it.
-#[derive(Debug, Drop)]
+#[derive(Drop)]
 pub enum Expression {
     /// An integer.
     Number(i64),
@@ -31,7 +31,7 @@ pub enum Expression {
 }
 
 /// One column of the row of a table with this id, at the place of the piece.
-#[derive(Debug, Drop)]
+#[derive(Drop)]
 pub struct Access {
     /// The table's name, where it is written.
     pub table: Name,
@@ -43,7 +43,7 @@ pub struct Access {
 }
 
 /// A step of a piece.
-#[derive(Debug, Drop)]
+#[derive(Drop)]
 pub enum Statement {
     /// Binds a name to the value of a cell.
     Get { name: Name, from: Access },
@@ -54,7 +54,7 @@ pub enum Statement {
 }
 
 /// A part of a procedure that runs on one shard, that of its place.
-#[derive(Debug, Drop)]
+#[derive(Drop)]
 pub struct Piece {
     /// Declared `now`, and not `later`.
     pub is_now: bool,
@@ -64,7 +64,7 @@ pub struct Piece {
 }
 
 /// What a transaction calls: it runs its pieces as if in the order of the text.
-#[derive(Debug, Drop)]
+#[derive(Drop)]
 pub struct Procedure {
     pub name: Name,
     pub arguments: Vec<Name>,
@@ -72,7 +72,7 @@ pub struct Procedure {
 }
 
 /// A table: its rows are told apart by their place and their id.
-#[derive(Debug, Drop)]
+#[derive(Drop)]
 pub struct Table {
     pub name: Name,
     /// How many integers an id has.
@@ -81,7 +81,7 @@ pub struct Table {
 }
 
 /// The value of a cell at the start.
-#[derive(Debug, Drop)]
+#[derive(Drop)]
 pub struct Init {
     /// The table's name, where it is written.
     pub table: Name,

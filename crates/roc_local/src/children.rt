@@ -10,7 +10,7 @@ use roc_io::{Child, ChildWait, Spawner};
 use std::alloc::{AllocError, Global};
 
 /// A child that did not end with status 0.
-#[derive(Clone, Copy, Debug, PartialEq, Eq)]
+#[derive(Clone, Copy)]
 pub struct ChildEnd {
     /// The shard that it served.
     pub shard: Shard,

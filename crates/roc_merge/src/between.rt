@@ -13,7 +13,7 @@ use roc_groups::are_co_located;
 use roc_program::{PieceId, Workload, procedure_count};
 
 /// Two contended pieces, and one between them.
-#[derive(Clone, Copy, Debug)]
+#[derive(Clone, Copy)]
 pub(crate) struct Between {
     pub p: u16,
     pub q: u16,

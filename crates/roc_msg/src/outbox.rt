@@ -7,7 +7,7 @@ use roc_sequence::Sequence;
 use std::alloc::Global;
 
 /// A message that is to be sent to a node.
-#[derive(Debug, Drop)]
+#[derive(Drop)]
 pub struct Outgoing {
     pub to: Node,
     pub msg: Msg,
@@ -15,7 +15,7 @@ pub struct Outgoing {
 
 /// The messages that a node sends, in order, and the transactions that a server newly decides, in
 /// the order in which it takes them. A call appends to it.
-#[derive(Debug, Drop)]
+#[derive(Drop)]
 pub struct Outbox {
     pub messages: Sequence<Outgoing>,
     pub decided: Sequence<TxnId>,

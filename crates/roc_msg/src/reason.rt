@@ -54,7 +54,7 @@ impl fmt::Display for Reason {
 }
 
 /// Why a node gives no answer.
-#[derive(Clone, Copy, Debug, PartialEq, Eq)]
+#[derive(Clone, Copy, PartialEq, Eq)]
 pub enum NodeFault {
     /// No memory. Nothing is promised of the node, which stops.
     NoMemory,

@@ -7,7 +7,7 @@ use roc_post::Skip;
 use roc_wire::WireFault;
 
 /// How many datagrams were skipped, by the word of the fault, or for the tag.
-#[derive(Clone, Copy, Debug, PartialEq, Eq)]
+#[derive(Clone, Copy)]
 pub struct SkipCounts {
     pub short: u64,
     pub magic: u64,
@@ -20,7 +20,7 @@ pub struct SkipCounts {
 }
 
 /// How many messages were ignored, by the reason.
-#[derive(Clone, Copy, Debug, PartialEq, Eq)]
+#[derive(Clone, Copy)]
 pub struct IgnoreCounts {
     pub foreign: u64,
     pub bad_proc: u64,
@@ -34,7 +34,7 @@ pub struct IgnoreCounts {
 }
 
 /// How many datagrams were taken and skipped. A message that was ignored was taken.
-#[derive(Clone, Copy, Debug, PartialEq, Eq)]
+#[derive(Clone, Copy)]
 pub struct Counts {
     pub taken: u64,
     pub skipped: u64,

@@ -11,7 +11,7 @@ use roc_wire::WireFault;
 use std::alloc::{AllocError, Global};
 
 /// A line that a node writes besides its submissions and answers.
-#[derive(Clone, Copy, Debug, PartialEq, Eq)]
+#[derive(Clone, Copy)]
 pub enum NodeLine {
     /// A server has bound its address.
     Serving(Shard),

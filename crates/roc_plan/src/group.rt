@@ -17,7 +17,7 @@ pub struct Input {
 
 /// What a group runs with: its procedure's arguments, and the values that it takes from other
 /// groups, in the order of `Plan::inputs`.
-#[derive(Debug, Drop)]
+#[derive(Drop)]
 pub struct Known {
     pub args: Nums,
     pub inputs: Nums,

@@ -2,7 +2,7 @@
 use crate::{Class, Input};
 
 /// A group of a procedure.
-#[derive(Debug, Drop)]
+#[derive(Drop)]
 pub struct Outline {
     /// The numbers of its pieces, rising.
     pub pieces: Vec<u16>,

@@ -21,7 +21,7 @@ use std::alloc::Global;
 use std::marker::Model;
 
 /// A workload with its pieces in groups.
-#[derive(Debug, Drop)]
+#[derive(Drop)]
 pub struct Plan {
     workload: Workload,
     /// Of each procedure, its groups.

@@ -7,7 +7,7 @@ use roc_io::Addr;
 use std::marker::Model;
 
 /// Where each of sixteen coordinators was last heard, if it was. Contracts see a list of these addresses, by number.
-#[derive(Debug, Drop)]
+#[derive(Drop)]
 pub struct Heard {
     addrs: [Option<Addr>; 16],
 }

@@ -8,7 +8,7 @@ use roc_wire::{Header, WireFault, decode};
 use std::alloc::Global;
 
 /// Why a datagram is skipped.
-#[derive(Clone, Copy, Debug, PartialEq, Eq)]
+#[derive(Clone, Copy)]
 pub enum Skip {
     /// It is none, with its first fault.
     Fault(WireFault),
@@ -17,7 +17,7 @@ pub enum Skip {
 }
 
 /// What bytes that came are to a node.
-#[derive(Debug, Drop)]
+#[derive(Drop)]
 pub enum Judged {
     /// A message, with who says that it sent it.
     Delivery(Header, Msg),

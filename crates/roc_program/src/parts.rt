@@ -3,7 +3,7 @@
 use roc_base::Key;
 
 /// A value that a piece computes from the names of its procedure.
-#[derive(Debug, Drop)]
+#[derive(Drop)]
 pub enum Expression {
     Number(i64),
     /// The value of a name, by its number: arguments first, then each `get` in program order.
@@ -20,7 +20,7 @@ pub enum Expression {
 }
 
 /// One column of the row of a table with this id, at the place of the piece.
-#[derive(Debug, Drop)]
+#[derive(Drop)]
 pub struct Access {
     pub table: u8,
     /// As many integers as the ids of the table have.
@@ -29,7 +29,7 @@ pub struct Access {
 }
 
 /// A step of a piece.
-#[derive(Debug, Drop)]
+#[derive(Drop)]
 pub enum Statement {
     /// Reads a cell into the name of this number.
     Get(u16, Access),
@@ -40,7 +40,7 @@ pub enum Statement {
 }
 
 /// A piece of a procedure: all its accesses are at its place.
-#[derive(Debug, Drop)]
+#[derive(Drop)]
 pub struct Piece {
     pub name: String,
     /// Whether it was declared `now`, and not `later`.
@@ -50,7 +50,7 @@ pub struct Piece {
 }
 
 /// A procedure that a transaction may call.
-#[derive(Debug, Drop)]
+#[derive(Drop)]
 pub struct Procedure {
     pub name: String,
     /// How many arguments it takes.
@@ -61,7 +61,7 @@ pub struct Procedure {
 }
 
 /// A table with its columns, which keep their names for reports.
-#[derive(Debug, Drop)]
+#[derive(Drop)]
 pub struct Table {
     pub name: String,
     /// How many integers its ids have.
@@ -70,7 +70,7 @@ pub struct Table {
 }
 
 /// The value of a cell at the start.
-#[derive(Debug, Drop)]
+#[derive(Drop)]
 pub struct Init {
     pub table: u8,
     pub place: i64,

@@ -8,7 +8,7 @@ use crate::{Init, Procedure, Table};
 use std::marker::Model;
 
 /// A whole workload: what a text in grammar and scope means. Contracts see it as the program that it is.
-#[derive(Debug, Drop)]
+#[derive(Drop)]
 pub struct Workload {
     shards: u8,
     tables: Vec<Table>,

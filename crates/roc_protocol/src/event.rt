@@ -4,7 +4,7 @@ use roc_base::{Node, Nums, TxnId};
 use roc_msg::Reason;
 
 /// One event of the world. A message that is lost is one that is never delivered.
-#[derive(Debug, Drop)]
+#[derive(Drop)]
 pub enum Event {
     /// A transaction is submitted at a coordinator.
     Submit { coord: u16, proc: u16, args: Nums },
@@ -15,7 +15,7 @@ pub enum Event {
 }
 
 /// What is seen of an event.
-#[derive(Debug, Drop)]
+#[derive(Drop)]
 pub enum Seen {
     /// A submission was accepted.
     Submitted(TxnId),

@@ -3,7 +3,7 @@
 use roc_world::Event;
 
 /// What is asked for: an event, or a choice among the messages that were never delivered.
-#[derive(Debug, Drop)]
+#[derive(Drop)]
 pub enum Wanted {
     /// This event.
     Event(Event),
@@ -13,7 +13,7 @@ pub enum Wanted {
 }
 
 /// What a line asks for, with the number of the line.
-#[derive(Debug, Drop)]
+#[derive(Drop)]
 pub struct Asked {
     pub number: u32,
     pub wanted: Wanted,

@@ -3,7 +3,7 @@
 use roc_sched::What;
 
 /// The counts of a whole report.
-#[derive(Clone, Copy, Debug, PartialEq, Eq)]
+#[derive(Clone, Copy)]
 pub struct Summary {
     /// How many transactions were answered.
     pub answered: u64,
@@ -16,7 +16,7 @@ pub struct Summary {
 }
 
 /// How a replay ends.
-#[derive(Clone, Copy, Debug, PartialEq, Eq)]
+#[derive(Clone, Copy)]
 pub enum Ended {
     /// The whole schedule was played, and its whole report was written.
     Done(Summary),

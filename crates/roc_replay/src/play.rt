@@ -115,7 +115,7 @@ fn is_delivery_unsent(event: &Event, sent: usize) -> bool
 }
 
 // What one line of a schedule adds to a report.
-#[derive(Debug, Drop)]
+#[derive(Drop)]
 struct Played {
     text: Vec<u8>,
     busy: u64,

@@ -9,7 +9,7 @@ use std::fmt;
 
 /// When the pieces of a transaction may run, once pieces in conflict with immediate ones were
 /// promoted.
-#[derive(Clone, Copy, Debug, PartialEq, Eq)]
+#[derive(Clone, Copy)]
 pub enum Standing {
     /// Declared `now`.
     Immediate,
@@ -35,7 +35,7 @@ impl fmt::Display for Standing {
 }
 
 /// One line of a report. It lends its lists, messages and cells from where they are kept.
-#[derive(Clone, Copy, Debug)]
+#[derive(Clone, Copy)]
 pub enum ReportLine<'a> {
     /// An accepted submission: its id, the procedure's number and the arguments.
     Submit {
@@ -84,7 +84,7 @@ pub enum ReportLine<'a> {
 }
 
 /// One line that `check` writes: of the text of a workload, or why it is refused. It lends its lists from where they are kept.
-#[derive(Clone, Copy, Debug)]
+#[derive(Clone, Copy)]
 pub enum CheckLine<'a> {
     /// How many shards the workload has.
     Shards(u8),

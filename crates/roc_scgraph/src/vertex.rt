@@ -2,14 +2,14 @@
 use roc_program::PieceId;
 
 /// One of the two instances of each procedure that the graph looks at.
-#[derive(Clone, Copy, Debug, PartialEq, Eq, PartialOrd, Ord)]
+#[derive(Clone, Copy, PartialEq, Eq, PartialOrd, Ord)]
 pub enum Instance {
     First,
     Second,
 }
 
 /// A piece of an instance of its procedure, by the numbers of procedure and piece; ordered by procedure, piece and instance.
-#[derive(Clone, Copy, Debug, PartialEq, Eq, PartialOrd, Ord)]
+#[derive(Clone, Copy, PartialEq, Eq, PartialOrd, Ord)]
 pub struct Vertex {
     pub proc: u16,
     pub piece: u16,
@@ -18,7 +18,7 @@ pub struct Vertex {
 
 /// What joins two vertices: they are siblings of one instance, or their pieces conflict, and `immediate` tells whether both
 /// pieces are (transaction chopping, TODS 1995; ROCOCO, OSDI 2014).
-#[derive(Clone, Copy, Debug, PartialEq, Eq)]
+#[derive(Clone, Copy, PartialEq, Eq)]
 pub enum Kind {
     S,
     C { immediate: bool },

@@ -55,7 +55,7 @@ impl fmt::Display for What {
 }
 
 /// Why words are no line.
-#[derive(Debug, Drop)]
+#[derive(Drop)]
 pub(crate) enum LineFault {
     Is(What),
     NoMemory,

@@ -4,7 +4,7 @@ use crate::ProcedureName;
 use roc_base::{Node, Nums};
 
 /// What a line of a schedule asks for.
-#[derive(Debug, Drop)]
+#[derive(Drop)]
 pub enum Act {
     /// The procedure of this name is submitted at a coordinator.
     Submit {
@@ -22,14 +22,14 @@ pub enum Act {
 }
 
 /// A line of a schedule that is not skipped. Its number counts from 1, skipped lines too.
-#[derive(Debug, Drop)]
+#[derive(Drop)]
 pub struct Line {
     pub number: u32,
     pub act: Act,
 }
 
 /// A line of a request file that is not skipped: the call of a procedure, with the line's number.
-#[derive(Debug, Drop)]
+#[derive(Drop)]
 pub struct Request {
     pub line: u32,
     pub name: ProcedureName,

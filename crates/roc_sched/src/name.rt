@@ -5,7 +5,7 @@ use std::alloc::{AllocError, Global};
 use std::marker::Model;
 
 /// The name of a procedure as it is written, seen as its bytes. Whether there is such a procedure is judged under a plan.
-#[derive(Debug, Drop)]
+#[derive(Drop)]
 pub struct ProcedureName {
     bytes: Vec<u8>,
 }

@@ -11,7 +11,7 @@ use crate::misuse::{Misuse, Reason, at_name};
 use roc_lang::{Expression, Name, Piece, Statement};
 
 /// What stands before a statement, or before a piece where no statement of it stands here.
-#[derive(Clone, Copy, Debug)]
+#[derive(Clone, Copy)]
 pub(crate) struct Before<'a> {
     pub arguments: &'a [Name],
     /// The whole pieces before.

@@ -24,7 +24,7 @@ pub(crate) enum Reason {
 }
 
 /// A name that is declared or used where it may not be, or as it may not be.
-#[derive(Clone, Copy, Debug)]
+#[derive(Clone, Copy)]
 pub(crate) struct Misuse<'a> {
     pub reason: Reason,
     pub name: &'a Name,

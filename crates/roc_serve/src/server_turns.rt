@@ -14,7 +14,7 @@ use roc_wire::Header;
 use std::alloc::Global;
 
 /// What comes of a turn.
-#[derive(Clone, Copy, Debug, PartialEq, Eq)]
+#[derive(Clone, Copy)]
 pub enum Turned {
     /// The node goes on.
     Goes,
@@ -96,7 +96,7 @@ pub fn take_turn<L: Link>(
 }
 
 /// Why a run of turns ended.
-#[derive(Clone, Copy, Debug, PartialEq, Eq)]
+#[derive(Clone, Copy)]
 pub enum RunEnd {
     /// All turns were taken, or the node was stopped: whether it was.
     Over(bool),

@@ -26,7 +26,7 @@ pub struct Station {
 }
 
 /// What a node gives in an event: whether it was stopped, and the datagrams that it sends.
-#[derive(Debug, Drop)]
+#[derive(Drop)]
 pub struct Given {
     pub stopped: bool,
     pub sends: Vec<Datagram>,

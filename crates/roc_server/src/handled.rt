@@ -3,7 +3,7 @@
 use roc_msg::Reason;
 
 /// What became of a message.
-#[derive(Clone, Copy, Debug, PartialEq, Eq)]
+#[derive(Clone, Copy)]
 pub enum Handled {
     /// It was taken.
     Done,

@@ -6,7 +6,7 @@ use roc_msg::Facts;
 use roc_sequence::Sequence;
 
 /// A group that has started here, with what it was given, what it uses, what its startok says, and what came of it.
-#[derive(Debug, Drop)]
+#[derive(Drop)]
 pub struct StartedGroup {
     pub id: TxnId,
     pub proc: u16,

@@ -35,7 +35,7 @@ pub struct Desk {
 }
 
 /// What is due: text that is to be written, and the datagrams that are to be sent behind it.
-#[derive(Debug, Drop)]
+#[derive(Drop)]
 pub struct Due {
     pub text: Vec<u8>,
     pub sends: Vec<Datagram>,

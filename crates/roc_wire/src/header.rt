@@ -6,7 +6,7 @@ use roc_base::Node;
 use sha2::{Digest, Sha256};
 
 /// The tag of the workload that the nodes run, and who sends the message.
-#[derive(Clone, Copy, Debug, PartialEq, Eq)]
+#[derive(Clone, Copy)]
 pub struct Header {
     pub tag: [u8; 8],
     pub from: Node,

@@ -13,7 +13,7 @@ use clap::{ArgMatches, Error};
 use std::alloc::Global;
 
 /// Why words ask for nothing.
-#[derive(Debug, Drop)]
+#[derive(Drop)]
 pub enum WordsFault {
     /// `clap` refuses them, with this text, in lines.
     Refused(String),

@@ -11,7 +11,7 @@ use std::alloc::Global;
 use std::marker::Model;
 
 /// Every message ever sent, numbered from 1, and the numbers of those that were never delivered.
-#[derive(Debug, Drop)]
+#[derive(Drop)]
 pub(crate) struct Network {
     sent: Vec<Sent>,
     undelivered: Vec<u64>,

@@ -13,7 +13,7 @@ use std::alloc::Global;
 use std::marker::Model;
 
 /// A file in memory: a name and the bytes that it holds.
-#[derive(Debug, Drop)]
+#[derive(Drop)]
 pub struct StoredFile {
     name: String,
     bytes: Vec<u8>,
@@ -85,7 +85,7 @@ fn copy_within(bytes: &[u8], into: &mut Vec<u8>, limit: usize) -> Read
 ///
 /// A read of a name that is not there fails too, and is counted. Once there is no memory for a name whose read
 /// failed, they tell no such names any more; what they answer does not change by that.
-#[derive(Debug, Drop)]
+#[derive(Drop)]
 pub struct MemFiles {
     alloc: Global,
     files: Vec<StoredFile>,
@@ -157,7 +157,7 @@ impl Files for MemFiles {
 }
 
 /// Files in memory that never fail. A name that is not there holds no bytes.
-#[derive(Debug, Drop)]
+#[derive(Drop)]
 pub struct CalmFiles {
     files: Vec<StoredFile>,
 }

@@ -6,7 +6,7 @@ use std::alloc::{AllocError, Global};
 use std::marker::Model;
 
 /// A datagram: whom it comes from or goes to, and its bytes.
-#[derive(Debug, Drop)]
+#[derive(Drop)]
 pub struct Datagram {
     address: Addr,
     bytes: Vec<u8>,

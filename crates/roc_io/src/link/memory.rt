@@ -17,7 +17,7 @@ use std::marker::Model;
 ///
 /// Once there is no memory for a datagram that is sent, or for an address, the link tells no datagrams
 /// sent, or no addresses, any more; what it answers does not change by that.
-#[derive(Debug, Drop)]
+#[derive(Drop)]
 pub struct MemLink {
     traffic: Traffic,
     calls: Calls,
@@ -146,7 +146,7 @@ impl Link for MemLink {
 ///
 /// Once there is no memory for a datagram that is sent, or for an address, it tells no datagrams sent, or
 /// no addresses, any more, and goes on to answer Ok.
-#[derive(Debug, Drop)]
+#[derive(Drop)]
 pub struct CalmLink {
     traffic: Traffic,
 }

@@ -10,7 +10,7 @@ use std::alloc::Global;
 use std::marker::Model;
 
 /// The arrivals that are stored, seen as those that are left.
-#[derive(Debug, Drop)]
+#[derive(Drop)]
 struct Arrivals {
     stored: Vec<Datagram>,
     given: usize,
@@ -60,7 +60,7 @@ impl Arrivals {
 }
 
 /// What a link in memory keeps.
-#[derive(Debug, Drop)]
+#[derive(Drop)]
 pub struct Traffic {
     alloc: Global,
     bound: Kept<Addr>,

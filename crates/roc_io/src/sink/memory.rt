@@ -15,7 +15,7 @@ use std::marker::Model;
 ///
 /// A failed write takes the first half of its piece. Once there is no memory for a piece, the sink
 /// tells no bytes any more; what it answers does not change by that.
-#[derive(Debug, Drop)]
+#[derive(Drop)]
 pub struct MemSink {
     taken: Kept<u8>,
     calls: Calls,
@@ -76,7 +76,7 @@ impl Sink for MemSink {
 /// A sink that keeps what it takes, and never fails.
 ///
 /// Once there is no memory for a piece, it tells no bytes any more, and goes on to answer Ok.
-#[derive(Debug, Drop)]
+#[derive(Drop)]
 pub struct CalmSink {
     taken: Kept<u8>,
 }

@@ -36,7 +36,7 @@ impl Child {
 }
 
 /// A child that was started, with the words of its start.
-#[derive(Debug, Drop)]
+#[derive(Drop)]
 pub struct ChildStart {
     child: Child,
     words: Vec<String>,

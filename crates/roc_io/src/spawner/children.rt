@@ -10,7 +10,7 @@ use std::alloc::{AllocError, Global};
 use std::marker::Model;
 
 /// The starts and the waits so far.
-#[derive(Debug, Drop)]
+#[derive(Drop)]
 pub struct Children {
     alloc: Global,
     running: u64,

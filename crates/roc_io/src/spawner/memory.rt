@@ -18,7 +18,7 @@ use std::marker::Model;
 /// A child's number is the number of children that were started before it. Once there is no memory for a
 /// start or a wait that was made, it tells no starts, or no waits, any more; what it answers does not
 /// change by that.
-#[derive(Debug, Drop)]
+#[derive(Drop)]
 pub struct MemSpawner {
     children: Children,
     statuses: Vec<Option<u8>>,
@@ -122,7 +122,7 @@ impl Spawner for MemSpawner {
 ///
 /// A child's number is the number of children that were started before it. Once there is no memory for a
 /// start or a wait that was made, it tells no starts, or no waits, any more, and goes on to answer.
-#[derive(Debug, Drop)]
+#[derive(Drop)]
 pub struct CalmSpawner {
     children: Children,
     statuses: Vec<u8>,
