@@ -2,9 +2,10 @@
 ghost use Rattle.std.specs.Prelude.{◌≡◌, ◌<◌, ◌++◌, [], length, unwrap_or, Some, slice_get, IfOk, OnOk};
 ghost use Rattle.std.specs.Option.{option_to_list};
 ghost use Rattle.roc_sequence.specs.Places.{NoneTwice};
-ghost use Rattle.roc_server.specs.Runs.{buffered_here, outs_here, run_groups, take_all};
+ghost use Rattle.roc_group.specs.Group_run.{call, group_run};
+ghost use Rattle.roc_server.specs.Runs.{buffered_here, group_call, outs_here, run_groups, take_all};
 ghost use Rattle.roc_server.specs.declared.started.StartedGroup.{StartedGroup as Group};
-ghost use Rattle.roc_server.specs.Fits.{AreGroupsOf};
+ghost use Rattle.roc_server.specs.Fits.{AreGroupsOf, IsCallOf};
 ghost use Rattle.roc_server.specs.Inner.Kept.{holding, is_same_group, AreSameGroups};
 ghost use Rattle.roc_server.specs.Inner.Runs.{buffered, RunsAt, RunsIfBuffered};
 ghost use Rattle.roc_server.specs.State.{find_group, ServerState};
@@ -109,16 +110,52 @@ fn run_at(
     requires fits { AreGroupsOf plan.now started.old }
     ensures { OnOk result ((e : Group) → slice_get started.old at ≡ Some e → RunsAt plan.now e at started.old started.new rows.old.store rows.new.store) }
 {
-    let group = &started.as_slice()[at];
-    let known = Known {
+    let given = given_by(alloc, plan, &started.as_slice()[at], rows)?;
+    started.keep_later(at, given);
+    Ok(())
+}
+
+// A group runs: what it gives.
+fn given_by(
+    alloc: Global,
+    plan: &Plan,
+    group: &StartedGroup,
+    rows: &mut Rows,
+) -> Result<Nums, NoMemory>
+    requires { IsCallOf plan.now (group_call group.now) }
+    ensures store { OnOk result (rows.new.store ≡ (group_run plan.now (group_call group.now) rows.old.store).store) }
+    ensures given { IfOk result (λ given. given ≡ (group_run plan.now (group_call group.now) rows.old.store).reply) }
+{
+    let known = known_to(group)?;
+    given_with(alloc, plan, group.proc, group.group, &known, rows)
+}
+
+// What a group gives that runs with this.
+fn given_with(
+    alloc: Global,
+    plan: &Plan,
+    proc: u16,
+    group: u16,
+    known: &Known,
+    rows: &mut Rows,
+) -> Result<Nums, NoMemory>
+    requires { IsCallOf plan.now (call proc group known.now.args known.now.inputs) }
+    ensures store { OnOk result (rows.new.store ≡ (group_run plan.now (call proc group known.now.args known.now.inputs) rows.old.store).store) }
+    ensures given { IfOk result (λ given. given ≡ (group_run plan.now (call proc group known.now.args known.now.inputs) rows.old.store).reply) }
+{
+    let mut out = Outputs::new(alloc);
+    run_group(alloc, plan, proc, group, known, rows, &mut out)?;
+    Ok(out.outs)
+}
+
+// What a group was called with.
+fn known_to(group: &StartedGroup) -> Result<Known, NoMemory>
+    ensures { IfOk result (λ known. call group.now.proc group.now.group known.args known.inputs ≡ group_call group.now) }
+{
+    Ok(Known {
         args: group.args.clone()?,
         inputs: group.inputs.clone()?,
-    };
-    let (proc, number) = (group.proc, group.group);
-    let mut out = Outputs::new(alloc);
-    run_group(alloc, plan, proc, number, &known, rows, &mut out)?;
-    started.keep_later(at, out.outs);
-    Ok(())
+    })
 }
 
 // What the groups of a transaction here gave, by number.

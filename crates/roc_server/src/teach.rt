@@ -8,8 +8,8 @@ ghost use Rattle.roc_server.specs.Fits.{AreGroupsOf};
 ghost use Rattle.roc_server.specs.Inner.Kept.{is_same_group, IsConsistent};
 ghost use Rattle.roc_server.specs.Inner.Indexed.{AreSpotsOf};
 ghost use Rattle.roc_server.specs.Inner.News.{AreLearnable};
-ghost use Rattle.roc_server.specs.Inner.Taught.{KnowsMore, TakesNew, Teaches};
-ghost use Rattle.roc_server.specs.New.{AreAllNew};
+ghost use Rattle.roc_server.specs.Inner.Taught.{DecidedTaken, KnowsMore, TakesNew, Teaches};
+ghost use Rattle.roc_server.specs.New.{AreAllNew, AreNew};
 
 use crate::askers::{drop_all, tell_all};
 use crate::commitoks::send_commitoks;
@@ -82,11 +82,29 @@ fn take_new(
     ensures { OnOk result (TakesNew plan.now shard kept.old kept.new out.old out.new) }
 {
     let ids = newly_decided(alloc, kept, ids)?;
-    kept.ancestors.keep(&kept.deps, &ids)?;
-    take_out(&mut kept.index, &kept.started, &ids);
-    run_all(alloc, plan, &ids, &mut kept.started, &mut kept.rows)?;
-    kept.decided.take(&ids)?;
-    out.decided.extend_from_slice(&ids)?;
-    send_commitoks(alloc, plan, shard, &kept.started, &ids, out)?;
-    Ok(())
+    take_decided(alloc, plan, shard, kept, &ids, out)
+}
+
+// Takes these, which are newly decided.
+fn take_decided(
+    alloc: Global,
+    plan: &Plan,
+    shard: Shard,
+    kept: &mut Kept,
+    ids: &[TxnId],
+    out: &mut Outbox,
+) -> Result<(), NoMemory>
+    requires fits { AreGroupsOf plan.now kept.old.started }
+    requires once { NoneTwice is_same_group kept.old.started }
+    requires chosen { AreNew (IsListed is_txn kept.old.decided) kept.old.deps ids.now }
+    requires rows { AreRows kept.old.deps kept.old.ancestors }
+    requires spots { AreSpotsOf kept.old.started kept.old.index }
+    ensures { OnOk result (DecidedTaken plan.now shard kept.old kept.new out.old out.new ids.now) }
+{
+    kept.ancestors.keep(&kept.deps, ids)?;
+    take_out(&mut kept.index, &kept.started, ids);
+    run_all(alloc, plan, ids, &mut kept.started, &mut kept.rows)?;
+    kept.decided.take(ids)?;
+    out.decided.extend_from_slice(ids)?;
+    send_commitoks(alloc, plan, shard, &kept.started, ids, out)
 }
