@@ -9,3 +9,4 @@ pub mod Schedules
 pub mod Shows
 pub mod SoFar
 pub mod Sorted
+pub mod LinesLeft

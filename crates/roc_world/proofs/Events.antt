@@ -1,14 +1,12 @@
 -- What an event leaves in the fields of a world is what the definitions say
-use Rattle.std.proofs.Common.{◌≡◌, ℕ, ℤ, zero, suc, ◌+◌, ◌-◌, ◌<◌, ◌==◌, not, List, [], ◌∷◌, ◌++◌, Option, Some, None, Result, Err, length, map, filter, get_or, slice_get, slice_set, refl, sym, ap, subst, ◌∙◌}
+use Rattle.std.proofs.Common.{◌≡◌, ℕ, ℤ, zero, suc, ◌-◌, ◌<◌, ◌==◌, not, List, [], ◌∷◌, ◌++◌, Option, Some, None, Result, Err, length, filter, get_or, slice_get, slice_set, refl, sym, ap, subst, ◌∙◌}
 use Rattle.std.proofs.lemmas.Option.{slice_get-get_or}
-use Rattle.std.specs.List.{range_with_len}
 use Rattle.roc_base.specs.declared.id.TxnId.{TxnId}
 use Rattle.roc_base.specs.declared.node.Node.{Node}
 use Rattle.roc_base.specs.declared.node.Node.TheVariants.{Server, Coord}
 use Rattle.roc_base.specs.declared.node.Shard.{Shard}
 use Rattle.roc_msg.specs.declared.msg.Sent.{Sent}
 use Rattle.roc_msg.specs.declared.outbox.Outbox.{Outbox}
-use Rattle.roc_msg.specs.declared.outbox.Outgoing.{Outgoing}
 use Rattle.roc_plan.specs.Groups.{Plan}
 use Rattle.roc_server.specs.declared.handled.Handled.{Handled as ServerHandled}
 use Rattle.roc_server.specs.State.{answered, ServerState}
@@ -19,12 +17,11 @@ use Rattle.roc_coord.specs.declared.handled.SubmitFault.TheVariants as fault
 use Rattle.roc_coord.specs.State.{CoordState}
 use Rattle.roc_coord.specs.Step.{after_message}
 use Rattle.roc_coord.specs.Submit.{refusal_of, refused_or_accepted, after_submit, UnlessStopped}
-use Rattle.roc_audit.specs.declared.entry.Entry.{Entry}
 use Rattle.roc_audit.specs.Order.{noted}
 use Rattle.roc_protocol.specs.declared.event.Event.TheVariants.{Submit, Deliver, Tick}
 use Rattle.roc_protocol.specs.declared.event.Seen.{Seen}
 use Rattle.roc_protocol.specs.declared.event.Seen.TheVariants as seen
-use Rattle.roc_protocol.specs.World.{World, sent_by, sends, comes, at_server}
+use Rattle.roc_protocol.specs.World.{World, sends, comes, at_server, at_coord}
 use Rattle.roc_protocol.specs.Happens.{Outcome, undecided, Submits, server_seen, coord_seen, answer_entries, served, coordinated, IsReceived}
 use Rattle.roc_world.specs.Inner.Messages.{Messages}
 use Rattle.roc_world.specs.Inner.Nodes.{ServerTakes, CoordTakes, CoordSubmits, ServerTicks}
@@ -34,15 +31,7 @@ use Rattle.roc_world.specs.Inner.Parts.{Leads}
 pub read_there : {A : Type 0} (xs lent : List A) (i : ℕ) (x : A) → i < length xs → lent ≡ xs → x ≡ get_or lent i x → slice_get xs i ≡ Some x
 read_there xs lent i x within same is = slice_get-get_or xs i x within ∙ ap Some (sym (is ∙ ap (λ ys. get_or ys i x) same))
 
--- the network after a node has sent
-pub record HasSent (from : Node) (messages : List Outgoing) (old new : Messages) : Type 0 where
-  pub sent : new.sent ≡ old.sent ++ map (sent_by from) messages
-  pub undelivered : new.undelivered ≡ old.undelivered ++ range_with_len (length old.sent + 1) (length messages)
-
 module _ (plan : Plan) (w : World) where
-  abbrev network : Messages
-  network = record { sent = w.sent; undelivered = w.undelivered }
-
   -- ---- a delivery
 
   module _ (k : ℕ) (m : Sent) (some : 0 < k) (there : slice_get w.sent (k - 1) ≡ Some m) where
@@ -66,35 +55,35 @@ module _ (plan : Plan) (w : World) where
         (r.decided, (m, some, there, subst (λ (node : Node). IsReceived plan (comes w k) m.msg node (record { seen = what; decided = r.decided; world = after })) (sym to) (takes.server, r, takes.there, takes.handles, is)))
 
     pub coord_comes :
-        (number : ℕ) → m.to ≡ Coord number → (answer : CoordHandled) (what : Seen) (coords : List CoordState) (noted_in after : Messages) (history : List Entry) (before out : Outbox)
+        (number : ℕ) → m.to ≡ Coord number → (answer : CoordHandled) (what : Seen) (coords : List CoordState) (noted_in : Messages) (before out : Outbox) (after : World)
         → before.messages ≡ [] → CoordTakes plan number m.msg answer w.coords coords before out → what ≡ coord_seen answer → noted_in ≡ delivered
-        → HasSent (Coord number) out.messages noted_in after → history ≡ w.history ++ answer_entries answer
-        → Leads plan w (Deliver k) what (record w { coords = coords; sent = after.sent; undelivered = after.undelivered; history = history })
-    coord_comes number to answer what coords noted_in after history before out none takes what_is network_is sent told =
+        → after ≡ record (sends (record w { coords = coords; sent = noted_in.sent; undelivered = noted_in.undelivered }) (Coord number) out.messages) { history = w.history ++ answer_entries answer }
+        → Leads plan w (Deliver k) what after
+    coord_comes number to answer what coords noted_in before out after none takes what_is network_is after_is =
         let r = after_message plan takes.coord m.msg in
         let outs : out.messages ≡ r.sends = ap (λ (o : Outbox). o.messages) takes.outcome.sent ∙ ap (λ xs. xs ++ r.sends) none in
-        let sees : what ≡ coord_seen r.answer = what_is ∙ ap coord_seen takes.outcome.answer in
+        let told = takes.outcome.answer in
+        let sees : what ≡ coord_seen r.answer = what_is ∙ ap coord_seen told in
         let others = takes.others in
-        let is_sent = sent.sent ∙ (λ i. (network_is i).sent ++ map (sent_by (Coord number)) (outs i)) in
-        let is_undelivered = sent.undelivered ∙ (λ i. (network_is i).undelivered ++ range_with_len (length (network_is i).sent + 1) (length (outs i))) in
-        let is_told : history ≡ w.history ++ answer_entries r.answer = told ∙ ap (λ a. w.history ++ answer_entries a) takes.outcome.answer in
-        let o : Outcome = record { seen = what; decided = []; world = record w { coords = coords; sent = after.sent; undelivered = after.undelivered; history = history } } in
-        let is : o ≡ coordinated (comes w k) number r = λ i. record { seen = sees i; decided = []; world = record w { coords = others i; sent = is_sent i; undelivered = is_undelivered i; history = is_told i } } in
+        let world_is : after ≡ at_coord (comes w k) number r.state r.sends (answer_entries r.answer) =
+        after_is ∙ (λ i. record (sends (record w { coords = others i; sent = (network_is i).sent; undelivered = (network_is i).undelivered }) (Coord number) (outs i)) { history = w.history ++ answer_entries (told i) }) in
+        let o : Outcome = record { seen = what; decided = []; world = after } in
+        let is : o ≡ coordinated (comes w k) number r = λ i. record { seen = sees i; decided = []; world = world_is i } in
         ([], (m, some, there, subst (λ (node : Node). IsReceived plan (comes w k) m.msg node o) (sym to) (takes.coord, takes.there, is)))
 
   -- ---- a tick
 
   pub server_ticks :
-      (shard : Shard) (servers : List ServerState) (after : Messages) (before out : Outbox) → before.messages ≡ [] → ServerTicks shard.0 w.servers servers before out → HasSent (Server shard) out.messages network after
-      → Leads plan w (Tick (Server shard)) seen.Done (record w { servers = servers; sent = after.sent; undelivered = after.undelivered })
-  server_ticks shard servers after before out none ticks sent =
+      (shard : Shard) (what : Seen) (servers : List ServerState) (before out : Outbox) (after : World)
+      → before.messages ≡ [] → ServerTicks shard.0 w.servers servers before out → what ≡ seen.Done → after ≡ sends (record w { servers = servers }) (Server shard) out.messages
+      → Leads plan w (Tick (Server shard)) what after
+  server_ticks shard what servers before out after none ticks sees after_is =
       let tells = server.tick_sends ticks.server in
       let outs : out.messages ≡ tells = ap (λ (o : Outbox). o.messages) ticks.sent ∙ ap (λ xs. xs ++ tells) none in
       let others = ticks.others in
-      let is_sent = sent.sent ∙ (λ i. w.sent ++ map (sent_by (Server shard)) (outs i)) in
-      let is_undelivered = sent.undelivered ∙ (λ i. w.undelivered ++ range_with_len (length w.sent + 1) (length (outs i))) in
-      let o : Outcome = record { seen = seen.Done; decided = []; world = record w { servers = servers; sent = after.sent; undelivered = after.undelivered } } in
-      let is : o ≡ served w shard.0 (answered ticks.server tells) = λ i. record { seen = seen.Done; decided = []; world = record w { servers = others i; sent = is_sent i; undelivered = is_undelivered i } } in
+      let world_is : after ≡ at_server w shard.0 (answered ticks.server tells) = after_is ∙ (λ i. sends (record w { servers = others i }) (Server shard) (outs i)) in
+      let o : Outcome = record { seen = what; decided = []; world = after } in
+      let is : o ≡ served w shard.0 (answered ticks.server tells) = λ i. record { seen = sees i; decided = []; world = world_is i } in
       ([], (ticks.server, ticks.there, is))
 
   -- ---- a submission

@@ -5,5 +5,6 @@ pub mod Named
 pub mod ServersHere
 pub mod CoordsHere
 pub mod WorldsFit
+pub mod Flattened
 pub mod NodeSteps
 pub mod Events

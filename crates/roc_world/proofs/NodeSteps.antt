@@ -1,5 +1,5 @@
--- What comes of a message or a tick at one of many servers, by that server's own step
-use Rattle.std.proofs.Common.{◌≡◌, ℕ, ◌<◌, ◌++◌, List, Some, length, get_or, slice_set, refl, sym, ap, ◌∙◌}
+-- What comes of a message or a tick at one of many nodes, by that node's own step
+use Rattle.std.proofs.Common.{◌≡◌, ℕ, ℤ, ◌<◌, ◌++◌, List, Some, Result, Ok, Err, length, get_or, slice_set, refl, sym, ap, ◌∙◌}
 use Rattle.std.proofs.lemmas.Option.{slice_get-get_or}
 use Rattle.roc_msg.specs.declared.msg.Msg.{Msg}
 use Rattle.roc_msg.specs.declared.outbox.Outbox.{Outbox}
@@ -7,7 +7,14 @@ use Rattle.roc_plan.specs.Groups.{Plan}
 use Rattle.roc_server.specs.declared.handled.Handled.{Handled}
 use Rattle.roc_server.specs.State.{ServerState, ServerStep}
 use Rattle.roc_server.specs.Step.{Handles, Shows, tick_sends}
-use Rattle.roc_world.specs.Inner.Nodes.{ServerTakes, ServerTicks}
+use Rattle.roc_base.specs.declared.id.TxnId.{TxnId}
+use Rattle.roc_coord.specs.declared.handled.Handled.{Handled as CoordHandled}
+use Rattle.roc_coord.specs.declared.handled.SubmitFault.{SubmitFault}
+use Rattle.roc_coord.specs.declared.handled.SubmitFault.TheVariants as fault
+use Rattle.roc_coord.specs.State.{CoordState}
+use Rattle.roc_coord.specs.Step.{after_message, IsOutcome}
+use Rattle.roc_coord.specs.Submit.{after_submit, IsSubmitted, UnlessStopped}
+use Rattle.roc_world.specs.Inner.Nodes.{ServerTakes, CoordTakes, CoordSubmits, ServerTicks}
 
 pub server_takes :
     (plan : Plan) (servers : List ServerState) (shard : ℕ) (s after : ServerState) (msg : Msg) (answer : Handled) (before out : Outbox) → shard < length servers → s ≡ get_or servers shard s
@@ -26,3 +33,34 @@ pub server_ticks :
     (servers : List ServerState) (shard : ℕ) (s after : ServerState) (before out : Outbox) → shard < length servers → s ≡ get_or servers shard s
     → out ≡ record before { messages = before.messages ++ tick_sends s } → after ≡ s → ServerTicks shard servers (slice_set servers shard after) before out
 server_ticks servers shard s after before out within is sent same = record { server = s; there = slice_get-get_or servers shard s within ∙ ap Some (sym is); sent = sent; others = ap (slice_set servers shard) same }
+
+pub coord_takes :
+    (plan : Plan) (coords : List CoordState) (number : ℕ) (s after : CoordState) (msg : Msg) (answer : CoordHandled) (before out : Outbox) → number < length coords → s ≡ get_or coords number s
+    → IsOutcome (after_message plan s msg) answer after before out → CoordTakes plan number msg answer coords (slice_set coords number after) before out
+coord_takes plan coords number s after msg answer before out within is outcome =
+    record {
+      coord = s;
+      there = slice_get-get_or coords number s within ∙ ap Some (sym is);
+      outcome = record { answer = outcome.answer; state = refl; sent = outcome.sent };
+      others = ap (slice_set coords number) outcome.state;
+    }
+
+pub coord_submits :
+    (plan : Plan) (coords : List CoordState) (number proc : ℕ) (args : List ℤ) (s after : CoordState) (answer : Result TxnId SubmitFault) (before out : Outbox) → number < length coords → s ≡ get_or coords number s
+    → UnlessStopped answer (IsSubmitted (after_submit plan s proc args) answer after before out) → UnlessStopped answer (CoordSubmits plan number proc args answer coords (slice_set coords number after) before out)
+coord_submits plan coords number proc args s after answer before out within is = unless_stopped answer (λ submitted.
+    record {
+      coord = s;
+      there = slice_get-get_or coords number s within ∙ ap Some (sym is);
+      submitted = record { answer = submitted.answer; state = refl; sent = submitted.sent };
+      others = ap (slice_set coords number) submitted.state;
+    })
+  where
+    unless_stopped : {P Q : Type 0} (a : Result TxnId SubmitFault) → (P → Q) → UnlessStopped a P → UnlessStopped a Q
+    unless_stopped (Ok id) f p = f p
+    unless_stopped (Err fault.Stopped) f p = p
+    unless_stopped (Err fault.NoMemory) f p = p
+    unless_stopped (Err fault.NoProc) f p = f p
+    unless_stopped (Err fault.Args) f p = f p
+    unless_stopped (Err fault.Spent) f p = f p
+    unless_stopped (Err fault.Busy) f p = f p

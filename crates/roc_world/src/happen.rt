@@ -1,8 +1,10 @@
 //! What an event does, over the fields of a world.
-ghost use Rattle.std.specs.Prelude.{◌≡◌, ◌++◌, IfOk, OnOk};
+ghost use Rattle.std.specs.Prelude.{◌≡◌, ◌++◌, ◌∷◌, [], IfOk, OnOk};
 ghost use Rattle.roc_base.specs.declared.node.Node.TheVariants as node;
+ghost use Rattle.roc_audit.specs.declared.entry.Entry.TheVariants as entry;
 ghost use Rattle.roc_audit.specs.Order.{noted};
 ghost use Rattle.roc_protocol.specs.declared.event.Event.TheVariants as event;
+ghost use Rattle.roc_protocol.specs.declared.event.Seen.TheVariants as seen;
 ghost use Rattle.roc_protocol.specs.Fits.{FitsWorld};
 ghost use Rattle.roc_protocol.specs.Happens.{coord_seen, server_seen, answer_entries};
 ghost use Rattle.roc_protocol.specs.Run.{IsEventOf};
@@ -13,7 +15,7 @@ use crate::nodes::{handle_at_coord, handle_at_server, submit_at, tick_coord, tic
 use crate::parts::Parts;
 use crate::{Event, Seen};
 use roc_audit::Entry;
-use roc_base::{NoMemory, Node, Nums, Shard};
+use roc_base::{NoMemory, Node, Nums, Shard, TxnId};
 use roc_coord::{Handled as CoordHandled, SubmitFault};
 use roc_msg::Outbox;
 use roc_plan::Plan;
@@ -61,12 +63,7 @@ fn submit(
         args.as_slice(),
         &mut out,
     ) {
-        Ok(id) => {
-            parts.network.add(Node::Coord(coord), out.messages)?;
-            let args = args.clone()?;
-            parts.history.push(Entry::Submitted { id, proc, args })?;
-            Ok(Seen::Submitted(id))
-        }
+        Ok(id) => note_submitted(parts, coord, id, proc, args, out),
         Err(SubmitFault::Spent) => Ok(Seen::Spent),
         Err(SubmitFault::Busy) => Ok(Seen::Busy),
         // A coordinator stops where it found no memory, and no world is kept that did.
@@ -85,17 +82,22 @@ fn deliver(alloc: Global, plan: &Plan, parts: &mut Parts, number: u64) -> Result
     let sent = &parts.network.sent()[(number - 1) as usize];
     match sent.to {
         Node::Server(shard) => {
-            let handled = handle_at_server(plan, &mut parts.servers, shard, &sent.msg, &mut out)?;
-            parts.network.note_delivery(number);
-            note_at_server(parts, shard, out)?;
-            Ok(server_seen(handled))
+            match handle_at_server(plan, &mut parts.servers, shard, &sent.msg, &mut out) {
+                Ok(handled) => {
+                    parts.network.note_delivery(number);
+                    note_at_server(parts, shard, handled, out)
+                }
+                Err(fault) => Err(fault),
+            }
         }
         Node::Coord(coord) => {
-            let handled = handle_at_coord(plan, &mut parts.coords, coord, &sent.msg, &mut out)?;
-            parts.network.note_delivery(number);
-            parts.network.add(Node::Coord(coord), out.messages)?;
-            note_answer(&mut parts.history, &handled)?;
-            Ok(coord_seen(handled))
+            match handle_at_coord(plan, &mut parts.coords, coord, &sent.msg, &mut out) {
+                Ok(handled) => {
+                    parts.network.note_delivery(number);
+                    note_at_coord(parts, coord, handled, out)
+                }
+                Err(fault) => Err(fault),
+            }
         }
     }
 }
@@ -108,27 +110,76 @@ fn tick(alloc: Global, plan: &Plan, parts: &mut Parts, node: Node) -> Result<See
 {
     let mut out = Outbox::new(alloc);
     match node {
-        Node::Server(shard) => {
-            tick_server(&mut parts.servers, shard, &mut out)?;
-            parts.network.add(Node::Server(shard), out.messages)?;
-            Ok(Seen::Done)
-        }
-        Node::Coord(coord) => {
-            tick_coord(plan, &mut parts.coords, coord, &mut out)?;
-            parts.network.add(Node::Coord(coord), out.messages)?;
-            Ok(Seen::Done)
-        }
+        Node::Server(shard) => match tick_server(&mut parts.servers, shard, &mut out) {
+            Ok(()) => note_tick(parts, Node::Server(shard), out),
+            Err(fault) => Err(fault),
+        },
+        Node::Coord(coord) => match tick_coord(plan, &mut parts.coords, coord, &mut out) {
+            Ok(()) => note_tick(parts, Node::Coord(coord), out),
+            Err(fault) => Err(fault),
+        },
     }
 }
 
+// What a node sends goes into the network.
+fn send_from(parts: &mut Parts, from: Node, out: Outbox) -> Result<(), NoMemory>
+    ensures { OnOk result (world_of parts.new ≡ sends (world_of parts.old) from out.messages) }
+{
+    parts.network.add(from, out.messages)
+}
+
+// What a coordinator sends for an accepted submission goes into the network, and the submission into the history.
+fn note_submitted(
+    parts: &mut Parts,
+    coord: u16,
+    id: TxnId,
+    proc: u16,
+    args: &Nums,
+    out: Outbox,
+) -> Result<Seen, NoMemory>
+    ensures { IfOk result (λ what. (what ≡ seen.Submitted id) × (world_of parts.new ≡ record (sends (world_of parts.old) (node.Coord coord) out.messages) { history = parts.old.history ++ entry.Submitted id proc args.now ∷ [] })) }
+{
+    send_from(parts, Node::Coord(coord), out)?;
+    let args = args.clone()?;
+    parts.history.push(Entry::Submitted { id, proc, args })?;
+    Ok(Seen::Submitted(id))
+}
+
+// What a node sends at a tick goes into the network.
+fn note_tick(parts: &mut Parts, from: Node, out: Outbox) -> Result<Seen, NoMemory>
+    ensures { IfOk result (λ what. (what ≡ seen.Done) × (world_of parts.new ≡ sends (world_of parts.old) from out.messages)) }
+{
+    send_from(parts, from, out)?;
+    Ok(Seen::Done)
+}
+
 // What a server gives goes into the network and the order.
-fn note_at_server(parts: &mut Parts, shard: Shard, out: Outbox) -> Result<(), NoMemory>
-    ensures { OnOk result (world_of parts.new ≡ record (sends (world_of parts.old) (node.Server shard) out.messages) { order = noted parts.old.order out.decided }) }
+fn note_at_server(
+    parts: &mut Parts,
+    shard: Shard,
+    handled: ServerHandled,
+    out: Outbox,
+) -> Result<Seen, NoMemory>
+    ensures { IfOk result (λ what. (what ≡ server_seen handled) × (world_of parts.new ≡ record (sends (world_of parts.old) (node.Server shard) out.messages) { order = noted parts.old.order out.decided })) }
 {
     let Outbox { messages, decided } = out;
     parts.network.add(Node::Server(shard), messages)?;
     parts.order.note(decided.as_slice())?;
-    Ok(())
+    Ok(server_seen(handled))
+}
+
+// What a coordinator gives goes into the network and the history.
+fn note_at_coord(
+    parts: &mut Parts,
+    coord: u16,
+    handled: CoordHandled,
+    out: Outbox,
+) -> Result<Seen, NoMemory>
+    ensures { IfOk result (λ what. (what ≡ coord_seen handled) × (world_of parts.new ≡ record (sends (world_of parts.old) (node.Coord coord) out.messages) { history = parts.old.history ++ answer_entries handled })) }
+{
+    send_from(parts, Node::Coord(coord), out)?;
+    note_answer(&mut parts.history, &handled)?;
+    Ok(coord_seen(handled))
 }
 
 // What is seen of a server that handled a message.

@@ -1,5 +1,5 @@
 use Rattle.std.proofs.Common.{◌∷◌, [], ap, subst, ◌∙◌}
-use Rattle.std.specs.Prelude.{Option}
+use Rattle.std.specs.Prelude.{Option, IfOk}
 use Rattle.roc_program.specs.Program.{Workload}
 use Rattle.roc_protocol.specs.declared.event.Event.{Event}
 use Rattle.roc_report.specs.Line.{Nothing}
@@ -17,3 +17,10 @@ returns-in_ok-text-in-None-clause-played c =
     let is_played : Option Event → Type 0 = λ e. IsPlayedLine plan e w w text 0 in
     subst is_played (c.in-None.ensures ∙ ap (chosen c.args.place) c.undelivered.ensures)
     (nothing_played plan w text (c.in_ok-text-in-None.ensures ∙ ap (λ (p : Workload). lines_text p (Nothing ∷ [])) c.workload.ensures.program))
+
+pub returns-in-Some-clause-played : goal.returns-in-Some-clause-played
+returns-in-Some-clause-played c =
+    let plan = c.args.plan.now in
+    let w = c.args.world.now in
+    subst (λ (e : Option Event). IfOk c.play_event.result (λ played. IsPlayedLine plan e w c.play_event.new.world played.text.items played.busy))
+    (c.in-Some.ensures ∙ ap (chosen c.args.place) c.undelivered.ensures) c.play_event.ensures.played
