@@ -11,7 +11,7 @@ use clap::ArgMatches;
 use roc_base::Shard;
 
 /// What words ask for: a command, with the names of its files and its values, each in its range.
-#[derive(Clone, Copy, Debug, PartialEq, Eq)]
+#[derive(Clone, Copy)]
 pub enum Ask<'a> {
     /// To write what comes of the check of a workload.
     Check {

@@ -1,6 +1,6 @@
 //! The command line as `clap` is given it.
 ghost use Rattle.std.specs.Prelude.{◌≡◌, IfOk, false, codes};
-ghost use Rattle.clap.specs.Words.{app_of, rule_of};
+ghost use Rattle.clap.specs.Words.{App, Rule, app_of, rule_of, with_rule, with_subcommand};
 ghost use Rattle.roc_words.specs.Inner.Building.{IsSoFar};
 ghost use Rattle.roc_words.specs.Program.{standing_rule, named_rule, flag_rule, workload_app, replay_app, cluster_app, serve_app, submit_app, local_app, gen_app, bare_app, program_app};
 
@@ -34,6 +34,19 @@ fn flag<'a>(alloc: Global, name: &'a str) -> Arg<'a>
     Arg::new(alloc, name).action(ArgAction::SetTrue).long(name)
 }
 
+// A command with one more argument, where the command was made.
+fn with<'a>(
+    command: Result<Command<'a>, AllocError>,
+    arg: Arg<'a>,
+) -> Result<Command<'a>, AllocError>
+    ensures { (app : App) (rule : Rule) → IfOk command.entry (λ c. IsSoFar c app) → rule_of arg.entry ≡ rule → arg.entry.global ≡ false → IfOk result (λ c. IsSoFar c (with_rule app rule)) }
+{
+    match command {
+        Ok(command) => command.arg(arg),
+        Err(error) => Err(error),
+    }
+}
+
 fn workload_command<'a>(alloc: Global, name: &'a str) -> Result<Command<'a>, AllocError>
     ensures { IfOk result (λ c. IsSoFar c (workload_app name.entry.now)) }
 {
@@ -43,49 +56,50 @@ fn workload_command<'a>(alloc: Global, name: &'a str) -> Result<Command<'a>, All
 fn replay_command<'a>(alloc: Global) -> Result<Command<'a>, AllocError>
     ensures { IfOk result (λ c. IsSoFar c replay_app) }
 {
-    workload_command(alloc, "replay")?.arg(standing(alloc, "schedule"))
+    let command = workload_command(alloc, "replay");
+    with(command, standing(alloc, "schedule"))
 }
 
 fn cluster_command<'a>(alloc: Global, name: &'a str) -> Result<Command<'a>, AllocError>
     ensures { IfOk result (λ c. IsSoFar c (cluster_app name.entry.now)) }
 {
-    workload_command(alloc, name)?.arg(standing(alloc, "cluster"))
+    let command = workload_command(alloc, name);
+    with(command, standing(alloc, "cluster"))
 }
 
 fn serve_command<'a>(alloc: Global) -> Result<Command<'a>, AllocError>
     ensures { IfOk result (λ c. IsSoFar c serve_app) }
 {
-    cluster_command(alloc, "serve")?
-        .arg(named(alloc, "shard"))?
-        .arg(named(alloc, "turns"))?
-        .arg(flag(alloc, "counts"))
+    let command = cluster_command(alloc, "serve");
+    let command = with(command, named(alloc, "shard"));
+    let command = with(command, named(alloc, "turns"));
+    with(command, flag(alloc, "counts"))
 }
 
 fn submit_command<'a>(alloc: Global) -> Result<Command<'a>, AllocError>
     ensures { IfOk result (λ c. IsSoFar c submit_app) }
 {
-    cluster_command(alloc, "submit")?
-        .arg(standing(alloc, "requests"))?
-        .arg(named(alloc, "coord"))?
-        .arg(named(alloc, "turns"))
+    let command = cluster_command(alloc, "submit");
+    let command = with(command, standing(alloc, "requests"));
+    let command = with(command, named(alloc, "coord"));
+    with(command, named(alloc, "turns"))
 }
 
 fn local_command<'a>(alloc: Global) -> Result<Command<'a>, AllocError>
     ensures { IfOk result (λ c. IsSoFar c local_app) }
 {
-    cluster_command(alloc, "local")?
-        .arg(standing(alloc, "requests"))?
-        .arg(named(alloc, "turns"))
+    let command = cluster_command(alloc, "local");
+    let command = with(command, standing(alloc, "requests"));
+    with(command, named(alloc, "turns"))
 }
 
 fn gen_command<'a>(alloc: Global) -> Result<Command<'a>, AllocError>
     ensures { IfOk result (λ c. IsSoFar c gen_app) }
 {
-    Command::new(alloc, "gen")
-        .arg(standing(alloc, "seed"))?
-        .arg(standing(alloc, "shards"))?
-        .arg(standing(alloc, "txns"))?
-        .arg(standing(alloc, "part"))
+    let command = Command::new(alloc, "gen").arg(standing(alloc, "seed"));
+    let command = with(command, standing(alloc, "shards"));
+    let command = with(command, standing(alloc, "txns"));
+    with(command, standing(alloc, "part"))
 }
 
 fn bare_command<'a>(alloc: Global) -> Command<'a>
@@ -98,17 +112,41 @@ fn bare_command<'a>(alloc: Global) -> Command<'a>
         .subcommand_required(true)
 }
 
+// The program with one more command, where both were made.
+fn joined<'a>(
+    program: Result<Command<'a>, AllocError>,
+    command: Result<Command<'a>, AllocError>,
+) -> Result<Command<'a>, AllocError>
+    ensures { (app other : App) → IfOk program.entry (λ p. app_of p ≡ app) → IfOk command.entry (λ c. IsSoFar c other) → IfOk result (λ p. app_of p ≡ with_subcommand app other.top) }
+{
+    match program {
+        Ok(program) => under(program, command),
+        Err(error) => Err(error),
+    }
+}
+
+fn under<'a>(
+    program: Command<'a>,
+    command: Result<Command<'a>, AllocError>,
+) -> Result<Command<'a>, AllocError>
+    ensures { (app other : App) → app_of program.entry ≡ app → IfOk command.entry (λ c. IsSoFar c other) → IfOk result (λ p. app_of p ≡ with_subcommand app other.top) }
+{
+    match command {
+        Ok(command) => program.subcommand(command),
+        Err(error) => Err(error),
+    }
+}
+
 /// All commands, none of which has help.
 pub(crate) fn program<'a>(alloc: Global) -> Result<Command<'a>, AllocError>
     ensures { IfOk result (λ c. app_of c ≡ program_app) }
 {
-    bare_command(alloc)
-        .subcommand(workload_command(alloc, "check")?)?
-        .subcommand(workload_command(alloc, "print")?)?
-        .subcommand(replay_command(alloc)?)?
-        .subcommand(serve_command(alloc)?)?
-        .subcommand(submit_command(alloc)?)?
-        .subcommand(cluster_command(alloc, "stop")?)?
-        .subcommand(local_command(alloc)?)?
-        .subcommand(gen_command(alloc)?)
+    let program = under(bare_command(alloc), workload_command(alloc, "check"));
+    let program = joined(program, workload_command(alloc, "print"));
+    let program = joined(program, replay_command(alloc));
+    let program = joined(program, serve_command(alloc));
+    let program = joined(program, submit_command(alloc));
+    let program = joined(program, cluster_command(alloc, "stop"));
+    let program = joined(program, local_command(alloc));
+    joined(program, gen_command(alloc))
 }

@@ -1,10 +1,8 @@
 -- One argument behind the other
-use Rattle.std.proofs.lemmas.Result.{IfOk-weaker}
-use Rattle.roc_words.proofs.Added.{added}
 use Rattle.roc_words.proofs.program.serve_command.Goals as goal
 
 pub returns : goal.returns
 returns c =
-    let first = added _ _ _ _ _ c.in_ok-cluster_command.ensures c.named.ensures.rule c.named.ensures.local c.in_ok-arg.ensures in
-    let second = added _ _ _ _ _ first c.named-2.ensures.rule c.named-2.ensures.local c.in_ok-arg-2.ensures in
-    IfOk-weaker c.arg-3.result _ _ (λ m h. added _ _ _ _ _ second c.flag.ensures.rule c.flag.ensures.local h) c.arg-3.ensures
+    let first = c.with-command.ensures _ _ c.cluster_command-command.ensures c.named.ensures.rule c.named.ensures.local in
+    let second = c.with-command-2.ensures _ _ first c.named-2.ensures.rule c.named-2.ensures.local in
+    c.with.ensures _ _ second c.flag.ensures.rule c.flag.ensures.local
