@@ -1,6 +1,6 @@
 //! Runs of the program over files and streams in memory.
 use roc_cli::run;
-use roc_io::{CalmLink, CalmSpawner, MemFiles, MemSink, StoredFile};
+use roc_memory::{CalmLink, CalmSpawner, MemFiles, MemSink, StoredFile};
 use std::alloc::{AllocError, Global};
 use std::test::Fail;
 

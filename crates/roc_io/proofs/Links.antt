@@ -1,11 +1,7 @@
 -- What a link took over several calls.
-use Rattle.std.proofs.Common.{◌≡◌, inl, inr, ℕ, zero, suc, ◌+◌, ◌-◌, ◌<◌, ◌≤◌, Bool, true, false, List, [], ◌∷◌, ◌++◌, length, get_or, take, refl, sym, ◌∙◌, ap, subst, append_assoc, arith}
-use Rattle.std.proofs.lemmas.List.{take_more, length-append}
-use Rattle.std.specs.Prelude.{Option, Some, None, option_map}
-use Rattle.roc_io.specs.declared.link.Drained.{Drained}
-use Rattle.roc_io.specs.declared.link.Drained.TheVariants.{Turns}
-use Rattle.roc_io.specs.Packet.{Packet}
-use Rattle.roc_io.specs.Link.{Drains, EndsDrain}
+use Rattle.std.proofs.Common.{◌≡◌, inl, inr, ℕ, zero, suc, ◌+◌, ◌-◌, ◌<◌, ◌≤◌, Bool, true, false, List, [], ◌∷◌, ◌++◌, length, get_or, take, refl, sym, ◌∙◌, ap, subst, arith}
+use Rattle.std.proofs.lemmas.List.{take_more}
+use Rattle.std.specs.Prelude.{Option}
 use Rattle.roc_io.specs.Cause.{HasCause, last_count}
 use Rattle.roc_io.specs.Told.{Adds, AddsUnless, AllBut, AddsAllBut}
 use Rattle.roc_io.proofs.Causes.{never_falls}
@@ -50,30 +46,3 @@ AddsAllBut-next failed start before after a b c xs i x inside is le cause below 
     let both = AddsAllBut-trans (before - start) (after - before) a b c (take i xs) (x ∷ []) taken (AddsAllBut-one failed before after b c x cause below adds) in
     let count : before - start + (after - before) ≡ after - start = omega arith in
     subst (λ n. AddsAllBut n a c (take (i + 1) xs)) count (subst (λ l. AddsAllBut (before - start + (after - before)) a c l) next both)
-
--- a drain that ends where a turn takes nothing
-pub Drains-stop : (end : Drained) (i turns : ℕ) (old mid new : Option (List Packet)) (before inside after : List Packet)
-    → Drains Turns i old mid before inside → new ≡ mid → after ≡ inside → ((n : ℕ) → n ≡ i → EndsDrain end turns n new) → Drains end turns old new before after
-Drains-stop end i turns old mid new before inside after so_far same kept ends = record {
-  taken = so_far.taken;
-  added = kept ∙ so_far.added;
-  first = so_far.first ∙ ap (option_map (λ (left : List Packet). so_far.taken ++ left)) (sym same);
-  ends = ends (length so_far.taken) so_far.ends;
-}
-
-moved : (taken : List Packet) (p : Packet) (new : Option (List Packet))
-    → option_map (λ (left : List Packet). taken ++ left) (option_map (λ (left : List Packet). p ∷ left) new) ≡ option_map (λ (left : List Packet). (taken ++ p ∷ []) ++ left) new
-moved taken p None = refl
-moved taken p (Some left) = ap Some (sym (append_assoc taken (p ∷ []) left))
-
--- a drain after one more datagram
-pub Drains-next : (i : ℕ) (old mid new : Option (List Packet)) (before inside after : List Packet) (p : Packet)
-    → Drains Turns i old mid before inside → mid ≡ option_map (λ (left : List Packet). p ∷ left) new → after ≡ inside ++ p ∷ [] → Drains Turns (i + 1) old new before after
-Drains-next i old mid new before inside after p so_far first added =
-    let count : length so_far.taken ≡ i = so_far.ends in
-    record {
-      taken = so_far.taken ++ p ∷ [];
-      added = added ∙ ap (λ (l : List Packet). l ++ p ∷ []) so_far.added ∙ append_assoc before so_far.taken (p ∷ []);
-      first = so_far.first ∙ ap (option_map (λ (left : List Packet). so_far.taken ++ left)) first ∙ moved so_far.taken p new;
-      ends = length-append so_far.taken (p ∷ []) ∙ ap (λ n. n + 1) count;
-    }

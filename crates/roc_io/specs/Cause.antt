@@ -1,9 +1,13 @@
 -- Why a call may answer that it failed: a count of failures, which only the object itself raises.
-use Rattle.std.specs.Prelude.{◌≡◌, ℕ, ◌<◌, ◌≤◌, Bool, true, false}
+use Rattle.std.specs.Prelude.{◌≡◌, ℕ, ◌+◌, ◌<◌, ◌≤◌, min, Bool, true, false}
 
 -- the last value of a count
 abbrev pub last_count : ℕ
 last_count = 18446744073709551615
+
+-- a count after one more; it stays at its last value
+abbrev pub one_more : ℕ → ℕ
+one_more n = min (n + 1) last_count
 
 -- the count rose, unless it stands at its last value
 abbrev pub Rose : ℕ → ℕ → Type 0

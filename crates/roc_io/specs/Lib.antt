@@ -1,4 +1,3 @@
-pub mod Calls
 pub mod Cause
 pub mod Files
 pub mod Link

@@ -2,7 +2,6 @@
 use Rattle.std.specs.Prelude.{ℕ, Bool, true, false, List, Option}
 use Rattle.roc_io.specs.declared.sink.Written.{Written}
 use Rattle.roc_io.specs.declared.sink.Written.TheVariants.{Ok, Failed}
-use Rattle.roc_io.specs.Calls.{Calls}
 use Rattle.roc_io.specs.Told.{Adds, AddsFront}
 
 abbrev pub write_failed : Written → Bool
@@ -13,8 +12,3 @@ write_failed Failed = true
 abbrev pub Takes : Written → Option (List ℕ) → Option (List ℕ) → List ℕ → Type 0
 Takes Ok old new piece = Adds old new piece
 Takes Failed old new piece = AddsFront old new piece
-
--- a sink in memory: the bytes taken, where it tells them, and its calls
-pub record SinkState : Type 0 where
-  pub taken : Option (List ℕ)
-  pub calls : Calls

@@ -1,17 +1,14 @@
 // Where a node's datagrams come from and go to.
 ghost use Rattle.std.specs.Prelude.{◌≡◌, ℕ, ◌-◌, ◌<◌, ◌≤◌, List, Option};
 ghost use Rattle.roc_io.specs.Cause.{HasCause, last_count};
-ghost use Rattle.roc_io.specs.Link.{bind_failed, send_failed, receive_failed, drain_failed, Receives, Drains};
+ghost use Rattle.roc_io.specs.Link.{bind_failed, send_failed, receive_failed, Receives};
 ghost use Rattle.roc_io.specs.Told.{AddsUnless, AddsAllBut};
 ghost use Rattle.roc_io.specs.Packet.{Packet};
 ghost use Rattle.roc_io.specs.declared.link.Addr.{Addr};
 
 pub mod datagram;
-pub mod memory;
-mod traffic;
 
 use datagram::Datagram;
-use std::alloc::Global;
 
 /// An address of the Internet protocol, version 4, with a port.
 #[derive(Clone, Copy, Debug, PartialEq, Eq)]
@@ -118,41 +115,4 @@ pub fn send_all<L: Link>(link: &mut L, datagrams: &[Datagram])
     for datagram in datagrams {
         link.send(datagram.address(), datagram.bytes());
     }
-}
-
-/// Why `drain` ended.
-#[derive(Clone, Copy, Debug, PartialEq, Eq)]
-pub enum Drained {
-    /// The link was quiet.
-    Quiet,
-    /// All turns were taken, each by a datagram.
-    Turns,
-    /// There was no memory for a datagram.
-    NoMemory,
-    /// The link failed.
-    Failed,
-}
-
-/// Receives datagrams, and adds them to a list, until the link is quiet or so many turns were taken.
-pub fn drain<L: Link>(alloc: Global, link: &mut L, turns: u32, into: &mut Vec<Datagram>) -> Drained
-    ensures cause { HasCause (drain_failed result) (L.faults link.old) (L.faults link.new) }
-    ensures taken { Drains result turns (L.arrivals link.old) (L.arrivals link.new) into.old.items into.new.items }
-    ensures lost { L.lost link.new ≡ L.lost link.old }
-    ensures bound { L.bound link.new ≡ L.bound link.old }
-    ensures sent { L.sent link.new ≡ L.sent link.old }
-{
-    for _ in 0..turns {
-        // Room first: a datagram that was received is then kept.
-        if into.reserve(1).is_err() {
-            return Drained::NoMemory;
-        }
-        let mut bytes = Vec::new(alloc);
-        match link.receive(&mut bytes) {
-            Arrival::Datagram { from } => into.push(Datagram::new(from, bytes)).unwrap(),
-            Arrival::Quiet => return Drained::Quiet,
-            Arrival::NoMemory => return Drained::NoMemory,
-            Arrival::Failed => return Drained::Failed,
-        }
-    }
-    Drained::Turns
 }

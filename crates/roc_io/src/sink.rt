@@ -4,8 +4,6 @@ ghost use Rattle.std.specs.List.{flat_map};
 ghost use Rattle.roc_io.specs.Cause.{HasCause};
 ghost use Rattle.roc_io.specs.Sink.{write_failed, Takes};
 
-pub mod memory;
-
 /// What a sink answers.
 #[derive(Clone, Copy, Debug, PartialEq, Eq)]
 pub enum Written {

@@ -1,14 +1,12 @@
 // Where a program starts other processes.
-ghost use Rattle.std.specs.Prelude.{◌≡◌, ℕ, ◌≤◌, List, [], ◌∷◌, Option, Some, None, IsNone, IfSome, is_none, if◌then◌else◌, map, string_bytes};
-ghost use Rattle.roc_io.specs.Cause.{HasCause, Rose};
+ghost use Rattle.std.specs.Prelude.{◌≡◌, ℕ, List, [], ◌∷◌, Option, Some, None, is_none, if◌then◌else◌, map, string_bytes};
+ghost use Rattle.roc_io.specs.Cause.{HasCause};
 ghost use Rattle.roc_io.specs.Told.{Adds};
-ghost use Rattle.roc_io.specs.Spawner.{start_failed, Starts, all_start_failed, command_words, StartsAll, WaitsAll};
+ghost use Rattle.roc_io.specs.Spawner.{start_failed, Starts, all_start_failed, command_words, StartsAll};
 ghost use Rattle.roc_io.specs.Start.{Start};
 ghost use Rattle.roc_io.specs.declared.spawner.ChildWait.{ChildWait};
 
 pub mod child;
-mod children;
-pub mod memory;
 
 use child::Child;
 
@@ -111,24 +109,4 @@ pub fn start_all<P: Spawner>(
         }
     }
     AllStarted::Ok
-}
-
-/// Awaits each child in order, also after one that ended badly, and answers the first wait that did not end
-/// with status 0.
-pub fn wait_all<P: Spawner>(spawner: &mut P, children: &[Child]) -> Option<ChildWait>
-    ensures awaited { WaitsAll (P.awaited spawner.old) (P.awaited spawner.new) children.now result }
-    ensures failed { IfSome result (λ wait. IsNone wait.status → Rose (P.faults spawner.old) (P.faults spawner.new)) }
-    ensures succeeded { result ≡ None → P.faults spawner.new ≡ P.faults spawner.old }
-    ensures never_falls { P.faults spawner.old ≤ P.faults spawner.new }
-    ensures started { P.started spawner.new ≡ P.started spawner.old }
-{
-    let mut first = None;
-    for child in children {
-        let wait = ChildWait {
-            child: *child,
-            status: spawner.wait(*child),
-        };
-        first = first.or(wait.failure());
-    }
-    first
 }

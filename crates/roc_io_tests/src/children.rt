@@ -1,7 +1,8 @@
 //! Children in memory, with starts and waits that fail.
 ghost use Rattle.std.specs.Prelude.{◌≡◌, ◌≢◌};
 
-use roc_io::{AllStarted, CalmSpawner, Child, ChildWait, MemSpawner, Spawner, start_all, wait_all};
+use roc_io::{AllStarted, Child, ChildWait, Spawner, start_all};
+use roc_memory::{CalmSpawner, MemSpawner, wait_all};
 use std::alloc::{AllocError, Global};
 use std::process::Abort;
 use std::test::Fail;

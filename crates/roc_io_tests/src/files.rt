@@ -1,11 +1,9 @@
 //! Files and sinks in memory, with calls that fail.
 ghost use Rattle.std.specs.Prelude.{◌≡◌, false};
-ghost use Rattle.roc_io.specs.Files.{two_failed};
+ghost use Rattle.roc_memory.specs.Callers.{two_failed};
 
-use roc_io::{
-    CalmFiles, CalmSink, Files, MemFiles, MemSink, Read, Sink, StoredFile, TwoRead, Written,
-    read_two, write_all,
-};
+use roc_io::{Files, Read, Sink, Written, write_all};
+use roc_memory::{CalmFiles, CalmSink, MemFiles, MemSink, StoredFile, TwoRead, read_two};
 use std::alloc::{AllocError, Global};
 use std::process::Abort;
 use std::test::Fail;

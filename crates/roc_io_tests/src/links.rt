@@ -1,10 +1,9 @@
 //! Links in memory, with calls that fail.
 ghost use Rattle.std.specs.Prelude.{◌≡◌, false};
-ghost use Rattle.roc_io.specs.Link.{drain_failed};
+ghost use Rattle.roc_memory.specs.Callers.{drain_failed};
 
-use roc_io::{
-    Addr, Arrival, Bound, CalmLink, Datagram, Drained, Link, MemLink, Sent, drain, send_all,
-};
+use roc_io::{Addr, Arrival, Bound, Datagram, Link, Sent, send_all};
+use roc_memory::{CalmLink, Drained, MemLink, drain};
 use std::alloc::{AllocError, Global};
 use std::process::Abort;
 use std::test::Fail;

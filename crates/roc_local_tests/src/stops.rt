@@ -1,7 +1,8 @@
 //! Stops, over links in memory.
 use roc_cluster::{Cluster, ClusterFault, parse_cluster};
-use roc_io::{Addr, CalmLink, Datagram, MemLink};
+use roc_io::{Addr, Datagram};
 use roc_local::{StopEnd, send_stops};
+use roc_memory::{CalmLink, MemLink};
 use std::alloc::Global;
 use std::process::Abort;
 use std::test::Fail;

@@ -2,8 +2,9 @@
 use crate::datagrams::{Packet, TAG};
 use crate::outside::{Failing, Outside, Seen, have_seen, outside_of};
 use crate::workloads::Texts;
-use roc_io::{ChildStart, ChildWait, MemSpawner};
+use roc_io::ChildWait;
 use roc_local::{LocalEnd, run_local};
+use roc_memory::{ChildStart, MemSpawner};
 use roc_sched::parse_requests;
 use std::alloc::{AllocError, Global};
 use std::process::Abort;

@@ -1,6 +1,7 @@
 //! Links and sinks of which one call may fail, and what they are to have seen.
 use crate::datagrams::{Packet, are_sent, arrivals_of};
-use roc_io::{Addr, MemLink, MemSink};
+use roc_io::Addr;
+use roc_memory::{MemLink, MemSink};
 use std::alloc::{AllocError, Global};
 use std::process::Abort;
 use std::test::Fail;

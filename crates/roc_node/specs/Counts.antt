@@ -1,5 +1,5 @@
 -- What a server node counts: docs/PROTOCOL.md, "Running nodes". A count stays at its last value, which no run of turns reaches
-use Rattle.roc_io.specs.Calls.{one_more}
+use Rattle.roc_io.specs.Cause.{one_more}
 use Rattle.roc_msg.specs.declared.reason.Reason.{Reason}
 use Rattle.roc_msg.specs.declared.reason.Reason.TheVariants.{Foreign, BadProc, BadGroup, BadInputs, NotHere, Late, Differs, Stale, Unfit}
 use Rattle.roc_wire.specs.declared.fault.WireFault.TheVariants.{Short, Magic, Version, Kind, Count, Order, Rest, NoMemory}

@@ -1,7 +1,7 @@
 -- The run of a coordinator's node, which submits requests: docs/PROTOCOL.md, "Running nodes"
 use Rattle.std.specs.Prelude.{◌≡◌, ℕ, ℤ, Bool, false, nat_lt, ◌==◌, ◌&&◌, List, [], ◌∷◌, ◌++◌, length, Option, Some, None, Result, Ok, Err, if◌then◌else◌}
 use Rattle.roc_base.specs.declared.id.TxnId.{TxnId}
-use Rattle.roc_io.specs.Calls.{one_more}
+use Rattle.roc_io.specs.Cause.{one_more}
 use Rattle.roc_io.specs.Packet.{Packet}
 use Rattle.roc_msg.specs.declared.outbox.Outgoing.{Outgoing}
 use Rattle.roc_plan.specs.Groups.{Plan}

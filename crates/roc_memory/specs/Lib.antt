@@ -1,0 +1,6 @@
+pub mod Callers
+pub mod Calls
+pub mod Files
+pub mod Link
+pub mod Sink
+pub mod Spawner
