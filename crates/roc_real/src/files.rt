@@ -1,6 +1,6 @@
 //! The files of the machine.
 ghost use Rattle.std.specs.Prelude.{◌≡◌, [], None};
-ghost use Rattle.rococo.specs.Inner.Within.{OkWithin};
+ghost use Rattle.roc_real.specs.Inner.Within.{OkWithin};
 
 use roc_io::{Files, Read};
 use std::io;
@@ -16,6 +16,7 @@ pub struct RealFiles<'a, R> {
 }
 
 impl<'a, R> RealFiles<'a, R> {
+    /// The files of this runtime, none of which was read.
     pub fn new(runtime: &'a R) -> Self {
         RealFiles { runtime, faults: 0 }
     }

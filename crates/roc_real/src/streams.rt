@@ -12,6 +12,7 @@ pub struct Stream<W> {
 }
 
 impl<W> Stream<W> {
+    /// A stream over this writer, which took nothing through it.
     pub fn new(writer: W) -> Self {
         Stream { writer, faults: 0 }
     }
