@@ -27,7 +27,9 @@ use Rattle.roc_server.specs.declared.started.StartedGroup.{StartedGroup}
 use Rattle.roc_server.specs.State.{ignored, answered, is_here, is_group, find_group, Lists, ServerState, ServerStep}
 use Rattle.roc_server.specs.Start.{start_fault, start_taken, start_judged, startok_of, new_group}
 use Rattle.roc_server.specs.Runs.{group_call, with_later, run_group, run_groups, buffered_here, take_all, commitok_of, outs_here}
-use Rattle.roc_server.specs.Lists.{commit_differs, list_with, carried, unknown_of, lists_after, known_to, knowns_for, fetch_from, missing_from, taught, commit_fault, after_commit, fetch_taken, after_fetch, known_fault, after_known}
+use Rattle.roc_lists.specs.Carried.{list_with, carried, unknown_of}
+use Rattle.roc_lists.specs.Asking.{known_to, knowns_for, fetch_from}
+use Rattle.roc_server.specs.Lists.{commit_differs, lists_after, missing_from, taught, commit_fault, after_commit, fetch_taken, after_fetch, known_fault, after_known}
 use Rattle.roc_server.specs.Step.{Findings, AreFindings, Handles, after_message, tick_sends}
 use Rattle.roc_server.specs.Inner.Kept.{unrun}
 use Rattle.roc_protocol.specs.Final.{lists_in}

@@ -40,7 +40,7 @@ use Rattle.roc_execution.specs.Steps.{MayDecide, IsWaived, waits_here, waiting_h
 use Rattle.roc_execution.specs.Invariants.{LogInvariants, LogGrows}
 use Rattle.roc_server.specs.declared.started.StartedGroup.{StartedGroup}
 use Rattle.roc_server.specs.State.{is_group, find_group, ServerState}
-use Rattle.roc_server.specs.New.{AreNew}
+use Rattle.roc_lists.specs.New.{AreNew}
 use Rattle.roc_server.specs.Runs.{count_of_groups, groups_here, buffered_here, run_group, run_groups, take_all}
 use Rattle.roc_base.specs.Edges.{united}
 use Rattle.roc_base.specs.declared.node.Shard.{Shard}
@@ -48,7 +48,8 @@ use Rattle.roc_base.proofs.Members.{IsAllOf-united}
 use Rattle.roc_await.specs.declared.waits.Asked.{Asked}
 use Rattle.roc_await.specs.Waits.{is_asked_before, with_asked, with_all_asked}
 use Rattle.roc_protocol.proofs.Flat.{from_has_flat}
-use Rattle.roc_server.specs.Lists.{asked_of, is_missing, missing_from, lists_after}
+use Rattle.roc_lists.specs.Asking.{asked_of}
+use Rattle.roc_server.specs.Lists.{is_missing, missing_from, lists_after}
 use Rattle.roc_server.specs.State.{Lists}
 use Rattle.roc_server.specs.Inner.Kept.{unrun}
 use Rattle.roc_protocol.specs.Asked.{IsSchemeOf}

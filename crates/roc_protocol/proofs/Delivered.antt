@@ -24,7 +24,8 @@ use Rattle.roc_plan.specs.Groups.{Plan}
 use Rattle.roc_server.specs.State.{is_here, ServerState, ServerStep}
 use Rattle.roc_server.specs.Start.{startok_of}
 use Rattle.roc_server.specs.Runs.{commitok_of, outs_here}
-use Rattle.roc_server.specs.Lists.{list_with, known_to, fetch_from}
+use Rattle.roc_lists.specs.Carried.{list_with}
+use Rattle.roc_lists.specs.Asking.{known_to, fetch_from}
 use Rattle.roc_protocol.specs.World.{sent_by}
 use Rattle.roc_protocol.specs.Quiet.{IsToldIn}
 use Rattle.roc_protocol.proofs.Changed.{get-set_here, get-set_other}

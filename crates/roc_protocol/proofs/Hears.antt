@@ -24,10 +24,12 @@ use Rattle.roc_await.specs.Waits.{is_asked_before, was_asked_for, with_asked, wi
 use Rattle.roc_msg.specs.declared.outbox.Outgoing.{Outgoing}
 use Rattle.roc_msg.specs.InPlace.{in_place}
 use Rattle.roc_plan.specs.Groups.{Plan}
-use Rattle.roc_server.specs.New.{AreNew, AreDecided}
+use Rattle.roc_lists.specs.New.{AreNew, AreDecided}
 use Rattle.roc_server.specs.State.{is_here, Lists, ServerState, ServerStep}
 use Rattle.roc_server.specs.Runs.{commitok_of}
-use Rattle.roc_server.specs.Lists.{list_with, lists_after, known_to, knowns_for, fetch_from, asked_of, is_missing, missing_from, taught}
+use Rattle.roc_lists.specs.Carried.{list_with}
+use Rattle.roc_lists.specs.Asking.{known_to, knowns_for, fetch_from, asked_of}
+use Rattle.roc_server.specs.Lists.{lists_after, is_missing, missing_from, taught}
 use Rattle.roc_protocol.proofs.Flat.{has_flat}
 use Rattle.roc_protocol.proofs.Facts.{known_has}
 use Rattle.roc_await.proofs.Asking.{asked_still, asked_all}

@@ -8,7 +8,7 @@ use Rattle.roc_msg.specs.declared.msg.Sent.{Sent}
 use Rattle.roc_plan.specs.Groups.{Plan}
 use Rattle.roc_server.specs.First.{first_server}
 use Rattle.roc_server.specs.State.{answered, ServerState}
-use Rattle.roc_server.specs.Lists.{fetch_from}
+use Rattle.roc_lists.specs.Asking.{fetch_from}
 use Rattle.roc_server.specs.Step as server
 use Rattle.roc_coord.specs.State.{first_coord, CoordState}
 use Rattle.roc_coord.specs.Tick as coord

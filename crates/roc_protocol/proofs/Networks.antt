@@ -44,7 +44,7 @@ use Rattle.roc_protocol.proofs.Gathered.{IsGathered}
 use Rattle.roc_protocol.proofs.Flat.{has_flat, from_has_flat}
 use Rattle.roc_protocol.proofs.Coordinators.{there}
 use Rattle.roc_protocol.proofs.Replies.{in_range}
-use Rattle.roc_server.proofs.Unions.{same_members}
+use Rattle.roc_lists.proofs.Unions.{same_members}
 use Rattle.roc_protocol.proofs.Worlds.{IsLogged}
 
 -- what is in the network stays there

@@ -23,7 +23,9 @@ use Rattle.roc_server.specs.declared.started.StartedGroup.{StartedGroup}
 use Rattle.roc_server.specs.State.{ignored, answered, is_here, find_group, ServerState, ServerStep}
 use Rattle.roc_server.specs.Start.{start_fault, start_taken, start_judged, startok_of, new_group}
 use Rattle.roc_server.specs.Runs.{commitok_of}
-use Rattle.roc_server.specs.Lists.{list_with, carried, unknown_of, known_to, knowns_for, fetch_from, missing_from, taught, commit_fault, after_commit, fetch_taken, after_fetch, known_fault, after_known}
+use Rattle.roc_lists.specs.Carried.{list_with, carried, unknown_of}
+use Rattle.roc_lists.specs.Asking.{known_to, knowns_for, fetch_from}
+use Rattle.roc_server.specs.Lists.{missing_from, taught, commit_fault, after_commit, fetch_taken, after_fetch, known_fault, after_known}
 use Rattle.roc_server.specs.Step.{Findings, after_message, tick_sends}
 use Rattle.roc_protocol.proofs.Flat.{from_has_flat}
 use Rattle.roc_protocol.proofs.Served.{StartsAre}

@@ -36,7 +36,8 @@ use Rattle.roc_server.specs.declared.handled.Handled.TheVariants.{Done}
 use Rattle.roc_server.specs.declared.started.StartedGroup.{StartedGroup}
 use Rattle.roc_server.specs.State.{is_group, is_here, find_group, ignored, ServerState, ServerStep}
 use Rattle.roc_server.specs.Start.{has_procedure, has_counts, differs, start_fault, start_taken, start_judged}
-use Rattle.roc_server.specs.Lists.{list_with, is_unlike, commit_fault, after_commit, fetch_taken, known_fault, after_known}
+use Rattle.roc_lists.specs.Carried.{list_with, is_unlike}
+use Rattle.roc_server.specs.Lists.{commit_fault, after_commit, fetch_taken, known_fault, after_known}
 use Rattle.roc_server.specs.Step.{Findings, Handles, after_message}
 use Rattle.roc_audit.specs.declared.entry.Entry.TheVariants.{Submitted}
 use Rattle.roc_protocol.specs.Asked.{picked, IsSchemeOf}

@@ -35,10 +35,12 @@ use Rattle.roc_execution.specs.Steps.{LogSteps, no_steps, one_step_more, new_in}
 use Rattle.roc_execution.specs.Invariants.{LogInvariants, LogGrows}
 use Rattle.roc_server.specs.declared.started.StartedGroup.{StartedGroup}
 use Rattle.roc_server.specs.State.{ignored, answered, is_group, is_here, find_group, ServerState, ServerStep}
-use Rattle.roc_server.specs.New.{AreNew}
+use Rattle.roc_lists.specs.New.{AreNew}
 use Rattle.roc_server.specs.Start.{start_fault, start_taken, start_judged, startok_of, new_group, start_new}
 use Rattle.roc_server.specs.Runs.{commitok_of, outs_here}
-use Rattle.roc_server.specs.Lists.{list_with, carried, unknown_of, known_to, knowns_for, fetch_from, missing_from, taught, commit_fault, commit_taken, after_commit, fetch_taken, after_fetch, known_fault, after_known}
+use Rattle.roc_lists.specs.Carried.{list_with, carried, unknown_of}
+use Rattle.roc_lists.specs.Asking.{known_to, knowns_for, fetch_from}
+use Rattle.roc_server.specs.Lists.{missing_from, taught, commit_fault, commit_taken, after_commit, fetch_taken, after_fetch, known_fault, after_known}
 use Rattle.roc_server.specs.Step.{Findings, AreFindings, unless_ignored, after_message, Handles, tick_sends}
 use Rattle.roc_audit.specs.Order.{noted}
 use Rattle.roc_protocol.specs.Asked.{IsSchemeOf}

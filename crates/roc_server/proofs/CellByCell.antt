@@ -24,7 +24,7 @@ use Rattle.roc_server.specs.declared.started.StartedGroup.{StartedGroup}
 use Rattle.roc_server.specs.Start.{conflicts_before, edge_to, uses_cell}
 use Rattle.roc_server.specs.Inner.Indexed.{spot_of, spots_from, undecided, IsIndexOf, conflicts_with, is_met, edge_from}
 use Rattle.roc_server.proofs.Stands.{Stand, all_stand}
-use Rattle.roc_server.proofs.Unions.{same_members}
+use Rattle.roc_lists.proofs.Unions.{same_members}
 
 -- a group that conflicts with a use uses its cell
 conflict_uses : (e : StartedGroup) (a : Access) → uses_cell a.cell e ≡ false → do_conflict e.cells (a ∷ []) ≡ false

@@ -1,12 +1,13 @@
 -- What comes of messages that teach lists
-use Rattle.std.proofs.Common.{◌≡◌, Bool, true, false, not, cond, List, [], ◌∷◌, ◌++◌, Option, Some, None, refl, sym, ap, subst, ◌∙◌, append-nil, append_assoc, arith}
-use Rattle.roc_sequence.specs.Places.{IsListed, is_listed}
+use Rattle.std.proofs.Common.{◌≡◌, Bool, true, false, not, cond, List, [], ◌∷◌, ◌++◌, Option, Some, None, refl, sym, ap, subst, ◌∙◌, append-nil, append_assoc}
+use Rattle.roc_sequence.specs.Places.{is_listed}
 use Rattle.roc_base.specs.declared.id.TxnId.{TxnId}
 use Rattle.roc_base.specs.declared.node.Shard.{Shard}
 use Rattle.roc_base.specs.Edge.{Dependency}
 use Rattle.roc_base.specs.TxnId.{is_txn}
 use Rattle.roc_depgraph.specs.declared.known.KnownList.{KnownList}
 use Rattle.roc_depgraph.specs.Deps.{IsDecided}
+use Rattle.roc_lists.proofs.InOrder.{nothing_new}
 use Rattle.roc_msg.specs.declared.outbox.Outbox.{Outbox}
 use Rattle.roc_msg.specs.declared.reason.Reason.{Reason}
 use Rattle.roc_msg.specs.declared.reason.Reason.TheVariants.{NotHere, Differs}
@@ -14,29 +15,17 @@ use Rattle.roc_plan.specs.Groups.{Plan}
 use Rattle.roc_server.specs.declared.handled.Handled.TheVariants.{Done, Ignored}
 use Rattle.roc_server.specs.declared.kept.Kept.{Kept}
 use Rattle.roc_server.specs.Runs.{commitok, commitok_of}
-use Rattle.roc_server.specs.New.{AreNew}
-use Rattle.roc_server.specs.Lists.{list_with, carried, unknown_of, commit_differs, commit_fault, after_commit, known_fault, after_known, taught}
+use Rattle.roc_lists.specs.New.{AreNew}
+use Rattle.roc_lists.specs.Carried.{list_with, carried, unknown_of}
+use Rattle.roc_server.specs.Lists.{commit_differs, commit_fault, after_commit, known_fault, after_known, taught}
 use Rattle.roc_server.specs.Inner.Kept.{state_of}
 use Rattle.roc_server.specs.Inner.Taught.{Teaches, Commits, Knows}
 use Rattle.roc_server.specs.State.{ignored, is_here, ServerState, ServerStep}
 use Rattle.roc_server.specs.Step.{Shows, unless_ignored}
 
-unlisted_none : (t : TxnId) → ¬ IsListed is_txn [] t
-unlisted_none t l = omega arith
-
 -- why a commit is ignored, by its two tests
 pub fault_is : (s : ServerState) (id : TxnId) (edges : List Dependency) (facts : List KnownList) (h d : Bool) → is_here id s.started ≡ h → commit_differs s id edges facts ≡ d → commit_fault s id edges facts ≡ cond (not h) (Some NotHere) (cond d (Some Differs) None)
 fault_is s id edges facts h d p q = λ i. cond (not (p i)) (Some NotHere) (cond (q i) (Some Differs) None)
-
--- without a new list nothing is newly decided
-pub nothing_new : (known : List KnownList) → AreNew (IsDecided known) (known ++ []) []
-nothing_new known =
-    let P : List KnownList → Type 0 = λ k. AreNew (IsDecided known) k [] in
-    subst P (sym (append-nil known))
-    (record {
-      members = record { only = λ t l. absurd (unlisted_none t l); all = λ t u. absurd (u.1 u.0) };
-      ordered = record { once = tt; from = λ x l. l; all = λ x l. l; next = λ x l. absurd (unlisted_none x l) };
-    })
 
 module _ (plan : Plan) (shard : Shard) (old : Kept) (before : Outbox) (id : TxnId) (edges : List Dependency) where
   abbrev s : ServerState

@@ -9,7 +9,9 @@ use Rattle.roc_msg.specs.declared.outbox.Outbox.{Outbox}
 use Rattle.roc_msg.specs.declared.reason.Reason.TheVariants.{NotHere}
 use Rattle.roc_server.specs.declared.handled.Handled.TheVariants.{Done, Ignored}
 use Rattle.roc_server.specs.declared.kept.Kept.{Kept}
-use Rattle.roc_server.specs.Lists.{list_with, known_to, fetch_taken, after_fetch}
+use Rattle.roc_lists.specs.Carried.{list_with}
+use Rattle.roc_lists.specs.Asking.{known_to}
+use Rattle.roc_server.specs.Lists.{fetch_taken, after_fetch}
 use Rattle.roc_server.specs.Inner.Kept.{state_of, IsConsistent}
 use Rattle.roc_server.specs.State.{ignored, is_here, ServerState, ServerStep}
 use Rattle.roc_server.specs.Step.{Shows}

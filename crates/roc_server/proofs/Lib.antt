@@ -1,22 +1,15 @@
-mod Added
 mod Commit_steps
-mod Dropped_askers
 mod Fetch_steps
 mod First_cells
 mod Group_runs
 mod Kept_first
-mod Learnable
 mod Message_steps
-mod News_of_facts
 mod One_step
 mod Same_groups
 mod Start_steps
 mod Teach_steps
-mod Told_facts
-mod InOrder
 mod LeftOut
 mod Learning
-pub mod Unions
 mod Stands
 mod CellByCell
 mod Pairs

@@ -17,10 +17,10 @@ use Rattle.roc_server.specs.Inner.Kept.{state_of, IsConsistent}
 use Rattle.roc_server.specs.Inner.Starts.{StartTaken}
 use Rattle.roc_server.specs.Inner.Taught.{Commits, Knows}
 use Rattle.roc_server.specs.Lists.{after_fetch}
-use Rattle.roc_server.specs.New.{AreDecided}
+use Rattle.roc_lists.specs.New.{AreDecided}
 use Rattle.roc_server.specs.State.{ignored, ServerState, ServerStep}
 use Rattle.roc_server.specs.Step.{Findings, AreFindings, after_message, Handles, Shows}
-use Rattle.roc_server.proofs.Commit_steps.{nothing_new}
+use Rattle.roc_lists.proofs.InOrder.{nothing_new}
 use Rattle.roc_server.proofs.Start_steps.{nothing_led}
 
 -- what is answered, kept and sent is the step of a message

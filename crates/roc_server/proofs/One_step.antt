@@ -1,18 +1,14 @@
 -- What comes of a message is one
 use Rattle.std.proofs.Common.{◌≡◌, List, sym, subst, ◌∙◌}
 use Rattle.roc_base.specs.declared.id.TxnId.{TxnId}
-use Rattle.roc_depgraph.specs.declared.known.KnownList.{KnownList}
 use Rattle.roc_depgraph.specs.Deps.{IsDecided}
-use Rattle.roc_component.proofs.Alike.{one_by_members}
+use Rattle.roc_lists.proofs.InOrder.{one_new}
 use Rattle.roc_msg.specs.declared.msg.Msg.{Msg}
 use Rattle.roc_plan.specs.Groups.{Plan}
 use Rattle.roc_server.specs.State.{ServerState, ServerStep}
-use Rattle.roc_server.specs.New.{AreNew, AreLedTo}
+use Rattle.roc_lists.specs.New.{AreLedTo}
 use Rattle.roc_server.specs.Step.{edges_told, after_message, Handles}
 use Rattle.roc_depgraph.proofs.Rising_lists.{rising_one}
-
-one_new : (before : TxnId → Type 0) (known : List KnownList) (ts us : List TxnId) → AreNew before known ts → AreNew before known us → ts ≡ us
-one_new before known ts us p q = one_by_members known ts us ts us (λ t. (λ h. q.members.all t (p.members.only t h), λ h. p.members.all t (q.members.only t h))) p.ordered q.ordered
 
 pub one_step : (plan : Plan) (s : ServerState) (msg : Msg) (r other : ServerStep) → Handles plan s msg r → Handles plan s msg other → r ≡ other
 one_step plan s msg r other h k =

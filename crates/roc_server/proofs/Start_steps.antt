@@ -24,7 +24,7 @@ use Rattle.roc_server.specs.declared.handled.Handled.{Handled}
 use Rattle.roc_server.specs.declared.handled.Handled.TheVariants.{Done, Ignored}
 use Rattle.roc_server.specs.declared.kept.Kept.{Kept}
 use Rattle.roc_server.specs.declared.started.StartedGroup.{StartedGroup}
-use Rattle.roc_server.specs.New.{AreLedTo}
+use Rattle.roc_lists.specs.New.{AreLedTo}
 use Rattle.roc_server.specs.Start.{first_reason, has_procedure, has_counts, differs, start_fault, start_judged, start_taken, startok_of, edges_for}
 use Rattle.roc_server.specs.Step.{Shows}
 use Rattle.std.specs.List.{AllByRecursion, flat_map}
@@ -34,7 +34,7 @@ use Rattle.roc_await.specs.Waits.{Waiting, was_asked_for}
 use Rattle.roc_ancestors.specs.Least.{AreRows}
 use Rattle.roc_await.specs.Lacks.{AreLacks}
 use Rattle.roc_depgraph.specs.Deps.{is_known}
-use Rattle.roc_server.proofs.LeftOut.{left_still}
+use Rattle.roc_lists.proofs.Skipped.{left_still}
 use Rattle.roc_server.specs.Inner.Indexed.{spot_of, IsIndexOf, IsAddedAt}
 use Rattle.roc_server.specs.Inner.Kept.{state_of, IsConsistent, is_left, is_same_group}
 use Rattle.roc_server.specs.Inner.Starts.{StartTaken, StartsNew}

@@ -1,6 +1,5 @@
 -- What comes of lists that are taught
-use Rattle.std.proofs.Common.{◌≡◌, Bool, true, false, cond, List, [], ◌∷◌, ◌++◌, ◌||◌, Some, is_some, map, filter, refl, sym, ap, subst, ◌∙◌, append_assoc, inl, inr}
-use Rattle.std.proofs.lemmas.Bool.{false≢true}
+use Rattle.std.proofs.Common.{◌≡◌, Bool, true, false, List, ◌++◌, ◌||◌, map, filter, refl, sym, ap, subst, ◌∙◌, append_assoc, inl, inr}
 use Rattle.std.specs.List.{AllByRecursion, flat_map}
 use Rattle.roc_sequence.specs.Lists.{Has}
 use Rattle.roc_sequence.proofs.Holds.{has_all}
@@ -10,28 +9,29 @@ use Rattle.roc_base.specs.Edges.{united}
 use Rattle.roc_await.specs.Waits.{Waiting, was_asked_for, with_all_asked}
 use Rattle.roc_await.specs.Lacks.{AreLacks}
 use Rattle.roc_await.proofs.Asking.{asked_still, asked_all}
-use Rattle.roc_server.proofs.LeftOut.{left_still, left_by_third, passed, missing_of}
+use Rattle.roc_lists.proofs.Skipped.{left_still, left_by_third, passed}
+use Rattle.roc_server.proofs.LeftOut.{missing_of}
 use Rattle.roc_sequence.specs.Places.{is_listed, IsListed}
-use Rattle.roc_sequence.proofs.Places.{listed_or_not, listed_true, listed_false, listed_test, unlisted_test}
+use Rattle.roc_sequence.proofs.Places.{listed_or_not}
 use Rattle.roc_sequence.proofs.Appended.{listed_front, listed_behind, listed_either}
 use Rattle.roc_base.specs.declared.id.TxnId.{TxnId}
 use Rattle.roc_base.specs.declared.node.Shard.{Shard}
 use Rattle.roc_base.specs.TxnId.{is_txn}
-use Rattle.roc_base.proofs.Ids.{is_listed-any}
-use Rattle.roc_depgraph.specs.Closure.{IsRisingListOf}
-use Rattle.std.proofs.lemmas.List.Folds.{list_any-append}
 use Rattle.roc_await.specs.declared.waits.Asked.{Asked}
 use Rattle.roc_depgraph.specs.declared.known.KnownList.{KnownList}
-use Rattle.roc_depgraph.specs.Deps.{list_of, is_known, IsKnown, IsDecided}
-use Rattle.roc_depgraph.proofs.Laws.{KeepsLists, decided_stays}
+use Rattle.roc_depgraph.specs.Deps.{is_known, IsKnown, IsDecided}
+use Rattle.roc_depgraph.proofs.Laws.{decided_stays}
+use Rattle.roc_lists.proofs.Added.{decided_test}
+use Rattle.roc_lists.proofs.Learning.{keeps_front}
 use Rattle.roc_msg.specs.declared.outbox.Outbox.{Outbox}
 use Rattle.roc_msg.specs.declared.outbox.Outgoing.{Outgoing}
 use Rattle.roc_plan.specs.Groups.{Plan}
 use Rattle.roc_server.specs.declared.handled.Handled.TheVariants.{Done}
 use Rattle.roc_server.specs.declared.kept.Kept.{Kept}
 use Rattle.roc_server.specs.Runs.{commitok, commitok_of, take_all}
-use Rattle.roc_server.specs.New.{AreNew}
-use Rattle.roc_server.specs.Lists.{knowns_for, is_missing, asked_of, missing_from, fetch_from, waiting_after, lists_after, taught}
+use Rattle.roc_lists.specs.New.{AreNew}
+use Rattle.roc_lists.specs.Asking.{knowns_for, asked_of, fetch_from, waiting_after}
+use Rattle.roc_server.specs.Lists.{is_missing, missing_from, lists_after, taught}
 use Rattle.roc_server.specs.Inner.Indexed.{AreOut}
 use Rattle.roc_server.specs.Inner.Kept.{state_of, holding, unrun, is_left, AreSameGroups, IsConsistent}
 use Rattle.roc_server.specs.Inner.Taught.{KnowsMore, DecidedTaken, Teaches}
@@ -39,26 +39,6 @@ use Rattle.roc_server.specs.State.{is_here, ServerState}
 use Rattle.roc_server.specs.Step.{Shows}
 use Rattle.roc_server.proofs.Same_groups.{once_same, here_same}
 use Rattle.roc_server.proofs.Index_steps.{index_decided}
-
--- more lists keep those that are known
-pub keeps_front : (old news : List KnownList) → KeepsLists old (old ++ news)
-keeps_front [] news t h = absurd (false≢true h)
-keeps_front (k ∷ ks) news t h = go (is_txn k.of t) h (keeps_front ks news t)
-  where
-    go : (b : Bool) → is_some (cond b (Some k.edges) (list_of t ks)) ≡ true → (IsKnown ks t → list_of t (ks ++ news) ≡ list_of t ks) → cond b (Some k.edges) (list_of t (ks ++ news)) ≡ cond b (Some k.edges) (list_of t ks)
-    go true e ih = refl
-    go false e ih = ih e
-
--- what is decided then, as a test
-decided_test : (before ids after : List TxnId) → IsRisingListOf (IsListed is_txn (before ++ ids)) after → (t : TxnId) → is_listed is_txn after t ≡ (is_listed is_txn before t || is_listed is_txn ids t)
-decided_test before ids after h t = go (is_listed is_txn (before ++ ids) t) refl ∙ parts
-  where
-    parts : is_listed is_txn (before ++ ids) t ≡ (is_listed is_txn before t || is_listed is_txn ids t)
-    parts = is_listed-any (before ++ ids) t ∙ list_any-append (λ x. is_txn x t) before ids ∙ (λ i. sym (is_listed-any before t) i || sym (is_listed-any ids t) i)
-
-    go : (b : Bool) → is_listed is_txn (before ++ ids) t ≡ b → is_listed is_txn after t ≡ is_listed is_txn (before ++ ids) t
-    go true e = listed_test is_txn after t (h.complete t (listed_true is_txn (before ++ ids) t e)) ∙ sym e
-    go false e = unlisted_test is_txn after t (λ l. listed_false is_txn (before ++ ids) t e (h.sound t l)) ∙ sym e
 
 module _ (plan : Plan) (shard : Shard) (old mid new : Kept) (before first second after : Outbox) (news : List KnownList) (ids : List TxnId) (found : List TxnId) (asks : List Asked) (sound : IsConsistent old) (m : KnowsMore shard old mid before first news asks found) (h : DecidedTaken plan shard mid new first second ids) (sent : after ≡ record second { messages = second.messages ++ map (fetch_from shard) asks }) where
   abbrev s : ServerState

@@ -4,5 +4,4 @@ pub mod Kept
 pub mod Codes
 pub mod Starts
 pub mod Runs
-pub mod News
 pub mod Taught

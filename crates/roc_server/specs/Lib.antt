@@ -1,7 +1,6 @@
 pub mod State
 pub mod First
 pub mod Start
-pub mod New
 pub mod Runs
 pub mod Lists
 pub mod Fits

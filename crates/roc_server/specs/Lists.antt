@@ -1,10 +1,9 @@
 -- Lists that are taught, and fetches: docs/PROTOCOL.md, "Lists" and "Fetches"
-use Rattle.std.specs.Prelude.{Bool, false, not, ◌&&◌, ◌||◌, List, [], ◌∷◌, ◌++◌, Option, Some, None, map, filter, if◌then◌else◌}
+use Rattle.std.specs.Prelude.{Bool, not, ◌&&◌, ◌||◌, List, [], ◌∷◌, ◌++◌, Option, Some, None, map, filter, if◌then◌else◌}
 use Rattle.std.specs.List.{list_any, flat_map}
 use Rattle.roc_sequence.specs.Places.{is_listed}
 use Rattle.roc_base.specs.declared.id.TxnId.{TxnId}
 use Rattle.roc_base.specs.declared.node.Shard.{Shard}
-use Rattle.roc_base.specs.declared.node.Node.TheVariants.{Server}
 use Rattle.roc_base.specs.TxnId.{is_txn}
 use Rattle.roc_base.specs.Edge.{Dependency}
 use Rattle.roc_base.specs.Edges.{united}
@@ -12,66 +11,26 @@ use Rattle.roc_base.specs.Equality.{is_edges}
 use Rattle.roc_depgraph.specs.declared.known.KnownList.{KnownList}
 use Rattle.roc_depgraph.specs.Deps.{list_of, is_known}
 use Rattle.roc_await.specs.declared.waits.Asked.{Asked}
-use Rattle.roc_await.specs.declared.waits.Asker.{Asker}
-use Rattle.roc_await.specs.Waits.{Waiting, was_asked_for, with_all_asked, with_asker, askers_of}
-use Rattle.roc_msg.specs.declared.msg.Msg.TheVariants.{Fetch, Known}
+use Rattle.roc_await.specs.Waits.{was_asked_for, with_asker}
 use Rattle.roc_msg.specs.declared.outbox.Outgoing.{Outgoing}
 use Rattle.roc_msg.specs.declared.reason.Reason.{Reason}
 use Rattle.roc_msg.specs.declared.reason.Reason.TheVariants.{NotHere, Differs}
-use Rattle.roc_msg.specs.Facts.{is_fact_before}
-use Rattle.roc_msg.specs.InPlace.{in_place}
+use Rattle.roc_lists.specs.Carried.{list_with, is_unlike, carried, unknown_of}
+use Rattle.roc_lists.specs.Asking.{known_to, knowns_for, asked_of, fetch_from, waiting_after}
 use Rattle.roc_plan.specs.Groups.{Plan}
 use Rattle.roc_server.specs.declared.handled.Handled.TheVariants.{Done}
 use Rattle.roc_server.specs.Runs.{take_all, all_buffered, commitok_of}
 use Rattle.roc_server.specs.State.{ignored, answered, is_here, Lists, ServerState, ServerStep}
 
--- ---- what is new of lists that a message carries
-
-abbrev pub list_with : TxnId → List Dependency → KnownList
-list_with id edges = record { of = id; edges = edges }
-
--- another list of the transaction is known
-abbrev pub is_unlike : List KnownList → KnownList → Bool
-is_unlike known k = is_other (list_of k.of known)
-  where
-    is_other : Option (List Dependency) → Bool
-    is_other None = false
-    is_other (Some kept) = not (is_edges kept k.edges)
-
--- a commit's own list among its facts, by id
-abbrev pub carried : TxnId → List Dependency → List KnownList → List KnownList
-carried id edges facts = in_place is_fact_before (list_with id edges) facts
-
--- the lists of transactions of which none is known
-abbrev pub unknown_of : List KnownList → List KnownList → List KnownList
-unknown_of known lists = filter (λ k. not (is_known known k.of)) lists
-
 -- ---- teaching
-
--- a list goes to each that asked for it
-abbrev pub known_to : KnownList → Asker → Outgoing
-known_to k a = record { to = Server a.shard; msg = Known k.of k.edges }
-
-abbrev pub knowns_for : List Asker → KnownList → List Outgoing
-knowns_for askers k = map (known_to k) (askers_of k.of askers)
 
 -- Whose lists are missing: they are named by known lists, unknown, have no group here and were not asked for. Each with the least shard
 -- that saw it
 abbrev pub is_missing : ServerState → List KnownList → Dependency → Bool
 is_missing s known d = not (is_known known d.from) && (not (is_here d.from s.started) && not (was_asked_for d.from s.lists.waiting.asked))
 
-abbrev pub asked_of : Dependency → Asked
-asked_of d = record { id = d.from; at = d.at }
-
 abbrev pub missing_from : ServerState → List KnownList → List Asked
 missing_from s known = map asked_of (filter (is_missing s known) (united (flat_map (λ k. k.edges) known)))
-
-abbrev pub fetch_from : Shard → Asked → Outgoing
-fetch_from shard a = record { to = Server a.at; msg = Fetch a.id shard }
-
--- the askers of these lists are dropped, and what is missing was asked for
-abbrev pub waiting_after : Waiting → (news : List KnownList) → List Asked → Waiting
-waiting_after w news asks = record { asked = with_all_asked asks w.asked; askers = filter (λ a. not (list_any (λ k. is_txn k.of a.id) news)) w.askers }
 
 abbrev pub lists_after : ServerState → (news : List KnownList) → Lists
 lists_after s news = record { known = s.lists.known ++ news; waiting = waiting_after s.lists.waiting news (missing_from s (s.lists.known ++ news)) }

@@ -9,19 +9,18 @@ use Rattle.roc_base.specs.TxnId.{is_txn}
 use Rattle.roc_base.specs.Edge.{Dependency}
 use Rattle.roc_base.specs.Edges.{united}
 use Rattle.roc_base.specs.Equality.{is_nums, same_tag}
-use Rattle.roc_depgraph.specs.declared.known.KnownList.{KnownList}
-use Rattle.roc_depgraph.specs.Deps.{is_known, entries_of}
+use Rattle.roc_depgraph.specs.Deps.{is_known}
 use Rattle.roc_msg.specs.declared.msg.Msg.TheVariants.{StartOk}
 use Rattle.roc_msg.specs.declared.outbox.Outgoing.{Outgoing}
 use Rattle.roc_msg.specs.declared.reason.Reason.{Reason}
 use Rattle.roc_msg.specs.declared.reason.Reason.TheVariants.{BadProc, BadGroup, BadInputs, NotHere, Late, Differs}
-use Rattle.roc_msg.specs.Facts.{fitting}
 use Rattle.roc_plan.specs.declared.group.Class.{Class}
 use Rattle.roc_plan.specs.declared.group.Class.TheVariants.{Immediate, Deferrable}
 use Rattle.roc_plan.specs.Groups.{Plan, procedure_of, groups_of, is_immediate_of, inputs_of, shard_of, group_place}
 use Rattle.roc_group.specs.declared.access.Access.{Access}
 use Rattle.roc_group.specs.Accesses.{do_conflict}
 use Rattle.roc_group.specs.Group_run.{GroupCall, group_run, group_uses, bound_by_run}
+use Rattle.roc_lists.specs.Told.{facts_of}
 use Rattle.roc_rows.specs.declared.cell.Cell.{Cell}
 use Rattle.roc_rows.specs.Cells.{is_cell}
 use Rattle.roc_server.specs.declared.handled.Handled.TheVariants.{Done}
@@ -99,10 +98,6 @@ is_user plan out immediate c e = not (is_listed is_txn out e.id) && (same_tag (i
 -- for each cell of the list the groups that use it: there are as many as pairs of a cell and such a group
 abbrev pub users : Plan → (out : List TxnId) → (immediate : Bool) → List Access → List StartedGroup → List StartedGroup
 users plan out immediate cells started = flat_map (λ a. filter (is_user plan out immediate a.cell) started) cells
-
--- known lists of these transactions, as many as travel along
-abbrev pub facts_of : List KnownList → List TxnId → List KnownList
-facts_of known ids = fitting (map (λ u. record { of = u; edges = entries_of known u }) ids)
 
 -- what is kept of the group. An immediate one runs now, so that its startok tells what it bound and what it adds to the reply
 abbrev pub new_group : Plan → (out reached : List TxnId) → ServerState → TxnId → GroupCall → StartedGroup

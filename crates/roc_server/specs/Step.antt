@@ -13,9 +13,10 @@ use Rattle.roc_msg.specs.declared.reason.Reason.TheVariants.{Foreign}
 use Rattle.roc_plan.specs.Groups.{Plan}
 use Rattle.roc_group.specs.Group_run.{GroupCall}
 use Rattle.roc_server.specs.declared.handled.Handled.{Handled}
-use Rattle.roc_server.specs.New.{AreNew, AreDecided, AreLedTo}
+use Rattle.roc_lists.specs.New.{AreNew, AreDecided, AreLedTo}
 use Rattle.roc_server.specs.Start.{start_fault, edges_for, after_start}
-use Rattle.roc_server.specs.Lists.{list_with, carried, unknown_of, commit_fault, after_commit, after_fetch, known_fault, after_known, fetched_again}
+use Rattle.roc_lists.specs.Carried.{list_with, carried, unknown_of}
+use Rattle.roc_server.specs.Lists.{commit_fault, after_commit, after_fetch, known_fault, after_known, fetched_again}
 use Rattle.roc_server.specs.State.{ignored, find_group, ServerState, ServerStep}
 
 -- ---- what a step finds in the lists

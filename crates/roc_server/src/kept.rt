@@ -1,10 +1,10 @@
 //! What a server keeps.
-use crate::decided::Decided;
 use crate::started_groups::StartedGroups;
 use roc_ancestors::Ancestors;
 use roc_await::{Lacks, Waits};
 use roc_depgraph::Deps;
 use roc_index::Index;
+use roc_lists::Decided;
 use roc_rows::Rows;
 use std::alloc::Global;
 

@@ -8,10 +8,8 @@
 //! sends nothing; a server that found no memory says so from then on, and exactly then.
 #![tactic(auto)]
 
-mod askers;
 mod commitoks;
 mod commits;
-mod decided;
 mod fetches;
 mod first;
 mod groups;
@@ -21,7 +19,6 @@ mod kept;
 pub mod laws;
 mod looks;
 mod missing;
-mod news;
 mod runs;
 mod server;
 mod started;
@@ -29,7 +26,6 @@ mod started_groups;
 mod started_now;
 mod starts;
 mod teach;
-mod told;
 
 pub use handled::Handled;
 pub use server::Server;

@@ -1,18 +1,17 @@
-//! What is missing, and asked for.
-ghost use Rattle.std.specs.Prelude.{◌≡◌, ◌++◌, map, filter, IfOk, OnOk};
+//! What is missing.
+ghost use Rattle.std.specs.Prelude.{◌≡◌, map, filter, IfOk};
 ghost use Rattle.std.specs.List.{flat_map};
 ghost use Rattle.roc_base.specs.Edges.{united};
-ghost use Rattle.roc_await.specs.Waits.{with_all_asked};
-ghost use Rattle.roc_server.specs.Lists.{is_missing, asked_of, fetch_from};
+ghost use Rattle.roc_lists.specs.Asking.{asked_of};
+ghost use Rattle.roc_server.specs.Lists.{is_missing};
 ghost use Rattle.roc_server.specs.State.{ServerState};
 
-use crate::fetches::send_fetch;
 use crate::groups::is_here;
 use crate::started_groups::StartedGroups;
 use roc_await::{Asked, Waits};
-use roc_base::{Edge, Edges, NoMemory, Shard};
+use roc_base::{Edge, NoMemory};
 use roc_depgraph::{Deps, KnownList};
-use roc_msg::Outbox;
+use roc_lists::all_edges;
 use std::alloc::Global;
 
 // What new lists name and is missing, by id, each with the shard that is to be asked.
@@ -44,37 +43,4 @@ fn is_missing(deps: &Deps, started: &StartedGroups, waits: &Waits, edge: Edge) -
 {
     let id = edge.from();
     deps.list(id).is_none() && !is_here(started, id) && !waits.was_asked_for(id)
-}
-
-// All entries of lists, those of one transaction joined.
-fn all_edges(alloc: Global, lists: &[KnownList]) -> Result<Edges, NoMemory>
-    ensures { IfOk result (λ edges. edges ≡ united (flat_map (λ k. k.edges) lists.now)) }
-{
-    let mut met = Vec::new(alloc);
-    for k in lists {
-        met.extend_from_slice(k.edges.as_slice())?;
-    }
-    let mut edges = Edges::new(alloc);
-    edges.unite(&met)?;
-    Ok(edges)
-}
-
-// They were asked for.
-pub(crate) fn keep_asked(waits: &mut Waits, asks: &[Asked]) -> Result<(), NoMemory>
-    ensures { OnOk result (waits.new ≡ record waits.old { asked = with_all_asked asks.now waits.old.asked }) }
-{
-    for a in asks {
-        waits.ask(*a)?;
-    }
-    Ok(())
-}
-
-// Asks for them.
-pub(crate) fn send_fetches(shard: Shard, asks: &[Asked], out: &mut Outbox) -> Result<(), NoMemory>
-    ensures { OnOk result (out.new ≡ record out.old { messages = out.old.messages ++ map (fetch_from shard) asks.now }) }
-{
-    for a in asks {
-        send_fetch(shard, *a, out)?;
-    }
-    Ok(())
 }

@@ -2,24 +2,25 @@
 ghost use Rattle.std.specs.Prelude.{◌≡◌, ◌↔◌, ◌+◌, ◌≤◌, ◌++◌, List, length, true, false, IsTrue, IfOk, OnOk};
 ghost use Rattle.roc_base.specs.declared.id.TxnId.{TxnId as Id};
 ghost use Rattle.roc_depgraph.specs.Deps.{IsDecided};
+ghost use Rattle.roc_lists.specs.New.{AreDecided};
 ghost use Rattle.roc_rows.specs.Store.{entries};
 ghost use Rattle.roc_server.specs.First.{first_server};
 ghost use Rattle.roc_server.specs.Fits.{AreGroupsOf, ServerFits};
 ghost use Rattle.roc_server.specs.Inner.Kept.{state_of, IsConsistent};
-ghost use Rattle.roc_server.specs.New.{AreDecided};
 ghost use Rattle.roc_server.specs.Start.{is_immediate, entries_for, users};
 ghost use Rattle.roc_server.specs.State.{ServerStep};
 ghost use Rattle.roc_server.specs.Step.{Handles, Shows, tick_sends};
 
 use crate::Handled;
 use crate::commits::{take_commit, take_known};
-use crate::fetches::{fetch_again, take_fetch};
+use crate::fetches::take_fetch;
 use crate::first::first_rows;
 use crate::kept::Kept;
 use crate::looks::{Starting, entries};
 use crate::starts::{Request, take_start};
 use roc_base::{Edges, NoMemory, Shard, TxnId};
 use roc_group::Access;
+use roc_lists::fetch_again;
 use roc_msg::{Msg, NodeFault, Outbox, Reason};
 use roc_plan::{Class, Known, Plan};
 use roc_rows::Cell;

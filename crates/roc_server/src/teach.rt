@@ -1,27 +1,25 @@
 //! Lists that are new are taught.
-ghost use Rattle.std.specs.Prelude.{◌≡◌, ◌++◌, false, IfOk, OnOk};
+ghost use Rattle.std.specs.Prelude.{IfOk, OnOk};
 ghost use Rattle.roc_base.specs.declared.node.Shard.{Shard as At};
 ghost use Rattle.roc_ancestors.specs.Least.{AreRows};
+ghost use Rattle.roc_await.specs.Learning.{AreLearnable};
 ghost use Rattle.roc_base.specs.TxnId.{is_txn};
+ghost use Rattle.roc_lists.specs.New.{AreAllNew, AreNew};
 ghost use Rattle.roc_sequence.specs.Places.{IsListed, NoneTwice};
 ghost use Rattle.roc_server.specs.Fits.{AreGroupsOf};
 ghost use Rattle.roc_server.specs.Inner.Kept.{is_same_group, IsConsistent};
 ghost use Rattle.roc_server.specs.Inner.Indexed.{AreSpotsOf};
-ghost use Rattle.roc_server.specs.Inner.News.{AreLearnable};
 ghost use Rattle.roc_server.specs.Inner.Taught.{DecidedTaken, KnowsMore, TakesNew, Teaches};
-ghost use Rattle.roc_server.specs.New.{AreAllNew, AreNew};
 
-use crate::askers::{drop_all, tell_all};
 use crate::commitoks::send_commitoks;
-use crate::decided::newly_decided;
 use crate::indexed::take_out;
 use crate::kept::Kept;
-use crate::missing::{keep_asked, missing_from, send_fetches};
-use crate::news::learn_all;
+use crate::missing::missing_from;
 use crate::runs::run_all;
 use roc_await::Asked;
 use roc_base::{NoMemory, Shard, TxnId};
 use roc_depgraph::KnownList;
+use roc_lists::{learn_all, newly_decided, send_fetches, tell_all, wait_for};
 use roc_msg::Outbox;
 use roc_plan::Plan;
 use std::alloc::Global;
@@ -42,8 +40,7 @@ pub(crate) fn teach(
 {
     let (asks, ids) = know_more(alloc, kept, news, out)?;
     take_new(alloc, plan, shard, kept, &ids, out)?;
-    send_fetches(shard, &asks, out)?;
-    Ok(())
+    send_fetches(shard, &asks, out)
 }
 
 // Tells the lists to those who asked for them, keeps them, and finds what is missing and what they decide.
@@ -60,8 +57,7 @@ fn know_more(
     tell_all(kept.waits.askers(), news, out)?;
     let ids = learn_all(alloc, &mut kept.deps, &mut kept.lacks, news)?;
     let asks = missing_from(alloc, news, &kept.deps, &kept.started, &kept.waits)?;
-    drop_all(&mut kept.waits, news)?;
-    keep_asked(&mut kept.waits, &asks)?;
+    wait_for(&mut kept.waits, news, &asks)?;
     Ok((asks, ids))
 }
 
@@ -81,7 +77,7 @@ fn take_new(
     requires spots { AreSpotsOf kept.old.started kept.old.index }
     ensures { OnOk result (TakesNew plan.now shard kept.old kept.new out.old out.new) }
 {
-    let ids = newly_decided(alloc, kept, ids)?;
+    let ids = newly_decided(alloc, &kept.deps, ids)?;
     take_decided(alloc, plan, shard, kept, &ids, out)
 }
 

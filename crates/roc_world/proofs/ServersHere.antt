@@ -31,9 +31,12 @@ use Rattle.roc_group.specs.Group_run.{GroupCall, call, group_uses}
 use Rattle.roc_server.specs.declared.started.StartedGroup.{StartedGroup}
 use Rattle.roc_server.specs.Fits.{IsCallOf, ServerFits}
 use Rattle.roc_server.specs.State.{ignored, answered, is_here, is_group, find_group, Lists, ServerState, ServerStep}
-use Rattle.roc_server.specs.Start.{first_reason, has_procedure, has_counts, differs, start_fault, start_taken, start_judged, startok_of, new_group, is_predecessor, is_immediate_group, edge_to, facts_of}
+use Rattle.roc_lists.specs.Told.{facts_of}
+use Rattle.roc_server.specs.Start.{first_reason, has_procedure, has_counts, differs, start_fault, start_taken, start_judged, startok_of, new_group, is_predecessor, is_immediate_group, edge_to}
 use Rattle.roc_server.specs.Runs.{group_call, commitok_of}
-use Rattle.roc_server.specs.Lists.{commit_differs, list_with, carried, unknown_of, lists_after, is_missing, asked_of, known_to, knowns_for, fetch_from, missing_from, taught, commit_fault, after_commit, fetch_taken, after_fetch, known_fault, after_known}
+use Rattle.roc_lists.specs.Carried.{list_with, carried, unknown_of}
+use Rattle.roc_lists.specs.Asking.{asked_of, known_to, knowns_for, fetch_from}
+use Rattle.roc_server.specs.Lists.{commit_differs, lists_after, is_missing, missing_from, taught, commit_fault, after_commit, fetch_taken, after_fetch, known_fault, after_known}
 use Rattle.roc_server.specs.Step.{Findings, AreFindings, Handles, after_message, tick_sends}
 use Rattle.roc_server.specs.Inner.Kept.{unrun}
 use Rattle.roc_protocol.specs.Fits.{AreSeenHere, AreListsHere, NamesNodes, IsStartedHere, IsServerHere}

@@ -1,8 +1,6 @@
 -- A group that starts, as its parts are made
 use Rattle.std.specs.Prelude.{◌≡◌, false, if◌then◌else◌, List}
 use Rattle.roc_base.specs.declared.id.TxnId.{TxnId}
-use Rattle.roc_base.specs.Edge.{Dependency}
-use Rattle.roc_depgraph.specs.declared.known.KnownList.{KnownList}
 use Rattle.roc_base.specs.declared.node.Shard.{Shard}
 use Rattle.roc_group.specs.Group_run.{GroupCall, group_run}
 use Rattle.roc_msg.specs.declared.outbox.Outbox.{Outbox}
@@ -11,15 +9,9 @@ use Rattle.roc_server.specs.declared.handled.Handled.{Handled}
 use Rattle.roc_server.specs.declared.kept.Kept.{Kept}
 use Rattle.roc_server.specs.declared.started.StartedGroup.{StartedGroup}
 use Rattle.roc_server.specs.Inner.Kept.{state_of}
-use Rattle.roc_server.specs.New.{AreLedTo}
-use Rattle.roc_server.specs.Start.{is_immediate_group, edges_for, facts_of, new_group, start_new, after_start}
+use Rattle.roc_lists.specs.New.{AreLedTo}
+use Rattle.roc_server.specs.Start.{is_immediate_group, edges_for, new_group, start_new, after_start}
 use Rattle.roc_server.specs.Step.{Shows, edges_of_new}
-
--- the known lists of what entries lead to, as many as travel along
-pub record AreFactsFor (known : List KnownList) (edges : List Dependency) (facts : List KnownList) : Type 0 where
-  pub reached : List TxnId
-  pub led : AreLedTo known edges reached
-  pub are : facts ≡ facts_of known reached
 
 -- e is what is kept of a group that starts, and an immediate one ran
 pub record IsNewGroup (plan : Plan) (shard : Shard) (old new : Kept) (id : TxnId) (c : GroupCall) (e : StartedGroup) : Type 0 where

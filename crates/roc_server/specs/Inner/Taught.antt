@@ -18,8 +18,10 @@ use Rattle.roc_server.specs.declared.handled.Handled.{Handled}
 use Rattle.roc_server.specs.declared.handled.Handled.TheVariants.{Done}
 use Rattle.roc_server.specs.declared.kept.Kept.{Kept}
 use Rattle.roc_server.specs.Runs.{commitok, take_all}
-use Rattle.roc_server.specs.New.{AreNew}
-use Rattle.roc_server.specs.Lists.{knowns_for, missing_from, waiting_after, taught, list_with, carried, unknown_of, commit_fault, after_commit, known_fault, after_known}
+use Rattle.roc_lists.specs.New.{AreNew}
+use Rattle.roc_lists.specs.Carried.{list_with, carried, unknown_of}
+use Rattle.roc_lists.specs.Asking.{knowns_for, waiting_after}
+use Rattle.roc_server.specs.Lists.{missing_from, taught, commit_fault, after_commit, known_fault, after_known}
 use Rattle.roc_server.specs.Inner.Indexed.{AreOut}
 use Rattle.roc_server.specs.Inner.Kept.{state_of, holding, AreSameGroups, IsConsistent}
 use Rattle.roc_server.specs.State.{is_here, ServerState}

@@ -1,4 +1,4 @@
-use Rattle.std.proofs.Common.{true, false, refl, sym, ◌∙◌}
+use Rattle.std.proofs.Common.{true, false, sym, ◌∙◌}
 use Rattle.roc_server.specs.Inner.Kept.{state_of}
 use Rattle.roc_server.proofs.Commit_steps.{fault_is}
 use Rattle.roc_server.proofs.commits.commit_fault.Goals as goal
@@ -6,9 +6,9 @@ use Rattle.roc_server.proofs.commits.commit_fault.Goals as goal
 pub returns-then-commit_differs : goal.returns-then-commit_differs
 returns-then-commit_differs c shard =
     let s = state_of shard c.args.kept.now false in
-    sym (fault_is s c.args.id c.args.edges.now c.args.facts.now true true (sym c.is_here.ensures ∙ c.if-not-is_here.false) (sym (c.commit_differs.ensures s refl) ∙ c.if-commit_differs.true))
+    sym (fault_is s c.args.id c.args.edges.now c.args.facts.now true true (sym c.is_here.ensures ∙ c.if-not-is_here.false) (sym c.commit_differs.ensures ∙ c.if-commit_differs.true))
 
 pub returns : goal.returns
 returns c shard =
     let s = state_of shard c.args.kept.now false in
-    sym (fault_is s c.args.id c.args.edges.now c.args.facts.now true false (sym c.is_here.ensures ∙ c.if-not-is_here.false) (sym (c.commit_differs.ensures s refl) ∙ c.if-commit_differs.false))
+    sym (fault_is s c.args.id c.args.edges.now c.args.facts.now true false (sym c.is_here.ensures ∙ c.if-not-is_here.false) (sym c.commit_differs.ensures ∙ c.if-commit_differs.false))

@@ -1,8 +1,8 @@
 use Rattle.std.proofs.Common.{List, sym, subst, ◌∙◌}
 use Rattle.roc_depgraph.specs.declared.known.KnownList.{KnownList}
-use Rattle.roc_server.specs.Inner.News.{AreLearnable}
+use Rattle.roc_await.specs.Learning.{AreLearnable}
 use Rattle.roc_server.proofs.Commit_steps.{commit_ignored, commit_taught, commit_repeated}
-use Rattle.roc_server.proofs.Learnable.{carried_learnable}
+use Rattle.roc_lists.proofs.Learnable.{carried_learnable}
 use Rattle.roc_server.proofs.Same_groups.{fits_same}
 use Rattle.roc_server.proofs.commits.take_commit.Goals as goal
 

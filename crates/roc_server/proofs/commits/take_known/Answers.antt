@@ -1,5 +1,4 @@
-use Rattle.std.proofs.Common.{◌++◌, ◌∷◌, [], sym, ap, ◌∙◌}
-use Rattle.roc_server.specs.Lists.{list_with, unknown_of}
+use Rattle.std.proofs.Common.{sym, ◌∙◌}
 use Rattle.roc_server.proofs.Commit_steps.{known_ignored, known_taught}
 use Rattle.roc_server.proofs.Same_groups.{fits_same}
 use Rattle.roc_server.proofs.commits.take_known.Goals as goal
@@ -11,7 +10,7 @@ returns-in-Some-clause-step c =
 pub returns-clause-step : goal.returns-clause-step
 returns-clause-step c =
     known_taught c.args.plan.now c.args.shard c.args.kept.now c.args.out.now c.args.id c.args.edges.now c.teach.new.kept c.teach.new.out c.deref.result.now (sym (c.known_fault.ensures c.args.shard) ∙ c.in_default.is)
-    (c.deref.ensures.value ∙ c.in_ok-push_unknown.ensures ∙ ap (λ xs. xs ++ unknown_of c.args.kept.now.deps (list_with c.args.id c.args.edges.now ∷ [])) c.new-news.ensures.items) c.in_ok-teach.ensures
+    (c.deref.ensures.value ∙ c.in_ok-news.ensures) c.in_ok-teach.ensures
 
 pub returns-clause-fits : goal.returns-clause-fits
 returns-clause-fits c = fits_same c.args.plan.now c.args.kept.now.started c.teach.new.kept.started c.in_ok-teach.ensures.groups c.requires.fits

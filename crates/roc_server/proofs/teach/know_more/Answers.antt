@@ -1,16 +1,15 @@
 use Rattle.std.proofs.Common.{◌≡◌, ◌++◌, false, List, map, filter, refl, subst, ap, ◌∙◌}
 use Rattle.std.specs.List.{flat_map}
 use Rattle.roc_base.specs.Edges.{united}
-use Rattle.roc_await.specs.declared.waits.Asked.{Asked}
 use Rattle.roc_await.specs.declared.waits.Asker.{Asker}
-use Rattle.roc_await.specs.Waits.{Waiting, with_all_asked}
 use Rattle.roc_await.specs.Lacks.{AreDecidedBy}
 use Rattle.roc_depgraph.specs.declared.known.KnownList.{KnownList}
 use Rattle.roc_msg.specs.declared.outbox.Outbox.{Outbox}
-use Rattle.roc_server.specs.Lists.{knowns_for, is_missing, asked_of}
+use Rattle.roc_lists.specs.Asking.{knowns_for, asked_of, waiting_after}
+use Rattle.roc_server.specs.Lists.{is_missing}
 use Rattle.roc_server.specs.Inner.Kept.{state_of}
 use Rattle.roc_server.proofs.LeftOut.{missing_of_news}
-use Rattle.roc_server.proofs.Teach_steps.{keeps_front}
+use Rattle.roc_lists.proofs.Learning.{keeps_front}
 use Rattle.roc_server.proofs.teach.know_more.Goals as goal
 
 pub returns : goal.returns
@@ -19,7 +18,6 @@ returns c shard =
     let news = c.args.news.now in
     let s = state_of shard old false in
     let Found : List KnownList → Type 0 = λ ks. c.in_ok-asks.asks.items ≡ map asked_of (filter (is_missing s ks) (united (flat_map (λ (k : KnownList). k.edges) news))) in
-    let Dropped : Waiting → Waiting = λ w. record w { asked = with_all_asked c.in_ok-asks.asks.items w.asked } in
     let Told : List Asker → Outbox = λ askers. record c.args.out.now { messages = c.args.out.now.messages ++ flat_map (knowns_for askers) news } in
     record {
       rows = refl;
@@ -34,6 +32,6 @@ returns c shard =
           subst Found c.in_ok-ids.ensures.learnt (c.in_ok-asks.ensures s refl refl)
           ∙ ap (map asked_of) (missing_of_news s old.deps news (keeps_front old.deps news) c.requires.sound.none_left);
       waits =
-          c.in_ok-keep_asked.ensures ∙ ap (λ (xs : List Asked). record c.drop_all.new.waits { asked = with_all_asked xs c.drop_all.new.waits.asked }) c.deref.ensures.value ∙ ap Dropped c.in_ok-drop_all.ensures;
+          c.in_ok-wait_for.ensures ∙ ap (waiting_after old.waits news) c.deref.ensures.value;
       sent = c.in_ok-tell_all.ensures ∙ ap Told c.askers.ensures;
     }

@@ -1,22 +1,24 @@
 use Rattle.std.proofs.Common.{◌++◌, List, map, sym, subst, ap, ◌∙◌}
+use Rattle.std.proofs.lemmas.Result.{on_ok_weaker}
 use Rattle.roc_sequence.specs.Places.{NoneTwice}
 use Rattle.roc_await.specs.declared.waits.Asked.{Asked}
 use Rattle.roc_msg.specs.declared.outbox.Outbox.{Outbox}
 use Rattle.roc_server.specs.declared.started.StartedGroup.{StartedGroup}
 use Rattle.roc_server.specs.Fits.{AreGroupsOf}
-use Rattle.roc_server.specs.Lists.{fetch_from}
+use Rattle.roc_lists.specs.Asking.{fetch_from}
 use Rattle.roc_server.specs.Inner.Kept.{is_same_group}
 use Rattle.roc_sequence.specs.Places.{IsListed}
 use Rattle.roc_base.specs.declared.id.TxnId.{TxnId}
 use Rattle.roc_base.specs.TxnId.{is_txn}
 use Rattle.roc_depgraph.specs.declared.known.KnownList.{KnownList}
-use Rattle.roc_server.specs.New.{AreAllNew}
+use Rattle.roc_lists.specs.New.{AreAllNew}
 use Rattle.roc_server.specs.Inner.Indexed.{AreSpotsOf}
 use Rattle.roc_server.proofs.Index_steps.{indexed_spots}
 use Rattle.roc_server.proofs.Learning.{not_taken}
 use Rattle.roc_ancestors.specs.Least.{AreRows}
 use Rattle.roc_ancestors.proofs.Kept_rows.{rows_stay}
-use Rattle.roc_server.proofs.Teach_steps.{teaches, keeps_front}
+use Rattle.roc_lists.proofs.Learning.{keeps_front}
+use Rattle.roc_server.proofs.Teach_steps.{teaches}
 use Rattle.roc_server.proofs.teach.teach.Goals as goal
 
 pub take_new-requires-clause-fits : goal.take_new-requires-clause-fits
@@ -54,5 +56,8 @@ pub returns : goal.returns
 returns c =
     let t = c.in_ok-take_new.ensures in
     let P : List Asked → Outbox = λ xs. record c.take_new.new.out { messages = c.take_new.new.out.messages ++ map (fetch_from c.args.shard) xs } in
+    on_ok_weaker c.send_fetches.result
+    (λ sent.
     teaches c.args.plan.now c.args.shard c.args.kept.now c.know_more.new.kept c.take_new.new.kept c.args.out.now c.know_more.new.out c.take_new.new.out c.send_fetches.new.out c.args.news.now t.0 c.in_ok-asks.ids.items c.in_ok-asks.asks.items c.requires.sound
-    (c.in_ok-asks.ensures c.args.shard) t.1 (c.in_ok-send_fetches.ensures ∙ ap P c.deref-2.ensures.value)
+    (c.in_ok-asks.ensures c.args.shard) t.1 (sent ∙ ap P c.deref-2.ensures.value))
+    c.send_fetches.ensures

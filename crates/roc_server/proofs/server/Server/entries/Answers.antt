@@ -4,7 +4,7 @@ use Rattle.roc_depgraph.specs.declared.known.KnownList.{KnownList}
 use Rattle.roc_depgraph.specs.Deps.{IsDecided}
 use Rattle.roc_depgraph.proofs.Rising_lists.{rising_one}
 use Rattle.roc_server.specs.declared.kept.Kept.{Kept}
-use Rattle.roc_server.specs.New.{AreDecided}
+use Rattle.roc_lists.specs.New.{AreDecided}
 use Rattle.roc_server.specs.Start.{is_immediate, entries_for, users}
 use Rattle.roc_server.specs.State.{ServerState}
 use Rattle.roc_server.specs.Inner.Kept.{state_of, IsConsistent}

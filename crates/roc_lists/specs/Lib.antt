@@ -1,0 +1,4 @@
+pub mod Carried
+pub mod Told
+pub mod Asking
+pub mod New
