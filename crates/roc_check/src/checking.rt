@@ -24,7 +24,8 @@ use roc_groups::laws::merged_groups_are_accepted;
 use roc_lang::LangError;
 use roc_merge::{Refusal, merge};
 use roc_parse::parse;
-use roc_plan::{Plan, PlanFault};
+use roc_plan::Plan;
+use roc_planning::{PlanFault, make_plan};
 use roc_program::{PieceId, Workload};
 use roc_resolve::resolve;
 use roc_scgraph::Vertex;
@@ -102,7 +103,7 @@ fn accepted(
     // Such groups are accepted, since a workload is well formed by its type.
     merged_groups_are_accepted();
     let _ = workload.procedures();
-    match Plan::try_new(alloc, workload, classes, groups) {
+    match make_plan(alloc, workload, classes, groups) {
         Ok(plan) => Ok(plan),
         Err(PlanFault::NoMemory) => Err(CheckFault::NoMemory),
         Err(PlanFault::Unfit) => unreachable!(),

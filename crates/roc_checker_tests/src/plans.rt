@@ -4,7 +4,8 @@ use roc_conflict::promote;
 use roc_groups::Groups;
 use roc_merge::merge;
 use roc_parse::parse;
-use roc_plan::{Class, Input, Known, Plan, PlanFault};
+use roc_plan::{Class, Input, Known, Plan};
+use roc_planning::{PlanFault, make_plan};
 use roc_program::Workload;
 use roc_resolve::resolve;
 use std::alloc::Global;
@@ -29,7 +30,7 @@ fn plan(alloc: Global) -> Result<Plan, Fail> {
     let workload = workload(alloc)?;
     let classes = promote(alloc, &workload)?;
     let groups = merge(alloc, &workload, &classes)?;
-    Ok(Plan::try_new(alloc, workload, classes, groups)?)
+    Ok(make_plan(alloc, workload, classes, groups)?)
 }
 
 fn has_two_groups(rt: &impl Abort, plan: &Plan) {
@@ -79,7 +80,7 @@ fn contended_pieces_apart_are_unfit(rt: HostRuntime) -> Result<(), Fail> {
     let second = vec![in alloc; 1u16]?;
     let third = vec![in alloc; 2u16]?;
     let groups = Groups::from_lists(vec![in alloc; vec![in alloc; first, second, third]?]?);
-    match Plan::try_new(alloc, workload, classes, groups) {
+    match make_plan(alloc, workload, classes, groups) {
         Ok(_) => panic!(rt; "taken"),
         Err(fault) => assert_eq!(rt; fault, PlanFault::Unfit),
     }

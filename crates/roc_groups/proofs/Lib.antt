@@ -6,8 +6,5 @@ pub mod Fused_classes
 pub mod Cores
 mod Circles
 pub mod Accepting
-pub mod Uses
-mod Each
-pub mod Parting
+pub mod Parts
 pub mod Paths
-pub mod Tested

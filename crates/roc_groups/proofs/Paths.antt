@@ -1,7 +1,6 @@
 -- Paths through few numbers are all paths
-use Rattle.std.proofs.Common.{◌≡◌, ◌≢◌, ◌↔◌, ℕ, zero, suc, ◌+◌, ◌<◌, Bool, true, false, ◌&&◌, ◌||◌, List, length, get_or, set, refl, sym, ap, subst, ◌∙◌, ◌⊎◌, inl, inr, arith}
+use Rattle.std.proofs.Common.{◌≡◌, ℕ, zero, suc, ◌<◌, Bool, true, ◌&&◌, ◌||◌, List, length, refl, sym, subst, ◌∙◌, ◌⊎◌, inl, inr, arith}
 use Rattle.std.proofs.lemmas.Bool.{cases_eq, and_parts, and_from, or_cases, or_left, or_right}
-use Rattle.std.proofs.lemmas.List.{get_or-set_same, get_or-set_other, length-set}
 use Rattle.std.specs.List.{list_any}
 use Rattle.roc_sequence.proofs.Holds.{any_has}
 use Rattle.roc_program.specs.Program.{Workload}
@@ -78,34 +77,9 @@ module _ (step : ℕ → ℕ → Bool) where
   below_from_leads n inside a _ (directly {to} h) = step_below n a to h
   below_from_leads n inside a _ (onward {by} {to} l h) = below_through n a by to (inside by to h) (below_from_leads n inside a by l) (step_below n by to h)
 
-  pub leads_inside : (n : ℕ) → ((a b : ℕ) → step a b ≡ true → (a < n) × (b < n)) → (a b : ℕ) → Leads step a b → (a < n) × (b < n)
-  leads_inside n inside a _ (directly {to} h) = inside a to h
-  leads_inside n inside a _ (onward {by} {to} l h) = ((leads_inside n inside a by l).0, (inside by to h).1)
-
-  -- no two lead to each other exactly where no two do by paths below n
-  pub no_circle_exactly : (n : ℕ) → ((a b : ℕ) → step a b ≡ true → (a < n) × (b < n))
-      → ((g h : ℕ) → g < n → h < n → g ≢ h → leads_below step n g h ≡ true → ¬ (leads_below step n h g ≡ true)) ↔ ((g h : ℕ) → g ≢ h → Leads step g h → ¬ Leads step h g)
-  no_circle_exactly n inside = (
-    λ none g h apart l m. let in_both = leads_inside n inside g h l in
-        none g h in_both.0 in_both.1 apart (below_from_leads n (λ a b s. (inside a b s).0) g h l) (below_from_leads n (λ a b s. (inside a b s).0) h g m),
-    λ none g h i j apart l m. none g h apart (leads_from_below n g h l) (leads_from_below n h g m),
-  )
-
 -- groups that feed each other are there
 pub feeds_inside : (program : Workload) (proc : ℕ) (groups : List (List ℕ)) (n : ℕ) → length groups ≡ n → (a b : ℕ) → group_feeds program proc groups a b ≡ true → (a < n) × (b < n)
 feeds_inside program proc groups n e a b h =
     let z = any_has (λ z. list_any (feeds program proc z) (group_at groups b)) (group_at groups a) h in
     let y = any_has (feeds program proc z.0) (group_at groups b) z.2 in
     (subst (λ m. a < m) e (row_of_has z.0 groups a z.1), subst (λ m. b < m) e (row_of_has y.0 groups b y.1))
-
--- one more place of a row is set
-pub row_more : (f : ℕ → Bool) (row : List Bool) (n : ℕ) (b : Bool) → ((to : ℕ) → to < n → get_or row to false ≡ f to) × (length row ≡ 16) → n < 16 → b ≡ f n
-    → ((to : ℕ) → to < n + 1 → get_or (set row n b) to false ≡ f to) × (length (set row n b) ≡ 16)
-row_more f row n b so_far l e =
-    let long : length row ≡ 16 = so_far.1 in (
-      λ to m. elim (cases_eq to n) [
-        | inl same ↦ ap (λ k. get_or (set row n b) k false) same ∙ get_or-set_same row n b false (omega arith) ∙ e ∙ ap f (sym same)
-        | inr other ↦ get_or-set_other row n to b false other ∙ so_far.0 to (omega arith)
-      ],
-      length-set row n b ∙ long,
-    )

@@ -33,8 +33,8 @@ impl Groups {
         self.procedures.len()
     }
 
-    // The groups of a procedure; one that is not there has none.
-    pub(crate) fn of_procedure(&self, proc: u16) -> &[Vec<u16>]
+    /// The groups of a procedure; one that is not there has none.
+    pub fn of_procedure(&self, proc: u16) -> &[Vec<u16>]
         ensures { map (λ group. group.items) result.now ≡ groups_in self.now proc }
     {
         match self.procedures.get(usize::from(proc)) {

@@ -4,19 +4,13 @@
 //! may not be cut. Contracts see [`Groups`] as a list for each procedure, of lists of piece numbers. `specs/Flow.antt` has the data
 //! flow between pieces, `specs/Core.antt` the pieces of a procedure that have to run as one and which workloads are acceptable,
 //! `specs/Grouping.antt` the groups that merging gives, `specs/Refusals.antt` the reasons to refuse, and `specs/Accepted.antt` what is
-//! asked of the groups of a plan, which [`are_accepted`] tests.
+//! asked of the groups of a plan.
 //!
 //! The layers above may rely on [`laws`]: one grouping at most is the merged one, the merged groups of an acceptable workload are
 //! accepted, and accepted groups of one procedure never meet where they are immediate.
 #![tactic(auto)]
 
-mod acceptance;
-mod circle;
-mod flow;
 mod groups;
 pub mod laws;
-mod partition;
 
-pub use acceptance::are_accepted;
-pub use flow::{are_co_located, feeds, piece_uses};
 pub use groups::Groups;

@@ -10,7 +10,7 @@ use Rattle.roc_groups.specs.Core.{InCore, contended, between, AreCoLocated, IsAc
 use Rattle.roc_groups.specs.Refusals.{IsUpTo, AreApart, IsApart, IsInTheWay, IsBlocked}
 use Rattle.roc_merge.specs.Inner.Tables.{AreContended, IsFlow, IsClearBy, IsJoinedBy}
 use Rattle.roc_merge.specs.Inner.Firsts.{IsJoined, IsClear, IsFirstBehind, IsFirstPair, IsFirstFrom, IsFirstThree}
-use Rattle.roc_groups.proofs.Tested.{contended_there}
+use Rattle.roc_accept.proofs.Tested.{contended_there}
 use Rattle.roc_merge.proofs.Flows.{leads_there}
 
 -- the order of lists of numbers

@@ -14,7 +14,7 @@ use Rattle.roc_groups.specs.Groups.{piece_numbered}
 use Rattle.roc_groups.specs.Flow.{feeds, Leads, directly, onward}
 use Rattle.roc_groups.specs.Core.{InCore, contended, between}
 use Rattle.roc_groups.proofs.Forward.{forward}
-use Rattle.roc_groups.proofs.Tested.{contended_there}
+use Rattle.roc_accept.proofs.Tested.{contended_there}
 use Rattle.roc_merge.specs.Inner.Tables.{holds, row_in, AreContended, IsFlow, IsCoreBy}
 use Rattle.roc_merge.proofs.Rows.{set_exact}
 

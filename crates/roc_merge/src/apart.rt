@@ -7,8 +7,8 @@ ghost use Rattle.roc_merge.specs.Inner.Tables.{IsApartBy, IsJoinedBy};
 ghost use Rattle.roc_merge.specs.Inner.Firsts.{IsJoined, IsFirstBehind, IsFirstPair};
 
 use crate::tables::{contended_in, count_of};
+use roc_accept::are_co_located;
 use roc_conflict::Classes;
-use roc_groups::are_co_located;
 use roc_program::{PieceId, Workload, procedure_count};
 
 /// The first two of all procedures.

@@ -8,8 +8,8 @@ ghost use Rattle.roc_merge.specs.Inner.Tables.{IsWayBy, IsClearBy};
 ghost use Rattle.roc_merge.specs.Inner.Firsts.{IsClear, IsFirstBetween, IsFirstFrom, IsFirstThree};
 
 use crate::tables::{contended_in, count_of, flow_in};
+use roc_accept::are_co_located;
 use roc_conflict::Classes;
-use roc_groups::are_co_located;
 use roc_program::{PieceId, Workload, procedure_count};
 
 /// Two contended pieces, and one between them.

@@ -5,8 +5,8 @@ ghost use Rattle.roc_conflict.specs.Classes.{is_immediate};
 ghost use Rattle.roc_groups.specs.Flow.{feeds, Leads};
 ghost use Rattle.roc_merge.specs.Inner.Tables.{holds, AreContended, IsFlow};
 
+use roc_accept::feeds;
 use roc_conflict::{Classes, contended};
-use roc_groups::feeds;
 use roc_program::{PieceId, Workload, piece_count};
 
 /// How many pieces a procedure has.

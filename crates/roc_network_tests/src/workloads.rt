@@ -6,6 +6,7 @@ use roc_io::Addr;
 use roc_merge::merge;
 use roc_parse::parse;
 use roc_plan::Plan;
+use roc_planning::make_plan;
 use roc_resolve::resolve;
 use std::alloc::Global;
 use std::test::Fail;
@@ -79,7 +80,7 @@ impl Texts {
         let workload = resolve(alloc, source)?;
         let classes = promote(alloc, &workload)?;
         let groups = merge(alloc, &workload, &classes)?;
-        Ok(Plan::try_new(alloc, workload, classes, groups)?)
+        Ok(make_plan(alloc, workload, classes, groups)?)
     }
 
     /// The cluster, of so many shards as the plan has.

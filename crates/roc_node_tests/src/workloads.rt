@@ -4,6 +4,7 @@ use roc_conflict::promote;
 use roc_merge::merge;
 use roc_parse::parse;
 use roc_plan::Plan;
+use roc_planning::make_plan;
 use roc_program::Workload;
 use roc_resolve::resolve;
 use std::alloc::Global;
@@ -36,7 +37,7 @@ pub(crate) fn plan_of(alloc: Global, text: &[u8]) -> Result<Plan, Fail> {
     let workload = workload_of(alloc, text)?;
     let classes = promote(alloc, &workload)?;
     let groups = merge(alloc, &workload, &classes)?;
-    Ok(Plan::try_new(alloc, workload, classes, groups)?)
+    Ok(make_plan(alloc, workload, classes, groups)?)
 }
 
 /// The plan of the counter.

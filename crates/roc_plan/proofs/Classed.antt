@@ -11,7 +11,7 @@ use Rattle.roc_groups.proofs.Elements.{place_of_has, has_at_place, has_row}
 use Rattle.roc_groups.proofs.Fused_classes.{numbered_once}
 use Rattle.roc_plan.specs.Groups.{Group, Plan, no_group, groups_of, group_of, is_immediate_of}
 use Rattle.roc_plan.specs.Accepted.{grouping_of, is_piece_immediate, IsAccepted}
-use Rattle.roc_plan.proofs.Grouped.{same_tests}
+use Rattle.roc_plan.proofs.Rows.{same_tests}
 use Rattle.roc_plan.proofs.Placed.{group_again, count_again, procedure_there, accepted_at}
 
 module _ (plan : Plan) (is : IsAccepted plan) where

@@ -1,10 +1,6 @@
 pub mod Rows
 pub mod Sized
 pub mod Taken
-pub mod Grouped
-pub mod Counted
-pub mod Drawn
-pub mod Kept
 pub mod Values
 pub mod Placed
 pub mod Classed

@@ -15,7 +15,7 @@ use Rattle.roc_groups.proofs.Elements.{place_of_has}
 use Rattle.roc_plan.specs.Groups.{Plan, group_of, is_immediate_of}
 use Rattle.roc_plan.specs.Accepted.{grouping_of, is_piece_immediate, IsAccepted}
 use Rattle.roc_plan.specs.Turns.{may_meet}
-use Rattle.roc_plan.proofs.Grouped.{same_tests}
+use Rattle.roc_plan.proofs.Rows.{same_tests}
 use Rattle.roc_plan.proofs.Placed.{group_again}
 use Rattle.roc_plan.proofs.Classed.{same_number, class_of_piece}
 

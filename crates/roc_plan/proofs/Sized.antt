@@ -1,29 +1,22 @@
 -- What the limits of the language say of a procedure's names
-use Rattle.std.proofs.Common.{◌≡◌, ◌∙◌, ℕ, suc, ◌+◌, ◌*◌, ◌-◌, ◌<◌, ◌≤◌, List, [], ◌∷◌, length, map, get_or, Option, Some, None, sym, ap, subst, inl, inr, arith, length-append}
-use Rattle.std.proofs.lemmas.Bool.{cases_lt}
-use Rattle.std.proofs.lemmas.List.{get_or_past, length-map}
+use Rattle.std.proofs.Common.{◌≡◌, ◌∙◌, ℕ, suc, ◌+◌, ◌*◌, ◌-◌, ◌<◌, ◌≤◌, List, [], ◌∷◌, length, map, get_or, Option, Some, None, sym, ap, arith, length-append}
+use Rattle.std.proofs.lemmas.List.{length-map}
 use Rattle.std.specs.List.{AllByRecursion, range_with_len, filter_map, flat_map, cons_option}
-use Rattle.roc_program.specs.LookUps.{no_piece, no_procedure}
+use Rattle.roc_program.specs.LookUps.{no_procedure}
 use Rattle.roc_program.specs.Parts as view
 use Rattle.roc_program.specs.declared.parts.Procedure as code
 use Rattle.roc_program.proofs.Rows.{read-map}
-use Rattle.roc_program.specs.Names.{binding, output, bindings_of, bindings}
+use Rattle.roc_program.specs.Names.{binding, bindings_of, bindings}
 use Rattle.roc_program.specs.Program.{Table, Piece, Procedure}
 use Rattle.roc_program.specs.WellFormed.{known_behind, ArePieces, IsProcedure}
-use Rattle.std.specs.Bool.{nat_lt}
-use Rattle.roc_sequence.specs.Rising.{IsRising}
-use Rattle.roc_sequence.proofs.Holds.{all_at, all_weaker, has_all}
-use Rattle.roc_groups.specs.Grouping.{IsGrouping}
-use Rattle.roc_groups.specs.Inner.Parts.{IsPart}
-use Rattle.roc_groups.proofs.Parting.{few_rise, few_groups}
-use Rattle.roc_plan.specs.Groups.{bound_in}
-use Rattle.roc_plan.specs.Inner.Built.{piece_at, IsSized}
+use Rattle.roc_sequence.proofs.Holds.{all_weaker}
+use Rattle.roc_plan.specs.Inner.Sized.{IsSized}
 
 few_statements : (tables : List Table) (known : List ℕ) (pieces : List Piece) → ArePieces tables known pieces → AllByRecursion (λ piece. length piece.body ≤ 64) pieces
 few_statements tables known [] all = tt
 few_statements tables known (piece ∷ rest) all = (all.0.statements, few_statements tables (known_behind known piece) rest all.1)
 
-few_found : {A B : Type 0} (f : A → Option B) (xs : List A) → length (filter_map f xs) ≤ length xs
+pub few_found : {A B : Type 0} (f : A → Option B) (xs : List A) → length (filter_map f xs) ≤ length xs
 few_found f [] = omega arith
 few_found {B = B} f (x ∷ xs) = go (f x) (few_found f xs)
   where
@@ -43,9 +36,6 @@ few_in_all f (x ∷ xs) all =
 pub few_bound : (piece : Piece) → length piece.body ≤ 64 → length (bindings_of piece) ≤ 64
 few_bound piece h = let l = few_found binding piece.body in omega arith
 
-pub few_added : (piece : Piece) → length piece.body ≤ 64 → length (filter_map output piece.body) ≤ 64
-few_added piece h = let l = few_found output piece.body in omega arith
-
 pub sized : (tables : List Table) (p : Procedure) → IsProcedure tables p → IsSized p
 sized tables p is =
     let statements = few_statements tables (range_with_len 0 p.arguments) p.pieces is.pieces in
@@ -61,33 +51,6 @@ sized tables p is =
       few_pieces = pieces;
       statements = statements;
     }
-
--- also of a piece that is not there
-pub few_here : (p : Procedure) → IsSized p → (k : ℕ) → length (piece_at p k).body ≤ 64
-few_here p is k =
-    elim (cases_lt k (length p.pieces)) [
-      | inl l ↦ all_at (λ piece. length piece.body ≤ 64) p.pieces k no_piece is.statements l
-      | inr past ↦ (let P : Piece → Type 0 = λ piece. length piece.body ≤ 64 in subst P (sym (get_or_past p.pieces k no_piece past)) (omega arith))
-    ]
-
--- a procedure has few groups, and each binds few names
-pub few_groups_of : (p : Procedure) (groups : List (List ℕ)) → IsSized p → IsGrouping (length p.pieces) groups → length groups ≤ 16
-few_groups_of p groups is grouping = omega (arith, few_groups (length p.pieces) groups grouping, is.few_pieces)
-
-few_rising : (xs : List ℕ) (n : ℕ) → IsRising nat_lt xs → AllByRecursion (λ x. x < n) xs → length xs ≤ n
-few_rising xs n rising below = let r = few_rise (λ x. x) xs 0 n rising (has_all (λ x. 0 ≤ x) xs (λ x h. omega arith)) below in omega arith
-
-pub few_names_of : (p : Procedure) (group : List ℕ) → IsSized p → IsPart (length p.pieces) group → length (bound_in p group) ≤ 1024
-few_names_of p group is part =
-    let few = few_in_all bindings_of (map (piece_at p) group) (all_of_map (λ piece. length (bindings_of piece) ≤ 64) (piece_at p) group (λ k. few_bound (piece_at p k) (few_here p is k))) in
-    let long = length-map group (piece_at p) in
-    let few_pieces = few_rising group (length p.pieces) part.rising part.below in
-    let most = is.few_pieces in
-    omega arith
-  where
-    all_of_map : {A B : Type 0} (P : B → Type 0) (f : A → B) (xs : List A) → ((a : A) → P (f a)) → AllByRecursion P (map f xs)
-    all_of_map P f [] h = tt
-    all_of_map P f (x ∷ xs) h = (h x, all_of_map P f xs h)
 
 -- the procedure that is lent
 pub lent : (all : List code.Procedure) (procedures : List Procedure) (proc at : ℕ) (p : code.Procedure) → map view.procedure all ≡ procedures → at ≡ proc → proc < length procedures → p ≡ get_or all at p

@@ -1,4 +1,4 @@
--- How plans are built, kept and compared: no contract that a caller reads needs them
-pub mod Built
+-- How plans are kept and compared: no contract that a caller reads needs them
+pub mod Sized
 pub mod Codes
 pub mod Outlines

@@ -1,5 +1,5 @@
 pub mod Groups
 pub mod Accepted
 pub mod Turns
-pub mod FaultText
+pub mod Outlines
 pub mod Inner

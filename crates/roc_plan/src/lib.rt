@@ -1,20 +1,16 @@
 //! Plans: workloads whose pieces are put into the groups that servers and coordinators run.
 //!
 //! Contracts see a [`Plan`] as a program with its groups, as `specs/Groups.antt` has it, and each reader answers what that file
-//! says of the plan, without memory. [`Plan::try_new`] takes a workload with its classes and groups, exactly where the groups are
-//! accepted, so each plan is one that the layers above may rely on (`IsAccepted` of `specs/Accepted.antt`), as [`laws`] spell out.
+//! says of the plan, without memory. [`Plan::from_outlines`] asks that the groups are accepted, so each plan is one that the layers
+//! above may rely on (`IsAccepted` of `specs/Accepted.antt`), as [`laws`] spell out. `make_plan` of `roc_planning` makes plans.
 #![tactic(auto)]
 
-mod build;
-mod fault;
 mod group;
 pub mod laws;
-mod names;
 mod outline;
 mod place;
 mod plan;
-mod replies;
 
-pub use fault::PlanFault;
 pub use group::{Class, Input, Known};
+pub use outline::Outline;
 pub use plan::Plan;

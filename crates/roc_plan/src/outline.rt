@@ -1,11 +1,12 @@
 //! What a plan keeps of its groups, so that its readers take no memory.
 use crate::{Class, Input};
 
-/// A group of a procedure.
+/// What a plan keeps of a group of a procedure.
 #[derive(Drop)]
 pub struct Outline {
     /// The numbers of its pieces, rising.
     pub pieces: Vec<u16>,
+    /// When it runs: immediate where a piece of it is.
     pub class: Class,
     /// How many values it binds.
     pub bound: u16,

@@ -1,23 +1,16 @@
 //! Plans: a workload with its pieces in groups, and what is read of them.
-ghost use Rattle.std.specs.Prelude.{◌≡◌, ◌↔◌, ◌<◌, length, map, position, slice_get, IfOk, IsErrOf};
+ghost use Rattle.std.specs.Prelude.{◌≡◌, ◌<◌, length, map, position, slice_get};
 ghost use Rattle.std.specs.Str.{bytes_eq};
 ghost use Rattle.std.specs.String.{string_bytes};
 ghost use Rattle.roc_program.specs.LookUps.{procedure_named};
 ghost use Rattle.roc_plan.specs.Groups.{procedure_of, groups_of, group_of, group_class, bound_of, inputs_in, inputs_of, outs_of, group_place, shard_of};
-ghost use Rattle.roc_conflict.specs.Classes.{is_immediate};
-ghost use Rattle.roc_groups.specs.Accepted.{IsAcceptedGrouping};
-ghost use Rattle.roc_plan.specs.Accepted.{grouped_plan, IsAccepted};
-ghost use Rattle.roc_plan.specs.Inner.Outlines.{row_of};
+ghost use Rattle.roc_plan.specs.Accepted.{IsAccepted};
+ghost use Rattle.roc_plan.specs.Outlines.{outlined_plan, row_of, AreOutlines};
 
-use crate::build::outlines_of;
-use crate::outline::Outline;
 use crate::place::names_with;
-use crate::{Class, Input, Known, PlanFault};
+use crate::{Class, Input, Known, Outline};
 use roc_base::Shard;
-use roc_conflict::Classes;
-use roc_groups::{Groups, are_accepted};
 use roc_program::{Procedure, Workload};
-use std::alloc::Global;
 use std::marker::Model;
 
 /// A workload with its pieces in groups.
@@ -44,23 +37,12 @@ impl Model for Plan {
 }
 
 impl Plan {
-    /// The plan of a workload whose pieces are put into these groups. `Unfit` comes exactly where the layers above may not rely on
-    /// the groups, or the classes are not those of the workload.
-    pub fn try_new(
-        alloc: Global,
-        workload: Workload,
-        classes: Classes,
-        groups: Groups,
-    ) -> Result<Plan, PlanFault>
-        ensures made { IfOk result (λ plan. plan ≡ grouped_plan workload (is_immediate classes) groups) }
-        ensures accepted { IfOk result (λ plan. IsAccepted plan) }
-        ensures unfit { IsErrOf result PlanFault.Unfit ↔ ¬ IsAcceptedGrouping workload (is_immediate classes) groups }
+    /// The plan that these outlines are of, a row for each procedure. Takes no memory.
+    pub fn from_outlines(workload: Workload, outlines: Vec<Vec<Outline>>) -> Plan
+        requires { AreOutlines workload outlines.items }
+        ensures { result ≡ outlined_plan workload outlines.items }
     {
-        if !are_accepted(&workload, &classes, &groups) {
-            return Err(PlanFault::Unfit);
-        }
-        let outlines = outlines_of(alloc, &workload, &classes, &groups)?;
-        Ok(Plan { workload, outlines })
+        Plan { workload, outlines }
     }
 
     /// The workload that the plan is of. Whoever reads it is told that the plan is accepted, as each is.

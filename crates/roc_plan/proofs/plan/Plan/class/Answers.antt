@@ -1,7 +1,7 @@
 use Rattle.std.proofs.Common.{length, ap, arith}
 use Rattle.roc_program.proofs.Rows.{row_length}
 use Rattle.roc_plan.specs.Groups.{groups_of}
-use Rattle.roc_plan.specs.Inner.Outlines.{group}
+use Rattle.roc_plan.specs.Outlines.{group}
 use Rattle.roc_plan.proofs.plan.Plan.class.Goals as goal
 
 pub outline_at-requires : goal.outline_at-requires

@@ -2,7 +2,7 @@ use Rattle.std.proofs.Common.{length, ◌∙◌, sym, ap, arith}
 use Rattle.roc_program.proofs.Rows.{row_length}
 use Rattle.roc_plan.specs.Groups.{no_group, group_of, groups_of}
 use Rattle.roc_plan.proofs.Rows.{row_element}
-use Rattle.roc_plan.specs.Inner.Outlines.{group}
+use Rattle.roc_plan.specs.Outlines.{group}
 use Rattle.roc_plan.proofs.plan.Plan.pieces.Goals as goal
 
 pub outline_at-requires : goal.outline_at-requires

@@ -1,0 +1,28 @@
+-- What pieces of the code use, as what pieces of the program do
+use Rattle.std.proofs.Common.{◌≡◌, Bool, false, ◌||◌, List, [], ◌∷◌, map, refl, sym, ap, subst, ◌∙◌}
+use Rattle.std.specs.List.{list_any, filter_map}
+use Rattle.roc_program.specs.Program as pure
+use Rattle.roc_program.specs.Program.{Get, Set, Out}
+use Rattle.roc_program.specs.Names.{piece_uses, binding}
+use Rattle.roc_accept.specs.Inner.Uses.{is_bound_for}
+
+-- a test of elements that are seen as others
+pub any_seen : {A B : Type 0} (p : B → Bool) (seen : A → B) (xs : List A) → list_any p (map seen xs) ≡ list_any (λ x. p (seen x)) xs
+any_seen p seen [] = refl
+any_seen p seen (x ∷ xs) = ap (λ b. p (seen x) || b) (any_seen p seen xs)
+
+bound_for : (user : pure.Piece) (body : List pure.Statement) → list_any (is_bound_for user) body ≡ list_any (piece_uses user) (filter_map binding body)
+bound_for user [] = refl
+bound_for user (Get number from ∷ rest) = ap (λ b. piece_uses user number || b) (bound_for user rest)
+bound_for user (Set to value ∷ rest) = bound_for user rest
+bound_for user (Out value ∷ rest) = bound_for user rest
+
+pub bound_by_code : {A : Type 0} (user other : pure.Piece) (source : pure.Piece) (seen : A → pure.Statement) (body : List A) (r : Bool) → user ≡ other → map seen body ≡ source.body
+    → r ≡ list_any (λ s. is_bound_for user (seen s)) body → r ≡ list_any (piece_uses other) (filter_map binding source.body)
+bound_by_code user other source seen body r same read h =
+    h ∙ sym (any_seen (is_bound_for user) seen body) ∙ ap (list_any (is_bound_for user)) read ∙ bound_for user source.body
+    ∙ ap (λ (u : pure.Piece). list_any (piece_uses u) (filter_map binding source.body)) same
+
+-- of two tests, where the first fails
+pub second_of : (first second one r : Bool) → one ≡ false → one ≡ first → r ≡ second → r ≡ (first || second)
+second_of first second one r fails is h = subst (λ v. r ≡ (v || second)) (sym fails ∙ is) h
