@@ -1,20 +1,12 @@
 -- Of which words each end is
-use Rattle.std.proofs.Common.{◌≡◌, inl, inr, ℕ, List, Option, Ok, refl}
-use Rattle.roc_base.specs.declared.node.Shard.{Shard}
-use Rattle.roc_serve.specs.declared.ends.ServeEnd.{ServeEnd}
-use Rattle.roc_serve.specs.declared.ends.ServeEnd.TheVariants as serve_end
-use Rattle.roc_submit.specs.declared.ends.SubmitEnd.{SubmitEnd}
-use Rattle.roc_submit.specs.declared.ends.SubmitEnd.TheVariants as submit_end
-use Rattle.roc_local.specs.declared.stops.StopEnd.{StopEnd}
-use Rattle.roc_local.specs.declared.stops.StopEnd.TheVariants as stop_end
-use Rattle.roc_words.specs.Commands.{check, print, replay, serve, submit, stop, local, gen}
-use Rattle.roc_cli.specs.Call.{RunCall, WholeCall}
-use Rattle.roc_cli.specs.Words.{AreCommandWords, Name, NamesProgram, NamesNodes, node_files}
-use Rattle.roc_cli.specs.Nodes.{as_submit_end, stop_as_submit_end, AreNodesEnded, IsChildBlamed}
+use Rattle.std.proofs.Common.{inl, inr, ℕ, List, refl}
+use Rattle.roc_words.specs.Commands.{check, print, replay, gen}
+use Rattle.roc_launch.specs.Call.{RunCall}
+use Rattle.roc_launch.specs.Words.{AreCommandWords, NamesProgram, NamesNodes, node_files}
 use Rattle.roc_cli.specs.Stopped.{IsInput, the_workload, the_schedule, the_cluster, the_requests, CutsOutput, in_report, in_text, in_check, in_rejection, in_generated}
 use Rattle.roc_cli.specs.Refused.{IsRefused, long_workload, no_text, out_of_scope, long_schedule, bad_schedule, long_cluster, bad_cluster, long_requests, bad_requests}
 use Rattle.roc_cli.specs.Fit.{IsFit}
-use Rattle.roc_cli.proofs.Naming.{no_name}
+use Rattle.roc_launch.proofs.Naming.{no_name}
 
 pub of_program : (words : List (List ℕ)) (workload : List ℕ) → NamesProgram words workload → AreCommandWords words
 of_program words workload (c, is, e) = (c, is)
@@ -50,27 +42,3 @@ module _ (call : RunCall) where
   fit_names_no_nodes (inr (inl fit)) (files, names) = no_name node_files call.words (print fit.workload) fit.given refl files names
   fit_names_no_nodes (inr (inr (inl fit))) (files, names) = no_name node_files call.words (check fit.workload) fit.given refl files names
   fit_names_no_nodes (inr (inr (inr (seed, shards, txns, part, given)))) (files, names) = no_name node_files call.words (gen seed shards txns part) given refl files names
-
-module _ (call : WholeCall) where
-  pub nodes_named : (end : SubmitEnd) → AreNodesEnded call end → NamesNodes call.run.words
-  nodes_named end (inl (own, e, h)) = (_, (serve h.workload h.cluster h.shard h.turns h.counts, h.given, refl))
-  nodes_named end (inr (inl h)) = (_, (submit h.workload h.cluster h.listed h.coord h.turns, h.given, refl))
-  nodes_named end (inr (inr (inl (own, e, h)))) = (_, (stop h.workload h.cluster, h.given, refl))
-  nodes_named end (inr (inr (inr h))) = (_, (local h.workload h.cluster h.listed h.turns, h.given, refl))
-
-  pub child_named : (shard : Shard) (status : Option ℕ) → IsChildBlamed call shard status → NamesNodes call.run.words
-  child_named shard status h = (_, (local h.ended.workload h.ended.cluster h.ended.listed h.ended.turns, h.ended.given, refl))
-
-  pub nodes_words : (end : SubmitEnd) → AreNodesEnded call end → AreCommandWords call.run.words
-  nodes_words end h = let named = nodes_named end h in (named.1.0, named.1.1)
-
-pub served_done : (end : ServeEnd) → as_submit_end end ≡ submit_end.Done → end ≡ serve_end.Done
-served_done serve_end.Done e = refl
-served_done serve_end.LinkFault e = absurd (cc)
-served_done serve_end.SinkFault e = absurd (cc)
-served_done serve_end.NoMemory e = absurd (cc)
-
-pub stopped_done : (end : StopEnd) → stop_as_submit_end end ≡ submit_end.Done → end ≡ stop_end.Done
-stopped_done stop_end.Done e = refl
-stopped_done stop_end.LinkFault e = absurd (cc)
-stopped_done stop_end.NoMemory e = absurd (cc)

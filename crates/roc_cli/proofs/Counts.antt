@@ -1,13 +1,16 @@
 -- A count rises exactly where the status is its own
-use Rattle.std.proofs.Common.{◌≡◌, ◌⊎◌, inl, inr, ℕ, ◌≤◌, ◌==◌, Bool, IsTrue, true, false, List, refl, sym, ap, subst, ◌∙◌, arith}
+use Rattle.std.proofs.Common.{◌≡◌, ◌⊎◌, inl, inr, ℕ, ◌≤◌, ◌==◌, Bool, IsTrue, true, false, List, Option, Result, Ok, Err, refl, sym, ap, subst, ◌∙◌, arith}
 use Rattle.roc_io.specs.Cause.{HasCause}
 use Rattle.roc_files.specs.declared.fault.Fault.{Fault}
 use Rattle.roc_files.specs.declared.fault.Fault.TheVariants.{Rejected, Refused, Value, NoShard, Memory, Unanswered, File, Sink, Link, Child}
 use Rattle.roc_files.specs.Says.{Errors}
-use Rattle.roc_cli.specs.Words.{NamesNodes}
+use Rattle.roc_words.specs.declared.value.Part.{Part}
+use Rattle.roc_launch.specs.Call.{RunCall}
+use Rattle.roc_launch.specs.Words.{NamesNodes}
 use Rattle.roc_cli.specs.Status.{IsQuiet}
-use Rattle.roc_files.specs.Fault.{IsTold, EndsWith, line_of, blames_file, blames_sink, blames_link}
-use Rattle.roc_cli.specs.Inner.Ends.{precedes_loop}
+use Rattle.roc_files.specs.Fault.{IsTold, EndsWith, line_of, blames_file, blames_sink, blames_link, fails_by, ReadsBut}
+use Rattle.roc_launch.specs.Ends.{precedes_loop, CountsChildren}
+use Rattle.roc_cli.specs.Inner.Ends.{Ends, GenEnds}
 
 counted_at : (status n wanted : ℕ) (test : Bool) (old new : ℕ) → status ≡ n → (n == wanted) ≡ test → HasCause test old new → HasCause (status == wanted) old new
 counted_at status n wanted test old new e f h = subst (λ b. HasCause b old new) (sym (ap (λ m. m == wanted) e ∙ f)) h
@@ -80,8 +83,43 @@ told_early (Child shard own) status err (inr (e, says)) h = absurd (early_is_not
 told_early Link status err (e, says) h = absurd (early_is_not 8 status (omega arith, λ f. absurd (omega arith)) e h)
 told_early _ status err told h = refl
 
+-- what is done is quiet where the words are without nodes
+pub quiet_done : (words : List (List ℕ)) (P : Type 0) → ((NamesNodes words → ⊥) → P) → IsQuiet words 0 → P
+quiet_done words P without (inl none) = without none
+quiet_done words P without (inr (inl e)) = absurd (omega arith)
+quiet_done words P without (inr (inr (inl e))) = absurd (omega arith)
+quiet_done words P without (inr (inr (inr (inl e)))) = absurd (omega arith)
+quiet_done words P without (inr (inr (inr (inr e)))) = absurd (omega arith)
+
 -- what holds of words without nodes, and of all that comes before nodes run, holds where all is quiet
 pub quiet_told : (words : List (List ℕ)) (fault : Fault) (status : ℕ) (err : Errors) (P : Type 0) → IsTold fault status err → ((NamesNodes words → ⊥) → P) → (IsTrue (precedes_loop fault) → P)
     → IsQuiet words status → P
 quiet_told words fault status err P told without before (inl none) = without none
 quiet_told words fault status err P told without before (inr early) = before (told_early fault status err told early)
+
+-- without children none is counted
+pub none_counted : (result : Result Unit Fault) (n : ℕ) → CountsChildren result n n
+none_counted (Ok done) n = refl
+none_counted (Err fault) n = tt
+
+-- ..and no link is to blame
+pub unlinked : (call : RunCall) (result : Result Unit Fault) (n : ℕ) → Ends call result → HasCause (fails_by blames_link result) n n
+unlinked call (Ok done) n h = refl
+unlinked call (Err Link) n h = absurd h
+unlinked call (Err _) n h = refl
+
+-- what is to blame for nothing counts nothing
+pub uncounted : (test : Bool) (n : ℕ) → test ≡ false → HasCause test n n
+uncounted test n e = subst (λ b. HasCause b n n) (sym e) refl
+
+-- generated load reads nothing
+module _ (seed shards txns : ℕ) (part : Part) (old new : Option (List ℕ)) where
+  pub gen_reads : (result : Result Unit Fault) (names : Option (List (List ℕ))) → GenEnds seed shards txns part old new result → ReadsBut names names result
+  gen_reads (Ok done) names h = refl
+  gen_reads (Err (File file)) names h = absurd h
+  gen_reads (Err _) names h = refl
+
+  pub gen_blames_no_file : (result : Result Unit Fault) (n : ℕ) → GenEnds seed shards txns part old new result → HasCause (fails_by blames_file result) n n
+  gen_blames_no_file (Ok done) n h = refl
+  gen_blames_no_file (Err (File file)) n h = absurd h
+  gen_blames_no_file (Err _) n h = refl

@@ -1,5 +1,5 @@
 -- What each step of a command tells of its end
-use Rattle.std.proofs.Common.{◌≡◌, inl, inr, ℕ, List, Option, Result, Ok, Err, refl, sym, subst, length, ap, ◌≤◌}
+use Rattle.std.proofs.Common.{◌≡◌, inl, inr, ℕ, List, Option, Result, Ok, Err, refl, sym, subst, length, ap, ◌≤◌, string_bytes}
 use Rattle.std.proofs.Math.Path.{fun_ext}
 use Rattle.roc_lang.specs.Grammar.{text_limit}
 use Rattle.roc_lang.specs.FaultText.{what_text}
@@ -10,18 +10,21 @@ use Rattle.roc_plan.specs.Groups.{Plan}
 use Rattle.roc_sched.specs.Schedule.{most_bytes}
 use Rattle.roc_files.specs.declared.fault.Fault.{Fault}
 use Rattle.roc_files.specs.declared.fault.Fault.TheVariants.{TooLong, At, Scope, Rejected, Memory, File, Sink}
-use Rattle.roc_cli.specs.Call.{RunCall, TakesNothing}
+use Rattle.roc_launch.specs.Call.{RunCall, WholeCall, TakesNothing}
+use Rattle.roc_words.specs.declared.answer.WordsFault.{WordsFault}
+use Rattle.roc_words.specs.declared.answer.WordsFault.TheVariants as words_fault
+use Rattle.roc_words.specs.Answer.{AnswersWords}
 use Rattle.roc_words.specs.declared.value.Part.{Part}
 use Rattle.roc_words.specs.Commands.{check, print}
-use Rattle.roc_cli.specs.Words.{IsReplay, IsPrint, IsCheck, IsGen, NamesProgram, NamesWorkload}
-use Rattle.roc_cli.proofs.Naming.{as_workload}
+use Rattle.roc_launch.specs.Words.{IsReplay, IsPrint, IsCheck, IsGen, NamesProgram, NamesWorkload}
+use Rattle.roc_launch.proofs.Naming.{as_workload}
 use Rattle.roc_files.specs.Held.{Holds, HoldsPlan}
 use Rattle.roc_files.specs.Says.{long_line, fault_line}
 use Rattle.roc_cli.specs.Done.{IsReplayOf}
 use Rattle.roc_cli.specs.Stopped.{the_workload, the_schedule, with_nothing, with_lines, in_report, in_text, in_check, in_rejection, in_generated}
-use Rattle.roc_cli.specs.Refused.{IsRefused, long_workload, no_text, out_of_scope, long_schedule, bad_schedule}
+use Rattle.roc_cli.specs.Refused.{by_clap, no_value, IsRefused, long_workload, no_text, out_of_scope, long_schedule, bad_schedule}
 use Rattle.roc_files.specs.Input.{HoldsWithin, IsReadFault, IsProgramFault, PlanFails, PrintEnds, CheckEnds}
-use Rattle.roc_cli.specs.Inner.Ends.{Fails, Ends, ReplayEnds, GenEnds}
+use Rattle.roc_cli.specs.Inner.Ends.{Fails, Ends, WholeEnds, ReplayEnds, GenEnds, fault_of_words}
 use Rattle.roc_files.specs.Fault.{Blames, ReadsBut}
 
 module _ (call : RunCall) where
@@ -128,3 +131,10 @@ behind words later content between before after middle old new result same faile
     subst (λ (o : Option (List ℕ)). Ends (record { words = words; content = content; failed_before = before; failed_after = after; out_before = o; out_after = new }) result) untouched
     (subst (λ (f : Option (List (List ℕ))). Ends (record { words = words; content = content; failed_before = f; failed_after = after; out_before = middle; out_after = new }) result) failed
     (subst (λ (c : List ℕ → Option (List ℕ)). Ends (record { words = words; content = c; failed_before = between; failed_after = after; out_before = middle; out_after = new }) result) (fun_ext same) ends))
+
+-- ---- words that name no command
+
+pub words_refused : (call : WholeCall) (refused : WordsFault) (fault : Fault) → fault ≡ fault_of_words refused → TakesNothing call.run → AnswersWords call.run.words (Err refused) → WholeEnds call (Err fault)
+words_refused call (words_fault.Refused text) fault e same h = subst (λ f. WholeEnds call (Err f)) (sym e) (inl (same, by_clap (string_bytes text) h))
+words_refused call (words_fault.Value name) fault e same h = subst (λ f. WholeEnds call (Err f)) (sym e) (inl (same, no_value name h))
+words_refused call words_fault.NoMemory fault e same h = subst (λ f. WholeEnds call (Err f)) (sym e) (inl (with_nothing same))

@@ -30,13 +30,13 @@ use Rattle.roc_words.specs.declared.value.Part.{Part}
 use Rattle.roc_words.specs.declared.value.ValueName.{ValueName}
 use Rattle.roc_words.specs.Commands.{Command, check, print, replay, gen}
 use Rattle.roc_words.specs.Answer.{AreWordsOf, HaveNoValue}
-use Rattle.roc_cli.specs.Call.{RunCall}
-use Rattle.roc_cli.specs.Words.{IsReplay, IsGen, node_files, program_of, workload_of, NamesProgram, NamesWorkload, NamesNodeFiles}
+use Rattle.roc_launch.specs.Call.{RunCall}
+use Rattle.roc_launch.specs.Words.{IsReplay, IsGen, node_files, program_of, workload_of, NamesProgram, NamesWorkload, NamesNodeFiles}
 use Rattle.roc_files.specs.Held.{NodeFiles, Holds, HoldsMore, HoldsPlan, HoldsText, HoldsFault, HoldsMisuse, HoldsRejected}
 use Rattle.roc_cli.specs.Refused.{AreRefusedWords, by_clap, no_value, no_shard, IsRefused, long_workload, no_text, out_of_scope, long_schedule, bad_schedule, long_cluster, bad_cluster, long_requests, bad_requests}
 use Rattle.roc_cli.specs.Fit.{ReplayFits, PrintFits, CheckFits, IsFit}
 use Rattle.roc_cli.specs.Inner.Faultless.{IsFaultless}
-use Rattle.roc_cli.proofs.Naming.{unlike, same_name, no_name, as_workload, replay_schedule}
+use Rattle.roc_launch.proofs.Naming.{unlike, same_name, no_name, as_workload, replay_schedule}
 
 -- ---- what a file holds
 

@@ -1,8 +1,6 @@
-pub mod Naming
 pub mod Commands
 pub mod Faults
 pub mod Loading
-pub mod Looping
 pub mod Fitting
 pub mod FittingNodes
 pub mod Loads

@@ -1,24 +1,22 @@
--- Why the files of a command with nodes give nothing, and what is told of its loop
-use Rattle.std.proofs.Common.{◌≡◌, inl, inr, ℕ, List, Option, Some, Result, Ok, Err, sym, ap, subst, ◌∙◌}
-use Rattle.roc_base.specs.declared.node.Shard.{Shard}
+-- What a command with nodes tells of its end
+use Rattle.std.proofs.Common.{◌≡◌, inl, inr, ℕ, List, Some, Result, Ok, Err, sym, ap, subst, ◌∙◌}
 use Rattle.roc_io.specs.declared.link.Addr.{Addr}
 use Rattle.roc_plan.specs.Groups.{Plan}
-use Rattle.roc_submit.specs.declared.ends.SubmitEnd.{SubmitEnd}
-use Rattle.roc_submit.specs.declared.ends.SubmitEnd.TheVariants as submit_end
 use Rattle.roc_cluster.specs.FaultText.{fault_text as cluster_text}
 use Rattle.roc_files.specs.declared.fault.Fault.{Fault}
-use Rattle.roc_files.specs.declared.fault.Fault.TheVariants.{TooLong, At, Cluster, Memory, Unanswered, File, Sink, Link, Child}
+use Rattle.roc_files.specs.declared.fault.Fault.TheVariants.{TooLong, At, Cluster, Memory, File}
 use Rattle.roc_files.specs.Held.{NodeFiles, HasShard, HoldsPlan, HoldsCluster}
 use Rattle.roc_files.specs.Says.{long_line, text_line, fault_line}
-use Rattle.roc_files.specs.Fault.{Blames}
+use Rattle.roc_files.specs.Fault.{Blames, ReadsBut}
 use Rattle.roc_files.specs.Listed.{ClusterFails, RequestsFail}
 use Rattle.roc_files.specs.NodeNames.{NodesFail, by_workload, by_shard, by_cluster, by_requests}
-use Rattle.roc_cli.specs.Call.{RunCall, TakesNothing}
-use Rattle.roc_cli.specs.Words.{NamesNodeFiles}
+use Rattle.roc_launch.specs.Call.{RunCall, WholeCall, TakesNothing}
+use Rattle.roc_launch.specs.Words.{NamesNodeFiles}
 use Rattle.roc_cli.specs.Stopped.{the_cluster, the_requests, with_nothing}
 use Rattle.roc_cli.specs.Refused.{no_shard, IsRefused, long_cluster, bad_cluster, long_requests, bad_requests}
-use Rattle.roc_cli.specs.Inner.Ends.{Fails, LoopEnds, LoopEnded}
-use Rattle.roc_cli.proofs.Naming.{as_program}
+use Rattle.roc_launch.specs.Ends.{IsLaunched}
+use Rattle.roc_cli.specs.Inner.Ends.{Fails, WholeEnds}
+use Rattle.roc_launch.proofs.Naming.{as_program}
 use Rattle.roc_cli.proofs.Faults.{plan_fails}
 
 module _ (call : RunCall) (files : NodeFiles) (names : NamesNodeFiles call.words files) (plan : Plan) (planned : HoldsPlan call.content files.workload plan) (has : HasShard files plan)
@@ -51,37 +49,8 @@ nodes_fail call files _ names blames (by_cluster plan fault planned has fails sa
 nodes_fail call files _ names blames (by_requests plan addrs name fault planned has held is fails same) =
     requests_fail call files names plan planned has same addrs held name is fault blames fails
 
--- ---- loops
-
--- what is told of a loop, told of the command
-pub loop_ends : (call : RunCall) (P Q : SubmitEnd → Type 0) (C D : Shard → Option ℕ → Type 0) (result : Result Unit Fault) → ((end : SubmitEnd) → P end → Q end)
-    → ((shard : Shard) (status : Option ℕ) → C shard status → D shard status) → LoopEnded P C result → LoopEnds call Q D result
-loop_ends call P Q C D (Ok done) more child h = more submit_end.Done h
-loop_ends call P Q C D (Err Memory) more child h = inr (more submit_end.NoMemory h)
-loop_ends call P Q C D (Err Unanswered) more child h = more submit_end.Unanswered h
-loop_ends call P Q C D (Err Sink) more child h = inr (more submit_end.SinkFault h)
-loop_ends call P Q C D (Err Link) more child h = more submit_end.LinkFault h
-loop_ends call P Q C D (Err (Child shard status)) more child h = child shard status h
-loop_ends call P Q C D (Err _) more child h = absurd h
-
--- a fault that came before it
-pub loop_fails : (call : RunCall) (P : SubmitEnd → Type 0) (C : Shard → Option ℕ → Type 0) (fault : Fault) → Fails call fault → LoopEnds call P C (Err fault)
-loop_fails call P C Memory h = inl h
-loop_fails call P C Unanswered h = absurd h
-loop_fails call P C Sink h = inl h
-loop_fails call P C Link h = absurd h
-loop_fails call P C (Child shard status) h = absurd h
-loop_fails call P C _ h = h
-
--- one kind of end among all
-pub loop_among : (call : RunCall) (P Q : SubmitEnd → Type 0) (C D : Shard → Option ℕ → Type 0) (result : Result Unit Fault) → ((end : SubmitEnd) → P end → Q end)
-    → ((shard : Shard) (status : Option ℕ) → C shard status → D shard status) → LoopEnds call P C result → LoopEnds call Q D result
-loop_among call P Q C D (Ok done) more child h = more submit_end.Done h
-loop_among call P Q C D (Err Memory) more child (inl h) = inl h
-loop_among call P Q C D (Err Memory) more child (inr h) = inr (more submit_end.NoMemory h)
-loop_among call P Q C D (Err Unanswered) more child h = more submit_end.Unanswered h
-loop_among call P Q C D (Err Sink) more child (inl h) = inl h
-loop_among call P Q C D (Err Sink) more child (inr h) = inr (more submit_end.SinkFault h)
-loop_among call P Q C D (Err Link) more child h = more submit_end.LinkFault h
-loop_among call P Q C D (Err (Child shard status)) more child h = child shard status h
-loop_among call P Q C D (Err _) more child h = h
+-- a command with nodes ended
+pub launched : (call : WholeCall) (result : Result Unit Fault) → ReadsBut call.run.failed_before call.run.failed_after result → IsLaunched call result → WholeEnds call result
+launched call (Ok done) reads h = inr h
+launched call (Err fault) reads (inl (files, names, fails)) = inl (nodes_fail call.run files fault names reads fails)
+launched call (Err fault) reads (inr h) = inr h

@@ -1,6 +1,5 @@
 -- What the status says, where a fault was told
-use Rattle.std.proofs.Common.{◌≡◌, ◌⊎◌, inl, inr, ℕ, ◌≤◌, ◌==◌, Bool, true, false, List, Option, codes, refl, sym, ap, subst, ◌∙◌, arith, ◌∷◌, Ok, Err}
-use Rattle.roc_io.specs.Cause.{HasCause}
+use Rattle.std.proofs.Common.{◌≡◌, ◌⊎◌, inl, inr, ℕ, ◌≤◌, List, Option, codes, refl, sym, subst, ◌∙◌, arith, ◌∷◌, Ok, Err}
 use Rattle.roc_replay.specs.Ended.{no_schedule, unfit, unsent, behind_lines}
 use Rattle.roc_replay.specs.Report.{report}
 use Rattle.roc_serve.specs.declared.ends.ServeEnd.TheVariants as serve_end
@@ -11,19 +10,21 @@ use Rattle.roc_local.specs.declared.local.LocalEnd.TheVariants as local_end
 use Rattle.roc_words.specs.Commands.{check, print, replay, serve, submit, stop, local, gen}
 use Rattle.roc_files.specs.declared.fault.Fault.{Fault}
 use Rattle.roc_files.specs.declared.fault.Fault.TheVariants.{Rejected, Refused, Value, NoShard, Memory, Unanswered, File, Sink, Link, Child}
-use Rattle.roc_cli.specs.Call.{RunCall, WholeCall, TakesNothing, ReadsAll}
+use Rattle.roc_launch.specs.Call.{RunCall, WholeCall, TakesNothing, ReadsAll}
 use Rattle.roc_files.specs.Says.{Errors, Says, word_line, file_line, child_line}
-use Rattle.roc_cli.specs.Words.{AreReplayWords, ArePrintWords, AreCheckWords, AreGenWords, AreServeWords, AreSubmitWords, AreStopWords, AreLocalWords, AreCommandWords, NamesNodes, node_files}
+use Rattle.roc_launch.specs.Words.{AreReplayWords, ArePrintWords, AreCheckWords, AreGenWords, AreServeWords, AreSubmitWords, AreStopWords, AreLocalWords, AreCommandWords, NamesNodes, node_files}
 use Rattle.roc_cli.specs.Done.{Replays, Explains, Prints, Checks, Generates, Rejects}
-use Rattle.roc_cli.specs.Nodes.{ServeEnded, SubmitEnded, StopEnded, LocalEnded, AreNodesEnded, IsChildBlamed, BlamesAnyChild}
+use Rattle.roc_launch.specs.Nodes.{ServeEnded, SubmitEnded, StopEnded, LocalEnded, AreNodesEnded, IsChildBlamed, BlamesAnyChild}
 use Rattle.roc_cli.specs.Stopped.{IsUnread, RunsOut, with_nothing, with_lines, CutsOutput}
 use Rattle.roc_cli.specs.Refused.{AreRefusedWords, IsRefused, long_workload, no_text, out_of_scope, long_schedule, bad_schedule, long_cluster, bad_cluster, long_requests, bad_requests}
 use Rattle.roc_cli.specs.Status.{Answers}
 use Rattle.roc_cli.specs.Inner.Faultless.{IsFaultless, IsShardless, AreFitting}
-use Rattle.roc_files.specs.Fault.{IsTold, EndsWith, line_of, blames_file, blames_sink, blames_link, Blames}
-use Rattle.roc_cli.specs.Inner.Ends.{RefusesWords, Fails, Ends, LoopEnds, WholeEnds}
-use Rattle.roc_cli.proofs.Naming.{unlike, no_name}
-use Rattle.roc_cli.proofs.Commands.{of_program, refused_words, input_words, cut_words, fit_names_no_nodes, nodes_named, child_named, nodes_words, served_done, stopped_done}
+use Rattle.roc_files.specs.Fault.{IsTold, EndsWith, line_of, Blames}
+use Rattle.roc_cli.specs.Inner.Ends.{RefusesWords, Fails, Ends, WholeEnds}
+use Rattle.roc_launch.proofs.Naming.{unlike, no_name}
+use Rattle.roc_launch.specs.Ends.{LoopEnded}
+use Rattle.roc_launch.proofs.Named.{nodes_named, child_named, nodes_words, serve_done, submit_done, stop_done, local_done}
+use Rattle.roc_cli.proofs.Commands.{of_program, refused_words, input_words, cut_words, fit_names_no_nodes}
 
 -- ---- one fault, told
 
@@ -97,14 +98,13 @@ module _ (call : WholeCall) (err : Errors) where
   said_child status shard own h read (inl (e, says)) = ended status 9 (line_of (Child shard own)) e says (child shard own h read)
   said_child status shard own h read (inr (e, says)) = ended status 4 (line_of Memory) e says (memory (inr (inr (shard, own, h))) read)
 
-  said_of_nodes : (fault : Fault) (status : ℕ) → LoopEnds call.run (AreNodesEnded call) (IsChildBlamed call) (Err fault) → Blames call.run.failed_before call.run.failed_after fault → IsTold fault status err → IsSaid call err status
-  said_of_nodes Memory status (inl h) read (e, says) = ended status 4 (line_of Memory) e says (memory (inl h) read)
-  said_of_nodes Memory status (inr h) read (e, says) = ended status 4 (line_of Memory) e says (memory (inr (inl h)) read)
+  said_of_nodes : (fault : Fault) (status : ℕ) → LoopEnded (AreNodesEnded call) (IsChildBlamed call) (Err fault) → Blames call.run.failed_before call.run.failed_after fault → IsTold fault status err → IsSaid call err status
+  said_of_nodes Memory status h read (e, says) = ended status 4 (line_of Memory) e says (memory (inr (inl h)) read)
   said_of_nodes Unanswered status h read e = silent status 5 (line_of Unanswered) e (inr refl) (unanswered h read)
-  said_of_nodes Sink status h read (e, says) = ended status 7 (line_of Sink) e says (cut h read)
+  said_of_nodes Sink status h read (e, says) = ended status 7 (line_of Sink) e says (cut (inr h) read)
   said_of_nodes Link status h read (e, says) = ended status 8 (line_of Link) e says (cut_off h read)
   said_of_nodes (Child shard own) status h read told = said_child status shard own h read told
-  said_of_nodes fault status h blames told = said fault status h blames told
+  said_of_nodes _ status h blames told = absurd h
 
   said_whole : (fault : Fault) (status : ℕ) → WholeEnds call (Err fault) → Blames call.run.failed_before call.run.failed_after fault → IsTold fault status err → IsSaid call err status
   said_whole fault status (inl h) blames told = said fault status h blames told
@@ -298,33 +298,21 @@ module _ (call : WholeCall) where
   not_without A (inr (inr (inl done))) (files, names) = absurd (no_name node_files call.run.words (check done.workload) done.given refl files names)
   not_without A (inr (inr (inr done))) (files, names) = absurd (no_name node_files call.run.words (gen done.seed done.shards done.txns done.part) done.given refl files names)
 
-  serve_done : WholeEnds call (Ok tt) → AreServeWords call.run.words → ServeEnded call.run call.link serve_end.Done
-  serve_done (inl h) (workload, cluster, shard, turns, counts, given) = not_without (ServeEnded call.run call.link serve_end.Done) h (_, (serve workload cluster shard turns counts, given, refl))
-  serve_done (inr (inl (end, e, h))) are = subst (ServeEnded call.run call.link) (served_done end e) h
-  serve_done (inr (inr (inl h))) (workload, cluster, shard, turns, counts, given) = unlike (ServeEnded call.run call.link serve_end.Done) call.run.words (submit h.workload h.cluster h.listed h.coord h.turns) (serve workload cluster shard turns counts) h.given given refl
-  serve_done (inr (inr (inr (inl (end, e, h))))) (workload, cluster, shard, turns, counts, given) = unlike (ServeEnded call.run call.link serve_end.Done) call.run.words (stop h.workload h.cluster) (serve workload cluster shard turns counts) h.given given refl
-  serve_done (inr (inr (inr (inr h)))) (workload, cluster, shard, turns, counts, given) = unlike (ServeEnded call.run call.link serve_end.Done) call.run.words (local h.workload h.cluster h.listed h.turns) (serve workload cluster shard turns counts) h.given given refl
+  served : WholeEnds call (Ok tt) → AreServeWords call.run.words → ServeEnded call.run call.link serve_end.Done
+  served (inl h) (workload, cluster, shard, turns, counts, given) = not_without (ServeEnded call.run call.link serve_end.Done) h (_, (serve workload cluster shard turns counts, given, refl))
+  served (inr h) are = serve_done call h are
 
-  submit_done : WholeEnds call (Ok tt) → AreSubmitWords call.run.words → SubmitEnded call.run call.link submit_end.Done
-  submit_done (inl h) (workload, cluster, requests, coord, turns, given) = not_without (SubmitEnded call.run call.link submit_end.Done) h (_, (submit workload cluster requests coord turns, given, refl))
-  submit_done (inr (inl (end, e, h))) (workload, cluster, requests, coord, turns, given) = unlike (SubmitEnded call.run call.link submit_end.Done) call.run.words (serve h.workload h.cluster h.shard h.turns h.counts) (submit workload cluster requests coord turns) h.given given refl
-  submit_done (inr (inr (inl h))) are = h
-  submit_done (inr (inr (inr (inl (end, e, h))))) (workload, cluster, requests, coord, turns, given) = unlike (SubmitEnded call.run call.link submit_end.Done) call.run.words (stop h.workload h.cluster) (submit workload cluster requests coord turns) h.given given refl
-  submit_done (inr (inr (inr (inr h)))) (workload, cluster, requests, coord, turns, given) = unlike (SubmitEnded call.run call.link submit_end.Done) call.run.words (local h.workload h.cluster h.listed h.turns) (submit workload cluster requests coord turns) h.given given refl
+  submitted : WholeEnds call (Ok tt) → AreSubmitWords call.run.words → SubmitEnded call.run call.link submit_end.Done
+  submitted (inl h) (workload, cluster, requests, coord, turns, given) = not_without (SubmitEnded call.run call.link submit_end.Done) h (_, (submit workload cluster requests coord turns, given, refl))
+  submitted (inr h) are = submit_done call h are
 
-  stop_done : WholeEnds call (Ok tt) → AreStopWords call.run.words → StopEnded call.run call.link stop_end.Done
-  stop_done (inl h) (workload, cluster, given) = not_without (StopEnded call.run call.link stop_end.Done) h (_, (stop workload cluster, given, refl))
-  stop_done (inr (inl (end, e, h))) (workload, cluster, given) = unlike (StopEnded call.run call.link stop_end.Done) call.run.words (serve h.workload h.cluster h.shard h.turns h.counts) (stop workload cluster) h.given given refl
-  stop_done (inr (inr (inl h))) (workload, cluster, given) = unlike (StopEnded call.run call.link stop_end.Done) call.run.words (submit h.workload h.cluster h.listed h.coord h.turns) (stop workload cluster) h.given given refl
-  stop_done (inr (inr (inr (inl (end, e, h))))) are = subst (StopEnded call.run call.link) (stopped_done end e) h
-  stop_done (inr (inr (inr (inr h)))) (workload, cluster, given) = unlike (StopEnded call.run call.link stop_end.Done) call.run.words (local h.workload h.cluster h.listed h.turns) (stop workload cluster) h.given given refl
+  stopped : WholeEnds call (Ok tt) → AreStopWords call.run.words → StopEnded call.run call.link stop_end.Done
+  stopped (inl h) (workload, cluster, given) = not_without (StopEnded call.run call.link stop_end.Done) h (_, (stop workload cluster, given, refl))
+  stopped (inr h) are = stop_done call h are
 
-  local_done : WholeEnds call (Ok tt) → AreLocalWords call.run.words → LocalEnded call.run call.link call.children local_end.Done
-  local_done (inl h) (workload, cluster, requests, turns, given) = not_without (LocalEnded call.run call.link call.children local_end.Done) h (_, (local workload cluster requests turns, given, refl))
-  local_done (inr (inl (end, e, h))) (workload, cluster, requests, turns, given) = unlike (LocalEnded call.run call.link call.children local_end.Done) call.run.words (serve h.workload h.cluster h.shard h.turns h.counts) (local workload cluster requests turns) h.given given refl
-  local_done (inr (inr (inl h))) (workload, cluster, requests, turns, given) = unlike (LocalEnded call.run call.link call.children local_end.Done) call.run.words (submit h.workload h.cluster h.listed h.coord h.turns) (local workload cluster requests turns) h.given given refl
-  local_done (inr (inr (inr (inl (end, e, h))))) (workload, cluster, requests, turns, given) = unlike (LocalEnded call.run call.link call.children local_end.Done) call.run.words (stop h.workload h.cluster) (local workload cluster requests turns) h.given given refl
-  local_done (inr (inr (inr (inr h)))) are = h
+  ran : WholeEnds call (Ok tt) → AreLocalWords call.run.words → LocalEnded call.run call.link call.children local_end.Done
+  ran (inl h) (workload, cluster, requests, turns, given) = not_without (LocalEnded call.run call.link call.children local_end.Done) h (_, (local workload cluster requests turns, given, refl))
+  ran (inr h) are = local_done call h are
 
   -- what was replayed explains itself
   replay_explains : Replays call.run → Explains call.run
@@ -350,10 +338,10 @@ module _ (call : WholeCall) where
     printed = λ _ are. print_done done are;
     checked = λ _ are. check_done done are;
     generated = λ _ are. gen_done done are;
-    served = λ _ are. serve_done done are;
-    submitted = λ _ are. submit_done done are;
-    stopped = λ _ are. stop_done done are;
-    ran = λ _ are. local_done done are;
+    served = λ _ are. served done are;
+    submitted = λ _ are. submitted done are;
+    stopped = λ _ are. stopped done are;
+    ran = λ _ are. ran done are;
     childless = λ _. childless;
     complete = λ _. inl refl;
     complete_nodes = λ _. inl refl;

@@ -17,8 +17,8 @@ use Rattle.roc_replay.specs.Told.{IsExplained}
 use Rattle.roc_replay.specs.Ended.{IsReplayed}
 use Rattle.roc_words.specs.declared.value.Part.{Part}
 use Rattle.roc_words.specs.declared.value.Part.TheVariants as part
-use Rattle.roc_cli.specs.Call.{RunCall}
-use Rattle.roc_cli.specs.Words.{IsReplay, IsPrint, IsCheck, IsGen, NamesProgram}
+use Rattle.roc_launch.specs.Call.{RunCall}
+use Rattle.roc_launch.specs.Words.{IsReplay, IsPrint, IsCheck, IsGen, NamesProgram}
 use Rattle.roc_files.specs.Held.{Holds, HoldsPlan, HoldsText, HoldsRejected}
 use Rattle.roc_files.specs.Input.{check_text}
 

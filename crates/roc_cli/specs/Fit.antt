@@ -15,8 +15,8 @@ use Rattle.roc_protocol.specs.Run.{Stepped}
 use Rattle.roc_replay.specs.declared.asked.Asked.{Asked}
 use Rattle.roc_replay.specs.Asked.{IsScheduleOf}
 use Rattle.roc_replay.specs.Played.{IsPlayed}
-use Rattle.roc_cli.specs.Call.{RunCall}
-use Rattle.roc_cli.specs.Words.{IsReplay, IsPrint, IsCheck, AreGenWords, NamesNodeFiles}
+use Rattle.roc_launch.specs.Call.{RunCall}
+use Rattle.roc_launch.specs.Words.{IsReplay, IsPrint, IsCheck, AreGenWords, NamesNodeFiles}
 use Rattle.roc_files.specs.Held.{NodeFiles, HasShard}
 use Rattle.roc_files.specs.Requests.{AreRequestsOf}
 

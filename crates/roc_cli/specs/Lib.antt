@@ -1,12 +1,12 @@
-pub mod Call
-pub mod Words
 pub mod Done
 pub mod Refused
 pub mod Stopped
 pub mod Fit
-pub mod Nodes
 pub mod Status
 pub mod Inner
 pub use Rattle.roc_files.specs.Held
 pub use Rattle.roc_files.specs.Requests
 pub use Rattle.roc_files.specs.Says
+pub use Rattle.roc_launch.specs.Call
+pub use Rattle.roc_launch.specs.Words
+pub use Rattle.roc_launch.specs.Nodes

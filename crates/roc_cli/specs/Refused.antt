@@ -17,8 +17,8 @@ use Rattle.roc_words.specs.declared.value.ValueName.{ValueName}
 use Rattle.roc_words.specs.FaultText.{value_text}
 use Rattle.roc_words.specs.Program.{IsTakenByClap}
 use Rattle.roc_words.specs.Answer.{HaveNoValue}
-use Rattle.roc_cli.specs.Call.{RunCall, TakesNothing}
-use Rattle.roc_cli.specs.Words.{IsReplay, NamesProgram, NamesWorkload, NamesNodeFiles}
+use Rattle.roc_launch.specs.Call.{RunCall, TakesNothing}
+use Rattle.roc_launch.specs.Words.{IsReplay, NamesProgram, NamesWorkload, NamesNodeFiles}
 use Rattle.roc_files.specs.Held.{NodeFiles, HoldsMore, HoldsFault, HoldsMisuse, HoldsPlan, HoldsCluster, HoldsNoCluster, HoldsNoRequests, HasShard, LacksShard}
 use Rattle.roc_cli.specs.Done.{IsReplayOf}
 use Rattle.roc_files.specs.Says.{word_line, long_line, text_line, fault_line}

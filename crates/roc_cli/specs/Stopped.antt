@@ -9,9 +9,9 @@ use Rattle.roc_plan.specs.Groups.{Plan}
 use Rattle.roc_report.specs.Line.{Line}
 use Rattle.roc_report.specs.Text.{line_text}
 use Rattle.roc_replay.specs.Ended.{IsCut, IsUnfinished}
-use Rattle.roc_cli.specs.Call.{RunCall, TakesNothing}
+use Rattle.roc_launch.specs.Call.{RunCall, TakesNothing}
 use Rattle.roc_words.specs.declared.value.Part.{Part}
-use Rattle.roc_cli.specs.Words.{IsReplay, IsPrint, IsCheck, IsGen, NamesProgram, NamesWorkload, NamesNodeFiles}
+use Rattle.roc_launch.specs.Words.{IsReplay, IsPrint, IsCheck, IsGen, NamesProgram, NamesWorkload, NamesNodeFiles}
 use Rattle.roc_files.specs.Held.{NodeFiles, HoldsPlan, HoldsText, HoldsRejected, HoldsCluster, HasShard}
 use Rattle.roc_cli.specs.Done.{IsReplayOf, IsGenerated}
 use Rattle.roc_files.specs.Input.{check_text}

@@ -1,20 +1,23 @@
 //! What the program does for its words.
-ghost use Rattle.std.specs.Prelude.{◌≡◌, ℕ, ◌<◌, ◌==◌, IsTrue, List, map, string_bytes};
+ghost use Rattle.std.specs.Prelude.{◌≡◌, ℕ, ◌<◌, ◌==◌, IsTrue, List, Option, false, map, string_bytes};
 ghost use Rattle.roc_io.specs.Cause.{HasCause};
-ghost use Rattle.roc_cli.specs.Words.{IsReplay, NamesNodes};
+ghost use Rattle.roc_words.specs.Answer.{AreWordsOf};
+ghost use Rattle.roc_words.specs.Commands.{IsWithin, command_of};
+ghost use Rattle.roc_launch.specs.Words.{IsReplay, NamesNodes, needs_nodes};
 ghost use Rattle.roc_files.specs.Held.{HoldsPlan};
 ghost use Rattle.roc_cli.specs.Status.{Answers, IsQuiet};
-ghost use Rattle.roc_files.specs.Fault.{blames_file, blames_sink, blames_link, ReadsBut, fails_by};
-ghost use Rattle.roc_cli.specs.Inner.Ends.{precedes_loop, Ends, WholeEnds, ReplayEnds, CountsChildren};
+ghost use Rattle.roc_files.specs.Fault.{blames_file, blames_sink, blames_link, Blames, ReadsBut, fails_by};
+ghost use Rattle.roc_launch.specs.Ends.{precedes_loop, CountsChildren};
+ghost use Rattle.roc_cli.specs.Inner.Ends.{Ends, WholeEnds, ReplayEnds, fault_of_words};
 
 use crate::fit::fitting_calls_are_faultless;
 use crate::generated::write_generated;
-use crate::running::{local_files, serve_files, stop_files, submit_files};
 use roc_files::{Fault, MOST_LISTED_BYTES, bytes_of, check_file, plan_of, print_file};
 use roc_io::{Files, Link, Sink, Spawner};
+use roc_launch::{launch, needs_nodes};
 use roc_plan::Plan;
 use roc_replay::{Ended, replay};
-use roc_words::{Ask, ValueName, WordsFault, ask};
+use roc_words::{Ask, WordsFault, ask};
 use std::alloc::Global;
 
 /// Does what the words behind the program's name ask for, and answers the status with which the program is to end. The commands are those
@@ -99,64 +102,62 @@ fn perform<'a, F: Files, S: Sink, L: Link, P: Spawner>(
     ensures content { (name : List ℕ) → F.content files.new name ≡ F.content files.old name }
 {
     match ask(alloc, words) {
-        Ok(Ask::Replay { workload, schedule }) => {
-            replay_files(alloc, workload, schedule, files, out)
+        Ok(asked) => {
+            if needs_nodes(asked) {
+                launch(alloc, asked, files, out, link, children)
+            } else {
+                perform_alone(alloc, asked, files, out)
+            }
         }
-        Ok(Ask::Print { workload }) => print_file(alloc, files, workload, out),
-        Ok(Ask::Check { workload }) => check_file(alloc, files, workload, out),
-        Ok(
-            Ask::Gen {
-                seed,
-                shards,
-                txns,
-                part,
-            },
-        ) => write_generated(alloc, seed, shards, txns, part, out),
-        Ok(
-            Ask::Serve {
-                workload,
-                cluster,
-                shard,
-                turns,
-                counts,
-            },
-        ) => serve_files(
-            alloc, workload, cluster, shard, turns, counts, files, out, link,
-        ),
-        Ok(
-            Ask::Submit {
-                workload,
-                cluster,
-                requests,
-                coord,
-                turns,
-            },
-        ) => submit_files(
-            alloc, workload, cluster, requests, coord, turns, files, out, link,
-        ),
-        Ok(Ask::Stop { workload, cluster }) => {
-            stop_files(alloc, workload, cluster, files, out, link)
-        }
-        Ok(
-            Ask::Local {
-                workload,
-                cluster,
-                requests,
-                turns,
-            },
-        ) => local_files(
-            alloc, workload, cluster, requests, turns, files, out, link, children,
-        ),
-        Err(WordsFault::Refused(text)) => Err(Fault::Refused(text)),
-        Err(WordsFault::Value(name)) => Err(no_value(name)),
-        Err(WordsFault::NoMemory) => Err(Fault::Memory),
+        Err(fault) => Err(refusal(fault)),
     }
 }
 
-fn no_value<'a>(name: ValueName) -> Fault<'a>
-    ensures { result ≡ Fault.Value name }
+// Why words that ask for nothing end the program.
+fn refusal<'a>(fault: WordsFault) -> Fault<'a>
+    ensures is { result ≡ fault_of_words fault }
+    ensures failed { (names : Option (List (List ℕ))) → Blames names names result }
+    ensures no_file { blames_file result ≡ false }
+    ensures no_sink { blames_sink result ≡ false }
+    ensures no_link { blames_link result ≡ false }
 {
-    Fault::Value(name)
+    match fault {
+        WordsFault::Refused(text) => Fault::Refused(text),
+        WordsFault::Value(name) => Fault::Value(name),
+        WordsFault::NoMemory => Fault::Memory,
+    }
+}
+
+// Does what a command without nodes asks for.
+fn perform_alone<'a, F: Files, S: Sink>(
+    alloc: Global,
+    asked: Ask<'a>,
+    files: &mut F,
+    out: &mut S,
+) -> Result<(), Fault<'a>>
+    requires alone { needs_nodes (command_of asked) ≡ false }
+    requires within { IsWithin (command_of asked) }
+    ensures ends { (words : List (List ℕ)) → AreWordsOf words (command_of asked.entry) → Ends (record { words = words; content = F.content files.old; failed_before = F.failed_names files.old; failed_after = F.failed_names files.new; out_before = S.taken out.old; out_after = S.taken out.new }) result }
+    ensures failed { ReadsBut (F.failed_names files.old) (F.failed_names files.new) result }
+    ensures file_faults { HasCause (fails_by blames_file result) (F.faults files.old) (F.faults files.new) }
+    ensures sink_faults { HasCause (fails_by blames_sink result) (S.faults out.old) (S.faults out.new) }
+    ensures content { (name : List ℕ) → F.content files.new name ≡ F.content files.old name }
+{
+    match asked {
+        Ask::Replay { workload, schedule } => {
+            replay_files(alloc, workload, schedule, files, out)
+        }
+        Ask::Print { workload } => print_file(alloc, files, workload, out),
+        Ask::Check { workload } => check_file(alloc, files, workload, out),
+        Ask::Gen {
+            seed,
+            shards,
+            txns,
+            part,
+        } => write_generated(alloc, seed, shards, txns, part, out),
+        Ask::Serve { .. } | Ask::Submit { .. } | Ask::Stop { .. } | Ask::Local { .. } =>
+            unreachable!(),
+    }
 }
 
 // Replays a schedule under the plan of a workload.

@@ -1,5 +1,5 @@
 //! Why a command whose words and files fit is done.
-ghost use Rattle.roc_cli.specs.Call.{WholeCall};
+ghost use Rattle.roc_launch.specs.Call.{WholeCall};
 ghost use Rattle.roc_cli.specs.Inner.Faultless.{AreFitting};
 
 use roc_check::laws::{plans_are_unique, refusals_are_unique};

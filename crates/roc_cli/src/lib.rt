@@ -3,15 +3,14 @@
 //! The program above may rely on the contract of `run` alone: on `Answers` (`specs/Status.antt`), which says what each status
 //! tells of the call, and on the counts of faults. What it says of the bytes that files hold, of the reads that failed, and of
 //! what standard output and standard error take holds as far as these are told; the counts hold always. The definitions stand
-//! in `specs/`: `Call.antt` (what is seen of a call), `Words.antt`, `Done.antt`, `Refused.antt`, `Fit.antt` (calls that are done) and
-//! `Stopped.antt` (what comes of each command); what a named file holds (`Held.antt`) and the line on standard error (`Says.antt`) stand
-//! in `roc_files`, which reads the files. `specs/Inner/` is of this crate alone.
+//! in `specs/`: `Done.antt`, `Refused.antt`, `Fit.antt` (calls that are done) and `Stopped.antt` (what comes of each command); what a named file
+//! holds (`Held.antt`) and the line on standard error (`Says.antt`) stand in `roc_files`, which reads the files; what is seen of a call (`Call.antt`),
+//! `Words.antt` and what comes of commands with nodes (`Nodes.antt`) stand in `roc_launch`, which runs these. `specs/Inner/` is of this crate alone.
 #![tactic(auto)]
 
 mod command;
 mod fit;
 mod generated;
-mod running;
 mod unseen;
 
 pub use command::run;

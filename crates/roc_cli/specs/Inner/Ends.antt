@@ -1,6 +1,5 @@
 -- How the work for some words ends, before it is told
-use Rattle.std.specs.Prelude.{◌≡◌, ◌⊎◌, ℕ, Bool, true, false, List, Option, Result, Ok, Err}
-use Rattle.roc_base.specs.declared.node.Shard.{Shard}
+use Rattle.std.specs.Prelude.{◌≡◌, ◌⊎◌, ℕ, List, Option, Result, Ok, Err}
 use Rattle.roc_io.specs.Told.{Adds, AddsFront}
 use Rattle.roc_plan.specs.Groups.{Plan}
 use Rattle.roc_sched.specs.declared.fault.What.{What as ScheduleWhat}
@@ -10,10 +9,11 @@ use Rattle.roc_replay.specs.Ended.{IsReplayed, IsTextFault, IsCut, IsUnfinished}
 use Rattle.roc_files.specs.declared.fault.Fault.{Fault}
 use Rattle.roc_files.specs.declared.fault.Fault.TheVariants.{Refused, Value, NoShard, At, Rejected, Memory, Unanswered, File, Sink, Link, Child}
 use Rattle.roc_words.specs.declared.value.Part.{Part}
-use Rattle.roc_submit.specs.declared.ends.SubmitEnd.{SubmitEnd}
-use Rattle.roc_submit.specs.declared.ends.SubmitEnd.TheVariants as submit_end
-use Rattle.roc_cli.specs.Call.{RunCall, WholeCall, TakesNothing}
-use Rattle.roc_cli.specs.Nodes.{AreNodesEnded, IsChildBlamed}
+use Rattle.roc_words.specs.declared.answer.WordsFault.{WordsFault}
+use Rattle.roc_words.specs.declared.answer.WordsFault.TheVariants as words_fault
+use Rattle.roc_launch.specs.Call.{RunCall, WholeCall, TakesNothing}
+use Rattle.roc_launch.specs.Nodes.{AreNodesEnded, IsChildBlamed}
+use Rattle.roc_launch.specs.Ends.{LoopEnded}
 use Rattle.roc_cli.specs.Done.{Replays, Prints, Checks, Generates, IsGenerated, Rejects}
 use Rattle.roc_cli.specs.Refused.{AreRefusedWords, IsRefused}
 use Rattle.roc_cli.specs.Stopped.{IsUnread, RunsOut, CutsOutput}
@@ -61,48 +61,12 @@ abbrev pub Ends : RunCall → Result Unit Fault → Type 0
 Ends call (Ok done) = Replays call ⊎ (Prints call ⊎ (Checks call ⊎ Generates call))
 Ends call (Err fault) = Fails call fault
 
--- ---- nodes
-
--- how a loop ends, once the files were read, or why they were not: P is what is told of each end, and C of a child that is to blame
-abbrev pub LoopEnds : RunCall → (P : SubmitEnd → Type 0) → (C : Shard → Option ℕ → Type 0) → Result Unit Fault → Type 0
-LoopEnds call P C (Ok done) = P submit_end.Done
-LoopEnds call P C (Err Memory) = RunsOut call ⊎ P submit_end.NoMemory
-LoopEnds call P C (Err Unanswered) = P submit_end.Unanswered
-LoopEnds call P C (Err Sink) = CutsOutput call ⊎ P submit_end.SinkFault
-LoopEnds call P C (Err Link) = P submit_end.LinkFault
-LoopEnds call P C (Err (Child shard status)) = C shard status
-LoopEnds call P C (Err fault) = Fails call fault
-
--- the same of the loop alone
-abbrev pub LoopEnded : (P : SubmitEnd → Type 0) → (C : Shard → Option ℕ → Type 0) → Result Unit Fault → Type 0
-LoopEnded P C (Ok done) = P submit_end.Done
-LoopEnded P C (Err Memory) = P submit_end.NoMemory
-LoopEnded P C (Err Unanswered) = P submit_end.Unanswered
-LoopEnded P C (Err Sink) = P submit_end.SinkFault
-LoopEnded P C (Err Link) = P submit_end.LinkFault
-LoopEnded P C (Err (Child shard status)) = C shard status
-LoopEnded P C (Err _) = ⊥
-
--- no child is to blame
-abbrev pub no_child : Shard → Option ℕ → Type 0
-no_child shard status = ⊥
-
--- how any command ends: without nodes, or with them
+-- how any command ends: without nodes or before these ran, or with them
 abbrev pub WholeEnds : WholeCall → Result Unit Fault → Type 0
-WholeEnds call result = Ends call.run result ⊎ LoopEnds call.run (AreNodesEnded call) (IsChildBlamed call) result
+WholeEnds call result = Ends call.run result ⊎ LoopEnded (AreNodesEnded call) (IsChildBlamed call) result
 
--- where all is done, no start or wait failed
-abbrev pub CountsChildren : Result Unit Fault → (old new : ℕ) → Type 0
-CountsChildren (Ok done) old new = new ≡ old
-CountsChildren (Err fault) old new = Unit {0}
-
--- ---- causes
-
--- what is found before any node runs
-abbrev pub precedes_loop : Fault → Bool
-precedes_loop Memory = false
-precedes_loop Unanswered = false
-precedes_loop Sink = false
-precedes_loop Link = false
-precedes_loop (Child shard status) = false
-precedes_loop _ = true
+-- what refused words are told as
+abbrev pub fault_of_words : WordsFault → Fault
+fault_of_words (words_fault.Refused text) = Refused text
+fault_of_words (words_fault.Value name) = Value name
+fault_of_words words_fault.NoMemory = Memory

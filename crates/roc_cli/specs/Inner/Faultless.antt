@@ -2,9 +2,9 @@
 use Rattle.std.specs.Prelude.{ℕ, List, Option, Ok}
 use Rattle.roc_base.specs.declared.node.Shard.{Shard}
 use Rattle.roc_submit.specs.declared.ends.SubmitEnd.{SubmitEnd}
-use Rattle.roc_cli.specs.Call.{RunCall, WholeCall}
+use Rattle.roc_launch.specs.Call.{RunCall, WholeCall}
 use Rattle.roc_cli.specs.Done.{Rejects}
-use Rattle.roc_cli.specs.Nodes.{AreNodesEnded, IsChildBlamed}
+use Rattle.roc_launch.specs.Nodes.{AreNodesEnded, IsChildBlamed}
 use Rattle.roc_cli.specs.Refused.{AreRefusedWords, IsRefused}
 use Rattle.roc_cli.specs.Stopped.{CutsOutput}
 use Rattle.roc_cli.specs.Fit.{IsFit, NodesFit, MissesShard}

@@ -1,61 +1,90 @@
-use Rattle.std.proofs.Common.{inl, refl, subst, map, string_bytes, Err}
-use Rattle.roc_words.specs.Answer.{AreWordsOf, AnswersWords}
-use Rattle.roc_words.specs.Commands.{command_of, serve, submit, stop, local}
-use Rattle.roc_cli.specs.Refused.{by_clap}
-use Rattle.roc_cli.proofs.Faults.{print_ends, check_ends, gen_ends}
-use Rattle.roc_cli.proofs.Looping.{served_among, submitted_among, stopped_among, local_among, value_refused}
+use Rattle.std.proofs.Common.{inl, refl, sym, ◌∙◌}
+use Rattle.roc_launch.proofs.Named.{needing_named}
+use Rattle.roc_cli.proofs.Loading.{launched}
+use Rattle.roc_cli.proofs.Faults.{words_refused}
+use Rattle.roc_cli.proofs.Counts.{none_counted, unlinked, uncounted}
 use Rattle.roc_cli.proofs.command.perform.Goals as goal
 
-pub returns-in-Ok-Print-clause-ends : goal.returns-in-Ok-Print-clause-ends
-returns-in-Ok-Print-clause-ends g c =
-    inl (print_ends _ _ _ (subst (λ a. AreWordsOf (map string_bytes c.args.words.now) (command_of a)) c.in-Ok-Print.field-0-is c.in-Ok-Print.ensures.answers) c.print_file.ensures.failed c.print_file.ensures.ends)
+-- a command with nodes
+pub returns-then-needs_nodes-clause-ends : goal.returns-then-needs_nodes-clause-ends
+returns-then-needs_nodes-clause-ends g c = launched _ _ c.launch.ensures.failed (c.launch.ensures.ends _ c.in-Ok.ensures.answers)
 
-pub returns-in-Ok-Check-clause-ends : goal.returns-in-Ok-Check-clause-ends
-returns-in-Ok-Check-clause-ends g c =
-    inl (check_ends _ _ _ (subst (λ a. AreWordsOf (map string_bytes c.args.words.now) (command_of a)) c.in-Ok-Check.field-0-is c.in-Ok-Check.ensures.answers) c.check_file.ensures.failed c.check_file.ensures.ends)
+pub returns-then-needs_nodes-clause-quiet : goal.returns-then-needs_nodes-clause-quiet
+returns-then-needs_nodes-clause-quiet g c none = absurd (none (needing_named _ _ c.in-Ok.ensures.answers (sym c.needs_nodes.ensures ∙ c.if-needs_nodes.true)))
 
-pub returns-in-Ok-Gen-clause-ends : goal.returns-in-Ok-Gen-clause-ends
-returns-in-Ok-Gen-clause-ends g c =
-    inl (gen_ends _ _ _ _ _ _ (subst (λ a. AreWordsOf (map string_bytes c.args.words.now) (command_of a)) c.in-Ok-Gen.field-0-is c.in-Ok-Gen.ensures.answers) c.write_generated.ensures.ends)
+pub returns-then-needs_nodes-clause-untouched : goal.returns-then-needs_nodes-clause-untouched
+returns-then-needs_nodes-clause-untouched g c = c.launch.ensures.untouched
 
-pub returns-in-Ok-Serve-clause-ends : goal.returns-in-Ok-Serve-clause-ends
-returns-in-Ok-Serve-clause-ends g c =
-    served_among _ _ (c.serve_files.ensures.ends _ (subst (λ a. AreWordsOf (map string_bytes c.args.words.now) (command_of a)) c.in-Ok-Serve.field-0-is c.in-Ok-Serve.ensures.answers))
+pub returns-then-needs_nodes-clause-childless : goal.returns-then-needs_nodes-clause-childless
+returns-then-needs_nodes-clause-childless g c = c.launch.ensures.childless
 
-pub returns-in-Ok-Submit-clause-ends : goal.returns-in-Ok-Submit-clause-ends
-returns-in-Ok-Submit-clause-ends g c =
-    submitted_among _ _ (c.submit_files.ensures.ends _ (subst (λ a. AreWordsOf (map string_bytes c.args.words.now) (command_of a)) c.in-Ok-Submit.field-0-is c.in-Ok-Submit.ensures.answers))
+pub returns-then-needs_nodes-clause-failed : goal.returns-then-needs_nodes-clause-failed
+returns-then-needs_nodes-clause-failed g c = c.launch.ensures.failed
 
-pub returns-in-Ok-Stop-clause-ends : goal.returns-in-Ok-Stop-clause-ends
-returns-in-Ok-Stop-clause-ends g c =
-    stopped_among _ _ (c.stop_files.ensures.ends _ (subst (λ a. AreWordsOf (map string_bytes c.args.words.now) (command_of a)) c.in-Ok-Stop.field-0-is c.in-Ok-Stop.ensures.answers))
+pub returns-then-needs_nodes-clause-file_faults : goal.returns-then-needs_nodes-clause-file_faults
+returns-then-needs_nodes-clause-file_faults g c = c.launch.ensures.file_faults
 
-pub returns-in-Ok-Local-clause-ends : goal.returns-in-Ok-Local-clause-ends
-returns-in-Ok-Local-clause-ends g c =
-    local_among _ _ (c.local_files.ensures.ends _ (subst (λ a. AreWordsOf (map string_bytes c.args.words.now) (command_of a)) c.in-Ok-Local.field-0-is c.in-Ok-Local.ensures.answers))
+pub returns-then-needs_nodes-clause-sink_faults : goal.returns-then-needs_nodes-clause-sink_faults
+returns-then-needs_nodes-clause-sink_faults g c = c.launch.ensures.sink_faults
 
--- refused words
-pub returns-in-Err-Refused-clause-ends : goal.returns-in-Err-Refused-clause-ends
-returns-in-Err-Refused-clause-ends g c =
-    inl (refl, by_clap _ (subst (λ f. AnswersWords (map string_bytes c.args.words.now) (Err f)) c.in-Err-Refused.field-0-is c.in-Err-Refused.ensures.answers))
+pub returns-then-needs_nodes-clause-link_faults : goal.returns-then-needs_nodes-clause-link_faults
+returns-then-needs_nodes-clause-link_faults g c = c.launch.ensures.link_faults
 
-pub returns-in-Err-Value-clause-ends : goal.returns-in-Err-Value-clause-ends
-returns-in-Err-Value-clause-ends g c =
-    value_refused _ c.in-Err-Value.name _ (rw c.in-Err-Value.field-0-is at c.no_value.ensures) refl (subst (λ f. AnswersWords (map string_bytes c.args.words.now) (Err f)) c.in-Err-Value.field-0-is c.in-Err-Value.ensures.answers)
+pub returns-then-needs_nodes-clause-content : goal.returns-then-needs_nodes-clause-content
+returns-then-needs_nodes-clause-content g c = c.launch.ensures.content
 
--- commands with nodes are not quiet
-pub returns-in-Ok-Serve-clause-quiet : goal.returns-in-Ok-Serve-clause-quiet
-returns-in-Ok-Serve-clause-quiet g c none =
-    absurd (none (_, (serve _ _ _ _ _, subst (λ a. AreWordsOf (map string_bytes c.args.words.now) (command_of a)) c.in-Ok-Serve.field-0-is c.in-Ok-Serve.ensures.answers, refl)))
+-- one without
+pub returns-else-needs_nodes-clause-ends : goal.returns-else-needs_nodes-clause-ends
+returns-else-needs_nodes-clause-ends g c = inl (c.perform_alone.ensures.ends _ c.in-Ok.ensures.answers)
 
-pub returns-in-Ok-Submit-clause-quiet : goal.returns-in-Ok-Submit-clause-quiet
-returns-in-Ok-Submit-clause-quiet g c none =
-    absurd (none (_, (submit _ _ _ _ _, subst (λ a. AreWordsOf (map string_bytes c.args.words.now) (command_of a)) c.in-Ok-Submit.field-0-is c.in-Ok-Submit.ensures.answers, refl)))
+pub returns-else-needs_nodes-clause-untouched : goal.returns-else-needs_nodes-clause-untouched
+returns-else-needs_nodes-clause-untouched g c early = (refl, refl)
 
-pub returns-in-Ok-Stop-clause-quiet : goal.returns-in-Ok-Stop-clause-quiet
-returns-in-Ok-Stop-clause-quiet g c none =
-    absurd (none (_, (stop _ _, subst (λ a. AreWordsOf (map string_bytes c.args.words.now) (command_of a)) c.in-Ok-Stop.field-0-is c.in-Ok-Stop.ensures.answers, refl)))
+pub returns-else-needs_nodes-clause-quiet : goal.returns-else-needs_nodes-clause-quiet
+returns-else-needs_nodes-clause-quiet g c none = (refl, refl)
 
-pub returns-in-Ok-Local-clause-quiet : goal.returns-in-Ok-Local-clause-quiet
-returns-in-Ok-Local-clause-quiet g c none =
-    absurd (none (_, (local _ _ _ _, subst (λ a. AreWordsOf (map string_bytes c.args.words.now) (command_of a)) c.in-Ok-Local.field-0-is c.in-Ok-Local.ensures.answers, refl)))
+pub returns-else-needs_nodes-clause-childless : goal.returns-else-needs_nodes-clause-childless
+returns-else-needs_nodes-clause-childless g c = none_counted _ _
+
+pub returns-else-needs_nodes-clause-failed : goal.returns-else-needs_nodes-clause-failed
+returns-else-needs_nodes-clause-failed g c = c.perform_alone.ensures.failed
+
+pub returns-else-needs_nodes-clause-file_faults : goal.returns-else-needs_nodes-clause-file_faults
+returns-else-needs_nodes-clause-file_faults g c = c.perform_alone.ensures.file_faults
+
+pub returns-else-needs_nodes-clause-sink_faults : goal.returns-else-needs_nodes-clause-sink_faults
+returns-else-needs_nodes-clause-sink_faults g c = c.perform_alone.ensures.sink_faults
+
+pub returns-else-needs_nodes-clause-content : goal.returns-else-needs_nodes-clause-content
+returns-else-needs_nodes-clause-content g c = c.perform_alone.ensures.content
+
+pub returns-else-needs_nodes-clause-link_faults : goal.returns-else-needs_nodes-clause-link_faults
+returns-else-needs_nodes-clause-link_faults g c = unlinked _ _ _ (c.perform_alone.ensures.ends _ c.in-Ok.ensures.answers)
+
+-- words that ask for nothing
+pub returns-in-Err-clause-ends : goal.returns-in-Err-clause-ends
+returns-in-Err-clause-ends g c = words_refused _ c.in-Err.fault _ c.refusal.ensures.is refl c.in-Err.ensures.answers
+
+pub returns-in-Err-clause-untouched : goal.returns-in-Err-clause-untouched
+returns-in-Err-clause-untouched g c early = (refl, refl)
+
+pub returns-in-Err-clause-quiet : goal.returns-in-Err-clause-quiet
+returns-in-Err-clause-quiet g c none = (refl, refl)
+
+pub returns-in-Err-clause-childless : goal.returns-in-Err-clause-childless
+returns-in-Err-clause-childless g c = tt
+
+pub returns-in-Err-clause-failed : goal.returns-in-Err-clause-failed
+returns-in-Err-clause-failed g c = c.refusal.ensures.failed _
+
+pub returns-in-Err-clause-file_faults : goal.returns-in-Err-clause-file_faults
+returns-in-Err-clause-file_faults g c = uncounted _ _ c.refusal.ensures.no_file
+
+pub returns-in-Err-clause-sink_faults : goal.returns-in-Err-clause-sink_faults
+returns-in-Err-clause-sink_faults g c = uncounted _ _ c.refusal.ensures.no_sink
+
+pub returns-in-Err-clause-link_faults : goal.returns-in-Err-clause-link_faults
+returns-in-Err-clause-link_faults g c = uncounted _ _ c.refusal.ensures.no_link
+
+pub returns-in-Err-clause-content : goal.returns-in-Err-clause-content
+returns-in-Err-clause-content g c name = refl

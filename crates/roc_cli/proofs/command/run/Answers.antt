@@ -1,5 +1,6 @@
+use Rattle.std.proofs.Common.{refl}
 use Rattle.roc_cli.proofs.Told.{fault_answers, done_answers}
-use Rattle.roc_cli.proofs.Counts.{quiet_told}
+use Rattle.roc_cli.proofs.Counts.{file_counted, sink_counted, link_counted, quiet_done, quiet_told}
 use Rattle.roc_cli.proofs.command.run.Goals as goal
 
 pub returns-in-Ok-clause-answers : goal.returns-in-Ok-clause-answers
@@ -10,3 +11,42 @@ returns-in-Err-clause-answers g c = fault_answers _ _ c.in-Err.fault _ (c.fittin
 
 pub returns-in-Err-clause-quiet : goal.returns-in-Err-clause-quiet
 returns-in-Err-clause-quiet g c = quiet_told _ c.in-Err.fault _ _ _ c.tell.ensures.told c.in-Err.ensures.quiet c.in-Err.ensures.untouched
+
+pub returns-in-Ok-clause-silent : goal.returns-in-Ok-clause-silent
+returns-in-Ok-clause-silent g c below = refl
+
+pub returns-in-Ok-clause-unsaid : goal.returns-in-Ok-clause-unsaid
+returns-in-Ok-clause-unsaid g c e = refl
+
+pub returns-in-Ok-clause-file_faults : goal.returns-in-Ok-clause-file_faults
+returns-in-Ok-clause-file_faults g c = c.in-Ok.ensures.file_faults
+
+pub returns-in-Ok-clause-sink_faults : goal.returns-in-Ok-clause-sink_faults
+returns-in-Ok-clause-sink_faults g c = c.in-Ok.ensures.sink_faults
+
+pub returns-in-Ok-clause-link_faults : goal.returns-in-Ok-clause-link_faults
+returns-in-Ok-clause-link_faults g c = c.in-Ok.ensures.link_faults
+
+pub returns-in-Ok-clause-content : goal.returns-in-Ok-clause-content
+returns-in-Ok-clause-content g c = c.in-Ok.ensures.content
+
+pub returns-in-Ok-clause-quiet : goal.returns-in-Ok-clause-quiet
+returns-in-Ok-clause-quiet g c = quiet_done _ _ c.in-Ok.ensures.quiet
+
+pub returns-in-Err-clause-silent : goal.returns-in-Err-clause-silent
+returns-in-Err-clause-silent g c = c.tell.ensures.silent
+
+pub returns-in-Err-clause-unsaid : goal.returns-in-Err-clause-unsaid
+returns-in-Err-clause-unsaid g c = c.tell.ensures.unsaid
+
+pub returns-in-Err-clause-file_faults : goal.returns-in-Err-clause-file_faults
+returns-in-Err-clause-file_faults g c = file_counted c.in-Err.fault _ _ _ _ c.tell.ensures.told c.in-Err.ensures.file_faults
+
+pub returns-in-Err-clause-sink_faults : goal.returns-in-Err-clause-sink_faults
+returns-in-Err-clause-sink_faults g c = sink_counted c.in-Err.fault _ _ _ _ c.tell.ensures.told c.in-Err.ensures.sink_faults
+
+pub returns-in-Err-clause-link_faults : goal.returns-in-Err-clause-link_faults
+returns-in-Err-clause-link_faults g c = link_counted c.in-Err.fault _ _ _ _ c.tell.ensures.told c.in-Err.ensures.link_faults
+
+pub returns-in-Err-clause-content : goal.returns-in-Err-clause-content
+returns-in-Err-clause-content g c = c.in-Err.ensures.content

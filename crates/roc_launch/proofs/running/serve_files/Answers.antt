@@ -1,8 +1,7 @@
-use Rattle.std.proofs.Common.{refl}
+use Rattle.std.proofs.Common.{inl, refl}
 use Rattle.roc_words.specs.Commands.{serve}
-use Rattle.roc_cli.proofs.Loading.{nodes_fail}
-use Rattle.roc_cli.proofs.Looping.{serve_ended, unserved}
-use Rattle.roc_cli.proofs.running.serve_files.Goals as goal
+use Rattle.roc_launch.proofs.Looping.{serve_ended}
+use Rattle.roc_launch.proofs.running.serve_files.Goals as goal
 
 -- the files were read
 pub returns-in-Ok-clause-ends : goal.returns-in-Ok-clause-ends
@@ -11,4 +10,4 @@ returns-in-Ok-clause-ends g c words given =
 
 -- they were not
 pub returns-in-Err-clause-ends : goal.returns-in-Err-clause-ends
-returns-in-Err-clause-ends g c words given = unserved _ _ c.in-Err.fault (nodes_fail _ _ c.in-Err.fault (serve _ _ _ _ _, given, refl) c.in-Err.ensures.failed c.in-Err.ensures.fails)
+returns-in-Err-clause-ends g c words given = inl (_, (serve _ _ _ _ _, given, refl), c.in-Err.ensures.fails)

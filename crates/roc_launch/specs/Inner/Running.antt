@@ -12,8 +12,8 @@ use Rattle.roc_submit.specs.SubmitEnd.{any_address}
 use Rattle.roc_local.specs.Stops.{SendsStops, stops_unbound}
 use Rattle.roc_local.specs.declared.local.LocalEnd.TheVariants.{ChildFault}
 use Rattle.roc_local.specs.Local.{LocalAsk, LocalCall, RunsLocal, BlamesChild, local_end_of}
-use Rattle.roc_cli.specs.Call.{LinkCall, ChildrenCall}
-use Rattle.roc_cli.specs.Nodes.{as_submit_end, stop_as_submit_end}
+use Rattle.roc_launch.specs.Call.{LinkCall, ChildrenCall}
+use Rattle.roc_launch.specs.Nodes.{as_submit_end, stop_as_submit_end}
 
 abbrev pub ServesAs : NodeSetting → Shard → (own : Addr) → (turns : ℕ) → (counts : Bool) → ServeCall → SubmitEnd → Type 0
 ServesAs S shard own turns counts call end = (e : ServeEnd) × (as_submit_end e ≡ end) × Serves S shard own turns counts call e
@@ -45,3 +45,7 @@ LocalAs asked old new link children end = RunsLocal asked (loop_call old new lin
 abbrev pub LocalBlames : LocalAsk → (old new : Option (List ℕ)) → LinkCall → ChildrenCall → Shard → Option ℕ → Type 0
 LocalBlames asked old new link children shard status =
     RunsLocal asked (loop_call old new link children) (ChildFault shard status) × BlamesChild (ChildFault shard status) children.faults_before children.faults_after
+
+-- no child is to blame
+abbrev pub no_child : Shard → Option ℕ → Type 0
+no_child shard status = ⊥

@@ -1,5 +1,5 @@
 -- The words of the command line, and the files that they name: docs/FORMATS.md, "The program"
-use Rattle.std.specs.Prelude.{◌≡◌, ℕ, Bool, List, Option, Some, None}
+use Rattle.std.specs.Prelude.{◌≡◌, ℕ, Bool, List, Option, Some, None, is_some}
 use Rattle.roc_words.specs.declared.value.Part.{Part}
 use Rattle.roc_words.specs.Commands.{Command, check, print, replay, serve, submit, stop, local, gen}
 use Rattle.roc_words.specs.Answer.{AreWordsOf}
@@ -71,6 +71,10 @@ node_files (check workload) = None
 node_files (print workload) = None
 node_files (replay workload schedule) = None
 node_files (gen seed shards txns part) = None
+
+-- the command is one with nodes
+abbrev pub needs_nodes : Command → Bool
+needs_nodes command = is_some (node_files command)
 
 -- the workload whose names have to be in scope
 abbrev pub program_of : Command → Option (List ℕ)

@@ -4,9 +4,9 @@ use Rattle.std.specs.Option.{option_map}
 use Rattle.std.proofs.lemmas.Bool.{eq-eqb, false≢true}
 use Rattle.std.proofs.lemmas.Option.{same_Some, none-some}
 use Rattle.roc_words.specs.declared.value.ValueName.{ValueName}
-use Rattle.roc_words.specs.Commands.{Command, check, print, replay, serve, submit, stop, local, gen, command_by}
+use Rattle.roc_words.specs.Commands.{Command, check, print, replay, serve, submit, stop, local, gen}
 use Rattle.roc_words.specs.Answer.{AreWordsOf}
-use Rattle.roc_cli.specs.Words.{IsReplay, node_files, program_of, workload_of, Name, NamesProgram, NamesWorkload, NamesNodeFiles}
+use Rattle.roc_launch.specs.Words.{IsReplay, node_files, program_of, workload_of, Name, NamesProgram, NamesWorkload, NamesNodeFiles}
 use Rattle.roc_files.specs.Held.{NodeFiles}
 
 command_or : Command → Option (Result Command ValueName) → Command

@@ -1,14 +1,14 @@
 -- What the loops of nodes tell of their commands
-use Rattle.std.proofs.Common.{◌≡◌, inl, inr, ℕ, zero, suc, ◌<◌, Bool, List, [], ◌∷◌, length, Option, Some, None, IfSome, Result, Ok, Err, slice_get, refl, sym, subst, arith}
+use Rattle.std.proofs.Common.{◌≡◌, inl, inr, ℕ, zero, suc, ◌<◌, Bool, List, [], ◌∷◌, length, Option, Some, None, Result, Ok, Err, slice_get, refl, sym, subst, arith}
 use Rattle.roc_base.specs.declared.node.Shard.{Shard}
 use Rattle.roc_base.specs.declared.node.Node.TheVariants.{Server, Coord}
 use Rattle.roc_io.specs.declared.link.Addr.{Addr}
 use Rattle.roc_plan.specs.Groups.{Plan}
 use Rattle.roc_sched.specs.declared.line.Request.{Request}
 use Rattle.roc_words.specs.Commands.{serve, submit, stop, local}
-use Rattle.roc_words.specs.declared.value.ValueName.{ValueName}
-use Rattle.roc_words.specs.Answer.{AreWordsOf, HaveNoValue}
+use Rattle.roc_words.specs.Answer.{AreWordsOf}
 use Rattle.roc_submit.specs.declared.ends.SubmitEnd.{SubmitEnd}
+use Rattle.roc_submit.specs.declared.ends.SubmitEnd.TheVariants as submit_end
 use Rattle.roc_serve.specs.ServeEnd.{Serves}
 use Rattle.roc_submit.specs.SubmitEnd.{BindsAndSubmits}
 use Rattle.roc_local.specs.declared.local.LocalEnd.{LocalEnd}
@@ -16,16 +16,37 @@ use Rattle.roc_local.specs.declared.local.LocalEnd.TheVariants.{ChildFault}
 use Rattle.roc_local.specs.Stops.{SendsStops}
 use Rattle.roc_local.specs.Local.{RunsLocal, local_end_of}
 use Rattle.roc_files.specs.declared.fault.Fault.{Fault}
-use Rattle.roc_files.specs.declared.fault.Fault.TheVariants.{Value}
+use Rattle.roc_files.specs.declared.fault.Fault.TheVariants.{Memory, Unanswered, Sink, Link, Child}
 use Rattle.roc_files.specs.declared.nodes.Nodes.{Nodes}
-use Rattle.roc_cli.specs.Call.{RunCall, LinkCall, ChildrenCall, WholeCall, TakesNothing}
-use Rattle.roc_cli.specs.Refused.{no_value}
+use Rattle.roc_launch.specs.Call.{RunCall, LinkCall, ChildrenCall, WholeCall}
 use Rattle.roc_files.specs.Held.{HoldNodes}
-use Rattle.roc_files.specs.NodeNames.{tag_of_bytes, HoldsAll}
-use Rattle.roc_cli.specs.Nodes.{setting_of, serve_call, turns_call, local_call, IsServed, SubmitEnded, AreStopped, LocalEnded, AreNodesEnded, IsChildBlamed}
-use Rattle.roc_cli.specs.Inner.Ends.{Fails, LoopEnds, LoopEnded, WholeEnds, no_child}
-use Rattle.roc_cli.specs.Inner.Running.{ServesAs, StopsAs, loop_call, LocalAs, LocalBlames}
-use Rattle.roc_cli.proofs.Loading.{loop_ends, loop_fails, loop_among}
+use Rattle.roc_files.specs.NodeNames.{HoldsAll}
+use Rattle.roc_launch.specs.Nodes.{serve_call, turns_call, local_call, IsServed, SubmitEnded, AreStopped, LocalEnded, AreNodesEnded, IsChildBlamed}
+use Rattle.roc_launch.specs.Ends.{LoopEnded, LaunchEnds, IsLaunched}
+use Rattle.roc_launch.specs.Inner.Running.{ServesAs, StopsAs, loop_call, LocalAs, LocalBlames, no_child}
+
+-- what is told of a loop, told of the command
+loop_told : (P Q : SubmitEnd → Type 0) (C D : Shard → Option ℕ → Type 0) (result : Result Unit Fault) → ((end : SubmitEnd) → P end → Q end)
+    → ((shard : Shard) (status : Option ℕ) → C shard status → D shard status) → LoopEnded P C result → LoopEnded Q D result
+loop_told P Q C D (Ok done) more child h = more submit_end.Done h
+loop_told P Q C D (Err Memory) more child h = more submit_end.NoMemory h
+loop_told P Q C D (Err Unanswered) more child h = more submit_end.Unanswered h
+loop_told P Q C D (Err Sink) more child h = more submit_end.SinkFault h
+loop_told P Q C D (Err Link) more child h = more submit_end.LinkFault h
+loop_told P Q C D (Err (Child shard status)) more child h = child shard status h
+loop_told P Q C D (Err _) more child h = absurd h
+
+loop_ends : (call : RunCall) (P Q : SubmitEnd → Type 0) (C D : Shard → Option ℕ → Type 0) (result : Result Unit Fault) → ((end : SubmitEnd) → P end → Q end)
+    → ((shard : Shard) (status : Option ℕ) → C shard status → D shard status) → LoopEnded P C result → LaunchEnds call Q D result
+loop_ends call P Q C D (Ok done) more child h = more submit_end.Done h
+loop_ends call P Q C D (Err fault) more child h = inr (loop_told P Q C D (Err fault) more child h)
+
+-- one kind of end among all
+launch_among : (call : RunCall) (P Q : SubmitEnd → Type 0) (C D : Shard → Option ℕ → Type 0) (result : Result Unit Fault) → ((end : SubmitEnd) → P end → Q end)
+    → ((shard : Shard) (status : Option ℕ) → C shard status → D shard status) → LaunchEnds call P C result → LaunchEnds call Q D result
+launch_among call P Q C D (Ok done) more child h = more submit_end.Done h
+launch_among call P Q C D (Err fault) more child (inl h) = inl h
+launch_among call P Q C D (Err fault) more child (inr h) = inr (loop_told P Q C D (Err fault) more child h)
 
 -- one that is there can be had
 address_there : (addrs : List Addr) (n : ℕ) → n < length addrs → (own : Addr) × (slice_get addrs n ≡ Some own)
@@ -75,7 +96,7 @@ module _ (call : RunCall) (link : LinkCall) (nodes : Nodes) (middle : Option (Li
         → ((own : Addr) → slice_get nodes.cluster shard.0 ≡ Some own
         → LoopEnded (ServesAs (record { plan = nodes.plan; header = record { tag = nodes.tag; from = Server shard }; cluster = nodes.cluster }) shard own turns counts
         (record { bound_old = link.bound_before; bound_new = link.bound_after; link_old = link.before; link_new = link.after; out_old = middle; out_new = call.out_after })) no_child result)
-        → LoopEnds call (IsServed call link) no_child result
+        → LaunchEnds call (IsServed call link) no_child result
     serve_ended result ends =
         let each : length nodes.cluster ≡ nodes.plan.program.shards = held.1.of_cluster.is.is_cluster.each in
         let there = address_there nodes.cluster shard.0 (subst (λ n. shard.0 < n) (sym each) held.1.has_shard) in
@@ -103,7 +124,7 @@ module _ (call : RunCall) (link : LinkCall) (nodes : Nodes) (middle : Option (Li
       },
     )
 
-    pub stop_ended : (result : Result Unit Fault) → LoopEnded (StopsAs nodes.tag nodes.cluster link) no_child result → LoopEnds call (AreStopped call link) no_child result
+    pub stop_ended : (result : Result Unit Fault) → LoopEnded (StopsAs nodes.tag nodes.cluster link) no_child result → LaunchEnds call (AreStopped call link) no_child result
     stop_ended result ends = loop_ends call _ (AreStopped call link) no_child no_child result stopped (λ shard status h. h) ends
 
   module _ (listed : List ℕ) (turns : ℕ) (held : HoldsAll call.content (record { workload = workload; cluster = cluster; requests = Some listed; shard = None }) nodes) where
@@ -135,7 +156,7 @@ module _ (call : RunCall) (link : LinkCall) (nodes : Nodes) (middle : Option (Li
       pub submit_ended : (result : Result Unit Fault)
           → LoopEnded (BindsAndSubmits (record { plan = nodes.plan; header = record { tag = nodes.tag; from = Coord coord }; cluster = nodes.cluster }) coord nodes.requests.items turns
           link.bound_before link.bound_after (record { link_old = link.before; link_new = link.after; out_old = middle; out_new = call.out_after })) no_child result
-          → LoopEnds call (SubmitEnded call link) no_child result
+          → LaunchEnds call (SubmitEnded call link) no_child result
       submit_ended result ends = loop_ends call _ (SubmitEnded call link) no_child no_child result submitted (λ shard status h. h) ends
 
     -- servers and a coordinator
@@ -168,42 +189,22 @@ module _ (call : RunCall) (link : LinkCall) (nodes : Nodes) (middle : Option (Li
           (LocalBlames (record { setting = record { plan = nodes.plan; header = record { tag = nodes.tag; from = Coord 0 }; cluster = nodes.cluster }; requests = nodes.requests.items; workload = workload; cluster = cluster; turns = turns })
           middle call.out_after link children)
           result
-          → LoopEnds call (λ end. LocalEnded call link children (local_end_of end)) (IsChildBlamed (record { run = call; link = link; children = children })) result
+          → LaunchEnds call (λ end. LocalEnded call link children (local_end_of end)) (IsChildBlamed (record { run = call; link = link; children = children })) result
       local_ended result ends =
           loop_ends call _ (λ end. LocalEnded call link children (local_end_of end)) _ (IsChildBlamed (record { run = call; link = link; children = children })) result
           (λ end h. ran (local_end_of end) h) (λ shard status h. record { ended = ran (ChildFault shard status) h.0; cause = h.1 }) ends
 
--- ---- faults that come before a loop
-
-module _ (call : RunCall) (link : LinkCall) (fault : Fault) (fails : Fails call fault) where
-  pub unserved : LoopEnds call (IsServed call link) no_child (Err fault)
-  unserved = loop_fails call (IsServed call link) no_child fault fails
-
-  pub unsubmitted : LoopEnds call (SubmitEnded call link) no_child (Err fault)
-  unsubmitted = loop_fails call (SubmitEnded call link) no_child fault fails
-
-  pub unstopped : LoopEnds call (AreStopped call link) no_child (Err fault)
-  unstopped = loop_fails call (AreStopped call link) no_child fault fails
-
-  pub unrun : (children : ChildrenCall) → LoopEnds call (λ end. LocalEnded call link children (local_end_of end)) (IsChildBlamed (record { run = call; link = link; children = children })) (Err fault)
-  unrun children = loop_fails call (λ end. LocalEnded call link children (local_end_of end)) (IsChildBlamed (record { run = call; link = link; children = children })) fault fails
-
 -- ---- one command among all
 
 module _ (call : WholeCall) (result : Result Unit Fault) where
-  pub served_among : LoopEnds call.run (IsServed call.run call.link) no_child result → WholeEnds call result
-  served_among h = inr (loop_among call.run (IsServed call.run call.link) (AreNodesEnded call) no_child (IsChildBlamed call) result (λ end h. inl h) (λ shard status h. absurd h) h)
+  pub served_among : LaunchEnds call.run (IsServed call.run call.link) no_child result → IsLaunched call result
+  served_among h = launch_among call.run (IsServed call.run call.link) (AreNodesEnded call) no_child (IsChildBlamed call) result (λ end h. inl h) (λ shard status h. absurd h) h
 
-  pub submitted_among : LoopEnds call.run (SubmitEnded call.run call.link) no_child result → WholeEnds call result
-  submitted_among h = inr (loop_among call.run (SubmitEnded call.run call.link) (AreNodesEnded call) no_child (IsChildBlamed call) result (λ end h. inr (inl h)) (λ shard status h. absurd h) h)
+  pub submitted_among : LaunchEnds call.run (SubmitEnded call.run call.link) no_child result → IsLaunched call result
+  submitted_among h = launch_among call.run (SubmitEnded call.run call.link) (AreNodesEnded call) no_child (IsChildBlamed call) result (λ end h. inr (inl h)) (λ shard status h. absurd h) h
 
-  pub stopped_among : LoopEnds call.run (AreStopped call.run call.link) no_child result → WholeEnds call result
-  stopped_among h = inr (loop_among call.run (AreStopped call.run call.link) (AreNodesEnded call) no_child (IsChildBlamed call) result (λ end h. inr (inr (inl h))) (λ shard status h. absurd h) h)
+  pub stopped_among : LaunchEnds call.run (AreStopped call.run call.link) no_child result → IsLaunched call result
+  stopped_among h = launch_among call.run (AreStopped call.run call.link) (AreNodesEnded call) no_child (IsChildBlamed call) result (λ end h. inr (inr (inl h))) (λ shard status h. absurd h) h
 
-  pub local_among : LoopEnds call.run (λ end. LocalEnded call.run call.link call.children (local_end_of end)) (IsChildBlamed call) result → WholeEnds call result
-  local_among h = inr (loop_among call.run (λ end. LocalEnded call.run call.link call.children (local_end_of end)) (AreNodesEnded call) (IsChildBlamed call) (IsChildBlamed call) result (λ end h. inr (inr (inr h))) (λ shard status h. h) h)
-
--- ---- words that name no command
-
-pub value_refused : (call : WholeCall) (name : ValueName) (fault : Fault) → fault ≡ Value name → TakesNothing call.run → HaveNoValue call.run.words name → WholeEnds call (Err fault)
-value_refused call name fault e same h = subst (λ f. WholeEnds call (Err f)) (sym e) (inl (same, no_value name h))
+  pub local_among : LaunchEnds call.run (λ end. LocalEnded call.run call.link call.children (local_end_of end)) (IsChildBlamed call) result → IsLaunched call result
+  local_among h = launch_among call.run (λ end. LocalEnded call.run call.link call.children (local_end_of end)) (AreNodesEnded call) (IsChildBlamed call) (IsChildBlamed call) result (λ end h. inr (inr (inr h))) (λ shard status h. h) h

@@ -23,7 +23,7 @@ use Rattle.roc_submit.specs.declared.ends.SubmitEnd.{SubmitEnd}
 use Rattle.roc_submit.specs.declared.ends.SubmitEnd.TheVariants as submit_end
 use Rattle.roc_serve.specs.ServeEnd.{ServeCall, Serves}
 use Rattle.roc_submit.specs.SubmitEnd.{TurnsCall, BindsAndSubmits}
-use Rattle.roc_cli.specs.Call.{RunCall, LinkCall, ChildrenCall, WholeCall, TakesNothing}
+use Rattle.roc_launch.specs.Call.{RunCall, LinkCall, ChildrenCall, WholeCall, TakesNothing}
 use Rattle.roc_files.specs.Held.{HoldNodes}
 use Rattle.roc_files.specs.NodeNames.{tag_of_bytes}
 

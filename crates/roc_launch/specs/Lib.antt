@@ -1,0 +1,5 @@
+pub mod Call
+pub mod Words
+pub mod Nodes
+pub mod Ends
+pub mod Inner
