@@ -5,22 +5,30 @@
 use roc_cli::run;
 use roc_io::Sink;
 use roc_real::{RealFiles, RealLink, RealSpawner, Stream, words_given};
+use std::io::Stderr;
 use std::process::ExitCode;
 
 fn main(rt: HostRuntime) -> ExitCode {
     let mut err = Stream::new(rt.stderr());
-    let Some(words) = words_given(&rt) else {
-        err.write(b"memory\n");
-        return ExitCode::from(4);
+    let status = match words_given(&rt) {
+        Some(words) => run_words(&rt, &words, &mut err),
+        None => {
+            err.write(b"memory\n");
+            4
+        }
     };
-    let status = run(
-        rt.alloc(),
-        &words,
-        &mut RealFiles::new(&rt),
-        &mut Stream::new(rt.stdout()),
-        &mut err,
-        &mut RealLink::new(&rt),
-        &mut RealSpawner::new(rt.alloc(), &rt),
-    );
     ExitCode::from(status)
+}
+
+// What the machine gives is owned here, behind the last exit of `main`.
+fn run_words(rt: &HostRuntime, words: &[String], err: &mut Stream<Stderr>) -> u8 {
+    run(
+        rt.alloc(),
+        words,
+        &mut RealFiles::new(rt),
+        &mut Stream::new(rt.stdout()),
+        err,
+        &mut RealLink::new(rt),
+        &mut RealSpawner::new(rt.alloc(), rt),
+    )
 }
