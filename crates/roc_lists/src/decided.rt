@@ -69,7 +69,7 @@ fn add_all(set: &mut BTreeSet<TxnId>, ids: &[TxnId]) -> Result<(), NoMemory>
     Ok(())
 }
 
-/// What is decided and was not before, in component order.
+/// What is decided and was not before, in component order. `NoMemory` comes where there is none for the order.
 pub fn newly_decided(alloc: Global, deps: &Deps, ids: &[TxnId]) -> Result<Vec<TxnId>, NoMemory>
     ensures { IfOk result (λ ordered. (before : List Id) → AreAllNew (IsListed is_txn before) deps.now ids.now → AreNew (IsListed is_txn before) deps.now ordered.items) }
 {

@@ -18,7 +18,7 @@ const MOST_FACTS: usize = 16;
 /// How many entries these have together.
 const MOST_FACT_EDGES: usize = 1000;
 
-/// The known lists of what entries lead to, by id rising, as many as travel along with a message.
+/// The known lists of what entries lead to, by id rising, as many as travel along with a message. `NoMemory` comes where there is none for them.
 pub fn facts_for(
     alloc: Global,
     deps: &Deps,

@@ -14,7 +14,7 @@ use roc_program::Workload;
 use std::alloc::Global;
 
 /// The plan of a workload whose pieces are put into these groups. `Unfit` comes exactly where the layers above may not rely on
-/// the groups, or the classes are not those of the workload.
+/// the groups, or the classes are not those of the workload; `NoMemory` where there is none for what a plan keeps of its groups.
 pub fn make_plan(
     alloc: Global,
     workload: Workload,
