@@ -19,12 +19,10 @@ use Rattle.roc_report.specs.Line.{Line}
 use Rattle.roc_check.specs.Checked.{IsPlanOf, IsPlanOfText, IsRefusedBy, IsRefusedText}
 use Rattle.roc_sched.specs.declared.fault.What.{What as ScheduleWhat}
 use Rattle.roc_sched.specs.declared.line.Request.{Request}
-use Rattle.roc_protocol.specs.World.{World}
-use Rattle.roc_protocol.specs.Run.{Stepped}
 use Rattle.roc_replay.specs.declared.asked.Asked.{Asked}
 use Rattle.roc_sched.specs.Schedule.{most_bytes, AreRequests, IsRequestFault}
 use Rattle.roc_replay.specs.Asked.{IsScheduleOf}
-use Rattle.roc_replay.specs.Played.{IsPlayed}
+use Rattle.roc_replay.specs.Played.{DeliversOnlySent}
 use Rattle.roc_replay.specs.Ended.{IsTextFault}
 use Rattle.roc_words.specs.declared.value.Part.{Part}
 use Rattle.roc_words.specs.declared.value.ValueName.{ValueName}
@@ -61,7 +59,7 @@ pub record TextLaws : Type 0 where
   pub one_list : (text : List ℕ) (some others : List Request) → AreRequests text some → AreRequests text others → some ≡ others
   pub no_list_fault : (text : List ℕ) (requests : List Request) (line : ℕ) (what : ScheduleWhat) → AreRequests text requests → IsRequestFault text line what → ⊥
   pub no_text_fault :
-      (plan : Plan) (text : List ℕ) (lines : List Asked) (steps : List Stepped) (w : World) → IsScheduleOf plan.program text lines → IsPlayed plan lines steps w
+      (plan : Plan) (text : List ℕ) (lines : List Asked) → IsScheduleOf plan.program text lines → DeliversOnlySent plan lines
       → (number : ℕ) (fault : ScheduleWhat) (old new : Option (List ℕ)) → IsTextFault plan text number fault old new → ⊥
 
 -- ---- words
@@ -142,7 +140,7 @@ module _ (laws : TextLaws) (call : RunCall) where
         let e : plan ≡ fit.plan = same_plan laws call.content fit.workload fit.bytes fit.held fit.plan fit.planned asked.workload plan
         (the_program asked.workload (replay asked.workload asked.schedule, asked.given, refl)) asked.of_workload in
         let f : fit.text ≡ bytes = told call.content fit.schedule asked.schedule fit.text bytes fit.scheduled (the_schedule asked.workload asked.schedule asked.given) asked.of_schedule in
-        laws.no_text_fault fit.plan fit.text fit.lines fit.steps fit.world fit.of_text fit.played number what call.out_before call.out_after
+        laws.no_text_fault fit.plan fit.text fit.lines fit.of_text fit.sends number what call.out_before call.out_after
         (subst (λ b. IsTextFault fit.plan b number what call.out_before call.out_after) (sym f)
         (subst (λ p. IsTextFault p bytes number what call.out_before call.out_after) e h))
     replay_right _ (long_cluster files plan names planned has more same) = no_nodes files names

@@ -10,11 +10,9 @@ use Rattle.roc_lang.specs.Syntax.{Tree}
 use Rattle.roc_parse.specs.Fault.{IsWorkloadText}
 use Rattle.roc_plan.specs.Groups.{Plan}
 use Rattle.roc_check.specs.Checked.{IsPlanOfText}
-use Rattle.roc_protocol.specs.World.{World}
-use Rattle.roc_protocol.specs.Run.{Stepped}
 use Rattle.roc_replay.specs.declared.asked.Asked.{Asked}
 use Rattle.roc_replay.specs.Asked.{IsScheduleOf}
-use Rattle.roc_replay.specs.Played.{IsPlayed}
+use Rattle.roc_replay.specs.Played.{DeliversOnlySent}
 use Rattle.roc_launch.specs.Call.{RunCall}
 use Rattle.roc_launch.specs.Words.{IsReplay, IsPrint, IsCheck, AreGenWords, NamesNodeFiles}
 use Rattle.roc_files.specs.Held.{NodeFiles, HasShard}
@@ -29,7 +27,7 @@ pub record IsListOfRequests (content : List ℕ → Option (List ℕ)) (program 
   pub are : AreRequestsOf program text requests
 
 -- the words ask for a replay; the named files hold a workload that has a plan, and a schedule that fits this and delivers only what was
--- sent, so that it can be played
+-- sent
 pub record ReplayFits (call : RunCall) : Type 0 where
   pub workload : List ℕ
   pub schedule : List ℕ
@@ -42,9 +40,7 @@ pub record ReplayFits (call : RunCall) : Type 0 where
   pub scheduled : call.content schedule ≡ Some text
   pub lines : List Asked
   pub of_text : IsScheduleOf plan.program text lines
-  pub steps : List Stepped
-  pub world : World
-  pub played : IsPlayed plan lines steps world
+  pub sends : DeliversOnlySent plan lines
 
 -- the words ask for a check, and the named file holds a workload that has a plan
 pub record CheckFits (call : RunCall) : Type 0 where

@@ -5,7 +5,7 @@ ghost use Rattle.roc_cli.specs.Inner.Faultless.{AreFitting};
 use roc_check::laws::{plans_are_unique, refusals_are_unique};
 use roc_cluster::laws::cluster_files_keep_the_rules;
 use roc_parse::laws::{text_has_no_fault, tree_is_unique};
-use roc_replay::laws::played_schedules_have_no_fault;
+use roc_replay::laws::sent_schedules_have_no_fault;
 use roc_sched::laws::{lines_are_unique, texts_are_right_or_wrong};
 
 /// Nothing is wrong with a call whose words and files fit.
@@ -16,7 +16,7 @@ pub(crate) fn fitting_calls_are_faultless()
     text_has_no_fault();
     plans_are_unique();
     refusals_are_unique();
-    played_schedules_have_no_fault();
+    sent_schedules_have_no_fault();
     cluster_files_keep_the_rules();
     lines_are_unique();
     texts_are_right_or_wrong();

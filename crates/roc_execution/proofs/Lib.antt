@@ -10,3 +10,6 @@ pub mod Agreed
 pub mod FromEdges
 pub mod Counted
 pub mod SharedOut
+pub mod Kept
+pub mod Settled
+pub mod Chained

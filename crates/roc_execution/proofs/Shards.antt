@@ -148,6 +148,10 @@ module _ (E I : TxnId → TxnId → Type 0) (here waived : TxnId → Type 0) (L 
             absurd (omega arith))
       ]
 
+  -- and so are mates of one that has a group here
+  pub alike_here : (t : TxnId) → IsListed is_txn L t → here t → (a b : TxnId) → Mates E t a → Mates E t b → IsListed is_txn M b → IsListedBefore is_txn L a b → IsListedBefore is_txn M a b
+  alike_here t ht kt a b ma mb k o = alike_below t ht kt (suc (place_of (is_txn a) L + place_of (is_txn b) M)) a b (omega arith) ma (mates_trans E a t b (mates_sym E t a ma) mb) k o
+
   pub order_here : (a b : TxnId) → E a b ⊎ E b a → here a → here b → IsListed is_txn M a → IsListed is_txn M b → IsListed is_txn L b → IsListedBefore is_txn L a b → IsListedBefore is_txn M a b
   order_here a b e ka kb ha hb h o =
       elim (cases_lt (place_of (is_txn a) M) (place_of (is_txn b) M)) [
@@ -158,6 +162,15 @@ module _ (E I : TxnId → TxnId → Type 0) (here waived : TxnId → Type 0) (L 
       not_mates : E a b ⊎ E b a → place_of (is_txn b) M ≤ place_of (is_txn a) M → ¬ ¬ Mates E a b
       not_mates (inl p) w x = let y = m.earlier a b hb p (λ z. x (mates_sym E b a z)) in absurd (omega arith)
       not_mates (inr p) w x = let y = l.earlier b a (listed_by_before is_txn L a b o) kb p x in absurd (omega arith)
+
+-- then the first in M is the first here
+pub turned_back : (L M : List TxnId) (a b : TxnId) → IsListed is_txn L a → (IsListedBefore is_txn L b a → IsListedBefore is_txn M b a) → IsListedBefore is_txn M a b → IsListedBefore is_txn L a b
+turned_back L M a b h f o =
+    elim (cases_order (place_of (is_txn a) L) (place_of (is_txn b) L)) [
+      | inl e ↦ (let z = ap (λ x. place_of (is_txn x) M) (same_place is_txn is_txn-true L a b h e) in absurd (omega arith))
+      | inr (inl l) ↦ l
+      | inr (inr l) ↦ (let z = f l in absurd (omega arith))
+    ]
 
 -- Other edges that are the same into O
 module _ (E F I J : TxnId → TxnId → Type 0) (O : List TxnId) (o : IsWholeOrder E I O) (ef : (u t : TxnId) → IsListed is_txn O t → E u t → F u t)

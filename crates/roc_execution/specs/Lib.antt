@@ -1,7 +1,9 @@
 pub mod Scheme
 pub mod Log
+pub mod Settled
 pub mod Taking
 pub mod Steps
 pub mod Invariants
 pub mod Edges
+pub mod Kept
 pub mod Counting

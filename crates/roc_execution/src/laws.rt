@@ -1,5 +1,5 @@
 //! The laws of the log machine. Each is the contract of a function that does nothing.
-ghost use Rattle.std.specs.Prelude.{◌≡◌, ◌≢◌, ℤ, ℕ, Bool, List, IsTrue, ◌⊎◌};
+ghost use Rattle.std.specs.Prelude.{◌≡◌, ◌≢◌, ◌↔◌, ℤ, ℕ, Bool, List, IsTrue, ◌⊎◌};
 ghost use Rattle.roc_sequence.specs.Places.{IsListed, IsListedBefore};
 ghost use Rattle.roc_base.specs.declared.id.TxnId.{TxnId};
 ghost use Rattle.roc_base.specs.TxnId.{is_txn};
@@ -9,11 +9,15 @@ ghost use Rattle.roc_serial.specs.Behaviour.{TxnGroup, is_txn_group, DoesSame};
 ghost use Rattle.roc_serial.specs.Runs.{Stage, inputs_at, after_group, Conflict, account};
 ghost use Rattle.roc_serial.specs.Orders.{IsRealRun, one_by_one, Follows};
 ghost use Rattle.roc_execution.specs.Scheme.{Scheme, IsSoundScheme};
+ghost use Rattle.roc_depgraph.specs.declared.known.KnownList.{KnownList};
+ghost use Rattle.roc_depgraph.specs.Deps.{Precedes};
 ghost use Rattle.roc_depgraph.specs.Reach.{Reaches};
-ghost use Rattle.roc_component.specs.Components.{IsComponentOrder};
+ghost use Rattle.roc_component.specs.Components.{Mates, among, IsComponentOrder, IsTakingOrder};
 ghost use Rattle.roc_execution.specs.Counting.{counting};
 ghost use Rattle.roc_execution.specs.Edges.{AreEdges};
-ghost use Rattle.roc_execution.specs.Log.{Log, PrecedesTxn, PrecedesTxnNow, shard_at};
+ghost use Rattle.roc_execution.specs.Log.{Log, PrecedesTxn, PrecedesTxnNow, shard_at, HasGroup, IsDecidedThroughout};
+ghost use Rattle.roc_execution.specs.Settled.{IsSettled};
+ghost use Rattle.roc_execution.specs.Kept.{KeepsRan};
 ghost use Rattle.roc_execution.specs.Taking.{IsTakenOrder, IsWholeOrder};
 ghost use Rattle.roc_execution.specs.Steps.{LogStep, LogSteps, IsReachedLog, IsWaived, new_in};
 ghost use Rattle.roc_execution.specs.Invariants.{LogInvariants, LogGrows};
@@ -66,6 +70,83 @@ pub fn executions_are_serial()
     logs_follow();
     runs_are_serial();
 }
+
+/// Any list of the decided transactions that keeps what ran meets what the law about orders asks for, and the one order is such a list. So
+/// in any of them, one after another, they do what they did.
+pub fn lists_that_keep_follow()
+    ensures follows { (S : Scheme) (start : Store) (log : Log) → IsSoundScheme S → LogInvariants S start log
+        → (O : List TxnId) → KeepsRan S start log O → Follows S.behaviour start log.past.ran O }
+    ensures order { (S : Scheme) (start : Store) (log : Log) → IsSoundScheme S → LogInvariants S start log → KeepsRan S start log log.order }
+    ensures same { (S : Scheme) (start : Store) (log : Log) → IsSoundScheme S → LogInvariants S start log
+        → (O : List TxnId) → KeepsRan S start log O → (r : TxnGroup) → IsListed is_txn_group log.past.ran r → IsListed is_txn O r.txn
+        → account S.behaviour start (one_by_one S.behaviour O) r ≡ account S.behaviour start log.past.ran r }
+{
+    logs_follow();
+    runs_are_serial();
+}
+
+/// What comes before a transaction that is decided anywhere, and its component, is decided too, and fixed: nothing new comes before it, nor
+/// into its component.
+pub fn decided_is_fixed()
+    ensures before { (S : Scheme) (start : Store) (log : Log) → LogInvariants S start log
+        → (u t : TxnId) → IsListed is_txn log.order t → Reaches (PrecedesTxn S start log.past) u t → IsListed is_txn log.order u }
+    ensures component { (S : Scheme) (start : Store) (log : Log) → LogInvariants S start log
+        → (t u : TxnId) → IsListed is_txn log.order t → Mates (PrecedesTxn S start log.past) t u → IsListed is_txn log.order u }
+    ensures precedes { (S : Scheme) (start : Store) (log : Log) → IsSoundScheme S → LogInvariants S start log → (later : Log) → LogSteps S start log later
+        → (u t : TxnId) → IsListed is_txn log.order t → PrecedesTxn S start log.past u t ↔ PrecedesTxn S start later.past u t }
+    ensures precedes_now { (S : Scheme) (start : Store) (log : Log) → IsSoundScheme S → LogInvariants S start log → (later : Log) → LogSteps S start log later
+        → (u t : TxnId) → IsListed is_txn log.order t → PrecedesTxnNow S start log.past u t ↔ PrecedesTxnNow S start later.past u t }
+    ensures reaches { (S : Scheme) (start : Store) (log : Log) → IsSoundScheme S → LogInvariants S start log → (later : Log) → LogSteps S start log later
+        → (u t : TxnId) → IsListed is_txn log.order t → Reaches (PrecedesTxn S start log.past) u t ↔ Reaches (PrecedesTxn S start later.past) u t }
+    ensures mates { (S : Scheme) (start : Store) (log : Log) → IsSoundScheme S → LogInvariants S start log → (later : Log) → LogSteps S start log later
+        → (t u : TxnId) → IsListed is_txn log.order t → Mates (PrecedesTxn S start log.past) t u ↔ Mates (PrecedesTxn S start later.past) t u }
+{
+    groups_stand_one_by_one();
+    runs_stay();
+    logs_grow();
+}
+
+/// What is settled is answered, and decided on each shard where it has a group; its mates are settled with it; and it stays settled.
+pub fn settled_is_final()
+    ensures answered { (S : Scheme) (start : Store) (log : Log) (u : TxnId) → IsSettled S start log u → IsListed is_txn log.answered u }
+    ensures throughout { (S : Scheme) (start : Store) (log : Log) → LogInvariants S start log
+        → (u : TxnId) → IsSettled S start log u → IsDecidedThroughout S start log u }
+    ensures here { (S : Scheme) (start : Store) (log : Log) → LogInvariants S start log
+        → (s : ℕ) (u : TxnId) → IsSettled S start log u → HasGroup S start log.past.ran s u → IsListed is_txn (log.decided s) u }
+    ensures mates { (S : Scheme) (start : Store) (log : Log) (a b : TxnId) → Mates (PrecedesTxn S start log.past) a b
+        → IsSettled S start log a → IsSettled S start log b }
+    ensures stays { (S : Scheme) (start : Store) (log : Log) → IsSoundScheme S → LogInvariants S start log → (later : Log) → LogSteps S start log later
+        → (u : TxnId) → IsSettled S start log u → IsSettled S start later u }
+{
+    groups_stand_one_by_one();
+    runs_stay();
+    logs_grow();
+}
+
+/// Shards agree on what has a group there: of two such transactions, one of which precedes the other, the first in the shard's list is the
+/// first in the one order; and the component of such a one stands in the list as a whole, as it stands in the one order.
+pub fn shards_keep_order()
+    ensures order { (S : Scheme) (start : Store) (log : Log) → LogInvariants S start log
+        → (s : ℕ) (a b : TxnId) → PrecedesTxn S start log.past a b ⊎ PrecedesTxn S start log.past b a → HasGroup S start log.past.ran s a → HasGroup S start log.past.ran s b
+        → IsListed is_txn (log.decided s) a → IsListed is_txn (log.decided s) b
+        → IsListedBefore is_txn (log.decided s) a b ↔ IsListedBefore is_txn log.order a b }
+    ensures component { (S : Scheme) (start : Store) (log : Log) → LogInvariants S start log
+        → (s : ℕ) (t u : TxnId) → HasGroup S start log.past.ran s t → IsListed is_txn (log.decided s) t → Mates (PrecedesTxn S start log.past) t u → IsListed is_txn (log.decided s) u }
+    ensures mates { (S : Scheme) (start : Store) (log : Log) → LogInvariants S start log
+        → (s : ℕ) (t a b : TxnId) → HasGroup S start log.past.ran s t → IsListed is_txn (log.decided s) t → Mates (PrecedesTxn S start log.past) t a → Mates (PrecedesTxn S start log.past) t b
+        → IsListedBefore is_txn (log.decided s) a b ↔ IsListedBefore is_txn log.order a b }
+{}
+
+/// Ancestors come first: in the one order, and in each component order, what a chain leads from comes before what it leads to, unless the
+/// two are in one component.
+pub fn ancestors_come_first()
+    ensures order { (S : Scheme) (start : Store) (log : Log) → LogInvariants S start log
+        → (u t : TxnId) → IsListed is_txn log.order t → Reaches (PrecedesTxn S start log.past) u t → ¬ Mates (PrecedesTxn S start log.past) t u
+        → IsListedBefore is_txn log.order u t }
+    ensures taking_order { (known : List KnownList) (M xs : List TxnId) → IsTakingOrder known M xs
+        → (u t : TxnId) → IsListed is_txn xs t → Reaches (among M (Precedes known)) u t → ¬ Mates (among M (Precedes known)) t u
+        → IsListedBefore is_txn xs u t }
+{}
 
 /// The stores of the shards are one store whose cells are shared out: a group leaves the cells of other shards as they were, and from
 /// any two stores that hold the same in the cells of its shard it does the same, and leaves the same in these cells.

@@ -1,9 +1,9 @@
 -- Lists changed at one place, and what a changed world keeps
-use Rattle.std.proofs.Common.{◌≡◌, ◌≢◌, ℕ, ℤ, zero, suc, Bool, true, false, not, cond, List, [], ◌∷◌, ◌++◌, Some, map, refl, sym, ap, subst, ◌∙◌, ◌⊎◌, inl, inr, append-nil, append_assoc}
+use Rattle.std.proofs.Common.{◌≡◌, ◌≢◌, ◌↔◌, ℕ, ℤ, zero, suc, Bool, true, false, not, cond, List, [], ◌∷◌, ◌++◌, Some, map, refl, sym, ap, subst, ◌∙◌, ◌⊎◌, inl, inr, append-nil, append_assoc}
 use Rattle.std.proofs.lemmas.Bool.{cases_eq, cond-true, cond-false, not_from_false}
 use Rattle.std.specs.Prelude.{slice_get, slice_set}
 use Rattle.roc_sequence.specs.Lists.{Has}
-use Rattle.roc_sequence.specs.Places.{is_listed, NoneTwice}
+use Rattle.roc_sequence.specs.Places.{IsListed, is_listed, NoneTwice}
 use Rattle.roc_sequence.proofs.Places.{listed_test, unlisted_test, listed_true, listed_false}
 use Rattle.roc_sequence.proofs.Appended.{listed_front, listed_either}
 use Rattle.roc_sequence.proofs.Members.{has_append, from_has_map}
@@ -22,15 +22,14 @@ use Rattle.roc_execution.specs.Log.{Log}
 use Rattle.roc_execution.specs.Steps.{IsReachedLog, new_in}
 use Rattle.roc_execution.specs.Invariants.{LogInvariants, LogGrows}
 use Rattle.roc_server.specs.State.{ServerState, ServerStep}
-use Rattle.roc_coord.specs.declared.transaction.Transaction.{Transaction}
 use Rattle.roc_coord.specs.State.{CoordState}
 use Rattle.roc_audit.specs.declared.entry.Entry.{Entry}
 use Rattle.roc_audit.specs.declared.entry.Entry.TheVariants.{Answered}
 use Rattle.roc_audit.specs.Order.{noted}
 use Rattle.roc_protocol.specs.Asked.{IsSchemeOf}
 use Rattle.roc_protocol.specs.World.{World, sent_by, comes, at_server, at_coord}
-use Rattle.roc_protocol.proofs.Means.{Means, ServerMeans, TxnMeans, AnswerMeans, WorldMeans}
-use Rattle.roc_protocol.proofs.Grows.{means_grow, txn_grows, answer_grows}
+use Rattle.roc_protocol.proofs.Means.{Means, ServerMeans, CoordMeans, AnswerMeans, WorldMeans}
+use Rattle.roc_protocol.proofs.Grows.{means_grow, coord_grows, answer_grows}
 
 -- ---- lists changed at one place
 
@@ -85,7 +84,7 @@ noted-new order (t ∷ ts) once = go (is_listed is_txn order t) refl (λ o. note
 module _ (plan : Plan) (asked : TxnId → whole.Call) (S : Scheme) (start : Store) (is : IsSchemeOf plan asked S) where
   -- a message comes
   pub comes_means : (c : Log) (w : World) (k : ℕ) → WorldMeans plan asked S start c w → WorldMeans plan asked S start c (comes w k)
-  comes_means c w k o = record { reached = o.reached; order = o.order; servers = o.servers; messages = o.messages; coords = o.coords; answered = o.answered }
+  comes_means c w k o = record { reached = o.reached; order = o.order; servers = o.servers; messages = o.messages; coords = o.coords; answered = o.answered; answers = o.answers }
 
   messages_after : (c : Log) (sent : List Sent) (from : Node) (outs : List Outgoing) → ((m : Sent) → Has m sent → Means plan asked S start c m.msg m.to) → ((o : Outgoing) → Has o outs → Means plan asked S start c o.msg o.to)
       → (m : Sent) → Has m (sent ++ map (sent_by from) outs) → Means plan asked S start c m.msg m.to
@@ -102,8 +101,9 @@ module _ (plan : Plan) (asked : TxnId → whole.Call) (S : Scheme) (start : Stor
       → ((m : ℕ) → n ≢ m → (v : ServerState) → slice_get w.servers m ≡ Some v → ServerMeans plan asked S start d m v)
       → ((o : Outgoing) → Has o r.sends → Means plan asked S start d o.msg o.to)
       → noted w.order r.decided ≡ d.order
+      → d.answered ≡ c.answered
       → WorldMeans plan asked S start d (at_server w n r)
-  server_means c d i j g reached w o n s r there mine others sends order =
+  server_means c d i j g reached w o n s r there mine others sends order answers =
       record {
         reached = reached;
         order = order;
@@ -112,26 +112,35 @@ module _ (plan : Plan) (asked : TxnId → whole.Call) (S : Scheme) (start : Stor
           | inr k ↦ others m k.0 v k.1
         ];
         messages = messages_after d w.sent (Server (record { 0 = n })) r.sends (λ m h. means_grow plan asked S start is c d i j g m.msg m.to (o.messages m h)) sends;
-        coords = λ m v h x k. txn_grows plan asked S start is c d i j g x (o.coords m v h x k);
+        coords = λ m v h. coord_grows plan asked S start is c d i j g v (o.coords m v h);
         answered = λ t reply h. answer_grows plan asked S start is c d i j g t reply (o.answered t reply h);
+        answers = λ t. subst (λ l. IsListed is_txn l t ↔ ((reply : List ℤ) × Has (Answered t reply) w.history)) (sym answers) (o.answers t);
       }
 
-  -- a coordinator does, and the log none
+  -- a coordinator does, and the log one that agrees with it
   pub coord_means :
-      (c : Log) (w : World) → WorldMeans plan asked S start c w → (n : ℕ) (s after : CoordState) (outs : List Outgoing) (told : List Entry) → slice_get w.coords n ≡ Some s
-      → ((x : Transaction) → Has x after.pending → TxnMeans plan asked S start c x)
-      → ((o : Outgoing) → Has o outs → Means plan asked S start c o.msg o.to)
-      → ((t : TxnId) (reply : List ℤ) → Has (Answered t reply) told → AnswerMeans plan asked S start c t reply)
-      → WorldMeans plan asked S start c (at_coord w n after outs told)
-  coord_means c w o n s after outs told there mine sends replies =
+      (c d : Log) (i : LogInvariants S start c) (j : LogInvariants S start d) (g : LogGrows S start c d) → IsReachedLog S start d
+      → (w : World) → WorldMeans plan asked S start c w → (n : ℕ) (s after : CoordState) (outs : List Outgoing) (told : List Entry) → slice_get w.coords n ≡ Some s
+      → ((m : ℕ) (v : ServerState) → slice_get w.servers m ≡ Some v → ServerMeans plan asked S start d m v)
+      → w.order ≡ d.order
+      → CoordMeans plan asked S start d after
+      → ((o : Outgoing) → Has o outs → Means plan asked S start d o.msg o.to)
+      → ((t : TxnId) (reply : List ℤ) → Has (Answered t reply) told → AnswerMeans plan asked S start d t reply)
+      → ((t : TxnId) → IsListed is_txn d.answered t ↔ ((reply : List ℤ) × Has (Answered t reply) (w.history ++ told)))
+      → WorldMeans plan asked S start d (at_coord w n after outs told)
+  coord_means c d i j g reached w o n s after outs told there servers order mine sends replies answers =
       record {
-        reached = o.reached;
-        order = o.order;
-        servers = o.servers;
-        messages = messages_after c w.sent (Coord n) outs o.messages sends;
-        coords = λ m v h x k. elim (get-set_cases w.coords n m s after v there h) [
-          | inl e ↦ mine x (subst (λ (v : CoordState). Has x v.pending) e.1 k)
-          | inr e ↦ o.coords m v e.1 x k
+        reached = reached;
+        order = order;
+        servers = servers;
+        messages = messages_after d w.sent (Coord n) outs (λ m h. means_grow plan asked S start is c d i j g m.msg m.to (o.messages m h)) sends;
+        coords = λ m v h. elim (get-set_cases w.coords n m s after v there h) [
+          | inl e ↦ subst (CoordMeans plan asked S start d) (sym e.1) mine
+          | inr e ↦ coord_grows plan asked S start is c d i j g v (o.coords m v e.1)
         ];
-        answered = λ t reply h. elim (has_append (Answered t reply) w.history told h) [ inl k ↦ o.answered t reply k | inr k ↦ replies t reply k ];
+        answered = λ t reply h. elim (has_append (Answered t reply) w.history told h) [
+          | inl k ↦ answer_grows plan asked S start is c d i j g t reply (o.answered t reply k)
+          | inr k ↦ replies t reply k
+        ];
+        answers = answers;
       }

@@ -1,18 +1,20 @@
 -- What comes of a message, a tick and a submission at a coordinator
-use Rattle.std.proofs.Common.{◌≡◌, ℕ, ℤ, ◌==◌, Bool, true, false, not, cond, ◌&&◌, List, [], ◌∷◌, Option, Some, None, length, map, refl, sym, subst, ◌⊎◌, inl, inr, is_some}
-use Rattle.std.proofs.lemmas.Bool.{false≢true, and_parts, and_from, eq-eqb}
+use Rattle.std.proofs.Common.{◌≡◌, ℕ, ℤ, ◌==◌, Bool, true, false, not, cond, ◌&&◌, List, [], ◌∷◌, Option, Some, None, length, map, refl, sym, ap, subst, ◌∙◌, ◌⊎◌, inl, inr, arith, is_some}
+use Rattle.std.proofs.lemmas.Bool.{false≢true, and_parts, and_from, eq-eqb, cases_eq}
 use Rattle.std.specs.Prelude.{slice_get, filter, is_none, if◌then◌else◌}
 use Rattle.roc_sequence.specs.Lists.{Has}
 use Rattle.roc_sequence.specs.Places.{IsListed}
 use Rattle.roc_sequence.proofs.Found.{found_has}
 use Rattle.roc_sequence.proofs.Holds.{any_has, has_any}
-use Rattle.roc_sequence.proofs.Members.{has_append, has_one, from_has_map, from_has_filter}
+use Rattle.roc_sequence.proofs.Members.{has_append, has_one, has_left, has_right, has_map, from_has_map, has_filter, from_has_filter}
+use Rattle.roc_sequence.proofs.Appended.{listed_behind, listed_either}
 use Rattle.roc_base.specs.declared.id.TxnId.{TxnId}
 use Rattle.roc_base.specs.declared.node.Node.{Node}
 use Rattle.roc_base.specs.declared.node.Shard.{Shard}
 use Rattle.roc_base.specs.TxnId.{is_txn}
 use Rattle.roc_base.specs.Inner.Equalities.{is_txn-true}
 use Rattle.roc_rows.specs.Store.{Store}
+use Rattle.roc_depgraph.proofs.Listed.{listed_one, in_one}
 use Rattle.roc_msg.specs.declared.msg.Msg.{Msg}
 use Rattle.roc_msg.specs.declared.msg.Msg.TheVariants.{Start, StartOk, Commit, CommitOk, Fetch, Known, Stop}
 use Rattle.roc_msg.specs.declared.outbox.Outgoing.{Outgoing}
@@ -21,7 +23,9 @@ use Rattle.roc_plan.specs.Groups.{Plan}
 use Rattle.roc_whole.specs.Serial as whole
 use Rattle.roc_execution.specs.Scheme.{Scheme}
 use Rattle.roc_execution.specs.Log.{Log}
-use Rattle.roc_execution.specs.Invariants.{LogInvariants}
+use Rattle.roc_serial.specs.Behaviour.{TxnGroup}
+use Rattle.roc_execution.specs.Steps.{LogSteps, no_steps, one_step_more, is_answered, with_answer, IsReachedLog}
+use Rattle.roc_execution.specs.Invariants.{LogInvariants, LogGrows}
 use Rattle.roc_coord.specs.declared.transaction.Transaction.{Transaction}
 use Rattle.roc_coord.specs.declared.transaction.SentStart.{SentStart}
 use Rattle.roc_coord.specs.declared.transaction.TakenStart.{TakenStart}
@@ -37,27 +41,55 @@ use Rattle.roc_audit.specs.declared.entry.Entry.TheVariants as entry
 use Rattle.roc_protocol.specs.Asked.{IsSchemeOf}
 use Rattle.roc_protocol.specs.World.{World, at_coord}
 use Rattle.roc_protocol.specs.Happens.{answer_entries}
-use Rattle.roc_protocol.proofs.Means.{run_of, place, Means, ToldMeans, DoneMeans, TxnMeans, AnswerMeans, WorldMeans}
+use Rattle.roc_protocol.specs.Inner.Given.{LogLaws}
+use Rattle.roc_protocol.proofs.Means.{run_of, place, Began, Means, ToldMeans, DoneMeans, TxnMeans, CoordMeans, AnswerMeans, WorldMeans}
 use Rattle.roc_protocol.proofs.Flat.{from_has_flat}
 use Rattle.roc_protocol.proofs.Coordinators.{starts_mean, commits_mean, commits_for-mean}
 use Rattle.roc_protocol.proofs.Rounds.{shards_begun, told, first_means, starts_means, commits_means, commitok_means, startok_means}
 use Rattle.roc_protocol.proofs.Replies.{answer_means}
+use Rattle.roc_protocol.proofs.Grows.{txn_grows, answered_grows, answer_grows}
+use Rattle.roc_protocol.proofs.Elsewhere.{IsQuietOn, server_elsewhere}
 use Rattle.roc_protocol.proofs.Changed.{coord_means}
 use Rattle.roc_protocol.proofs.Served.{StartsAre}
 
-module _ (plan : Plan) (asked : TxnId → whole.Call) (S : Scheme) (start : Store) (is : IsSchemeOf plan asked S) (c : Log) (i : LogInvariants S start c) (w : World) (o : WorldMeans plan asked S start c w) (n : ℕ) (s : CoordState) (there : slice_get w.coords n ≡ Some s) (Of : TxnId → Type 0) (of : (x : Transaction) → Has x s.pending → Of x.id) where
-  -- what a coordinator does is explained by the log as it is, and what it starts and holds is of these transactions
+module _ (plan : Plan) (asked : TxnId → whole.Call) (S : Scheme) (start : Store) (is : IsSchemeOf plan asked S) (laws : LogLaws S start) (c : Log) (i : LogInvariants S start c) (w : World) (o : WorldMeans plan asked S start c w) (n : ℕ) (s : CoordState) (there : slice_get w.coords n ≡ Some s) (Of : TxnId → Type 0) (of : (x : Transaction) → Has x s.pending → Of x.id) where
+  -- some steps of the log explain what a coordinator does, in which no group starts; and what it starts and holds is of these transactions
   pub record IsCoordinated (after : CoordState) (outs : List Outgoing) (tells : List Entry) : Type 0 where
-    pub means : WorldMeans plan asked S start c (at_coord w n after outs tells)
+    pub log : Log
+    pub steps : LogSteps S start c log
+    pub means : WorldMeans plan asked S start log (at_coord w n after outs tells)
+    pub began : (q : TxnGroup) → Began plan asked S start log q → Began plan asked S start c q
     pub starts : (out : Outgoing) → Has out outs → StartsAre Of out.msg
     pub pending : (x : Transaction) → Has x after.pending → Of x.id
 
+  mine : CoordMeans plan asked S start c s
+  mine = o.coords n s there
+
   means : (x : Transaction) → Has x s.pending → TxnMeans plan asked S start c x
-  means = o.coords n s there
+  means = mine.pending
+
+  -- the log does nothing, and nobody is answered
+  still : (after : CoordState) (outs : List Outgoing) (tells : List Entry) → CoordMeans plan asked S start c after → ((out : Outgoing) → Has out outs → Means plan asked S start c out.msg out.to)
+      → ((t : TxnId) (reply : List ℤ) → ¬ Has (entry.Answered t reply) tells)
+      → ((out : Outgoing) → Has out outs → StartsAre Of out.msg) → ((x : Transaction) → Has x after.pending → Of x.id) → IsCoordinated after outs tells
+  still after outs tells holds sends none starts pending =
+      record {
+        log = c;
+        steps = no_steps;
+        means = coord_means plan asked S start is c c i i (laws.grows c c i no_steps) o.reached w o n s after outs tells there o.servers o.order holds sends
+            (λ t reply h. absurd (none t reply h))
+            (λ t. (
+              λ h. (let k = (o.answers t).0 h in (k.0, has_left (entry.Answered t k.0) w.history tells k.1)),
+              λ k. elim (has_append (entry.Answered t k.0) w.history tells k.1) [ inl h ↦ (o.answers t).1 (k.0, h) | inr h ↦ absurd (none t k.0 h) ],
+            ));
+        began = λ q h. h;
+        starts = starts;
+        pending = pending;
+      }
 
   -- it changes nothing
   same : (outs : List Outgoing) → ((out : Outgoing) → Has out outs → Means plan asked S start c out.msg out.to) → ((out : Outgoing) → Has out outs → StartsAre Of out.msg) → IsCoordinated s outs []
-  same outs sends starts = record { means = coord_means plan asked S start is c w o n s s outs [] there means sends (λ t reply h. absurd h); starts = starts; pending = of }
+  same outs sends starts = still s outs [] mine sends (λ t reply h. h) starts of
 
   ignores : IsCoordinated s [] []
   ignores = same [] (λ out h. absurd h) (λ out h. absurd h)
@@ -73,13 +105,23 @@ module _ (plan : Plan) (asked : TxnId → whole.Call) (S : Scheme) (start : Stor
       go y k true e = inl e
       go y k false e = inr (subst (λ z. Has z s.pending) (sym e) k)
 
+  -- each is there with its id
+  stays : (x y : Transaction) → Has y s.pending → (z : Transaction) × Has z (with_transaction s x).pending × (z.id ≡ y.id)
+  stays x y h = (if is_txn y.id x.id then x else y, has_map (λ (y : Transaction). if is_txn y.id x.id then x else y) y s.pending h, go (is_txn y.id x.id) refl)
+    where
+      go : (b : Bool) → is_txn y.id x.id ≡ b → (cond b x y).id ≡ y.id
+      go true e = sym (is_txn-true y.id x.id e)
+      go false e = refl
+
   changes : (x : Transaction) → TxnMeans plan asked S start c x → Of x.id → (outs : List Outgoing) → ((out : Outgoing) → Has out outs → Means plan asked S start c out.msg out.to) → ((out : Outgoing) → Has out outs → StartsAre Of out.msg) → IsCoordinated (with_transaction s x) outs []
   changes x m k outs sends starts =
-      record {
-        means = coord_means plan asked S start is c w o n s (with_transaction s x) outs [] there (λ z h. elim (kept x z h) [ inl e ↦ subst (TxnMeans plan asked S start c) (sym e) m | inr j ↦ means z j ]) sends (λ t reply h. absurd h);
-        starts = starts;
-        pending = λ z h. elim (kept x z h) [ inl e ↦ subst (λ (z : Transaction). Of z.id) (sym e) k | inr j ↦ of z j ];
-      }
+      still (with_transaction s x) outs []
+      (record {
+        pending = λ z h. elim (kept x z h) [ inl e ↦ subst (TxnMeans plan asked S start c) (sym e) m | inr j ↦ means z j ];
+        all = λ q l. elim (mine.all q l) [ inl p ↦ (let z = stays x p.0 p.1 in inl (z.0, z.1, z.2 ∙ p.2)) | inr h ↦ inr h ];
+      })
+      sends (λ t reply h. h) starts
+      (λ z h. elim (kept x z h) [ inl e ↦ subst (λ (z : Transaction). Of z.id) (sym e) k | inr j ↦ of z j ])
 
   -- what is sent of a transaction is of it
   starts_of-it : (x : Transaction) → Of x.id → (gs : List ℕ) (out : Outgoing) → Has out (map (start_for plan x) gs) → StartsAre Of out.msg
@@ -136,6 +178,82 @@ module _ (plan : Plan) (asked : TxnId → whole.Call) (S : Scheme) (start : Stor
       fresh true = ignores
       fresh false = unfit (is_fit_startok plan x ok shard) refl
 
+  -- ---- an answer
+
+  -- a transaction is answered, and so it is in the log
+  module _ (t : TxnId) (reply : List ℤ) (a : AnswerMeans plan asked S start c t reply) where
+    abbrev d : Log
+    d = with_answer c t
+
+    steps_on : LogSteps S start c d
+    steps_on = one_step_more no_steps (is_answered t a.throughout)
+
+    reached : IsReachedLog S start d
+    reached = one_step_more o.reached (is_answered t a.throughout)
+
+    j : LogInvariants S start d
+    j = laws.holds d reached
+
+    g : LogGrows S start c d
+    g = laws.grows c d i steps_on
+
+    quiet : (shard : ℕ) → IsQuietOn plan asked S start c d shard
+    quiet shard = record { began = λ r b p. b; ran = λ r h imm p. h; cells = λ x e. refl; decided = refl }
+
+    listed : IsListed is_txn d.answered t
+    listed = listed_behind is_txn c.answered (t ∷ []) t (in_one t)
+
+    rest : (z : Transaction) → Has z (without_transaction s t).pending → Has z s.pending
+    rest z k = (from_has_filter (λ (y : Transaction). not (is_txn y.id t)) z s.pending k).0
+
+    without_means : CoordMeans plan asked S start d (without_transaction s t)
+    without_means =
+        record {
+          pending = λ z k. txn_grows plan asked S start is c d i j g z (means z (rest z k));
+          all = λ q l. elim (mine.all q l) [
+            | inl p ↦ go p.0 p.1 q p.2 (is_txn p.0.id t) refl
+            | inr h ↦ inr (answered_grows plan asked S start is c d i j g (record { coord = s.number; seq = q }) h)
+          ];
+        }
+      where
+        go : (y : Transaction) → Has y s.pending → (q : ℕ) → y.id ≡ record { coord = s.number; seq = q } → (b : Bool) → is_txn y.id t ≡ b
+            → ((x : Transaction) × Has x (without_transaction s t).pending × (x.id ≡ record { coord = s.number; seq = q })) ⊎ IsListed is_txn d.answered (record { coord = s.number; seq = q })
+        go y h q e true f = inr (subst (λ u. IsListed is_txn d.answered u) (sym (is_txn-true y.id t f) ∙ e) listed)
+        go y h q e false f = inl (y, has_filter (λ (y : Transaction). not (is_txn y.id t)) y s.pending h (ap not f), e)
+
+    abbrev tells : List Entry
+    tells = entry.Answered t reply ∷ []
+
+    is_answered_here : IsCoordinated (without_transaction s t) [] tells
+    is_answered_here =
+        record {
+          log = d;
+          steps = steps_on;
+          means = coord_means plan asked S start is c d i j g reached w o n s (without_transaction s t) [] tells there
+              (λ m v h. server_elsewhere plan asked S start is c d i j g m (quiet m) v (o.servers m v h))
+              o.order without_means (λ out k. absurd k)
+              (λ u r k. told u r (has_one (entry.Answered u r) (entry.Answered t reply) k))
+              (λ u. (
+                λ h. elim (listed_either is_txn c.answered (t ∷ []) u h) [
+                  | inl k ↦ (let z = (o.answers u).0 k in (z.0, has_left (entry.Answered u z.0) w.history tells z.1))
+                  | inr k ↦ (reply, has_right (entry.Answered u reply) w.history tells (inl (ap (λ u. entry.Answered u reply) (listed_one t u k.1))))
+                ],
+                λ k. elim (has_append (entry.Answered u k.0) w.history tells k.1) [
+                  | inl h ↦ answered_grows plan asked S start is c d i j g u ((o.answers u).1 (k.0, h))
+                  | inr h ↦ (let e = has_one (entry.Answered u k.0) (entry.Answered t reply) h in let same : u ≡ t = cc in subst (λ u. IsListed is_txn d.answered u) (sym same) listed)
+                ],
+              ));
+          began = λ q h. h;
+          starts = λ out k. absurd k;
+          pending = λ z k. of z (rest z k);
+        }
+      where
+        told : (u : TxnId) (r : List ℤ) → entry.Answered u r ≡ entry.Answered t reply → AnswerMeans plan asked S start d u r
+        told u r e =
+            let same : u ≡ t = cc in
+            let alike : r ≡ reply = cc in
+            subst (λ u. AnswerMeans plan asked S start d u r) (sym same) (subst (AnswerMeans plan asked S start d t) (sym alike) (answer_grows plan asked S start is c d i j g t reply a))
+
   -- ---- a commitok
 
   commitok_explained : (ok : TakenCommit) (id : TxnId) → DoneMeans plan asked S start c id ok.shard.0 ok.outs → (x : Option Transaction) → find_transaction id s.pending ≡ x
@@ -162,22 +280,10 @@ module _ (plan : Plan) (asked : TxnId → whole.Call) (S : Scheme) (start : Stor
           → IsCoordinated (commitok_taken s (with_commitok x ok) (if b then Some (reply_of plan (with_commitok x ok)) else None)).state (commitok_taken s (with_commitok x ok) (if b then Some (reply_of plan (with_commitok x ok)) else None)).sends (answer_entries (commitok_taken s (with_commitok x ok) (if b then Some (reply_of plan (with_commitok x ok)) else None)).answer)
       answers a h false f = changes (with_commitok x ok) m (of x found.0) [] (λ out h. absurd h) (λ out h. absurd h)
       answers a h true f =
-          let rest = λ (z : Transaction) (k : Has z (without_transaction s x.id).pending). (from_has_filter (λ (x2 : Transaction). not (is_txn x2.id x.id)) z s.pending k).0 in
           let all = m.asked_whole a h in
-          record {
-            means = coord_means plan asked S start is c w o n s (without_transaction s x.id) [] (entry.Answered x.id (reply_of plan (with_commitok x ok)) ∷ []) there (λ z k. means z (rest z k)) (λ out k. absurd k)
-                (λ t reply k.
-                let z = has_one (entry.Answered t reply) (entry.Answered x.id (reply_of plan (with_commitok x ok))) k in
-                answer t reply z (answer_means plan asked S start is c i (with_commitok x ok) m all.0 all.1 f (i.in_order ok.shard.0 x.id decided)));
-            starts = λ out k. absurd k;
-            pending = λ z k. of z (rest z k);
-          }
-        where
-          answer : (t : TxnId) (reply : List ℤ) → entry.Answered t reply ≡ entry.Answered x.id (reply_of plan (with_commitok x ok)) → AnswerMeans plan asked S start c x.id (reply_of plan (with_commitok x ok)) → AnswerMeans plan asked S start c t reply
-          answer t reply e k =
-              let a : t ≡ x.id = cc in
-              let b : reply ≡ reply_of plan (with_commitok x ok) = cc in
-              subst (λ t. AnswerMeans plan asked S start c t reply) (sym a) (subst (AnswerMeans plan asked S start c x.id) (sym b) k)
+          let in_order = i.in_order ok.shard.0 x.id decided in
+          is_answered_here x.id (reply_of plan (with_commitok x ok))
+          (answer_means plan asked S start is c i (with_commitok x ok) m all.0 all.1 f in_order)
 
       unfit : (b : Bool) → is_fit_commitok plan x ok ≡ b
           → IsCoordinated (unless_refused s (if not b then Some Unfit else None) (commitok_taken s (with_commitok x ok) (reply_now plan (with_commitok x ok)))).state (unless_refused s (if not b then Some Unfit else None) (commitok_taken s (with_commitok x ok) (reply_now plan (with_commitok x ok)))).sends (answer_entries (unless_refused s (if not b then Some Unfit else None) (commitok_taken s (with_commitok x ok) (reply_now plan (with_commitok x ok)))).answer)
@@ -231,11 +337,17 @@ module _ (plan : Plan) (asked : TxnId → whole.Call) (S : Scheme) (start : Stor
   submission_coordinated proc args tells none p a k =
       let x = new_transaction s proc args in
       let m = first_means plan asked S start is c i (next_id s) proc args p a in
-      record {
-        means = coord_means plan asked S start is c w o n s (accepted plan s x).state (accepted plan s x).sends tells there
-            (λ z h. elim (has_append z s.pending (with_starts plan x ∷ []) h) [ inl j ↦ means z j | inr j ↦ subst (TxnMeans plan asked S start c) (sym (has_one z (with_starts plan x) j)) (starts_means plan asked S start is c i x m) ])
-            (new_mean x m k)
-            (λ t reply h. absurd (none t reply h));
-        starts = starts_of-it x k (ready_groups plan x);
-        pending = λ z h. elim (has_append z s.pending (with_starts plan x ∷ []) h) [ inl j ↦ of z j | inr j ↦ subst (λ (z : Transaction). Of z.id) (sym (has_one z (with_starts plan x) j)) k ];
-      }
+      still (accepted plan s x).state (accepted plan s x).sends tells
+      (record {
+        pending = λ z h. elim (has_append z s.pending (with_starts plan x ∷ []) h) [ inl j ↦ means z j | inr j ↦ subst (TxnMeans plan asked S start c) (sym (has_one z (with_starts plan x) j)) (starts_means plan asked S start is c i x m) ];
+        all = λ q l. elim (cases_eq q s.next) [
+          | inl e ↦ inl (with_starts plan x, has_right (with_starts plan x) s.pending (with_starts plan x ∷ []) (inl refl), λ k. record { coord = s.number; seq = sym e k })
+          | inr e ↦ elim (mine.all q (omega arith)) [
+            | inl p ↦ inl (p.0, has_left p.0 s.pending (with_starts plan x ∷ []) p.1, p.2)
+            | inr h ↦ inr h
+          ]
+        ];
+      })
+      (new_mean x m k) none
+      (starts_of-it x k (ready_groups plan x))
+      (λ z h. elim (has_append z s.pending (with_starts plan x ∷ []) h) [ inl j ↦ of z j | inr j ↦ subst (λ (z : Transaction). Of z.id) (sym (has_one z (with_starts plan x) j)) k ])

@@ -327,6 +327,7 @@ module _ (plan : Plan) (asked : TxnId → whole.Call) (S : Scheme) (start : Stor
         };
         part = record {
           cells = λ x e. at_end.part.cells x e ∙ ap (λ (Z : Stage). read Z.store x) (sym Y_is);
+          elsewhere = at_end.part.elsewhere;
           later = λ e h ran imm. at_end.part.later e h (ran_cases (entry_run e) ran) imm ∙ ap (λ (Z : Stage). Some (Z.yielded (entry_run e)).outs) (sym Y_is);
           at_once = at_end.part.at_once;
         };

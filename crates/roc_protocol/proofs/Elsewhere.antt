@@ -36,6 +36,7 @@ module _ (plan : Plan) (asked : TxnId → whole.Call) (S : Scheme) (start : Stor
         };
         part = record {
           cells = λ x e. o.part.cells x e ∙ sym (q.cells x e);
+          elsewhere = o.part.elsewhere;
           later = λ e h ran imm.
               (let m = o.groups.entries e h in
               let k = q.ran (entry_run e) ran imm (place_grows plan asked S start is c d i j g (entry_run e) m.told.began ∙ m.on) in

@@ -1,6 +1,6 @@
 -- The first world
-use Rattle.std.proofs.Common.{◌≡◌, ℕ, zero, suc, ◌+◌, ◌==◌, Bool, true, false, cond, List, [], ◌∷◌, Some, map, refl, sym, ap, subst, ◌∙◌, arith}
-use Rattle.std.proofs.lemmas.Bool.{false≢true, eq-eqb}
+use Rattle.std.proofs.Common.{◌≡◌, ◌≢◌, ℕ, zero, suc, ◌+◌, ◌==◌, Bool, true, false, cond, List, [], ◌∷◌, Some, map, refl, sym, ap, subst, ◌∙◌, arith}
+use Rattle.std.proofs.lemmas.Bool.{false≢true, eq-eqb, eqb-true}
 use Rattle.std.specs.Prelude.{slice_get, filter}
 use Rattle.std.specs.List.{range_with_len}
 use Rattle.roc_sequence.specs.Lists.{Has}
@@ -32,7 +32,7 @@ found_at f a (suc n) (suc number) x e = let same : (a + 1) + number ≡ a + suc 
 
 module _ (laws : StoreLaws) (plan : Plan) (n : ℕ) where
   -- a shard's start cells are those of its places
-  start_cells : (inits : List Init) (s t : Store) (x : Cell) → shard_of plan x.place ≡ n → read s x ≡ read t x → read (after_inits s (filter (λ i. shard_of plan i.place == n) inits)) x ≡ read (after_inits t inits) x
+  pub start_cells : (inits : List Init) (s t : Store) (x : Cell) → shard_of plan x.place ≡ n → read s x ≡ read t x → read (after_inits s (filter (λ i. shard_of plan i.place == n) inits)) x ≡ read (after_inits t inits) x
   start_cells [] s t x e h = h
   start_cells (i ∷ inits) s t x e h = go (shard_of plan i.place == n) refl (start_cells inits)
     where
@@ -48,6 +48,17 @@ module _ (laws : StoreLaws) (plan : Plan) (n : ℕ) where
       go true f ih = ih (write s (init_cell i) i.value) (write t (init_cell i) i.value) x e (written s t h)
       go false f ih = ih s (write t (init_cell i) i.value) x e (h ∙ sym (laws.other t (init_cell i) i.value x (λ k. false≢true (sym f ∙ eq-eqb (shard_of plan i.place) n (ap (λ (c : Cell). shard_of plan c.place) k ∙ e)))))
 
+module _ (laws : StoreLaws) (plan : Plan) (n : ℕ) where
+  -- and those of other places are 0
+  pub start_elsewhere : (inits : List Init) (s : Store) (x : Cell) → shard_of plan x.place ≢ n → read (after_inits s (filter (λ i. shard_of plan i.place == n) inits)) x ≡ read s x
+  start_elsewhere [] s x apart = refl
+  start_elsewhere (i ∷ inits) s x apart = go (shard_of plan i.place == n) refl (start_elsewhere inits)
+    where
+      go : (b : Bool) → shard_of plan i.place == n ≡ b → ((s : Store) (x : Cell) → shard_of plan x.place ≢ n → read (after_inits s (filter (λ i. shard_of plan i.place == n) inits)) x ≡ read s x)
+          → read (after_inits s (cond b (i ∷ filter (λ i. shard_of plan i.place == n) inits) (filter (λ i. shard_of plan i.place == n) inits))) x ≡ read s x
+      go true f ih = ih (write s (init_cell i) i.value) x apart ∙ laws.other s (init_cell i) i.value x (λ k. apart (ap (λ (c : Cell). shard_of plan c.place) (sym k) ∙ eqb-true (shard_of plan i.place) n f))
+      go false f ih = ih s x apart
+
 module _ (laws : StoreLaws) (plan : Plan) (asked : TxnId → whole.Call) (S : Scheme) (is : IsSchemeOf plan asked S) (coords : ℕ) where
   first_server_means : (n : ℕ) → ServerMeans plan asked S (start_store plan.program) first_log n (first_server plan (record { 0 = n }))
   first_server_means n =
@@ -56,6 +67,7 @@ module _ (laws : StoreLaws) (plan : Plan) (asked : TxnId → whole.Call) (S : Sc
         groups = record { entries = λ e h. absurd h; finds = λ r h p. absurd (omega arith) };
         part = record {
           cells = λ x e. start_cells laws plan n plan.program.inits empty empty x (sym (is.cell_shard x) ∙ e) refl;
+          elsewhere = λ x apart. start_elsewhere laws plan n plan.program.inits empty x (λ e. apart (is.cell_shard x ∙ e)) ∙ laws.zero x;
           later = λ e h. absurd h;
           at_once = λ e h. absurd h;
         };
@@ -76,8 +88,13 @@ module _ (laws : StoreLaws) (plan : Plan) (asked : TxnId → whole.Call) (S : Sc
             let same : 0 + n ≡ n = omega arith in
             subst (ServerMeans plan asked S (start_store plan.program) first_log n) (sym (e ∙ ap (λ n. first_server plan (record { 0 = n })) same)) (first_server_means n));
         messages = λ m h. absurd h;
-        coords = λ n c h x k. elim (subst (Has x) (first_pending n c h) k) [ ];
+        coords = λ n c h.
+            record {
+              pending = λ x k. elim (subst (Has x) (first_pending n c h) k) [ ];
+              all = λ q l. absurd (let none = ap (λ (c : CoordState). c.next) (found_at first_coord 0 coords n c h) in omega arith);
+            };
         answered = λ t reply h. absurd h;
+        answers = λ t. (λ h. absurd (omega arith), λ h. absurd h.1);
       }
 
 pub first_submissions : (plan : Plan) (coords : ℕ) → AreSubmissions plan [] (first_world plan coords).coords

@@ -7,7 +7,7 @@ use Rattle.roc_sequence.specs.Lists.{Has}
 use Rattle.roc_sequence.specs.Places.{IsListed}
 use Rattle.roc_sequence.proofs.Holds.{all_weaker, all_has}
 use Rattle.roc_sequence.proofs.Ranges.{range_below}
-use Rattle.roc_coord.specs.State.{was_asked}
+use Rattle.roc_coord.specs.State.{was_asked, CoordState}
 use Rattle.roc_sequence.proofs.Appended.{listed_front}
 use Rattle.roc_sequence.proofs.Members.{from_has_filter}
 use Rattle.roc_base.specs.declared.id.TxnId.{TxnId}
@@ -24,12 +24,12 @@ use Rattle.roc_whole.specs.Serial as whole
 use Rattle.roc_serial.specs.Behaviour.{TxnGroup, is_txn_group, is_group_number}
 use Rattle.roc_serial.specs.Runs.{needs}
 use Rattle.roc_execution.specs.Scheme.{Scheme}
-use Rattle.roc_execution.specs.Log.{Log, IsWhole}
+use Rattle.roc_execution.specs.Log.{Log, IsWhole, IsDecidedThroughout}
 use Rattle.roc_execution.specs.Invariants.{LogInvariants, LogGrows}
 use Rattle.roc_server.specs.declared.started.StartedGroup.{StartedGroup}
 use Rattle.roc_coord.specs.declared.transaction.Transaction.{Transaction}
 use Rattle.roc_protocol.specs.Asked.{picked, IsSchemeOf}
-use Rattle.roc_protocol.proofs.Means.{run_of, entry_run, place, Ran, Began, stage, values_for, EdgesMean, IsSeen, ListMeans, AllMean, ToldMeans, StartMeans, HasBegun, IsBegunAt, waits_at, outs_at, DoneMeans, StartIs, Means, EntryMeans, TxnMeans, IsGiven, AnswerMeans}
+use Rattle.roc_protocol.proofs.Means.{run_of, entry_run, place, Ran, Began, stage, values_for, EdgesMean, IsSeen, ListMeans, AllMean, ToldMeans, StartMeans, HasBegun, IsBegunAt, waits_at, outs_at, DoneMeans, StartIs, Means, EntryMeans, TxnMeans, CoordMeans, IsGiven, AnswerMeans}
 
 pub flat_map_same : {A B : Type 0} (f g : A → List B) (xs : List A) → ((x : A) → Has x xs → f x ≡ g x) → flat_map f xs ≡ flat_map g xs
 flat_map_same f g [] h = refl
@@ -188,10 +188,30 @@ module _ (plan : Plan) (asked : TxnId → whole.Call) (S : Scheme) (start : Stor
       was : Transaction → ℕ → ℕ → Bool
       was x k p = was_asked x k (record { 0 = p })
 
+  pub answered_grows : (t : TxnId) → IsListed is_txn c.answered t → IsListed is_txn d.answered t
+  answered_grows t h = subst (λ l. IsListed is_txn l t) (sym g.answered.1) (listed_front is_txn c.answered g.answered.0 t h)
+
+  pub coord_grows : (s : CoordState) → CoordMeans plan asked S start c s → CoordMeans plan asked S start d s
+  coord_grows s o =
+      record {
+        pending = λ x h. txn_grows x (o.pending x h);
+        all = λ q l. elim (o.all q l) [ inl p ↦ inl p | inr k ↦ inr (answered_grows (record { coord = s.number; seq = q }) k) ];
+      }
+
+  throughout_grows : (t : TxnId) → IsDecidedThroughout S start c t → IsDecidedThroughout S start d t
+  throughout_grows t o =
+      record {
+        in_order = order_grows t o.in_order;
+        everywhere = λ k l.
+            (let r = run_of t k in
+            let at = place plan asked S start c r in
+            subst (λ s. IsListed is_txn (d.decided s) t) (sym (place_grows r (i.whole t o.in_order k l))) (decided_grows at t (o.everywhere k l)));
+      }
+
   pub answer_grows : (t : TxnId) (reply : List ℤ) → AnswerMeans plan asked S start c t reply → AnswerMeans plan asked S start d t reply
   answer_grows t reply o =
       record {
-        ordered = order_grows t o.ordered;
+        throughout = throughout_grows t o.throughout;
         count = o.count;
         given = λ at h. given at (o.given at h);
       }

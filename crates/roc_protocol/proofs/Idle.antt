@@ -1,5 +1,5 @@
 -- Where the plan has no procedure, nothing happens
-use Rattle.std.proofs.Common.{◌≡◌, ℕ, ◌-◌, ◌≤◌, List, [], Option, Some, None, length, map, refl, sym, ap, subst, ◌∙◌, arith, inl, inr}
+use Rattle.std.proofs.Common.{◌≡◌, ℕ, ◌+◌, ◌-◌, ◌≤◌, List, [], Option, Some, None, length, map, refl, sym, ap, subst, ◌∙◌, arith, inl, inr}
 use Rattle.std.specs.Prelude.{slice_get, filter, flat_map, not}
 use Rattle.std.proofs.Common.{append-nil}
 use Rattle.roc_depgraph.specs.Deps.{is_known}
@@ -21,21 +21,23 @@ use Rattle.roc_protocol.proofs.Changed.{get-set_cases}
 use Rattle.roc_protocol.proofs.Firsts.{found_at}
 use Rattle.roc_protocol.proofs.Worlds.{Submitting, is_refused, is_accepted, submitting}
 
-pub record IsIdle (w : World) : Type 0 where
+pub record IsIdle (plan : Plan) (w : World) : Type 0 where
   pub sent : w.sent ≡ []
   pub history : w.history ≡ []
   pub order : w.order ≡ []
   pub servers : (n : ℕ) (s : ServerState) → slice_get w.servers n ≡ Some s → s.lists.waiting.asked ≡ []
   pub known : (n : ℕ) (s : ServerState) → slice_get w.servers n ≡ Some s → s.lists.known ≡ []
   pub coords : (n : ℕ) (c : CoordState) → slice_get w.coords n ≡ Some c → c.pending ≡ []
+  pub stores : (n : ℕ) (s : ServerState) → slice_get w.servers n ≡ Some s → s.store ≡ (first_server plan (record { 0 = n })).store
+  pub nexts : (n : ℕ) (c : CoordState) → slice_get w.coords n ≡ Some c → c.next ≡ 0
 
 module _ (plan : Plan) (none : length plan.program.procedures ≤ 0) where
-  step_idle : (w : World) → IsIdle w → (e : Option Event) (o : Outcome) → Comes plan w e o → IsIdle o.world
-  step_idle w i None o h = subst (λ (o : Outcome). IsIdle o.world) (sym h) i
+  step_idle : (w : World) → IsIdle plan w → (e : Option Event) (o : Outcome) → Comes plan w e o → IsIdle plan o.world
+  step_idle w i None o h = subst (λ (o : Outcome). IsIdle plan o.world) (sym h) i
   step_idle w i (Some (Submit n proc args)) o (s, there, h) = go (submitting plan w n proc args s o h)
     where
-      go : Submitting plan w n proc args s o → IsIdle o.world
-      go (is_refused e) = subst IsIdle (sym e) i
+      go : Submitting plan w n proc args s o → IsIdle plan o.world
+      go (is_refused e) = subst (IsIdle plan) (sym e) i
       go (is_accepted known counted e) = absurd (omega arith)
   step_idle w i (Some (Deliver k)) o (m, some, there, h) = absurd (nothing (k - 1) m (subst (λ l. slice_get l (k - 1) ≡ Some m) i.sent there))
     where
@@ -43,8 +45,8 @@ module _ (plan : Plan) (none : length plan.program.procedures ≤ 0) where
       nothing at m e = cc
   step_idle w i (Some (Tick (Server shard))) o (s, there, e) =
       let quiet : server.tick_sends s ≡ [] = ap (λ l. map (fetch_from s.shard) (filter (λ a. not (is_known s.lists.known a.id)) l)) (i.servers shard.0 s there) in
-      subst (λ (o : Outcome). IsIdle o.world) (sym e)
-      (subst (λ outs. IsIdle (at_server w shard.0 (answered s outs))) (sym quiet)
+      subst (λ (o : Outcome). IsIdle plan o.world) (sym e)
+      (subst (λ outs. IsIdle plan (at_server w shard.0 (answered s outs))) (sym quiet)
       (record {
         sent = append-nil w.sent ∙ i.sent;
         history = i.history;
@@ -52,11 +54,16 @@ module _ (plan : Plan) (none : length plan.program.procedures ≤ 0) where
         servers = λ m v h. elim (get-set_cases w.servers shard.0 m s s v there h) [ inl k ↦ ap (λ (v : ServerState). v.lists.waiting.asked) k.1 ∙ i.servers shard.0 s there | inr k ↦ i.servers m v k.1 ];
         known = λ m v h. elim (get-set_cases w.servers shard.0 m s s v there h) [ inl k ↦ ap (λ (v : ServerState). v.lists.known) k.1 ∙ i.known shard.0 s there | inr k ↦ i.known m v k.1 ];
         coords = i.coords;
+        stores = λ m v h. elim (get-set_cases w.servers shard.0 m s s v there h) [
+          | inl k ↦ subst (λ m. v.store ≡ (first_server plan (record { 0 = m })).store) k.0 (ap (λ (v : ServerState). v.store) k.1 ∙ i.stores shard.0 s there)
+          | inr k ↦ i.stores m v k.1
+        ];
+        nexts = i.nexts;
       }))
   step_idle w i (Some (Tick (Coord n))) o (s, there, e) =
       let quiet : coord.tick_sends plan s ≡ [] = ap (flat_map (coord.sent_again plan)) (i.coords n s there) in
-      subst (λ (o : Outcome). IsIdle o.world) (sym e)
-      (subst (λ outs. IsIdle (at_coord w n s outs [])) (sym quiet)
+      subst (λ (o : Outcome). IsIdle plan o.world) (sym e)
+      (subst (λ outs. IsIdle plan (at_coord w n s outs [])) (sym quiet)
       (record {
         sent = append-nil w.sent ∙ i.sent;
         history = append-nil w.history ∙ i.history;
@@ -64,9 +71,11 @@ module _ (plan : Plan) (none : length plan.program.procedures ≤ 0) where
         servers = i.servers;
         known = i.known;
         coords = λ m v h. elim (get-set_cases w.coords n m s s v there h) [ inl k ↦ ap (λ (v : CoordState). v.pending) k.1 ∙ i.coords n s there | inr k ↦ i.coords m v k.1 ];
+        stores = i.stores;
+        nexts = λ m v h. elim (get-set_cases w.coords n m s s v there h) [ inl k ↦ ap (λ (v : CoordState). v.next) k.1 ∙ i.nexts n s there | inr k ↦ i.nexts m v k.1 ];
       }))
 
-  pub run_idle : (coords : ℕ) (steps : List Stepped) (w : World) → IsRun plan coords steps w → IsIdle w
+  pub run_idle : (coords : ℕ) (steps : List Stepped) (w : World) → IsRun plan coords steps w → IsIdle plan w
   run_idle coords steps w begun = record {
     sent = refl;
     history = refl;
@@ -74,5 +83,9 @@ module _ (plan : Plan) (none : length plan.program.procedures ≤ 0) where
     servers = λ n s h. ap (λ (s : ServerState). s.lists.waiting.asked) (found_at (λ n. first_server plan (record { 0 = n })) 0 plan.program.shards n s h);
     known = λ n s h. ap (λ (s : ServerState). s.lists.known) (found_at (λ n. first_server plan (record { 0 = n })) 0 plan.program.shards n s h);
     coords = λ n c h. ap (λ (c : CoordState). c.pending) (found_at first_coord 0 coords n c h);
+    stores = λ n s h.
+        (let same : 0 + n ≡ n = omega arith in
+        ap (λ (s : ServerState). s.store) (found_at (λ n. first_server plan (record { 0 = n })) 0 plan.program.shards n s h) ∙ ap (λ n. (first_server plan (record { 0 = n })).store) same);
+    nexts = λ n c h. ap (λ (c : CoordState). c.next) (found_at first_coord 0 coords n c h);
   }
   run_idle coords steps w (goes_on {w = v} e o r h) = step_idle v (run_idle coords _ v r) e o h

@@ -22,6 +22,9 @@ pub mod Worlds
 mod Witness
 mod Idle
 mod Serial
+mod Answered
+mod Cells
+mod Resting
 mod Earlier
 pub mod Carried
 mod Gathered
@@ -52,3 +55,10 @@ mod Hearing
 mod Quieted
 mod Ordered
 mod OneRun
+pub mod Named
+mod ServersHere
+mod CoordsHere
+pub mod WorldsFit
+mod Findings
+mod Outcomes
+mod RunsThere

@@ -1,5 +1,5 @@
 -- A transaction whose messages are delivered and heard is asked to commit, and answered
-use Rattle.std.proofs.Common.{◌≡◌, ℕ, ℤ, zero, suc, ◌<◌, ◌==◌, true, List, Some, length, refl, sym, ap, subst, ◌∙◌, inl, inr, arith, is_some}
+use Rattle.std.proofs.Common.{◌≡◌, ◌≢◌, ℕ, ℤ, zero, suc, ◌<◌, ◌==◌, true, List, [], ◌∷◌, Some, length, refl, sym, ap, subst, ◌∙◌, inl, inr, arith, is_some}
 use Rattle.std.proofs.lemmas.Bool.{false≢true, eqb-true, cases_lt}
 use Rattle.std.specs.Prelude.{slice_get}
 use Rattle.roc_sequence.specs.Lists.{Has}
@@ -61,7 +61,7 @@ module _ (plan : Plan) (asked : TxnId → whole.Call) (S : Scheme) (is : IsSchem
     Started h = is_some (find_startok h x.startoks) ≡ true
 
     means : TxnMeans plan asked S (start_store plan.program) log x
-    means = l.means.coords x.id.coord c at x has
+    means = (l.means.coords x.id.coord c at).pending x has
 
     held : IsOutstanding plan w.sent x
     held = g.holds x.id.coord c at x has
@@ -192,3 +192,24 @@ module _ (plan : Plan) (schemes : HasSchemes plan) (laws : (S : Scheme) → IsSo
         all_answered plan (calls some) (T some) (is some) (laws (T some) (sound some)) (sound some) w x.0 x.1 (ongoing some).0 (ongoing some).1 t proc args h heard said delivered)
     | inr none ↦ absurd (subst (Has (Submitted t proc args)) (run_idle plan none coords steps w run).history h)
   ]
+
+  -- who is answered is pending nowhere
+  pub answered_gone : (t : TxnId) (reply : List ℤ) → Has (Answered t reply) w.history → (n : ℕ) (c : CoordState) → slice_get w.coords n ≡ Some c → (x : Transaction) → Has x c.pending → x.id ≢ t
+  answered_gone t reply h n c there x has same = elim (cases_lt 0 (length plan.program.procedures)) [
+    | inl some ↦ (ongoing some).0.gone t reply h c x (subst (λ m. slice_get w.coords m ≡ Some c) (sym ((pending some).own n c there x has) ∙ ap (λ (t : TxnId). t.coord) same) there) has same
+    | inr none ↦ absurd (subst (Has (Answered t reply)) (run_idle plan none coords steps w run).history h)
+  ]
+
+  -- where all are answered, nothing is pending
+  pub all_gone : ((t : TxnId) → WasSubmitted w.history t → (reply : List ℤ) × Has (Answered t reply) w.history) → (n : ℕ) (c : CoordState) → slice_get w.coords n ≡ Some c → c.pending ≡ []
+  all_gone all n c there = elim (cases_lt 0 (length plan.program.procedures)) [
+    | inl some ↦ go some c.pending refl
+    | inr none ↦ (run_idle plan none coords steps w run).coords n c there
+  ]
+    where
+      go : 0 < length plan.program.procedures → (xs : List Transaction) → c.pending ≡ xs → c.pending ≡ []
+      go some [] e = e
+      go some (x ∷ xs) e =
+          let has : Has x c.pending = subst (Has x) (sym e) (inl refl) in
+          let a = all x.id ((serial.logged plan schemes laws stores coords steps w run some).1.pending n c there x has) in
+          absurd (answered_gone x.id a.0 a.1 n c there x has refl)

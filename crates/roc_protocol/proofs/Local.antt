@@ -1,5 +1,5 @@
 -- A shard's store is its part of the one store
-use Rattle.std.proofs.Common.{◌≡◌, ℕ, ℤ, List, map, sym, ap, ◌∙◌}
+use Rattle.std.proofs.Common.{◌≡◌, ◌≢◌, ℕ, ℤ, List, map, sym, ap, ◌∙◌}
 use Rattle.roc_base.specs.declared.id.TxnId.{TxnId}
 use Rattle.roc_rows.specs.declared.cell.Cell.{Cell}
 use Rattle.roc_rows.specs.Store.{Store, read}
@@ -39,6 +39,15 @@ module _ (plan : Plan) (asked : TxnId → whole.Call) (S : Scheme) (start : Stor
         ∙ ap (λ (s : Store). read s x) (sym (is.after r given store))
         ∙ laws.cells r given store X.store alike_here x (e ∙ sym on)
         ∙ ap (λ (s : Store). read s x) (sym (after-store S.behaviour X r))
+
+    -- and it leaves the cells of other shards
+    pub run_elsewhere : (x : Cell) → S.cell_shard x ≢ shard → read (group_run plan c store).store x ≡ read store x
+    run_elsewhere x apart =
+        let here : Stage = record { store = store; yielded = X.yielded } in
+        ap (λ (c : GroupCall). read (group_run plan c store).store x) same
+        ∙ ap (λ (s : Store). read s x) (sym (is.after r given store))
+        ∙ ap (λ (s : Store). read s x) (sym (after-store S.behaviour here r))
+        ∙ laws.elsewhere here r x (λ e. apart (e ∙ on))
 
     yields : yield (bound_by_run plan c store) (group_run plan c store).reply ≡ yield_at S.behaviour X r
     yields =

@@ -1,5 +1,5 @@
 -- What messages and states say of the log
-use Rattle.std.proofs.Common.{◌≡◌, ◌↔◌, ℕ, ℤ, ◌<◌, Bool, true, false, not, ◌&&◌, ◌==◌, List, [], ◌∷◌, Some, None, length, map}
+use Rattle.std.proofs.Common.{◌≡◌, ◌≢◌, ◌↔◌, ◌⊎◌, ℕ, ℤ, ◌<◌, Bool, true, false, not, ◌&&◌, ◌==◌, List, [], ◌∷◌, Some, None, length, map}
 use Rattle.std.specs.Prelude.{slice_get, slice_index_or, pos, filter, flat_map, zip}
 use Rattle.std.specs.List.{AllByRecursion, range_with_len}
 use Rattle.roc_sequence.specs.Lists.{Has}
@@ -23,7 +23,7 @@ use Rattle.roc_whole.specs.Serial as whole
 use Rattle.roc_serial.specs.Behaviour.{TxnGroup, is_txn_group, is_group_number}
 use Rattle.roc_serial.specs.Runs.{Stage, needs, inputs_at, stage_behind, uses_in}
 use Rattle.roc_execution.specs.Scheme.{Scheme}
-use Rattle.roc_execution.specs.Log.{Log, PrecedesGroup, shard_at, IsWhole}
+use Rattle.roc_execution.specs.Log.{Log, PrecedesGroup, shard_at, IsWhole, IsDecidedThroughout}
 use Rattle.roc_execution.specs.Steps.{IsReachedLog}
 use Rattle.roc_server.specs.declared.started.StartedGroup.{StartedGroup}
 use Rattle.roc_server.specs.State.{find_group, ServerState}
@@ -161,9 +161,10 @@ module _ (plan : Plan) (asked : TxnId → whole.Call) (S : Scheme) (start : Stor
     pub entries : (e : StartedGroup) → Has e started → EntryMeans shard (unrun e)
     pub finds : (r : TxnGroup) → Began r → place r ≡ shard → (e : StartedGroup) × (find_group r.txn r.group started ≡ Some e)
 
-  -- its groups that ran later gave what they gave on the one store that holds its cells
+  -- it holds its own cells, as the one store does; and its groups that ran later gave what they gave on the one store
   pub record IsPart (shard : ℕ) (now : Stage) (ran : TxnGroup → Type 0) (store : Store) (started : List StartedGroup) : Type 0 where
     pub cells : (x : Cell) → S.cell_shard x ≡ shard → read store x ≡ read now.store x
+    pub elsewhere : (x : Cell) → S.cell_shard x ≢ shard → read store x ≡ pos 0
     pub later : (e : StartedGroup) → Has e started → ran (entry_run e) → S.is_immediate (entry_run e) ≡ false → e.later ≡ Some (now.yielded (entry_run e)).outs
     pub at_once : (e : StartedGroup) → Has e started → S.is_immediate (entry_run e) ≡ true → e.later ≡ None
 
@@ -189,6 +190,15 @@ module _ (plan : Plan) (asked : TxnId → whole.Call) (S : Scheme) (start : Stor
     pub asked_whole : (s : Shard) → Has s x.asked → (all_started plan x ≡ true) × (x.asked ≡ shards_of x)
     pub commitoks : (s : Shard) (outs : List ℤ) → Has (record { shard = s; outs = outs }) x.commitoks → DoneMeans x.id s.0 outs
 
+  -- the coordinator's transaction of a sequence number
+  abbrev pub numbered_id : CoordState → ℕ → TxnId
+  numbered_id c q = record { coord = c.number; seq = q }
+
+  pub record CoordMeans (c : CoordState) : Type 0 where
+    pub pending : (x : Transaction) → Has x c.pending → TxnMeans x
+    -- each sequence number below the next one is of a transaction that is pending, or that was answered
+    pub all : (q : ℕ) → q < c.next → ((x : Transaction) × Has x c.pending × (x.id ≡ numbered_id c q)) ⊎ IsListed is_txn log.answered (numbered_id c q)
+
   -- ---- the history
 
   -- a value at a place of t's reply, as one of its groups gave it
@@ -197,9 +207,9 @@ module _ (plan : Plan) (asked : TxnId → whole.Call) (S : Scheme) (start : Stor
     pub ran : Ran (run_of t group)
     pub gave : Has (at, value) (zip (outs_of plan (asked t).procedure group) (stage.yielded (run_of t group)).outs)
 
-  -- each value of the reply is one that a group gave for its place
+  -- it is decided wherever it has a group, and each value of the reply is one that a group gave for its place
   pub record AnswerMeans (t : TxnId) (reply : List ℤ) : Type 0 where
-    pub ordered : IsListed is_txn log.order t
+    pub throughout : IsDecidedThroughout S start log t
     pub count : length reply ≡ length (flat_map (outs_of plan (asked t).procedure) (range_with_len 0 (group_count t)))
     pub given : (at : ℕ) → at < length reply → IsGiven t at (slice_index_or reply at (pos 0))
 
@@ -210,5 +220,7 @@ module _ (plan : Plan) (asked : TxnId → whole.Call) (S : Scheme) (start : Stor
     pub order : w.order ≡ log.order
     pub servers : (n : ℕ) (s : ServerState) → slice_get w.servers n ≡ Some s → ServerMeans n s
     pub messages : (m : Sent) → Has m w.sent → Means m.msg m.to
-    pub coords : (n : ℕ) (c : CoordState) → slice_get w.coords n ≡ Some c → (x : Transaction) → Has x c.pending → TxnMeans x
+    pub coords : (n : ℕ) (c : CoordState) → slice_get w.coords n ≡ Some c → CoordMeans c
     pub answered : (t : TxnId) (reply : List ℤ) → Has (Answered t reply) w.history → AnswerMeans t reply
+    -- who is answered in the log is who was answered
+    pub answers : (t : TxnId) → IsListed is_txn log.answered t ↔ ((reply : List ℤ) × Has (Answered t reply) w.history)

@@ -92,7 +92,7 @@ module _ (plan : Plan) (asked : TxnId → whole.Call) (S : Scheme) (is : IsSchem
 
   -- what was answered was submitted
   pub answered_submitted : (t : TxnId) (reply : List ℤ) → Has (Answered t reply) w.history → WasSubmitted w.history t
-  answered_submitted t reply h = ordered_submitted plan asked S is laws w log l t (subst (λ l. IsListed is_txn l t) (sym l.means.order) (l.means.answered t reply h).ordered)
+  answered_submitted t reply h = ordered_submitted plan asked S is laws w log l t (subst (λ l. IsListed is_txn l t) (sym l.means.order) (l.means.answered t reply h).throughout.in_order)
 
   module _ (o : IsPending plan w) where
     -- the commits of a transaction whose groups all started were sent
@@ -104,7 +104,7 @@ module _ (plan : Plan) (asked : TxnId → whole.Call) (S : Scheme) (is : IsSchem
               (let on = subst (λ msg. StartsOn w.coords msg (Server shard)) is_start (subst (StartsOn w.coords m.msg) to (o.starts m h)) in
               let was = on c x there has refl in
               let z = any_has (λ (z : SentStart). z.group == group && z.shard.0 == shard.0) x.starts was in
-              let few = subst (λ n. n < 64) ((l.means.coords x.id.coord c there x has).starts group shard was).on (few_place plan asked S (start_store plan.program) is log i (run_of x.id group)) in
+              let few = subst (λ n. n < 64) (((l.means.coords x.id.coord c there).pending x has).starts group shard was).on (few_place plan asked S (start_store plan.program) is log i (run_of x.id group)) in
               let g = holds x.id.coord c there x has in
               let k = g.commits shard (subst (Has shard) (sym (g.asked all)) (shard_listed x.starts shard z.0 z.1 (and_parts (z.0.group == group) (z.0.shard.0 == shard.0) z.2).1 few)) in
               (k.edges, k.facts, k.message, k.has, k.to, k.is));

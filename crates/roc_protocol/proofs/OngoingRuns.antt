@@ -98,7 +98,7 @@ module _ (plan : Plan) (asked : TxnId → whole.Call) (S : Scheme) (is : IsSchem
       subst (λ n. n < 64) (sym m.1) (few_place plan asked S (start_store plan.program) is log i (run_of id group)),
       λ x h e.
           (let below = (is.groups id group).0 (i.are_groups (run_of id group) m.0.began) in
-          below_number plan asked S (start_store plan.program) is log i x (told plan asked S (start_store plan.program) is log i x (l.means.coords n s there x h)) group
+          below_number plan asked S (start_store plan.program) is log i x (told plan asked S (start_store plan.program) is log i x ((l.means.coords n s there).pending x h)) group
           (subst (λ t. group < length (groups_of plan (asked t).procedure)) (sym e) below)),
     )
     of_group n s there (Start id proc group args inputs) m = tt
@@ -110,7 +110,7 @@ module _ (plan : Plan) (asked : TxnId → whole.Call) (S : Scheme) (is : IsSchem
 
     module _ (n : ℕ) (s : CoordState) (there : slice_get w.coords n ≡ Some s) where
       is_whole : (x : Transaction) → Has x s.pending → (a : Shard) → Has a x.asked → all_started plan x ≡ true
-      is_whole x h a k = ((l.means.coords n s there x h).asked_whole a k).0
+      is_whole x h a k = (((l.means.coords n s there).pending x h).asked_whole a k).0
 
       not_of : (t : TxnId) (reply : List ℤ) → Has (Answered t reply) w.history → (x : Transaction) → Has x s.pending → x.id ≢ t
       not_of = not_answered plan asked S is laws w log l subs o g n s there
@@ -123,7 +123,7 @@ module _ (plan : Plan) (asked : TxnId → whole.Call) (S : Scheme) (is : IsSchem
       tick_ongoing : IsOngoing plan (at_coord w n s (tick_sends plan s) [])
       tick_ongoing =
           coordinated_ongoing plan asked S is laws w log l subs o g n s there s (tick_sends plan s) [] tick_goes (λ t proc args h. absurd h)
-          (λ t reply h. (tick_coordinated plan asked S (start_store plan.program) is log i w l.means n s there (λ u. u ≢ t) (not_of t reply h)).starts)
+          (λ t reply h. (tick_coordinated plan asked S (start_store plan.program) is laws log i w l.means n s there (λ u. u ≢ t) (not_of t reply h)).starts)
 
       -- ---- a message
 
@@ -134,7 +134,7 @@ module _ (plan : Plan) (asked : TxnId → whole.Call) (S : Scheme) (is : IsSchem
       message_ongoing msg m =
           coordinated_ongoing plan asked S is laws w log l subs o g n s there (after_message plan s msg).state (after_message plan s msg).sends (answer_entries (after_message plan s msg).answer) (message_goes msg m)
           (λ t proc args h. absurd (no_submission (after_message plan s msg).answer t proc args h))
-          (λ t reply h. (message_coordinated plan asked S (start_store plan.program) is log i w l.means n s there (λ u. u ≢ t) (not_of t reply h) msg (Coord n) m).starts)
+          (λ t reply h. (message_coordinated plan asked S (start_store plan.program) is laws log i w l.means n s there (λ u. u ≢ t) (not_of t reply h) msg (Coord n) m).starts)
 
       -- ---- a submission
 
@@ -155,7 +155,7 @@ module _ (plan : Plan) (asked : TxnId → whole.Call) (S : Scheme) (is : IsSchem
         submission_ongoing : IsOngoing plan (at_coord w n (accepted plan s (new_transaction s proc args)).state (accepted plan s (new_transaction s proc args)).sends tells)
         submission_ongoing =
             coordinated_ongoing plan asked S is laws w log l subs o g n s there (accepted plan s (new_transaction s proc args)).state (accepted plan s (new_transaction s proc args)).sends tells submission_goes new
-            (λ t reply h. (submission_coordinated plan asked S (start_store plan.program) is log i w l.means n s there (λ u. u ≢ t) (not_of t reply h) proc args tells no_answer p a (fresh t reply h)).starts)
+            (λ t reply h. (submission_coordinated plan asked S (start_store plan.program) is laws log i w l.means n s there (λ u. u ≢ t) (not_of t reply h) proc args tells no_answer p a (fresh t reply h)).starts)
           where
             new : (t : TxnId) (q : ℕ) (x : List ℤ) → Has (Submitted t q x) tells → (t.coord ≡ n) × (y : Transaction) × Has y (accepted plan s (new_transaction s proc args)).state.pending × (y.id ≡ t)
             new t q x h =

@@ -63,7 +63,7 @@ precedes_by plan asked S start log known all u t h = go (is_known known t) refl
         record { second = m.0; of_second = m.1 ∙ k.2; by = subst (λ u. PrecedesGroup S start log.past u m.0) (is_txn-true a.0.from u a.2) m.2 }
 
 -- in a list without repeats the rest has none of the front
-apart : (xs ys : List TxnId) (b : TxnId) → NoneTwice is_txn (xs ++ ys) → IsListed is_txn ys b → ¬ IsListed is_txn xs b
+pub apart : (xs ys : List TxnId) (b : TxnId) → NoneTwice is_txn (xs ++ ys) → IsListed is_txn ys b → ¬ IsListed is_txn xs b
 apart [] ys b once h k = absurd (omega arith)
 apart (x ∷ xs) ys b once h k = elim (listed_cases is_txn x xs b k) [
   | inl e ↦ once.0 (subst (IsListed is_txn (xs ++ ys)) (is_txn-true b x e) (listed_behind is_txn xs ys b h))

@@ -161,7 +161,7 @@ module _ (plan : Plan) (asked : TxnId → whole.Call) (S : Scheme) (is : IsSchem
               let q = from_has_map (start_for plan x) out (filter (awaits_startok x) (group_numbers plan x.proc)) k in
               let f = from_has_filter (awaits_startok x) q.0 (group_numbers plan x.proc) q.1 in
               subst (λ (out : Outgoing). StartsOn (slice_set w.coords n s) out.msg out.to) (sym q.2)
-              (start_on plan w.coords n s s there once x x q.0 h refl (o.own n s there x h) (was x q.0 f.0 (find_start q.0 x.starts) refl (and_parts (is_some (find_start q.0 x.starts)) (is_none (find_startok q.0 x.startoks)) f.1).0 (l.means.coords n s there x h)))
+              (start_on plan w.coords n s s there once x x q.0 h refl (o.own n s there x h) (was x q.0 f.0 (find_start q.0 x.starts) refl (and_parts (is_some (find_start q.0 x.starts)) (is_none (find_startok q.0 x.startoks)) f.1).0 ((l.means.coords n s there).pending x h)))
             where
               was : (x : Transaction) (g : ℕ) → Has g (group_numbers plan x.proc) → (z : Option SentStart) → find_start g x.starts ≡ z → is_some z ≡ true → TxnMeans plan asked S (start_store plan.program) log x → was_asked x g (shard_for plan x g) ≡ true
               was x g number None e k m = absurd (false≢true k)
@@ -175,7 +175,7 @@ module _ (plan : Plan) (asked : TxnId → whole.Call) (S : Scheme) (is : IsSchem
           again_lists : Advances plan s s → (x : Transaction) → Has x s.pending → (out : Outgoing) → (b : Bool) → all_started plan x ≡ b → Has out (if b then commits_again x else starts_again plan x) → (k : KnownList) → Has k (lists_in out.msg) → IsWholeAt plan (slice_set w.coords n s) k.of
           again_lists a x h out false e k = start_lists plan w.coords n s s there once x (filter (awaits_startok x) (group_numbers plan x.proc)) out k
           again_lists a x h out true e k =
-              let m = l.means.coords n s there x h in
+              let m = (l.means.coords n s there).pending x h in
               let q = from_has_map (commit_to x) out (filter (λ (shard : Shard). not (has_commitok shard x.commitoks)) x.asked) k in
               let g = (from_has_filter (λ (shard : Shard). not (has_commitok shard x.commitoks)) q.0 x.asked q.1).0 in
               commit_lists plan w.coords n s s there once x x h refl (o.own n s there x h) (m.asked_whole q.0 g) (taken_facts s a x h) (filter (λ (shard : Shard). not (has_commitok shard x.commitoks)) x.asked) out k

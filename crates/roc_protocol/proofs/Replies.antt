@@ -18,7 +18,7 @@ use Rattle.roc_serial.specs.Behaviour.{TxnGroup, Yield}
 use Rattle.roc_serial.specs.Runs.{inputs_at, first_stage, after_groups, groups_before}
 use Rattle.roc_serial.proofs.Stages.{yielded_at}
 use Rattle.roc_execution.specs.Scheme.{Scheme}
-use Rattle.roc_execution.specs.Log.{Log}
+use Rattle.roc_execution.specs.Log.{Log, IsDecidedThroughout}
 use Rattle.roc_execution.specs.Invariants.{LogInvariants}
 use Rattle.roc_coord.specs.declared.transaction.Transaction.{Transaction}
 use Rattle.roc_coord.specs.declared.transaction.SentStart.{SentStart}
@@ -203,6 +203,27 @@ module _ (plan : Plan) (asked : TxnId → whole.Call) (S : Scheme) (start : Stor
       -- ---- each place has a value
 
       module _ (asked_all : x.asked ≡ shards_of x) (done : all_committed x ≡ true) where
+        -- the shard of each of its groups was asked to commit, and did
+        committed_at : (g : ℕ) → g < length (groups_of plan (asked t).procedure) → (ok : TakenCommit) × Has ok x.commitoks × (ok.shard.0 ≡ place plan asked S start c (run_of t g))
+        committed_at g l =
+            let s : Shard = record { 0 = place plan asked S start c (run_of t g) } in
+            let number = below_number plan asked S start is c i x (told plan asked S start is c i x m) g l in
+            let was : was_asked x g s ≡ true = asked_is g number s ∙ eq-eqb (place plan asked S start c (run_of t g)) (place plan asked S start c (run_of t g)) refl in
+            let z = any_has (λ (z : SentStart). z.group == g && z.shard.0 == s.0) x.starts was in
+            let zp = and_parts (z.0.group == g) (z.0.shard.0 == s.0) z.2 in
+            let in_shards : Has s x.asked = subst (Has s) (sym asked_all) (shard_listed x.starts s z.0 z.1 zp.1 (few_place (run_of t g))) in
+            let committed = every_has (λ (s : Shard). has_commitok s x.commitoks) x.asked done s in_shards in
+            let k = any_has (λ (ok : TakenCommit). ok.shard.0 == s.0) x.commitoks committed in
+            (k.0, k.1, eqb-true k.0.shard.0 s.0 k.2)
+
+        -- so it is decided on each of them
+        pub decided_throughout : IsListed is_txn c.order t → IsDecidedThroughout S start c t
+        decided_throughout w =
+            record {
+              in_order = w;
+              everywhere = λ g l. (let k = committed_at g ((is.groups t g).0 l) in subst (λ s. IsListed is_txn (c.decided s) t) k.2 (done_of k.0 k.1).decided);
+            }
+
         placed_at : (at g : ℕ) → g < length (groups_of plan (asked t).procedure) → Has at (outs g) → (v : ℤ) × Has (at, v) (placed_outs plan x)
         placed_at at g l h = go (S.is_immediate r) refl
           where
@@ -216,15 +237,9 @@ module _ (plan : Plan) (asked : TxnId → whole.Call) (S : Scheme) (start : Stor
                 let q = has_pair at (outs o.0.group) o.0.outs n (subst (λ h. Has at (outs h)) (sym o.3) h) in
                 (q.0, has_left (at, q.0) (placed_by_startoks plan x) (placed_by_commitoks plan x) (has_flat (given_by_start plan x) (at, q.0) o.0 x.startoks o.1 (subst (λ p. Has (at, q.0) (zip (outs_of plan p o.0.group) o.0.outs)) (sym m.proc) q.1)))
             go false e =
-                let s : Shard = record { 0 = place plan asked S start c (run_of t g) } in
                 let number = below_number plan asked S start is c i x (told plan asked S start is c i x m) g l in
-                let was : was_asked x g s ≡ true = asked_is g number s ∙ eq-eqb (place plan asked S start c (run_of t g)) (place plan asked S start c (run_of t g)) refl in
-                let z = any_has (λ (z : SentStart). z.group == g && z.shard.0 == s.0) x.starts was in
-                let zp = and_parts (z.0.group == g) (z.0.shard.0 == s.0) z.2 in
-                let in_shards : Has s x.asked = subst (Has s) (sym asked_all) (shard_listed x.starts s z.0 z.1 zp.1 (few_place (run_of t g))) in
-                let committed = every_has (λ (s : Shard). has_commitok s x.commitoks) x.asked done s in_shards in
-                let k = any_has (λ (ok : TakenCommit). ok.shard.0 == s.0) x.commitoks committed in
-                let same : k.0.shard.0 ≡ place plan asked S start c (run_of t g) = eqb-true k.0.shard.0 s.0 k.2 in
+                let k = committed_at g l in
+                let same = k.2 in
                 let d = (done_of k.0 k.1).decided in
                 let gs = filter (waits_at plan asked S start c k.0.shard.0 t) below in
                 let waits : waits_at plan asked S start c k.0.shard.0 t g ≡ true = and_from (not (S.is_immediate (run_of t g))) (place plan asked S start c (run_of t g) == k.0.shard.0) (ap not e) (eq-eqb (place plan asked S start c (run_of t g)) k.0.shard.0 (sym same)) in
@@ -235,7 +250,7 @@ module _ (plan : Plan) (asked : TxnId → whole.Call) (S : Scheme) (start : Stor
         pub answer_means : (w : IsListed is_txn c.order t) → AnswerMeans plan asked S start c t (reply_of plan x)
         answer_means w =
             record {
-              ordered = w;
+              throughout = decided_throughout w;
               count = length-map (range_with_len 0 (reply_length plan x)) (λ (at : ℕ). out_at at (placed_outs plan x)) ∙ (length-range 0 (reply_length plan x) ∙ total);
               given = λ at l. given at (subst (λ n. at < n) (length-map (range_with_len 0 (reply_length plan x)) (λ (at : ℕ). out_at at (placed_outs plan x)) ∙ length-range 0 (reply_length plan x)) l);
             }

@@ -30,7 +30,7 @@ use Rattle.roc_server.specs.Inner.Kept.{unrun}
 use Rattle.roc_protocol.specs.Asked.{picked, called, IsSchemeOf}
 use Rattle.roc_protocol.specs.Inner.Given.{LogLaws}
 use Rattle.roc_protocol.proofs.Means.{entry_run, Ran, stage, EntryMeans, AreGroupsHere, IsPart}
-use Rattle.roc_protocol.proofs.Local.{call_is, run_cells, run_outs}
+use Rattle.roc_protocol.proofs.Local.{call_is, run_cells, run_elsewhere, run_outs}
 use Rattle.roc_protocol.proofs.Buffered.{buffered_runs}
 use Rattle.roc_protocol.proofs.Starting.{after_append}
 
@@ -127,6 +127,7 @@ module _ (plan : Plan) (asked : TxnId → whole.Call) (S : Scheme) (start : Stor
     run_part =
         record {
           cells = run_cells plan asked S start is laws n Z r (group_call e) st.store is_called on p.cells;
+          elsewhere = λ x apart. run_elsewhere plan asked S start is laws n Z r (group_call e) st.store is_called on p.cells x apart ∙ p.elsewhere x apart;
           later = λ f k ran imm. (let g = from_has_map (later_if e outs) f st.started k in later_after f g.0 g.1 (is_group e.id e.group g.0) refl g.2 ran imm);
           at_once = λ f k imm. (let g = from_has_map (later_if e outs) f st.started k in none_after f g.0 g.1 (is_group e.id e.group g.0) refl g.2 imm);
         }
@@ -141,7 +142,7 @@ module _ (plan : Plan) (asked : TxnId → whole.Call) (S : Scheme) (start : Stor
     pub part : IsPart plan asked S start c n Z Before st.store st.started
 
   weaker : (P Q : TxnGroup → Type 0) → ((q : TxnGroup) → Q q → P q) → (Z : Stage) (st : ServerState) → IsAt P Z st → IsAt Q Z st
-  weaker P Q h Z st a = record { keeps = a.keeps; groups = a.groups; part = record { cells = a.part.cells; later = λ e k ran. a.part.later e k (h (entry_run e) ran); at_once = a.part.at_once } }
+  weaker P Q h Z st a = record { keeps = a.keeps; groups = a.groups; part = record { cells = a.part.cells; elsewhere = a.part.elsewhere; later = λ e k ran. a.part.later e k (h (entry_run e) ran); at_once = a.part.at_once } }
 
   pub run_parts : (es : List StartedGroup) → ((e : StartedGroup) → Has e es → IsWaiting e) → (Before : TxnGroup → Type 0) (Z : Stage) (st : ServerState) → IsAt Before Z st
       → IsAt (λ q. Before q ⊎ Has q (map entry_run es)) (after_groups S.behaviour Z (map entry_run es)) (run_groups plan st es)

@@ -88,7 +88,7 @@ module _ (plan : Plan) (schemes : HasSchemes plan) (laws : (S : Scheme) → IsSo
       witness plan asked S is (laws S sound) (serials S sound) w logged.0 logged.1 (calls plan w submissions)
       (λ t h. schemes.replies asked known logged.0.order i.order.once (λ u k. ids plan w submissions u) t h)
 
-idle_serial : (plan : Plan) (w : World) → IsIdle w → IsSerialWitness plan.program w.history w.order
+idle_serial : (plan : Plan) (w : World) → IsIdle plan w → IsSerialWitness plan.program w.history w.order
 idle_serial plan w i =
     subst (λ order. IsSerialWitness plan.program w.history order) (sym i.order)
     (subst (λ history. IsSerialWitness plan.program history []) (sym i.history)

@@ -97,7 +97,7 @@ module _ (plan : Plan) (asked : TxnId → whole.Call) (S : Scheme) (start : Stor
       record {
         log = c;
         steps = no_steps;
-        means = server_means plan asked S start is c c i i (laws.grows c c i no_steps) o.reached w o n s r there after (λ m apart v h. o.servers m v h) sends (ap (noted w.order) none ∙ o.order);
+        means = server_means plan asked S start is c c i i (laws.grows c c i no_steps) o.reached w o n s r there after (λ m apart v h. o.servers m v h) sends (ap (noted w.order) none ∙ o.order) refl;
         decides = sym (append-nil (c.decided n)) ∙ ap (λ ts. c.decided n ++ ts) (sym none);
         began = λ q h. inl h;
       }
@@ -144,7 +144,7 @@ module _ (plan : Plan) (asked : TxnId → whole.Call) (S : Scheme) (start : Stor
                   mine.number ∙ sym (starting.place_new plan asked S start is laws c o.reached n s mine id proc group args inputs m none f.before f.reached found.before.sound led),
                   refl,
                 ))
-                o.order;
+                o.order refl;
             decides = sym (append-nil (c.decided n));
             began = λ q h. elim (starting.begun_cases plan asked S start is laws c o.reached n s mine id proc group args inputs m none f.before f.reached found.before.sound led q h) [ inl k ↦ inl k | inr k ↦ inr (subst (λ (q : TxnGroup). Fresh q.txn) (sym k) fresh) ];
           }
@@ -205,7 +205,7 @@ module _ (plan : Plan) (asked : TxnId → whole.Call) (S : Scheme) (start : Stor
               (subst (ServerMeans plan asked S start d2 n) (sym state) server2)
               (λ k apart v h. server_elsewhere plan asked S start is c d2 i j2 g2 k (deciding.quiet_elsewhere plan asked S start is laws c o.reached n s mine news lists ts new k apart) v (o.servers k v h))
               sends
-              (ap (noted w.order) decided ∙ (noted-new w.order ts new.ordered.once ∙ ap (λ l. l ++ new_in l ts) o.order));
+              (ap (noted w.order) decided ∙ (noted-new w.order ts new.ordered.once ∙ ap (λ l. l ++ new_in l ts) o.order)) refl;
           decides = cond-true (n == n) (c.decided n ++ ts) (c.decided n) (eq-eqb n n refl) ∙ ap (λ ts. c.decided n ++ ts) (sym decided);
           began = λ q h. inl h;
         }

@@ -70,7 +70,7 @@ module _ (plan : Plan) (asked : TxnId → whole.Call) (S : Scheme) (is : IsSchem
     means = subst (λ msg. Means plan asked S (start_store plan.program) log msg m.to) msg (l.means.messages m has)
 
     mine : TxnMeans plan asked S (start_store plan.program) log x
-    mine = l.means.coords n s there x pending
+    mine = (l.means.coords n s there).pending x pending
 
     at : slice_get w.coords id.coord ≡ Some s
     at = subst (λ m. slice_get w.coords m ≡ Some s) (ap number (sym to ∙ means.2)) there
@@ -113,7 +113,7 @@ module _ (plan : Plan) (asked : TxnId → whole.Call) (S : Scheme) (is : IsSchem
     done = subst (λ msg. Means plan asked S (start_store plan.program) log msg m.to) msg (l.means.messages m has)
 
     held : TxnMeans plan asked S (start_store plan.program) log x
-    held = l.means.coords n s there x pending
+    held = (l.means.coords n s there).pending x pending
 
     found_at : slice_get w.coords id.coord ≡ Some s
     found_at = subst (λ m. slice_get w.coords m ≡ Some s) (ap number (sym to ∙ done.1)) there

@@ -1,5 +1,5 @@
 -- A new group starts on a shard
-use Rattle.std.proofs.Common.{◌≡◌, ◌≢◌, ℕ, ℤ, ◌==◌, Bool, true, false, not, cond, ◌&&◌, ◌||◌, List, [], ◌∷◌, ◌++◌, Some, None, map, refl, sym, ap, subst, ◌∙◌, arith, ◌⊎◌, inl, inr, append-nil}
+use Rattle.std.proofs.Common.{◌≡◌, ◌≢◌, ℕ, ℤ, pos, ◌==◌, Bool, true, false, not, cond, ◌&&◌, ◌||◌, List, [], ◌∷◌, ◌++◌, Some, None, map, refl, sym, ap, subst, ◌∙◌, arith, ◌⊎◌, inl, inr, append-nil}
 use Rattle.std.proofs.lemmas.Bool.{false≢true, and_parts, and_from, eq-eqb, eqb-true, cond-true, cond-false, not-true, not_from_false}
 use Rattle.std.specs.Prelude.{if◌then◌else◌, filter, find}
 use Rattle.roc_sequence.specs.Lists.{Has}
@@ -45,7 +45,7 @@ use Rattle.roc_protocol.proofs.Means.{run_of, entry_run, place, Precedes, Ran, B
 use Rattle.roc_protocol.proofs.Grows.{begun_grows, place_grows, values_grow, entry_grows, list_grows, all_grow}
 use Rattle.roc_protocol.proofs.Meets.{meet_of, of_meet}
 use Rattle.roc_protocol.proofs.Facts.{facts_known}
-use Rattle.roc_protocol.proofs.Local.{call_is, run_cells, run_bound, run_outs, run_uses}
+use Rattle.roc_protocol.proofs.Local.{call_is, run_cells, run_elsewhere, run_bound, run_outs, run_uses}
 use Rattle.roc_protocol.proofs.Elsewhere.{IsQuietOn}
 
 pub after_append : (B : _) (s : Stage) (Q T : List TxnGroup) → after_groups B s (Q ++ T) ≡ after_groups B (after_groups B s Q) T
@@ -295,6 +295,7 @@ module _ (plan : Plan) (asked : TxnId → whole.Call) (S : Scheme) (start : Stor
           };
           part = record {
             cells = λ x e. cells_after x e;
+            elsewhere = λ x apart. elsewhere_after x apart;
             later = λ e h ran imm. elim (has_append e s.started (entry ∷ []) h) [
               | inl k ↦ elim (ran_cases (entry_run e) ran) [
                 | inl l ↦ o.part.later e k l imm ∙ ap (λ (y : Yield). Some y.outs) (sym (g.yielded (entry_run e) l))
@@ -347,6 +348,13 @@ module _ (plan : Plan) (asked : TxnId → whole.Call) (S : Scheme) (start : Stor
                 some_none : {A : Type 0} {a : A} → Some a ≡ None → ⊥
                 some_none e = cc
             go false e ih = ih e k
+
+        elsewhere_after : (x : Cell) → S.cell_shard x ≢ n → read (if I then (group_run plan this s.store).store else s.store) x ≡ pos 0
+        elsewhere_after x apart = go I
+          where
+            go : (b : Bool) → read (if b then (group_run plan this s.store).store else s.store) x ≡ pos 0
+            go true = run_elsewhere plan asked S start is laws n X r this s.store is_called on o.part.cells x apart ∙ o.part.elsewhere x apart
+            go false = o.part.elsewhere x apart
 
         cells_after : (x : Cell) → S.cell_shard x ≡ n → read (if I then (group_run plan this s.store).store else s.store) x ≡ read Y.store x
         cells_after x e = go (S.is_immediate r) refl

@@ -91,7 +91,7 @@ same_list [] (y ∷ ys) e h = absurd (omega arith)
 same_list (x ∷ xs) [] e h = absurd (omega arith)
 same_list (x ∷ xs) (y ∷ ys) e h = let first = h 0 (omega arith) in let rest = same_list xs ys (omega arith) (λ at l. h (suc at) (omega arith)) in λ i. first i ∷ rest i
 
-calls_are : (asked : TxnId → whole.Call) (h : List Entry) (order : List TxnId) → ((t : TxnId) → Has t order → submitted_call t h ≡ Some (asked t)) → submitted_calls h order ≡ map asked order
+pub calls_are : (asked : TxnId → whole.Call) (h : List Entry) (order : List TxnId) → ((t : TxnId) → Has t order → submitted_call t h ≡ Some (asked t)) → submitted_calls h order ≡ map asked order
 calls_are asked h [] e = refl
 calls_are asked h (t ∷ order) e = let a = e t (inl refl) in let b = calls_are asked h order (λ u k. e u (inr k)) in λ i. cons_option (a i) (b i)
 
@@ -119,7 +119,7 @@ module _ (plan : Plan) (asked : TxnId → whole.Call) (S : Scheme) (is : IsSchem
         let g = a.given at (subst (λ n. at < n) (x.count ∙ sym a.count) l) in
         let r = run_of t g.group in
         x.given g.group at (slice_index_or reply at (pos 0)) ((is.groups t g.group).0 (i.are_groups r (i.ran_started r g.ran)))
-        (subst (λ (y : Yield). Has (at, slice_index_or reply at (pos 0)) (zip (outs_of plan (asked t).procedure g.group) y.outs)) (sym (gave_same r g.ran a.ordered)) g.gave))
+        (subst (λ (y : Yield). Has (at, slice_index_or reply at (pos 0)) (zip (outs_of plan (asked t).procedure g.group) y.outs)) (sym (gave_same r g.ran a.throughout.in_order)) g.gave))
 
     pub witness : (calls : (t : TxnId) → WasSubmitted w.history t → submitted_call t w.history ≡ Some (asked t))
         → ((t : TxnId) → IsListed is_txn log.order t → (reply : List ℤ) × IsWholeReply plan asked S log.order t reply)
@@ -128,10 +128,10 @@ module _ (plan : Plan) (asked : TxnId → whole.Call) (S : Scheme) (is : IsSchem
         record {
           once = subst (NoneTwice is_txn) (sym o.means.order) i.order.once;
           submitted = ordered_submitted plan asked S is laws w log o;
-          answered = λ t reply h. subst (λ l. IsListed is_txn l t) (sym o.means.order) (o.means.answered t reply h).ordered;
+          answered = λ t reply h. subst (λ l. IsListed is_txn l t) (sym o.means.order) (o.means.answered t reply h).throughout.in_order;
           replies = λ t reply h.
               (let a = o.means.answered t reply h in
-              let x = wholes t a.ordered in
+              let x = wholes t a.throughout.in_order in
               let same = reply_same t reply a x.0 x.1 in
               let l : submitted_calls w.history w.order ≡ map asked log.order =
               calls_are asked w.history w.order (λ u k. calls u (ordered_submitted plan asked S is laws w log o u (has_listed w.order u k))) ∙ ap (map asked) o.means.order in

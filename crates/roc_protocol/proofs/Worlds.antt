@@ -155,7 +155,7 @@ module _ (plan : Plan) (asked : TxnId → whole.Call) (S : Scheme) (is : IsSchem
     i = laws.holds log o.means.reached
 
     answered_listed : (t : TxnId) (reply : List ℤ) → WasAnswered w.history t reply → IsListed is_txn w.order t
-    answered_listed t reply h = subst (λ l. IsListed is_txn l t) (sym o.means.order) (o.means.answered t reply h).ordered
+    answered_listed t reply h = subst (λ l. IsListed is_txn l t) (sym o.means.order) (o.means.answered t reply h).throughout.in_order
 
     -- ---- a step of a server
 
@@ -188,20 +188,22 @@ module _ (plan : Plan) (asked : TxnId → whole.Call) (S : Scheme) (is : IsSchem
     -- ---- a step of a coordinator
 
     coordinated_logged : (n : ℕ) (s : CoordState) (there : slice_get w.coords n ≡ Some s) (after : CoordState) (outs : List Outgoing) (tells : List Entry)
-        → IsCoordinated plan asked S start is log i w o.means n s there (WasSubmitted (w.history ++ tells)) (λ x h. submitted_front w.history tells x.id (o.pending n s there x h)) after outs tells
+        → (x : IsCoordinated plan asked S start is laws log i w o.means n s there (WasSubmitted (w.history ++ tells)) (λ x h. submitted_front w.history tells x.id (o.pending n s there x h)) after outs tells)
         → ((t u : TxnId) → IsAnsweredBefore (w.history ++ tells) t u → IsListed is_txn w.order u → IsListedBefore is_txn w.order t u)
-        → IsLogged (at_coord w n after outs tells) log
-    coordinated_logged n s there after outs tells x time =
-        record {
-          means = x.means;
-          began = λ r h. submitted_front w.history tells r.txn (o.began r h);
-          starts = starts_after (w.history ++ tells) w.sent (Coord n) outs (λ m h. starts_later w.history tells m.msg (o.starts m h)) x.starts;
-          pending = λ m c e y h. elim (get-set_cases w.coords n m s after c there e) [
-            | inl k ↦ x.pending y (subst (λ (c : CoordState). Has y c.pending) k.1 h)
-            | inr k ↦ submitted_front w.history tells y.id (o.pending m c k.1 y h)
-          ];
-          in_time = time;
-        }
+        → (later : Log) × IsLogged (at_coord w n after outs tells) later
+    coordinated_logged n s there after outs tells x time = (
+      x.log,
+      record {
+        means = x.means;
+        began = λ r h. submitted_front w.history tells r.txn (o.began r (x.began r h));
+        starts = starts_after (w.history ++ tells) w.sent (Coord n) outs (λ m h. starts_later w.history tells m.msg (o.starts m h)) x.starts;
+        pending = λ m c e y h. elim (get-set_cases w.coords n m s after c there e) [
+          | inl k ↦ x.pending y (subst (λ (c : CoordState). Has y c.pending) k.1 h)
+          | inr k ↦ submitted_front w.history tells y.id (o.pending m c k.1 y h)
+        ];
+        in_time = time;
+      },
+    )
 
     -- an answer at the end is before no submission
     answers_last : (a : Handled) (t u : TxnId) → IsAnsweredBefore (w.history ++ answer_entries a) t u → IsAnsweredBefore w.history t u
@@ -231,7 +233,7 @@ module _ (plan : Plan) (asked : TxnId → whole.Call) (S : Scheme) (is : IsSchem
     tick_logged (Server shard) v (s, there, e) = subst (λ (v : Outcome). (later : Log) × IsLogged v.world later) (sym e)
         (served_logged shard.0 s there (answered s (server.tick_sends s)) (tick_explained plan asked S start is laws log w o.means shard.0 s there (WasSubmitted w.history)) (no_starts_at_tick plan s (WasSubmitted w.history)))
     tick_logged (Coord n) v (s, there, e) = subst (λ (v : Outcome). (later : Log) × IsLogged v.world later) (sym e)
-        (log, coordinated_logged n s there s (coord.tick_sends plan s) [] (tick_coordinated plan asked S start is log i w o.means n s there (WasSubmitted (w.history ++ [])) (λ x h. submitted_front w.history [] x.id (o.pending n s there x h))) (λ t u b. o.in_time t u (subst (λ h. IsAnsweredBefore h t u) (append-nil w.history) b)))
+        (coordinated_logged n s there s (coord.tick_sends plan s) [] (tick_coordinated plan asked S start is laws log i w o.means n s there (WasSubmitted (w.history ++ [])) (λ x h. submitted_front w.history [] x.id (o.pending n s there x h))) (λ t u b. o.in_time t u (subst (λ h. IsAnsweredBefore h t u) (append-nil w.history) b)))
 
     receive_logged : (m : Msg) (to : Node) (v : Outcome) → Means plan asked S start log m to → StartsAre (WasSubmitted w.history) m → IsReceived plan w m to v → (later : Log) × IsLogged v.world later
     receive_logged m (Server shard) v k f (s, r, there, step, e) = subst (λ (v : Outcome). (later : Log) × IsLogged v.world later) (sym e)
@@ -239,12 +241,10 @@ module _ (plan : Plan) (asked : TxnId → whole.Call) (S : Scheme) (is : IsSchem
         (subst (λ (r : ServerStep). (out : Outgoing) → Has out r.sends → StartsAre (WasSubmitted w.history) out.msg) (sym step.is) (no_starts plan s (WasSubmitted w.history) step.findings m)))
     receive_logged m (Coord n) v k f (s, there, e) =
         let a = (after_message plan s m).answer in
-        subst (λ (v : Outcome). (later : Log) × IsLogged v.world later) (sym e) (
-          log,
-          coordinated_logged n s there (after_message plan s m).state (after_message plan s m).sends (answer_entries a)
-              (message_coordinated plan asked S start is log i w o.means n s there (WasSubmitted (w.history ++ answer_entries a)) (λ x h. submitted_front w.history (answer_entries a) x.id (o.pending n s there x h)) m (Coord n) k)
-              (λ t u b l. o.in_time t u (answers_last a t u b) l),
-        )
+        subst (λ (v : Outcome). (later : Log) × IsLogged v.world later) (sym e)
+        (coordinated_logged n s there (after_message plan s m).state (after_message plan s m).sends (answer_entries a)
+        (message_coordinated plan asked S start is laws log i w o.means n s there (WasSubmitted (w.history ++ answer_entries a)) (λ x h. submitted_front w.history (answer_entries a) x.id (o.pending n s there x h)) m (Coord n) k)
+        (λ t u b l. o.in_time t u (answers_last a t u b) l))
 
     submit_logged : AreSubmissions plan w.history w.coords → (n proc : ℕ) (args : List ℤ) (s : CoordState) → slice_get w.coords n ≡ Some s → (v : Outcome) → Submitting plan w n proc args s v → Agrees asked v.world.history → (later : Log) × IsLogged v.world later
     submit_logged a n proc args s there v (is_refused e) agrees = subst (λ (v : World). (later : Log) × IsLogged v later) (sym e) (log, o)
@@ -253,12 +253,10 @@ module _ (plan : Plan) (asked : TxnId → whole.Call) (S : Scheme) (is : IsSchem
         let mine : Has (Submitted (next_id s) proc args) (w.history ++ more) = has_right (Submitted (next_id s) proc args) w.history more (inl refl) in
         let g : Agrees asked (w.history ++ more) = subst (λ (v : World). Agrees asked v.history) e agrees in
         let x = new_transaction s proc args in
-        subst (λ (v : World). (later : Log) × IsLogged v later) (sym e) (
-          log,
-          coordinated_logged n s there (accepted plan s x).state (accepted plan s x).sends more
-              (submission_coordinated plan asked S start is log i w o.means n s there (WasSubmitted (w.history ++ more)) (λ y h. submitted_front w.history more y.id (o.pending n s there y h)) proc args more (none (next_id s) proc args) (g.proc (next_id s) proc args mine) (g.args (next_id s) proc args mine) (proc, args, mine))
-              (λ t u b l. time t u l (before_cases w.history more t u b)),
-        )
+        subst (λ (v : World). (later : Log) × IsLogged v later) (sym e)
+        (coordinated_logged n s there (accepted plan s x).state (accepted plan s x).sends more
+        (submission_coordinated plan asked S start is laws log i w o.means n s there (WasSubmitted (w.history ++ more)) (λ y h. submitted_front w.history more y.id (o.pending n s there y h)) proc args more (none (next_id s) proc args) (g.proc (next_id s) proc args mine) (g.args (next_id s) proc args mine) (proc, args, mine))
+        (λ t u b l. time t u l (before_cases w.history more t u b)))
       where
         none : (id : TxnId) (proc : ℕ) (args : List ℤ) (t : TxnId) (reply : List ℤ) → ¬ Has (Answered t reply) (Submitted id proc args ∷ [])
         none id proc args t reply (inl e) = absurd (cc)

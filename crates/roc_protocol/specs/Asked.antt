@@ -85,3 +85,8 @@ pub record HasSchemes (plan : Plan) : Type 0 where
       (asked : TxnId → whole.Call) → ((t : TxnId) → (asked t).procedure < length plan.program.procedures)
       → (order : List TxnId) → NoneTwice is_txn order → ((t : TxnId) → IsListed is_txn order t → (asked t).id ≡ t)
       → (t : TxnId) → IsListed is_txn order t → (reply : List ℤ) × IsWholeReply plan asked (scheme asked) order t reply
+  pub stores :
+      (asked : TxnId → whole.Call) → ((t : TxnId) → (asked t).procedure < length plan.program.procedures)
+      → (order : List TxnId)
+      → (stage_behind (scheme asked).behaviour (whole.start_store plan.program) (one_by_one (scheme asked).behaviour order)).store
+      ≡ whole.serial_store plan.program (whole.start_store plan.program) (map asked order)

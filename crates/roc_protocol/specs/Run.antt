@@ -1,5 +1,5 @@
 -- Runs of the world: docs/PROTOCOL.md, "World"
-use Rattle.std.specs.Prelude.{◌≡◌, ℕ, ◌<◌, ◌≤◌, List, [], ◌∷◌, ◌++◌, Option, Some, None, length}
+use Rattle.std.specs.Prelude.{◌≡◌, ℕ, ◌<◌, ◌≤◌, List, [], ◌∷◌, ◌++◌, Option, Some, None, length, map}
 use Rattle.roc_base.specs.declared.node.Node.{Node}
 use Rattle.roc_base.specs.declared.node.Node.TheVariants.{Server, Coord}
 use Rattle.roc_plan.specs.Groups.{Plan, procedure_of}
@@ -35,3 +35,9 @@ abbrev pub IsEventOf : Plan → World → Event → Type 0
 IsEventOf plan w (Submit number proc args) = (number < length w.coords) × (proc < length plan.program.procedures) × (length args ≡ (procedure_of plan proc).arguments)
 IsEventOf plan w (Deliver k) = (0 < k) × (k ≤ length w.sent)
 IsEventOf plan w (Tick node) = IsNodeOf w node
+
+-- each event of the list may happen in the world that it meets, to which those before it lead
+pub record MayHappen (plan : Plan) (coords : ℕ) (events : List (Option Event)) : Type 0 where
+  pub each :
+      (front : List (Option Event)) (e : Event) (behind : List (Option Event)) (steps : List Stepped) (w : World) → events ≡ front ++ Some e ∷ behind
+      → IsRun plan coords steps w → map (λ s. s.event) steps ≡ front → IsEventOf plan w e

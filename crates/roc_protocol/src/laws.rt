@@ -1,6 +1,6 @@
 //! What holds in every world of every run, whatever the network loses, repeats or reorders. Each law is the contract of a function that
 //! does nothing.
-ghost use Rattle.std.specs.Prelude.{◌≡◌, ◌⊎◌, ℕ, ℤ, ◌-◌, ◌<◌, ◌≤◌, List, Option, Some, None, length, map, slice_get};
+ghost use Rattle.std.specs.Prelude.{◌≡◌, ◌≢◌, ◌⊎◌, ℕ, ℤ, pos, ◌-◌, ◌<◌, ◌≤◌, List, [], Option, Some, None, length, map, slice_get};
 ghost use Rattle.roc_sequence.specs.Lists.{Has};
 ghost use Rattle.roc_sequence.specs.Places.{IsListed, IsListedBefore};
 ghost use Rattle.roc_base.specs.declared.id.TxnId.{TxnId};
@@ -11,6 +11,7 @@ ghost use Rattle.roc_base.specs.Edge.{Dependency};
 ghost use Rattle.roc_depgraph.specs.declared.known.KnownList.{KnownList};
 ghost use Rattle.roc_depgraph.specs.Deps.{Precedes, IsAncestor, IsDecided};
 ghost use Rattle.roc_component.specs.Components.{Mates};
+ghost use Rattle.roc_coord.specs.declared.transaction.Transaction.{Transaction};
 ghost use Rattle.roc_coord.specs.State.{CoordState};
 ghost use Rattle.roc_coord.specs.Submit.{most_transactions, most_pending};
 ghost use Rattle.roc_msg.specs.declared.msg.Sent.{Sent};
@@ -26,24 +27,29 @@ ghost use Rattle.roc_protocol.specs.declared.event.Event.{Event};
 ghost use Rattle.roc_protocol.specs.declared.event.Event.TheVariants as event;
 ghost use Rattle.roc_protocol.specs.declared.event.Seen.TheVariants as seen;
 ghost use Rattle.roc_protocol.specs.Happens.{Outcome, Happens};
-ghost use Rattle.roc_plan.specs.Groups.{Plan};
+ghost use Rattle.roc_plan.specs.Groups.{Plan, shard_of};
 ghost use Rattle.roc_audit.specs.declared.entry.Entry.TheVariants as entry;
-ghost use Rattle.roc_audit.specs.Witness.{IsSerialWitness};
-ghost use Rattle.roc_rows.specs.Store.{Store};
+ghost use Rattle.roc_audit.specs.History.{WasSubmitted, WasAnswered};
+ghost use Rattle.roc_audit.specs.Witness.{submitted_calls, IsSerialWitness};
+ghost use Rattle.roc_rows.specs.declared.cell.Cell.{Cell};
+ghost use Rattle.roc_rows.specs.Store.{Store, read};
+ghost use Rattle.roc_whole.specs.Serial.{serial_store, start_store};
 ghost use Rattle.roc_execution.specs.Scheme.{Scheme, IsSoundScheme};
 ghost use Rattle.roc_protocol.specs.Inner.Given.{LogLaws, SerialLaws, StoreLaws};
 ghost use Rattle.roc_protocol.specs.Asked.{HasSchemes};
 ghost use Rattle.roc_protocol.specs.Final.{lists_in, IsFinalIn};
 ghost use Rattle.roc_protocol.specs.Quiet.{IsQuiet};
-ghost use Rattle.roc_protocol.specs.World.{World};
-ghost use Rattle.roc_protocol.specs.Run.{Stepped, Comes, IsRun};
+ghost use Rattle.roc_protocol.specs.World.{World, first_world};
+ghost use Rattle.roc_protocol.specs.Fits.{FitsWorld};
+ghost use Rattle.roc_protocol.specs.Run.{Stepped, Comes, IsRun, IsEventOf, MayHappen};
 
+use roc_component::laws::{order_exists, order_is_one};
 use roc_execution::laws::{
-    component_order_is_taken, conflicts_are_on_one_shard, executions_are_serial, logs_grow,
-    logs_keep_invariants, shards_agree, stores_are_shared_out,
+    component_order_is_taken, conflicts_are_on_one_shard, executions_are_serial, logs_follow,
+    logs_grow, logs_keep_invariants, shards_agree, stores_are_shared_out,
 };
 use roc_rows::laws::reads_after_writes;
-use roc_serial::laws::groups_stand_one_by_one;
+use roc_serial::laws::{groups_stand_one_by_one, last_values_are_serial};
 use roc_server::laws::step_is_one as server_step_is_one;
 
 // What the laws below rest on.
@@ -60,6 +66,8 @@ fn machine_laws()
     executions_are_serial();
     shards_agree();
     groups_stand_one_by_one();
+    logs_follow();
+    last_values_are_serial();
     reads_after_writes();
 }
 
@@ -68,6 +76,73 @@ fn machine_laws()
 /// before another's submission stands before it.
 pub fn order_is_serial()
     ensures { (plan : Plan) (coords : ℕ) (steps : List Stepped) (w : World) → HasSchemes plan → IsRun plan coords steps w → IsSerialWitness plan.program w.history w.order }
+{
+    machine_laws();
+}
+
+/// Where each submitted transaction is answered, the servers hold what the serial order leaves: the server of a cell's place holds of it
+/// what it holds where the order's transactions run whole, one after another.
+pub fn cells_are_serial()
+    ensures { (plan : Plan) (coords : ℕ) (steps : List Stepped) (w : World) → HasSchemes plan → IsRun plan coords steps w
+        → ((t : TxnId) → WasSubmitted w.history t → (reply : List ℤ) × WasAnswered w.history t reply)
+        → (x : Cell) (s : ServerState) → slice_get w.servers (shard_of plan x.place) ≡ Some s
+        → read s.store x ≡ read (serial_store plan.program (start_store plan.program) (submitted_calls w.history w.order)) x }
+{
+    machine_laws();
+}
+
+/// Where each submitted transaction is answered, the nodes are done: no event changes the order or what a server's cells hold, and no
+/// coordinator has a transaction left.
+pub fn answered_worlds_rest()
+    ensures order { (plan : Plan) (coords : ℕ) (steps : List Stepped) (w : World) → HasSchemes plan → IsRun plan coords steps w
+        → ((t : TxnId) → WasSubmitted w.history t → (reply : List ℤ) × WasAnswered w.history t reply)
+        → (e : Option Event) (o : Outcome) → Comes plan w e o → o.world.order ≡ w.order }
+    ensures cells { (plan : Plan) (coords : ℕ) (steps : List Stepped) (w : World) → HasSchemes plan → IsRun plan coords steps w
+        → ((t : TxnId) → WasSubmitted w.history t → (reply : List ℤ) × WasAnswered w.history t reply)
+        → (e : Option Event) (o : Outcome) → Comes plan w e o
+        → (n : ℕ) (s v : ServerState) → slice_get w.servers n ≡ Some s → slice_get o.world.servers n ≡ Some v → v.store ≡ s.store }
+    ensures pending { (plan : Plan) (coords : ℕ) (steps : List Stepped) (w : World) → HasSchemes plan → IsRun plan coords steps w
+        → ((t : TxnId) → WasSubmitted w.history t → (reply : List ℤ) × WasAnswered w.history t reply)
+        → (n : ℕ) (c : CoordState) → slice_get w.coords n ≡ Some c → c.pending ≡ [] }
+{
+    machine_laws();
+    order_is_serial();
+    cells_are_serial();
+    cells_are_in_their_place();
+    reads_after_writes();
+}
+
+/// Each shard has its server, which holds no cell of another shard: each is 0 there.
+pub fn cells_are_in_their_place()
+    ensures servers { (plan : Plan) (coords : ℕ) (steps : List Stepped) (w : World) → IsRun plan coords steps w → (n : ℕ) → n < plan.program.shards → (s : ServerState) × (slice_get w.servers n ≡ Some s) }
+    ensures apart { (plan : Plan) (coords : ℕ) (steps : List Stepped) (w : World) → HasSchemes plan → IsRun plan coords steps w
+        → (shard : Shard) (s : ServerState) → slice_get w.servers shard.0 ≡ Some s → (x : Cell) → shard_of plan x.place ≢ shard.0 → read s.store x ≡ pos 0 }
+{
+    machine_laws();
+}
+
+/// Each sequence number below a coordinator's next one is that of a transaction that was submitted, and that is pending there or was
+/// answered; and so each transaction that was submitted is pending at its coordinator or was answered. None is both.
+pub fn submissions_are_kept()
+    ensures numbers { (plan : Plan) (coords : ℕ) (steps : List Stepped) (w : World) → HasSchemes plan → IsRun plan coords steps w
+        → (coord seq : ℕ) (c : CoordState) → slice_get w.coords coord ≡ Some c → seq < c.next
+        → WasSubmitted w.history (record { coord = coord; seq = seq })
+        × (((x : Transaction) × Has x c.pending × (x.id ≡ record { coord = coord; seq = seq })) ⊎ ((reply : List ℤ) × WasAnswered w.history (record { coord = coord; seq = seq }) reply)) }
+    ensures submitted { (plan : Plan) (coords : ℕ) (steps : List Stepped) (w : World) → HasSchemes plan → IsRun plan coords steps w
+        → (t : TxnId) → WasSubmitted w.history t
+        → (c : CoordState) × (slice_get w.coords t.coord ≡ Some c)
+        × (((x : Transaction) × Has x c.pending × (x.id ≡ t)) ⊎ ((reply : List ℤ) × WasAnswered w.history t reply)) }
+    ensures gone { (plan : Plan) (coords : ℕ) (steps : List Stepped) (w : World) → HasSchemes plan → IsRun plan coords steps w
+        → (t : TxnId) (reply : List ℤ) → WasAnswered w.history t reply → (n : ℕ) (c : CoordState) → slice_get w.coords n ≡ Some c → (x : Transaction) → Has x c.pending → x.id ≢ t }
+{
+    machine_laws();
+}
+
+/// Who is answered is decided on every server where it has a group.
+pub fn answered_is_decided()
+    ensures { (plan : Plan) (coords : ℕ) (steps : List Stepped) (w : World) → HasSchemes plan → IsRun plan coords steps w
+        → (t : TxnId) (reply : List ℤ) → WasAnswered w.history t reply
+        → (shard : Shard) (s : ServerState) → slice_get w.servers shard.0 ≡ Some s → (e : StartedGroup) → Has e s.started → e.id ≡ t → IsDecided s.lists.known t }
 {
     machine_laws();
 }
@@ -170,4 +245,29 @@ pub fn run_is_one()
         → map (λ s. s.event) steps ≡ map (λ s. s.event) others → (steps ≡ others) × (w ≡ v) }
 {
     server_step_is_one();
+}
+
+/// The first world of a plan with some shard fits the plan, what comes of an event in a world that fits is one that does, and so each
+/// world of a run fits.
+pub fn worlds_fit()
+    ensures first { (plan : Plan) (coords : ℕ) → 0 < plan.program.shards → FitsWorld plan (first_world plan coords) }
+    ensures kept { (plan : Plan) (w : World) (e : Option Event) (o : Outcome) → FitsWorld plan w → Comes plan w e o → FitsWorld plan o.world }
+    ensures runs { (plan : Plan) (coords : ℕ) (steps : List Stepped) (w : World) → 0 < plan.program.shards → IsRun plan coords steps w → FitsWorld plan w }
+{}
+
+/// Whatever may happen has an outcome, and it leads to a world that fits the plan too. And nothing else has.
+pub fn events_have_outcomes()
+    ensures only { (plan : Plan) (w : World) (e : Event) (o : Outcome) → Happens plan w e o → IsEventOf plan w e }
+    ensures outcome { (plan : Plan) (w : World) (e : Event) → FitsWorld plan w → IsEventOf plan w e → (o : Outcome) × Happens plan w e o × FitsWorld plan o.world }
+{
+    order_exists();
+    order_is_one();
+}
+
+/// So a list of events each of which may happen in the world that it meets has a run.
+pub fn events_have_runs()
+    ensures { (plan : Plan) (coords : ℕ) (events : List (Option Event)) → 0 < plan.program.shards → MayHappen plan coords events
+        → (steps : List Stepped) × (w : World) × IsRun plan coords steps w × (map (λ s. s.event) steps ≡ events) }
+{
+    events_have_outcomes();
 }

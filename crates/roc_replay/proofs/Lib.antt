@@ -6,7 +6,9 @@ pub mod OneReport
 pub mod Playing
 pub mod QuietLines
 pub mod Schedules
+pub mod ShownCells
 pub mod Shows
 pub mod SoFar
 pub mod Sorted
 pub mod LinesLeft
+pub mod Sendable

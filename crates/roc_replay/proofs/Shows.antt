@@ -1,5 +1,5 @@
 -- What the lines of a run show is the history and the order of its world, and so they explain themselves
-use Rattle.std.proofs.Common.{◌≡◌, ℕ, ℤ, ◌+◌, List, [], ◌∷◌, ◌++◌, Option, Some, None, Result, Ok, Err, map, refl, sym, ap, subst, ◌∙◌}
+use Rattle.std.proofs.Common.{◌≡◌, ◌≢◌, ◌↔◌, ℕ, ℤ, pos, ◌+◌, List, [], ◌∷◌, ◌++◌, Option, Some, None, Result, Ok, Err, map, refl, sym, ap, subst, ◌∙◌}
 use Rattle.std.proofs.lemmas.Grind.{flat_map-append}
 use Rattle.std.proofs.lemmas.List.{append-nil}
 use Rattle.std.specs.List.{flat_map}
@@ -11,7 +11,10 @@ use Rattle.roc_base.specs.declared.node.Node.TheVariants.{Server, Coord}
 use Rattle.roc_msg.specs.declared.msg.Msg.{Msg}
 use Rattle.roc_msg.specs.declared.msg.Sent.{Sent}
 use Rattle.roc_msg.specs.declared.outbox.Outgoing.{Outgoing}
+use Rattle.roc_rows.specs.declared.cell.Cell.{Cell}
+use Rattle.roc_rows.specs.Store.{read}
 use Rattle.roc_plan.specs.Groups.{Plan}
+use Rattle.roc_whole.specs.Serial.{serial_store, start_store}
 use Rattle.roc_server.specs.declared.handled.Handled.{Handled as ServerHandled}
 use Rattle.roc_server.specs.declared.handled.Handled.TheVariants as server_answer
 use Rattle.roc_coord.specs.declared.handled.Handled.{Handled as CoordHandled}
@@ -22,7 +25,7 @@ use Rattle.roc_coord.specs.State.{CoordState}
 use Rattle.roc_coord.specs.Step.{after_message}
 use Rattle.roc_audit.specs.declared.entry.Entry.{Entry}
 use Rattle.roc_audit.specs.declared.entry.Entry.TheVariants as entry
-use Rattle.roc_audit.specs.Witness.{IsSerialWitness}
+use Rattle.roc_audit.specs.Witness.{submitted_calls, IsSerialWitness}
 use Rattle.roc_protocol.specs.declared.event.Event.{Event}
 use Rattle.roc_protocol.specs.declared.event.Event.TheVariants as event
 use Rattle.roc_protocol.specs.declared.event.Seen.{Seen}
@@ -35,7 +38,7 @@ use Rattle.roc_world.specs.Reads.{cells_of, unanswered_of}
 use Rattle.roc_report.specs.Line.{Deliver, Row, Pending}
 use Rattle.roc_replay.specs.Cells.{by_cell}
 use Rattle.roc_replay.specs.Report.{ignored_lines, first_lines, send_lines, answer_lines, step_lines, steps_lines, end_line, closing_lines, report}
-use Rattle.roc_replay.specs.Told.{entries_in, history_in, orders_of, orders_in, IsExplained}
+use Rattle.roc_replay.specs.Told.{entries_in, history_in, orders_of, orders_in, pending_in, cells_in, IsExplained}
 use Rattle.roc_replay.proofs.Growing.{run_lines}
 use Rattle.roc_replay.proofs.QuietLines.{shown_answered}
 
@@ -189,13 +192,18 @@ report_orders steps w =
     ∙ ap (λ (l : List (List TxnId)). l ++ orders_in (closing_lines w)) (orders_in-steps [] steps)
     ∙ closing_orders w
 
--- where the order of the world is a serial witness of its history, and what is quiet there is answered
+-- where the order of the world is a serial witness of its history, what is quiet there is answered, and where nothing is pending its cells are serial
 pub explained : (plan : Plan) (coords : ℕ) (steps : List Stepped) (w : World) → IsSerialWitness plan.program w.history w.order
     → ((t : TxnId) (proc : ℕ) (args : List ℤ) → Has (entry.Submitted t proc args) w.history → IsQuiet w t → (reply : List ℤ) × Has (entry.Answered t reply) w.history)
+    → (pending_in (report steps w) ≡ [] → (x : Cell) (v : ℤ)
+    → Has (x, v) (cells_in (report steps w)) ↔ ((v ≢ pos 0) × (read (serial_store plan.program (start_store plan.program) (submitted_calls w.history w.order)) x ≡ v)))
     → IsRun plan coords steps w → IsExplained plan.program (report steps w)
-explained plan coords steps w serial answers r = record {
+explained plan coords steps w serial answers cells r = record {
   order = w.order;
   shown = report_orders steps w;
   serial = subst (λ (h : List Entry). IsSerialWitness plan.program h w.order) (sym (report_history plan coords steps w r)) serial;
+  cells = λ none x v.
+      subst (λ (h : List Entry). Has (x, v) (cells_in (report steps w)) ↔ ((v ≢ pos 0) × (read (serial_store plan.program (start_store plan.program) (submitted_calls h w.order)) x ≡ v)))
+      (sym (report_history plan coords steps w r)) (cells none x v);
   answered = shown_answered plan coords steps w r (report_history plan coords steps w r) answers;
 }

@@ -1,12 +1,14 @@
 -- A schedule that is played: docs/FORMATS.md, "Schedule", and docs/PROTOCOL.md, "World"
-use Rattle.std.specs.Prelude.{◌≡◌, ℕ, List, [], ◌∷◌, ◌++◌, Option}
+use Rattle.std.specs.Prelude.{◌≡◌, ℕ, ◌≤◌, List, [], ◌∷◌, ◌++◌, length, Option}
 use Rattle.roc_plan.specs.Groups.{Plan}
 use Rattle.roc_protocol.specs.World.{World, first_world}
 use Rattle.roc_protocol.specs.Happens.{Outcome}
 use Rattle.roc_protocol.specs.Run.{Stepped, Comes}
 use Rattle.roc_protocol.specs.declared.event.Event.{Event}
+use Rattle.roc_protocol.specs.declared.event.Event.TheVariants as event
 use Rattle.roc_report.specs.Text.{lines_text}
 use Rattle.roc_replay.specs.declared.asked.Asked.{Asked}
+use Rattle.roc_replay.specs.declared.asked.Wanted.TheVariants as wanted
 use Rattle.roc_replay.specs.Asked.{coordinators, event_in}
 use Rattle.roc_replay.specs.Report.{first_lines, step_lines, busy_in}
 
@@ -16,6 +18,12 @@ pub data IsPlayed (plan : Plan) : List Asked → List Stepped → World → Type
   begun : IsPlayed plan [] [] (first_world plan coordinators)
   goes_on : {lines : List Asked} {steps : List Stepped} {w : World} (line : Asked) (o : Outcome) → IsPlayed plan lines steps w → Comes plan w (event_in w line.wanted) o
       → IsPlayed plan (lines ++ line ∷ []) (steps ++ (record { event = event_in w line.wanted; outcome = o }) ∷ []) o.world
+
+-- each message that a line asks to deliver was sent, in the world to which the lines before it lead
+pub record DeliversOnlySent (plan : Plan) (lines : List Asked) : Type 0 where
+  pub each :
+      (before : List Asked) (line : Asked) (behind : List Asked) (steps : List Stepped) (w : World) (message : ℕ) → lines ≡ before ++ line ∷ behind
+      → IsPlayed plan before steps w → line.wanted ≡ wanted.Event (event.Deliver message) → message ≤ length w.sent
 
 -- one line was played: its event, or none, led from the world before to the world after, and this is the text of its lines, so many of
 -- which say that a submission was refused as busy

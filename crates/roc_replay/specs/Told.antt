@@ -1,15 +1,18 @@
 -- What a report's own lines tell: docs/FORMATS.md, "Report", and docs/PROTOCOL.md, "Serial witness"
-use Rattle.std.specs.Prelude.{◌≡◌, ℕ, ℤ, List, [], ◌∷◌, Some}
+use Rattle.std.specs.Prelude.{◌≡◌, ◌≢◌, ◌↔◌, ℕ, ℤ, pos, List, [], ◌∷◌, Some}
 use Rattle.std.specs.List.{flat_map}
 use Rattle.roc_sequence.specs.Lists.{Has}
 use Rattle.roc_base.specs.declared.id.TxnId.{TxnId}
 use Rattle.roc_base.specs.Edge.{Dependency}
 use Rattle.roc_depgraph.specs.Reach.{ReachesOrIs}
+use Rattle.roc_rows.specs.declared.cell.Cell.{Cell}
+use Rattle.roc_rows.specs.Store.{read}
 use Rattle.roc_program.specs.Program.{Workload}
+use Rattle.roc_whole.specs.Serial.{serial_store, start_store}
 use Rattle.roc_audit.specs.declared.entry.Entry.{Entry}
 use Rattle.roc_audit.specs.declared.entry.Entry.TheVariants.{Submitted, Answered}
-use Rattle.roc_audit.specs.Witness.{IsSerialWitness}
-use Rattle.roc_report.specs.Line.{Line, ShownMessage, StartOk, Submit, Deliver, Send, Answer, Order}
+use Rattle.roc_audit.specs.Witness.{submitted_calls, IsSerialWitness}
+use Rattle.roc_report.specs.Line.{Line, ShownMessage, StartOk, Submit, Deliver, Send, Answer, Order, Row, Pending}
 
 -- what a line tells of the history: a submission or an answer
 abbrev pub entries_in : Line → List Entry
@@ -28,6 +31,22 @@ orders_of _ = []
 
 abbrev pub orders_in : List Line → List (List TxnId)
 orders_in lines = flat_map orders_of lines
+
+-- the transaction that a line shows as pending
+abbrev pub pending_of : Line → List TxnId
+pending_of (Pending id) = id ∷ []
+pending_of _ = []
+
+abbrev pub pending_in : List Line → List TxnId
+pending_in lines = flat_map pending_of lines
+
+-- the cell that a line shows, and its number
+abbrev pub cell_of : Line → List (Cell × ℤ)
+cell_of (Row cell value) = (cell, value) ∷ []
+cell_of _ = []
+
+abbrev pub cells_in : List Line → List (Cell × ℤ)
+cells_in lines = flat_map cell_of lines
 
 -- ---- quiet transactions: docs/PROTOCOL.md, "Quiet transactions"
 
@@ -51,9 +70,13 @@ pub record LooksQuiet (lines : List Line) (t : TxnId) : Type 0 where
 -- ---- what lines explain
 
 -- the lines explain themselves: they show one order, and it is a serial witness of the history that they show; and each submitted transaction
--- whose messages, and those of its ancestors, they show as delivered has an answer
+-- whose messages, and those of its ancestors, they show as delivered has an answer; and where they show none as pending, the cells that they show
+-- are those that are not 0, each with its number, where the order's transactions run whole, one after another
 pub record IsExplained (program : Workload) (lines : List Line) : Type 0 where
   pub order : List TxnId
   pub shown : orders_in lines ≡ order ∷ []
   pub serial : IsSerialWitness program (history_in lines) order
+  pub cells :
+      pending_in lines ≡ [] → (cell : Cell) (value : ℤ)
+      → Has (cell, value) (cells_in lines) ↔ ((value ≢ pos 0) × (read (serial_store program (start_store program) (submitted_calls (history_in lines) order)) cell ≡ value))
   pub answered : (t : TxnId) (proc : ℕ) (args : List ℤ) → Has (Submit t proc args) lines → LooksQuiet lines t → (reply : List ℤ) × Has (Answer t reply) lines

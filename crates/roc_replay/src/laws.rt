@@ -1,5 +1,5 @@
 //! What holds of the report of every run. Each law is the contract of a function that does nothing.
-ghost use Rattle.std.specs.Prelude.{◌≡◌, ℕ, List, Option, map};
+ghost use Rattle.std.specs.Prelude.{◌≡◌, ℕ, ◌<◌, List, Option, map};
 ghost use Rattle.roc_plan.specs.Accepted.{IsAccepted};
 ghost use Rattle.roc_plan.specs.Groups.{Plan};
 ghost use Rattle.roc_protocol.specs.Run.{Stepped, IsRun};
@@ -9,22 +9,33 @@ ghost use Rattle.roc_replay.specs.declared.asked.Asked.{Asked};
 ghost use Rattle.roc_replay.specs.declared.ended.Summary.{Summary};
 ghost use Rattle.roc_replay.specs.Asked.{IsScheduleOf, coordinators};
 ghost use Rattle.roc_replay.specs.Ended.{IsReplayed, IsTextFault};
-ghost use Rattle.roc_replay.specs.Played.{IsPlayed};
+ghost use Rattle.roc_replay.specs.Played.{IsPlayed, DeliversOnlySent};
 ghost use Rattle.roc_replay.specs.Report.{report};
 ghost use Rattle.roc_replay.specs.Told.{IsExplained};
 
-use roc_protocol::laws::step_is_one;
-use roc_sched::laws::{lines_are_unique, texts_are_right_or_wrong};
-use roc_scheme::laws::{order_is_serial, quiet_is_answered};
+use roc_protocol::laws::{
+    cells_are_in_their_place, events_have_outcomes, step_is_one, submissions_are_kept, worlds_fit,
+};
+use roc_rows::laws::entries_are_not_zero;
+use roc_sched::laws::{lines_are_unique, lines_fit, texts_are_right_or_wrong};
+use roc_scheme::laws::{
+    accepted_plans_have_schemes, cells_are_serial, order_is_serial, quiet_is_answered,
+};
 
 /// The report of every run of an accepted plan explains itself: its one `order` line is a serial witness of the history
 /// that its own `submit` and `answer` lines show, and it shows an answer for each submitted transaction of which, and of
-/// whose ancestors, it shows every message as delivered.
+/// whose ancestors, it shows every message as delivered. Where it has no `pending` line, its `row` lines are exactly the cells that are
+/// not 0 in that serial order, each with its number.
 pub fn report_explains_itself()
     ensures { (plan : Plan) (coords : ℕ) (steps : List Stepped) (w : World) → IsAccepted plan → IsRun plan coords steps w → IsExplained plan.program (report steps w) }
 {
     order_is_serial();
     quiet_is_answered();
+    cells_are_serial();
+    accepted_plans_have_schemes();
+    cells_are_in_their_place();
+    submissions_are_kept();
+    entries_are_not_zero();
 }
 
 /// Lines that are played are a run of the world, so that what `roc_protocol` and `roc_scheme` say of every run holds of it.
@@ -45,13 +56,24 @@ pub fn report_is_one()
     lines_are_unique();
 }
 
-/// Nothing is wrong with the text of a schedule that can be played: it is one, each of its lines fits the plan, and none asks for a message
-/// that was not sent yet.
-pub fn played_schedules_have_no_fault()
-    ensures { (plan : Plan) (schedule : List ℕ) (lines : List Asked) (steps : List Stepped) (w : World) → IsScheduleOf plan.program schedule lines → IsPlayed plan lines steps w
+/// A schedule of a plan can be played exactly where it delivers only what was sent. A plan has some shard.
+pub fn sent_schedules_are_played()
+    ensures played { (plan : Plan) (schedule : List ℕ) (lines : List Asked) → 0 < plan.program.shards → IsScheduleOf plan.program schedule lines → DeliversOnlySent plan lines
+        → (steps : List Stepped) × (w : World) × IsPlayed plan lines steps w }
+    ensures sent { (plan : Plan) (lines : List Asked) (steps : List Stepped) (w : World) → IsPlayed plan lines steps w → DeliversOnlySent plan lines }
+{
+    events_have_outcomes();
+    worlds_fit();
+    lines_fit();
+    report_is_one();
+}
+
+/// Nothing is wrong with the text of a schedule that delivers only what was sent: it is one, each of its lines fits the plan, and none asks
+/// for a message that was not sent yet.
+pub fn sent_schedules_have_no_fault()
+    ensures { (plan : Plan) (schedule : List ℕ) (lines : List Asked) → IsScheduleOf plan.program schedule lines → DeliversOnlySent plan lines
         → (number : ℕ) (fault : What) (old new : Option (List ℕ)) → IsTextFault plan schedule number fault old new → ⊥ }
 {
     lines_are_unique();
     texts_are_right_or_wrong();
-    report_is_one();
 }

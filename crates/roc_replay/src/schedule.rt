@@ -2,19 +2,16 @@
 ghost use Rattle.std.specs.Prelude.{◌≡◌, ◌<◌, List};
 ghost use Rattle.roc_io.specs.Cause.{HasCause, last_count};
 ghost use Rattle.roc_io.specs.Told.{Adds};
-ghost use Rattle.roc_protocol.specs.Run.{Stepped};
-ghost use Rattle.roc_protocol.specs.World.{World};
 ghost use Rattle.roc_report.specs.Line.{Line};
 ghost use Rattle.roc_report.specs.Text.{lines_text};
 ghost use Rattle.roc_replay.specs.declared.asked.Asked.{Asked};
 ghost use Rattle.roc_replay.specs.Asked.{IsScheduleOf};
 ghost use Rattle.roc_replay.specs.Ended.{IfDone, IfText, OnSinkFault, OnNoMemory, IsWhole, is_sink_fault, IsReplayed, IsTextFault, IsCut, IsUnfinished};
-ghost use Rattle.roc_replay.specs.Played.{IsPlayed};
+ghost use Rattle.roc_replay.specs.Played.{DeliversOnlySent};
 ghost use Rattle.roc_replay.specs.Told.{IsExplained};
 
 use crate::Ended;
 use crate::asking::parse_asked;
-use crate::laws::report_is_one;
 use crate::play::play;
 use roc_io::Sink;
 use roc_plan::Plan;
@@ -41,12 +38,11 @@ pub fn replay<S: Sink>(alloc: Global, plan: &Plan, schedule: &[u8], sink: &mut S
     // Where memory ran out, the sink took the text of the lines before, and of no line a part.
     ensures unfinished { OnNoMemory result (IsUnfinished plan.now schedule.now (S.taken sink.old) (S.taken sink.new)) }
     // A schedule of the plan that delivers only what was sent is played whole, where no failure is counted and memory suffices.
-    ensures complete { (lines : List Asked) (steps : List Stepped) (w : World) → IsScheduleOf plan.now.program schedule.now lines → IsPlayed plan.now lines steps w
+    ensures complete { (lines : List Asked) → IsScheduleOf plan.now.program schedule.now lines → DeliversOnlySent plan.now lines
         → S.faults sink.new ≡ S.faults sink.old → S.faults sink.old < last_count → IsWhole result }
 {
     lines_are_unique();
     texts_are_right_or_wrong();
-    report_is_one();
     let asked = match parse_asked(alloc, plan, schedule) {
         Ok(asked) => asked,
         Err(TextFault::At { line, what }) => return Ended::Text { line, what },

@@ -246,6 +246,14 @@ module _ (plan : Plan) (orders : ℕ → List ℕ) (asked : TxnId → whole.Call
         λ g m. ap (λ (s : serial.Stage). (s.yielded (at t g)).outs) (after_more S (all_groups B u) (one_by_one B O)) ∙ f.2 g m,
       )
 
+  -- and they leave what the whole runs leave
+  pub whole_stores : AreDone → AreOrders plan orders → (order : List TxnId) (S : serial.Stage) → (serial.after_groups B S (one_by_one B order)).store ≡ whole.serial_store plan.program S.store (map asked order)
+  whole_stores does turns [] S = refl
+  whole_stores does turns (t ∷ O) S =
+      ap (λ (s : serial.Stage). s.store) (after_more S (all_groups B t) (one_by_one B O))
+      ∙ (whole_stores does turns O (serial.after_groups B S (all_groups B t))
+      ∙ ap (λ s. whole.serial_store plan.program s (map asked O)) (whole_turn t S (turns (proc t)) (does t S.store)).0)
+
   zipped : (f : ℕ → ℤ) (ks : List ℕ) (k : ℕ) (v : ℤ) → Has (k, v) (zip ks (map f ks)) → f k ≡ v
   zipped f [] k v h = absurd h
   zipped f (x ∷ ks) k v (inl e) = ap (λ (p : ℕ × ℤ). f p.0) e ∙ ap (λ (p : ℕ × ℤ). p.1) (sym e)

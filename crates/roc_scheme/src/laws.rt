@@ -1,15 +1,21 @@
 //! Laws of the schemes of accepted plans, each the contract of a function that does nothing.
-ghost use Rattle.std.specs.Prelude.{◌≡◌, ℕ, ℤ, List};
+ghost use Rattle.std.specs.Prelude.{◌≡◌, ℕ, ℤ, List, Some, map, slice_get};
 ghost use Rattle.roc_sequence.specs.Lists.{Has};
 ghost use Rattle.roc_base.specs.declared.id.TxnId.{TxnId};
 ghost use Rattle.roc_base.specs.TxnId.{is_txn};
 ghost use Rattle.roc_sequence.specs.Places.{IsListed, NoneTwice};
 ghost use Rattle.roc_whole.specs.Serial as whole;
-ghost use Rattle.roc_plan.specs.Groups.{Plan};
+ghost use Rattle.roc_rows.specs.declared.cell.Cell.{Cell};
+ghost use Rattle.roc_rows.specs.Store.{read};
+ghost use Rattle.roc_plan.specs.Groups.{Plan, shard_of};
 ghost use Rattle.roc_plan.specs.Accepted.{IsAccepted};
+ghost use Rattle.roc_serial.specs.Runs.{stage_behind};
+ghost use Rattle.roc_serial.specs.Orders.{one_by_one};
 ghost use Rattle.roc_execution.specs.Scheme.{IsSoundScheme};
+ghost use Rattle.roc_server.specs.State.{ServerState};
 ghost use Rattle.roc_audit.specs.declared.entry.Entry.TheVariants as entry;
-ghost use Rattle.roc_audit.specs.Witness.{IsSerialWitness};
+ghost use Rattle.roc_audit.specs.History.{WasSubmitted, WasAnswered};
+ghost use Rattle.roc_audit.specs.Witness.{submitted_calls, IsSerialWitness};
 ghost use Rattle.roc_protocol.specs.Asked.{HasSchemes, IsSchemeOf, IsWholeReply};
 ghost use Rattle.roc_protocol.specs.Quiet.{IsQuiet};
 ghost use Rattle.roc_protocol.specs.Run.{Stepped, IsRun};
@@ -25,6 +31,7 @@ use roc_plan::laws::{
     inputs_come_from_immediate_groups,
 };
 use roc_protocol::laws::{
+    cells_are_serial as cells_are_serial_over_schemes,
     order_is_serial as order_is_serial_over_schemes,
     quiet_is_answered as quiet_is_answered_over_schemes,
 };
@@ -50,11 +57,15 @@ pub fn schemes_are_of_their_plan()
 }
 
 /// Transactions one by one are whole procedures: where the groups of transactions run one transaction after another, each transaction's
-/// groups give, at their places, the reply of the serial run.
+/// groups give, at their places, the reply of the serial run, and all leave the store that the serial run leaves.
 pub fn transactions_one_by_one_are_whole()
-    ensures { (plan : Plan) (orders : ℕ → List ℕ) (asked : TxnId → whole.Call) → IsAccepted plan → AreOrders plan orders → AreCalls plan asked
+    ensures replies { (plan : Plan) (orders : ℕ → List ℕ) (asked : TxnId → whole.Call) → IsAccepted plan → AreOrders plan orders → AreCalls plan asked
         → (order : List TxnId) → NoneTwice is_txn order → ((t : TxnId) → IsListed is_txn order t → (asked t).id ≡ t)
         → (t : TxnId) → IsListed is_txn order t → (reply : List ℤ) × IsWholeReply plan asked (scheme_of plan orders asked) order t reply }
+    ensures stores { (plan : Plan) (orders : ℕ → List ℕ) (asked : TxnId → whole.Call) → IsAccepted plan → AreOrders plan orders → AreCalls plan asked
+        → (order : List TxnId)
+        → (stage_behind (scheme_of plan orders asked).behaviour (whole.start_store plan.program) (one_by_one (scheme_of plan orders asked).behaviour order)).store
+        ≡ whole.serial_store plan.program (whole.start_store plan.program) (map asked order) }
 {
     groups_in_turn_are_the_whole_run();
 }
@@ -77,6 +88,18 @@ pub fn order_is_serial()
 {
     accepted_plans_have_schemes();
     order_is_serial_over_schemes();
+}
+
+/// Over every run of every accepted plan, where each submitted transaction is answered, the servers hold what the serial order leaves: the
+/// server of a cell's place holds of it what it holds where the order's transactions run whole, one after another.
+pub fn cells_are_serial()
+    ensures { (plan : Plan) (coords : ℕ) (steps : List Stepped) (w : World) → IsAccepted plan → IsRun plan coords steps w
+        → ((t : TxnId) → WasSubmitted w.history t → (reply : List ℤ) × WasAnswered w.history t reply)
+        → (x : Cell) (s : ServerState) → slice_get w.servers (shard_of plan x.place) ≡ Some s
+        → read s.store x ≡ read (whole.serial_store plan.program (whole.start_store plan.program) (submitted_calls w.history w.order)) x }
+{
+    accepted_plans_have_schemes();
+    cells_are_serial_over_schemes();
 }
 
 /// Over every run of every accepted plan, what was delivered is answered: a submitted transaction that is quiet, since every message of it

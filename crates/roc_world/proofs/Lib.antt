@@ -1,9 +1,6 @@
 pub mod Numbers
 pub mod Sending
 pub mod FirstNodes
-pub mod Named
-pub mod ServersHere
-pub mod CoordsHere
 pub mod WorldsFit
 pub mod Flattened
 pub mod NodeSteps

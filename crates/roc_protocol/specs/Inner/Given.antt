@@ -1,14 +1,14 @@
 -- What is known of the log machine and of stores, as their laws say it
-use Rattle.std.specs.Prelude.{◌≡◌, ◌≢◌, ℕ, ℤ, Bool, List, IsTrue, ◌⊎◌}
+use Rattle.std.specs.Prelude.{◌≡◌, ◌≢◌, ℕ, ℤ, pos, Bool, List, IsTrue, ◌⊎◌}
 use Rattle.roc_sequence.specs.Places.{IsListed, IsListedBefore}
 use Rattle.roc_base.specs.declared.id.TxnId.{TxnId}
 use Rattle.roc_base.specs.TxnId.{is_txn}
 use Rattle.roc_rows.specs.declared.cell.Cell.{Cell}
-use Rattle.roc_rows.specs.Store.{Store, read, write}
+use Rattle.roc_rows.specs.Store.{Store, read, write, empty}
 use Rattle.roc_depgraph.specs.Reach.{Reaches}
 use Rattle.roc_component.specs.Components.{IsComponentOrder}
-use Rattle.roc_serial.specs.Behaviour.{TxnGroup, is_txn_group, DoesSame}
-use Rattle.roc_serial.specs.Runs.{Stage, inputs_at, after_group, Conflict, account}
+use Rattle.roc_serial.specs.Behaviour.{TxnGroup, is_txn_group, is_group_number, DoesSame}
+use Rattle.roc_serial.specs.Runs.{Stage, inputs_at, stage_behind, after_group, Conflict, account}
 use Rattle.roc_serial.specs.Orders.{one_by_one, StandOneByOne}
 use Rattle.roc_execution.specs.Scheme.{Scheme}
 use Rattle.roc_execution.specs.Log.{Log, PrecedesTxn, PrecedesTxnNow, shard_at}
@@ -41,8 +41,14 @@ pub record SerialLaws (S : Scheme) (start : Store) : Type 0 where
       → IsListed is_txn (log.decided s) a → IsListed is_txn (log.decided s) b → IsListedBefore is_txn (log.decided s) a b → IsListedBefore is_txn log.order a b
   pub serial : (log : Log) → IsReachedLog S start log → (r : TxnGroup) → IsListed is_txn_group log.past.ran r → IsListed is_txn log.order r.txn → account S.behaviour start (one_by_one S.behaviour log.order) r ≡ account S.behaviour start log.past.ran r
   pub stand : (order : List TxnId) → StandOneByOne S.behaviour order
+  -- where all groups of the order's transactions ran, and no others
+  pub last :
+      (log : Log) → IsReachedLog S start log → (x : Cell) → ((q : TxnGroup) → IsListed is_txn_group log.past.ran q → IsListed is_txn log.order q.txn)
+      → ((q : TxnGroup) → IsListed is_txn log.order q.txn → IsListed is_group_number (S.behaviour.groups q.txn) q.group → IsListed is_txn_group log.past.ran q)
+      → read (stage_behind S.behaviour start (one_by_one S.behaviour log.order)).store x ≡ read (stage_behind S.behaviour start log.past.ran).store x
 
--- what is read after a write
+-- what is read of a store
 pub record StoreLaws : Type 0 where
+  pub zero : (c : Cell) → read empty c ≡ pos 0
   pub same : (s : Store) (c : Cell) (v : ℤ) → read (write s c v) c ≡ v
   pub other : (s : Store) (c : Cell) (v : ℤ) (d : Cell) → c ≢ d → read (write s c v) d ≡ read s d

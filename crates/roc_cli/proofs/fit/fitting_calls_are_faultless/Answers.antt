@@ -12,6 +12,6 @@ returns c call =
       no_cluster_fault = only_memory c.cluster_files_keep_the_rules.ensures;
       one_list = c.lines_are_unique.ensures.requests;
       no_list_fault = c.texts_are_right_or_wrong.ensures.one_of_each;
-      no_text_fault = c.played_schedules_have_no_fault.ensures;
+      no_text_fault = c.sent_schedules_have_no_fault.ensures;
     } in
     record { files = faultless laws call.run; nodes = nodes_faultless laws call.run; shardless = shardless laws call }

@@ -19,7 +19,12 @@ returns-clause-serial c S start sound =
       agree = λ log r. c.shards_agree.ensures.order S start log sound r;
       serial = λ log r. c.executions_are_serial.ensures S start log sound r;
       stand = λ order. c.groups_stand_one_by_one.ensures S.behaviour order sound.lawful;
+      last = λ log r x of_order ran.
+          (let i = c.logs_keep_invariants.ensures.reached S start log sound r in
+          c.last_values_are_serial.ensures S.behaviour start log.past.ran log.order sound.lawful (c.logs_follow.ensures.real S start log sound i) (c.logs_follow.ensures.follows S start log sound i) x
+          (λ q h w. of_order q h)
+          (λ q h l w. ran q h l));
     }
 
 pub returns-clause-stores : goal.returns-clause-stores
-returns-clause-stores c = record { same = c.reads_after_writes.ensures.same; other = c.reads_after_writes.ensures.other }
+returns-clause-stores c = record { zero = c.reads_after_writes.ensures.empty; same = c.reads_after_writes.ensures.same; other = c.reads_after_writes.ensures.other }

@@ -8,7 +8,7 @@ use Rattle.roc_replay.proofs.Schedules.{one_schedule, not_blamed}
 use Rattle.roc_replay.proofs.schedule.replay.Goals as goal
 
 pub returns-in-Err-At-clause-complete : goal.returns-in-Err-At-clause-complete
-returns-in-Err-At-clause-complete g c lines steps w of played same room =
+returns-in-Err-At-clause-complete g c lines of sends same room =
     let program = c.args.plan.now.program in
     let schedule = c.args.schedule.now in
     let is_blamed : TextFault → Type 0 = λ fault. IsBlamed program schedule fault in
@@ -16,9 +16,9 @@ returns-in-Err-At-clause-complete g c lines steps w of played same room =
     (subst is_blamed c.in-Err-At.field-0-is c.in-Err-At.ensures.fault)
 
 pub returns-clause-complete : goal.returns-clause-complete
-returns-clause-complete g c lines steps w of played same room =
+returns-clause-complete g c lines of sends same room =
     let plan = c.args.plan.now in
     let schedule = c.args.schedule.now in
     let is_schedule_of : List Asked → Type 0 = λ asked. IsScheduleOf plan.program schedule asked in
-    whole_end plan schedule lines steps w of played (one_schedule plan.program c.lines_are_unique.ensures.schedules) (c.report_is_one.ensures.run plan) c.play.result _ _ _ _
+    whole_end plan schedule lines of sends (one_schedule plan.program c.lines_are_unique.ensures.schedules) c.play.result _ _ _ _
     (c.play.ensures.ends schedule (subst is_schedule_of (sym c.as_slice.ensures) c.in-Ok.ensures.found)) c.play.ensures.sink same room

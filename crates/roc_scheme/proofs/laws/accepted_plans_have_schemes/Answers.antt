@@ -12,5 +12,6 @@ returns c plan ok =
       scheme = scheme_of plan orders;
       of = λ asked calls. c.schemes_are_of_their_plan.ensures plan orders asked ok turned calls;
       sound = λ asked calls. c.schemes_are_sound.ensures plan orders asked ok turned calls;
-      replies = λ asked calls. c.transactions_one_by_one_are_whole.ensures plan orders asked ok turned calls;
+      replies = λ asked calls. c.transactions_one_by_one_are_whole.ensures.replies plan orders asked ok turned calls;
+      stores = λ asked calls. c.transactions_one_by_one_are_whole.ensures.stores plan orders asked ok turned calls;
     }

@@ -44,7 +44,7 @@ use Rattle.roc_protocol.proofs.Carried.{take_same}
 use Rattle.roc_protocol.proofs.Deciding.{take_keeps}
 use Rattle.roc_protocol.proofs.Facts.{facts_known}
 use Rattle.roc_protocol.proofs.Served.{list_has}
-use Rattle.roc_world.proofs.Named.{all_filter, all_in_place, all_flat, seen_united, IsOutHere}
+use Rattle.roc_protocol.proofs.Named.{all_filter, all_in_place, all_flat, seen_united, IsOutHere}
 
 -- a start is taken only of a group of the plan
 called : (plan : Plan) (s : ServerState) (id : TxnId) (c : GroupCall) → start_fault plan s id c ≡ None → IsCallOf plan c

@@ -33,7 +33,7 @@ use Rattle.roc_protocol.specs.Fits.{AreSeenHere, AreListsHere, NamesNodes, IsTra
 use Rattle.roc_protocol.proofs.Coordinators.{from_gathered}
 use Rattle.roc_protocol.proofs.Facts.{has_fitting}
 use Rattle.roc_protocol.proofs.Flat.{from_has_flat}
-use Rattle.roc_world.proofs.Named.{shard_below, all_filter, all_flat, seen_united, IsOutHere}
+use Rattle.roc_protocol.proofs.Named.{shard_below, all_filter, all_flat, seen_united, IsOutHere}
 
 -- the shards of sent starts are there
 asked_here : (servers : ℕ) (starts : List SentStart) → AllByRecursion (λ (start : SentStart). start.shard.0 < servers) starts → (count : ℕ) → AllByRecursion (λ (shard : Shard). shard.0 < servers) (shards_below count starts)

@@ -1,0 +1,82 @@
+-- Who is pending, and who was answered
+use Rattle.std.proofs.Common.{◌≡◌, ℕ, ℤ, ◌<◌, List, Some, length, sym, subst, ◌∙◌, ◌⊎◌, inl, inr, arith}
+use Rattle.std.proofs.lemmas.Bool.{cases_lt}
+use Rattle.std.specs.Prelude.{slice_get}
+use Rattle.roc_sequence.specs.Lists.{Has}
+use Rattle.roc_sequence.specs.Places.{IsListed}
+use Rattle.roc_base.specs.declared.id.TxnId.{TxnId}
+use Rattle.roc_base.specs.TxnId.{is_txn}
+use Rattle.roc_depgraph.specs.Deps.{IsDecided}
+use Rattle.roc_plan.specs.Groups.{Plan}
+use Rattle.roc_whole.specs.Serial as whole
+use Rattle.roc_whole.specs.Serial.{start_store}
+use Rattle.roc_execution.specs.Scheme.{Scheme, IsSoundScheme}
+use Rattle.roc_execution.specs.Log.{Log}
+use Rattle.roc_execution.specs.Invariants.{LogInvariants}
+use Rattle.roc_server.specs.declared.started.StartedGroup.{StartedGroup}
+use Rattle.roc_server.specs.State.{ServerState}
+use Rattle.roc_coord.specs.declared.transaction.Transaction.{Transaction}
+use Rattle.roc_coord.specs.State.{CoordState}
+use Rattle.roc_audit.specs.declared.entry.Entry.TheVariants.{Submitted, Answered}
+use Rattle.roc_audit.specs.History.{WasSubmitted, WasAnswered}
+use Rattle.roc_protocol.specs.Asked.{IsSchemeOf, HasSchemes}
+use Rattle.roc_protocol.specs.World.{World}
+use Rattle.roc_protocol.specs.Run.{Stepped, IsRun}
+use Rattle.roc_protocol.specs.Inner.Given.{LogLaws, StoreLaws}
+use Rattle.roc_protocol.proofs.Means.{entry_run}
+use Rattle.roc_protocol.proofs.Submissions.{AreSubmissions}
+use Rattle.roc_protocol.proofs.Idle.{run_idle}
+use Rattle.roc_protocol.proofs.Worlds.{IsLogged}
+use Rattle.roc_protocol.proofs.Serial as serial
+
+-- t is pending at this coordinator, or was answered
+abbrev pub IsPendingOrAnswered : World → CoordState → TxnId → Type 0
+IsPendingOrAnswered w c t = ((x : Transaction) × Has x c.pending × (x.id ≡ t)) ⊎ ((reply : List ℤ) × WasAnswered w.history t reply)
+
+module _ (plan : Plan) (asked : TxnId → whole.Call) (S : Scheme) (is : IsSchemeOf plan asked S) (laws : LogLaws S (start_store plan.program)) (w : World) (log : Log) (o : IsLogged plan asked S is laws w log) (subs : AreSubmissions plan w.history w.coords) where
+  i : LogInvariants S (start_store plan.program) log
+  i = laws.holds log o.means.reached
+
+  number_kept : (n q : ℕ) (c : CoordState) → slice_get w.coords n ≡ Some c → q < c.next → WasSubmitted w.history (record { coord = n; seq = q }) × IsPendingOrAnswered w c (record { coord = n; seq = q })
+  number_kept n q c there below = elim ((o.means.coords n c there).all q below) [
+    | inl p ↦
+        (let id = p.2 ∙ (λ k. record { coord = subs.numbers n c there k; seq = q }) in
+        (subst (WasSubmitted w.history) id (o.pending n c there p.0 p.1), inl (p.0, p.1, id)))
+    | inr h ↦
+        (let t : TxnId = record { coord = c.number; seq = q } in
+        let id : t ≡ record { coord = n; seq = q } = λ k. record { coord = subs.numbers n c there k; seq = q } in
+        let a = (o.means.answers t).0 h in
+        let began = i.whole t (o.means.answered t a.0 a.1).throughout.in_order 0 ((is.groups t 0).1 (is.some t)) in
+        (subst (WasSubmitted w.history) id (o.began (record { txn = t; group = 0 }) began), inr (a.0, subst (λ t. WasAnswered w.history t a.0) id a.1)))
+  ]
+
+module _ (plan : Plan) (schemes : HasSchemes plan) (laws : (S : Scheme) → IsSoundScheme S → LogLaws S (start_store plan.program)) (stores : StoreLaws) (coords : ℕ) (steps : List Stepped) (w : World) (run : IsRun plan coords steps w) where
+  pub numbers_kept : (n q : ℕ) (c : CoordState) → slice_get w.coords n ≡ Some c → q < c.next → WasSubmitted w.history (record { coord = n; seq = q }) × IsPendingOrAnswered w c (record { coord = n; seq = q })
+  numbers_kept n q c there below = elim (cases_lt 0 (length plan.program.procedures)) [
+    | inl some ↦
+        (let S = serial.S plan schemes laws stores coords steps w run some in
+        let l = serial.logged plan schemes laws stores coords steps w run some in
+        number_kept plan (serial.asked plan schemes laws stores coords steps w run some) S (serial.is plan schemes laws stores coords steps w run some) (laws S (serial.sound plan schemes laws stores coords steps w run some)) w l.0 l.1
+        (serial.submissions plan schemes laws stores coords steps w run some) n q c there below)
+    | inr none ↦ absurd (let e = (run_idle plan none coords steps w run).nexts n c there in omega arith)
+  ]
+
+  pub submitted_kept : (t : TxnId) → WasSubmitted w.history t → (c : CoordState) × (slice_get w.coords t.coord ≡ Some c) × IsPendingOrAnswered w c t
+  submitted_kept t (p, a, h) = elim (cases_lt 0 (length plan.program.procedures)) [
+    | inl some ↦ (let k = (serial.submissions plan schemes laws stores coords steps w run some).numbered t p a h in (k.coord, k.there, (numbers_kept t.coord t.seq k.coord k.there k.below).1))
+    | inr none ↦ absurd (subst (Has (Submitted t p a)) (run_idle plan none coords steps w run).history h)
+  ]
+
+  pub answered_decided : (t : TxnId) (reply : List ℤ) → WasAnswered w.history t reply → (n : ℕ) (s : ServerState) → slice_get w.servers n ≡ Some s → (e : StartedGroup) → Has e s.started → e.id ≡ t → IsDecided s.lists.known t
+  answered_decided t reply h n s there e has same = elim (cases_lt 0 (length plan.program.procedures)) [
+    | inl some ↦
+        (let S = serial.S plan schemes laws stores coords steps w run some in
+        let l = serial.logged plan schemes laws stores coords steps w run some in
+        let i = (laws S (serial.sound plan schemes laws stores coords steps w run some)).holds l.0 l.1.means.reached in
+        let mine = l.1.means.servers n s there in
+        let m = mine.groups.entries e has in
+        let d = (l.1.means.answered e.id reply (subst (λ t. WasAnswered w.history t reply) (sym same) h)).throughout in
+        let here = d.everywhere e.group (i.are_groups (entry_run e) m.told.began) in
+        subst (IsDecided s.lists.known) same ((mine.decided e.id).0 (subst (λ n. IsListed is_txn (l.0.decided n) e.id) m.on here)))
+    | inr none ↦ absurd (subst (Has (Answered t reply)) (run_idle plan none coords steps w run).history h)
+  ]

@@ -1,0 +1,159 @@
+-- Where all are answered, the servers hold what the serial order leaves
+use Rattle.std.proofs.Common.{◌≡◌, ◌≢◌, ℕ, ℤ, pos, zero, suc, ◌+◌, ◌<◌, Bool, true, false, List, Option, Some, None, length, map, refl, sym, ap, subst, ◌∙◌, inl, inr, arith}
+use Rattle.std.proofs.lemmas.Bool.{cases_lt, cases_eq}
+use Rattle.std.specs.Prelude.{slice_get, slice_set}
+use Rattle.std.specs.List.{range_with_len}
+use Rattle.roc_sequence.specs.Places.{IsListed}
+use Rattle.roc_base.specs.declared.id.TxnId.{TxnId}
+use Rattle.roc_base.specs.declared.node.Node.{Node}
+use Rattle.roc_base.specs.declared.node.Node.TheVariants.{Server, Coord}
+use Rattle.roc_base.specs.TxnId.{is_txn}
+use Rattle.roc_depgraph.proofs.Listed.{has_listed}
+use Rattle.roc_rows.specs.declared.cell.Cell.{Cell}
+use Rattle.roc_rows.specs.Store.{Store, read, empty}
+use Rattle.roc_plan.specs.Groups.{Plan, shard_of}
+use Rattle.roc_whole.specs.Serial as whole
+use Rattle.roc_whole.specs.Serial.{start_store, serial_store}
+use Rattle.roc_serial.specs.Behaviour.{TxnGroup, is_txn_group, is_group_number}
+use Rattle.roc_serial.specs.Runs.{stage_behind}
+use Rattle.roc_serial.specs.Orders.{one_by_one}
+use Rattle.roc_execution.specs.Scheme.{Scheme, IsSoundScheme}
+use Rattle.roc_execution.specs.Log.{Log, IsDecidedThroughout}
+use Rattle.roc_execution.specs.Invariants.{LogInvariants}
+use Rattle.roc_server.specs.First.{first_server}
+use Rattle.roc_server.specs.State.{ServerState}
+use Rattle.roc_audit.specs.History.{WasSubmitted, WasAnswered}
+use Rattle.roc_audit.specs.Witness.{submitted_call, submitted_calls}
+use Rattle.roc_protocol.specs.Asked.{IsSchemeOf, HasSchemes}
+use Rattle.roc_protocol.specs.declared.event.Event.{Event}
+use Rattle.roc_protocol.specs.declared.event.Event.TheVariants.{Submit, Deliver, Tick}
+use Rattle.roc_protocol.specs.World.{World, comes}
+use Rattle.roc_protocol.specs.Happens.{Outcome, IsReceived}
+use Rattle.roc_protocol.specs.Run.{Stepped, Comes, IsRun, begun, goes_on}
+use Rattle.roc_protocol.specs.Inner.Given.{LogLaws, SerialLaws, StoreLaws}
+use Rattle.roc_protocol.proofs.Means.{Began}
+use Rattle.roc_protocol.proofs.Firsts.{start_cells, start_elsewhere}
+use Rattle.roc_protocol.proofs.Changed.{get-set_here, get-set_other}
+use Rattle.roc_protocol.proofs.Idle.{IsIdle, run_idle}
+use Rattle.roc_protocol.proofs.Worlds.{Submitting, is_refused, is_accepted, submitting, IsLogged, ordered_submitted}
+use Rattle.roc_protocol.proofs.Witness.{calls_are}
+use Rattle.roc_protocol.proofs.Serial as serial
+
+-- each that was submitted was answered
+abbrev pub AreAllAnswered : World → Type 0
+AreAllAnswered w = (t : TxnId) → WasSubmitted w.history t → (reply : List ℤ) × WasAnswered w.history t reply
+
+-- the server of the cell's place holds what the serial order leaves there
+abbrev pub IsCellSerial : Plan → World → Cell → Type 0
+IsCellSerial plan w x =
+    (s : ServerState) → slice_get w.servers (shard_of plan x.place) ≡ Some s
+    → read s.store x ≡ read (serial_store plan.program (start_store plan.program) (submitted_calls w.history w.order)) x
+
+module _ (plan : Plan) (asked : TxnId → whole.Call) (S : Scheme) (is : IsSchemeOf plan asked S) (laws : LogLaws S (start_store plan.program)) (serials : SerialLaws S (start_store plan.program)) (w : World) (log : Log) (o : IsLogged plan asked S is laws w log) (all : AreAllAnswered w) where
+  abbrev start : Store
+  start = start_store plan.program
+
+  i : LogInvariants S start log
+  i = laws.holds log o.means.reached
+
+  throughout : (q : TxnGroup) → Began plan asked S start log q → IsDecidedThroughout S start log q.txn
+  throughout q began = let a = all q.txn (o.began q began) in (o.means.answered q.txn a.0 a.1).throughout
+
+  -- all groups of the order's transactions ran, and no others
+  of_order : (q : TxnGroup) → IsListed is_txn_group log.past.ran q → IsListed is_txn log.order q.txn
+  of_order q h = (throughout q (i.ran_started q h)).in_order
+
+  all_ran : (q : TxnGroup) → IsListed is_txn log.order q.txn → IsListed is_group_number (S.behaviour.groups q.txn) q.group → IsListed is_txn_group log.past.ran q
+  all_ran q h l = go (S.is_immediate q) refl
+    where
+      began : Began plan asked S start log q
+      began = i.whole q.txn h q.group l
+
+      go : (b : Bool) → S.is_immediate q ≡ b → IsListed is_txn_group log.past.ran q
+      go true e = i.now_ran q began e
+      go false e = i.later_ran q began e ((throughout q began).everywhere q.group l)
+
+  pub cells_by_log : ((t : TxnId) → WasSubmitted w.history t → submitted_call t w.history ≡ Some (asked t))
+      → ((stage_behind S.behaviour start (one_by_one S.behaviour log.order)).store ≡ serial_store plan.program start (map asked log.order)) → (x : Cell) → IsCellSerial plan w x
+  cells_by_log calls whole_stores x s there =
+      (o.means.servers (shard_of plan x.place) s there).part.cells x (is.cell_shard x)
+      ∙ (sym (serials.last log o.means.reached x of_order all_ran)
+      ∙ (ap (λ (store : Store). read store x) whole_stores
+      ∙ ap (λ cs. read (serial_store plan.program start cs) x)
+      (sym (calls_are asked w.history w.order (λ u k. calls u (ordered_submitted plan asked S is laws w log o u (has_listed w.order u k))) ∙ ap (map asked) o.means.order))))
+
+idle_cells : (plan : Plan) → StoreLaws → (w : World) → IsIdle plan w → (x : Cell) → IsCellSerial plan w x
+idle_cells plan stores w i x s there =
+    ap (λ (store : Store). read store x) (i.stores (shard_of plan x.place) s there)
+    ∙ (start_cells stores plan (shard_of plan x.place) plan.program.inits empty empty x refl refl
+    ∙ ap (λ order. read (serial_store plan.program (start_store plan.program) (submitted_calls w.history order)) x) (sym i.order))
+
+pub cells_serial :
+    (plan : Plan) → HasSchemes plan → ((S : Scheme) → IsSoundScheme S → LogLaws S (start_store plan.program)) → ((S : Scheme) → IsSoundScheme S → SerialLaws S (start_store plan.program)) → StoreLaws
+    → (coords : ℕ) (steps : List Stepped) (w : World) → IsRun plan coords steps w → AreAllAnswered w → (x : Cell) → IsCellSerial plan w x
+cells_serial plan schemes laws serials stores coords steps w run all x = elim (cases_lt 0 (length plan.program.procedures)) [
+  | inl some ↦
+      (let asked = serial.asked plan schemes laws stores coords steps w run some in
+      let S = serial.S plan schemes laws stores coords steps w run some in
+      let sound = serial.sound plan schemes laws stores coords steps w run some in
+      let l = serial.logged plan schemes laws stores coords steps w run some in
+      cells_by_log plan asked S (serial.is plan schemes laws stores coords steps w run some) (laws S sound) (serials S sound) w l.0 l.1 all
+      (serial.calls plan w (serial.submissions plan schemes laws stores coords steps w run some))
+      (schemes.stores asked (serial.known plan schemes laws stores coords steps w run some) l.0.order) x)
+  | inr none ↦ idle_cells plan stores w (run_idle plan none coords steps w run) x
+]
+
+-- a server holds nothing of the cells of other shards
+pub cells_apart :
+    (plan : Plan) → HasSchemes plan → ((S : Scheme) → IsSoundScheme S → LogLaws S (start_store plan.program)) → (stores : StoreLaws)
+    → (coords : ℕ) (steps : List Stepped) (w : World) → IsRun plan coords steps w
+    → (n : ℕ) (s : ServerState) → slice_get w.servers n ≡ Some s → (x : Cell) → shard_of plan x.place ≢ n → read s.store x ≡ pos 0
+cells_apart plan schemes laws stores coords steps w run n s there x apart = elim (cases_lt 0 (length plan.program.procedures)) [
+  | inl some ↦
+      (let is = serial.is plan schemes laws stores coords steps w run some in
+      let l = serial.logged plan schemes laws stores coords steps w run some in
+      (l.1.means.servers n s there).part.elsewhere x (λ e. apart (sym (is.cell_shard x) ∙ e)))
+  | inr none ↦
+      ap (λ (store : Store). read store x) ((run_idle plan none coords steps w run).stores n s there)
+      ∙ start_elsewhere stores plan n plan.program.inits empty x apart
+      ∙ stores.zero x
+]
+
+-- ---- each shard has its server
+
+-- what is found at each place below a number
+abbrev HasAll : {A : Type 0} → List A → ℕ → Type 0
+HasAll {A} xs count = (n : ℕ) → n < count → (a : A) × (slice_get xs n ≡ Some a)
+
+all_ranged : {A : Type 0} (f : ℕ → A) (a count : ℕ) → HasAll (map f (range_with_len a count)) count
+all_ranged f a zero n l = absurd (omega (arith, l))
+all_ranged f a (suc count) zero l = (f a, refl)
+all_ranged f a (suc count) (suc n) l = all_ranged f (a + 1) count n (omega (arith, l))
+
+all_set : {A : Type 0} (xs : List A) (count i : ℕ) (a b : A) → slice_get xs i ≡ Some a → HasAll xs count → HasAll (slice_set xs i b) count
+all_set xs count i a b e h n l = elim (cases_eq i n) [
+  | inl same ↦ (b, subst (λ n. slice_get (slice_set xs i b) n ≡ Some b) same (get-set_here xs i a b e))
+  | inr other ↦ (let x = h n l in (x.0, get-set_other xs i n b other ∙ x.1))
+]
+
+step_servers : (plan : Plan) (w : World) (count : ℕ) → HasAll w.servers count → (e : Option Event) (o : Outcome) → Comes plan w e o → HasAll o.world.servers count
+step_servers plan w count h None o c = subst (λ (o : Outcome). HasAll o.world.servers count) (sym c) h
+step_servers plan w count h (Some (Submit n proc args)) o (s, there, c) = go (submitting plan w n proc args s o c)
+  where
+    go : Submitting plan w n proc args s o → HasAll o.world.servers count
+    go (is_refused e) = subst (λ (v : World). HasAll v.servers count) (sym e) h
+    go (is_accepted known counted e) = subst (λ (v : World). HasAll v.servers count) (sym e) h
+step_servers plan w count h (Some (Deliver k)) o (m, some, there, c) = go m.to c
+  where
+    go : (to : Node) → IsReceived plan (comes w k) m.msg to o → HasAll o.world.servers count
+    go (Server shard) (s, r, at, step, e) = subst (λ (o : Outcome). HasAll o.world.servers count) (sym e) (all_set w.servers count shard.0 s r.state at h)
+    go (Coord n) (s, at, e) = subst (λ (o : Outcome). HasAll o.world.servers count) (sym e) h
+step_servers plan w count h (Some (Tick (Server shard))) o (s, there, e) = subst (λ (o : Outcome). HasAll o.world.servers count) (sym e) (all_set w.servers count shard.0 s s there h)
+step_servers plan w count h (Some (Tick (Coord n))) o (s, there, e) = subst (λ (o : Outcome). HasAll o.world.servers count) (sym e) h
+
+all_servers : (plan : Plan) (coords : ℕ) (steps : List Stepped) (w : World) → IsRun plan coords steps w → HasAll w.servers plan.program.shards
+all_servers plan coords steps w begun = all_ranged (λ n. first_server plan (record { 0 = n })) 0 plan.program.shards
+all_servers plan coords steps w (goes_on {w = v} e o r h) = step_servers plan v plan.program.shards (all_servers plan coords _ v r) e o h
+
+pub run_servers : (plan : Plan) (coords : ℕ) (steps : List Stepped) (w : World) → IsRun plan coords steps w → (n : ℕ) → n < plan.program.shards → (s : ServerState) × (slice_get w.servers n ≡ Some s)
+run_servers plan coords steps w run = all_servers plan coords steps w run

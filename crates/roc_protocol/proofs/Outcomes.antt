@@ -1,0 +1,113 @@
+-- Each event has an outcome
+use Rattle.std.proofs.Common.{◌≡◌, ℕ, ℤ, zero, suc, ◌-◌, ◌<◌, ◌==◌, Bool, true, false, not, List, [], ◌∷◌, Some, None, length, refl, sym, ◌∙◌, arith}
+use Rattle.std.proofs.lemmas.Bool.{false≢true, eq-eqb, eqb-true}
+use Rattle.std.proofs.lemmas.Bool.Decides.{nat_tests}
+use Rattle.std.proofs.lemmas.Option.{slice_get_within}
+use Rattle.std.specs.Prelude.{slice_get, if◌then◌else◌, nat_lt, nat_le}
+use Rattle.roc_sequence.proofs.Holds.{all_has}
+use Rattle.roc_sequence.proofs.Members.{has_at}
+use Rattle.roc_base.specs.declared.node.Node.{Node}
+use Rattle.roc_base.specs.declared.node.Node.TheVariants.{Server, Coord}
+use Rattle.roc_component.specs.Components.{HaveSameMembers, IsTakingOrder}
+use Rattle.roc_msg.specs.declared.msg.Msg.{Msg}
+use Rattle.roc_plan.specs.Groups.{Plan, procedure_of}
+use Rattle.roc_server.specs.State.{answered}
+use Rattle.roc_server.specs.Step as server
+use Rattle.roc_coord.specs.declared.handled.SubmitFault.TheVariants as fault
+use Rattle.roc_coord.specs.State.{CoordState}
+use Rattle.roc_coord.specs.Step.{after_message}
+use Rattle.roc_coord.specs.Submit.{next_id, new_transaction, accepted, Submission, refused_or_accepted, after_submit, most_transactions, most_pending}
+use Rattle.roc_coord.specs.Tick as coord
+use Rattle.roc_audit.specs.declared.entry.Entry.TheVariants.{Submitted}
+use Rattle.roc_protocol.specs.declared.event.Event.{Event}
+use Rattle.roc_protocol.specs.declared.event.Event.TheVariants.{Submit, Deliver, Tick}
+use Rattle.roc_protocol.specs.declared.event.Seen.TheVariants as seen
+use Rattle.roc_protocol.specs.World.{World, comes, at_coord}
+use Rattle.roc_protocol.specs.Fits.{IsNode, IsSentHere, FitsWorld}
+use Rattle.roc_protocol.specs.Happens.{Outcome, undecided, IsSubmissionOf, served, coordinated, IsReceived, Happens}
+use Rattle.roc_protocol.specs.Run.{IsEventOf}
+use Rattle.roc_base.specs.declared.id.TxnId.{TxnId}
+use Rattle.roc_depgraph.specs.declared.known.KnownList.{KnownList}
+use Rattle.roc_protocol.proofs.WorldsFit.{kept}
+use Rattle.roc_protocol.proofs.Findings.{handled}
+
+-- what stands at a place of a list
+there : {A : Type 0} (xs : List A) (n : ℕ) → n < length xs → (a : A) × (slice_get xs n ≡ Some a)
+there [] n l = absurd (omega arith)
+there (x ∷ xs) zero l = (x, refl)
+there (x ∷ xs) (suc n) l = there xs n (omega arith)
+
+-- ---- a submission
+
+abbrev IsThere : World → (n proc : ℕ) → List ℤ → Submission → Type 0
+IsThere w n proc args r = (o : Outcome) × IsSubmissionOf w n proc args r o
+
+submission : (plan : Plan) (w : World) (n proc : ℕ) (args : List ℤ) (s : CoordState) → proc < length plan.program.procedures → length args ≡ (procedure_of plan proc).arguments → (o : Outcome) × IsSubmissionOf w n proc args (after_submit plan s proc args) o
+submission plan w n proc args s known counted = procedure (nat_lt proc (length plan.program.procedures)) refl
+  where
+    free : (b : Bool) → IsThere w n proc args (refused_or_accepted plan s proc args (if b then Some fault.Busy else None))
+    free true = (undecided seen.Busy w, refl)
+    free false = let r = accepted plan s (new_transaction s proc args) in (undecided (seen.Submitted (next_id s)) (at_coord w n r.state r.sends (Submitted (next_id s) proc args ∷ [])), refl)
+
+    unspent : (b : Bool) → IsThere w n proc args (refused_or_accepted plan s proc args (if b then Some fault.Spent else if nat_le most_pending (length s.pending) then Some fault.Busy else None))
+    unspent true = (undecided seen.Spent w, refl)
+    unspent false = free (nat_le most_pending (length s.pending))
+
+    arguments : (b : Bool) → (length args == (procedure_of plan proc).arguments) ≡ b
+        → IsThere w n proc args (refused_or_accepted plan s proc args (if not b then Some fault.Args else if nat_le most_transactions s.next then Some fault.Spent else if nat_le most_pending (length s.pending) then Some fault.Busy else None))
+    arguments true e = unspent (nat_le most_transactions s.next)
+    arguments false e = absurd (false≢true (sym e ∙ eq-eqb (length args) (procedure_of plan proc).arguments counted))
+
+    procedure : (b : Bool) → nat_lt proc (length plan.program.procedures) ≡ b
+        → (o : Outcome) × IsSubmissionOf w n proc args (refused_or_accepted plan s proc args (if not b then Some fault.NoProc else if not (length args == (procedure_of plan proc).arguments) then Some fault.Args else if nat_le most_transactions s.next then Some fault.Spent else if nat_le most_pending (length s.pending) then Some fault.Busy else None)) o
+    procedure true e = arguments (length args == (procedure_of plan proc).arguments) refl
+    procedure false e = absurd (grind (arith, nat_tests))
+
+-- and what is submitted fits
+submitted : (plan : Plan) (w : World) (n proc : ℕ) (args : List ℤ) (s : CoordState) (o : Outcome) → IsSubmissionOf w n proc args (after_submit plan s proc args) o → (proc < length plan.program.procedures) × (length args ≡ (procedure_of plan proc).arguments)
+submitted plan w n proc args s o h = procedure (nat_lt proc (length plan.program.procedures)) refl h
+  where
+    arguments : (b : Bool) → (length args == (procedure_of plan proc).arguments) ≡ b
+        → IsSubmissionOf w n proc args (refused_or_accepted plan s proc args (if not b then Some fault.Args else if nat_le most_transactions s.next then Some fault.Spent else if nat_le most_pending (length s.pending) then Some fault.Busy else None)) o
+        → length args ≡ (procedure_of plan proc).arguments
+    arguments true e r = eqb-true (length args) (procedure_of plan proc).arguments e
+    arguments false e r = elim r [ ]
+
+    procedure : (b : Bool) → nat_lt proc (length plan.program.procedures) ≡ b
+        → IsSubmissionOf w n proc args (refused_or_accepted plan s proc args (if not b then Some fault.NoProc else if not (length args == (procedure_of plan proc).arguments) then Some fault.Args else if nat_le most_transactions s.next then Some fault.Spent else if nat_le most_pending (length s.pending) then Some fault.Busy else None)) o
+        → (proc < length plan.program.procedures) × (length args ≡ (procedure_of plan proc).arguments)
+    procedure true e r = (grind (arith, nat_tests), arguments (length args == (procedure_of plan proc).arguments) refl r)
+    procedure false e r = elim r [ ]
+
+-- ---- any event
+
+-- what happens may happen
+pub event_of : (plan : Plan) (w : World) (e : Event) (o : Outcome) → Happens plan w e o → IsEventOf plan w e
+event_of plan w (Submit n proc args) o (s, at, h) = let fit = submitted plan w n proc args s o h in (slice_get_within w.coords n s at, fit.0, fit.1)
+event_of plan w (Deliver k) o (m, some, at, h) = (some, (let within = slice_get_within w.sent (k - 1) m at in omega arith))
+event_of plan w (Tick (Server shard)) o (s, at, h) = slice_get_within w.servers shard.0 s at
+event_of plan w (Tick (Coord n)) o (s, at, h) = slice_get_within w.coords n s at
+
+module _ (exists : (known : List KnownList) (M : List TxnId) → (xs : List TxnId) × IsTakingOrder known M xs)
+    (one : (known : List KnownList) (M N xs ys : List TxnId) → HaveSameMembers M N → IsTakingOrder known M xs → IsTakingOrder known N ys → xs ≡ ys) (plan : Plan) (w : World) where
+  received : (msg : Msg) (to : Node) → IsNode (length w.servers) (length w.coords) to → (o : Outcome) × IsReceived plan w msg to o
+  received msg (Server shard) l =
+      let s = there w.servers shard.0 l in
+      let r = handled exists one plan s.0 msg in
+      (served w shard.0 r.0, (s.0, r.0, s.1, r.1, refl))
+  received msg (Coord n) l = let s = there w.coords n l in (coordinated w n (after_message plan s.0 msg), (s.0, s.1, refl))
+
+module _ (exists : (known : List KnownList) (M : List TxnId) → (xs : List TxnId) × IsTakingOrder known M xs)
+    (one : (known : List KnownList) (M N xs ys : List TxnId) → HaveSameMembers M N → IsTakingOrder known M xs → IsTakingOrder known N ys → xs ≡ ys) (plan : Plan) (w : World) (fits : FitsWorld plan w) where
+  happens : (e : Event) → IsEventOf plan w e → (o : Outcome) × Happens plan w e o
+  happens (Submit n proc args) (l, known, counted) = let s = there w.coords n l in let o = submission plan w n proc args s.0 known counted in (o.0, (s.0, s.1, o.1))
+  happens (Deliver k) (some, sent) =
+      let m = there w.sent (k - 1) (omega arith) in
+      let here = all_has (IsSentHere (length w.servers) (length w.coords)) m.0 w.sent fits.sent_here (has_at w.sent (k - 1) m.0 m.1) in
+      let o = received exists one plan (comes w k) m.0.msg m.0.to here.to in
+      (o.0, (m.0, some, m.1, o.1))
+  happens (Tick (Server shard)) l = let s = there w.servers shard.0 l in (served w shard.0 (answered s.0 (server.tick_sends s.0)), (s.0, s.1, refl))
+  happens (Tick (Coord n)) l = let s = there w.coords n l in (undecided seen.Done (at_coord w n s.0 (coord.tick_sends plan s.0) []), (s.0, s.1, refl))
+
+  pub outcome : (e : Event) → IsEventOf plan w e → (o : Outcome) × Happens plan w e o × FitsWorld plan o.world
+  outcome e event = let o = happens e event in (o.0, o.1, kept plan w fits e o.0 o.1)
