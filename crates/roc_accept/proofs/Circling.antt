@@ -3,7 +3,7 @@ use Rattle.std.proofs.Common.{◌≡◌, ◌≢◌, ◌↔◌, ℕ, ◌+◌, ◌
 use Rattle.std.proofs.lemmas.Bool.{cases_eq}
 use Rattle.std.proofs.lemmas.List.{get_or-set_same, get_or-set_other, length-set}
 use Rattle.roc_groups.specs.Flow.{Leads, directly, onward}
-use Rattle.roc_groups.specs.Inner.Paths.{leads_below}
+use Rattle.roc_groups.specs.Paths.{leads_below}
 use Rattle.roc_groups.proofs.Paths.{leads_from_below, below_from_leads}
 
 module _ (step : ℕ → ℕ → Bool) where

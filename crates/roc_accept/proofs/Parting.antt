@@ -10,7 +10,7 @@ use Rattle.roc_sequence.proofs.Holds.{all_has, has_all, all_weaker, any_has, has
 use Rattle.roc_sequence.proofs.Members.{has_filter, from_has_filter}
 use Rattle.roc_groups.specs.Groups.{first_piece}
 use Rattle.roc_groups.specs.Grouping.{IsGrouping}
-use Rattle.roc_groups.specs.Inner.Parts.{IsPart}
+use Rattle.roc_groups.specs.Parts.{IsPart}
 use Rattle.roc_groups.proofs.Elements.{has_at_place}
 use Rattle.roc_groups.proofs.Parts.{parts_of_grouping}
 use Rattle.roc_accept.specs.Inner.Tests.{has_piece}

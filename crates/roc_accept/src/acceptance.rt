@@ -7,7 +7,7 @@ ghost use Rattle.roc_groups.specs.Groups.{piece_numbered, groups_in};
 ghost use Rattle.roc_groups.specs.Core.{AreCoLocated};
 ghost use Rattle.roc_groups.specs.Grouping.{IsGrouping};
 ghost use Rattle.roc_groups.specs.Accepted.{IsAcceptedIn, IsAcceptedGrouping};
-ghost use Rattle.roc_groups.specs.Inner.Parts.{IsPart};
+ghost use Rattle.roc_groups.specs.Parts.{IsPart};
 ghost use Rattle.roc_accept.specs.Inner.Tests.{IsAlike, has_contended, AreContendedIn};
 
 use crate::are_co_located;

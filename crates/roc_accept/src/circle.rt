@@ -5,8 +5,8 @@ ghost use Rattle.roc_program.specs.Pieces.{pieces_in};
 ghost use Rattle.roc_groups.specs.Flow.{feeds, Leads};
 ghost use Rattle.roc_groups.specs.Grouping.{IsGrouping};
 ghost use Rattle.roc_groups.specs.Accepted.{group_feeds};
-ghost use Rattle.roc_groups.specs.Inner.Parts.{IsPart};
-ghost use Rattle.roc_groups.specs.Inner.Paths.{leads_below};
+ghost use Rattle.roc_groups.specs.Parts.{IsPart};
+ghost use Rattle.roc_groups.specs.Paths.{leads_below};
 ghost use Rattle.roc_accept.specs.Inner.Paths.{entry, IsPaths};
 
 use crate::feeds;

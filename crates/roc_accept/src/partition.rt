@@ -5,7 +5,7 @@ ghost use Rattle.std.specs.List.{AllByRecursion};
 ghost use Rattle.roc_sequence.specs.Rising.{IsRising};
 ghost use Rattle.roc_groups.specs.Groups.{group_at, first_piece};
 ghost use Rattle.roc_groups.specs.Grouping.{IsGrouping};
-ghost use Rattle.roc_groups.specs.Inner.Parts.{IsPart};
+ghost use Rattle.roc_groups.specs.Parts.{IsPart};
 ghost use Rattle.roc_accept.specs.Inner.Tests.{has_piece};
 
 /// Whether each of the first pieces is in one group, pieces and groups in order. Takes no memory.

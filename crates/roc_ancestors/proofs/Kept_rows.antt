@@ -11,7 +11,7 @@ use Rattle.roc_base.specs.Edge.{Dependency}
 use Rattle.roc_depgraph.specs.declared.known.KnownList.{KnownList}
 use Rattle.roc_depgraph.specs.Deps.{Precedes, IsDecided, list_of}
 use Rattle.roc_depgraph.specs.Reach.{Reaches, direct, through, ReachesOrIs}
-use Rattle.roc_depgraph.specs.Inner.Visits.{IsNamed}
+use Rattle.roc_depgraph.specs.Visits.{IsNamed}
 use Rattle.roc_depgraph.proofs.Laws.{KeepsLists, ancestor_stays, ancestor_back, decided_stays}
 use Rattle.roc_depgraph.proofs.Listed.{is_eq-true, listed_has, has_listed, listed_one, in_one}
 use Rattle.roc_component.specs.Components.{among, AreComponentsOf, Mates}

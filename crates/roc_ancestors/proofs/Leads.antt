@@ -14,12 +14,12 @@ use Rattle.roc_sequence.proofs.Appended.{listed_front, listed_behind, listed_eit
 use Rattle.roc_base.specs.declared.id.TxnId.{TxnId}
 use Rattle.roc_base.specs.TxnId.{is_txn, txn_cmp}
 use Rattle.roc_base.proofs.Ids.{txn_cmp-total, is_txn-eq}
-use Rattle.roc_base.specs.Inner.Equalities.{is_txn-same, is_txn-true}
+use Rattle.roc_base.specs.Equalities.{is_txn-same, is_txn-true}
 use Rattle.roc_base.specs.Edge.{Dependency}
 use Rattle.roc_depgraph.specs.declared.known.KnownList.{KnownList}
 use Rattle.roc_depgraph.specs.Deps.{Precedes, IsKnown, list_of}
 use Rattle.roc_depgraph.specs.Reach.{Reaches, direct, through, ReachesOrIs}
-use Rattle.roc_depgraph.specs.Inner.Visits.{Visits, IsNamed}
+use Rattle.roc_depgraph.specs.Visits.{Visits, IsNamed}
 use Rattle.roc_depgraph.proofs.Chains.{chain_before, closed_from}
 use Rattle.roc_depgraph.proofs.Decided.{known_of_decided}
 use Rattle.roc_depgraph.proofs.Listed.{has_from_listed, listed_from_has, listed_one, in_one}

@@ -9,7 +9,7 @@ use Rattle.roc_sequence.proofs.Holds.{has_all}
 use Rattle.roc_sequence.proofs.Places.{listed_head, listed_tail, listed_cases}
 use Rattle.roc_base.specs.declared.id.TxnId.{TxnId}
 use Rattle.roc_base.specs.TxnId.{is_txn, txn_cmp, txn_lt}
-use Rattle.roc_base.specs.Inner.Equalities.{is_txn-same, is_txn-true}
+use Rattle.roc_base.specs.Equalities.{is_txn-same, is_txn-true}
 use Rattle.roc_base.proofs.Ids.{is_lt-txn_cmp, txn_lt-trans, txn_cases}
 use Rattle.roc_depgraph.specs.Closure.{IsRisingListOf}
 use Rattle.roc_depgraph.proofs.Listed.{has_listed, listed_one, in_one}

@@ -3,7 +3,7 @@ ghost use Rattle.std.specs.Prelude.{◌≡◌, ◌++◌, ◌∷◌, [], List, So
 ghost use Rattle.roc_base.specs.declared.id.TxnId.{TxnId as Id};
 ghost use Rattle.roc_base.specs.Edge.{Dependency};
 ghost use Rattle.roc_depgraph.specs.Deps.{list_of};
-ghost use Rattle.roc_depgraph.specs.Inner.Visits.{Visits};
+ghost use Rattle.roc_depgraph.specs.Visits.{Visits};
 ghost use Rattle.roc_ancestors.specs.Led.{IsKnownAndLedTo};
 ghost use Rattle.roc_ancestors.specs.Least.{AreRows, row_of};
 ghost use Rattle.roc_ancestors.specs.Inner.Met.{CoversLeast};

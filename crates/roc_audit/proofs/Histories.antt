@@ -8,7 +8,7 @@ use Rattle.std.specs.List.{filter_map, cons_option}
 use Rattle.roc_base.specs.declared.id.TxnId.{TxnId}
 use Rattle.roc_base.specs.TxnId.{is_txn}
 use Rattle.roc_base.proofs.Ids.{is_txn-eq}
-use Rattle.roc_base.specs.Inner.Equalities.{is_txn-true, is_txn-same}
+use Rattle.roc_base.specs.Equalities.{is_txn-true, is_txn-same}
 use Rattle.roc_whole.specs.Serial.{Call}
 use Rattle.roc_audit.specs.declared.entry.Entry.{Entry}
 use Rattle.roc_audit.specs.declared.entry.Entry.TheVariants.{Submitted, Answered}

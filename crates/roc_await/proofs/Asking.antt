@@ -6,7 +6,7 @@ use Rattle.roc_sequence.proofs.Holds.{any_has, has_any}
 use Rattle.roc_sequence.proofs.Members.{has_left, has_right, has_filter}
 use Rattle.roc_base.specs.declared.id.TxnId.{TxnId}
 use Rattle.roc_base.specs.TxnId.{is_txn}
-use Rattle.roc_base.specs.Inner.Equalities.{is_txn-true}
+use Rattle.roc_base.specs.Equalities.{is_txn-true}
 use Rattle.roc_base.proofs.Ids.{is_txn-eq, txn_cases}
 use Rattle.roc_await.specs.declared.waits.Asked.{Asked}
 use Rattle.roc_await.specs.Waits.{is_asked_before, was_asked_for, with_asked, with_all_asked}

@@ -10,7 +10,7 @@ use Rattle.roc_sequence.proofs.Holds.{any_has, has_any}
 use Rattle.roc_sequence.proofs.Places.{listed_true, listed_test, listed_or_not}
 use Rattle.roc_base.specs.declared.id.TxnId.{TxnId}
 use Rattle.roc_base.specs.TxnId.{is_txn}
-use Rattle.roc_base.specs.Inner.Equalities.{is_txn-true}
+use Rattle.roc_base.specs.Equalities.{is_txn-true}
 use Rattle.roc_base.proofs.Ids.{is_txn-eq, is_txn-ne, is_txn-false}
 use Rattle.roc_base.specs.Edge.{Dependency}
 use Rattle.roc_base.specs.Edges.{entry_at}
@@ -24,7 +24,7 @@ use Rattle.roc_depgraph.proofs.Listed.{has_under, under_has}
 use Rattle.roc_await.specs.declared.group.Group.{Group}
 use Rattle.roc_await.specs.declared.lack.Lack.{Lack}
 use Rattle.roc_await.specs.Lacks.{IsMissing, IsLack}
-use Rattle.roc_depgraph.specs.Inner.Visits.{IsNamed}
+use Rattle.roc_depgraph.specs.Visits.{IsNamed}
 use Rattle.roc_await.specs.Inner.Grown.{AreListed, IsMissingFor, others}
 use Rattle.roc_await.specs.Inner.Groups.{lack_with, all_lacks, names_any, missing_if_named, is_other_unknown}
 use Rattle.roc_await.specs.Inner.Taken.{AreLacksSince}

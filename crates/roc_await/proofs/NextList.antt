@@ -5,7 +5,7 @@ use Rattle.roc_sequence.specs.Places.{IsListed}
 use Rattle.roc_sequence.proofs.Places.{listed_head, listed_tail, listed_cases}
 use Rattle.roc_base.specs.declared.id.TxnId.{TxnId}
 use Rattle.roc_base.specs.TxnId.{is_txn}
-use Rattle.roc_base.specs.Inner.Equalities.{is_txn-true, is_txn-same}
+use Rattle.roc_base.specs.Equalities.{is_txn-true, is_txn-same}
 use Rattle.roc_depgraph.specs.declared.known.KnownList.{KnownList}
 use Rattle.roc_depgraph.specs.Deps.{list_of}
 use Rattle.roc_await.specs.declared.lack.Lack.{Lack}

@@ -4,7 +4,7 @@ use Rattle.std.proofs.lemmas.Bool.{false≢true}
 use Rattle.std.specs.List.{list_any}
 use Rattle.roc_base.specs.declared.id.TxnId.{TxnId}
 use Rattle.roc_base.specs.TxnId.{is_txn}
-use Rattle.roc_base.specs.Inner.Equalities.{is_txn-true}
+use Rattle.roc_base.specs.Equalities.{is_txn-true}
 use Rattle.roc_base.specs.Edge.{Dependency}
 use Rattle.roc_depgraph.specs.declared.known.KnownList.{KnownList}
 use Rattle.roc_depgraph.specs.Deps.{list_of, IsKnown, Precedes, learnt}
@@ -12,7 +12,7 @@ use Rattle.roc_depgraph.specs.Reach.{Reaches, direct, through, ReachesOrIs}
 use Rattle.roc_depgraph.proofs.Laws.{learnt_keeps, list_of-learnt, list_of-learnt_other, known_stays}
 use Rattle.roc_depgraph.proofs.Chains.{joined_chain, weaker_chain}
 use Rattle.roc_await.specs.Lacks.{IsMissing}
-use Rattle.roc_depgraph.specs.Inner.Visits.{IsNamed}
+use Rattle.roc_depgraph.specs.Visits.{IsNamed}
 use Rattle.roc_await.specs.Inner.Grown.{IsMissingFor}
 
 module _ (known : List KnownList) (u : TxnId) (edges : List Dependency) (none : list_of u known ≡ None) where

@@ -15,7 +15,7 @@ use Rattle.roc_sequence.proofs.Listed.{has_listed, listed_has}
 use Rattle.roc_sequence.proofs.Places.{listed_test, unlisted_test}
 use Rattle.roc_base.specs.declared.id.TxnId.{TxnId}
 use Rattle.roc_base.specs.TxnId.{is_txn, txn_cmp, txn_lt}
-use Rattle.roc_base.specs.Inner.Equalities.{is_txn-true, is_txn-same}
+use Rattle.roc_base.specs.Equalities.{is_txn-true, is_txn-same}
 
 pub is_txn-eq : (a b : TxnId) → a ≡ b → is_txn a b ≡ true
 is_txn-eq a b e = subst (λ x. is_txn a x ≡ true) e (is_txn-same a)

@@ -3,7 +3,7 @@ use Rattle.std.proofs.Common.{◌≡◌, ℕ, ◌+◌, ◌<◌, length, get_or, 
 use Rattle.std.proofs.lemmas.List.{take_more}
 use Rattle.roc_base.specs.declared.id.TxnId.{TxnId}
 use Rattle.roc_base.specs.TxnId.{is_txn}
-use Rattle.roc_base.specs.Inner.Equalities.{is_txn-true, same_fields}
+use Rattle.roc_base.specs.Equalities.{is_txn-true, same_fields}
 use Rattle.roc_base.specs.Edge.{Dependency, joined}
 use Rattle.roc_base.specs.Edges.{comes_before, all_of, joined_with, unite_one, united}
 use Rattle.roc_base.proofs.Rising.{Some≢None, same_Some}

@@ -6,7 +6,7 @@ use Rattle.roc_base.specs.declared.id.TxnId.{TxnId}
 use Rattle.roc_base.specs.declared.node.Shard.{Shard}
 use Rattle.roc_base.specs.TxnId.{is_txn}
 use Rattle.roc_base.proofs.Ids.{is_txn-false, txn_lt-ne}
-use Rattle.roc_base.specs.Inner.Equalities.{is_txn-true}
+use Rattle.roc_base.specs.Equalities.{is_txn-true}
 use Rattle.roc_base.specs.Edge.{Dependency, joined, least_shard}
 use Rattle.roc_base.specs.Edges.{comes_before, entry_at, all_of, joined_with, united, Covers, IsAllOf}
 use Rattle.roc_sequence.specs.Lists.{Has}

@@ -4,7 +4,7 @@ use Rattle.std.specs.List.{AllByRecursion}
 use Rattle.roc_base.specs.declared.id.TxnId.{TxnId}
 use Rattle.roc_base.specs.TxnId.{is_txn, txn_lt}
 use Rattle.roc_base.proofs.Ids.{txn_lt-trans, txn_lt-ne, is_txn-swap, txn_cases}
-use Rattle.roc_base.specs.Inner.Equalities.{is_txn-true, is_txn-same}
+use Rattle.roc_base.specs.Equalities.{is_txn-true, is_txn-same}
 use Rattle.roc_base.specs.Edge.{Dependency}
 use Rattle.roc_base.specs.Edges.{comes_before, entry_at, all_of, joined_with}
 use Rattle.roc_sequence.specs.Rising.{IsRising}

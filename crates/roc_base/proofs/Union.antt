@@ -5,7 +5,7 @@ use Rattle.std.specs.List.{AllByRecursion}
 use Rattle.roc_base.specs.declared.id.TxnId.{TxnId}
 use Rattle.roc_base.specs.TxnId.{is_txn, txn_lt}
 use Rattle.roc_base.proofs.Ids.{is_txn-eq, txn_lt-other}
-use Rattle.roc_base.specs.Inner.Equalities.{is_txn-true}
+use Rattle.roc_base.specs.Equalities.{is_txn-true}
 use Rattle.roc_base.specs.Edge.{Dependency, HasTag, joined}
 use Rattle.roc_base.specs.Edges.{comes_before, IsEdgeList, entry_at, all_of, joined_with, unite_one, united}
 use Rattle.roc_base.proofs.Rising.{below-chain, entry_at-below, all_of-rising, same_rising, IsBelowAll}

@@ -3,5 +3,7 @@ pub mod Node
 pub mod Edge
 pub mod Edges
 pub mod Equality
+pub mod Equalities
 pub mod Key
+pub mod KeyOrder
 pub mod Inner

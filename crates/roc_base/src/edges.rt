@@ -103,7 +103,7 @@ impl Clone for Edges {
 impl PartialEq for Edges {
     ghost use Rattle.std.specs.Prelude.{◌≡◌, ◌↔◌, IsTrue};
     ghost use Rattle.roc_base.specs.Equality.{is_edges};
-    ghost use Rattle.roc_base.specs.Inner.Equalities.{edges_per};
+    ghost use Rattle.roc_base.specs.Equalities.{edges_per};
 
     ghost eq = { is_edges };
 
@@ -119,7 +119,7 @@ impl PartialEq for Edges {
 }
 
 impl Eq for Edges {
-    ghost use Rattle.roc_base.specs.Inner.Equalities.{edges_equivalence};
+    ghost use Rattle.roc_base.specs.Equalities.{edges_equivalence};
 
     ghost laws = { edges_equivalence };
 }

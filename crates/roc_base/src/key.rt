@@ -58,7 +58,7 @@ impl Key {
 
 impl PartialEq for Key {
     ghost use Rattle.roc_base.specs.Equality.{is_nums};
-    ghost use Rattle.roc_base.specs.Inner.Equalities.{nums_per};
+    ghost use Rattle.roc_base.specs.Equalities.{nums_per};
 
     ghost eq = { is_nums };
 
@@ -70,7 +70,7 @@ impl PartialEq for Key {
 }
 
 impl Eq for Key {
-    ghost use Rattle.roc_base.specs.Inner.Equalities.{nums_equivalence};
+    ghost use Rattle.roc_base.specs.Equalities.{nums_equivalence};
 
     ghost laws = { nums_equivalence };
 }
@@ -92,7 +92,7 @@ impl PartialOrd for Key {
 impl Ord for Key {
     ghost use Rattle.std.specs.Prelude.{refl};
     ghost use Rattle.roc_base.specs.Key.{key_cmp};
-    ghost use Rattle.roc_base.specs.Inner.Keys.{key_cmp-total, is_nums-by_cmp};
+    ghost use Rattle.roc_base.specs.KeyOrder.{key_cmp-total, is_nums-by_cmp};
 
     ghost cmp = { key_cmp };
 

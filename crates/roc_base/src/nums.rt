@@ -94,7 +94,7 @@ impl Clone for Nums {
 impl PartialEq for Nums {
     ghost use Rattle.std.specs.Prelude.{◌≡◌, ◌↔◌, IsTrue};
     ghost use Rattle.roc_base.specs.Equality.{is_nums};
-    ghost use Rattle.roc_base.specs.Inner.Equalities.{nums_per};
+    ghost use Rattle.roc_base.specs.Equalities.{nums_per};
 
     ghost eq = { is_nums };
 
@@ -110,7 +110,7 @@ impl PartialEq for Nums {
 }
 
 impl Eq for Nums {
-    ghost use Rattle.roc_base.specs.Inner.Equalities.{nums_equivalence};
+    ghost use Rattle.roc_base.specs.Equalities.{nums_equivalence};
 
     ghost laws = { nums_equivalence };
 }

@@ -5,7 +5,7 @@ use Rattle.roc_sequence.specs.Places.{place_of, IsListed, IsListedBefore}
 use Rattle.roc_sequence.proofs.Places.{same_place}
 use Rattle.roc_base.specs.declared.id.TxnId.{TxnId}
 use Rattle.roc_base.specs.TxnId.{is_txn}
-use Rattle.roc_base.specs.Inner.Equalities.{is_txn-true}
+use Rattle.roc_base.specs.Equalities.{is_txn-true}
 use Rattle.roc_depgraph.specs.declared.known.KnownList.{KnownList}
 use Rattle.roc_depgraph.specs.Deps.{Precedes, PrecedesNow}
 use Rattle.roc_depgraph.specs.Reach.{Reaches, direct, through}

@@ -10,7 +10,7 @@ use Rattle.roc_sequence.proofs.Appended.{listed_either, before_front, from_befor
 use Rattle.roc_base.specs.declared.id.TxnId.{TxnId}
 use Rattle.roc_base.specs.TxnId.{is_txn, txn_cmp}
 use Rattle.roc_base.proofs.Ids.{txn_cmp-total}
-use Rattle.roc_base.specs.Inner.Equalities.{is_txn-same}
+use Rattle.roc_base.specs.Equalities.{is_txn-same}
 use Rattle.roc_depgraph.proofs.Listed.{under_has, has_from_listed, listed_from_has, is_eq-true, listed_one, in_one}
 use Rattle.roc_component.proofs.Member.{Member}
 use Rattle.roc_component.specs.Components.{IsNext, among, IsComponentOrder}

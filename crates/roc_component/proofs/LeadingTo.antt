@@ -12,7 +12,7 @@ use Rattle.roc_sequence.proofs.Appended.{listed_front, listed_behind, listed_eit
 use Rattle.roc_base.specs.declared.id.TxnId.{TxnId}
 use Rattle.roc_base.specs.TxnId.{is_txn}
 use Rattle.roc_base.specs.Edge.{Dependency}
-use Rattle.roc_base.specs.Inner.Equalities.{is_txn-true, is_txn-same}
+use Rattle.roc_base.specs.Equalities.{is_txn-true, is_txn-same}
 use Rattle.roc_depgraph.specs.declared.known.KnownList.{KnownList}
 use Rattle.roc_depgraph.specs.Deps.{entries_of, Precedes, PrecedesNow}
 use Rattle.roc_depgraph.proofs.Listed.{has_under, under_has, has_listed, listed_has}

@@ -12,7 +12,7 @@ use Rattle.roc_sequence.proofs.Places.{listed_head, listed_tail, listed_cases}
 use Rattle.roc_base.specs.declared.id.TxnId.{TxnId}
 use Rattle.roc_base.specs.TxnId.{is_txn, txn_cmp, txn_lt}
 use Rattle.roc_base.proofs.Ids.{is_lt-txn_cmp, txn_lt-itself, txn_lt-asym}
-use Rattle.roc_base.specs.Inner.Equalities.{is_txn-true, is_txn-same}
+use Rattle.roc_base.specs.Equalities.{is_txn-true, is_txn-same}
 
 -- Of a finite list of ids one is such that those that reach it are reached from it
 module _ (R : TxnId → TxnId → Type 0) (itself : (a : TxnId) → R a a) (trans : (a b c : TxnId) → R a b → R b c → R a c) where

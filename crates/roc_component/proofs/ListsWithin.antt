@@ -15,7 +15,7 @@ use Rattle.roc_sequence.proofs.Places.{listed_true, listed_test, listed_or_not, 
 use Rattle.roc_base.specs.declared.id.TxnId.{TxnId}
 use Rattle.roc_base.specs.TxnId.{is_txn, txn_cmp, txn_lt}
 use Rattle.roc_base.proofs.Ids.{is_txn-ne, is_lt-txn_cmp, txn_lt-itself}
-use Rattle.roc_base.specs.Inner.Equalities.{is_txn-true, is_txn-same}
+use Rattle.roc_base.specs.Equalities.{is_txn-true, is_txn-same}
 use Rattle.roc_base.specs.Edge.{Dependency}
 use Rattle.roc_base.specs.Edges.{united, comes_before}
 use Rattle.roc_sequence.specs.Rising.{IsRising}

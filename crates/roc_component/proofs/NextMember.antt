@@ -12,7 +12,7 @@ use Rattle.roc_sequence.proofs.Places.{listed_true, listed_test, listed_or_not, 
 use Rattle.roc_sequence.proofs.Filtered.{listed_filter, from_listed_filter}
 use Rattle.roc_base.specs.declared.id.TxnId.{TxnId}
 use Rattle.roc_base.specs.TxnId.{is_txn, txn_lt}
-use Rattle.roc_base.specs.Inner.Equalities.{is_txn-true}
+use Rattle.roc_base.specs.Equalities.{is_txn-true}
 use Rattle.roc_depgraph.specs.Reach.{Reaches, direct, through, ReachesOrIs}
 use Rattle.roc_depgraph.proofs.Chains.{chain_before}
 use Rattle.roc_component.proofs.Member.{Member}

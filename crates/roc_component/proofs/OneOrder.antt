@@ -6,7 +6,7 @@ use Rattle.roc_sequence.proofs.Places.{place_of-le, place_of-here, place_of-ther
 use Rattle.roc_base.specs.declared.id.TxnId.{TxnId}
 use Rattle.roc_base.specs.TxnId.{is_txn, txn_lt}
 use Rattle.roc_base.proofs.Ids.{is_txn-ne, is_txn-false, txn_cases, txn_lt-trans}
-use Rattle.roc_base.specs.Inner.Equalities.{is_txn-true, is_txn-same}
+use Rattle.roc_base.specs.Equalities.{is_txn-true, is_txn-same}
 use Rattle.roc_component.specs.Components.{Mates, IsNextInside, IsNext, among, IsComponentOrder}
 use Rattle.roc_component.proofs.Relations.{mates_sym, mates_trans, ready_mate, free_mate, next_by, no_descent}
 

@@ -9,7 +9,7 @@ use Rattle.roc_sequence.proofs.Holds.{all_append}
 use Rattle.roc_sequence.proofs.Places.{place_of-le}
 use Rattle.roc_base.specs.declared.id.TxnId.{TxnId}
 use Rattle.roc_base.specs.TxnId.{is_txn, txn_lt}
-use Rattle.roc_base.specs.Inner.Equalities.{is_txn-true}
+use Rattle.roc_base.specs.Equalities.{is_txn-true}
 use Rattle.roc_base.proofs.Ids.{txn_lt-itself, txn_lt-trans, txn_lt-asym, txn_lt-other}
 use Rattle.roc_depgraph.specs.declared.known.KnownList.{KnownList}
 use Rattle.roc_msg.specs.Facts.{is_fact_before, AreFacts}

@@ -5,7 +5,7 @@ use Rattle.std.specs.List.{filter, position, remove}
 use Rattle.roc_base.specs.declared.id.TxnId.{TxnId}
 use Rattle.roc_base.specs.declared.node.Shard.{Shard}
 use Rattle.roc_base.specs.TxnId.{is_txn, txn_lt}
-use Rattle.roc_base.specs.Inner.Equalities.{is_txn-true}
+use Rattle.roc_base.specs.Equalities.{is_txn-true}
 use Rattle.roc_msg.specs.declared.outbox.Outbox.{Outbox}
 use Rattle.roc_msg.specs.declared.outbox.Outgoing.{Outgoing}
 use Rattle.roc_msg.specs.declared.reason.Reason.{Reason}

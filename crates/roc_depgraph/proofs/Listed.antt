@@ -10,7 +10,7 @@ use Rattle.roc_sequence.proofs.Listed as listed
 use Rattle.roc_sequence.proofs.Places.{listed_head, listed_tail, listed_cases}
 use Rattle.roc_base.specs.declared.id.TxnId.{TxnId}
 use Rattle.roc_base.specs.TxnId.{is_txn, txn_cmp}
-use Rattle.roc_base.specs.Inner.Equalities.{is_txn-same, is_txn-true}
+use Rattle.roc_base.specs.Equalities.{is_txn-same, is_txn-true}
 
 -- a set's test of a key
 abbrev pub has : List TxnId → TxnId → Bool

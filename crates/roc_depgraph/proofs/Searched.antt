@@ -12,7 +12,7 @@ use Rattle.roc_sequence.specs.Places.{IsListed, is_listed}
 use Rattle.roc_sequence.proofs.Places.{listed_test, unlisted_test, listed_head, listed_tail, listed_cases}
 use Rattle.roc_base.specs.declared.id.TxnId.{TxnId}
 use Rattle.roc_base.specs.TxnId.{is_txn, txn_cmp, txn_lt}
-use Rattle.roc_base.specs.Inner.Equalities.{is_txn-true, is_txn-same}
+use Rattle.roc_base.specs.Equalities.{is_txn-true, is_txn-same}
 use Rattle.roc_base.proofs.Ids.{txn_cmp-total, txn_cmp-exact, is_lt-txn_cmp, txn_lt-asym, txn_lt-itself}
 
 pub none : TxnId

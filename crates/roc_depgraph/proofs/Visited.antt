@@ -10,9 +10,9 @@ use Rattle.roc_sequence.specs.Places.{IsListed}
 use Rattle.roc_sequence.proofs.Appended.{listed_front, listed_behind, listed_either}
 use Rattle.roc_base.specs.declared.id.TxnId.{TxnId}
 use Rattle.roc_base.specs.TxnId.{is_txn, txn_cmp}
-use Rattle.roc_base.specs.Inner.Equalities.{is_txn-same, is_txn-true}
+use Rattle.roc_base.specs.Equalities.{is_txn-same, is_txn-true}
 use Rattle.roc_base.specs.Edge.{Dependency}
-use Rattle.roc_depgraph.specs.Inner.Visits.{Visits, IsNamed}
+use Rattle.roc_depgraph.specs.Visits.{Visits, IsNamed}
 use Rattle.roc_depgraph.proofs.Listed.{has, has_from_listed, listed_from_has, is_eq-same, is_eq-true, listed_one, in_one}
 
 -- one more entry names its id

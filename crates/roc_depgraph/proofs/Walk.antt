@@ -12,13 +12,13 @@ use Rattle.roc_sequence.proofs.Appended.{listed_front, listed_behind, listed_eit
 use Rattle.roc_base.specs.declared.id.TxnId.{TxnId}
 use Rattle.roc_base.specs.TxnId.{is_txn, txn_cmp}
 use Rattle.roc_base.proofs.Ids.{txn_cmp-total}
-use Rattle.roc_base.specs.Inner.Equalities.{is_txn-same, is_txn-true}
+use Rattle.roc_base.specs.Equalities.{is_txn-same, is_txn-true}
 use Rattle.roc_base.specs.Edge.{Dependency}
 use Rattle.roc_depgraph.specs.declared.known.KnownList.{KnownList}
 use Rattle.roc_depgraph.specs.Closure.{IsRisingListOf}
 use Rattle.roc_depgraph.specs.Deps.{Precedes, entries_of, list_of}
 use Rattle.roc_depgraph.specs.Reach.{Reaches, direct, through, ReachesOrIs}
-use Rattle.roc_depgraph.specs.Inner.Visits.{Visits, IsNamed}
+use Rattle.roc_depgraph.specs.Visits.{Visits, IsNamed}
 use Rattle.roc_depgraph.proofs.Chains.{chain_before, closed_from}
 use Rattle.roc_depgraph.proofs.Visited.{visits_none}
 use Rattle.roc_depgraph.proofs.Listed.{has_from_listed, listed_from_has, listed_one, in_one}

@@ -2,4 +2,4 @@ pub mod Reach
 pub mod Deps
 pub mod Learnt
 pub mod Closure
-pub mod Inner
+pub mod Visits

@@ -6,7 +6,7 @@ ghost use Rattle.roc_depgraph.specs.Closure.{IsClosure, IsRisingListOf};
 ghost use Rattle.roc_depgraph.specs.Deps.{list_of, is_known, Precedes, IsDecided};
 ghost use Rattle.roc_depgraph.specs.Learnt.{Learns};
 ghost use Rattle.roc_depgraph.specs.Reach.{ReachesOrIs};
-ghost use Rattle.roc_depgraph.specs.Inner.Visits.{Visits};
+ghost use Rattle.roc_depgraph.specs.Visits.{Visits};
 
 use crate::{Closure, KnownList, Learnt};
 use roc_base::{Edge, Edges, NoMemory, TxnId};

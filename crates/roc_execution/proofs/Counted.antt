@@ -7,15 +7,15 @@ use Rattle.roc_sequence.proofs.Listed.{listed_one, in_one}
 use Rattle.roc_sequence.proofs.Appended.{listed_front}
 use Rattle.roc_base.specs.declared.id.TxnId.{TxnId}
 use Rattle.roc_base.specs.TxnId.{is_txn, txn_lt}
-use Rattle.roc_base.specs.Inner.Equalities.{is_txn-true, is_txn-same}
+use Rattle.roc_base.specs.Equalities.{is_txn-true, is_txn-same}
 use Rattle.roc_base.proofs.Ids.{txn_lt-itself}
 use Rattle.roc_rows.specs.declared.cell.Cell.{Cell}
 use Rattle.roc_rows.specs.Cells.{is_cell}
-use Rattle.roc_rows.specs.Inner.Cells.{is_cell-true}
+use Rattle.roc_rows.proofs.CellLaws.{is_cell-true}
 use Rattle.roc_rows.specs.Store.{Store}
 use Rattle.roc_serial.specs.Behaviour.{TxnGroup, is_txn_group, is_group_number, is_used, Meet, IsLawful}
 use Rattle.roc_serial.specs.Counter.{counted_cell, one_use, counter}
-use Rattle.roc_serial.specs.Inner.Groups.{same_group, is_group-same}
+use Rattle.roc_serial.proofs.SameGroups.{same_group, is_group-same}
 use Rattle.roc_depgraph.specs.Reach.{Reaches, direct, through}
 use Rattle.roc_component.specs.Components.{Mates}
 use Rattle.roc_execution.specs.Scheme.{IsSoundScheme}

@@ -8,13 +8,13 @@ use Rattle.roc_sequence.proofs.Appended.{listed_front, listed_behind, listed_eit
 use Rattle.roc_sequence.proofs.Filtered.{listed_filter, from_listed_filter, from_before_filter, NoneTwice-filter}
 use Rattle.roc_base.specs.declared.id.TxnId.{TxnId}
 use Rattle.roc_base.specs.TxnId.{is_txn}
-use Rattle.roc_base.specs.Inner.Equalities.{is_txn-true}
+use Rattle.roc_base.specs.Equalities.{is_txn-true}
 use Rattle.roc_rows.specs.Store.{Store}
 use Rattle.roc_serial.specs.Behaviour.{TxnGroup, is_txn_group, is_group_number}
 use Rattle.roc_serial.specs.Runs.{needs}
 use Rattle.roc_serial.specs.Orders.{one_by_one, StandOneByOne}
 use Rattle.roc_serial.specs.Growth.{Stays}
-use Rattle.roc_serial.specs.Inner.Groups.{same_group, is_group-same}
+use Rattle.roc_serial.proofs.SameGroups.{same_group, is_group-same}
 use Rattle.roc_execution.specs.Scheme.{Scheme, IsSoundScheme}
 use Rattle.roc_execution.specs.Log.{Log, PrecedesTxn, PrecedesTxnNow, shard_at, HasGroup, IsWhole}
 use Rattle.roc_execution.specs.Taking.{IsWholeOrder, IsShardOrder}

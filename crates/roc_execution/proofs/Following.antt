@@ -10,7 +10,7 @@ use Rattle.roc_rows.specs.Store.{Store}
 use Rattle.roc_serial.specs.Behaviour.{TxnGroup, is_txn_group, is_group_number, Use, is_written, Meet}
 use Rattle.roc_serial.specs.Runs.{needs, inputs_at, stage_behind, stage_before, uses_in, Conflict}
 use Rattle.roc_serial.specs.Orders.{IsRealRun, Follows}
-use Rattle.roc_serial.specs.Inner.Groups.{same_group, written_used}
+use Rattle.roc_serial.proofs.SameGroups.{same_group, written_used}
 use Rattle.roc_component.specs.Components.{Mates}
 use Rattle.roc_execution.specs.Scheme.{Scheme, IsSoundScheme}
 use Rattle.roc_execution.specs.Log.{Log, PrecedesTxn, PrecedesTxnNow, shard_at, HasGroup}

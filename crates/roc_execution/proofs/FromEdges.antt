@@ -6,7 +6,7 @@ use Rattle.roc_sequence.proofs.Places.{listed_by_before, listed_false, unlisted_
 use Rattle.roc_sequence.proofs.Filtered.{from_listed_filter, before_filter, from_before_filter, NoneTwice-filter}
 use Rattle.roc_base.specs.declared.id.TxnId.{TxnId}
 use Rattle.roc_base.specs.TxnId.{is_txn}
-use Rattle.roc_base.specs.Inner.Equalities.{is_txn-true}
+use Rattle.roc_base.specs.Equalities.{is_txn-true}
 use Rattle.roc_depgraph.specs.Reach.{Reaches, direct, through}
 use Rattle.roc_component.specs.Components.{Mates, among, IsComponentOrder}
 use Rattle.roc_component.proofs.Relations.{mates_sym}

@@ -6,7 +6,7 @@ use Rattle.roc_sequence.proofs.Listed.{listed_one}
 use Rattle.roc_sequence.proofs.Appended.{listed_front, listed_either}
 use Rattle.roc_base.specs.declared.id.TxnId.{TxnId}
 use Rattle.roc_base.specs.TxnId.{is_txn}
-use Rattle.roc_base.specs.Inner.Equalities.{is_txn-true, is_txn-same}
+use Rattle.roc_base.specs.Equalities.{is_txn-true, is_txn-same}
 use Rattle.roc_rows.specs.Store.{Store}
 use Rattle.roc_serial.specs.Behaviour.{TxnGroup, is_txn_group}
 use Rattle.roc_serial.specs.Runs.{needs}

@@ -7,7 +7,7 @@ use Rattle.roc_sequence.proofs.Appended.{listed_front, listed_behind, listed_eit
 use Rattle.roc_sequence.proofs.Filtered.{listed_filter, from_listed_filter, before_filter, from_before_filter, NoneTwice-filter}
 use Rattle.roc_base.specs.declared.id.TxnId.{TxnId}
 use Rattle.roc_base.specs.TxnId.{is_txn}
-use Rattle.roc_base.specs.Inner.Equalities.{is_txn-true, is_txn-same}
+use Rattle.roc_base.specs.Equalities.{is_txn-true, is_txn-same}
 use Rattle.roc_depgraph.proofs.Chains.{closed_chain}
 use Rattle.roc_component.specs.Components.{Mates}
 use Rattle.roc_component.proofs.Relations.{mates_sym, mates_trans}

@@ -5,7 +5,7 @@ use Rattle.roc_rows.specs.declared.cell.Cell.{Cell}
 use Rattle.roc_rows.specs.Store.{Store, read}
 use Rattle.roc_serial.specs.Behaviour.{TxnGroup, is_written, DoesSame}
 use Rattle.roc_serial.specs.Runs.{Stage, inputs_at, uses_at, after_group}
-use Rattle.roc_serial.specs.Inner.Groups.{written_used}
+use Rattle.roc_serial.proofs.SameGroups.{written_used}
 use Rattle.roc_execution.specs.Scheme.{Scheme, IsSoundScheme}
 
 module _ (S : Scheme) (sound : IsSoundScheme S) where

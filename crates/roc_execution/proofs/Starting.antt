@@ -13,7 +13,7 @@ use Rattle.roc_rows.specs.Store.{Store}
 use Rattle.roc_serial.specs.Behaviour.{TxnGroup, is_txn_group, is_group_number}
 use Rattle.roc_serial.specs.Runs.{needs}
 use Rattle.roc_serial.specs.Growth.{Stays}
-use Rattle.roc_serial.specs.Inner.Groups.{same_group, is_group-same}
+use Rattle.roc_serial.proofs.SameGroups.{same_group, is_group-same}
 use Rattle.roc_execution.specs.Scheme.{Scheme, IsSoundScheme}
 use Rattle.roc_execution.specs.Log.{Log, shard_at}
 use Rattle.roc_execution.specs.Steps.{MayStart, with_left_out, with_start}

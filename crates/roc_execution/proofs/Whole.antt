@@ -6,7 +6,7 @@ use Rattle.roc_sequence.proofs.Places.{listed_by_before, same_place}
 use Rattle.roc_sequence.proofs.Appended.{listed_front, listed_behind, listed_either, before_front, from_before_front, before_behind, from_before_behind, before_new, NoneTwice-append}
 use Rattle.roc_base.specs.declared.id.TxnId.{TxnId}
 use Rattle.roc_base.specs.TxnId.{is_txn}
-use Rattle.roc_base.specs.Inner.Equalities.{is_txn-true, is_txn-same}
+use Rattle.roc_base.specs.Equalities.{is_txn-true, is_txn-same}
 use Rattle.roc_depgraph.specs.Reach.{Reaches, direct, through}
 use Rattle.roc_depgraph.proofs.Chains.{closed_chain}
 use Rattle.roc_component.specs.Components.{Mates, IsFree, IsNextInside}

@@ -2,7 +2,7 @@
 use Rattle.std.proofs.Common.{◌≡◌, ℕ, zero, suc, List, [], ◌++◌, Some, None, refl, sym, ap, subst, ◌∙◌, append_assoc}
 use Rattle.std.proofs.lemmas.Option.{same_Some, none-some}
 use Rattle.roc_lang.specs.Tokens.{Token, IsTokenStep, IsTokens, step}
-use Rattle.roc_parse.specs.Inner.Scanning.{Scanned, scanned_step}
+use Rattle.roc_parse.specs.Scanning.{Scanned, scanned_step}
 use Rattle.roc_parse.proofs.Steps.{next_is}
 use Rattle.roc_parse.proofs.Places.{Place}
 

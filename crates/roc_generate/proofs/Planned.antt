@@ -14,7 +14,7 @@ use Rattle.roc_groups.specs.Groups.{piece_numbered}
 use Rattle.roc_groups.specs.Flow.{feeds, Leads, directly, onward}
 use Rattle.roc_groups.specs.Core.{InCore, contended, between, IsAcceptable, AreCoLocated}
 use Rattle.roc_groups.specs.Grouping.{IsMergedIn, IsMerged}
-use Rattle.roc_merge.specs.Inner.Grouped.{grouped}
+use Rattle.roc_merge.specs.Grouped.{grouped}
 use Rattle.roc_merge.proofs.Grouped.{grouped_merged}
 use Rattle.roc_generate.proofs.Trees.{tables_tree, procedures_tree}
 

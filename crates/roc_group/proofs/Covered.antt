@@ -8,7 +8,7 @@ use Rattle.roc_sequence.proofs.Members.{has_append, from_has_map}
 use Rattle.roc_rows.specs.declared.cell.Cell.{Cell}
 use Rattle.roc_rows.specs.Cells.{is_cell}
 use Rattle.roc_rows.specs.Store.{Store}
-use Rattle.roc_rows.specs.Inner.Cells.{is_cell-true}
+use Rattle.roc_rows.proofs.CellLaws.{is_cell-true}
 use Rattle.roc_program.specs.Program.{Access as Column, Statement, Get, Set, Out, Piece}
 use Rattle.roc_program.specs.LookUps.{no_piece}
 use Rattle.roc_program.specs.Conflict.{collide, conflict, are_in_conflict}

@@ -5,7 +5,7 @@ use Rattle.std.specs.List.{AllByRecursion}
 use Rattle.roc_sequence.specs.Rising.{IsRising}
 use Rattle.roc_sequence.proofs.Holds.{all_has, has_all}
 use Rattle.roc_groups.specs.Grouping.{IsGrouping}
-use Rattle.roc_groups.specs.Inner.Parts.{IsPart}
+use Rattle.roc_groups.specs.Parts.{IsPart}
 
 module _ (count : ℕ) (groups : List (List ℕ)) (is : IsGrouping count groups) where
   pub parts_of_grouping : AllByRecursion (IsPart count) groups

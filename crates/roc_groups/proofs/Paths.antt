@@ -8,7 +8,7 @@ use Rattle.roc_groups.specs.Groups.{group_at}
 use Rattle.roc_groups.specs.Flow.{feeds, Leads, directly, onward}
 use Rattle.roc_groups.specs.Accepted.{group_feeds}
 use Rattle.roc_groups.proofs.Elements.{row_of_has}
-use Rattle.roc_groups.specs.Inner.Paths.{leads_below}
+use Rattle.roc_groups.specs.Paths.{leads_below}
 use Rattle.roc_groups.proofs.Cores.{leads_through}
 
 pub below_none : (step : ℕ → ℕ → Bool) (a b : ℕ) → leads_below step 0 a b ≡ step a b

@@ -4,4 +4,5 @@ pub mod Core
 pub mod Grouping
 pub mod Refusals
 pub mod Accepted
-pub mod Inner
+pub mod Parts
+pub mod Paths

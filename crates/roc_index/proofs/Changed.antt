@@ -5,7 +5,7 @@ use Rattle.std.specs.Option.{option_map}
 use Rattle.std.specs.Ordering.{is_eq}
 use Rattle.roc_rows.specs.declared.cell.Cell.{Cell}
 use Rattle.roc_rows.specs.Cells.{is_cell, cell_cmp}
-use Rattle.roc_rows.specs.Inner.Cells.{is_cell-true, is_cell-same, is_cell-by_cmp}
+use Rattle.roc_rows.proofs.CellLaws.{is_cell-true, is_cell-same, is_cell-by_cmp}
 use Rattle.roc_index.specs.declared.spot.Spot.{Spot}
 use Rattle.roc_index.specs.Spots.{spots_at, ChangesAt}
 use Rattle.roc_index.specs.Inner.Held.{held}

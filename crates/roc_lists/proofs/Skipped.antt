@@ -6,7 +6,7 @@ use Rattle.roc_sequence.specs.Lists.{Has}
 use Rattle.roc_sequence.proofs.Members.{has_filter}
 use Rattle.roc_sequence.proofs.Found.{found_has}
 use Rattle.roc_base.specs.TxnId.{is_txn, txn_lt}
-use Rattle.roc_base.specs.Inner.Equalities.{is_txn-true, is_txn-same}
+use Rattle.roc_base.specs.Equalities.{is_txn-true, is_txn-same}
 use Rattle.roc_base.specs.Edge.{Dependency, joined}
 use Rattle.roc_base.specs.Edges.{united, unite_one, entry_at, all_of, joined_with}
 use Rattle.roc_base.proofs.Union.{entry_at-united}

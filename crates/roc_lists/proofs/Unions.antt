@@ -2,7 +2,7 @@
 use Rattle.std.proofs.Common.{◌≡◌, ◌↔◌, Bool, true, false, List, Option, Some, None, refl, sym, ap, ◌∙◌, arith}
 use Rattle.roc_sequence.specs.Lists.{Has}
 use Rattle.roc_base.specs.declared.id.TxnId.{TxnId}
-use Rattle.roc_base.specs.Inner.Equalities.{same_fields}
+use Rattle.roc_base.specs.Equalities.{same_fields}
 use Rattle.roc_base.specs.Edge.{Dependency}
 use Rattle.roc_base.specs.Edges.{all_of, united, IsAllOf}
 use Rattle.roc_base.proofs.Members.{all_of-none, IsAllOf-all_of}

@@ -18,7 +18,7 @@ use Rattle.roc_groups.specs.Core.{InCore}
 use Rattle.roc_groups.specs.Grouping.{AreTogether, IsGrouping, IsMergedIn}
 use Rattle.roc_groups.proofs.Elements.{has_flat_map, from_has_flat_map, range_rising, has_range, from_has_range}
 use Rattle.roc_accept.proofs.Parting.{rising_filter}
-use Rattle.roc_merge.specs.Inner.Grouped.{group_from, grouped}
+use Rattle.roc_merge.specs.Grouped.{group_from, grouped}
 use Rattle.roc_merge.proofs.Flows.{core_there}
 
 -- ---- numbers in a row

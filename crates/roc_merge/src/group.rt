@@ -6,7 +6,7 @@ ghost use Rattle.roc_conflict.specs.Classes.{is_immediate};
 ghost use Rattle.roc_groups.specs.Core.{InCore};
 ghost use Rattle.roc_groups.specs.Grouping.{IsMergedIn, IsMerged};
 ghost use Rattle.roc_merge.specs.Inner.Tables.{holds, row_in, IsCoreBy};
-ghost use Rattle.roc_merge.specs.Inner.Grouped.{group_from, grouped};
+ghost use Rattle.roc_merge.specs.Grouped.{group_from, grouped};
 
 use crate::tables::{contended_in, count_of, flow_in};
 use roc_base::NoMemory;

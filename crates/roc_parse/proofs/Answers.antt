@@ -10,10 +10,10 @@ use Rattle.roc_lang.specs.declared.source.Source.{Source}
 use Rattle.roc_lang.specs.declared.fault.LangError.{LangError}
 use Rattle.roc_lang.specs.declared.fault.LangError.TheVariants as errors
 use Rattle.roc_lang.specs.declared.fault.What.TheVariants as whats
-use Rattle.roc_parse.specs.Inner.Stuck.{Stuck, Reading, ◌>>=◌}
-use Rattle.roc_parse.specs.Inner.Reading.{text_at, whole_at}
+use Rattle.roc_parse.specs.Stuck.{Stuck, Reading, ◌>>=◌}
+use Rattle.roc_parse.specs.Reading.{text_at, whole_at}
 use Rattle.roc_parse.specs.Lexed.{IsLexed}
-use Rattle.roc_parse.specs.Inner.Scanning.{IsScanned}
+use Rattle.roc_parse.specs.Inner.Views.{IsScanned}
 use Rattle.roc_parse.specs.Fault.{IsWorkloadText, GoesOn, is_above, IsFirstFault, broken, misplaced, wrong, beyond, stops}
 use Rattle.roc_parse.specs.Answer.{IsSourceOf, TellsFirstFault}
 use Rattle.roc_parse.specs.Inner.Told.{what_of, stop_fault, answer_of, IsAnswer}

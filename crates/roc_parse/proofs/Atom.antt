@@ -8,9 +8,9 @@ use lib.Chars.{codes}
 use Rattle.roc_lang.specs.Syntax.{Name, Expression, Variable, Minimum, Maximum, Less, Pick}
 use Rattle.roc_lang.specs.Tokens.{Word, Integer, Mark, Token}
 use Rattle.roc_lang.specs.Grammar.{IsMark, IsName, is_reserved, open_parenthesis, close_parenthesis, comma}
-use Rattle.roc_parse.specs.Inner.Stuck.{Reading, head_is}
-use Rattle.roc_parse.specs.Inner.Parts.{has_word, has_mark, has_integer}
-use Rattle.roc_parse.specs.Inner.Reading.{Deep, number_at, variable_at, enclosed_at, function_at, pick_at, atom_with}
+use Rattle.roc_parse.specs.Stuck.{Reading, head_is}
+use Rattle.roc_parse.specs.Parts.{has_word, has_mark, has_integer}
+use Rattle.roc_parse.specs.Reading.{Deep, number_at, variable_at, enclosed_at, function_at, pick_at, atom_with}
 use Rattle.roc_parse.proofs.Exact.{any, Front, Exact}
 use Rattle.roc_parse.proofs.Choices.{Either, Chooses, exact_either, exact_same, chosen_by, all_left, all_right}
 use Rattle.roc_parse.proofs.Terminals.{token_made, word_kind, mark_kind, token_begins, a_name}

@@ -5,9 +5,9 @@ use lib.Chars.{codes}
 use Rattle.roc_lang.specs.Syntax.{Expression, Number, Variable, Minimum, Maximum, Less, Pick}
 use Rattle.roc_lang.specs.Tokens.{Kind, Word, Mark, Token}
 use Rattle.roc_lang.specs.Grammar.{IsToken, IsName, open_parenthesis, close_parenthesis, comma, plus, minus, star}
-use Rattle.roc_parse.specs.Inner.Stuck.{Reading}
-use Rattle.roc_parse.specs.Inner.Parts.{has_mark, behind_comma_at}
-use Rattle.roc_parse.specs.Inner.Reading.{Deep, number_at, variable_at, enclosed_at, pair_at, function_at, pick_at}
+use Rattle.roc_parse.specs.Stuck.{Reading}
+use Rattle.roc_parse.specs.Parts.{has_mark, behind_comma_at}
+use Rattle.roc_parse.specs.Reading.{Deep, number_at, variable_at, enclosed_at, pair_at, function_at, pick_at}
 use Rattle.roc_parse.proofs.Exact.{Rule, Stop, IsStopAt, any, Exact, Then, Followed, exact_then, exact_next}
 use Rattle.roc_parse.proofs.Choices.{Mapped, exact_mapped, Either}
 use Rattle.roc_parse.proofs.Several.{other_than}

@@ -3,8 +3,8 @@ use Rattle.std.proofs.Common.{◌≡◌, Bool, true, false, cond, List, [], ◌�
 use Rattle.std.specs.Prelude.{Ok, Err}
 use Rattle.std.specs.Option.{option_map_or}
 use Rattle.roc_lang.specs.Tokens.{Kind, Token}
-use Rattle.roc_parse.specs.Inner.Stuck.{Stuck, Reading, ◌>>=◌, refuse, exceed, head_is}
-use Rattle.roc_parse.specs.Inner.Parts.{first_at}
+use Rattle.roc_parse.specs.Stuck.{Stuck, Reading, ◌>>=◌, refuse, exceed, head_is}
+use Rattle.roc_parse.specs.Parts.{first_at}
 use Rattle.roc_parse.proofs.Exact.{Rule, Stop, IsStopAt, any, Consumed, Front, NoneThrough, Why, Refused, Exact, ok_same, err_same, ok-err, when_ok, when_err, same_start}
 
 -- ---- the same rule, said otherwise

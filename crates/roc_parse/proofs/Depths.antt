@@ -6,7 +6,7 @@ use Rattle.roc_lang.specs.Syntax.{Name, Expression, Number, Variable, Sum, Diffe
 use Rattle.roc_lang.specs.Tokens.{Word, Token}
 use Rattle.roc_lang.specs.Grammar as grammar
 use Rattle.roc_lang.specs.Grammar.{IsToken, IsMark, IsName, IsInteger, IsExpression, IsTerm, IsAtom, IsPair, open_parenthesis, close_parenthesis, comma, plus, minus, star}
-use Rattle.roc_parse.specs.Inner.Reading.{deeper}
+use Rattle.roc_parse.specs.Reading.{deeper}
 
 mutual
   pub data Summed : (tokens rest : List Token) → Expression → ℕ → Type 0 where

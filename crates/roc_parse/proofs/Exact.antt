@@ -3,7 +3,7 @@
 use Rattle.std.proofs.Common.{◌≡◌, Bool, true, false, List, [], ◌∷◌, ◌++◌, append_assoc, Option, Some, None, refl, sym, ap, subst, ◌∙◌}
 use Rattle.std.specs.Prelude.{Result, Ok, Err}
 use Rattle.roc_lang.specs.Tokens.{Kind, Token}
-use Rattle.roc_parse.specs.Inner.Stuck.{Stuck, Reading, and_then, ◌>>=◌, head_is}
+use Rattle.roc_parse.specs.Stuck.{Stuck, Reading, and_then, ◌>>=◌, head_is}
 
 abbrev pub Rule : Type 0 → Type 1
 Rule A = List Token → List Token → A → Type 0

@@ -4,8 +4,8 @@ use Rattle.std.specs.Prelude.{Ok, nat_lt}
 use Rattle.std.proofs.lemmas.Bool.{ltb-true, lt-ltb}
 use Rattle.std.proofs.lemmas.Bool.Decides.{nat_tests}
 use Rattle.roc_lang.specs.Tokens.{Kind, Token}
-use Rattle.roc_parse.specs.Inner.Stuck.{Reading, refuse, exceed, head_is}
-use Rattle.roc_parse.specs.Inner.Reading.{Deep, deeper, loop_at}
+use Rattle.roc_parse.specs.Stuck.{Reading, refuse, exceed, head_is}
+use Rattle.roc_parse.specs.Reading.{Deep, deeper, loop_at}
 use Rattle.roc_parse.proofs.Exact.{Rule, Stop, IsStopAt, Front, Exact, ok_same, when_ok, Then, bind, exact_bind}
 use Rattle.roc_parse.proofs.Choices.{when_chosen, Given, exact_given, Either, Chooses, exact_either, exact_same}
 

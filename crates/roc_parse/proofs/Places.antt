@@ -5,7 +5,7 @@ use Rattle.std.proofs.lemmas.Option.{none-some, same_Some as some_is}
 use Rattle.roc_lang.specs.Tokens as tokens
 use Rattle.roc_lang.specs.Tokens.{Token, IsTokenStep, IsTokens, nothing, step}
 use Rattle.roc_parse.specs.Lexed.{IsLexed, here, further, IsBroken}
-use Rattle.roc_parse.specs.Inner.Scanning.{scanned_step}
+use Rattle.roc_parse.specs.Scanning.{scanned_step}
 use Rattle.roc_parse.proofs.Steps.{next_found}
 
 pub tokens_before : {line : ℕ} {bytes : List ℕ} {ts : List Token} {after : ℕ} {rest : List ℕ} → IsLexed line bytes ts after rest → (us : List Token) → IsTokens after rest us → IsTokens line bytes (ts ++ us)

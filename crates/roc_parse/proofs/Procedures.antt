@@ -5,9 +5,9 @@ use lib.Chars.{codes}
 use Rattle.roc_lang.specs.Syntax.{Name, Expression, Statement, Piece, Procedure}
 use Rattle.roc_lang.specs.Tokens.{Kind, Word, Mark, Token}
 use Rattle.roc_lang.specs.Grammar.{Limits, IsToken, IsName, IsExpression, IsStatement, Each, none, first, Separated, IsPiece, piece, IsArguments, no_arguments, arguments, IsProcedure, procedure, class_word, open_brace, close_brace, open_parenthesis, close_parenthesis, comma}
-use Rattle.roc_parse.specs.Inner.Stuck.{Reading, head_is}
-use Rattle.roc_parse.specs.Inner.Parts.{has_word, has_mark, word_at, mark_at, name_at, class_at}
-use Rattle.roc_parse.specs.Inner.Reading.{expression_at, statement_at, starts_statement, head_at, piece_at, starts_piece, names_closed_at, names_or_none_at, arguments_at, procedure_at}
+use Rattle.roc_parse.specs.Stuck.{Reading, head_is}
+use Rattle.roc_parse.specs.Parts.{has_word, has_mark, word_at, mark_at, name_at, class_at}
+use Rattle.roc_parse.specs.Reading.{expression_at, statement_at, starts_statement, head_at, piece_at, starts_piece, names_closed_at, names_or_none_at, arguments_at, procedure_at}
 use Rattle.roc_parse.proofs.Exact.{Rule, IsStopAt, any, Front, Exact, Then, bind, exact_then, exact_next, bind_ends}
 use Rattle.roc_parse.proofs.Choices.{Mapped, mapped, exact_mapped, Either, Chooses, exact_either, exact_same, mapped_ends}
 use Rattle.roc_parse.proofs.Several.{Upto, other_than, ended, unended, Repeats, freely, many_ends, exact_many, Some', exact_some, some_ends}

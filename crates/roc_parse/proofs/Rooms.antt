@@ -1,8 +1,8 @@
 -- The reader of expressions is exact in every room.
 use Rattle.std.proofs.Common.{◌≡◌, ℕ, zero, suc, ◌-◌, ◌<◌, ◌≤◌, List, refl, subst, arith}
 use Rattle.roc_lang.specs.Tokens.{Token}
-use Rattle.roc_parse.specs.Inner.Stuck.{Reading}
-use Rattle.roc_parse.specs.Inner.Reading.{Deep, deep_at, rooms}
+use Rattle.roc_parse.specs.Stuck.{Reading}
+use Rattle.roc_parse.specs.Reading.{Deep, deep_at, rooms}
 use Rattle.roc_parse.proofs.Depths.{summed_deep}
 use Rattle.roc_parse.proofs.Loops.{depth_of, IsRead}
 use Rattle.roc_parse.proofs.Atoms.{SumRule, sum_stop, Inner}

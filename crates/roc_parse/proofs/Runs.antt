@@ -6,7 +6,7 @@ use Rattle.std.proofs.Math.Seq.{drop-cons, take-suc}
 use Rattle.std.proofs.lemmas.Bool.{eqb-true, eq-eqb}
 use Rattle.roc_lang.specs.Tokens.{Token, IsTokenStep, is_word_byte, line_after}
 use Rattle.roc_parse.specs.Lexed.{IsLexed, here, further, IsBroken}
-use Rattle.roc_parse.specs.Inner.Scanning.{word_run, line_run, value_and, value_on, value_from, scanned_step}
+use Rattle.roc_parse.specs.Scanning.{word_run, line_run, value_and, value_on, value_from, scanned_step}
 use Rattle.roc_parse.proofs.Steps.{next_is}
 use Rattle.roc_parse.proofs.Places.{broken_at, step_shorter, step_line}
 

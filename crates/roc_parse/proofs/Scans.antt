@@ -3,7 +3,8 @@ use Rattle.std.proofs.Common.{◌≡◌, ℕ, zero, suc, ◌<◌, ◌≤◌, Lis
 use Rattle.std.proofs.lemmas.List.{append-nil}
 use Rattle.roc_lang.specs.Tokens.{Token, IsTokenStep}
 use Rattle.roc_parse.specs.Lexed.{IsLexed, here, further, IsBroken}
-use Rattle.roc_parse.specs.Inner.Scanning.{scanned_step, IsScanned}
+use Rattle.roc_parse.specs.Scanning.{scanned_step}
+use Rattle.roc_parse.specs.Inner.Views.{IsScanned}
 use Rattle.roc_parse.proofs.Steps.{next_is}
 use Rattle.roc_parse.proofs.Places.{Place, one_step, no_step, broken_at, step_shorter}
 

@@ -3,8 +3,8 @@ use Rattle.std.proofs.Common.{◌≡◌, ℕ, ◌+◌, ◌<◌, ◌≤◌, Bool,
 use Rattle.std.specs.Prelude.{Ok, ◌||◌}
 use Rattle.roc_lang.specs.Tokens.{Kind, Mark, Token}
 use Rattle.roc_lang.specs.Grammar.{Each, none, first, Separated, last, more, comma}
-use Rattle.roc_parse.specs.Inner.Stuck.{Reading, head_is}
-use Rattle.roc_parse.specs.Inner.Parts.{has_mark, mark_at, behind_comma_at, separated_at}
+use Rattle.roc_parse.specs.Stuck.{Reading, head_is}
+use Rattle.roc_parse.specs.Parts.{has_mark, mark_at, behind_comma_at, separated_at}
 use Rattle.roc_parse.proofs.Exact.{Rule, Stop, IsStopAt, any, Front, Exact, Then, exact_next, bind_ends, some_any}
 use Rattle.roc_parse.proofs.Choices.{exact_same}
 use Rattle.roc_parse.proofs.Several.{other_than, ended, unended, Repeats, Some', exact_some, some_ends, some_follow}

@@ -3,8 +3,8 @@ use Rattle.std.proofs.Common.{◌≡◌, ℕ, zero, suc, ◌<◌, ◌≤◌, Boo
 use Rattle.std.specs.Prelude.{Ok}
 use Rattle.roc_lang.specs.Tokens.{Kind, Token}
 use Rattle.roc_lang.specs.Grammar.{Each, none, first}
-use Rattle.roc_parse.specs.Inner.Stuck.{Reading, refuse, exceed, head_is}
-use Rattle.roc_parse.specs.Inner.Parts.{many_at, some_at}
+use Rattle.roc_parse.specs.Stuck.{Reading, refuse, exceed, head_is}
+use Rattle.roc_parse.specs.Parts.{many_at, some_at}
 use Rattle.roc_parse.proofs.Exact.{Rule, Stop, IsStopAt, any, Front, Exact, ok_same, when_ok, Then, bind, exact_then, front_then}
 use Rattle.roc_parse.proofs.Choices.{when_chosen, Mapped, mapped, exact_mapped, Given, exact_given, Either, Chooses, exact_either, exact_same}
 

@@ -6,9 +6,9 @@ use Rattle.roc_lang.specs.Syntax.{Name, Expression, Access, Statement, Get, Set,
 use Rattle.roc_lang.specs.Tokens.{Kind, Word, Integer, Mark, Token}
 use Rattle.roc_lang.specs.Grammar as grammar
 use Rattle.roc_lang.specs.Grammar.{Limits, last, IsIdEnd, IsToken, IsMark, IsName, IsInteger, IsSigned, plain, negated, IsExpression, IsAccess, access, IsStatement, open_bracket, close_bracket, comma, semicolon, dot, equals, minus, plus, star}
-use Rattle.roc_parse.specs.Inner.Stuck.{head_is}
-use Rattle.roc_parse.specs.Inner.Parts.{has_word, has_mark, integer_at, negated_at, mark_at, signed_at}
-use Rattle.roc_parse.specs.Inner.Reading.{Deep, deep_at, expression_at, id_at, access_at, get_at, set_at, out_at, statement_at, starts_statement, row_at}
+use Rattle.roc_parse.specs.Stuck.{head_is}
+use Rattle.roc_parse.specs.Parts.{has_word, has_mark, integer_at, negated_at, mark_at, signed_at}
+use Rattle.roc_parse.specs.Reading.{Deep, deep_at, expression_at, id_at, access_at, get_at, set_at, out_at, statement_at, starts_statement, row_at}
 use Rattle.roc_parse.proofs.Exact.{Rule, Stop, IsStopAt, any, Front, Exact, ok_same, when_ok, Then, bind, Followed, exact_then, exact_next}
 use Rattle.roc_parse.proofs.Choices.{Mapped, exact_mapped, Either, Chooses, exact_either, exact_same}
 use Rattle.roc_parse.proofs.Several.{other_than, unended, Repeats, freely}

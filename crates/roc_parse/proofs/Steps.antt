@@ -11,7 +11,7 @@ use lib.Chars.{codes}
 use Rattle.roc_lang.specs.declared.limits.TheConstants.{WORD_BYTES}
 use Rattle.roc_lang.specs.Tokens.{Word, Integer, Mark, Token, is_word_byte, is_mark, is_blank, line_after, IsWord, decimal, IsDecimal, IsTokenEnd, IsLineEnd, IsTokenStep, blank, comment, word, integer, mark}
 use Rattle.roc_parse.proofs.Bytes.{one_of, letter-blank, digit-blank, digit-letter, digit-word_byte, letter-word_byte, digit_above, digit_below}
-use Rattle.roc_parse.specs.Inner.Scanning.{word_run, line_run, token_at, value_and, value_on, value_from, value_of, Scanned, word_next, integer_next, comment_next, scanned_step}
+use Rattle.roc_parse.specs.Scanning.{word_run, line_run, token_at, value_and, value_on, value_from, value_of, Scanned, word_next, integer_next, comment_next, scanned_step}
 
 -- ---- runs of bytes
 

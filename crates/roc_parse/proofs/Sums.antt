@@ -5,9 +5,9 @@ use Rattle.std.proofs.lemmas.Bool.Decides.{nat_tests}
 use Rattle.roc_lang.specs.Syntax.{Expression}
 use Rattle.roc_lang.specs.Tokens.{Kind, Word, Integer, Mark, Token}
 use Rattle.roc_lang.specs.Grammar.{plus, minus, star}
-use Rattle.roc_parse.specs.Inner.Stuck.{Reading, head_is}
-use Rattle.roc_parse.specs.Inner.Parts.{has_mark}
-use Rattle.roc_parse.specs.Inner.Reading.{Deep, is_sign, times, plus_or_minus, factor_at, signed_term_at, loop_at, atom_with, term_with, sum_with}
+use Rattle.roc_parse.specs.Stuck.{Reading, head_is}
+use Rattle.roc_parse.specs.Parts.{has_mark}
+use Rattle.roc_parse.specs.Reading.{Deep, is_sign, times, plus_or_minus, factor_at, signed_term_at, loop_at, atom_with, term_with, sum_with}
 use Rattle.roc_parse.proofs.Exact.{Rule, Stop, IsStopAt, any, Front, Exact, ok_same, when_ok, Then, exact_bind, exact_next}
 use Rattle.roc_parse.proofs.Choices.{Mapped, exact_mapped, exact_same}
 use Rattle.roc_parse.proofs.Several.{other_than, ended, unended}

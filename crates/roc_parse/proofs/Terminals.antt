@@ -9,8 +9,8 @@ use lib.Chars.{codes}
 use Rattle.roc_lang.specs.Syntax.{Name}
 use Rattle.roc_lang.specs.Tokens.{Kind, Word, Integer, Mark, Token}
 use Rattle.roc_lang.specs.Grammar.{IsToken, IsMark, IsName, IsInteger, IsIdEnd, close_bracket, is_reserved, class_word, plus, minus}
-use Rattle.roc_parse.specs.Inner.Stuck.{head_is}
-use Rattle.roc_parse.specs.Inner.Parts.{first_at, has_word, has_mark, passes, word_at, mark_at, mark_line_at, free_word, name_of, name_at, small_integer, negated, negated_at, piece_class, class_at, sign_of, sign_at}
+use Rattle.roc_parse.specs.Stuck.{head_is}
+use Rattle.roc_parse.specs.Parts.{first_at, has_word, has_mark, passes, word_at, mark_at, mark_line_at, free_word, name_of, name_at, small_integer, negated, negated_at, piece_class, class_at, sign_of, sign_at}
 use Rattle.roc_parse.proofs.Exact.{Rule, any, Exact}
 use Rattle.roc_parse.proofs.Choices.{First, exact_first, exact_same}
 

@@ -6,9 +6,9 @@ use lib.Chars.{codes}
 use Rattle.roc_lang.specs.Syntax.{Table, Init, Procedure, Tree}
 use Rattle.roc_lang.specs.Tokens.{Kind, Word, Integer, Mark, Token}
 use Rattle.roc_lang.specs.Grammar.{Limits, IsMark, IsArity, one, said, IsName, IsSigned, plain, IsShards, Each, none, first, last, IsTable, table, IsInit, init, IsProcedure, procedure, IsText, text, open_brace, close_brace, open_bracket, close_bracket, comma, semicolon, dot, equals}
-use Rattle.roc_parse.specs.Inner.Stuck.{Stuck, Reading, head_is}
-use Rattle.roc_parse.specs.Inner.Parts.{has_word, has_mark, mark_at, name_at, small_integer, shards_at}
-use Rattle.roc_parse.specs.Inner.Reading.{said_arity_at, arity_at, table_at, init_at, front_at, end_at, procedure_at, tables_at, inits_at, procedures_at, text_at}
+use Rattle.roc_parse.specs.Stuck.{Stuck, Reading, head_is}
+use Rattle.roc_parse.specs.Parts.{has_word, has_mark, mark_at, name_at, small_integer, shards_at}
+use Rattle.roc_parse.specs.Reading.{said_arity_at, arity_at, table_at, init_at, front_at, end_at, procedure_at, tables_at, inits_at, procedures_at, text_at}
 use Rattle.roc_parse.proofs.Exact.{Rule, Stop, head, IsStopAt, any, Consumed, Front, Refused, Exact, ok_same, err_same, ok-err, Then, bind, exact_then, exact_next, bind_ends}
 use Rattle.roc_parse.proofs.Choices.{Mapped, mapped, exact_mapped, Either, Chooses, exact_either, exact_same, mapped_ends}
 use Rattle.roc_parse.proofs.Several.{Upto, other_than, ended, unended, Repeats, freely, many_ends, exact_many}

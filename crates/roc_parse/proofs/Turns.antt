@@ -5,12 +5,12 @@ use Rattle.std.proofs.lemmas.Bool.{lt-ltb}
 use Rattle.std.proofs.lemmas.Bool.Decides.{nat_tests}
 use Rattle.std.proofs.lemmas.List.{append-nil}
 use Rattle.roc_lang.specs.Tokens.{Kind, Token}
-use Rattle.roc_parse.specs.Inner.Stuck.{Stuck, Reading, ◌>>=◌, head_is}
+use Rattle.roc_parse.specs.Stuck.{Stuck, Reading, ◌>>=◌, head_is}
 use Rattle.roc_parse.specs.declared.refusal.Refusal.{Refusal}
 use Rattle.roc_parse.specs.declared.refusal.Refusal.TheVariants as refusals
 use Rattle.roc_parse.specs.Inner.Views.{StopsAs}
-use Rattle.roc_parse.specs.Inner.Parts.{with_front, many_at}
-use Rattle.roc_parse.specs.Inner.Reading.{Deep, loop_at, rooms, deep_at, sum_with, sum_at}
+use Rattle.roc_parse.specs.Parts.{with_front, many_at}
+use Rattle.roc_parse.specs.Reading.{Deep, loop_at, rooms, deep_at, sum_with, sum_at}
 
 -- ---- expressions by those with less room
 

@@ -11,9 +11,9 @@ use Rattle.roc_lang.specs.declared.fault.LangError.{LangError}
 use Rattle.roc_lang.specs.declared.fault.LangError.TheVariants as errors
 use Rattle.roc_lang.specs.declared.fault.What.{What}
 use Rattle.roc_lang.specs.declared.fault.What.TheVariants as whats
-use Rattle.roc_parse.specs.Inner.Stuck.{Stuck}
-use Rattle.roc_parse.specs.Inner.Reading.{whole_at}
-use Rattle.roc_parse.specs.Inner.Scanning.{IsScanned}
+use Rattle.roc_parse.specs.Stuck.{Stuck}
+use Rattle.roc_parse.specs.Reading.{whole_at}
+use Rattle.roc_parse.specs.Inner.Views.{IsScanned}
 use Rattle.roc_parse.specs.Fault.{IsWorkloadText, GoesOn, last_line, IsFirstFault, too_long, broken, misplaced, wrong, beyond, stops}
 use Rattle.roc_parse.specs.Answer.{TellsFirstFault}
 use Rattle.roc_parse.specs.Inner.Told.{stop_fault, what_of, answer_of}

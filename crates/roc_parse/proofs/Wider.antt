@@ -4,8 +4,8 @@ use Rattle.std.specs.Prelude.{Ok, Err, ◌&&◌, nat_le}
 use Rattle.std.proofs.lemmas.Bool.{leb-true, le-leb}
 use Rattle.roc_lang.specs.Tokens.{Integer, Token}
 use Rattle.roc_lang.specs.Grammar.{Limits, IsInteger}
-use Rattle.roc_parse.specs.Inner.Stuck.{Stuck, Reading}
-use Rattle.roc_parse.specs.Inner.Parts.{small_integer, bounded_by, bounded_at}
+use Rattle.roc_parse.specs.Stuck.{Stuck, Reading}
+use Rattle.roc_parse.specs.Parts.{small_integer, bounded_by, bounded_at}
 use Rattle.roc_parse.proofs.Exact.{any, Consumed, Front, Refused, Exact, ok_same, err_same, ok-err}
 use Rattle.roc_parse.proofs.Terminals.{small_made, small_taken}
 

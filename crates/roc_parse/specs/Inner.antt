@@ -1,8 +1,4 @@
--- The reading side, which the contracts of private functions alone cite: what each function of the parser gives. A reader of
--- `parse` needs none of it. What a text is stands in roc_lang; that reading tells just that is proved in `proofs/`.
-pub mod Stuck
-pub mod Parts
-pub mod Reading
+-- What the functions of the parser return, seen without where it lies in memory, and how a fault is told: the contracts of private
+-- functions alone cite it. What each of them gives stands beside this, in Parts.antt, Reading.antt and Scanning.antt.
 pub mod Views
-pub mod Scanning
 pub mod Told

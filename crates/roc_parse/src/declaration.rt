@@ -4,8 +4,8 @@ ghost use Rattle.std.specs.Prelude.{◌≡◌, ◌-◌, map, IfOk};
 ghost use Rattle.roc_lang.specs.Grammar.{standard};
 ghost use Rattle.roc_lang.specs.Tree.{table_tree, init_tree};
 ghost use Rattle.roc_parse.specs.Inner.Views.{ReadsAs, token_views, parts_tree};
-ghost use Rattle.roc_parse.specs.Inner.Parts.{signed_at, behind_comma_at, separated_behind, separated_at, some_at};
-ghost use Rattle.roc_parse.specs.Inner.Reading.{said_arity_at, arity_at, table_at, row_at, init_at, front_at, end_at, tables_at, inits_at, text_at, whole_at};
+ghost use Rattle.roc_parse.specs.Parts.{signed_at, behind_comma_at, separated_behind, separated_at, some_at};
+ghost use Rattle.roc_parse.specs.Reading.{said_arity_at, arity_at, table_at, row_at, init_at, front_at, end_at, tables_at, inits_at, text_at, whole_at};
 
 use crate::procedure::{names_of, procedures_of};
 use crate::refusal::{Refusal, limit_fault, or_refuse, token_fault};
@@ -23,7 +23,7 @@ use std::alloc::Global;
 const MORE_COLUMNS: u32 = COLUMNS - 1;
 
 /// How many integers an id of a table has, and the opening brace behind it.
-#[tactic(auto, unfolding(crate::specs::Inner::Reading::said_arity_at))]
+#[tactic(auto, unfolding(crate::specs::Reading::said_arity_at))]
 fn said_arity_of(tokens: &[Token]) -> Result<(u64, &[Token]), Refusal<'_>>
     ensures { ReadsAs (λ x. (x.0, token_views x.1.now)) result (said_arity_at standard (token_views tokens.now)) }
 {
@@ -34,7 +34,7 @@ fn said_arity_of(tokens: &[Token]) -> Result<(u64, &[Token]), Refusal<'_>>
 }
 
 /// The same, or the brace alone: then it is one.
-#[tactic(auto, unfolding(crate::specs::Inner::Reading::arity_at))]
+#[tactic(auto, unfolding(crate::specs::Reading::arity_at))]
 fn arity_of(tokens: &[Token]) -> Result<(u64, &[Token]), Refusal<'_>>
     ensures { ReadsAs (λ x. (x.0, token_views x.1.now)) result (arity_at standard (token_views tokens.now)) }
 {
@@ -44,7 +44,7 @@ fn arity_of(tokens: &[Token]) -> Result<(u64, &[Token]), Refusal<'_>>
     before_mark(1, tokens, b'{')
 }
 
-#[tactic(auto, unfolding(crate::specs::Inner::Reading::table_at))]
+#[tactic(auto, unfolding(crate::specs::Reading::table_at))]
 fn table_of(alloc: Global, tokens: &[Token]) -> Result<(Table, &[Token]), Refusal<'_>>
     ensures { ReadsAs (λ x. (table_tree x.0, token_views x.1.now)) result (table_at standard (token_views tokens.now)) }
 {
@@ -81,7 +81,7 @@ fn tables_of(alloc: Global, tokens: &[Token]) -> Result<(Vec<Table>, &[Token]), 
 }
 
 /// A comma and an integer behind it.
-#[tactic(auto, unfolding(crate::specs::Inner::Parts::behind_comma_at))]
+#[tactic(auto, unfolding(crate::specs::Parts::behind_comma_at))]
 fn next_signed_of(tokens: &[Token]) -> Result<(i64, &[Token]), Refusal<'_>>
     ensures { ReadsAs (λ x. (x.0, token_views x.1.now)) result (behind_comma_at signed_at (token_views tokens.now)) }
 {
@@ -114,7 +114,7 @@ fn signed_behind(
 }
 
 /// The integers of an id.
-#[tactic(auto, unfolding(crate::specs::Inner::Parts::some_at))]
+#[tactic(auto, unfolding(crate::specs::Parts::some_at))]
 fn id_of(alloc: Global, tokens: &[Token]) -> Result<(Vec<i64>, &[Token]), Refusal<'_>>
     ensures { ReadsAs (λ x. (x.0.items, token_views x.1.now)) result (separated_at signed_at (standard.ids - 1) (token_views tokens.now)) }
 {
@@ -131,7 +131,7 @@ struct Row {
     line: u32,
 }
 
-#[tactic(auto, unfolding(crate::specs::Inner::Reading::row_at))]
+#[tactic(auto, unfolding(crate::specs::Reading::row_at))]
 fn row_of(alloc: Global, tokens: &[Token]) -> Result<(Row, &[Token]), Refusal<'_>>
     ensures { ReadsAs (λ x. ((x.0.place, x.0.id.items, x.0.line), token_views x.1.now)) result (row_at standard (token_views tokens.now)) }
 {
@@ -143,7 +143,7 @@ fn row_of(alloc: Global, tokens: &[Token]) -> Result<(Row, &[Token]), Refusal<'_
     Ok((Row { place, id, line }, rest))
 }
 
-#[tactic(auto, unfolding(crate::specs::Inner::Reading::init_at))]
+#[tactic(auto, unfolding(crate::specs::Reading::init_at))]
 fn init_of(alloc: Global, tokens: &[Token]) -> Result<(Init, &[Token]), Refusal<'_>>
     ensures { ReadsAs (λ x. (init_tree x.0, token_views x.1.now)) result (init_at standard (token_views tokens.now)) }
 {
@@ -186,7 +186,7 @@ fn inits_of(alloc: Global, tokens: &[Token]) -> Result<(Vec<Init>, &[Token]), Re
 }
 
 /// The number of shards, and its line.
-#[tactic(auto, unfolding(crate::specs::Inner::Reading::front_at))]
+#[tactic(auto, unfolding(crate::specs::Reading::front_at))]
 fn front_of(tokens: &[Token]) -> Result<((u64, u32), &[Token]), Refusal<'_>>
     ensures { ReadsAs (λ x. (x.0, token_views x.1.now)) result (front_at (token_views tokens.now)) }
 {
@@ -196,7 +196,7 @@ fn front_of(tokens: &[Token]) -> Result<((u64, u32), &[Token]), Refusal<'_>>
 }
 
 /// The parts, where no token is left.
-#[tactic(auto, unfolding(crate::specs::Inner::Reading::end_at))]
+#[tactic(auto, unfolding(crate::specs::Reading::end_at))]
 fn ended(parts: Parts, tokens: &[Token]) -> Result<(Parts, &[Token]), Refusal<'_>>
     ensures read { ReadsAs (λ x. (tt, token_views x.1.now)) result (end_at (token_views tokens.now)) }
     ensures value { IfOk result (λ x. x.0 ≡ parts) }
@@ -219,7 +219,7 @@ pub(crate) struct Parts {
 }
 
 /// All of the tokens.
-#[tactic(auto, unfolding(crate::specs::Inner::Reading::text_at))]
+#[tactic(auto, unfolding(crate::specs::Reading::text_at))]
 fn text_of(alloc: Global, tokens: &[Token]) -> Result<(Parts, &[Token]), Refusal<'_>>
     ensures { ReadsAs (λ x. (parts_tree x.0, token_views x.1.now)) result (text_at standard (token_views tokens.now)) }
 {
@@ -238,7 +238,7 @@ fn text_of(alloc: Global, tokens: &[Token]) -> Result<(Parts, &[Token]), Refusal
 }
 
 /// The source of all of the tokens.
-#[tactic(auto, unfolding(crate::specs::Inner::Reading::whole_at))]
+#[tactic(auto, unfolding(crate::specs::Reading::whole_at))]
 pub(crate) fn whole_of(alloc: Global, tokens: &[Token]) -> Result<Source, Refusal<'_>>
     ensures { ReadsAs (λ source. source) result (whole_at standard (token_views tokens.now)) }
 {

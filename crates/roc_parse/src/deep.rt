@@ -5,7 +5,7 @@ ghost use Rattle.roc_lang.specs.Grammar.{standard};
 ghost use Rattle.roc_lang.specs.Syntax.{Pick};
 ghost use Rattle.roc_lang.specs.Tree.{expression_tree};
 ghost use Rattle.roc_parse.specs.Inner.Views.{deep_view, function_word, function_of};
-ghost use Rattle.roc_parse.specs.Inner.Reading.{times, plus_or_minus};
+ghost use Rattle.roc_parse.specs.Reading.{times, plus_or_minus};
 
 use roc_lang::Expression;
 use std::alloc::{AllocError, Global};

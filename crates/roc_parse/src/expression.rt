@@ -5,8 +5,8 @@ ghost use Rattle.roc_lang.specs.Grammar.{standard};
 ghost use Rattle.roc_lang.specs.Syntax.{Pick};
 ghost use Rattle.roc_lang.specs.Tree.{expression_tree};
 ghost use Rattle.roc_parse.specs.Inner.Views.{ReadsAs, token_views, deep_view, function_word, function_of};
-ghost use Rattle.roc_parse.specs.Inner.Parts.{behind_comma_at};
-ghost use Rattle.roc_parse.specs.Inner.Reading.{number_at, variable_at, enclosed_at, pair_at, function_at, pick_at, atom_at, factor_at, factors_at, times, term_at, signed_term_at, sums_at, plus_or_minus, sum_at, deep_at, expression_at};
+ghost use Rattle.roc_parse.specs.Parts.{behind_comma_at};
+ghost use Rattle.roc_parse.specs.Reading.{number_at, variable_at, enclosed_at, pair_at, function_at, pick_at, atom_at, factor_at, factors_at, times, term_at, signed_term_at, sums_at, plus_or_minus, sum_at, deep_at, expression_at};
 
 use crate::deep::{
     Deep, Function, Operands, applied, enclosed, paired, picked, plus_or_minus, times, word_of,
@@ -21,7 +21,7 @@ use roc_lang::Expression;
 use roc_lang::limits::DEPTH;
 use std::alloc::{AllocError, Global};
 
-#[tactic(auto, unfolding(crate::specs::Inner::Reading::number_at))]
+#[tactic(auto, unfolding(crate::specs::Reading::number_at))]
 fn number_of(tokens: &[Token]) -> Result<(Deep, &[Token]), Refusal<'_>>
     ensures read { ReadsAs (λ x. (deep_view x.0, token_views x.1.now)) result (number_at (token_views tokens.now)) }
     ensures depth { IfOk result (λ x. x.0.depth ≡ 1) }
@@ -37,7 +37,7 @@ fn number_of(tokens: &[Token]) -> Result<(Deep, &[Token]), Refusal<'_>>
     ))
 }
 
-#[tactic(auto, unfolding(crate::specs::Inner::Reading::variable_at))]
+#[tactic(auto, unfolding(crate::specs::Reading::variable_at))]
 fn variable_of(alloc: Global, tokens: &[Token]) -> Result<(Deep, &[Token]), Refusal<'_>>
     ensures read { ReadsAs (λ x. (deep_view x.0, token_views x.1.now)) result (variable_at (token_views tokens.now)) }
     ensures depth { IfOk result (λ x. x.0.depth ≡ 1) }
@@ -55,7 +55,7 @@ fn variable_of(alloc: Global, tokens: &[Token]) -> Result<(Deep, &[Token]), Refu
 
 /// An expression in parentheses.
 #[cycle(expression)]
-#[tactic(auto, unfolding(crate::specs::Inner::Reading::enclosed_at))]
+#[tactic(auto, unfolding(crate::specs::Reading::enclosed_at))]
 fn enclosed_of(alloc: Global, room: u32, tokens: &[Token]) -> Result<(Deep, &[Token]), Refusal<'_>>
     requires above { 0 < room }
     requires below { room < standard.depth }
@@ -70,7 +70,7 @@ fn enclosed_of(alloc: Global, room: u32, tokens: &[Token]) -> Result<(Deep, &[To
 
 /// A comma and an expression behind it.
 #[cycle(expression)]
-#[tactic(auto, unfolding(crate::specs::Inner::Parts::behind_comma_at))]
+#[tactic(auto, unfolding(crate::specs::Parts::behind_comma_at))]
 fn behind_comma_of(
     alloc: Global,
     room: u32,
@@ -88,7 +88,7 @@ fn behind_comma_of(
 
 /// Two operands in parentheses, and the greater of their depths.
 #[cycle(expression)]
-#[tactic(auto, unfolding(crate::specs::Inner::Reading::pair_at))]
+#[tactic(auto, unfolding(crate::specs::Reading::pair_at))]
 fn pair_of(alloc: Global, room: u32, tokens: &[Token]) -> Result<(Operands, &[Token]), Refusal<'_>>
     requires above { 0 < room }
     requires below { room < standard.depth }
@@ -103,7 +103,7 @@ fn pair_of(alloc: Global, room: u32, tokens: &[Token]) -> Result<(Operands, &[To
 
 /// `min`, `max` or `less`, and its operands.
 #[cycle(expression)]
-#[tactic(auto, unfolding(crate::specs::Inner::Reading::function_at))]
+#[tactic(auto, unfolding(crate::specs::Reading::function_at))]
 fn call_of(
     alloc: Global,
     function: Function,
@@ -124,7 +124,7 @@ fn call_of(
 
 /// `pick` and its operands.
 #[cycle(expression)]
-#[tactic(auto, unfolding(crate::specs::Inner::Reading::pick_at))]
+#[tactic(auto, unfolding(crate::specs::Reading::pick_at))]
 fn pick_of(alloc: Global, room: u32, tokens: &[Token]) -> Result<(Deep, &[Token]), Refusal<'_>>
     requires above { 0 < room }
     requires below { room < standard.depth }
@@ -143,7 +143,7 @@ fn pick_of(alloc: Global, room: u32, tokens: &[Token]) -> Result<(Deep, &[Token]
 
 /// An integer, a name, an expression in parentheses, or a function and its operands.
 #[cycle(expression)]
-#[tactic(auto, unfolding(crate::specs::Inner::Reading::atom_with))]
+#[tactic(auto, unfolding(crate::specs::Reading::atom_with))]
 fn atom_of(alloc: Global, room: u32, tokens: &[Token]) -> Result<(Deep, &[Token]), Refusal<'_>>
     requires above { 0 < room }
     requires below { room ≤ standard.depth }
@@ -190,7 +190,7 @@ fn atom_of(alloc: Global, room: u32, tokens: &[Token]) -> Result<(Deep, &[Token]
 
 /// A `*` and the atom behind it.
 #[cycle(expression)]
-#[tactic(auto, unfolding(crate::specs::Inner::Reading::factor_at))]
+#[tactic(auto, unfolding(crate::specs::Reading::factor_at))]
 fn factor_of(alloc: Global, room: u32, tokens: &[Token]) -> Result<(Deep, &[Token]), Refusal<'_>>
     requires above { 0 < room }
     requires below { room ≤ standard.depth }
@@ -238,7 +238,7 @@ fn factors_of(
 
 /// Atoms with `*` between.
 #[cycle(expression)]
-#[tactic(auto, unfolding(crate::specs::Inner::Reading::term_with))]
+#[tactic(auto, unfolding(crate::specs::Reading::term_with))]
 fn term_of(alloc: Global, room: u32, tokens: &[Token]) -> Result<(Deep, &[Token]), Refusal<'_>>
     requires above { 0 < room }
     requires below { room ≤ standard.depth }
@@ -252,7 +252,7 @@ fn term_of(alloc: Global, room: u32, tokens: &[Token]) -> Result<(Deep, &[Token]
 
 /// A `+` or `-`, true for `+`, and the term behind it.
 #[cycle(expression)]
-#[tactic(auto, unfolding(crate::specs::Inner::Reading::signed_term_at))]
+#[tactic(auto, unfolding(crate::specs::Reading::signed_term_at))]
 fn signed_term_of(
     alloc: Global,
     room: u32,
@@ -305,7 +305,7 @@ fn sums_of(
 
 /// Terms with `+` and `-` between.
 #[cycle(expression)]
-#[tactic(auto, unfolding(crate::specs::Inner::Reading::sum_with))]
+#[tactic(auto, unfolding(crate::specs::Reading::sum_with))]
 fn sum_of(alloc: Global, room: u32, tokens: &[Token]) -> Result<(Deep, &[Token]), Refusal<'_>>
     requires above { 0 < room }
     requires below { room ≤ standard.depth }
@@ -330,7 +330,7 @@ fn deep_of(alloc: Global, room: u32, tokens: &[Token]) -> Result<(Deep, &[Token]
 }
 
 /// An expression, as deep as any may be.
-#[tactic(auto, unfolding(crate::specs::Inner::Reading::expression_at))]
+#[tactic(auto, unfolding(crate::specs::Reading::expression_at))]
 pub(crate) fn expression_of(
     alloc: Global,
     tokens: &[Token],

@@ -6,7 +6,8 @@ ghost use Rattle.std.specs.List.{AllByRecursion};
 ghost use Rattle.std.specs.String.{string_bytes};
 ghost use Rattle.roc_lang.specs.Tokens as rules;
 ghost use Rattle.roc_parse.specs.Inner.Views.{token_view, token_views};
-ghost use Rattle.roc_parse.specs.Inner.Scanning.{word_run, line_run, value_and, value_from, value_of, word_next, integer_next, comment_next, scanned_step, step_view, IsScanned};
+ghost use Rattle.roc_parse.specs.Scanning.{word_run, line_run, value_and, value_from, value_of, word_next, integer_next, comment_next, scanned_step};
+ghost use Rattle.roc_parse.specs.Inner.Views.{step_view, IsScanned};
 
 use crate::token::{GREATEST_INTEGER, Kind, Token};
 use roc_lang::limits::WORD_BYTES;
@@ -116,7 +117,7 @@ fn value_and(value: u64, byte: u8) -> Option<u64>
 }
 
 /// The value of an integer, if the bytes are one.
-#[tactic(auto, unfolding(crate::specs::Inner::Scanning::value_of))]
+#[tactic(auto, unfolding(crate::specs::Scanning::value_of))]
 fn value_of(bytes: &[u8]) -> Option<u64>
     ensures { result ≡ value_of bytes.now }
 {
@@ -145,7 +146,7 @@ fn value_from(first: u64, bytes: &[u8]) -> Option<u64>
     Some(value)
 }
 
-#[tactic(auto, unfolding(crate::specs::Inner::Scanning::word_next), using(crate::proofs::Steps::run_within, crate::proofs::Steps::run_all))]
+#[tactic(auto, unfolding(crate::specs::Scanning::word_next), using(crate::proofs::Steps::run_within, crate::proofs::Steps::run_all))]
 fn word_step(alloc: Global, line: u32, bytes: &[u8]) -> Result<Option<TokenStep<'_>>, AllocError>
     ensures { IfOk result (λ s. option_map step_view s ≡ word_next line bytes.now) }
 {
@@ -158,7 +159,7 @@ fn word_step(alloc: Global, line: u32, bytes: &[u8]) -> Result<Option<TokenStep<
     Ok(Some(TokenStep { token, line, rest }))
 }
 
-#[tactic(auto, unfolding(crate::specs::Inner::Scanning::integer_next), using(crate::proofs::Steps::run_within))]
+#[tactic(auto, unfolding(crate::specs::Scanning::integer_next), using(crate::proofs::Steps::run_within))]
 fn integer_step(line: u32, bytes: &[u8]) -> Option<TokenStep<'_>>
     ensures { option_map step_view result ≡ integer_next line bytes.now }
 {
@@ -174,7 +175,7 @@ fn integer_step(line: u32, bytes: &[u8]) -> Option<TokenStep<'_>>
 }
 
 /// What follows a first `/`.
-#[tactic(auto, unfolding(crate::specs::Inner::Scanning::comment_next), using(crate::proofs::Steps::line_within))]
+#[tactic(auto, unfolding(crate::specs::Scanning::comment_next), using(crate::proofs::Steps::line_within))]
 fn comment_step(line: u32, bytes: &[u8]) -> Option<TokenStep<'_>>
     ensures { option_map step_view result ≡ comment_next line bytes.now }
 {
@@ -189,7 +190,7 @@ fn comment_step(line: u32, bytes: &[u8]) -> Option<TokenStep<'_>>
     }
 }
 
-#[tactic(auto, unfolding(crate::specs::Inner::Scanning::scanned_step))]
+#[tactic(auto, unfolding(crate::specs::Scanning::scanned_step))]
 fn step_of(alloc: Global, line: u32, bytes: &[u8]) -> Result<Option<TokenStep<'_>>, AllocError>
     requires { line < 2 ^ 31 }
     ensures { IfOk result (λ s. option_map step_view s ≡ scanned_step line bytes.now) }

@@ -4,7 +4,7 @@ ghost use Rattle.std.specs.Prelude.{◌≡◌, ◌≤◌, length, IfOk, IfErr};
 ghost use Rattle.roc_lang.specs.Syntax.{Tree};
 ghost use Rattle.roc_lang.specs.Grammar.{standard, text_limit};
 ghost use Rattle.roc_parse.specs.Inner.Views.{kind_view, token_views};
-ghost use Rattle.roc_parse.specs.Inner.Reading.{whole_at};
+ghost use Rattle.roc_parse.specs.Reading.{whole_at};
 ghost use Rattle.roc_parse.specs.Fault.{IsWorkloadText, is_above, last_line};
 ghost use Rattle.roc_parse.specs.Inner.Told.{what_of, stop_fault, answer_of, IsAnswer};
 ghost use Rattle.roc_parse.specs.Answer.{IsSourceOf, TellsFirstFault};

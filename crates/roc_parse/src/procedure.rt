@@ -4,8 +4,8 @@ ghost use Rattle.std.specs.Prelude.{◌≡◌, ◌-◌, map};
 ghost use Rattle.roc_lang.specs.Grammar.{standard};
 ghost use Rattle.roc_lang.specs.Tree.{name_tree, expression_tree, piece_tree, procedure_tree};
 ghost use Rattle.roc_parse.specs.Inner.Views.{ReadsAs, token_views};
-ghost use Rattle.roc_parse.specs.Inner.Parts.{name_at, behind_comma_at, separated_behind, separated_at, some_at};
-ghost use Rattle.roc_parse.specs.Inner.Reading.{names_closed_at, names_or_none_at, arguments_at, head_at, piece_at, pieces_behind, some_pieces_at, procedure_at, procedures_at};
+ghost use Rattle.roc_parse.specs.Parts.{name_at, behind_comma_at, separated_behind, separated_at, some_at};
+ghost use Rattle.roc_parse.specs.Reading.{names_closed_at, names_or_none_at, arguments_at, head_at, piece_at, pieces_behind, some_pieces_at, procedure_at, procedures_at};
 
 use crate::expression::expression_of;
 use crate::refusal::{Refusal, limit_fault, or_refuse};
@@ -25,7 +25,7 @@ const MORE_ARGUMENTS: u32 = ARGUMENTS - 1;
 const MORE_PIECES: u32 = PIECES - 1;
 
 /// A comma and a name behind it.
-#[tactic(auto, unfolding(crate::specs::Inner::Parts::behind_comma_at))]
+#[tactic(auto, unfolding(crate::specs::Parts::behind_comma_at))]
 fn next_name_of(alloc: Global, tokens: &[Token]) -> Result<(Name, &[Token]), Refusal<'_>>
     ensures { ReadsAs (λ x. (name_tree x.0, token_views x.1.now)) result (behind_comma_at name_at (token_views tokens.now)) }
 {
@@ -59,7 +59,7 @@ fn names_behind(
 }
 
 /// Names with commas between: one, and so many more.
-#[tactic(auto, unfolding(crate::specs::Inner::Parts::some_at))]
+#[tactic(auto, unfolding(crate::specs::Parts::some_at))]
 pub(crate) fn names_of(
     alloc: Global,
     more: u32,
@@ -72,7 +72,7 @@ pub(crate) fn names_of(
 }
 
 /// Names and the closing parenthesis behind them.
-#[tactic(auto, unfolding(crate::specs::Inner::Reading::names_closed_at))]
+#[tactic(auto, unfolding(crate::specs::Reading::names_closed_at))]
 fn names_closed_of(alloc: Global, tokens: &[Token]) -> Result<(Vec<Name>, &[Token]), Refusal<'_>>
     ensures { ReadsAs (λ x. (map name_tree x.0.items, token_views x.1.now)) result (names_closed_at (standard.arguments - 1) (token_views tokens.now)) }
 {
@@ -81,7 +81,7 @@ fn names_closed_of(alloc: Global, tokens: &[Token]) -> Result<(Vec<Name>, &[Toke
 }
 
 /// Names, or none, and the closing parenthesis.
-#[tactic(auto, unfolding(crate::specs::Inner::Reading::names_or_none_at))]
+#[tactic(auto, unfolding(crate::specs::Reading::names_or_none_at))]
 fn listed_of(alloc: Global, tokens: &[Token]) -> Result<(Vec<Name>, &[Token]), Refusal<'_>>
     ensures { ReadsAs (λ x. (map name_tree x.0.items, token_views x.1.now)) result (names_or_none_at (standard.arguments - 1) (token_views tokens.now)) }
 {
@@ -91,7 +91,7 @@ fn listed_of(alloc: Global, tokens: &[Token]) -> Result<(Vec<Name>, &[Token]), R
     names_closed_of(alloc, tokens)
 }
 
-#[tactic(auto, unfolding(crate::specs::Inner::Reading::arguments_at))]
+#[tactic(auto, unfolding(crate::specs::Reading::arguments_at))]
 fn arguments_of(alloc: Global, tokens: &[Token]) -> Result<(Vec<Name>, &[Token]), Refusal<'_>>
     ensures { ReadsAs (λ x. (map name_tree x.0.items, token_views x.1.now)) result (arguments_at (standard.arguments - 1) (token_views tokens.now)) }
 {
@@ -107,7 +107,7 @@ struct Head {
     place: Expression,
 }
 
-#[tactic(auto, unfolding(crate::specs::Inner::Reading::head_at))]
+#[tactic(auto, unfolding(crate::specs::Reading::head_at))]
 fn head_of(alloc: Global, tokens: &[Token]) -> Result<(Head, &[Token]), Refusal<'_>>
     ensures { ReadsAs (λ x. ((x.0.is_now, name_tree x.0.name, expression_tree x.0.place), token_views x.1.now)) result (head_at standard.depth (token_views tokens.now)) }
 {
@@ -125,7 +125,7 @@ fn head_of(alloc: Global, tokens: &[Token]) -> Result<(Head, &[Token]), Refusal<
     ))
 }
 
-#[tactic(auto, unfolding(crate::specs::Inner::Reading::piece_at))]
+#[tactic(auto, unfolding(crate::specs::Reading::piece_at))]
 fn piece_of(alloc: Global, tokens: &[Token]) -> Result<(Piece, &[Token]), Refusal<'_>>
     ensures { ReadsAs (λ x. (piece_tree x.0, token_views x.1.now)) result (piece_at standard (token_views tokens.now)) }
 {
@@ -173,7 +173,7 @@ fn pieces_behind(
 }
 
 /// One piece or more.
-#[tactic(auto, unfolding(crate::specs::Inner::Parts::some_at))]
+#[tactic(auto, unfolding(crate::specs::Parts::some_at))]
 fn pieces_of(alloc: Global, tokens: &[Token]) -> Result<(Vec<Piece>, &[Token]), Refusal<'_>>
     ensures { ReadsAs (λ x. (map piece_tree x.0.items, token_views x.1.now)) result (some_pieces_at standard (standard.pieces - 1) (token_views tokens.now)) }
 {
@@ -181,7 +181,7 @@ fn pieces_of(alloc: Global, tokens: &[Token]) -> Result<(Vec<Piece>, &[Token]), 
     pieces_behind(alloc, first, rest)
 }
 
-#[tactic(auto, unfolding(crate::specs::Inner::Reading::procedure_at))]
+#[tactic(auto, unfolding(crate::specs::Reading::procedure_at))]
 fn procedure_of(alloc: Global, tokens: &[Token]) -> Result<(Procedure, &[Token]), Refusal<'_>>
     ensures { ReadsAs (λ x. (procedure_tree x.0, token_views x.1.now)) result (procedure_at standard (token_views tokens.now)) }
 {

@@ -4,8 +4,8 @@ ghost use Rattle.std.specs.Prelude.{◌≡◌, ◌-◌, map};
 ghost use Rattle.roc_lang.specs.Grammar.{standard};
 ghost use Rattle.roc_lang.specs.Tree.{expression_tree, access_tree, statement_tree};
 ghost use Rattle.roc_parse.specs.Inner.Views.{ReadsAs, token_views};
-ghost use Rattle.roc_parse.specs.Inner.Parts.{behind_comma_at, separated_behind, some_at};
-ghost use Rattle.roc_parse.specs.Inner.Reading.{expression_at, id_at, access_at, get_at, set_at, out_at, statement_at, body_at};
+ghost use Rattle.roc_parse.specs.Parts.{behind_comma_at, separated_behind, some_at};
+ghost use Rattle.roc_parse.specs.Reading.{expression_at, id_at, access_at, get_at, set_at, out_at, statement_at, body_at};
 
 use crate::expression::expression_of;
 use crate::refusal::{Refusal, limit_fault, or_refuse};
@@ -21,7 +21,7 @@ use std::alloc::Global;
 pub(crate) const MORE_IDS: u32 = IDS - 1;
 
 /// A comma and an integer of an id behind it.
-#[tactic(auto, unfolding(crate::specs::Inner::Parts::behind_comma_at))]
+#[tactic(auto, unfolding(crate::specs::Parts::behind_comma_at))]
 fn next_integer_of(alloc: Global, tokens: &[Token]) -> Result<(Expression, &[Token]), Refusal<'_>>
     ensures { ReadsAs (λ x. (expression_tree x.0, token_views x.1.now)) result (behind_comma_at (expression_at standard.depth) (token_views tokens.now)) }
 {
@@ -54,7 +54,7 @@ fn integers_behind(
 }
 
 /// The integers of an id.
-#[tactic(auto, unfolding(crate::specs::Inner::Parts::some_at))]
+#[tactic(auto, unfolding(crate::specs::Parts::some_at))]
 fn id_of(alloc: Global, tokens: &[Token]) -> Result<(Vec<Expression>, &[Token]), Refusal<'_>>
     ensures { ReadsAs (λ x. (map expression_tree x.0.items, token_views x.1.now)) result (id_at standard (token_views tokens.now)) }
 {
@@ -62,7 +62,7 @@ fn id_of(alloc: Global, tokens: &[Token]) -> Result<(Vec<Expression>, &[Token]),
     integers_behind(alloc, first, rest)
 }
 
-#[tactic(auto, unfolding(crate::specs::Inner::Reading::access_at))]
+#[tactic(auto, unfolding(crate::specs::Reading::access_at))]
 fn access_of(alloc: Global, tokens: &[Token]) -> Result<(Access, &[Token]), Refusal<'_>>
     ensures { ReadsAs (λ x. (access_tree x.0, token_views x.1.now)) result (access_at standard (token_views tokens.now)) }
 {
@@ -81,7 +81,7 @@ fn access_of(alloc: Global, tokens: &[Token]) -> Result<(Access, &[Token]), Refu
     Ok((access, rest))
 }
 
-#[tactic(auto, unfolding(crate::specs::Inner::Reading::get_at))]
+#[tactic(auto, unfolding(crate::specs::Reading::get_at))]
 fn get_of(alloc: Global, tokens: &[Token]) -> Result<(Statement, &[Token]), Refusal<'_>>
     ensures { ReadsAs (λ x. (statement_tree x.0, token_views x.1.now)) result (get_at standard (token_views tokens.now)) }
 {
@@ -92,7 +92,7 @@ fn get_of(alloc: Global, tokens: &[Token]) -> Result<(Statement, &[Token]), Refu
     before_mark(Statement::Get { name, from }, rest, b';')
 }
 
-#[tactic(auto, unfolding(crate::specs::Inner::Reading::set_at))]
+#[tactic(auto, unfolding(crate::specs::Reading::set_at))]
 fn set_of(alloc: Global, tokens: &[Token]) -> Result<(Statement, &[Token]), Refusal<'_>>
     ensures { ReadsAs (λ x. (statement_tree x.0, token_views x.1.now)) result (set_at standard (token_views tokens.now)) }
 {
@@ -103,7 +103,7 @@ fn set_of(alloc: Global, tokens: &[Token]) -> Result<(Statement, &[Token]), Refu
     before_mark(Statement::Set { to, value }, rest, b';')
 }
 
-#[tactic(auto, unfolding(crate::specs::Inner::Reading::out_at))]
+#[tactic(auto, unfolding(crate::specs::Reading::out_at))]
 fn out_of(alloc: Global, tokens: &[Token]) -> Result<(Statement, &[Token]), Refusal<'_>>
     ensures { ReadsAs (λ x. (statement_tree x.0, token_views x.1.now)) result (out_at standard (token_views tokens.now)) }
 {
@@ -112,7 +112,7 @@ fn out_of(alloc: Global, tokens: &[Token]) -> Result<(Statement, &[Token]), Refu
     before_mark(Statement::Out(value), rest, b';')
 }
 
-#[tactic(auto, unfolding(crate::specs::Inner::Reading::statement_at))]
+#[tactic(auto, unfolding(crate::specs::Reading::statement_at))]
 fn statement_of(alloc: Global, tokens: &[Token]) -> Result<(Statement, &[Token]), Refusal<'_>>
     ensures { ReadsAs (λ x. (statement_tree x.0, token_views x.1.now)) result (statement_at standard (token_views tokens.now)) }
 {

@@ -4,10 +4,10 @@ ghost use Rattle.std.specs.Prelude.{◌≡◌, pos, Some, None, IfOk};
 ghost use Rattle.std.specs.Option.{option_map};
 ghost use Rattle.roc_lang.specs.Grammar.{is_reserved};
 ghost use Rattle.roc_lang.specs.Tree.{name_tree};
-ghost use Rattle.roc_parse.specs.Inner.Stuck.{head_is};
+ghost use Rattle.roc_parse.specs.Stuck.{head_is};
 ghost use Rattle.roc_parse.specs.Inner.Views.{ReadsAs, kind_view, token_views};
-ghost use Rattle.roc_parse.specs.Inner.Parts.{has_word, has_mark, has_integer, word_at, mark_at, mark_line_at, free_word, name_at, small_integer, integer_at, bounded_at, negated, negated_at, signed_at, shards_at, piece_class, class_at, sign_of, sign_at};
-ghost use Rattle.roc_parse.specs.Inner.Reading.{starts_statement, starts_piece, is_sign};
+ghost use Rattle.roc_parse.specs.Parts.{has_word, has_mark, has_integer, word_at, mark_at, mark_line_at, free_word, name_at, small_integer, integer_at, bounded_at, negated, negated_at, signed_at, shards_at, piece_class, class_at, sign_of, sign_at};
+ghost use Rattle.roc_parse.specs.Reading.{starts_statement, starts_piece, is_sign};
 
 use crate::refusal::{Refusal, limit_fault, or_refuse, token_fault};
 use crate::token::{GREATEST_INTEGER, Kind, Token};
@@ -79,7 +79,7 @@ pub(crate) fn begins_piece(tokens: &[Token]) -> bool
 }
 
 /// What follows a word of the grammar.
-#[tactic(auto, unfolding(crate::specs::Inner::Parts::first_at))]
+#[tactic(auto, unfolding(crate::specs::Parts::first_at))]
 pub(crate) fn word<'a>(tokens: &'a [Token], word: &str) -> Result<&'a [Token], Refusal<'a>>
     ensures { ReadsAs (λ x. (tt, token_views x.now)) result (word_at word.now (token_views tokens.now)) }
 {
@@ -96,7 +96,7 @@ pub(crate) fn word<'a>(tokens: &'a [Token], word: &str) -> Result<&'a [Token], R
 }
 
 /// What follows a mark.
-#[tactic(auto, unfolding(crate::specs::Inner::Parts::first_at))]
+#[tactic(auto, unfolding(crate::specs::Parts::first_at))]
 pub(crate) fn mark(tokens: &[Token], mark: u8) -> Result<&[Token], Refusal<'_>>
     ensures { ReadsAs (λ x. (tt, token_views x.now)) result (mark_at mark (token_views tokens.now)) }
 {
@@ -126,7 +126,7 @@ pub(crate) fn before_mark<X: Drop>(
 }
 
 /// The line of a mark.
-#[tactic(auto, unfolding(crate::specs::Inner::Parts::first_at))]
+#[tactic(auto, unfolding(crate::specs::Parts::first_at))]
 pub(crate) fn mark_line(tokens: &[Token], mark: u8) -> Result<(u32, &[Token]), Refusal<'_>>
     ensures { ReadsAs (λ x. (x.0, token_views x.1.now)) result (mark_line_at mark (token_views tokens.now)) }
 {
@@ -181,7 +181,7 @@ fn free_word(kind: &Kind) -> Option<&str>
     }
 }
 
-#[tactic(auto, unfolding(crate::specs::Inner::Parts::first_at))]
+#[tactic(auto, unfolding(crate::specs::Parts::first_at))]
 pub(crate) fn name_of(alloc: Global, tokens: &[Token]) -> Result<(Name, &[Token]), Refusal<'_>>
     ensures { ReadsAs (λ x. (name_tree x.0, token_views x.1.now)) result (name_at (token_views tokens.now)) }
 {
@@ -223,7 +223,7 @@ fn small_integer(kind: &Kind) -> Option<i64>
     }
 }
 
-#[tactic(auto, unfolding(crate::specs::Inner::Parts::first_at))]
+#[tactic(auto, unfolding(crate::specs::Parts::first_at))]
 pub(crate) fn integer_of(tokens: &[Token]) -> Result<(i64, &[Token]), Refusal<'_>>
     ensures { ReadsAs (λ x. (x.0, token_views x.1.now)) result (integer_at (token_views tokens.now)) }
 {
@@ -247,7 +247,7 @@ fn negated(kind: &Kind) -> Option<i64>
     }
 }
 
-#[tactic(auto, unfolding(crate::specs::Inner::Parts::first_at))]
+#[tactic(auto, unfolding(crate::specs::Parts::first_at))]
 fn negated_of(tokens: &[Token]) -> Result<(i64, &[Token]), Refusal<'_>>
     ensures { ReadsAs (λ x. (x.0, token_views x.1.now)) result (negated_at (token_views tokens.now)) }
 {
@@ -261,7 +261,7 @@ fn negated_of(tokens: &[Token]) -> Result<(i64, &[Token]), Refusal<'_>>
 }
 
 /// An integer, or a `-` and an integer.
-#[tactic(auto, unfolding(crate::specs::Inner::Parts::signed_at))]
+#[tactic(auto, unfolding(crate::specs::Parts::signed_at))]
 pub(crate) fn signed_of(tokens: &[Token]) -> Result<(i64, &[Token]), Refusal<'_>>
     ensures { ReadsAs (λ x. (x.0, token_views x.1.now)) result (signed_at (token_views tokens.now)) }
 {
@@ -290,7 +290,7 @@ fn small_value(kind: &Kind) -> Option<u64>
 }
 
 /// An integer within bounds.
-#[tactic(auto, unfolding(crate::specs::Inner::Parts::bounded_at))]
+#[tactic(auto, unfolding(crate::specs::Parts::bounded_at))]
 pub(crate) fn bounded_of(
     least: u64,
     most: u64,
@@ -314,7 +314,7 @@ pub(crate) fn bounded_of(
 }
 
 /// The number of shards, and its line.
-#[tactic(auto, unfolding(crate::specs::Inner::Parts::first_at))]
+#[tactic(auto, unfolding(crate::specs::Parts::first_at))]
 pub(crate) fn shards_of(tokens: &[Token]) -> Result<((u64, u32), &[Token]), Refusal<'_>>
     ensures { ReadsAs (λ x. (x.0, token_views x.1.now)) result (shards_at (token_views tokens.now)) }
 {
@@ -340,7 +340,7 @@ fn piece_class(kind: &Kind) -> Option<bool>
     }
 }
 
-#[tactic(auto, unfolding(crate::specs::Inner::Parts::first_at))]
+#[tactic(auto, unfolding(crate::specs::Parts::first_at))]
 pub(crate) fn class_at(tokens: &[Token]) -> Result<(bool, &[Token]), Refusal<'_>>
     ensures { ReadsAs (λ x. (x.0, token_views x.1.now)) result (class_at (token_views tokens.now)) }
 {
@@ -376,7 +376,7 @@ pub(crate) fn begins_sign(tokens: &[Token]) -> bool
     }
 }
 
-#[tactic(auto, unfolding(crate::specs::Inner::Parts::first_at))]
+#[tactic(auto, unfolding(crate::specs::Parts::first_at))]
 pub(crate) fn sign_at(tokens: &[Token]) -> Result<(bool, &[Token]), Refusal<'_>>
     ensures { ReadsAs (λ x. (x.0, token_views x.1.now)) result (sign_at (token_views tokens.now)) }
 {

@@ -5,7 +5,7 @@ use Rattle.std.specs.List.{list_any, position_from}
 use Rattle.std.specs.Option.{option_map_or, option_and_then}
 use Rattle.roc_sequence.proofs.Found.{found_at, not_found}
 use Rattle.roc_places.specs.Places.{places_from}
-use Rattle.roc_places.specs.Inner.Passing.{passes_at}
+use Rattle.roc_places.specs.Passing.{passes_at}
 
 -- in a longer list
 pub places_from-push : {A : Type 0} (p : A → Bool) (n : ℕ) (xs : List A) (y : A) → places_from p n (xs ++ y ∷ []) ≡ places_from p n xs ++ cond (p y) ((n + length xs) ∷ []) []

@@ -1,3 +1,2 @@
--- What the contracts of private functions alone cite, here and in the layers above: the places that the index has, and what stands at a place
+-- What the contracts of private functions alone cite: the places that the index has
 pub mod Kept
-pub mod Passing

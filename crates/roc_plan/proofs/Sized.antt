@@ -10,7 +10,7 @@ use Rattle.roc_program.specs.Names.{binding, bindings_of, bindings}
 use Rattle.roc_program.specs.Program.{Table, Piece, Procedure}
 use Rattle.roc_program.specs.WellFormed.{known_behind, ArePieces, IsProcedure}
 use Rattle.roc_sequence.proofs.Holds.{all_weaker}
-use Rattle.roc_plan.specs.Inner.Sized.{IsSized}
+use Rattle.roc_plan.specs.Sized.{IsSized}
 
 few_statements : (tables : List Table) (known : List ℕ) (pieces : List Piece) → ArePieces tables known pieces → AllByRecursion (λ piece. length piece.body ≤ 64) pieces
 few_statements tables known [] all = tt

@@ -16,7 +16,7 @@ use Rattle.roc_groups.proofs.Elements.{place_of_has, has_at_place, has_flat_map,
 use Rattle.roc_plan.specs.declared.group.Input.{Input}
 use Rattle.roc_plan.specs.Groups.{Plan, no_group, bound_in, inputs_in, source_in, procedure_of, groups_of, group_of, is_immediate_of, bound_of, inputs_of, pieces_at}
 use Rattle.roc_plan.specs.Accepted.{grouping_of, is_piece_immediate, IsAccepted}
-use Rattle.roc_plan.specs.Inner.Sized.{piece_at}
+use Rattle.roc_plan.specs.Sized.{piece_at}
 use Rattle.roc_plan.proofs.Placed.{group_again, procedure_there, accepted_at}
 use Rattle.roc_plan.proofs.Classed.{class_of_group, group_there, in_grouping}
 

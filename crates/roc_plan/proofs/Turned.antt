@@ -14,7 +14,7 @@ use Rattle.roc_sequence.proofs.Members.{has_left, has_right, has_append, has_fil
 use Rattle.roc_groups.specs.Groups.{groups_in}
 use Rattle.roc_groups.specs.Flow.{directly}
 use Rattle.roc_groups.specs.Accepted.{group_feeds}
-use Rattle.roc_groups.specs.Inner.Paths.{leads_below}
+use Rattle.roc_groups.specs.Paths.{leads_below}
 use Rattle.roc_groups.proofs.Cores.{leads_through}
 use Rattle.roc_groups.proofs.Elements.{range_above, has_range, from_has_range}
 use Rattle.roc_groups.proofs.Paths.{feeds_inside, leads_from_below, below_from_leads}

@@ -6,7 +6,7 @@ use Rattle.std.specs.List.{AllByRecursion}
 use Rattle.roc_program.specs.Values.{Environment, value_of_name}
 use Rattle.roc_sequence.proofs.Holds.{all_weaker}
 use Rattle.roc_plan.specs.Groups.{with_values}
-use Rattle.roc_plan.specs.Inner.Sized.{AgreeEverywhere}
+use Rattle.roc_plan.specs.Inner.Agreeing.{AgreeEverywhere}
 
 -- zeros behind the values change none
 pub zeros_behind : (xs : Environment) (k n : ℕ) → value_of_name (xs ++ replicate k (pos 0)) n ≡ value_of_name xs n

@@ -3,7 +3,7 @@ ghost use Rattle.std.specs.Prelude.{ℕ, ℤ, pos, ◌≡◌, ◌<◌, ◌≤◌
 ghost use Rattle.std.specs.List.{AllByRecursion};
 ghost use Rattle.roc_program.specs.Values.{value_of_name};
 ghost use Rattle.roc_plan.specs.Groups.{with_values};
-ghost use Rattle.roc_plan.specs.Inner.Sized.{AgreeEverywhere};
+ghost use Rattle.roc_plan.specs.Inner.Agreeing.{AgreeEverywhere};
 
 // How many names a procedure has at most: its arguments, and one for each statement.
 const NAMES: usize = 8 + 16 * 64;

@@ -7,11 +7,11 @@ use Rattle.roc_program.specs.LookUps.{no_procedure}
 use Rattle.roc_program.specs.Program.{Procedure, Workload}
 use Rattle.roc_program.specs.declared.piece_id.PieceId.{PieceId}
 use Rattle.roc_groups.specs.Groups.{piece_numbered, groups_in, group_at}
-use Rattle.roc_groups.specs.Inner.Parts.{IsPart}
+use Rattle.roc_groups.specs.Parts.{IsPart}
 use Rattle.roc_plan.specs.declared.group.Class.TheVariants.{Immediate, Deferrable}
 use Rattle.roc_plan.specs.declared.outline.Outline.{Outline}
 use Rattle.roc_plan.specs.Groups.{bound_in}
-use Rattle.roc_plan.specs.Inner.Sized.{IsSized}
+use Rattle.roc_plan.specs.Sized.{IsSized}
 use Rattle.roc_planning.specs.Inner.Built.{IsDrawn, AreDrawn, AreAllDrawn}
 use Rattle.roc_planning.proofs.Few.{few_names_of}
 

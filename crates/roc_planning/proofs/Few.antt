@@ -10,10 +10,10 @@ use Rattle.roc_program.specs.LookUps.{no_piece}
 use Rattle.roc_program.specs.Names.{output, bindings_of}
 use Rattle.roc_program.specs.Program.{Piece, Procedure}
 use Rattle.roc_groups.specs.Grouping.{IsGrouping}
-use Rattle.roc_groups.specs.Inner.Parts.{IsPart}
+use Rattle.roc_groups.specs.Parts.{IsPart}
 use Rattle.roc_accept.proofs.Parting.{few_rise, few_groups}
 use Rattle.roc_plan.specs.Groups.{bound_in}
-use Rattle.roc_plan.specs.Inner.Sized.{piece_at, IsSized}
+use Rattle.roc_plan.specs.Sized.{piece_at, IsSized}
 use Rattle.roc_plan.proofs.Sized.{few_found, few_in_all, few_bound}
 
 pub few_added : (piece : Piece) → length piece.body ≤ 64 → length (filter_map output piece.body) ≤ 64

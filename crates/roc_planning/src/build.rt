@@ -8,7 +8,7 @@ ghost use Rattle.roc_groups.specs.Grouping.{IsGrouping};
 ghost use Rattle.roc_groups.specs.Accepted.{IsAcceptedGrouping};
 ghost use Rattle.roc_plan.specs.declared.group.Class.TheVariants.{Immediate, Deferrable};
 ghost use Rattle.roc_plan.specs.Groups.{bound_in};
-ghost use Rattle.roc_plan.specs.Inner.Sized.{IsSized};
+ghost use Rattle.roc_plan.specs.Sized.{IsSized};
 ghost use Rattle.roc_planning.specs.Inner.Built.{IsDrawn, AreDrawn, AreAllDrawn};
 
 use crate::names::{bound_names, input_names};

@@ -6,7 +6,7 @@ ghost use Rattle.roc_program.specs.Parts as view;
 ghost use Rattle.roc_groups.specs.Groups.{groups_in};
 ghost use Rattle.roc_groups.specs.Grouping.{IsGrouping};
 ghost use Rattle.roc_plan.specs.Groups.{bound_in, inputs_in};
-ghost use Rattle.roc_plan.specs.Inner.Sized.{piece_at, IsSized};
+ghost use Rattle.roc_plan.specs.Sized.{piece_at, IsSized};
 
 use roc_accept::piece_uses;
 use roc_base::NoMemory;

@@ -5,7 +5,7 @@ ghost use Rattle.roc_program.specs.Names.{has_name, outputs};
 ghost use Rattle.roc_program.specs.Parts as view;
 ghost use Rattle.roc_plan.specs.Groups.{places_in, outs_in};
 ghost use Rattle.roc_planning.specs.Inner.Built.{source_by};
-ghost use Rattle.roc_plan.specs.Inner.Sized.{IsSized};
+ghost use Rattle.roc_plan.specs.Sized.{IsSized};
 ghost use Rattle.roc_planning.specs.Inner.Counts as counts;
 
 use roc_base::NoMemory;

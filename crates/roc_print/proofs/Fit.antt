@@ -6,7 +6,7 @@ use Rattle.roc_lang.specs.Syntax.{Name, Expression, Number, Variable, Sum, Diffe
 use Rattle.roc_lang.specs.Tokens as tokens
 use Rattle.roc_lang.specs.Tokens.{Kind, Word, Integer, Mark, Token, IsWord, IsTokenStep, IsTokens}
 use Rattle.roc_lang.specs.Grammar.{IsToken, IsName, IsExpression, is_reserved}
-use Rattle.roc_parse.specs.Inner.Reading.{deeper}
+use Rattle.roc_parse.specs.Reading.{deeper}
 use Rattle.roc_parse.proofs.Depths.{Summed, Multiplied, Single, Paired, term, sum, difference, atom, product, number, variable, parentheses, minimum, maximum, less, pick, pair, deep_sum}
 use Rattle.roc_print.specs.Canonical.{is_sum, is_product}
 

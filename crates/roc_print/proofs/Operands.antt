@@ -5,7 +5,7 @@ use Rattle.roc_lang.specs.Syntax.{Expression, Sum, Difference, Product, Minimum,
 use Rattle.roc_lang.specs.Tokens.{Word, Mark, Token, IsTokenEnd, IsTokens}
 use Rattle.roc_print.proofs.Spelt.{blank, word, mark}
 use Rattle.roc_lang.specs.Grammar.{comma, plus, minus, star, open_parenthesis, close_parenthesis}
-use Rattle.roc_parse.specs.Inner.Reading.{deeper}
+use Rattle.roc_parse.specs.Reading.{deeper}
 use Rattle.roc_parse.proofs.Depths.{Summed, Multiplied, Single, Paired, term, sum, difference, atom, product, parentheses, minimum, maximum, less, pick, pair}
 use Rattle.roc_print.specs.Canonical.{enclosed}
 use Rattle.roc_print.specs.UpToLines.{bare_expression}

@@ -8,4 +8,4 @@ pub mod Pieces
 pub mod Conflict
 pub mod Parts
 pub mod Workload
-pub mod Inner
+pub mod Codes

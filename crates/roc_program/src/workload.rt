@@ -18,7 +18,7 @@ pub struct Workload {
 
 impl Model for Workload {
     ghost use Rattle.roc_program.specs.Program.{Workload as Program};
-    ghost use Rattle.roc_program.specs.Inner.Codes.{workload_code};
+    ghost use Rattle.roc_program.specs.Codes.{workload_code};
 
     ghost Value = { Program };
 

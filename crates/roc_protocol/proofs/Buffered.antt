@@ -10,7 +10,7 @@ use Rattle.roc_sequence.proofs.Found.{found_has, none_found}
 use Rattle.roc_sequence.proofs.Ranges.{range_below}
 use Rattle.roc_base.specs.declared.id.TxnId.{TxnId}
 use Rattle.roc_base.specs.TxnId.{is_txn}
-use Rattle.roc_base.specs.Inner.Equalities.{is_txn-true}
+use Rattle.roc_base.specs.Equalities.{is_txn-true}
 use Rattle.roc_rows.specs.Store.{Store}
 use Rattle.roc_plan.specs.Groups.{Plan, groups_of, is_immediate_of}
 use Rattle.roc_whole.specs.Serial as whole

@@ -9,7 +9,7 @@ use Rattle.roc_sequence.proofs.Members.{has_append, has_one, from_has_map, from_
 use Rattle.roc_base.specs.declared.id.TxnId.{TxnId}
 use Rattle.roc_base.specs.declared.node.Shard.{Shard}
 use Rattle.roc_base.specs.TxnId.{is_txn}
-use Rattle.roc_base.specs.Inner.Equalities.{is_txn-true, is_txn-same}
+use Rattle.roc_base.specs.Equalities.{is_txn-true, is_txn-same}
 use Rattle.roc_base.specs.Edge.{Dependency}
 use Rattle.roc_depgraph.specs.declared.known.KnownList.{KnownList}
 use Rattle.roc_depgraph.specs.Deps.{list_of, is_known, IsKnown}
@@ -31,7 +31,7 @@ use Rattle.roc_lists.specs.Carried.{list_with, carried, unknown_of}
 use Rattle.roc_lists.specs.Asking.{known_to, knowns_for, fetch_from}
 use Rattle.roc_server.specs.Lists.{commit_differs, lists_after, missing_from, taught, commit_fault, after_commit, fetch_taken, after_fetch, known_fault, after_known}
 use Rattle.roc_server.specs.Step.{Findings, AreFindings, Handles, after_message, tick_sends}
-use Rattle.roc_server.specs.Inner.Kept.{unrun}
+use Rattle.roc_server.specs.State.{unrun}
 use Rattle.roc_protocol.specs.Final.{lists_in}
 use Rattle.roc_protocol.proofs.Flat.{from_has_flat}
 use Rattle.roc_protocol.proofs.Facts.{facts_known}

@@ -14,7 +14,7 @@ use Rattle.roc_sequence.proofs.Places.{listed_or_not, unlisted_test}
 use Rattle.roc_sequence.proofs.Appended.{listed_front, listed_behind, listed_either}
 use Rattle.roc_base.specs.declared.id.TxnId.{TxnId}
 use Rattle.roc_base.specs.TxnId.{is_txn}
-use Rattle.roc_base.specs.Inner.Equalities.{is_txn-true}
+use Rattle.roc_base.specs.Equalities.{is_txn-true}
 use Rattle.roc_base.specs.Edge.{Dependency}
 use Rattle.roc_base.proofs.Ids.{is_txn-eq}
 use Rattle.roc_rows.specs.declared.cell.Cell.{Cell}
@@ -29,7 +29,7 @@ use Rattle.roc_whole.specs.Serial as whole
 use Rattle.roc_serial.specs.Behaviour.{TxnGroup, is_txn_group}
 use Rattle.roc_serial.specs.Runs.{Stage, needs, after_group, after_groups}
 use Rattle.roc_serial.specs.Orders.{one_by_one}
-use Rattle.roc_serial.specs.Inner.Groups.{same_group, is_group-same}
+use Rattle.roc_serial.proofs.SameGroups.{same_group, is_group-same}
 use Rattle.roc_serial.proofs.OneByOne.{from_order}
 use Rattle.roc_serial.proofs.Stages.{after-yielded_other, same_inputs}
 use Rattle.roc_execution.specs.Scheme.{Scheme}
@@ -51,7 +51,7 @@ use Rattle.roc_protocol.proofs.Flat.{from_has_flat}
 use Rattle.roc_lists.specs.Asking.{asked_of}
 use Rattle.roc_server.specs.Lists.{is_missing, missing_from, lists_after}
 use Rattle.roc_server.specs.State.{Lists}
-use Rattle.roc_server.specs.Inner.Kept.{unrun}
+use Rattle.roc_server.specs.State.{unrun}
 use Rattle.roc_protocol.specs.Asked.{IsSchemeOf}
 use Rattle.roc_protocol.specs.Inner.Given.{LogLaws}
 use Rattle.roc_protocol.proofs.Means.{HasBegun, run_of, entry_run, place, Ran, Began, stage, AllMean, AreGroupsHere, ServerMeans}

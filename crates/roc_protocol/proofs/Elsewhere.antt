@@ -13,7 +13,7 @@ use Rattle.roc_execution.specs.Scheme.{Scheme}
 use Rattle.roc_execution.specs.Log.{Log}
 use Rattle.roc_execution.specs.Invariants.{LogInvariants, LogGrows}
 use Rattle.roc_server.specs.State.{ServerState}
-use Rattle.roc_server.specs.Inner.Kept.{unrun}
+use Rattle.roc_server.specs.State.{unrun}
 use Rattle.roc_protocol.specs.Asked.{IsSchemeOf}
 use Rattle.roc_protocol.proofs.Means.{entry_run, place, Ran, Began, stage, ServerMeans}
 use Rattle.roc_protocol.proofs.Grows.{place_grows, entry_grows, all_grow, begun_grows}

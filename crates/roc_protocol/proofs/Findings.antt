@@ -17,7 +17,7 @@ use Rattle.roc_base.specs.declared.id.TxnId.{TxnId}
 use Rattle.roc_base.specs.TxnId.{is_txn, txn_cmp, txn_lt}
 use Rattle.roc_base.specs.Edge.{Dependency}
 use Rattle.roc_base.specs.Edges.{comes_before, all_of, united}
-use Rattle.roc_base.specs.Inner.Equalities.{is_txn-true}
+use Rattle.roc_base.specs.Equalities.{is_txn-true}
 use Rattle.roc_base.proofs.Ids.{is_lt-txn_cmp, is_txn-eq}
 use Rattle.roc_base.proofs.Members.{all_of-none, entry_at-has, IsAllOf-united}
 use Rattle.roc_base.proofs.Union.{IsRising-united, entry_at-united}

@@ -8,7 +8,7 @@ use Rattle.roc_base.specs.declared.id.TxnId.{TxnId}
 use Rattle.roc_rows.specs.declared.cell.Cell.{Cell}
 use Rattle.roc_rows.specs.Store.{Store, read, write, empty}
 use Rattle.roc_rows.specs.Cells.{is_cell}
-use Rattle.roc_rows.specs.Inner.Cells.{is_cell-true, is_cell-false}
+use Rattle.roc_rows.proofs.CellLaws.{is_cell-true, is_cell-false}
 use Rattle.roc_program.specs.Program.{Init}
 use Rattle.roc_plan.specs.Groups.{Plan, shard_of}
 use Rattle.roc_whole.specs.Serial.{after_inits, init_cell, start_store}

@@ -27,7 +27,7 @@ use Rattle.roc_execution.specs.Log.{Log, PrecedesGroup, shard_at, IsWhole, IsDec
 use Rattle.roc_execution.specs.Steps.{IsReachedLog}
 use Rattle.roc_server.specs.declared.started.StartedGroup.{StartedGroup}
 use Rattle.roc_server.specs.State.{find_group, ServerState}
-use Rattle.roc_server.specs.Inner.Kept.{unrun}
+use Rattle.roc_server.specs.State.{unrun}
 use Rattle.roc_coord.specs.declared.transaction.Transaction.{Transaction}
 use Rattle.roc_coord.specs.declared.transaction.TakenStart.{TakenStart}
 use Rattle.roc_coord.specs.State.{was_asked, CoordState}

@@ -6,7 +6,7 @@ use Rattle.roc_sequence.proofs.Holds.{any_has, has_any}
 use Rattle.roc_sequence.proofs.Members.{has_map, from_has_map}
 use Rattle.roc_rows.specs.declared.cell.Cell.{Cell}
 use Rattle.roc_rows.specs.Cells.{is_cell}
-use Rattle.roc_rows.specs.Inner.Cells.{is_cell-same, is_cell-true}
+use Rattle.roc_rows.proofs.CellLaws.{is_cell-same, is_cell-true}
 use Rattle.roc_group.specs.declared.access.Access.{Access}
 use Rattle.roc_group.specs.Accesses.{meets, do_conflict}
 use Rattle.roc_serial.specs.Behaviour.{Use, is_used, is_written, Meet}

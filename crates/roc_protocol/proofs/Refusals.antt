@@ -12,7 +12,7 @@ use Rattle.roc_base.specs.declared.id.TxnId.{TxnId}
 use Rattle.roc_base.specs.declared.node.Node.TheVariants.{Server, Coord}
 use Rattle.roc_base.specs.declared.node.Shard.{Shard}
 use Rattle.roc_base.specs.TxnId.{is_txn}
-use Rattle.roc_base.specs.Inner.Equalities.{is_txn-true, Decides-is_edges, Decides-is_nums}
+use Rattle.roc_base.specs.Equalities.{is_txn-true, Decides-is_edges, Decides-is_nums}
 use Rattle.roc_base.specs.Edge.{Dependency}
 use Rattle.roc_base.specs.Equality.{is_edges, is_nums}
 use Rattle.roc_depgraph.specs.declared.known.KnownList.{KnownList}

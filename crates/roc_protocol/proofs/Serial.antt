@@ -13,7 +13,7 @@ use Rattle.roc_audit.specs.declared.entry.Entry.TheVariants.{Submitted}
 use Rattle.roc_audit.specs.History.{WasSubmitted}
 use Rattle.roc_audit.specs.Witness.{submitted_call, IsSerialWitness}
 use Rattle.roc_audit.proofs.Histories.{call_of-is, call_of-id, call_of-from}
-use Rattle.roc_base.specs.Inner.Equalities.{is_txn-true}
+use Rattle.roc_base.specs.Equalities.{is_txn-true}
 use Rattle.roc_protocol.specs.Asked.{IsSchemeOf, HasSchemes}
 use Rattle.roc_protocol.specs.World.{World}
 use Rattle.roc_protocol.specs.Run.{Stepped, IsRun}

@@ -12,7 +12,7 @@ use Rattle.roc_sequence.proofs.Members.{from_has_map, from_has_filter}
 use Rattle.roc_base.specs.declared.id.TxnId.{TxnId}
 use Rattle.roc_base.specs.declared.node.Shard.{Shard}
 use Rattle.roc_base.specs.TxnId.{is_txn}
-use Rattle.roc_base.specs.Inner.Equalities.{is_txn-true}
+use Rattle.roc_base.specs.Equalities.{is_txn-true}
 use Rattle.roc_base.specs.Edge.{Dependency}
 use Rattle.roc_base.specs.Edges.{united}
 use Rattle.roc_depgraph.specs.declared.known.KnownList.{KnownList}
@@ -38,7 +38,7 @@ use Rattle.roc_lists.specs.Carried.{list_with, carried, unknown_of}
 use Rattle.roc_lists.specs.Asking.{asked_of, known_to, knowns_for, fetch_from}
 use Rattle.roc_server.specs.Lists.{commit_differs, lists_after, is_missing, missing_from, taught, commit_fault, after_commit, fetch_taken, after_fetch, known_fault, after_known}
 use Rattle.roc_server.specs.Step.{Findings, AreFindings, Handles, after_message, tick_sends}
-use Rattle.roc_server.specs.Inner.Kept.{unrun}
+use Rattle.roc_server.specs.State.{unrun}
 use Rattle.roc_protocol.specs.Fits.{AreSeenHere, AreListsHere, NamesNodes, IsStartedHere, IsServerHere}
 use Rattle.roc_protocol.proofs.Carried.{take_same}
 use Rattle.roc_protocol.proofs.Deciding.{take_keeps}

@@ -14,7 +14,7 @@ use Rattle.roc_base.specs.declared.id.TxnId.{TxnId}
 use Rattle.roc_base.specs.declared.node.Node.{Node}
 use Rattle.roc_base.specs.declared.node.Node.TheVariants.{Server, Coord}
 use Rattle.roc_base.specs.TxnId.{is_txn}
-use Rattle.roc_base.specs.Inner.Equalities.{is_txn-true, is_txn-same}
+use Rattle.roc_base.specs.Equalities.{is_txn-true, is_txn-same}
 use Rattle.roc_base.proofs.Ids.{is_txn-false, is_txn-ne}
 use Rattle.roc_base.specs.Edge.{Dependency, joined}
 use Rattle.roc_base.specs.Equality.{same_tag}
@@ -29,7 +29,7 @@ use Rattle.roc_group.specs.Accesses.{do_conflict}
 use Rattle.roc_group.specs.Group_run.{GroupCall, call, group_run, bound_by_run}
 use Rattle.roc_serial.specs.Behaviour.{TxnGroup, is_txn_group, Meet, Yield}
 use Rattle.roc_serial.specs.Runs.{Stage, inputs_at, stage_behind, stage_before, uses_at, uses_in, after_group, after_groups, groups_before, Conflict}
-use Rattle.roc_serial.specs.Inner.Groups.{same_group, is_group-same}
+use Rattle.roc_serial.proofs.SameGroups.{same_group, is_group-same}
 use Rattle.roc_serial.proofs.Places.{before_past, before_itself}
 use Rattle.roc_execution.specs.Scheme.{Scheme}
 use Rattle.roc_execution.specs.Log.{Log}
@@ -38,7 +38,7 @@ use Rattle.roc_execution.specs.Invariants.{LogInvariants, LogGrows}
 use Rattle.roc_server.specs.declared.started.StartedGroup.{StartedGroup}
 use Rattle.roc_server.specs.State.{is_group, find_group, ServerState}
 use Rattle.roc_server.specs.Start.{is_immediate_group, is_predecessor, edge_to, new_group, start_new}
-use Rattle.roc_server.specs.Inner.Kept.{unrun}
+use Rattle.roc_server.specs.State.{unrun}
 use Rattle.roc_protocol.specs.Asked.{called, use_of, IsSchemeOf}
 use Rattle.roc_protocol.specs.Inner.Given.{LogLaws}
 use Rattle.roc_protocol.proofs.Means.{run_of, entry_run, place, Precedes, Ran, Began, stage, EdgesMean, ListMeans, ToldMeans, StartIs, EntryMeans, ServerMeans}

@@ -1,3 +1,4 @@
+pub mod CellLaws
 pub mod Stored
 pub mod Listed
 pub mod Stores

@@ -17,7 +17,8 @@ use Rattle.std.specs.declared.cmp.Ordering.{Ordering}
 use Rattle.std.specs.declared.cmp.Ordering.TheVariants.{Less, Equal, Greater}
 use Rattle.roc_rows.specs.declared.cell.Cell.{Cell}
 use Rattle.roc_rows.specs.Cells.{is_cell, cell_cmp}
-use Rattle.roc_rows.specs.Inner.Cells.{is_cell-true, is_cell-swap, is_cell-equivalence, is_cell-by_cmp, cell_cmp-total, cell_cmp-exact}
+use Rattle.roc_rows.proofs.CellLaws.{is_cell-true, is_cell-swap, is_cell-equivalence, is_cell-by_cmp, cell_cmp-exact}
+use Rattle.roc_rows.specs.Inner.Cells.{cell_cmp-total}
 use Rattle.roc_rows.specs.Store.{Store, read, entries}
 use Rattle.roc_rows.proofs.Stored.{numbers-read, read-numbers, numbers-store_of, entries-numbers}
 use Rattle.roc_rows.specs.Inner.Kept.{store_of, HasNoZero}

@@ -5,8 +5,10 @@ use Rattle.std.specs.Map.{lookup}
 use Rattle.roc_rows.specs.declared.cell.Cell.{Cell}
 use Rattle.roc_rows.specs.Cells.{is_cell, cell_cmp}
 use Rattle.roc_rows.specs.Store.{Store, read, entries, empty, write}
-use Rattle.roc_rows.specs.Inner.Cells.{is_cell-same, is_cell-ne, is_cell-swap, is_cell-by_cmp, cell_cmp-total, cell_cmp-exact}
-use Rattle.roc_rows.specs.Inner.Kept.{store_of, HasNoZero, same_numbers}
+use Rattle.roc_rows.proofs.CellLaws.{is_cell-same, is_cell-ne, is_cell-swap, is_cell-by_cmp, cell_cmp-exact}
+use Rattle.roc_rows.specs.Inner.Cells.{cell_cmp-total}
+use Rattle.roc_rows.specs.Inner.Kept.{store_of, HasNoZero}
+use Rattle.roc_rows.specs.Codes.{same_numbers}
 use Rattle.roc_rows.specs.Inner.Writes.{kept, same_option, unwrap_or-kept, get-written}
 
 -- two stores that read alike are one

@@ -2,4 +2,5 @@ pub mod Cells
 pub mod Written
 pub mod Store
 pub mod Held
+pub mod Codes
 pub mod Inner

@@ -6,7 +6,7 @@ use Rattle.roc_base.specs.declared.id.TxnId.{TxnId}
 use Rattle.roc_sequence.specs.Places.{IsListedBefore}
 use Rattle.roc_rows.specs.declared.cell.Cell.{Cell}
 use Rattle.roc_rows.specs.Cells.{is_cell}
-use Rattle.roc_rows.specs.Inner.Cells.{is_cell-same, is_cell-true}
+use Rattle.roc_rows.proofs.CellLaws.{is_cell-same, is_cell-true}
 use Rattle.roc_rows.specs.Store.{Store, read}
 use Rattle.roc_whole.specs.Serial as whole
 use Rattle.roc_program.specs.Values.{value_of_name}

@@ -10,7 +10,7 @@ use Rattle.roc_sequence.proofs.Members.{has_one, has_append, has_left, has_right
 use Rattle.roc_sequence.proofs.Listed as listed
 use Rattle.roc_base.specs.declared.id.TxnId.{TxnId}
 use Rattle.roc_base.specs.TxnId.{is_txn}
-use Rattle.roc_base.specs.Inner.Equalities.{is_txn-true, is_txn-same}
+use Rattle.roc_base.specs.Equalities.{is_txn-true, is_txn-same}
 use Rattle.roc_rows.specs.Store.{Store}
 use Rattle.roc_plan.specs.declared.group.Input.{Input}
 use Rattle.roc_plan.specs.Groups.{Plan, groups_of, procedure_of, inputs_of, outs_of, is_immediate_of}
@@ -21,7 +21,7 @@ use Rattle.roc_group.specs.Group_run.{call, group_run, bound_by_run}
 use Rattle.roc_serial.specs.Behaviour.{TxnGroup, is_txn_group, Yield, Behaviour}
 use Rattle.roc_serial.specs.Runs as serial
 use Rattle.roc_serial.specs.Orders.{all_groups, one_by_one}
-use Rattle.roc_serial.specs.Inner.Groups.{same_group}
+use Rattle.roc_serial.proofs.SameGroups.{same_group}
 use Rattle.roc_serial.proofs.Stages.{after-store, after-yielded_same, after-yielded_other}
 use Rattle.roc_reorder.specs.GroupsRun as turn
 use Rattle.roc_reorder.specs.GroupsRun.{Given, bound_by, taken, DoAs}

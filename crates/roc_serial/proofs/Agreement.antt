@@ -11,7 +11,7 @@ use Rattle.roc_serial.specs.Behaviour.{TxnGroup, is_txn_group, is_used, is_writt
 use Rattle.roc_serial.specs.Runs.{first_stage, needs, inputs_at, yield_at, after_group, groups_before, stage_behind, stage_before, uses_in, Conflict, account_at, account}
 use Rattle.roc_serial.proofs.Places.{one_place, before_before, before_absent, place_before, listed_before, from_before, none_twice_before, map_used}
 use Rattle.roc_serial.proofs.Stages.{after-store, yielded_at, yielded-before, same_inputs, LastWrite, nobody, last, value, kept_cell}
-use Rattle.roc_serial.specs.Inner.Groups.{written_used}
+use Rattle.roc_serial.proofs.SameGroups.{written_used}
 
 pub record Agree (B : Behaviour) (start : Store) (R S : List TxnGroup) : Type 0 where
   pub lawful : IsLawful B

@@ -6,7 +6,7 @@ use Rattle.roc_sequence.specs.Places.{IsListedBefore}
 use Rattle.roc_rows.specs.declared.cell.Cell.{Cell}
 use Rattle.roc_rows.specs.Cells.{is_cell}
 use Rattle.roc_rows.specs.Store.{Store, read, write}
-use Rattle.roc_rows.specs.Inner.Cells.{is_cell-same, is_cell-true}
+use Rattle.roc_rows.proofs.CellLaws.{is_cell-same, is_cell-true}
 use Rattle.roc_serial.specs.Behaviour.{TxnGroup, is_group_number, is_written, Yield, DoesSame, IsLawful}
 use Rattle.roc_serial.specs.Counter.{counted_cell, one_use, added, counter}
 

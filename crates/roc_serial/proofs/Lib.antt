@@ -1,3 +1,4 @@
+pub mod SameGroups
 pub mod Places
 pub mod Stages
 pub mod Agreement

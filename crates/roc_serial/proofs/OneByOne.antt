@@ -5,11 +5,11 @@ use Rattle.roc_sequence.proofs.Places.{place_of-here, place_of-there, listed_cas
 use Rattle.roc_sequence.proofs.Appended.{listed_front, listed_behind, listed_either, before_front, before_behind, before_new, NoneTwice-append}
 use Rattle.roc_base.specs.declared.id.TxnId.{TxnId}
 use Rattle.roc_base.specs.TxnId.{is_txn}
-use Rattle.roc_base.specs.Inner.Equalities.{is_txn-true, is_txn-same}
+use Rattle.roc_base.specs.Equalities.{is_txn-true, is_txn-same}
 use Rattle.roc_base.proofs.Ids.{is_txn-eq, is_txn-ne, is_txn-false}
 use Rattle.roc_serial.specs.Behaviour.{TxnGroup, is_txn_group, is_group_number, Behaviour, IsLawful}
 use Rattle.roc_serial.specs.Orders.{all_groups, one_by_one, StandOneByOne}
-use Rattle.roc_serial.specs.Inner.Groups.{is_group-same}
+use Rattle.roc_serial.proofs.SameGroups.{is_group-same}
 
 abbrev pub group_in : TxnId → ℕ → TxnGroup
 group_in t g = record { txn = t; group = g }

@@ -7,9 +7,9 @@ use Rattle.roc_sequence.proofs.Appended.{listed_behind}
 use Rattle.roc_sequence.proofs.Places.{place_of-here, place_of-there, listed_by_before, listed_cases, same_place}
 use Rattle.roc_rows.specs.declared.cell.Cell.{Cell}
 use Rattle.roc_rows.specs.Cells.{is_cell}
-use Rattle.roc_rows.specs.Inner.Cells.{is_cell-same}
+use Rattle.roc_rows.proofs.CellLaws.{is_cell-same}
 use Rattle.roc_serial.specs.Behaviour.{TxnGroup, is_txn_group, Use, is_used}
-use Rattle.roc_serial.specs.Inner.Groups.{same_group, is_group-same}
+use Rattle.roc_serial.proofs.SameGroups.{same_group, is_group-same}
 use Rattle.roc_serial.specs.Runs.{groups_before}
 
 -- two that stand at one place are one

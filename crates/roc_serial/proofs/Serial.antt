@@ -7,7 +7,7 @@ use Rattle.roc_sequence.proofs.Holds.{all_weaker}
 use Rattle.roc_sequence.proofs.Places.{same_place, listed_by_before}
 use Rattle.roc_base.specs.declared.id.TxnId.{TxnId}
 use Rattle.roc_base.specs.TxnId.{is_txn}
-use Rattle.roc_base.specs.Inner.Equalities.{is_txn-true}
+use Rattle.roc_base.specs.Equalities.{is_txn-true}
 use Rattle.roc_rows.specs.Store.{Store}
 use Rattle.roc_serial.specs.Behaviour.{TxnGroup, is_txn_group, is_group_number, Behaviour, IsLawful}
 use Rattle.roc_serial.specs.Runs.{needs}

@@ -10,7 +10,7 @@ use Rattle.roc_rows.specs.Store.{read}
 use Rattle.roc_serial.specs.Behaviour.{TxnGroup, is_txn_group, is_written, Yield, Behaviour, IsLawful}
 use Rattle.roc_serial.specs.Runs.{Stage, needs, inputs_at, uses_at, yield_at, after_group, after_groups, groups_before}
 use Rattle.roc_serial.proofs.Places.{away, before_before, before_itself, before_next, in_cases, listed_before, map_same, none_twice_before}
-use Rattle.roc_serial.specs.Inner.Groups.{same_group, is_group-same}
+use Rattle.roc_serial.proofs.SameGroups.{same_group, is_group-same}
 
 pub after-store : (B : Behaviour) (s : Stage) (r : TxnGroup) → (after_group B s r).store ≡ B.after r (inputs_at B s r) s.store
 unfolding after_group

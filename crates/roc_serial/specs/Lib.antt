@@ -3,4 +3,3 @@ pub mod Runs
 pub mod Orders
 pub mod Growth
 pub mod Counter
-pub mod Inner

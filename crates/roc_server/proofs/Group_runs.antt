@@ -11,7 +11,8 @@ use Rattle.roc_rows.specs.Store.{Store}
 use Rattle.roc_server.specs.declared.started.StartedGroup.{StartedGroup}
 use Rattle.roc_server.specs.Runs.{count_of_groups, groups_here, buffered_here, run_group, run_groups, take_all, group_call}
 use Rattle.roc_server.specs.Fits.{AreGroupsOf}
-use Rattle.roc_server.specs.Inner.Kept.{holding, is_same_group, unrun, AreSameGroups}
+use Rattle.roc_server.specs.Inner.Kept.{holding, is_same_group, AreSameGroups}
+use Rattle.roc_server.specs.State.{unrun}
 use Rattle.roc_server.specs.Inner.Runs.{buffered, RunsAt, RunsIfBuffered}
 use Rattle.roc_server.specs.State.{is_group, find_group, ServerState}
 use Rattle.roc_sequence.proofs.Found.{found_at, found_within, set_where_it_stands}

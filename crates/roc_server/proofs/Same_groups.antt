@@ -10,7 +10,8 @@ use Rattle.roc_plan.specs.Groups.{Plan}
 use Rattle.roc_server.specs.declared.started.StartedGroup.{StartedGroup}
 use Rattle.roc_server.specs.Runs.{group_call}
 use Rattle.roc_server.specs.Fits.{IsCallOf, AreGroupsOf}
-use Rattle.roc_server.specs.Inner.Kept.{is_same_group, unrun, AreSameGroups}
+use Rattle.roc_server.specs.Inner.Kept.{is_same_group, AreSameGroups}
+use Rattle.roc_server.specs.State.{unrun}
 use Rattle.roc_server.specs.State.{is_group, find_group, is_here}
 
 pub same_own : (e : StartedGroup) → is_same_group e e ≡ true

@@ -16,7 +16,8 @@ use Rattle.roc_server.specs.declared.started.StartedGroup.{StartedGroup}
 use Rattle.roc_server.specs.Fits.{IsCallOf, AreGroupsOf}
 use Rattle.roc_server.specs.Runs.{group_call}
 use Rattle.roc_server.specs.Start.{uses_cell}
-use Rattle.roc_server.specs.Inner.Kept.{unrun, AreSameGroups}
+use Rattle.roc_server.specs.State.{unrun}
+use Rattle.roc_server.specs.Inner.Kept.{AreSameGroups}
 use Rattle.roc_server.specs.Inner.Indexed.{spot_of, spots_from, IsIndexOf, IsSpotOf, IsSpotWithin}
 
 -- ---- where groups stand

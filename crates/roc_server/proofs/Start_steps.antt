@@ -10,7 +10,7 @@ use Rattle.roc_base.specs.declared.id.TxnId.{TxnId}
 use Rattle.roc_base.specs.declared.node.Shard.{Shard}
 use Rattle.roc_base.specs.TxnId.{is_txn, txn_cmp}
 use Rattle.roc_base.specs.Edge.{Dependency}
-use Rattle.roc_base.specs.Inner.Equalities.{is_txn-true}
+use Rattle.roc_base.specs.Equalities.{is_txn-true}
 use Rattle.roc_depgraph.specs.declared.known.KnownList.{KnownList}
 use Rattle.roc_depgraph.specs.Deps.{IsDecided}
 use Rattle.roc_group.specs.Group_run.{GroupCall}

@@ -33,7 +33,8 @@ use Rattle.roc_lists.specs.New.{AreNew}
 use Rattle.roc_lists.specs.Asking.{knowns_for, asked_of, fetch_from, waiting_after}
 use Rattle.roc_server.specs.Lists.{is_missing, missing_from, lists_after, taught}
 use Rattle.roc_server.specs.Inner.Indexed.{AreOut}
-use Rattle.roc_server.specs.Inner.Kept.{state_of, holding, unrun, is_left, AreSameGroups, IsConsistent}
+use Rattle.roc_server.specs.Inner.Kept.{state_of, holding, is_left, AreSameGroups, IsConsistent}
+use Rattle.roc_server.specs.State.{unrun}
 use Rattle.roc_server.specs.Inner.Taught.{KnowsMore, DecidedTaken, Teaches}
 use Rattle.roc_server.specs.State.{is_here, ServerState}
 use Rattle.roc_server.specs.Step.{Shows}

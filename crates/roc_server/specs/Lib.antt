@@ -5,4 +5,5 @@ pub mod Runs
 pub mod Lists
 pub mod Fits
 pub mod Step
+pub mod Codes
 pub mod Inner

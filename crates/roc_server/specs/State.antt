@@ -1,5 +1,5 @@
 -- What a server keeps, and what comes of a message: docs/PROTOCOL.md, "Server"
-use Rattle.std.specs.Prelude.{ℕ, Bool, ◌&&◌, ◌==◌, List, [], Option, find}
+use Rattle.std.specs.Prelude.{ℕ, Bool, ◌&&◌, ◌==◌, List, [], Option, None, find}
 use Rattle.std.specs.List.{list_any}
 use Rattle.roc_base.specs.declared.id.TxnId.{TxnId}
 use Rattle.roc_base.specs.declared.node.Shard.{Shard}
@@ -54,3 +54,7 @@ find_group id group started = find (is_group id group) started
 -- a group of the transaction started here
 abbrev pub is_here : TxnId → List StartedGroup → Bool
 is_here id started = list_any (λ e. is_txn e.id id) started
+
+-- a group without what it gave
+abbrev pub unrun : StartedGroup → StartedGroup
+unrun e = record e { later = None }

@@ -4,7 +4,7 @@ ghost use Rattle.std.specs.Option.{option_and_then, option_copied};
 ghost use Rattle.std.specs.List.{list_any};
 ghost use Rattle.roc_base.specs.TxnId.{is_txn};
 ghost use Rattle.roc_base.specs.Equality.{is_nums};
-ghost use Rattle.roc_places.specs.Inner.Passing.{passes_at};
+ghost use Rattle.roc_places.specs.Passing.{passes_at};
 ghost use Rattle.roc_server.specs.Runs.{count_of_groups};
 ghost use Rattle.roc_server.specs.Fits.{AreGroupsOf};
 ghost use Rattle.roc_server.specs.State.{is_group, find_group, is_here};

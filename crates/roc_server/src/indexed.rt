@@ -4,7 +4,7 @@ ghost use Rattle.std.specs.List.{AllByRecursion, list_any};
 ghost use Rattle.roc_rows.specs.declared.cell.Cell.{Cell};
 ghost use Rattle.roc_rows.specs.Cells.{is_cell};
 ghost use Rattle.roc_index.specs.Spots.{spots_at};
-ghost use Rattle.roc_places.specs.Inner.Passing.{passes_at};
+ghost use Rattle.roc_places.specs.Passing.{passes_at};
 ghost use Rattle.roc_server.specs.Start.{uses_cell};
 ghost use Rattle.roc_server.specs.Inner.Indexed.{spot_of, IsAddedAt, IsOutOf, IsOut, AreSpotsOf, AreOut};
 

@@ -40,7 +40,7 @@ pub struct Server {
 }
 
 impl Model for Server {
-    ghost use Rattle.roc_server.specs.Inner.Codes.{coded_state};
+    ghost use Rattle.roc_server.specs.Codes.{coded_state};
     ghost use Rattle.roc_server.specs.State.{ServerState};
 
     ghost Value = { ServerState };

@@ -31,7 +31,7 @@ pub struct World {
 
 impl Model for World {
     ghost use Rattle.std.specs.Coded.{codes};
-    ghost use Rattle.roc_server.specs.Inner.Codes.{coded_state};
+    ghost use Rattle.roc_server.specs.Codes.{coded_state};
     ghost use Rattle.roc_protocol.specs.World.{World};
 
     ghost Value = { World };

@@ -1,6 +1,6 @@
 -- Tables of paths between few numbers
 use Rattle.std.specs.Prelude.{◌≡◌, ℕ, ◌<◌, Bool, false, List, [], slice_index_or}
-use Rattle.roc_groups.specs.Inner.Paths.{leads_below}
+use Rattle.roc_groups.specs.Paths.{leads_below}
 
 -- the entry of a table
 abbrev pub entry : List (List Bool) → ℕ → ℕ → Bool

@@ -7,7 +7,7 @@ use Rattle.roc_base.specs.TxnId.{is_txn}
 use Rattle.roc_base.specs.Edge.{Dependency}
 use Rattle.roc_depgraph.specs.declared.known.KnownList.{KnownList}
 use Rattle.roc_depgraph.specs.Closure.{IsRisingListOf}
-use Rattle.roc_depgraph.specs.Inner.Visits.{IsNamed}
+use Rattle.roc_depgraph.specs.Visits.{IsNamed}
 use Rattle.roc_await.specs.declared.group.Group.{Group}
 use Rattle.roc_await.specs.declared.lack.Lack.{Lack}
 use Rattle.roc_await.specs.Lacks.{IsMissing}

@@ -1,29 +1,17 @@
--- The laws of ids of rows: their order, and how they are kept
-use Rattle.std.proofs.Common.{◌≡◌, ℕ, ℤ, pos, ◌-◌, true, List, ◌++◌, length, take, replicate, refl, sym, ap, ◌∙◌, arith}
+-- The laws of ids of rows that the type needs: its order, and how they are kept
+use Rattle.std.proofs.Common.{◌≡◌, ℕ, ℤ, pos, ◌-◌, true, List, ◌++◌, length, take, replicate, sym, ap, ◌∙◌, arith}
 use Rattle.std.proofs.lemmas.List.{length-take-le, take-append-drop}
-use Rattle.std.proofs.lemmas.Map.Lookups.{CmpEqualImpliesEq}
-use Rattle.std.specs.Cmp.{IsTotalOrder, IsPartialOrder, int_cmp_total, Equal-is, signed_Decides, po}
-use Rattle.std.specs.Cmp.Lexicographic.{lists_total, lists_ties}
+use Rattle.std.specs.Cmp.{IsPartialOrder, signed_Decides, po}
 use Rattle.std.specs.Hash as fed
 use Rattle.std.specs.Hash.{items_Alike, same_Alike}
-use Rattle.std.specs.Ordering.{int_cmp, eq_by_cmp, as_partial_cmp}
+use Rattle.std.specs.Ordering.{as_partial_cmp}
 use Rattle.roc_base.specs.Equality.{is_nums}
 use Rattle.roc_base.specs.Key.{key_cmp}
 use Rattle.roc_base.specs.Inner.Shape.{IsKeyShape}
-use Rattle.roc_base.specs.Inner.Equalities.{Decides-is_nums}
-
-pub key_cmp-total : IsTotalOrder key_cmp
-key_cmp-total = lists_total int_cmp_total
-
-pub is_nums-by_cmp : (x y : List ℤ) → is_nums x y ≡ eq_by_cmp key_cmp x y
-is_nums-by_cmp x y = lists_ties int_cmp (λ a b. refl) x y
+use Rattle.roc_base.specs.KeyOrder.{key_cmp-total, is_nums-by_cmp}
 
 pub key_partial_order : IsPartialOrder is_nums (as_partial_cmp key_cmp)
 key_partial_order = po key_cmp-total is_nums-by_cmp
-
--- ids that compare alike are one
-pub key_cmp-exact : CmpEqualImpliesEq key_cmp
-key_cmp-exact a b h = (Decides-is_nums a b).0 (is_nums-by_cmp a b ∙ (Equal-is (key_cmp a b)).1 h)
 
 -- equal ids are hashed alike
 pub key_alike : (x y : List ℤ) → is_nums x y ≡ true → fed.slice fed.i64 x ≡ fed.slice fed.i64 y

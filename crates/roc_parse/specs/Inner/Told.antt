@@ -7,7 +7,7 @@ use Rattle.roc_lang.specs.declared.fault.LangError.{LangError}
 use Rattle.roc_lang.specs.declared.fault.LangError.TheVariants.{At, NoMemory}
 use Rattle.roc_lang.specs.declared.fault.What.{What}
 use Rattle.roc_lang.specs.declared.fault.What.TheVariants.{Word, Token, Limit, End}
-use Rattle.roc_parse.specs.Inner.Stuck.{Stuck}
+use Rattle.roc_parse.specs.Stuck.{Stuck}
 use Rattle.roc_parse.specs.Fault.{is_above, last_line}
 
 abbrev pub what_of : (past : Bool) → tokens.Kind → What

@@ -1,11 +1,13 @@
 -- What the reading functions of the code return, seen without where it lies in memory.
-use Rattle.std.specs.Prelude.{◌≡◌, ℕ, List, map, Result, Ok, Err}
+use Rattle.std.specs.Prelude.{◌≡◌, ℕ, List, [], map, Option, Some, None, Result, Ok, Err}
+use Rattle.std.specs.Option.{option_map, option_to_list}
 use Rattle.std.specs.String.{string_bytes}
 use lib.Chars.{codes}
 use Rattle.roc_lang.specs.Syntax.{Expression}
 use Rattle.roc_lang.specs.Syntax as syntax
 use Rattle.roc_lang.specs.Tree.{expression_tree, table_tree, init_tree, procedure_tree}
 use Rattle.roc_lang.specs.Tokens as tokens
+use Rattle.roc_parse.specs.declared.lexer.TokenStep.{TokenStep}
 use Rattle.roc_parse.specs.declared.token.Token.{Token}
 use Rattle.roc_parse.specs.declared.token.Kind.{Kind}
 use Rattle.roc_parse.specs.declared.token.Kind.TheVariants as kinds
@@ -15,8 +17,9 @@ use Rattle.roc_parse.specs.declared.refusal.Refusal.TheVariants as refusals
 use Rattle.roc_parse.specs.declared.deep.Deep.{Deep}
 use Rattle.roc_parse.specs.declared.deep.Function.{Function}
 use Rattle.roc_parse.specs.declared.deep.Function.TheVariants as functions
-use Rattle.roc_parse.specs.Inner.Stuck.{Stuck}
-use Rattle.roc_parse.specs.Inner.Reading as reading
+use Rattle.roc_parse.specs.Lexed.{IsLexed, IsBroken}
+use Rattle.roc_parse.specs.Stuck.{Stuck}
+use Rattle.roc_parse.specs.Reading as reading
 
 abbrev pub kind_view : Kind → tokens.Kind
 kind_view (kinds.Word word) = tokens.Word (string_bytes word)
@@ -61,3 +64,12 @@ parts_tree p = record {
   inits = map init_tree p.inits.items;
   procedures = map procedure_tree p.procedures.items;
 }
+
+-- the tokens of a step, and the line and the bytes behind it
+abbrev pub step_view : TokenStep → List tokens.Token × ℕ × List ℕ
+step_view s = (option_to_list (option_map token_view s.token), s.line, s.rest.now)
+
+-- the tokens of a text: all of them, or those up to the place where the text is broken, by its line
+abbrev pub IsScanned : List ℕ → List tokens.Token → Option ℕ → Type 0
+IsScanned text tokens None = (line : ℕ) × IsLexed 1 text tokens line []
+IsScanned text tokens (Some line) = (rest : List ℕ) × IsLexed 1 text tokens line rest × IsBroken line rest

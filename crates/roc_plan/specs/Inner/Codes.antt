@@ -2,7 +2,7 @@
 use Rattle.std.specs.Prelude.{ℕ, Bool, List, refl}
 use Rattle.std.specs.Coded.{Coded, code_by, coded×, coded_ℕ, coded_bool, coded_list}
 use Rattle.roc_program.specs.Program.{Workload}
-use Rattle.roc_program.specs.Inner.Codes.{workload_code}
+use Rattle.roc_program.specs.Codes.{workload_code}
 use Rattle.roc_plan.specs.Groups.{Group, Plan}
 
 abbrev group_code : Coded Group

@@ -1,5 +1,5 @@
 -- What a server's fields hold, as the definitions see it
-use Rattle.std.specs.Prelude.{◌≡◌, ◌&&◌, not, Bool, false, List, None, map}
+use Rattle.std.specs.Prelude.{◌≡◌, ◌&&◌, not, Bool, false, List, map}
 use Rattle.std.specs.List.{AllByRecursion, flat_map}
 use Rattle.std.specs.List.Sorted.{IsStrictlySortedBy}
 use Rattle.roc_sequence.specs.Places.{IsListed, NoneTwice}
@@ -16,7 +16,7 @@ use Rattle.roc_rows.specs.Store.{Store}
 use Rattle.roc_server.specs.declared.kept.Kept.{Kept}
 use Rattle.roc_server.specs.declared.started.StartedGroup.{StartedGroup}
 use Rattle.roc_server.specs.declared.starts.Request.{Request}
-use Rattle.roc_server.specs.State.{is_group, is_here, ServerState}
+use Rattle.roc_server.specs.State.{is_group, is_here, unrun, ServerState}
 use Rattle.roc_server.specs.Inner.Indexed.{IsIndexOf}
 
 abbrev pub state_of : Shard → Kept → Bool → ServerState
@@ -45,10 +45,6 @@ pub record IsConsistent (k : Kept) : Type 0 where
   pub lacks : AreLacks k.deps k.lacks
   pub index : IsIndexOf k.index k.decided k.started
   pub none_left : AllByRecursion (λ d. is_left k d ≡ false) (flat_map (λ list. list.edges) k.deps)
-
--- a group without what it gave
-abbrev pub unrun : StartedGroup → StartedGroup
-unrun e = record e { later = None }
 
 -- the same groups, whatever they gave
 abbrev pub AreSameGroups : List StartedGroup → List StartedGroup → Type 0

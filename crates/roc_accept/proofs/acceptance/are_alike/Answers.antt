@@ -2,7 +2,7 @@ use Rattle.std.proofs.Common.{ℕ, List, length, refl, sym, subst, ◌∙◌}
 use Rattle.std.proofs.lemmas.Bool.{false≢true}
 use Rattle.roc_program.specs.Pieces.{pieces_in}
 use Rattle.roc_conflict.specs.Classes.{is_immediate}
-use Rattle.roc_groups.specs.Inner.Parts.{IsPart}
+use Rattle.roc_groups.specs.Parts.{IsPart}
 use Rattle.roc_accept.specs.Inner.Tests.{IsAlike}
 use Rattle.roc_accept.proofs.Each.{one_more, not_each, each, of_each}
 use Rattle.roc_accept.proofs.acceptance.are_alike.Goals as goal

@@ -1,6 +1,6 @@
 use Rattle.std.proofs.Common.{◌≡◌, ◌∙◌, suc, ◌+◌, Bool, ◌&&◌, ◌||◌, map, sym, ap, arith}
 use Rattle.roc_groups.specs.Accepted.{group_feeds}
-use Rattle.roc_groups.specs.Inner.Paths.{leads_below}
+use Rattle.roc_groups.specs.Paths.{leads_below}
 use Rattle.roc_accept.specs.Inner.Paths.{entry}
 use Rattle.roc_groups.proofs.Paths.{below_more}
 use Rattle.roc_accept.proofs.circle.paths_of.Goals as goal

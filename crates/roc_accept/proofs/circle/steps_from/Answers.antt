@@ -4,7 +4,7 @@ use Rattle.roc_program.specs.Pieces.{pieces_in}
 use Rattle.roc_groups.specs.Groups.{group_at}
 use Rattle.roc_groups.specs.Flow.{feeds}
 use Rattle.roc_groups.specs.Accepted.{group_feeds}
-use Rattle.roc_groups.specs.Inner.Parts.{IsPart}
+use Rattle.roc_groups.specs.Parts.{IsPart}
 use Rattle.roc_accept.proofs.Each.{here, of_each}
 use Rattle.roc_accept.proofs.Circling.{row_more}
 use Rattle.roc_accept.proofs.circle.steps_from.Goals as goal

@@ -1,6 +1,6 @@
 use Rattle.std.proofs.Common.{ℕ, List, refl, sym, subst, ◌∙◌}
 use Rattle.std.proofs.lemmas.Bool.{false≢true}
-use Rattle.roc_groups.specs.Inner.Parts.{IsPart}
+use Rattle.roc_groups.specs.Parts.{IsPart}
 use Rattle.roc_accept.proofs.Each.{one_more, not_each, each}
 use Rattle.roc_accept.proofs.partition.are_parts.Goals as goal
 

@@ -1,4 +1,4 @@
-use Rattle.roc_groups.specs.Inner.Parts.{IsPart}
+use Rattle.roc_groups.specs.Parts.{IsPart}
 use Rattle.roc_accept.proofs.Each.{OfFirst}
 use Rattle.roc_accept.proofs.partition.are_parts.Given as goal
 

@@ -1,5 +1,5 @@
 use Rattle.std.proofs.Common.{take}
-use Rattle.roc_depgraph.specs.Inner.Visits.{Visits}
+use Rattle.roc_depgraph.specs.Visits.{Visits}
 use Rattle.roc_ancestors.proofs.search.visit.Given as goal
 
 abbrev pub invariant-loop-edge : goal.invariant-loop-edge

@@ -1,7 +1,7 @@
 use Rattle.std.proofs.Common.{◌≡◌, ◌∙◌, sym, ap, rules}
 use Rattle.std.proofs.lemmas.List.Sorted.{IsPartitionPoint-from_clause}
 use Rattle.roc_base.specs.TxnId.{is_txn, txn_lt}
-use Rattle.roc_base.specs.Inner.Equalities.{is_txn-true}
+use Rattle.roc_base.specs.Equalities.{is_txn-true}
 use Rattle.roc_base.specs.Inner.Place.{entry_place}
 use Rattle.roc_base.proofs.Place.{entry_place-partition, IsPartitionedBy-rising, IsAt-place, IsGapFor-other, IsGapFor-end}
 use Rattle.roc_base.proofs.edges.place.Goals as goal

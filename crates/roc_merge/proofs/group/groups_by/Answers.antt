@@ -2,7 +2,7 @@ use Rattle.std.proofs.Common.{ℕ, sym, ap, ◌∙◌}
 use Rattle.std.proofs.Common.{◌++◌, List}
 use Rattle.roc_program.proofs.Ranges.{flat_map-range_more}
 use Rattle.roc_merge.specs.Inner.Tables.{holds}
-use Rattle.roc_merge.specs.Inner.Grouped.{group_from}
+use Rattle.roc_merge.specs.Grouped.{group_from}
 use Rattle.roc_merge.proofs.group.groups_by.Goals as goal
 
 pub loop-piece-preserved : goal.loop-piece-preserved

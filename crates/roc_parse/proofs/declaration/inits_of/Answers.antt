@@ -3,10 +3,10 @@ use Rattle.std.proofs.lemmas.List.{map_push}
 use lib.Chars.{codes}
 use Rattle.roc_lang.specs.Grammar.{standard}
 use Rattle.roc_lang.specs.Tree.{init_tree}
-use Rattle.roc_parse.specs.Inner.Stuck.{head_is}
+use Rattle.roc_parse.specs.Stuck.{head_is}
 use Rattle.roc_parse.specs.Inner.Views.{token_views}
-use Rattle.roc_parse.specs.Inner.Parts.{has_word}
-use Rattle.roc_parse.specs.Inner.Reading.{init_at}
+use Rattle.roc_parse.specs.Parts.{has_word}
+use Rattle.roc_parse.specs.Reading.{init_at}
 use Rattle.roc_parse.proofs.Turns.{many_starts, many_stops, many_is_full, many_refuses, many_goes_on}
 use Rattle.roc_parse.proofs.declaration.inits_of.Goals as goal
 

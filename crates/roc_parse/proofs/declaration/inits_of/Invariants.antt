@@ -3,8 +3,8 @@ use lib.Chars.{codes}
 use Rattle.roc_lang.specs.Grammar.{standard}
 use Rattle.roc_lang.specs.Tree.{init_tree}
 use Rattle.roc_parse.specs.Inner.Views.{token_views}
-use Rattle.roc_parse.specs.Inner.Parts.{has_word, with_front, many_at}
-use Rattle.roc_parse.specs.Inner.Reading.{init_at, inits_at}
+use Rattle.roc_parse.specs.Parts.{has_word, with_front, many_at}
+use Rattle.roc_parse.specs.Reading.{init_at, inits_at}
 use Rattle.roc_parse.proofs.declaration.inits_of.Given as goal
 
 abbrev pub invariant-loop : goal.invariant-loop

@@ -1,9 +1,9 @@
 use Rattle.std.proofs.Common.{◌≡◌, ◌++◌, ◌∷◌, [], ◌-◌, true, false, FitsSigned, w64, refl, rules}
 use Rattle.std.proofs.lemmas.Int.{to_z-of_z}
 use Rattle.roc_lang.specs.Grammar.{standard, comma}
-use Rattle.roc_parse.specs.Inner.Stuck.{head_is}
+use Rattle.roc_parse.specs.Stuck.{head_is}
 use Rattle.roc_parse.specs.Inner.Views.{token_views}
-use Rattle.roc_parse.specs.Inner.Parts.{has_mark, behind_comma_at, signed_at}
+use Rattle.roc_parse.specs.Parts.{has_mark, behind_comma_at, signed_at}
 use Rattle.roc_parse.proofs.Turns.{many_stops, many_is_full, many_refuses, many_goes_on}
 use Rattle.roc_parse.proofs.declaration.signed_behind.Goals as goal
 

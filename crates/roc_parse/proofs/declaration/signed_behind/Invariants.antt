@@ -1,7 +1,7 @@
 use Rattle.std.proofs.Common.{◌≡◌, ◌-◌}
 use Rattle.roc_lang.specs.Grammar.{standard, comma}
 use Rattle.roc_parse.specs.Inner.Views.{token_views}
-use Rattle.roc_parse.specs.Inner.Parts.{has_mark, with_front, many_at, behind_comma_at, separated_behind, signed_at}
+use Rattle.roc_parse.specs.Parts.{has_mark, with_front, many_at, behind_comma_at, separated_behind, signed_at}
 use Rattle.roc_parse.proofs.declaration.signed_behind.Given as goal
 
 abbrev pub invariant-loop : goal.invariant-loop

@@ -1,10 +1,10 @@
 use Rattle.std.proofs.Common.{◌≡◌, ℕ, ◌-◌, Bool, true, false, List, ap, arith}
 use Rattle.roc_lang.specs.Tokens.{Token}
 use Rattle.roc_lang.specs.Grammar.{star}
-use Rattle.roc_parse.specs.Inner.Stuck.{Reading, head_is}
+use Rattle.roc_parse.specs.Stuck.{Reading, head_is}
 use Rattle.roc_parse.specs.Inner.Views.{token_views, deep_view}
-use Rattle.roc_parse.specs.Inner.Parts.{has_mark}
-use Rattle.roc_parse.specs.Inner.Reading.{Deep, is_sign, atom_at, factor_at, times, term_at, signed_term_at, plus_or_minus}
+use Rattle.roc_parse.specs.Parts.{has_mark}
+use Rattle.roc_parse.specs.Reading.{Deep, is_sign, atom_at, factor_at, times, term_at, signed_term_at, plus_or_minus}
 use Rattle.roc_parse.proofs.Turns.{deep_is_sum, loop_stops, loop_past, loop_is_full, loop_refuses, loop_goes_on}
 use Rattle.roc_parse.proofs.expression.+expression.Goals as goal
 

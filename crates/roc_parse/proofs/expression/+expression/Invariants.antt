@@ -1,6 +1,6 @@
 use Rattle.std.proofs.Common.{◌≡◌, ◌+◌, ◌-◌, ◌*◌, ◌<◌, ◌≤◌}
 use Rattle.roc_parse.specs.Inner.Views.{token_views, deep_view}
-use Rattle.roc_parse.specs.Inner.Reading.{atom_at, factors_at, term_at, sums_at}
+use Rattle.roc_parse.specs.Reading.{atom_at, factors_at, term_at, sums_at}
 use Rattle.roc_parse.proofs.expression.+expression.Given as goal
 
 -- the room first, and then which function calls which in the same room

@@ -1,5 +1,5 @@
 use Rattle.std.proofs.Common.{◌≡◌, ◌+◌, drop}
-use Rattle.roc_parse.specs.Inner.Scanning.{line_run}
+use Rattle.roc_parse.specs.Scanning.{line_run}
 use Rattle.roc_parse.proofs.lexer.line_run.Given as goal
 
 abbrev pub invariant-loop-i : goal.invariant-loop-i

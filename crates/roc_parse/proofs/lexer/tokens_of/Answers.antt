@@ -2,7 +2,7 @@ use Rattle.std.proofs.Common.{◌<◌, length, sym, ap, ◌∙◌, arith}
 use Rattle.std.specs.Option.{option_map}
 use Rattle.std.proofs.lemmas.Bool.Decides.{nat_tests}
 use Rattle.roc_parse.specs.Inner.Views.{token_views}
-use Rattle.roc_parse.specs.Inner.Scanning.{step_view}
+use Rattle.roc_parse.specs.Inner.Views.{step_view}
 use Rattle.roc_parse.proofs.Runs.{reached_first, reached_next, reached_shorter, reached_break}
 use Rattle.roc_parse.proofs.lexer.tokens_of.Goals as goal
 

@@ -1,5 +1,5 @@
 use Rattle.std.proofs.Common.{◌≡◌, drop}
-use Rattle.roc_parse.specs.Inner.Scanning.{value_from}
+use Rattle.roc_parse.specs.Scanning.{value_from}
 use Rattle.roc_parse.proofs.lexer.value_from.Given as goal
 
 abbrev pub invariant-loop-byte : goal.invariant-loop-byte

@@ -2,8 +2,8 @@ use Rattle.std.proofs.Common.{◌≡◌, ◌-◌, map}
 use Rattle.roc_lang.specs.Grammar.{standard}
 use Rattle.roc_lang.specs.Tree.{piece_tree}
 use Rattle.roc_parse.specs.Inner.Views.{token_views}
-use Rattle.roc_parse.specs.Inner.Parts.{with_front, many_at}
-use Rattle.roc_parse.specs.Inner.Reading.{starts_piece, piece_at, pieces_behind}
+use Rattle.roc_parse.specs.Parts.{with_front, many_at}
+use Rattle.roc_parse.specs.Reading.{starts_piece, piece_at, pieces_behind}
 use Rattle.roc_parse.proofs.procedure.pieces_behind.Given as goal
 
 abbrev pub invariant-loop : goal.invariant-loop

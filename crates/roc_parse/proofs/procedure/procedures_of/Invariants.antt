@@ -3,8 +3,8 @@ use lib.Chars.{codes}
 use Rattle.roc_lang.specs.Grammar.{standard}
 use Rattle.roc_lang.specs.Tree.{procedure_tree}
 use Rattle.roc_parse.specs.Inner.Views.{token_views}
-use Rattle.roc_parse.specs.Inner.Parts.{has_word, with_front, many_at}
-use Rattle.roc_parse.specs.Inner.Reading.{procedure_at, procedures_at}
+use Rattle.roc_parse.specs.Parts.{has_word, with_front, many_at}
+use Rattle.roc_parse.specs.Reading.{procedure_at, procedures_at}
 use Rattle.roc_parse.proofs.procedure.procedures_of.Given as goal
 
 abbrev pub invariant-loop : goal.invariant-loop

@@ -2,9 +2,9 @@ use Rattle.std.proofs.Common.{◌≡◌, ◌++◌, ◌∷◌, [], ◌-◌, map, 
 use Rattle.std.proofs.lemmas.List.{map_push}
 use Rattle.roc_lang.specs.Grammar.{standard}
 use Rattle.roc_lang.specs.Tree.{statement_tree}
-use Rattle.roc_parse.specs.Inner.Stuck.{head_is}
+use Rattle.roc_parse.specs.Stuck.{head_is}
 use Rattle.roc_parse.specs.Inner.Views.{token_views}
-use Rattle.roc_parse.specs.Inner.Reading.{starts_statement, statement_at}
+use Rattle.roc_parse.specs.Reading.{starts_statement, statement_at}
 use Rattle.roc_parse.proofs.Turns.{many_starts, many_stops, many_is_full, many_refuses, many_goes_on}
 use Rattle.roc_parse.proofs.statement.body_of.Goals as goal
 

@@ -2,8 +2,8 @@ use Rattle.std.proofs.Common.{◌≡◌, ◌-◌, map}
 use Rattle.roc_lang.specs.Grammar.{standard}
 use Rattle.roc_lang.specs.Tree.{statement_tree}
 use Rattle.roc_parse.specs.Inner.Views.{token_views}
-use Rattle.roc_parse.specs.Inner.Parts.{with_front, many_at}
-use Rattle.roc_parse.specs.Inner.Reading.{starts_statement, statement_at, body_at}
+use Rattle.roc_parse.specs.Parts.{with_front, many_at}
+use Rattle.roc_parse.specs.Reading.{starts_statement, statement_at, body_at}
 use Rattle.roc_parse.proofs.statement.body_of.Given as goal
 
 abbrev pub invariant-loop : goal.invariant-loop

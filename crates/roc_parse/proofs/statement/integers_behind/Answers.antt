@@ -2,10 +2,10 @@ use Rattle.std.proofs.Common.{◌≡◌, ◌++◌, ◌∷◌, [], ◌-◌, map, 
 use Rattle.std.proofs.lemmas.List.{map_push}
 use Rattle.roc_lang.specs.Grammar.{standard, comma}
 use Rattle.roc_lang.specs.Tree.{expression_tree}
-use Rattle.roc_parse.specs.Inner.Stuck.{head_is}
+use Rattle.roc_parse.specs.Stuck.{head_is}
 use Rattle.roc_parse.specs.Inner.Views.{token_views}
-use Rattle.roc_parse.specs.Inner.Parts.{has_mark, behind_comma_at}
-use Rattle.roc_parse.specs.Inner.Reading.{expression_at}
+use Rattle.roc_parse.specs.Parts.{has_mark, behind_comma_at}
+use Rattle.roc_parse.specs.Reading.{expression_at}
 use Rattle.roc_parse.proofs.Turns.{many_stops, many_is_full, many_refuses, many_goes_on}
 use Rattle.roc_parse.proofs.statement.integers_behind.Goals as goal
 

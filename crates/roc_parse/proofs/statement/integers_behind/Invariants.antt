@@ -2,8 +2,8 @@ use Rattle.std.proofs.Common.{◌≡◌, ◌-◌, map}
 use Rattle.roc_lang.specs.Grammar.{standard, comma}
 use Rattle.roc_lang.specs.Tree.{expression_tree}
 use Rattle.roc_parse.specs.Inner.Views.{token_views}
-use Rattle.roc_parse.specs.Inner.Parts.{has_mark, with_front, many_at, behind_comma_at, separated_behind}
-use Rattle.roc_parse.specs.Inner.Reading.{expression_at}
+use Rattle.roc_parse.specs.Parts.{has_mark, with_front, many_at, behind_comma_at, separated_behind}
+use Rattle.roc_parse.specs.Reading.{expression_at}
 use Rattle.roc_parse.proofs.statement.integers_behind.Given as goal
 
 abbrev pub invariant-loop : goal.invariant-loop

@@ -6,7 +6,7 @@ use Rattle.roc_program.specs.Parts as view
 use Rattle.roc_program.proofs.Rows.{read-map}
 use Rattle.roc_conflict.specs.Classes.{is_immediate}
 use Rattle.roc_groups.specs.Groups.{piece_numbered, groups_in, group_at}
-use Rattle.roc_groups.specs.Inner.Parts.{IsPart}
+use Rattle.roc_groups.specs.Parts.{IsPart}
 use Rattle.roc_groups.proofs.Parts.{parts_of_grouping}
 use Rattle.roc_plan.specs.declared.group.Class.{Class}
 use Rattle.roc_plan.specs.declared.group.Class.TheVariants.{Immediate, Deferrable}

@@ -6,7 +6,7 @@ use Rattle.roc_program.specs.WellFormed.{IsProcedure}
 use Rattle.roc_conflict.specs.Classes.{is_immediate}
 use Rattle.roc_groups.specs.Groups.{piece_numbered, groups_in}
 use Rattle.roc_groups.specs.Grouping.{IsGrouping}
-use Rattle.roc_plan.specs.Inner.Sized.{IsSized}
+use Rattle.roc_plan.specs.Sized.{IsSized}
 use Rattle.roc_planning.specs.Inner.Built.{AreDrawn}
 use Rattle.roc_plan.proofs.Sized.{sized, lent}
 use Rattle.roc_planning.proofs.Drawn.{all_more, all_drawn}

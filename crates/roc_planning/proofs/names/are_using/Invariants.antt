@@ -2,7 +2,7 @@ use Rattle.std.proofs.Common.{◌≡◌, drop}
 use Rattle.std.specs.List.{list_any}
 use Rattle.roc_program.specs.Parts as view
 use Rattle.roc_program.specs.Names.{piece_uses}
-use Rattle.roc_plan.specs.Inner.Sized.{piece_at}
+use Rattle.roc_plan.specs.Sized.{piece_at}
 use Rattle.roc_planning.proofs.names.are_using.Given as goal
 
 abbrev pub invariant-loop-piece : goal.invariant-loop-piece

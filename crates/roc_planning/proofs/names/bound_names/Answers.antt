@@ -5,7 +5,7 @@ use Rattle.roc_sequence.proofs.Fronts.{front_whole}
 use Rattle.roc_sequence.proofs.Holds.{all_at}
 use Rattle.roc_program.specs.Parts as view
 use Rattle.roc_groups.specs.Groups.{groups_in}
-use Rattle.roc_groups.specs.Inner.Parts.{IsPart}
+use Rattle.roc_groups.specs.Parts.{IsPart}
 use Rattle.roc_groups.proofs.Parts.{parts_of_grouping}
 use Rattle.roc_plan.specs.Groups.{bound_in}
 use Rattle.roc_planning.proofs.Few.{few_groups_of}

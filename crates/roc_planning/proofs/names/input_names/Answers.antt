@@ -5,7 +5,7 @@ use Rattle.roc_program.specs.Parts as view
 use Rattle.roc_program.specs.Program.{Procedure}
 use Rattle.roc_accept.proofs.Uses.{any_seen}
 use Rattle.roc_plan.specs.Groups.{bound_in, inputs_in}
-use Rattle.roc_plan.specs.Inner.Sized.{piece_at}
+use Rattle.roc_plan.specs.Sized.{piece_at}
 use Rattle.roc_planning.proofs.Built_up.{range_passed, range_done}
 use Rattle.roc_planning.proofs.names.input_names.Goals as goal
 use Rattle.roc_planning.proofs.names.input_names.Goals.{then-is_taken+in_ok-push, else-is_taken}

@@ -2,7 +2,7 @@ use Rattle.std.proofs.Common.{◌≡◌, ◌-◌, not, ◌&&◌, ◌++◌, filte
 use Rattle.std.specs.List.{list_any, range_with_len}
 use Rattle.roc_program.specs.Parts as view
 use Rattle.roc_program.specs.Names.{has_name, piece_uses}
-use Rattle.roc_plan.specs.Inner.Sized.{piece_at}
+use Rattle.roc_plan.specs.Sized.{piece_at}
 use Rattle.roc_planning.proofs.names.input_names.Given as goal
 
 abbrev pub invariant-loop-name : goal.invariant-loop-name

@@ -3,7 +3,7 @@ use Rattle.std.specs.List.{flat_map}
 use Rattle.roc_program.specs.Names.{bindings_of}
 use Rattle.roc_program.specs.Parts as view
 use Rattle.roc_sequence.proofs.Fronts.{front_whole}
-use Rattle.roc_plan.specs.Inner.Sized.{piece_at}
+use Rattle.roc_plan.specs.Sized.{piece_at}
 use Rattle.roc_planning.proofs.Built_up.{flat_of_map}
 use Rattle.roc_planning.proofs.names.names_bound.Goals as goal
 

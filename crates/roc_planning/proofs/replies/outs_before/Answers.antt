@@ -5,7 +5,7 @@ use Rattle.roc_program.specs.LookUps.{no_piece}
 use Rattle.roc_program.specs.Names.{output, outputs}
 use Rattle.roc_program.specs.Parts as view
 use Rattle.roc_program.proofs.Rows.{read-map}
-use Rattle.roc_plan.specs.Inner.Sized.{piece_at}
+use Rattle.roc_plan.specs.Sized.{piece_at}
 use Rattle.roc_planning.specs.Inner.Counts.{is_out}
 use Rattle.roc_planning.proofs.Few.{few_here, few_added}
 use Rattle.roc_plan.proofs.Taken.{flat_taken}

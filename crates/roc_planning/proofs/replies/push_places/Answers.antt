@@ -7,7 +7,7 @@ use Rattle.roc_program.specs.Parts as view
 use Rattle.roc_program.proofs.Rows.{read-map}
 use Rattle.roc_sequence.proofs.Ranges.{range_more}
 use Rattle.roc_plan.specs.Groups.{pieces_at}
-use Rattle.roc_plan.specs.Inner.Sized.{piece_at}
+use Rattle.roc_plan.specs.Sized.{piece_at}
 use Rattle.roc_planning.specs.Inner.Counts.{is_out}
 use Rattle.roc_planning.proofs.Few.{few_here, few_added}
 use Rattle.roc_planning.proofs.Counted.{outs_are}

@@ -1,6 +1,6 @@
 use Rattle.std.proofs.Common.{◌==◌, find, ◌∙◌}
 use Rattle.roc_base.specs.TxnId.{is_txn}
-use Rattle.roc_places.specs.Inner.Passing.{passes_at}
+use Rattle.roc_places.specs.Passing.{passes_at}
 use Rattle.roc_places.proofs.Standing.{found_among}
 use Rattle.roc_server.specs.declared.started.StartedGroup.{StartedGroup}
 use Rattle.roc_server.proofs.groups.place_of_group.Goals as goal

@@ -1,5 +1,5 @@
 use Rattle.std.proofs.Common.{◌≡◌, ◌==◌, drop, find}
-use Rattle.roc_places.specs.Inner.Passing.{passes_at}
+use Rattle.roc_places.specs.Passing.{passes_at}
 use Rattle.roc_server.proofs.groups.place_with_number.Given as goal
 
 abbrev pub invariant-loop-at : goal.invariant-loop-at

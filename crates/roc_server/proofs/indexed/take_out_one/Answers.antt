@@ -4,7 +4,7 @@ use Rattle.std.proofs.lemmas.List.{take_all}
 use Rattle.std.specs.List.{list_any}
 use Rattle.roc_rows.specs.declared.cell.Cell.{Cell}
 use Rattle.roc_index.specs.Spots.{spots_at, without}
-use Rattle.roc_places.specs.Inner.Passing.{passes_at}
+use Rattle.roc_places.specs.Passing.{passes_at}
 use Rattle.roc_places.proofs.Standing.{any_among}
 use Rattle.roc_base.specs.TxnId.{is_txn}
 use Rattle.roc_server.specs.declared.started.StartedGroup.{StartedGroup}

@@ -1,6 +1,6 @@
 use Rattle.std.proofs.Common.{take}
 use Rattle.std.specs.List.{list_any}
-use Rattle.roc_places.specs.Inner.Passing.{passes_at}
+use Rattle.roc_places.specs.Passing.{passes_at}
 use Rattle.roc_server.specs.Start.{uses_cell}
 use Rattle.roc_server.specs.Inner.Indexed.{IsOutOf}
 use Rattle.roc_server.proofs.indexed.take_out_one.Given as goal

@@ -1,5 +1,5 @@
 use Rattle.std.proofs.Common.{◌∙◌, sym, rules}
-use Rattle.roc_base.specs.Inner.Equalities.{Decides-is_edges}
+use Rattle.roc_base.specs.Equalities.{Decides-is_edges}
 use Rattle.roc_base.proofs.edges.EdgesPartialEq.eq.Goals as goal
 
 pub returns-clause-test : goal.returns-clause-test

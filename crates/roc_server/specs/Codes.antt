@@ -4,10 +4,10 @@ use Rattle.std.specs.Coded.{Coded, code_by, coded×, coded_ℕ, coded_ℤ, coded
 use Rattle.roc_base.specs.declared.id.TxnId.{TxnId}
 use Rattle.roc_base.specs.Edge.{Dependency}
 use Rattle.roc_depgraph.specs.declared.known.KnownList.{KnownList}
-use Rattle.roc_rows.specs.Inner.Cells.{coded_cell}
+use Rattle.roc_rows.specs.Codes.{coded_cell}
 use Rattle.roc_rows.specs.declared.cell.Cell.{Cell}
 use Rattle.roc_rows.specs.Store.{Store}
-use Rattle.roc_rows.specs.Inner.Kept.{coded_store}
+use Rattle.roc_rows.specs.Codes.{coded_store}
 use Rattle.roc_group.specs.declared.access.Access.{Access}
 use Rattle.roc_server.specs.declared.started.StartedGroup.{StartedGroup}
 use Rattle.roc_await.specs.declared.waits.Asked.{Asked}

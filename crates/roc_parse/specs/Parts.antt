@@ -6,7 +6,7 @@ use lib.Chars.{codes}
 use Rattle.roc_lang.specs.Tokens.{Kind, Word, Integer, Mark, Token}
 use Rattle.roc_lang.specs.Syntax.{Name}
 use Rattle.roc_lang.specs.Grammar.{is_reserved, comma, plus, minus}
-use Rattle.roc_parse.specs.Inner.Stuck.{Reading, ◌>>=◌, refuse, exceed, head_is}
+use Rattle.roc_parse.specs.Stuck.{Reading, ◌>>=◌, refuse, exceed, head_is}
 
 -- ---- single tokens
 

@@ -1,10 +1,9 @@
--- Procedures within the limits of the language, and values of names
+-- Procedures within the limits of the language
 use Rattle.std.specs.Prelude.{◌≡◌, ℕ, ◌-◌, ◌≤◌, length, slice_index_or}
 use Rattle.std.specs.List.{AllByRecursion, range_with_len}
 use Rattle.roc_program.specs.LookUps.{no_piece}
 use Rattle.roc_program.specs.Names.{bindings}
 use Rattle.roc_program.specs.Program.{Procedure, Piece}
-use Rattle.roc_program.specs.Values.{Environment, value_of_name}
 
 -- the piece of this number
 abbrev pub piece_at : Procedure → ℕ → Piece
@@ -17,7 +16,3 @@ pub record IsSized (procedure : Procedure) : Type 0 where
   pub few_names : procedure.names ≤ 1032
   pub few_pieces : length procedure.pieces ≤ 16
   pub statements : AllByRecursion (λ piece. length piece.body ≤ 64) procedure.pieces
-
--- two environments give each name the same value
-abbrev pub AgreeEverywhere : (xs ys : Environment) → Type 0
-AgreeEverywhere xs ys = (n : ℕ) → value_of_name xs n ≡ value_of_name ys n

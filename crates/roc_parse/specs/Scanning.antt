@@ -1,13 +1,10 @@
 -- The steps of a text are found, one after the other. What a step is stands in Tokens.antt of roc_lang.
 use Rattle.std.specs.Prelude.{ℕ, suc, ◌+◌, ◌-◌, ◌*◌, ◌^◌, nat_le, ◌==◌, if◌then◌else◌, List, [], ◌∷◌, take, drop, Option, Some, None}
-use Rattle.std.specs.Option.{option_map, option_to_list}
+use Rattle.std.specs.Option.{option_map}
 use Rattle.std.specs.Char.{is_ascii_alphabetic, is_ascii_digit}
 use Rattle.roc_lang.specs.declared.limits.TheConstants.{WORD_BYTES}
 use Rattle.roc_lang.specs.Tokens as tokens
 use Rattle.roc_lang.specs.Tokens.{is_word_byte, is_mark, is_blank, line_after}
-use Rattle.roc_parse.specs.declared.lexer.TokenStep.{TokenStep}
-use Rattle.roc_parse.specs.Inner.Views.{token_view}
-use Rattle.roc_parse.specs.Lexed.{IsLexed, IsBroken}
 
 -- how many letters, digits and _ stand in front
 unfoldable pub word_run : List ℕ → ℕ
@@ -62,11 +59,3 @@ scanned_step line (b ∷ bs) =
     else if b == 47 then comment_next line bs
     else if is_mark b then Some (token_at line (tokens.Mark b), line, bs)
     else None
-
-abbrev pub step_view : TokenStep → List tokens.Token × ℕ × List ℕ
-step_view s = (option_to_list (option_map token_view s.token), s.line, s.rest.now)
-
--- the tokens of a text: all of them, or those up to the place where the text is broken, by its line
-abbrev pub IsScanned : List ℕ → List tokens.Token → Option ℕ → Type 0
-IsScanned text tokens None = (line : ℕ) × IsLexed 1 text tokens line []
-IsScanned text tokens (Some line) = (rest : List ℕ) × IsLexed 1 text tokens line rest × IsBroken line rest
