@@ -8,6 +8,7 @@ use Rattle.roc_sequence.specs.Lists.{Has}
 use Rattle.roc_sequence.specs.Rising.{IsRising}
 use Rattle.roc_sequence.proofs.Holds.{all_has, has_all, all_weaker, any_has, has_any}
 use Rattle.roc_sequence.proofs.Members.{has_filter, from_has_filter}
+use Rattle.roc_sequence.proofs.Rising.{rising_filter}
 use Rattle.roc_groups.specs.Groups.{first_piece}
 use Rattle.roc_groups.specs.Grouping.{IsGrouping}
 use Rattle.roc_groups.specs.Parts.{IsPart}
@@ -84,13 +85,6 @@ passing {A = A} p xs some = go (filter p xs) some (λ a h. from_has_filter p a x
     go : (ys : List A) → 0 < length ys → ((a : A) → Has a ys → Has a xs × (p a ≡ true)) → (a : A) × Has a xs × (p a ≡ true)
     go [] l h = absurd (omega arith)
     go (y ∷ ys) l h = let r = h y (inl refl) in (y, r.0, r.1)
-
-pub rising_filter : {A : Type 0} (before : A → A → Bool) (p : A → Bool) (xs : List A) → IsRising before xs → IsRising before (filter p xs)
-rising_filter before p [] r = tt
-rising_filter before p (x ∷ xs) r =
-    let rest = rising_filter before p xs r.1 in
-    let all : AllByRecursion (λ y. before x y ≡ true) (filter p xs) = has_all (λ y. before x y ≡ true) (filter p xs) (λ a h. all_has (λ y. before x y ≡ true) a xs r.0 (from_has_filter p a xs h).0) in
-    elim (p x) as (λ b. IsRising before (cond b (x ∷ filter p xs) (filter p xs))) [ true ↦ (all, rest) | false ↦ rest ]
 
 -- of rising ones at most one passes, where all that pass are one
 pub few_pass : {A : Type 0} (before : A → A → Bool) (p : A → Bool) (xs : List A) → ((a : A) → before a a ≡ true → ⊥) → IsRising before xs

@@ -1,15 +1,11 @@
 -- What pieces of the code use, as what pieces of the program do
 use Rattle.std.proofs.Common.{◌≡◌, Bool, false, ◌||◌, List, [], ◌∷◌, map, refl, sym, ap, subst, ◌∙◌}
 use Rattle.std.specs.List.{list_any, filter_map}
+use Rattle.roc_sequence.proofs.Holds.{any_seen}
 use Rattle.roc_program.specs.Program as pure
 use Rattle.roc_program.specs.Program.{Get, Set, Out}
 use Rattle.roc_program.specs.Names.{piece_uses, binding}
 use Rattle.roc_accept.specs.Inner.Uses.{is_bound_for}
-
--- a test of elements that are seen as others
-pub any_seen : {A B : Type 0} (p : B → Bool) (seen : A → B) (xs : List A) → list_any p (map seen xs) ≡ list_any (λ x. p (seen x)) xs
-any_seen p seen [] = refl
-any_seen p seen (x ∷ xs) = ap (λ b. p (seen x) || b) (any_seen p seen xs)
 
 bound_for : (user : pure.Piece) (body : List pure.Statement) → list_any (is_bound_for user) body ≡ list_any (piece_uses user) (filter_map binding body)
 bound_for user [] = refl

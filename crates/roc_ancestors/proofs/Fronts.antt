@@ -7,11 +7,11 @@ use Rattle.roc_sequence.specs.Places.{IsListed}
 use Rattle.roc_sequence.proofs.Holds.{all_weaker}
 use Rattle.roc_base.specs.declared.id.TxnId.{TxnId}
 use Rattle.roc_base.specs.TxnId.{is_txn, txn_cmp, txn_lt}
-use Rattle.roc_base.proofs.Ids.{txn_lt-itself, txn_lt-asym}
+use Rattle.roc_base.proofs.Ids.{txn_lt-itself, txn_lt-asym, none_rise}
 use Rattle.roc_depgraph.proofs.Rising_lists.{none_listed}
 use Rattle.roc_ancestors.specs.Least.{most_least, AreLeast}
 use Rattle.roc_ancestors.specs.Inner.Met.{HasBefore, CoversLeast}
-use Rattle.roc_ancestors.proofs.Put.{rises, first_before, rest_rises, none_rise, first_or_rest, in_first, in_rest, has_rising}
+use Rattle.roc_ancestors.proofs.Put.{rises, first_before, rest_rises, first_or_rest, in_first, in_rest, has_rising}
 
 not_before_itself : (u v : TxnId) → txn_lt u v ≡ true → u ≡ v → ⊥
 not_before_itself u v h e = false≢true (sym (txn_lt-itself u) ∙ (ap (txn_lt u) e ∙ h))

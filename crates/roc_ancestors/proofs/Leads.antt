@@ -1,20 +1,19 @@
 -- The search for what entries lead to, which goes no further from what has a row
-use Rattle.std.proofs.Common.{◌≡◌, ◌+◌, ◌-◌, ◌<◌, ◌≤◌, Bool, true, false, cond, List, [], ◌∷◌, ◌++◌, ◌⊎◌, length, map, Option, Some, None, is_some, refl, sym, ap, ◌∙◌, subst, arith, inl, inr, length-append, unwrap_or}
-use Rattle.std.proofs.lemmas.Bool.{false≢true, or_cases}
+use Rattle.std.proofs.Common.{◌≡◌, ◌+◌, ◌-◌, ◌<◌, ◌≤◌, true, List, [], ◌∷◌, ◌++◌, ◌⊎◌, length, map, Option, Some, None, is_some, refl, sym, ap, ◌∙◌, subst, arith, inl, inr, length-append, unwrap_or}
+use Rattle.std.proofs.lemmas.Bool.{false≢true, or_cases, or_left, or_right}
 use Rattle.std.proofs.lemmas.Map.Keys.{IsDistinct-from_sorted}
 use Rattle.std.proofs.lemmas.Map.Made.{length-le_from_is_member}
-use Rattle.std.proofs.lemmas.Bool.{or_left, or_right}
 use Rattle.std.specs.Cmp.{eq_by_cmp_equiv}
 use Rattle.std.specs.List.{list_any}
 use Rattle.std.specs.List.Sorted.{IsStrictlySortedBy}
 use Rattle.roc_sequence.specs.Lists.{Has}
 use Rattle.roc_sequence.specs.Places.{IsListed}
-use Rattle.roc_sequence.proofs.Places.{listed_or_not, listed_head, listed_tail}
+use Rattle.roc_sequence.proofs.Places.{listed_or_not}
 use Rattle.roc_sequence.proofs.Appended.{listed_front, listed_behind, listed_either}
 use Rattle.roc_base.specs.declared.id.TxnId.{TxnId}
 use Rattle.roc_base.specs.TxnId.{is_txn, txn_cmp}
 use Rattle.roc_base.proofs.Ids.{txn_cmp-total, is_txn-eq}
-use Rattle.roc_base.specs.Equalities.{is_txn-same, is_txn-true}
+use Rattle.roc_base.specs.Equalities.{is_txn-true}
 use Rattle.roc_base.specs.Edge.{Dependency}
 use Rattle.roc_depgraph.specs.declared.known.KnownList.{KnownList}
 use Rattle.roc_depgraph.specs.Deps.{Precedes, IsKnown, list_of}
@@ -23,6 +22,7 @@ use Rattle.roc_depgraph.specs.Visits.{Visits, IsNamed}
 use Rattle.roc_depgraph.proofs.Chains.{chain_before, closed_from}
 use Rattle.roc_depgraph.proofs.Decided.{known_of_decided}
 use Rattle.roc_depgraph.proofs.Listed.{has_from_listed, listed_from_has, listed_one, in_one}
+use Rattle.roc_depgraph.proofs.Walk.{named_ids, named_from, listed_named}
 use Rattle.roc_ancestors.specs.Led.{IsLedTo, IsKnownAndLedTo}
 use Rattle.roc_ancestors.specs.Least.{most_least, IsRow, AreRows, row_of}
 use Rattle.roc_ancestors.specs.Inner.Met.{HasBefore, CoversLeast}
@@ -30,29 +30,8 @@ use Rattle.roc_ancestors.proofs.Fronts.{before_more, listed_taken, near_front}
 
 -- ---- what can be found at all
 
--- the ids that the entries of known lists name
-abbrev pub named_ids : List KnownList → List TxnId
-named_ids [] = []
-named_ids (k ∷ ks) = map (λ d. d.from) k.edges ++ named_ids ks
-
 abbrev pub findable : List KnownList → List Dependency → List TxnId
 findable known first = map (λ d. d.from) first ++ named_ids known
-
-listed_named : (es : List Dependency) (u : TxnId) → IsNamed es u → IsListed is_txn (map (λ d. d.from) es) u
-listed_named [] u h = absurd (false≢true h)
-listed_named (d ∷ es) u h =
-    elim (or_cases (is_txn d.from u) (list_any (λ d. is_txn d.from u) es) h) [
-      | inl e ↦ subst (IsListed is_txn (d.from ∷ map (λ d. d.from) es)) (is_txn-true d.from u e) (listed_head is_txn d.from (map (λ d. d.from) es) (is_txn-same d.from))
-      | inr k ↦ listed_tail is_txn d.from (map (λ d. d.from) es) u (listed_named es u k)
-    ]
-
-named_from : (known : List KnownList) (u t : TxnId) → Precedes known u t → IsListed is_txn (named_ids known) u
-named_from [] u t h = absurd (false≢true h)
-named_from (k ∷ ks) u t h = go (is_txn k.of t) h (named_from ks u t)
-  where
-    go : (b : Bool) → list_any (λ d. is_txn d.from u) (unwrap_or (cond b (Some k.edges) (list_of t ks)) []) ≡ true → (Precedes ks u t → IsListed is_txn (named_ids ks) u) → IsListed is_txn (map (λ d. d.from) k.edges ++ named_ids ks) u
-    go true n ih = listed_front is_txn (map (λ d. d.from) k.edges) (named_ids ks) u (listed_named k.edges u n)
-    go false n ih = listed_behind is_txn (map (λ d. d.from) k.edges) (named_ids ks) u (ih n)
 
 nothing_listed : (u : TxnId) → ¬ IsListed is_txn [] u
 nothing_listed u l = omega arith

@@ -1,24 +1,18 @@
 -- A rising list with the members of another, and what it means that a list rises
-use Rattle.std.proofs.Common.{◌≡◌, true, List, [], ◌∷◌, ◌⊎◌, refl, sym, subst, ◌∙◌, inl, inr}
+use Rattle.std.proofs.Common.{◌≡◌, true, List, [], ◌∷◌, ◌⊎◌, sym, subst, ◌∙◌, inl, inr}
 use Rattle.std.specs.List.Sorted.{IsStrictlySortedBy}
-use Rattle.std.specs.Ordering.{is_lt}
-use Rattle.std.specs.declared.cmp.Ordering.{Ordering}
-use Rattle.std.specs.declared.cmp.Ordering.TheVariants.{Less, Equal, Greater}
+use Rattle.std.specs.declared.cmp.Ordering.TheVariants.{Less}
 use Rattle.roc_sequence.specs.Places.{IsListed}
 use Rattle.roc_sequence.proofs.Holds.{has_all}
 use Rattle.roc_sequence.proofs.Places.{listed_head, listed_tail, listed_cases}
+use Rattle.roc_sequence.proofs.Rising.{less_from_test}
 use Rattle.roc_base.specs.declared.id.TxnId.{TxnId}
 use Rattle.roc_base.specs.TxnId.{is_txn, txn_cmp, txn_lt}
 use Rattle.roc_base.specs.Equalities.{is_txn-same, is_txn-true}
-use Rattle.roc_base.proofs.Ids.{is_lt-txn_cmp, txn_lt-trans, txn_cases}
+use Rattle.roc_base.proofs.Ids.{is_lt-txn_cmp, txn_lt-trans, txn_cases, none_rise}
 use Rattle.roc_depgraph.specs.Closure.{IsRisingListOf}
 use Rattle.roc_depgraph.proofs.Listed.{has_listed, listed_one, in_one}
 use Rattle.roc_depgraph.proofs.Rising_lists.{below, none_listed}
-
-less_from_test : (o : Ordering) → is_lt o ≡ true → o ≡ Less
-less_from_test Less h = refl
-less_from_test Equal h = absurd cc
-less_from_test Greater h = absurd cc
 
 -- one that comes before all of a rising list, and these
 pub rises : (x : TxnId) (xs : List TxnId) → IsStrictlySortedBy txn_cmp xs → ((u : TxnId) → IsListed is_txn xs u → txn_lt x u ≡ true) → IsStrictlySortedBy txn_cmp (x ∷ xs)
@@ -32,10 +26,6 @@ first_before x xs r u l = below x u xs r.0 l
 pub rest_rises : (x : TxnId) (xs : List TxnId) → IsStrictlySortedBy txn_cmp (x ∷ xs) → IsStrictlySortedBy txn_cmp xs
 unfolding IsStrictlySortedBy
 rest_rises x xs r = r.1
-
-pub none_rise : IsStrictlySortedBy txn_cmp []
-unfolding IsStrictlySortedBy
-none_rise = tt
 
 -- a member is the first, or one of the rest
 pub first_or_rest : (x : TxnId) (xs : List TxnId) (u : TxnId) → IsListed is_txn (x ∷ xs) u → (u ≡ x) ⊎ IsListed is_txn xs u

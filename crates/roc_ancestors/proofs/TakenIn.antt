@@ -10,13 +10,13 @@ use Rattle.roc_sequence.specs.Places.{IsListed}
 use Rattle.roc_sequence.proofs.Appended.{listed_front, listed_behind, listed_either}
 use Rattle.roc_base.specs.declared.id.TxnId.{TxnId}
 use Rattle.roc_base.specs.TxnId.{is_txn, txn_cmp, txn_lt}
-use Rattle.roc_base.proofs.Ids.{txn_cmp-total, txn_cmp-exact, is_lt-txn_cmp}
+use Rattle.roc_base.proofs.Ids.{txn_cmp-total, txn_cmp-exact, is_lt-txn_cmp, none_rise}
 use Rattle.roc_depgraph.proofs.Listed.{listed_one, in_one}
 use Rattle.roc_depgraph.proofs.Rising_lists.{none_listed}
 use Rattle.roc_depgraph.proofs.Searched.{none, listed_there, stands_at, ids_sorted}
 use Rattle.roc_ancestors.specs.Least.{most_least, AreLeast}
 use Rattle.roc_ancestors.specs.Inner.Met.{CoversLeast}
-use Rattle.roc_ancestors.proofs.Put.{rises, first_before, rest_rises, none_rise, first_or_rest, in_first, in_rest}
+use Rattle.roc_ancestors.proofs.Put.{rises, first_before, rest_rises, first_or_rest, in_first, in_rest}
 use Rattle.roc_ancestors.proofs.Fronts.{before_more, listed_taken, taken_rises, near_front, least_met}
 
 module _ (x : TxnId) where

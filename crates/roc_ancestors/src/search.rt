@@ -9,7 +9,7 @@ ghost use Rattle.roc_ancestors.specs.Least.{AreRows, row_of};
 ghost use Rattle.roc_ancestors.specs.Inner.Met.{CoversLeast};
 
 use roc_base::{Edge, NoMemory, TxnId};
-use roc_depgraph::Deps;
+use roc_depgraph::{Deps, visit};
 use roc_sequence::Sequence;
 use std::alloc::Global;
 use std::collections::{BTreeMap, BTreeSet};
@@ -56,19 +56,6 @@ fn meet(
         met.push(next)?;
         visit(list.as_slice(), found, todo)?;
         return Ok(());
-    }
-    Ok(())
-}
-
-// Puts the ids of entries among those that were found, and the new ones on the list of what is still to be done.
-fn visit(edges: &[Edge], found: &mut BTreeSet<TxnId>, todo: &mut Vec<TxnId>) -> Result<(), NoMemory>
-    ensures { OnOk result (Visits edges.now found.old.keys todo.old.items found.new.keys todo.new.items) }
-{
-    for edge in edges {
-        let id = edge.from();
-        if found.insert(id)? {
-            todo.push(id)?;
-        }
     }
     Ok(())
 }

@@ -6,7 +6,7 @@ use Rattle.std.proofs.lemmas.List.Elements.{filter-append}
 use Rattle.std.specs.List.{flat_map}
 use Rattle.roc_sequence.specs.Lists.{Has}
 use Rattle.roc_sequence.specs.Places.{IsListed}
-use Rattle.roc_sequence.proofs.Members.{has_append, has_left, has_right, has_map, from_has_map}
+use Rattle.roc_sequence.proofs.Members.{has_append, has_left, has_right, has_map, from_has_map, has_flat_map, from_has_flat_map}
 use Rattle.roc_base.specs.declared.id.TxnId.{TxnId}
 use Rattle.roc_base.specs.TxnId.{is_txn}
 use Rattle.roc_depgraph.proofs.Listed.{has_listed, listed_has}
@@ -17,24 +17,11 @@ use Rattle.roc_await.specs.Inner.Groups.{lack_with, lacks_of, all_lacks, misses_
 
 -- ---- lists of what each element gives
 
-has_flat : {A B : Type 0} (f : A → List B) (b : B) (a : A) (xs : List A) → Has a xs → Has b (f a) → Has b (flat_map f xs)
-has_flat f b a [] h k = absurd h
-has_flat f b a (x ∷ xs) (inl e) k = has_left b (f x) (flat_map f xs) (subst (λ y. Has b (f y)) e k)
-has_flat f b a (x ∷ xs) (inr m) k = has_right b (f x) (flat_map f xs) (has_flat f b a xs m k)
-
-from_has_flat : {A B : Type 0} (f : A → List B) (b : B) (xs : List A) → Has b (flat_map f xs) → (a : A) × Has a xs × Has b (f a)
-from_has_flat f b [] h = absurd h
-from_has_flat f b (x ∷ xs) h =
-    elim (has_append b (f x) (flat_map f xs) h) [
-      | inl k ↦ (x, inl refl, k)
-      | inr k ↦ (let r = from_has_flat f b xs k in (r.0, inr r.1, r.2))
-    ]
-
 pub listed_flat : {A : Type 0} (f : A → List TxnId) (v : TxnId) (a : A) (xs : List A) → Has a xs → IsListed is_txn (f a) v → IsListed is_txn (flat_map f xs) v
-listed_flat f v a xs h l = has_listed (flat_map f xs) v (has_flat f v a xs h (listed_has (f a) v l))
+listed_flat f v a xs h l = has_listed (flat_map f xs) v (has_flat_map f v a xs h (listed_has (f a) v l))
 
 pub from_listed_flat : {A : Type 0} (f : A → List TxnId) (v : TxnId) (xs : List A) → IsListed is_txn (flat_map f xs) v → (a : A) × Has a xs × IsListed is_txn (f a) v
-from_listed_flat f v xs l = let r = from_has_flat f v xs (listed_has (flat_map f xs) v l) in (r.0, r.1, has_listed (f r.0) v r.2)
+from_listed_flat f v xs l = let r = from_has_flat_map f v xs (listed_has (flat_map f xs) v l) in (r.0, r.1, has_listed (f r.0) v r.2)
 
 -- with what one more gives
 pub flat_more : {A B : Type 0} (f : A → List B) (xs : List A) (i : ℕ) (x : A) (ys zs : List B) → i < length xs → x ≡ get_or xs i x → zs ≡ ys ++ f x → ys ≡ flat_map f (take i xs) → zs ≡ flat_map f (take (i + 1) xs)
@@ -46,7 +33,7 @@ flat_more f xs i x ys zs l is e h =
 
 -- what one of a group lacks
 pub lack_has : (g : Group) (t : TxnId) (groups : List Group) → Has g groups → Has t g.of → Has (lack_with g.missing t) (all_lacks groups)
-lack_has g t groups h k = has_flat lacks_of (lack_with g.missing t) g groups h (has_map (lack_with g.missing) t g.of k)
+lack_has g t groups h k = has_flat_map lacks_of (lack_with g.missing t) g groups h (has_map (lack_with g.missing) t g.of k)
 
 pub record IsInGroup (groups : List Group) (l : Lack) : Type 0 where
   pub group : Group
@@ -56,7 +43,7 @@ pub record IsInGroup (groups : List Group) (l : Lack) : Type 0 where
 
 pub has_lack : (groups : List Group) (l : Lack) → Has l (all_lacks groups) → IsInGroup groups l
 has_lack groups l h =
-    let r = from_has_flat lacks_of l groups h in
+    let r = from_has_flat_map lacks_of l groups h in
     let m = from_has_map (lack_with r.0.missing) l r.0.of r.2 in
     record { group = r.0; there = r.1; of = subst (λ t. Has t r.0.of) (sym (ap (λ (x : Lack). x.of) m.2)) m.1; missing = ap (λ (x : Lack). x.missing) m.2 }
 

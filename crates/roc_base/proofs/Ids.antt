@@ -1,15 +1,16 @@
 -- The laws of transaction ids and of their order
-use Rattle.std.proofs.Common.{◌≡◌, ◌≢◌, ℕ, Bool, true, false, List, refl, sym, ap, subst, ◌∙◌, arith, ◌⊎◌, inl, inr}
+use Rattle.std.proofs.Common.{◌≡◌, ◌≢◌, ℕ, Bool, true, false, List, refl, sym, ap, subst, ◌∙◌, arith, ◌⊎◌, inl, inr, []}
 use Rattle.std.proofs.lemmas.Bool.{false≢true}
 use Rattle.std.proofs.lemmas.Bool.Decides.{nat_tests}
 use Rattle.std.proofs.lemmas.Cmp.{on_total, then_total, nat_cmp_total}
 use Rattle.std.proofs.lemmas.Map.Lookups.{CmpEqualImpliesEq, exact_pairs, exact_unsigned}
 use Rattle.std.specs.Bool.{Decides}
 use Rattle.std.specs.List.{list_any}
+use Rattle.std.specs.List.Sorted.{IsStrictlySortedBy}
 use Rattle.std.specs.Cmp.{IsTotalOrder}
 use Rattle.std.specs.Ordering.{nat_cmp, is_lt}
 use Rattle.roc_sequence.specs.Lists.{Has}
-use Rattle.roc_sequence.specs.Places.{is_listed}
+use Rattle.roc_sequence.specs.Places.{IsListed, is_listed}
 use Rattle.roc_sequence.proofs.Holds.{any_has, has_any}
 use Rattle.roc_sequence.proofs.Listed.{has_listed, listed_has}
 use Rattle.roc_sequence.proofs.Places.{listed_test, unlisted_test}
@@ -80,3 +81,10 @@ is_listed-any ids u = go (list_any (λ x. is_txn x u) ids) refl
     go : (b : Bool) → list_any (λ x. is_txn x u) ids ≡ b → is_listed is_txn ids u ≡ b
     go true e = (let r = any_has (λ x. is_txn x u) ids e in listed_test is_txn ids u (has_listed is_txn is_txn-true is_txn-same ids u (subst (λ v. Has v ids) (is_txn-true r.0 u r.2) r.1)))
     go false e = unlisted_test is_txn ids u (λ h. false≢true (sym e ∙ has_any (λ x. is_txn x u) ids u (listed_has is_txn is_txn-true is_txn-same ids u h) (is_txn-same u)))
+
+pub none_rise : IsStrictlySortedBy txn_cmp []
+unfolding IsStrictlySortedBy
+none_rise = tt
+
+pub unlisted_none : (t : TxnId) → ¬ IsListed is_txn [] t
+unlisted_none t l = omega arith

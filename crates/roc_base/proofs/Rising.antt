@@ -1,13 +1,16 @@
 -- Lists that rise by id: what is found at an id, and that what is found determines the list
-use Rattle.std.proofs.Common.{◌≡◌, Bool, true, false, cond, List, [], ◌∷◌, Some, None, IsTrue, refl, sym, ap, subst, ◌∙◌, inl, inr, ◌⊎◌}
+use Rattle.std.proofs.Common.{◌≡◌, Bool, true, false, cond, List, [], ◌∷◌, Some, None, IsTrue, refl, sym, ap, subst, ◌∙◌, inl, inr, ◌⊎◌, map}
 use Rattle.std.specs.List.{AllByRecursion}
+use Rattle.std.specs.List.Sorted.{IsStrictlySortedBy}
+use Rattle.std.specs.declared.cmp.Ordering.TheVariants.{Less}
 use Rattle.roc_base.specs.declared.id.TxnId.{TxnId}
-use Rattle.roc_base.specs.TxnId.{is_txn, txn_lt}
-use Rattle.roc_base.proofs.Ids.{txn_lt-trans, txn_lt-ne, is_txn-swap, txn_cases}
+use Rattle.roc_base.specs.TxnId.{is_txn, txn_cmp, txn_lt}
+use Rattle.roc_base.proofs.Ids.{txn_lt-trans, txn_lt-ne, is_lt-txn_cmp, is_txn-swap, txn_cases}
 use Rattle.roc_base.specs.Equalities.{is_txn-true, is_txn-same}
 use Rattle.roc_base.specs.Edge.{Dependency}
 use Rattle.roc_base.specs.Edges.{comes_before, entry_at, all_of, joined_with}
 use Rattle.roc_sequence.specs.Rising.{IsRising}
+use Rattle.roc_sequence.proofs.Rising.{less_from_test}
 
 -- an id comes before those of all entries
 abbrev pub IsBelowAll : TxnId → List Dependency → Type 0
@@ -79,3 +82,14 @@ same_rising (x ∷ xs) (y ∷ ys) r s h =
     first rest (inr (inl e)) =
         let heads : x ≡ y = same_Some x y (sym (entry_at-first x xs) ∙ (h x.from ∙ (ap (λ a. entry_at a (y ∷ ys)) e ∙ entry_at-first y ys))) in
         ap (λ z. z ∷ xs) heads ∙ ap (λ zs. y ∷ zs) (rest (tails e))
+
+-- ---- the ids of rising entries
+
+pub all_below : (id : TxnId) (ds : List Dependency) → AllByRecursion (λ d. IsTrue (txn_lt id d.from)) ds → AllByRecursion (λ u. txn_cmp id u ≡ Less) (map (λ d. d.from) ds)
+all_below id [] h = tt
+all_below id (d ∷ ds) h = (less_from_test (txn_cmp id d.from) (is_lt-txn_cmp id d.from ∙ h.0), all_below id ds h.1)
+
+pub sorted_from_rising : (ds : List Dependency) → IsRising comes_before ds → IsStrictlySortedBy txn_cmp (map (λ d. d.from) ds)
+unfolding IsStrictlySortedBy
+sorted_from_rising [] r = tt
+sorted_from_rising (d ∷ ds) r = (all_below d.from ds r.0, sorted_from_rising ds r.1)

@@ -1,81 +1,30 @@
 -- Every set has a component order
 use Rattle.std.proofs.Common.{◌≡◌, ℕ, zero, suc, ◌-◌, ◌≤◌, Bool, true, ◌&&◌, ◌||◌, not, List, [], ◌∷◌, map, filter, length, Option, Some, None, refl, sym, ap, subst, ◌∙◌, inl, inr, IsTrue, arith}
 use Rattle.std.proofs.lemmas.Bool.{false≢true, or_cases, or_left, or_right, and_parts, and_from, not-true, not_from_false, false_from_ne_true}
-use Rattle.std.specs.List.{AllByRecursion, list_any}
+use Rattle.std.specs.List.{list_any}
 use Rattle.std.specs.List.Sorted.{IsStrictlySortedBy}
-use Rattle.std.specs.Ordering.{is_lt}
-use Rattle.std.specs.declared.cmp.Ordering.{Ordering}
-use Rattle.std.specs.declared.cmp.Ordering.TheVariants.{Less, Equal, Greater}
 use Rattle.roc_sequence.specs.Lists.{Has}
 use Rattle.roc_sequence.specs.Places.{IsListed, is_listed}
-use Rattle.roc_sequence.specs.Rising.{IsRising}
 use Rattle.roc_sequence.proofs.Members.{has_map, from_has_map}
 use Rattle.roc_sequence.proofs.Places.{listed_true, listed_test}
 use Rattle.roc_sequence.proofs.Filtered.{listed_filter, from_listed_filter}
 use Rattle.roc_base.specs.declared.id.TxnId.{TxnId}
-use Rattle.roc_base.specs.TxnId.{is_txn, txn_cmp, txn_lt}
-use Rattle.roc_base.specs.Edge.{Dependency}
-use Rattle.roc_base.specs.Edges.{comes_before, all_of, united}
+use Rattle.roc_base.specs.TxnId.{is_txn, txn_cmp}
 use Rattle.roc_base.specs.Equalities.{is_txn-true}
-use Rattle.roc_base.proofs.Ids.{is_lt-txn_cmp, is_txn-eq}
-use Rattle.roc_base.proofs.Members.{all_of-none, entry_at-has, IsAllOf-united}
-use Rattle.roc_base.proofs.Union.{IsRising-united, entry_at-united}
+use Rattle.roc_base.proofs.Ids.{is_txn-eq}
 use Rattle.roc_depgraph.specs.declared.known.KnownList.{KnownList}
 use Rattle.roc_depgraph.specs.Deps.{entries_of, Precedes, PrecedesNow}
 use Rattle.roc_depgraph.specs.Reach.{Reaches}
 use Rattle.roc_depgraph.proofs.Chains.{weaker_chain}
-use Rattle.roc_depgraph.proofs.Listed.{has_listed, listed_has, has_under, under_has}
-use Rattle.roc_component.proofs.Member.{Member}
+use Rattle.roc_depgraph.proofs.Listed.{has_listed, listed_has}
+use Rattle.roc_depgraph.proofs.RisingIds.{ids, ids_sound, ids_complete, ids_rise}
+use Rattle.roc_component.proofs.Member.{Member, next_of}
 use Rattle.roc_component.specs.Components.{Mates, among, IsTakingOrder}
-use Rattle.roc_component.proofs.Member.{next_of}
 use Rattle.roc_component.proofs.Front.{front_none, front_next, front_done}
 use Rattle.roc_component.proofs.MembersOf.{IsMember, AreMembers}
 use Rattle.roc_component.proofs.NextMember.{IsFront}
 use Rattle.roc_component.proofs.Paths.{path, path_chain, chain_path}
 use Rattle.roc_component.proofs.Relations.{chain_starts, mate_in}
-
--- ---- the members, rising
-
-less_from_test : (o : Ordering) → is_lt o ≡ true → o ≡ Less
-less_from_test Less h = refl
-less_from_test Equal h = absurd (false≢true h)
-less_from_test Greater h = absurd (false≢true h)
-
-all_below : (id : TxnId) (ds : List Dependency) → AllByRecursion (λ d. IsTrue (txn_lt id d.from)) ds → AllByRecursion (λ u. txn_cmp id u ≡ Less) (map (λ d. d.from) ds)
-all_below id [] h = tt
-all_below id (d ∷ ds) h = (less_from_test (txn_cmp id d.from) (is_lt-txn_cmp id d.from ∙ h.0), all_below id ds h.1)
-
-sorted_from_rising : (ds : List Dependency) → IsRising comes_before ds → IsStrictlySortedBy txn_cmp (map (λ d. d.from) ds)
-unfolding IsStrictlySortedBy
-sorted_from_rising [] r = tt
-sorted_from_rising (d ∷ ds) r = (all_below d.from ds r.0, sorted_from_rising ds r.1)
-
-abbrev entry : TxnId → Dependency
-entry u = record { from = u; imm = true; def = true; at = record { 0 = 0 } }
-
-module _ (M : List TxnId) where
-  abbrev ids : List TxnId
-  ids = map (λ d. d.from) (united (map entry M))
-
-  ids_sound : (u : TxnId) → IsListed is_txn ids u → IsListed is_txn M u
-  ids_sound u h =
-      let z = has_under (λ d. d.from) (united (map entry M)) u h in
-      let d = (IsAllOf-united (map entry M) z.0 z.1).at in
-      let a = from_has_map entry d.0 M d.1 in
-      let same : a.0 ≡ u = ap (λ (x : Dependency). x.from) (sym a.2) ∙ (d.2 ∙ z.2) in
-      subst (IsListed is_txn M) same (has_listed M a.0 a.1)
-
-  ids_complete : (u : TxnId) → IsListed is_txn M u → IsListed is_txn ids u
-  ids_complete u h = go (all_of u (map entry M)) refl
-    where
-      go : (o : Option Dependency) → all_of u (map entry M) ≡ o → IsListed is_txn ids u
-      go None e = absurd (all_of-none u (map entry M) e (entry u) (has_map entry u M (listed_has M u h)) refl)
-      go (Some z) e =
-          let found = entry_at-has u (united (map entry M)) z (entry_at-united u (map entry M) ∙ e) in
-          subst (IsListed is_txn ids) found.1 (under_has (λ d. d.from) (united (map entry M)) z found.0)
-
-  ids_rise : IsStrictlySortedBy txn_cmp ids
-  ids_rise = sorted_from_rising (united (map entry M)) (IsRising-united (map entry M))
 
 -- ---- what tests say of edges, chains and components
 

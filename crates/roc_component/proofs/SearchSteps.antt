@@ -109,9 +109,5 @@ pub walk_starts : (known : List KnownList) (S : List TxnId) (met : BTreeMap TxnI
 walk_starts known S met s x None h e i = e
 walk_starts known S met s x (Some t) h e i = record { new = ap (met_of met) h.0 ∙ h.1; within = subst (λ v. Has v S) (sym h.0) i; leads = λ p k. absurd (subst (Has p) e k) }
 
-pub nothing : {A : Type 0} (xs : List A) → length xs ≡ 0 → xs ≡ []
-nothing [] e = refl
-nothing (x ∷ xs) e = absurd (omega arith)
-
 pub same_weight : (below : List Part) (p r : Part) → r.todo.items ≡ p.todo.items → weight (below ++ r ∷ []) ≡ weight (below ++ p ∷ [])
 same_weight below p r e = let a = weight_more below p in let b = weight_more below r in let n = ap length e in omega arith

@@ -1,21 +1,16 @@
 -- Which pieces are among those of a list
-use Rattle.std.proofs.Common.{◌≡◌, ℕ, Bool, true, ◌==◌, List, [], ◌∷◌, ◌∙◌, ap, arith, inl, inr}
+use Rattle.std.proofs.Common.{◌≡◌, Bool, true, ◌==◌, List, [], ◌∷◌, ◌∙◌, ap, arith, inl, inr}
 use Rattle.std.proofs.lemmas.Bool.{eqb-true, and_parts, false≢true, or_cases, or_left, or_right}
 use Rattle.std.proofs.lemmas.Bool.Decides.{nat_tests}
 use Rattle.std.specs.List.{list_any}
 use Rattle.roc_program.specs.declared.piece_id.PieceId.{PieceId}
+use Rattle.roc_program.proofs.PieceIds.{same_id_parts}
 use Rattle.roc_conflict.specs.Inner.Found.{is_piece, has_id}
-
-same_numbers : (a b : PieceId) → a.proc ≡ b.proc → a.piece ≡ b.piece → a ≡ b
-same_numbers a b e f =
-    let with_proc : ℕ → PieceId = λ n. record { proc = n; piece = a.piece } in
-    let with_piece : ℕ → PieceId = λ n. record { proc = b.proc; piece = n } in
-    ap with_proc e ∙ ap with_piece f
 
 pub is_piece-true : (a b : PieceId) → is_piece a b ≡ true → a ≡ b
 is_piece-true a b h =
     let p = and_parts (a.proc == b.proc) (a.piece == b.piece) h in
-    same_numbers a b (eqb-true a.proc b.proc p.0) (eqb-true a.piece b.piece p.1)
+    same_id_parts a b (eqb-true a.proc b.proc p.0) (eqb-true a.piece b.piece p.1)
 
 pub is_piece-same : (a : PieceId) → is_piece a a ≡ true
 is_piece-same a = grind (arith, nat_tests)

@@ -11,14 +11,8 @@ ghost use Rattle.roc_coord.specs.Inner.FactPlace.{fact_place, IsFactAt, IsFactGa
 use crate::{TakenStart, Transaction};
 use roc_base::{NoMemory, TxnId};
 use roc_depgraph::KnownList;
-use roc_msg::Facts;
+use roc_msg::{Facts, MOST_FACT_EDGES, MOST_FACTS};
 use std::alloc::Global;
-
-/// How many lists travel along with a message.
-const MOST_FACTS: usize = 16;
-
-/// How many entries these have together.
-const MOST_FACT_EDGES: usize = 1000;
 
 // Where the first list stands that does not come before an id, where there is one.
 fn first_behind(facts: &[KnownList], id: TxnId) -> Option<usize>
@@ -47,14 +41,6 @@ fn find(facts: &[KnownList], id: TxnId) -> Result<usize, usize>
     if facts[at].of == id { Ok(at) } else { Err(at) }
 }
 
-// A copy of a list.
-fn copied(fact: &KnownList) -> Result<KnownList, NoMemory>
-    ensures { IfOk result (λ copy. copy ≡ fact.now) }
-{
-    let edges = fact.edges.clone()?;
-    Ok(KnownList { of: fact.of, edges })
-}
-
 // Puts a list into its place. What stood there goes.
 fn put(facts: &mut Vec<KnownList>, fact: KnownList) -> Result<(), NoMemory>
     requires { AreFacts facts.old.items }
@@ -74,7 +60,7 @@ fn gather(told: &[KnownList], facts: &mut Vec<KnownList>) -> Result<(), NoMemory
     ensures rising { OnOk result (AreFacts facts.new.items) }
 {
     for at in (0..told.len()).rev() {
-        put(facts, copied(&told[at])?)?;
+        put(facts, told[at].clone()?)?;
     }
     Ok(())
 }
@@ -111,7 +97,7 @@ fn fitting_others(alloc: Global, own: TxnId, gathered: &[KnownList]) -> Result<F
         }
         room -= 1;
         left -= fact.edges.len();
-        facts.push(copied(fact)?)?;
+        facts.push(fact.clone()?)?;
     }
     Ok(facts)
 }

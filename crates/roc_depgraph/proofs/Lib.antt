@@ -7,3 +7,4 @@ pub mod Laws
 pub mod Rising_lists
 pub mod Searched
 pub mod Looked_up
+pub mod RisingIds

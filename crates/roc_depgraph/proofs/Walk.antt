@@ -40,7 +40,7 @@ named_ids (k ∷ ks) = map (λ d. d.from) k.edges ++ named_ids ks
 abbrev pub findable : List KnownList → TxnId → List TxnId
 findable known id = id ∷ named_ids known
 
-listed_named : (es : List Dependency) (u : TxnId) → IsNamed es u → IsListed is_txn (map (λ d. d.from) es) u
+pub listed_named : (es : List Dependency) (u : TxnId) → IsNamed es u → IsListed is_txn (map (λ d. d.from) es) u
 listed_named [] u h = absurd (false≢true h)
 listed_named (d ∷ es) u h =
     elim (or_cases (is_txn d.from u) (list_any (λ d. is_txn d.from u) es) h) [
@@ -48,7 +48,7 @@ listed_named (d ∷ es) u h =
       | inr k ↦ listed_tail is_txn d.from (map (λ d. d.from) es) u (listed_named es u k)
     ]
 
-named_from : (known : List KnownList) (u t : TxnId) → Precedes known u t → IsListed is_txn (named_ids known) u
+pub named_from : (known : List KnownList) (u t : TxnId) → Precedes known u t → IsListed is_txn (named_ids known) u
 named_from [] u t h = absurd (false≢true h)
 named_from (k ∷ ks) u t h = go (is_txn k.of t) h (named_from ks u t)
   where

@@ -15,6 +15,6 @@ mod learnt;
 
 pub use among::is_among_rising;
 pub use closure::Closure;
-pub use deps::Deps;
+pub use deps::{Deps, visit};
 pub use known::KnownList;
 pub use learnt::Learnt;

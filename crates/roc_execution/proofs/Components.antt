@@ -4,7 +4,7 @@ use Rattle.roc_base.specs.declared.id.TxnId.{TxnId}
 use Rattle.roc_base.specs.TxnId.{txn_lt}
 use Rattle.roc_base.proofs.Ids.{txn_cases}
 use Rattle.roc_depgraph.specs.Reach.{Reaches, direct, through, ReachesOrIs}
-use Rattle.roc_depgraph.proofs.Chains.{joined_chain, other_chain, weaker_chain, chain_before}
+use Rattle.roc_depgraph.proofs.Chains.{joined_chain, other_chain, chain_before}
 use Rattle.roc_component.specs.Components.{Mates, IsNextInside}
 
 -- of two ids neither of which is below the other, one is the other
@@ -15,10 +15,6 @@ neither_below a b n m = elim (txn_cases a b) [ inl l ↦ absurd (m l) | inr (inl
 pub other_mates : (E F : TxnId → TxnId → Type 0) (L : TxnId → Type 0) → ((u t : TxnId) → L t → E u t → L u) → ((u t : TxnId) → L t → E u t → F u t) → (u t : TxnId) → L t → L u → Mates E u t → Mates F u t
 other_mates E F L closed to u t h k (inl e) = inl e
 other_mates E F L closed to u t h k (inr p) = inr (other_chain E F L closed to u t h p.0, other_chain E F L closed to t u k p.1)
-
-pub weaker_mates : (E F : TxnId → TxnId → Type 0) → ((u t : TxnId) → E u t → F u t) → (a b : TxnId) → Mates E a b → Mates F a b
-weaker_mates E F f a b (inl e) = inl e
-weaker_mates E F f a b (inr p) = inr (weaker_chain E F f a b p.0, weaker_chain E F f b a p.1)
 
 -- the rule inside a component reads nothing but the component
 pub inside_same : (E F I J : TxnId → TxnId → Type 0) (taken other : TxnId → Type 0) (x : TxnId)

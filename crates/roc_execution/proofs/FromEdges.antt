@@ -9,10 +9,10 @@ use Rattle.roc_base.specs.TxnId.{is_txn}
 use Rattle.roc_base.specs.Equalities.{is_txn-true}
 use Rattle.roc_depgraph.specs.Reach.{Reaches, direct, through}
 use Rattle.roc_component.specs.Components.{Mates, among, IsComponentOrder}
-use Rattle.roc_component.proofs.Relations.{mates_sym}
+use Rattle.roc_component.proofs.Relations.{mates_sym, mates_weaker}
 use Rattle.roc_execution.specs.Taking.{IsTakenOrder, IsShardOrder}
 use Rattle.roc_execution.specs.Steps.{new_in}
-use Rattle.roc_execution.proofs.Components.{inside_same, chain_mates, weaker_mates}
+use Rattle.roc_execution.proofs.Components.{inside_same, chain_mates}
 use Rattle.roc_execution.proofs.Shards.{mate_new}
 
 -- F and J are the edges that are followed
@@ -63,7 +63,7 @@ module _ (E I F J : TxnId → TxnId → Type 0) (here waived : TxnId → Type 0)
   )
 
   mates_from : (t c : TxnId) → Mates A t c → Mates E t c
-  mates_from t c m = weaker_mates A E (λ u v e. to u v e.2) t c m
+  mates_from t c m = mates_weaker A E (λ u v e. to u v e.2) t c m
 
   pub taken_order : IsTakenOrder E I waived ts
   taken_order =

@@ -5,7 +5,7 @@ use Rattle.std.specs.Fmt as fmt
 use lib.Chars.{codes}
 use Rattle.roc_lang.specs.Tokens.{Word, Integer, Mark, Token, IsTokens, nothing}
 use Rattle.roc_parse.specs.Scanning.{Scanned, word_run, line_run, value_from, value_of, word_next, integer_next, comment_next, scanned_step}
-use Rattle.roc_print.proofs.Spelling.{at_line, integer_spelt}
+use Rattle.roc_print.proofs.Spelling.{at_line, integer_spelt, grouped_3}
 use Rattle.roc_generate.specs.Workload_text.{account_line, pay_lines, mark_lines, generated_workload}
 use Rattle.roc_generate.proofs.Lexing.{scanned, scanned_are}
 use Rattle.roc_generate.proofs.Trees.{line_behind, behind_pay}
@@ -64,9 +64,6 @@ back_scanned : (line : ℕ) (rest : List ℕ) → scanned 11 line (codes ",0].ba
 unfolding scanned_step word_next integer_next comment_next word_run line_run value_of value_from
 back_scanned line rest = refl
 
-grouped_2 : (a b c d : List ℕ) → a ++ b ++ c ++ d ≡ a ++ (b ++ (c ++ d))
-grouped_2 a b c d = simp append_assoc
-
 account_spelt : (line place : ℕ) → place < 64 → (rest : List ℕ) (others : List Token) → IsTokens (line + 1) rest others → IsTokens line (account_line place ++ rest) (account_tokens line place others)
 account_spelt line place small rest others i =
     let from_back : List ℕ = codes ",0].bal = 1000;\n" ++ rest in
@@ -74,7 +71,7 @@ account_spelt line place small rest others i =
     let from_place : List ℕ = fmt.decimal place ++ from_back in
     let number = integer_spelt place (omega arith) line from_back (back_tokens line ++ others) refl back in
     let all = scanned_are 4 line (codes "init acct[" ++ from_place) _ line from_place (front_scanned line from_place) (at_line (Integer place) line ∷ (back_tokens line ++ others)) number in
-    subst (λ z. IsTokens line z (account_tokens line place others)) (sym (grouped_2 (codes "init acct[") (fmt.decimal place) (codes ",0].bal = 1000;\n") rest)) all
+    subst (λ z. IsTokens line z (account_tokens line place others)) (sym (grouped_3 (codes "init acct[") (fmt.decimal place) (codes ",0].bal = 1000;\n") rest)) all
 
 accounts_spelt : (count line place : ℕ) → place + count ≤ 64 → (rest : List ℕ) (others : List Token) → IsTokens (line_behind line count) rest others
     → IsTokens line (flat_map account_line (range_with_len place count) ++ rest) (accounts_tokens line place count others)

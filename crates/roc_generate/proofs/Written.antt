@@ -10,6 +10,7 @@ use Rattle.std.proofs.lemmas.Bool.Decides.{nat_tests}
 use Rattle.std.proofs.lemmas.List.Folds.{flat_map-map}
 use Rattle.std.proofs.lemmas.Fmt.{length-decimal-le}
 use lib.Chars.{codes}
+use Rattle.roc_sequence.proofs.Holds.{all_pass}
 use Rattle.roc_lang.specs.Tokens.{IsDecimal}
 use Rattle.roc_print.proofs.Numerals.{written_is_decimal, written_value}
 use Rattle.roc_sched.specs.declared.line.Act.{Act}
@@ -23,10 +24,6 @@ use Rattle.roc_generate.specs.Schedule_text.{act_line}
 use Rattle.roc_generate.proofs.Parts.{AllAbove, IsPlainWord, some_bytes, spaced_words}
 
 -- ---- numbers
-
-all_pass : {A : Type 0} (test : A → Bool) (xs : List A) → AllByRecursion (λ x. test x ≡ true) xs → list_all test xs ≡ true
-all_pass test [] all = refl
-all_pass test (x ∷ xs) all = rw all.0 (all_pass test xs all.1)
 
 is_number : (word : List ℕ) → IsDecimal word → is_decimal word ≡ true
 is_number [] is = absurd is

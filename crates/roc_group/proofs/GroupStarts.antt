@@ -16,11 +16,12 @@ use Rattle.roc_program.specs.Values.{Environment, value_of_name, with_arguments}
 use Rattle.roc_program.specs.Names.{piece_uses, bindings_of, bindings, has_name}
 use Rattle.roc_program.specs.WellFormed.{IsProcedure}
 use Rattle.roc_plan.specs.Groups.{pieces_at, bound_in, inputs_in, with_values}
+use Rattle.roc_plan.proofs.Values.{long_with}
 use Rattle.roc_groups.proofs.Elements.{range_rising}
 use Rattle.roc_groups.proofs.Forward as forward
-use Rattle.roc_group.proofs.Touches.{binds_in, known_in}
-use Rattle.roc_group.proofs.Starts.{bound_named, used_or_bound, name_has, has_named, values_long, values_other, values_here, rising_filter}
-use Rattle.roc_group.proofs.Touches.{binds_any, knows_any}
+use Rattle.roc_groups.proofs.Forward.{name_has, has_named}
+use Rattle.roc_group.proofs.Touches.{binds_in, known_in, binds_any, knows_any}
+use Rattle.roc_group.proofs.Starts.{bound_named, used_or_bound, values_other, values_here, rising_filter}
 
 module _ (procedure : Procedure) where
   abbrev pub at : ℕ → Piece
@@ -127,7 +128,7 @@ module _ (procedure : Procedure) where
         bound false h false g = untaken n (λ i. false≢true (sym g ∙ has_named (bindings procedure.pieces) n (taken_is ks n i).0)) (not_bound done n g)
 
     pub start_long : length env ≡ length init → length env ≡ length starts
-    start_long e = e ∙ sym (values_long (inputs_in procedure ks) (map f (inputs_in procedure ks)) init)
+    start_long e = e ∙ sym (long_with (inputs_in procedure ks) (map f (inputs_in procedure ks)) init)
 
 -- a well-formed procedure has its names so
 pub names_of_procedure : (tables : List Table) (procedure : Procedure) → IsProcedure tables procedure → HasNames procedure

@@ -6,7 +6,7 @@ use Rattle.std.specs.Bool.{nat_lt}
 use Rattle.std.specs.List.{list_any, filter_map, position_or_len}
 use Rattle.roc_sequence.specs.Lists.{Has}
 use Rattle.roc_sequence.specs.Rising.{IsRising}
-use Rattle.roc_sequence.proofs.Holds.{all_has, has_all, any_has, has_any}
+use Rattle.roc_sequence.proofs.Holds.{all_has, has_all}
 use Rattle.roc_sequence.proofs.Members.{from_has_filter}
 use Rattle.roc_program.specs.Program.{Statement, Get, Set, Out, Piece}
 use Rattle.roc_program.specs.Values.{Environment, value_of_name}
@@ -50,19 +50,7 @@ used_or_bound piece n e =
       ]
     ]
 
--- a name that is there is in the list
-pub name_has : (names : List ℕ) (n : ℕ) → has_name names n ≡ true → Has n names
-name_has names n h = let r = any_has (λ m. m == n) names h in subst (λ m. Has m names) (eqb-true r.0 n r.2) r.1
-
-pub has_named : (names : List ℕ) (n : ℕ) → Has n names → has_name names n ≡ true
-has_named names n h = has_any (λ m. m == n) names n h (eq-eqb n n refl)
-
 -- ---- values that are set by name
-
-pub values_long : (names : List ℕ) (values : List ℤ) (env : Environment) → length (with_values names values env) ≡ length env
-values_long [] values env = refl
-values_long (n ∷ ns) [] env = refl
-values_long (n ∷ ns) (v ∷ vs) env = values_long ns vs (slice_set env n v) ∙ length-set env n v
 
 -- a name that is none of these keeps its value
 pub values_other : (names : List ℕ) (values : List ℤ) (env : Environment) (n : ℕ) → ¬ Has n names → value_of_name (with_values names values env) n ≡ value_of_name env n

@@ -12,7 +12,7 @@ use Rattle.roc_program.specs.Names.{bindings_of, has_name}
 use Rattle.roc_program.specs.Values.{value}
 use Rattle.roc_program.specs.WellFormed.{IsPiece, ArePieces, known_behind}
 use Rattle.roc_whole.specs.Run.{Progress}
-use Rattle.roc_groups.proofs.Forward.{either_name}
+use Rattle.roc_groups.proofs.Forward.{either_name, name_has, has_named}
 use Rattle.roc_plan.specs.Groups.{Plan, procedure_of, group_of, is_immediate_of}
 use Rattle.roc_plan.specs.Accepted.{IsAccepted}
 use Rattle.roc_group.specs.declared.access.Access.{Access}
@@ -22,7 +22,7 @@ use Rattle.roc_group.specs.Inner.Steady.{uses_with}
 use Rattle.roc_group.specs.Group_run.{GroupCall, begin, group_pieces, group_uses}
 use Rattle.roc_group.proofs.Known_uses.{uses_of_body-known}
 use Rattle.roc_group.proofs.Touches.{not_true}
-use Rattle.roc_group.proofs.Starts.{bound_named, name_has, has_named}
+use Rattle.roc_group.proofs.Starts.{bound_named}
 use Rattle.roc_group.proofs.GroupStarts.{at, binder}
 use Rattle.roc_group.proofs.Grouped.{is_procedure, has_names, argument_not_bound, two_alone}
 

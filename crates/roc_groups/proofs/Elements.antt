@@ -3,11 +3,11 @@ use Rattle.std.proofs.Common.{◌≡◌, ℕ, zero, suc, ◌+◌, ◌<◌, ◌�
 use Rattle.std.proofs.lemmas.Bool.{cases_lt}
 use Rattle.std.proofs.lemmas.Bool.Decides.{nat_tests}
 use Rattle.std.specs.Bool.{nat_lt}
-use Rattle.std.specs.List.{AllByRecursion, flat_map, range_with_len}
+use Rattle.std.specs.List.{AllByRecursion, range_with_len}
 use Rattle.roc_sequence.specs.Lists.{Has}
 use Rattle.roc_sequence.specs.Rising.{IsRising}
 use Rattle.roc_sequence.proofs.Holds.{all_has}
-use Rattle.roc_sequence.proofs.Members.{has_append, has_left, has_right}
+use Rattle.roc_sequence.proofs.Members.{has_right}
 
 -- ---- places
 
@@ -41,19 +41,6 @@ same_at_each (x ∷ xs) (y ∷ ys) d e f =
     cc
 
 -- ---- lists of what each element gives
-
-pub has_flat_map : {A B : Type 0} (f : A → List B) (b : B) (a : A) (xs : List A) → Has a xs → Has b (f a) → Has b (flat_map f xs)
-has_flat_map f b a [] h k = absurd h
-has_flat_map f b a (x ∷ xs) (inl e) k = has_left b (f x) (flat_map f xs) (subst (λ y. Has b (f y)) e k)
-has_flat_map f b a (x ∷ xs) (inr h) k = has_right b (f x) (flat_map f xs) (has_flat_map f b a xs h k)
-
-pub from_has_flat_map : {A B : Type 0} (f : A → List B) (b : B) (xs : List A) → Has b (flat_map f xs) → (a : A) × Has a xs × Has b (f a)
-from_has_flat_map f b [] h = absurd h
-from_has_flat_map f b (x ∷ xs) h =
-    elim (has_append b (f x) (flat_map f xs) h) [
-      | inl k ↦ (x, inl refl, k)
-      | inr k ↦ (let r = from_has_flat_map f b xs k in (r.0, inr r.1, r.2))
-    ]
 
 -- ---- rising lists
 

@@ -1,13 +1,13 @@
 -- Data flows forward, from pieces declared `now`
 use Rattle.std.proofs.Common.{◌≡◌, ℕ, zero, suc, ◌<◌, ◌≤◌, Bool, true, false, ◌||◌, ◌==◌, cond, List, [], ◌∷◌, ◌++◌, length, get_or, refl, sym, ap, subst, ◌∙◌, ◌⊎◌, inl, inr, arith}
-use Rattle.std.proofs.lemmas.Bool.{false≢true, or_cases, eqb-true, cases_lt}
+use Rattle.std.proofs.lemmas.Bool.{false≢true, or_cases, eq-eqb, eqb-true, cases_lt}
 use Rattle.std.proofs.lemmas.List.{get_or_past}
 use Rattle.std.proofs.lemmas.List.Folds.{list_any-append}
 use Rattle.std.specs.Bool.{nat_lt}
 use Rattle.std.specs.List.{AllByRecursion, list_any, filter_map, range_with_len}
 use Rattle.roc_sequence.specs.Lists.{Has}
 use Rattle.roc_sequence.specs.Rising.{IsRising}
-use Rattle.roc_sequence.proofs.Holds.{all_at, all_has, any_has}
+use Rattle.roc_sequence.proofs.Holds.{all_at, all_has, any_has, has_any}
 use Rattle.roc_sequence.proofs.Members.{has_left, has_right}
 use Rattle.roc_sequence.proofs.Ranges.{range_below}
 use Rattle.roc_program.specs.Program.{Workload, Procedure, Piece, Table, Expression, Statement, Get, Set, Out}
@@ -22,10 +22,13 @@ use Rattle.roc_groups.proofs.Elements.{rising_behind, rising_across, numbers_one
 
 -- ---- names that a piece uses
 
-name_has : (names : List ℕ) (n : ℕ) → has_name names n ≡ true → Has n names
+pub name_has : (names : List ℕ) (n : ℕ) → has_name names n ≡ true → Has n names
 name_has names n h =
     let r = any_has (λ m. m == n) names h in
     subst (λ m. Has m names) (eqb-true r.0 n r.2) r.1
+
+pub has_named : (names : List ℕ) (n : ℕ) → Has n names → has_name names n ≡ true
+has_named names n h = has_any (λ m. m == n) names n h (eq-eqb n n refl)
 
 pub either_name : (xs ys : List ℕ) (n : ℕ) → has_name (xs ++ ys) n ≡ true → (has_name xs n ≡ true) ⊎ (has_name ys n ≡ true)
 either_name xs ys n h = or_cases (has_name xs n) (has_name ys n) (sym (list_any-append (λ m. m == n) xs ys) ∙ h)

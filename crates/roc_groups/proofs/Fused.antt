@@ -4,6 +4,7 @@ use Rattle.std.proofs.lemmas.List.{length-map}
 use Rattle.std.specs.List.{list_any, flat_map}
 use Rattle.roc_sequence.specs.Lists.{Has}
 use Rattle.roc_sequence.proofs.Holds.{any_has, has_any}
+use Rattle.roc_sequence.proofs.Members.{has_flat_map, from_has_flat_map}
 use Rattle.roc_program.specs.Program.{Workload, Procedure, Piece, Statement}
 use Rattle.roc_program.specs.LookUps.{no_piece, no_procedure}
 use Rattle.roc_program.specs.Pieces.{pieces_in, piece_of, HasPiece}
@@ -11,7 +12,7 @@ use Rattle.roc_program.specs.Conflict.{collide, conflict, are_in_conflict}
 use Rattle.roc_program.specs.declared.piece_id.PieceId.{PieceId}
 use Rattle.roc_groups.specs.Groups.{piece_numbered, groups_in, group_at}
 use Rattle.roc_groups.specs.Accepted.{fused, with_groups, over_groups}
-use Rattle.roc_groups.proofs.Elements.{has_flat_map, from_has_flat_map, row_of_has}
+use Rattle.roc_groups.proofs.Elements.{row_of_has}
 
 -- the groups of a procedure are its pieces
 pieces_over : (ps : List Procedure) (groups : List (List (List ℕ))) (proc : ℕ) → length groups ≡ length ps

@@ -50,7 +50,7 @@ small_tree tokens t (text h1 h2 h3 tables inits procedures few_tables few_inits 
 
 -- ---- integers
 
-integer_fits : (n : ℕ) → n < 2 ^ 63 → FitsSigned w64 (pos n)
+pub integer_fits : (n : ℕ) → n < 2 ^ 63 → FitsSigned w64 (pos n)
 integer_fits n h = search rules
 
 mutual

@@ -1,8 +1,9 @@
 -- What is newly decided, in component order
-use Rattle.std.proofs.Common.{◌≡◌, List, [], ◌++◌, Result, Ok, Err, IfOk, sym, subst, append-nil, arith}
+use Rattle.std.proofs.Common.{◌≡◌, List, [], ◌++◌, Result, Ok, Err, IfOk, sym, subst, append-nil}
 use Rattle.roc_sequence.specs.Places.{IsListed}
 use Rattle.roc_base.specs.declared.id.TxnId.{TxnId}
 use Rattle.roc_base.specs.TxnId.{is_txn}
+use Rattle.roc_base.proofs.Ids.{unlisted_none}
 use Rattle.roc_component.specs.Components.{IsTakingOrder}
 use Rattle.roc_component.proofs.Alike.{one_by_members, order_of_same}
 use Rattle.roc_depgraph.specs.declared.known.KnownList.{KnownList}
@@ -18,9 +19,6 @@ ordered items known ids (Ok x) o = λ before h.
       members = record { only = λ t l. h.only t (o.from t l); all = λ t u. o.all t (h.all t u) };
       ordered = order_of_same known ids (items x) (items x) (λ t. (o.all t, o.from t)) o;
     }
-
-unlisted_none : (t : TxnId) → ¬ IsListed is_txn [] t
-unlisted_none t l = omega arith
 
 -- without a new list nothing is newly decided
 pub nothing_new : (known : List KnownList) → AreNew (IsDecided known) (known ++ []) []

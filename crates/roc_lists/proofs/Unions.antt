@@ -1,6 +1,7 @@
 -- A union depends on what is in the lists alone
-use Rattle.std.proofs.Common.{◌≡◌, ◌↔◌, Bool, true, false, List, Option, Some, None, refl, sym, ap, ◌∙◌, arith}
+use Rattle.std.proofs.Common.{◌≡◌, ◌↔◌, List, Option, Some, None, refl, sym, ap, ◌∙◌, arith}
 use Rattle.roc_sequence.specs.Lists.{Has}
+use Rattle.roc_sequence.proofs.Holds.{same_tests}
 use Rattle.roc_base.specs.declared.id.TxnId.{TxnId}
 use Rattle.roc_base.specs.Equalities.{same_fields}
 use Rattle.roc_base.specs.Edge.{Dependency}
@@ -8,16 +9,11 @@ use Rattle.roc_base.specs.Edges.{all_of, united, IsAllOf}
 use Rattle.roc_base.proofs.Members.{all_of-none, IsAllOf-all_of}
 use Rattle.roc_base.proofs.Union.{united-same}
 
-bool_same : (a b : Bool) → (a ≡ true → b ≡ true) → (b ≡ true → a ≡ true) → a ≡ b
-bool_same true b f g = sym (f refl)
-bool_same false true f g = g refl
-bool_same false false f g = refl
-
 one_all : (id : TxnId) (es : List Dependency) (a b : Dependency) → IsAllOf id es a → IsAllOf id es b → a ≡ b
 one_all id es a b p q =
     same_fields a b (p.from ∙ sym q.from)
-    (bool_same a.imm b.imm (λ h. let d = p.imm h in (q.covers d.0 d.1 d.2).imm d.3) (λ h. let d = q.imm h in (p.covers d.0 d.1 d.2).imm d.3))
-    (bool_same a.def b.def (λ h. let d = p.def h in (q.covers d.0 d.1 d.2).def d.3) (λ h. let d = q.def h in (p.covers d.0 d.1 d.2).def d.3))
+    (same_tests a.imm b.imm (λ h. let d = p.imm h in (q.covers d.0 d.1 d.2).imm d.3) (λ h. let d = q.imm h in (p.covers d.0 d.1 d.2).imm d.3))
+    (same_tests a.def b.def (λ h. let d = p.def h in (q.covers d.0 d.1 d.2).def d.3) (λ h. let d = q.def h in (p.covers d.0 d.1 d.2).def d.3))
     (let d = p.at in let e = q.at in
     let x = (q.covers d.0 d.1 d.2).at in let y = (p.covers e.0 e.1 e.2).at in
     let u = ap (λ s. s.0) d.3 in let v = ap (λ s. s.0) e.3 in omega arith)

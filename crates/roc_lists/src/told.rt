@@ -9,14 +9,8 @@ ghost use Rattle.roc_lists.specs.Told.{facts_of, AreFactsFor};
 use roc_ancestors::Ancestors;
 use roc_base::{Edge, Edges, NoMemory, TxnId};
 use roc_depgraph::{Deps, KnownList};
-use roc_msg::Facts;
+use roc_msg::{Facts, MOST_FACT_EDGES, MOST_FACTS};
 use std::alloc::Global;
-
-/// How many lists travel along with a message.
-const MOST_FACTS: usize = 16;
-
-/// How many entries these have together.
-const MOST_FACT_EDGES: usize = 1000;
 
 /// The known lists of what entries lead to, by id rising, as many as travel along with a message. `NoMemory` comes where there is none for them.
 pub fn facts_for(

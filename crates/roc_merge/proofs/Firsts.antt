@@ -1,9 +1,10 @@
 -- What is found first is the least, and where nothing is found the workload is acceptable
-use Rattle.std.proofs.Common.{◌≡◌, ℕ, ◌<◌, Bool, IsTrue, List, [], ◌∷◌, length, refl, sym, ap, subst, ◌∙◌, inl, inr, arith}
+use Rattle.std.proofs.Common.{◌≡◌, ℕ, ◌<◌, Bool, IsTrue, List, [], ◌∷◌, length, refl, sym, subst, ◌∙◌, inl, inr, arith}
 use Rattle.std.proofs.lemmas.Bool.{cases_order}
 use Rattle.roc_program.specs.Program.{Workload}
 use Rattle.roc_program.specs.Pieces.{pieces_in}
 use Rattle.roc_program.specs.declared.piece_id.PieceId.{PieceId}
+use Rattle.roc_program.proofs.PieceIds.{same_id_parts}
 use Rattle.roc_conflict.specs.Contended.{is_contended}
 use Rattle.roc_groups.specs.Groups.{piece_numbered}
 use Rattle.roc_groups.specs.Core.{InCore, contended, between, AreCoLocated, IsAcceptable}
@@ -24,9 +25,6 @@ one_more n m xs ys (inl l) (inl k) = absurd (omega arith)
 one_more n m xs ys (inl l) (inr e) = let f = e.0 in absurd (omega arith)
 one_more n m xs ys (inr e) (inl k) = let f = e.0 in absurd (omega arith)
 one_more n m xs ys (inr e) (inr f) = (e.0, e.1, f.1)
-
-same_id : (a b : PieceId) → a.proc ≡ b.proc → a.piece ≡ b.piece → a ≡ b
-same_id a b e f = ap (λ n. piece_numbered n a.piece) e ∙ ap (λ n. piece_numbered b.proc n) f
 
 module _ (program : Workload) (is_immediate : PieceId → Bool) where
   abbrev Meets : ℕ → ℕ → Type 0
@@ -77,7 +75,7 @@ module _ (program : Workload) (is_immediate : PieceId → Bool) where
   one_pair p q a b one other =
       let r = one_more p.proc a.proc (p.piece ∷ q.piece ∷ []) (a.piece ∷ b.piece ∷ []) (one.least a b other.is) (other.least p q one.is) in
       let s = one_more p.piece a.piece (q.piece ∷ []) (b.piece ∷ []) r.1 r.2 in
-      (same_id p a r.0 s.0, same_id q b (one.is.one_procedure ∙ r.0 ∙ sym other.is.one_procedure) (same_lists q.piece b.piece s.1 s.2))
+      (same_id_parts p a r.0 s.0, same_id_parts q b (one.is.one_procedure ∙ r.0 ∙ sym other.is.one_procedure) (same_lists q.piece b.piece s.1 s.2))
 
   -- by the row of contended pieces
   module _ (proc : ℕ) (row : List Bool) (are : AreContended program is_immediate proc row) where
@@ -142,9 +140,9 @@ module _ (program : Workload) (is_immediate : PieceId → Bool) where
       let r = one_more p.proc a.proc (p.piece ∷ q.piece ∷ x.piece ∷ []) (a.piece ∷ b.piece ∷ c.piece ∷ []) (one.least a b c other.is) (other.least p q x one.is) in
       let s = one_more p.piece a.piece (q.piece ∷ x.piece ∷ []) (b.piece ∷ c.piece ∷ []) r.1 r.2 in
       let t = one_more q.piece b.piece (x.piece ∷ []) (c.piece ∷ []) s.1 s.2 in (
-        same_id p a r.0 s.0,
-        same_id q b (one.is.one_procedure ∙ r.0 ∙ sym other.is.one_procedure) t.0,
-        same_id x c (one.is.same_procedure ∙ r.0 ∙ sym other.is.same_procedure) (same_lists x.piece c.piece t.1 t.2),
+        same_id_parts p a r.0 s.0,
+        same_id_parts q b (one.is.one_procedure ∙ r.0 ∙ sym other.is.one_procedure) t.0,
+        same_id_parts x c (one.is.same_procedure ∙ r.0 ∙ sym other.is.same_procedure) (same_lists x.piece c.piece t.1 t.2),
       )
 
   -- by the tables

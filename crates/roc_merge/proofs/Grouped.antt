@@ -8,16 +8,16 @@ use Rattle.std.specs.List.{AllByRecursion, filter, flat_map, list_any, range_wit
 use Rattle.roc_sequence.specs.Lists.{Has}
 use Rattle.roc_sequence.specs.Rising.{IsRising}
 use Rattle.roc_sequence.proofs.Holds.{all_has, has_all, any_has, has_any}
-use Rattle.roc_sequence.proofs.Members.{has_one, has_filter, from_has_filter}
+use Rattle.roc_sequence.proofs.Members.{has_one, has_filter, from_has_filter, has_flat_map, from_has_flat_map}
 use Rattle.roc_sequence.proofs.Ranges.{range_more}
+use Rattle.roc_sequence.proofs.Rising.{rising_filter}
 use Rattle.roc_program.specs.Program.{Workload}
 use Rattle.roc_program.specs.Pieces.{pieces_in}
 use Rattle.roc_program.specs.declared.piece_id.PieceId.{PieceId}
 use Rattle.roc_groups.specs.Groups.{first_piece}
 use Rattle.roc_groups.specs.Core.{InCore}
 use Rattle.roc_groups.specs.Grouping.{AreTogether, IsGrouping, IsMergedIn}
-use Rattle.roc_groups.proofs.Elements.{has_flat_map, from_has_flat_map, range_rising, has_range, from_has_range}
-use Rattle.roc_accept.proofs.Parting.{rising_filter}
+use Rattle.roc_groups.proofs.Elements.{range_rising, has_range, from_has_range}
 use Rattle.roc_merge.specs.Grouped.{group_from, grouped}
 use Rattle.roc_merge.proofs.Flows.{core_there}
 

@@ -8,6 +8,12 @@ use roc_sequence::Sequence;
 use std::alloc::{AllocError, Global};
 use std::marker::Model;
 
+/// How many lists travel along with a message.
+pub const MOST_FACTS: usize = 16;
+
+/// How many entries these have together.
+pub const MOST_FACT_EDGES: usize = 1000;
+
 /// Lists of predecessors that a message tells besides its own, rising strictly by the ids of their
 /// transactions.
 #[derive(Debug, Drop)]
@@ -99,8 +105,7 @@ fn copied(alloc: Global, lists: &[KnownList]) -> Result<Sequence<KnownList>, All
 {
     let mut copy = Sequence::new(alloc);
     for list in lists {
-        let edges = list.edges.clone()?;
-        copy.push(KnownList { of: list.of, edges })?;
+        copy.push(list.clone()?)?;
     }
     Ok(copy)
 }

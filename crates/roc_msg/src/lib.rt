@@ -12,7 +12,7 @@ mod msg;
 mod outbox;
 mod reason;
 
-pub use facts::Facts;
+pub use facts::{Facts, MOST_FACT_EDGES, MOST_FACTS};
 pub use msg::{Msg, Sent};
 pub use outbox::{Outbox, Outgoing};
 pub use reason::{NodeFault, Reason};

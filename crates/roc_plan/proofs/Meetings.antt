@@ -3,7 +3,7 @@ use Rattle.std.proofs.Common.{◌≡◌, ◌≢◌, ◌∙◌, ℕ, true, false,
 use Rattle.std.proofs.lemmas.Bool.{and_from, false_from_ne_true}
 use Rattle.std.specs.List.{list_any}
 use Rattle.roc_sequence.specs.Lists.{Has}
-use Rattle.roc_sequence.proofs.Holds.{any_has, has_any}
+use Rattle.roc_sequence.proofs.Holds.{any_has, has_any, same_tests}
 use Rattle.roc_program.specs.Conflict.{are_in_conflict}
 use Rattle.roc_conflict.specs.Immediate.{in_conflict}
 use Rattle.roc_conflict.specs.Contended.{has_conflict, is_contended}
@@ -15,7 +15,6 @@ use Rattle.roc_groups.proofs.Elements.{place_of_has}
 use Rattle.roc_plan.specs.Groups.{Plan, group_of, is_immediate_of}
 use Rattle.roc_plan.specs.Accepted.{grouping_of, is_piece_immediate, IsAccepted}
 use Rattle.roc_plan.specs.Turns.{may_meet}
-use Rattle.roc_plan.proofs.Rows.{same_tests}
 use Rattle.roc_plan.proofs.Placed.{group_again}
 use Rattle.roc_plan.proofs.Classed.{same_number, class_of_piece}
 

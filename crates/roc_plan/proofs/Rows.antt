@@ -1,5 +1,5 @@
 -- The rows of groups that a plan keeps, read at any place
-use Rattle.std.proofs.Common.{◌≡◌, ℕ, zero, suc, Bool, true, false, List, [], ◌∷◌, map, Some, get_or, slice_get, refl, sym}
+use Rattle.std.proofs.Common.{◌≡◌, ℕ, zero, suc, List, [], ◌∷◌, map, Some, get_or, slice_get, refl}
 
 -- the element of a table whose elements are changed
 pub row_element : {X Y Z : Type 0} (f : Y → List X) (g : X → Z) (rows : List Y) (i j : ℕ) (x : X) (d : Z) → slice_get (get_or (map f rows) i []) j ≡ Some x → get_or (get_or (map (λ r. map g (f r)) rows) i []) j d ≡ g x
@@ -16,9 +16,3 @@ pub read_any : {A B : Type 0} (f : A → B) (xs : List A) (k : ℕ) (d : A) → 
 read_any f [] k d = refl
 read_any f (x ∷ xs) zero d = refl
 read_any f (x ∷ xs) (suc k) d = read_any f xs k d
-
--- two tests that follow from each other
-pub same_tests : (a b : Bool) → (a ≡ true → b ≡ true) → (b ≡ true → a ≡ true) → a ≡ b
-same_tests true b f g = sym (f refl)
-same_tests false true f g = g refl
-same_tests false false f g = refl

@@ -1,10 +1,10 @@
 -- Where the values come from that a group takes
 use Rattle.std.proofs.Common.{◌≡◌, ◌≢◌, ◌∙◌, ℕ, suc, ◌+◌, ◌<◌, Bool, true, false, not, ◌&&◌, ◌||◌, ◌==◌, cond, IsTrue, List, [], ◌∷◌, length, get_or, refl, sym, ap, subst, arith}
-use Rattle.std.proofs.lemmas.Bool.{false≢true, and_parts, eqb-true, eq-eqb, not-true}
+use Rattle.std.proofs.lemmas.Bool.{false≢true, and_parts, not-true}
 use Rattle.std.specs.List.{list_any, position_or_len}
 use Rattle.roc_sequence.specs.Lists.{Has}
 use Rattle.roc_sequence.proofs.Holds.{any_has, has_any}
-use Rattle.roc_sequence.proofs.Members.{has_map, from_has_map, from_has_filter}
+use Rattle.roc_sequence.proofs.Members.{has_map, from_has_map, from_has_filter, has_flat_map, from_has_flat_map}
 use Rattle.roc_program.specs.LookUps.{no_piece}
 use Rattle.roc_program.specs.Names.{bindings_of, bindings, piece_uses, has_name}
 use Rattle.roc_program.specs.Program.{Piece, Procedure}
@@ -12,7 +12,8 @@ use Rattle.roc_groups.specs.Groups.{groups_in, group_at}
 use Rattle.roc_groups.specs.Flow.{feeds}
 use Rattle.roc_groups.specs.Accepted.{group_feeds}
 use Rattle.roc_groups.proofs.Accepting.{needed_immediate}
-use Rattle.roc_groups.proofs.Elements.{place_of_has, has_at_place, has_flat_map, from_has_flat_map}
+use Rattle.roc_groups.proofs.Elements.{place_of_has, has_at_place}
+use Rattle.roc_groups.proofs.Forward.{name_has, has_named}
 use Rattle.roc_plan.specs.declared.group.Input.{Input}
 use Rattle.roc_plan.specs.Groups.{Plan, no_group, bound_in, inputs_in, source_in, procedure_of, groups_of, group_of, is_immediate_of, bound_of, inputs_of, pieces_at}
 use Rattle.roc_plan.specs.Accepted.{grouping_of, is_piece_immediate, IsAccepted}
@@ -34,21 +35,15 @@ first_passes {A = A} p (x ∷ xs) d h = go (p x) refl h (first_passes p xs d)
         let one : 1 + position_or_len p xs ≡ suc (position_or_len p xs) = omega arith in
         (omega arith, ap (λ i. p (get_or (x ∷ xs) i d)) one ∙ r.1)
 
-has_name_from : (names : List ℕ) (n : ℕ) → has_name names n ≡ true → Has n names
-has_name_from names n h = let m = any_has (λ m. m == n) names h in subst (λ k. Has k names) (eqb-true m.0 n m.2) m.1
-
-name_from_has : (names : List ℕ) (n : ℕ) → Has n names → has_name names n ≡ true
-name_from_has names n h = has_any (λ m. m == n) names n h (eq-eqb n n refl)
-
 -- a piece of the group binds the name
 binder : (p : Procedure) (group : List ℕ) (n : ℕ) → has_name (bound_in p group) n ≡ true → (z : ℕ) × Has z group × Has n (bindings_of (piece_at p z))
 binder p group n h =
-    let q = from_has_flat_map bindings_of n (pieces_at p group) (has_name_from (bound_in p group) n h) in
+    let q = from_has_flat_map bindings_of n (pieces_at p group) (name_has (bound_in p group) n h) in
     let z = from_has_map (piece_at p) q.0 group q.1 in
     (z.0, z.1, subst (λ (r : Piece). Has n (bindings_of r)) z.2 q.2)
 
 bound_by : (p : Procedure) (group : List ℕ) (n z : ℕ) → Has z group → Has n (bindings_of (piece_at p z)) → has_name (bound_in p group) n ≡ true
-bound_by p group n z h k = name_from_has (bound_in p group) n (has_flat_map bindings_of n (piece_at p z) (pieces_at p group) (has_map (piece_at p) z group h) k)
+bound_by p group n z h k = has_named (bound_in p group) n (has_flat_map bindings_of n (piece_at p z) (pieces_at p group) (has_map (piece_at p) z group h) k)
 
 module _ (plan : Plan) (is : IsAccepted plan) (proc g : ℕ) where
   pub record IsSource (input : Input) : Type 0 where

@@ -5,7 +5,7 @@ use Rattle.std.proofs.lemmas.List.{length-map, get_or_past}
 use Rattle.std.proofs.lemmas.List.FromFn.{length-map-range_with_len, get_or-map-range_with_len}
 use Rattle.std.specs.List.{list_any, range_with_len}
 use Rattle.roc_sequence.specs.Lists.{Has}
-use Rattle.roc_sequence.proofs.Holds.{any_has, has_any}
+use Rattle.roc_sequence.proofs.Holds.{any_has, has_any, same_tests}
 use Rattle.roc_sequence.proofs.Members.{has_map, from_has_map}
 use Rattle.roc_program.specs.Program.{Workload}
 use Rattle.roc_program.specs.WellFormed.{IsProgram}
@@ -17,7 +17,6 @@ use Rattle.roc_groups.specs.Accepted.{IsAcceptedGrouping}
 use Rattle.roc_groups.proofs.Elements.{same_at_each}
 use Rattle.roc_plan.specs.Groups.{Group, groups_of}
 use Rattle.roc_plan.specs.Accepted.{group_with, grouped_plan, grouping_of, is_piece_immediate, IsAccepted}
-use Rattle.roc_plan.proofs.Rows.{same_tests}
 
 pub pieces_again : (is_immediate : PieceId → Bool) (proc : ℕ) (gs : List (List ℕ)) → map (λ g. g.pieces) (map (group_with is_immediate proc) gs) ≡ gs
 pieces_again is_immediate proc [] = refl

@@ -1,12 +1,12 @@
 -- What is written of a number is an integer of it.
-use Rattle.std.proofs.Common.{◌≡◌, ℕ, ◌+◌, ◌-◌, ◌*◌, ◌/◌, ◌%◌, ◌^◌, ◌<◌, ◌≤◌, true, List, [], ◌∷◌, ◌++◌, IsTrue, refl, sym, ap, subst, ◌∙◌, arith}
+use Rattle.std.proofs.Common.{◌≡◌, ℕ, ◌+◌, ◌-◌, ◌*◌, ◌/◌, ◌%◌, ◌^◌, ◌<◌, ◌≤◌, List, [], ◌∷◌, ◌++◌, IsTrue, refl, sym, ap, subst, ◌∙◌, arith}
 use Rattle.std.specs.List.{AllByRecursion}
 use Rattle.std.specs.Char.{is_ascii_digit}
 use Rattle.std.specs.Fmt as fmt
-use Rattle.std.proofs.lemmas.Bool.Decides.{nat_tests}
 use Rattle.std.proofs.lemmas.List.Sums.{fold-append}
 use Rattle.std.proofs.lemmas.Fmt.{decimal_by_steps}
 use Rattle.roc_lang.specs.Tokens.{decimal, IsDecimal}
+use Rattle.roc_lang.proofs.Digits.{digit}
 
 abbrev onto : ℕ → ℕ → ℕ
 onto n d = n * 10 + (d - 48)
@@ -23,9 +23,6 @@ record Spells (n : ℕ) (ds : List ℕ) : Type 0 where
   all : AllDigits ds
   leads : Leads n ds
   value : decimal ds ≡ n
-
-digit : (k : ℕ) → k < 10 → is_ascii_digit (48 + k) ≡ true
-digit k h = grind (arith, nat_tests)
 
 one_more : (ds : List ℕ) (d : ℕ) → AllDigits ds → IsTrue (is_ascii_digit d) → AllDigits (ds ++ d ∷ [])
 one_more [] d all is = (is, tt)

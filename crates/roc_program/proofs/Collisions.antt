@@ -1,14 +1,11 @@
 -- Statements that collide, of the code and of the program that it holds
 use Rattle.std.proofs.Common.{◌≡◌, Bool, ◌||◌, List, [], ◌∷◌, map, refl, sym, ap, ◌∙◌}
 use Rattle.std.specs.List.{list_any}
+use Rattle.roc_sequence.proofs.Holds.{any_seen}
 use Rattle.roc_program.specs.declared.parts.Statement.{Statement}
 use Rattle.roc_program.specs.Program as pure
 use Rattle.roc_program.specs.Conflict.{collide}
 use Rattle.roc_program.specs.Parts as view
-
-any_seen : {A B : Type 0} (p : B → Bool) (seen : A → B) (xs : List A) → list_any p (map seen xs) ≡ list_any (λ x. p (seen x)) xs
-any_seen p seen [] = refl
-any_seen p seen (x ∷ xs) = ap (λ b. p (seen x) || b) (any_seen p seen xs)
 
 somewhere : (xs ys : List Statement) → list_any (λ s. list_any (collide s) (map view.statement ys)) (map view.statement xs)
     ≡ list_any (λ one. list_any (λ other. collide (view.statement one) (view.statement other)) ys) xs

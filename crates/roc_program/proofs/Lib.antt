@@ -5,3 +5,4 @@ pub mod Collisions
 pub mod Ranges
 pub mod Keyed
 pub mod Counted
+pub mod PieceIds

@@ -5,7 +5,7 @@ use Rattle.std.specs.Prelude.{filter, flat_map, find, if◌then◌else◌}
 use Rattle.roc_sequence.specs.Lists.{Has}
 use Rattle.roc_sequence.specs.Places.{IsListed, is_listed}
 use Rattle.roc_sequence.proofs.Found.{found_has}
-use Rattle.roc_sequence.proofs.Members.{has_append, has_one, from_has_map, from_has_filter}
+use Rattle.roc_sequence.proofs.Members.{has_append, has_one, from_has_map, from_has_filter, from_has_flat_map}
 use Rattle.roc_base.specs.declared.id.TxnId.{TxnId}
 use Rattle.roc_base.specs.declared.node.Shard.{Shard}
 use Rattle.roc_base.specs.TxnId.{is_txn}
@@ -24,16 +24,14 @@ use Rattle.roc_msg.specs.Facts.{is_fact_before}
 use Rattle.roc_plan.specs.Groups.{Plan}
 use Rattle.roc_group.specs.Group_run.{GroupCall, call, group_run}
 use Rattle.roc_server.specs.declared.started.StartedGroup.{StartedGroup}
-use Rattle.roc_server.specs.State.{ignored, answered, is_here, is_group, find_group, Lists, ServerState, ServerStep}
+use Rattle.roc_server.specs.State.{ignored, answered, is_here, is_group, find_group, Lists, ServerState, ServerStep, unrun}
 use Rattle.roc_server.specs.Start.{start_fault, start_taken, start_judged, startok_of, new_group}
 use Rattle.roc_server.specs.Runs.{group_call, with_later, run_group, run_groups, buffered_here, take_all, commitok_of, outs_here}
 use Rattle.roc_lists.specs.Carried.{list_with, carried, unknown_of}
 use Rattle.roc_lists.specs.Asking.{known_to, knowns_for, fetch_from}
 use Rattle.roc_server.specs.Lists.{commit_differs, lists_after, missing_from, taught, commit_fault, after_commit, fetch_taken, after_fetch, known_fault, after_known}
 use Rattle.roc_server.specs.Step.{Findings, AreFindings, Handles, after_message, tick_sends}
-use Rattle.roc_server.specs.State.{unrun}
 use Rattle.roc_protocol.specs.Final.{lists_in}
-use Rattle.roc_protocol.proofs.Flat.{from_has_flat}
 use Rattle.roc_protocol.proofs.Facts.{facts_known}
 use Rattle.roc_protocol.proofs.Served.{list_has}
 use Rattle.roc_protocol.proofs.Deciding.{take_keeps}
@@ -244,7 +242,7 @@ module _ (plan : Plan) (Good : TxnId → List Dependency → Type 0) (Here : Txn
       taught_sends P known commitoks fetches out h =
           elim (has_append out (flat_map (knowns_for s.lists.waiting.askers) news) (map (commitok_of plan r.state) (filter (λ t. is_here t s.started) ts) ++ map (fetch_from s.shard) (missing_from s (s.lists.known ++ news))) h) [
             | inl k ↦
-                (let p = from_has_flat (knowns_for s.lists.waiting.askers) out news k in
+                (let p = from_has_flat_map (knowns_for s.lists.waiting.askers) out news k in
                 let q = from_has_map (known_to p.0) out (askers_of p.0.of s.lists.waiting.askers) p.2 in
                 subst (λ (out : Outgoing). P out.msg) (sym q.2) (known p.0 p.1))
             | inr k ↦ elim (has_append out (map (commitok_of plan r.state) (filter (λ t. is_here t s.started) ts)) (map (fetch_from s.shard) (missing_from s (s.lists.known ++ news))) k) [

@@ -6,7 +6,7 @@ use Rattle.roc_sequence.specs.Lists.{Has}
 use Rattle.roc_sequence.specs.Places.{IsListed}
 use Rattle.roc_sequence.proofs.Found.{found_has}
 use Rattle.roc_sequence.proofs.Holds.{any_has, has_any}
-use Rattle.roc_sequence.proofs.Members.{has_append, has_one, has_left, has_right, has_map, from_has_map, has_filter, from_has_filter}
+use Rattle.roc_sequence.proofs.Members.{has_append, has_one, has_left, has_right, has_map, from_has_map, has_filter, from_has_filter, from_has_flat_map}
 use Rattle.roc_sequence.proofs.Appended.{listed_behind, listed_either}
 use Rattle.roc_base.specs.declared.id.TxnId.{TxnId}
 use Rattle.roc_base.specs.declared.node.Node.{Node}
@@ -43,7 +43,6 @@ use Rattle.roc_protocol.specs.World.{World, at_coord}
 use Rattle.roc_protocol.specs.Happens.{answer_entries}
 use Rattle.roc_protocol.specs.Inner.Given.{LogLaws}
 use Rattle.roc_protocol.proofs.Means.{run_of, place, Began, Means, ToldMeans, DoneMeans, TxnMeans, CoordMeans, AnswerMeans, WorldMeans}
-use Rattle.roc_protocol.proofs.Flat.{from_has_flat}
 use Rattle.roc_protocol.proofs.Coordinators.{starts_mean, commits_mean, commits_for-mean}
 use Rattle.roc_protocol.proofs.Rounds.{shards_begun, told, first_means, starts_means, commits_means, commitok_means, startok_means}
 use Rattle.roc_protocol.proofs.Replies.{answer_means}
@@ -310,8 +309,8 @@ module _ (plan : Plan) (asked : TxnId → whole.Call) (S : Scheme) (start : Stor
   pub tick_coordinated : IsCoordinated s (tick_sends plan s) []
   tick_coordinated =
       same (tick_sends plan s)
-      (λ out h. let q = from_has_flat (sent_again plan) out s.pending h in again_mean q.0 (means q.0 q.1) out (all_started plan q.0) refl q.2)
-      (λ out h. let q = from_has_flat (sent_again plan) out s.pending h in again_of q.0 (of q.0 q.1) out (all_started plan q.0) q.2)
+      (λ out h. let q = from_has_flat_map (sent_again plan) out s.pending h in again_mean q.0 (means q.0 q.1) out (all_started plan q.0) refl q.2)
+      (λ out h. let q = from_has_flat_map (sent_again plan) out s.pending h in again_of q.0 (of q.0 q.1) out (all_started plan q.0) q.2)
     where
       ready : (x : Transaction) → TxnMeans plan asked S start c x → (g : ℕ) → awaits_startok x g ≡ true → is_ready plan x g ≡ true
       ready x m g e = go (find_start g x.starts) refl (and_parts (is_some (find_start g x.starts)) (is_none (find_startok g x.startoks)) e).0

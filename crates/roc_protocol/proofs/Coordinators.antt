@@ -8,7 +8,7 @@ use Rattle.roc_sequence.specs.Places.{IsListed}
 use Rattle.roc_sequence.proofs.Holds.{all_has, has_all, every_has}
 use Rattle.roc_sequence.proofs.Found.{found_has}
 use Rattle.roc_sequence.proofs.Ranges.{range_below}
-use Rattle.roc_sequence.proofs.Members.{has_append, from_has_map, from_has_filter}
+use Rattle.roc_sequence.proofs.Members.{has_append, from_has_map, from_has_filter, has_flat_map, from_has_flat_map}
 use Rattle.roc_base.specs.declared.id.TxnId.{TxnId}
 use Rattle.roc_base.specs.declared.node.Node.TheVariants.{Server}
 use Rattle.roc_base.specs.declared.node.Shard.{Shard}
@@ -33,7 +33,6 @@ use Rattle.roc_coord.specs.declared.transaction.TakenStart.{TakenStart}
 use Rattle.roc_coord.specs.State.{find_startok}
 use Rattle.roc_coord.specs.Starts.{group_numbers, input_value, inputs_for, is_ready, shard_for, start_for, all_started, all_edges, shards_of, gathered, all_facts, commit_to, commits_of}
 use Rattle.roc_coord.specs.Step.{commits_for}
-use Rattle.roc_protocol.proofs.Flat.{has_flat, from_has_flat}
 use Rattle.roc_protocol.specs.Asked.{picked, IsSchemeOf}
 use Rattle.roc_protocol.proofs.Means.{HasBegun, run_of, Precedes, Ran, stage, values_for, IsSeen, ListMeans, AllMean, ToldMeans, StartMeans, StartIs, Means}
 use Rattle.roc_protocol.proofs.Facts.{has_fitting}
@@ -163,7 +162,7 @@ module _ (plan : Plan) (asked : TxnId → whole.Call) (S : Scheme) (start : Stor
 
       seen_raw : (d : Dependency) → Has d raw → IsSeen plan asked S start c t d
       seen_raw d h =
-          let a = from_has_flat (λ (ok : TakenStart). ok.edges) d x.startoks h in
+          let a = from_has_flat_map (λ (ok : TakenStart). ok.edges) d x.startoks h in
           let r = run_of t a.0.group in
           let q = (m.startoks a.0 a.1).edges.sound d a.2 in
           record { placed = (r, refl, q.0, q.3); by_now = λ f. (r, refl, q.0, sym q.1 ∙ f) }
@@ -189,14 +188,14 @@ module _ (plan : Plan) (asked : TxnId → whole.Call) (S : Scheme) (start : Stor
                 let same : r ≡ run_of t r.group = λ k. record { txn = e k; group = r.group } in
                 let q = o.4.edges.complete u (subst (Precedes plan asked S start c u) same b) in
                 let z = o.4.edges.sound q.0 q.1 in
-                let p = has-united raw q.0 (has_flat (λ (ok : TakenStart). ok.edges) q.0 o.0 x.startoks o.1 q.1) in
+                let p = has-united raw q.0 (has_flat_map (λ (ok : TakenStart). ok.edges) q.0 o.0 x.startoks o.1 q.1) in
                 (p.0, p.1, p.2.from ∙ q.2, λ f. p.2.imm (z.1 ∙ (ap S.is_immediate (sym same) ∙ f))));
           }
 
       facts_mean : AllMean plan asked S start c (all_facts x)
       facts_mean k h =
           let a = (from_has_filter (λ fact. not (is_txn fact.of x.id)) k (gathered (flat_map (λ (ok : TakenStart). ok.facts) x.startoks)) (has_fitting (filter (λ fact. not (is_txn fact.of x.id)) (gathered (flat_map (λ (ok : TakenStart). ok.facts) x.startoks))) k h)).0 in
-          let b = from_has_flat (λ (ok : TakenStart). ok.facts) k x.startoks (from_gathered k (flat_map (λ (ok : TakenStart). ok.facts) x.startoks) a) in
+          let b = from_has_flat_map (λ (ok : TakenStart). ok.facts) k x.startoks (from_gathered k (flat_map (λ (ok : TakenStart). ok.facts) x.startoks) a) in
           (m.startoks b.0 b.1).facts k b.2
 
       pub lists_mean : AllMean plan asked S start c (record { of = t; edges = all_edges x } ∷ all_facts x)

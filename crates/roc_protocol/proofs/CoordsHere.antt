@@ -6,7 +6,7 @@ use Rattle.std.specs.List.{AllByRecursion, list_any, range_with_len}
 use Rattle.roc_sequence.specs.Lists.{Has}
 use Rattle.roc_sequence.proofs.Found.{found_has}
 use Rattle.roc_sequence.proofs.Holds.{all_has, has_all, all_append, all_weaker, any_has}
-use Rattle.roc_sequence.proofs.Members.{has_append, has_one, from_has_map, from_has_filter}
+use Rattle.roc_sequence.proofs.Members.{has_append, has_one, from_has_map, from_has_filter, from_has_flat_map}
 use Rattle.roc_sequence.proofs.Ranges.{range_below}
 use Rattle.roc_base.specs.declared.id.TxnId.{TxnId}
 use Rattle.roc_base.specs.declared.node.Shard.{Shard}
@@ -32,7 +32,6 @@ use Rattle.roc_coord.specs.Tick.{awaits_startok, starts_again, commits_again, se
 use Rattle.roc_protocol.specs.Fits.{AreSeenHere, AreListsHere, NamesNodes, IsTransactionHere}
 use Rattle.roc_protocol.proofs.Coordinators.{from_gathered}
 use Rattle.roc_protocol.proofs.Facts.{has_fitting}
-use Rattle.roc_protocol.proofs.Flat.{from_has_flat}
 use Rattle.roc_protocol.proofs.Named.{shard_below, all_filter, all_flat, seen_united, IsOutHere}
 
 -- the shards of sent starts are there
@@ -64,7 +63,7 @@ module _ (plan : Plan) (servers coords : ℕ) (some : 0 < plan.program.shards) (
     has_all (λ (f : KnownList). AreSeenHere servers coords f.edges) (all_facts x) (λ f h.
         (let others = filter (λ (fact : KnownList). not (is_txn fact.of x.id)) (gathered (flat_map (λ (ok : TakenStart). ok.facts) x.startoks)) in
         let a = (from_has_filter (λ (fact : KnownList). not (is_txn fact.of x.id)) f (gathered (flat_map (λ (ok : TakenStart). ok.facts) x.startoks)) (has_fitting others f h)).0 in
-        let b = from_has_flat (λ (ok : TakenStart). ok.facts) f x.startoks (from_gathered f (flat_map (λ (ok : TakenStart). ok.facts) x.startoks) a) in
+        let b = from_has_flat_map (λ (ok : TakenStart). ok.facts) f x.startoks (from_gathered f (flat_map (λ (ok : TakenStart). ok.facts) x.startoks) a) in
         all_has (λ (f : KnownList). AreSeenHere servers coords f.edges) f b.0.facts (all_has (λ (ok : TakenStart). AreSeenHere servers coords ok.edges × AreListsHere servers coords ok.facts) b.0 x.startoks k.here.startoks b.1).1 b.2)),
   )
 

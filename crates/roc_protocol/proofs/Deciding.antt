@@ -7,10 +7,9 @@ use Rattle.roc_sequence.specs.Lists.{Has}
 use Rattle.roc_sequence.specs.Places.{IsListed, is_listed}
 use Rattle.roc_sequence.proofs.Holds.{any_has, has_any, all_weaker}
 use Rattle.roc_sequence.proofs.Found.{found_has}
-use Rattle.roc_sequence.proofs.Places.{listed_by_before}
-use Rattle.roc_sequence.proofs.Members.{from_has_map, has_append, from_has_filter}
+use Rattle.roc_sequence.proofs.Places.{listed_by_before, listed_or_not, unlisted_test}
+use Rattle.roc_sequence.proofs.Members.{from_has_map, has_append, from_has_filter, from_has_flat_map}
 use Rattle.roc_sequence.proofs.Listed as groups
-use Rattle.roc_sequence.proofs.Places.{listed_or_not, unlisted_test}
 use Rattle.roc_sequence.proofs.Appended.{listed_front, listed_behind, listed_either}
 use Rattle.roc_base.specs.declared.id.TxnId.{TxnId}
 use Rattle.roc_base.specs.TxnId.{is_txn}
@@ -39,7 +38,7 @@ use Rattle.roc_execution.specs.Taking.{IsTakenOrder}
 use Rattle.roc_execution.specs.Steps.{MayDecide, IsWaived, waits_here, waiting_here, new_in, with_decision, IsReachedLog, LogStep, shard_decides, no_steps, one_step_more}
 use Rattle.roc_execution.specs.Invariants.{LogInvariants, LogGrows}
 use Rattle.roc_server.specs.declared.started.StartedGroup.{StartedGroup}
-use Rattle.roc_server.specs.State.{is_group, find_group, ServerState}
+use Rattle.roc_server.specs.State.{is_group, find_group, ServerState, Lists, unrun}
 use Rattle.roc_lists.specs.New.{AreNew}
 use Rattle.roc_server.specs.Runs.{count_of_groups, groups_here, buffered_here, run_group, run_groups, take_all}
 use Rattle.roc_base.specs.Edges.{united}
@@ -47,11 +46,8 @@ use Rattle.roc_base.specs.declared.node.Shard.{Shard}
 use Rattle.roc_base.proofs.Members.{IsAllOf-united}
 use Rattle.roc_await.specs.declared.waits.Asked.{Asked}
 use Rattle.roc_await.specs.Waits.{is_asked_before, with_asked, with_all_asked}
-use Rattle.roc_protocol.proofs.Flat.{from_has_flat}
 use Rattle.roc_lists.specs.Asking.{asked_of}
 use Rattle.roc_server.specs.Lists.{is_missing, missing_from, lists_after}
-use Rattle.roc_server.specs.State.{Lists}
-use Rattle.roc_server.specs.State.{unrun}
 use Rattle.roc_protocol.specs.Asked.{IsSchemeOf}
 use Rattle.roc_protocol.specs.Inner.Given.{LogLaws}
 use Rattle.roc_protocol.proofs.Means.{HasBegun, run_of, entry_run, place, Ran, Began, stage, AllMean, AreGroupsHere, ServerMeans}
@@ -293,7 +289,7 @@ module _ (plan : Plan) (asked : TxnId → whole.Call) (S : Scheme) (start : Stor
       let q = from_has_map asked_of a (filter (is_missing s K) (united (flat_map (λ (k : KnownList). k.edges) K))) h in
       let z = (from_has_filter (is_missing s K) q.0 (united (flat_map (λ (k : KnownList). k.edges) K)) q.1).0 in
       let d = (IsAllOf-united (flat_map (λ (k : KnownList). k.edges) K) q.0 z).at in
-      let k = from_has_flat (λ (k : KnownList). k.edges) d.0 K d.1 in
+      let k = from_has_flat_map (λ (k : KnownList). k.edges) d.0 K d.1 in
       let m = ((known_mean k.0 k.1).sound d.0 k.2).placed in
       let p = m.2 in
       let first : HasBegun plan asked S start c d.0.from d.0.at.0 =

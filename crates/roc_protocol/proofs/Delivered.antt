@@ -6,7 +6,7 @@ use Rattle.std.proofs.lemmas.List.{length-append}
 use Rattle.std.specs.Prelude.{slice_get, slice_set}
 use Rattle.std.specs.List.{range_with_len}
 use Rattle.roc_sequence.specs.Lists.{Has}
-use Rattle.roc_sequence.proofs.Members.{has_left, has_right, has_map}
+use Rattle.roc_sequence.proofs.Members.{has_left, has_right, has_map, same_there}
 use Rattle.roc_base.specs.declared.id.TxnId.{TxnId}
 use Rattle.roc_base.specs.declared.node.Node.{Node}
 use Rattle.roc_base.specs.declared.node.Node.TheVariants.{Server, Coord}
@@ -31,7 +31,6 @@ use Rattle.roc_protocol.specs.Quiet.{IsToldIn}
 use Rattle.roc_protocol.proofs.Changed.{get-set_here, get-set_other}
 use Rattle.roc_protocol.proofs.Carried.{HoldsGood, KeepsGood}
 use Rattle.roc_protocol.proofs.Networks.{told_more}
-use Rattle.roc_protocol.proofs.OneRun.{same_there}
 use Rattle.roc_protocol.proofs.Replies.{in_range}
 use Rattle.roc_protocol.proofs.Hears.{SeeksAll, IsAnswered, Hears}
 use Rattle.roc_protocol.proofs.Takes.{Takes}

@@ -6,7 +6,7 @@ use Rattle.std.specs.List.{list_any}
 use Rattle.roc_sequence.specs.Lists.{Has}
 use Rattle.roc_sequence.specs.Places.{is_listed}
 use Rattle.roc_sequence.proofs.Holds.{any_has, has_any}
-use Rattle.roc_sequence.proofs.Members.{has_append, has_one, has_left, has_right, has_filter, from_has_map, from_has_filter}
+use Rattle.roc_sequence.proofs.Members.{has_append, has_one, has_left, has_right, has_filter, from_has_map, from_has_filter, from_has_flat_map}
 use Rattle.roc_base.specs.declared.id.TxnId.{TxnId}
 use Rattle.roc_base.specs.declared.node.Node.{Node}
 use Rattle.roc_base.specs.declared.node.Node.TheVariants.{Server, Coord}
@@ -37,7 +37,6 @@ use Rattle.roc_lists.specs.Carried.{list_with, carried, unknown_of}
 use Rattle.roc_lists.specs.Asking.{known_to, knowns_for, fetch_from}
 use Rattle.roc_server.specs.Lists.{lists_after, missing_from, taught, commit_fault, after_commit, fetch_taken, after_fetch, known_fault, after_known}
 use Rattle.roc_server.specs.Step.{Findings, Handles, after_message, tick_sends}
-use Rattle.roc_protocol.proofs.Flat.{from_has_flat}
 use Rattle.roc_protocol.proofs.Deciding.{take_keeps}
 use Rattle.roc_coord.specs.State.{CoordState}
 use Rattle.roc_audit.specs.declared.entry.Entry.{Entry}
@@ -102,7 +101,7 @@ module _ (plan : Plan) (For : TxnId → ℕ → Type 0) (s : ServerState) (waits
         mine out h =
             elim (has_append out (flat_map (knowns_for s.lists.waiting.askers) news) (map (commitok_of plan r.state) (filter (λ t. is_here t s.started) ts) ++ map (fetch_from s.shard) (missing_from s (s.lists.known ++ news))) h) [
               | inl k ↦
-                  (let p = from_has_flat (knowns_for s.lists.waiting.askers) out news k in
+                  (let p = from_has_flat_map (knowns_for s.lists.waiting.askers) out news k in
                   let q = from_has_map (known_to p.0) out (askers_of p.0.of s.lists.waiting.askers) p.2 in
                   let a = from_has_filter (λ (a : Asker). is_txn a.id p.0.of) q.0 s.lists.waiting.askers q.1 in
                   subst (λ (out : Outgoing). FetchedFor (IsFor For r.state) out.msg out.to) (sym q.2) (inr (subst (λ t. For t q.0.shard.0) (is_txn-true q.0.id p.0.of a.1) (waits q.0 a.0))))

@@ -1,31 +1,24 @@
 -- What a step finds in the lists is always there
-use Rattle.std.proofs.Common.{◌≡◌, Bool, true, false, not, ◌&&◌, ◌||◌, List, [], ◌∷◌, ◌++◌, map, Option, Some, None, is_some, unwrap_or, refl, sym, ap, subst, ◌∙◌, inl, inr, IsTrue}
+use Rattle.std.proofs.Common.{◌≡◌, Bool, true, false, not, ◌&&◌, ◌||◌, List, [], ◌++◌, map, Option, Some, None, is_some, unwrap_or, refl, sym, subst, ◌∙◌, inl, inr}
 use Rattle.std.proofs.lemmas.Bool.{false≢true, and_parts, and_from, or_cases, or_left, or_right, not-true, not_from_false, false_from_ne_true}
 use Rattle.std.proofs.lemmas.List.Kept.{IsStrictlySortedBy-filter}
-use Rattle.std.specs.List.{AllByRecursion, list_any, filter, flat_map}
-use Rattle.std.specs.List.Sorted.{IsStrictlySortedBy}
-use Rattle.std.specs.Ordering.{is_lt}
-use Rattle.std.specs.declared.cmp.Ordering.{Ordering}
-use Rattle.std.specs.declared.cmp.Ordering.TheVariants.{Less, Equal, Greater}
+use Rattle.std.specs.List.{list_any, filter, flat_map}
 use Rattle.roc_sequence.specs.Lists.{Has}
 use Rattle.roc_sequence.specs.Places.{IsListed}
-use Rattle.roc_sequence.specs.Rising.{IsRising}
 use Rattle.roc_sequence.proofs.Filtered.{listed_filter, from_listed_filter}
 use Rattle.roc_sequence.proofs.Holds.{any_has, has_any, none_has}
-use Rattle.roc_sequence.proofs.Members.{has_map, from_has_map}
+use Rattle.roc_sequence.proofs.Members.{has_map, has_flat_map}
 use Rattle.roc_base.specs.declared.id.TxnId.{TxnId}
-use Rattle.roc_base.specs.TxnId.{is_txn, txn_cmp, txn_lt}
+use Rattle.roc_base.specs.TxnId.{is_txn, txn_cmp}
 use Rattle.roc_base.specs.Edge.{Dependency}
-use Rattle.roc_base.specs.Edges.{comes_before, all_of, united}
 use Rattle.roc_base.specs.Equalities.{is_txn-true}
-use Rattle.roc_base.proofs.Ids.{is_lt-txn_cmp, is_txn-eq}
-use Rattle.roc_base.proofs.Members.{all_of-none, entry_at-has, IsAllOf-united}
-use Rattle.roc_base.proofs.Union.{IsRising-united, entry_at-united}
+use Rattle.roc_base.proofs.Ids.{is_txn-eq}
 use Rattle.roc_depgraph.specs.declared.known.KnownList.{KnownList}
 use Rattle.roc_depgraph.specs.Closure.{IsRisingListOf}
 use Rattle.roc_depgraph.specs.Deps.{list_of, entries_of, is_known, IsKnown, Precedes, IsDecided}
 use Rattle.roc_depgraph.specs.Reach.{Reaches, direct, through, ReachesOrIs}
-use Rattle.roc_depgraph.proofs.Listed.{has_listed, listed_has, has_under, under_has}
+use Rattle.roc_depgraph.proofs.Listed.{has_listed, listed_has, under_has}
+use Rattle.roc_depgraph.proofs.RisingIds.{ids, ids_complete, ids_rise}
 use Rattle.roc_ancestors.specs.Led.{IsKnownAndLedTo}
 use Rattle.roc_component.specs.Components.{HaveSameMembers, IsTakingOrder}
 use Rattle.roc_component.proofs.Paths.{path, path_chain, chain_path}
@@ -34,55 +27,14 @@ use Rattle.roc_msg.specs.declared.msg.Msg.{Msg}
 use Rattle.roc_plan.specs.Groups.{Plan}
 use Rattle.roc_server.specs.State.{ServerState, ServerStep}
 use Rattle.roc_server.specs.Step.{edges_told, lists_taught, Findings, after_message, Handles}
-use Rattle.roc_protocol.proofs.Flat.{has_flat}
 use Rattle.roc_protocol.proofs.Served.{list_has}
-
--- ---- the ids of a list, rising
-
-less_from_test : (o : Ordering) → is_lt o ≡ true → o ≡ Less
-less_from_test Less h = refl
-less_from_test Equal h = absurd (false≢true h)
-less_from_test Greater h = absurd (false≢true h)
-
-all_below : (id : TxnId) (ds : List Dependency) → AllByRecursion (λ d. IsTrue (txn_lt id d.from)) ds → AllByRecursion (λ u. txn_cmp id u ≡ Less) (map (λ d. d.from) ds)
-all_below id [] h = tt
-all_below id (d ∷ ds) h = (less_from_test (txn_cmp id d.from) (is_lt-txn_cmp id d.from ∙ h.0), all_below id ds h.1)
-
-sorted_from_rising : (ds : List Dependency) → IsRising comes_before ds → IsStrictlySortedBy txn_cmp (map (λ d. d.from) ds)
-unfolding IsStrictlySortedBy
-sorted_from_rising [] r = tt
-sorted_from_rising (d ∷ ds) r = (all_below d.from ds r.0, sorted_from_rising ds r.1)
-
-abbrev entry : TxnId → Dependency
-entry u = record { from = u; imm = true; def = true; at = record { 0 = 0 } }
-
-module _ (M : List TxnId) where
-  abbrev ids : List TxnId
-  ids = map (λ d. d.from) (united (map entry M))
-
-  ids_sound : (u : TxnId) → IsListed is_txn ids u → IsListed is_txn M u
-  ids_sound u h =
-      let z = has_under (λ d. d.from) (united (map entry M)) u h in
-      let d = (IsAllOf-united (map entry M) z.0 z.1).at in
-      let a = from_has_map entry d.0 M d.1 in
-      let same : a.0 ≡ u = ap (λ (x : Dependency). x.from) (sym a.2) ∙ (d.2 ∙ z.2) in
-      subst (IsListed is_txn M) same (has_listed M a.0 a.1)
-
-  ids_complete : (u : TxnId) → IsListed is_txn M u → IsListed is_txn ids u
-  ids_complete u h = go (all_of u (map entry M)) refl
-    where
-      go : (o : Option Dependency) → all_of u (map entry M) ≡ o → IsListed is_txn ids u
-      go None e = absurd (all_of-none u (map entry M) e (entry u) (has_map entry u M (listed_has M u h)) refl)
-      go (Some z) e =
-          let found = entry_at-has u (united (map entry M)) z (entry_at-united u (map entry M) ∙ e) in
-          subst (IsListed is_txn ids) found.1 (under_has (λ d. d.from) (united (map entry M)) z found.0)
 
 -- what a test tells of ids that are listed can be listed, rising
 rising_of : (P : TxnId → Type 0) (M : List TxnId) (p : TxnId → Bool) → ((u : TxnId) → p u ≡ true → P u) → ((u : TxnId) → P u → p u ≡ true) → ((u : TxnId) → P u → IsListed is_txn M u) → (xs : List TxnId) × IsRisingListOf P xs
 rising_of P M p from to within = (
   filter p (ids M),
   record {
-    rising = IsStrictlySortedBy-filter txn_cmp p (ids M) (sorted_from_rising (united (map entry M)) (IsRising-united (map entry M)));
+    rising = IsStrictlySortedBy-filter txn_cmp p (ids M) (ids_rise M);
     sound = λ u l. from u (from_listed_filter is_txn is_txn-true p (ids M) u l).0;
     complete = λ u h. listed_filter is_txn is_txn-true p (ids M) u (to u h) (ids_complete M u (within u h));
   },
@@ -123,7 +75,7 @@ module _ (known : List KnownList) where
           let k = list_has known t es e in
           let d = any_has (λ d. is_txn d.from u) es i in
           let there : Has u (map (λ d. d.from) es) = subst (λ v. Has v (map (λ d. d.from) es)) (is_txn-true d.0.from u d.2) (has_map (λ d. d.from) d.0 es d.1) in
-          has_listed named u (has_flat (λ k. map (λ d. d.from) k.edges) u k.0 known k.1 (subst (λ ds. Has u (map (λ d. d.from) ds)) (sym k.3) there))
+          has_listed named u (has_flat_map (λ k. map (λ d. d.from) k.edges) u k.0 known k.1 (subst (λ ds. Has u (map (λ d. d.from) ds)) (sym k.3) there))
 
   -- a chain leads from u to t
   abbrev reach : TxnId → TxnId → Bool

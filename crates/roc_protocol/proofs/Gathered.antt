@@ -3,7 +3,7 @@ use Rattle.std.proofs.Common.{◌≡◌, ℕ, ℤ, Bool, true, false, not, cond,
 use Rattle.std.specs.Prelude.{filter, flat_map, if◌then◌else◌}
 use Rattle.roc_sequence.specs.Lists.{Has}
 use Rattle.roc_sequence.proofs.Found.{found_has}
-use Rattle.roc_sequence.proofs.Members.{has_append, has_one, from_has_map, from_has_filter}
+use Rattle.roc_sequence.proofs.Members.{has_append, has_one, from_has_map, from_has_filter, from_has_flat_map}
 use Rattle.roc_base.specs.declared.id.TxnId.{TxnId}
 use Rattle.roc_base.specs.declared.node.Shard.{Shard}
 use Rattle.roc_base.specs.TxnId.{is_txn}
@@ -24,7 +24,6 @@ use Rattle.roc_coord.specs.Step.{unless_refused, with_commits, commits_for, with
 use Rattle.roc_coord.specs.Submit.{next_id, new_transaction, accepted}
 use Rattle.roc_coord.specs.Tick.{awaits_startok, starts_again, commits_again, sent_again, tick_sends}
 use Rattle.roc_protocol.specs.Final.{lists_in}
-use Rattle.roc_protocol.proofs.Flat.{from_has_flat}
 use Rattle.roc_protocol.proofs.Coordinators.{from_gathered}
 use Rattle.roc_protocol.proofs.Facts.{has_fitting}
 
@@ -79,7 +78,7 @@ module _ (plan : Plan) (Good : TxnId → List Dependency → Type 0) (Told : Txn
             | inl e ↦ subst (λ (k : KnownList). Good k.of k.edges) (sym e) (whole x g all)
             | inr m ↦
                 (let a = (from_has_filter (λ fact. not (is_txn fact.of x.id)) k (gathered (flat_map (λ (ok : TakenStart). ok.facts) x.startoks)) (has_fitting (filter (λ fact. not (is_txn fact.of x.id)) (gathered (flat_map (λ (ok : TakenStart). ok.facts) x.startoks))) k m)).0 in
-                let b = from_has_flat (λ (ok : TakenStart). ok.facts) k x.startoks (from_gathered k (flat_map (λ (ok : TakenStart). ok.facts) x.startoks) a) in
+                let b = from_has_flat_map (λ (ok : TakenStart). ok.facts) k x.startoks (from_gathered k (flat_map (λ (ok : TakenStart). ok.facts) x.startoks) a) in
                 facts_good x.id b.0 (g.startoks b.0 b.1) k b.2)
           ],
           tt,
@@ -157,7 +156,7 @@ module _ (plan : Plan) (Good : TxnId → List Dependency → Type 0) (Told : Txn
     message_gathered Stop t = ignores
 
     pub tick_gathered : KeepsGathered s (tick_sends plan s)
-    tick_gathered = same (tick_sends plan s) (λ out h. let q = from_has_flat (sent_again plan) out s.pending h in again q.0 (old q.0 q.1) out (all_started plan q.0) refl q.2)
+    tick_gathered = same (tick_sends plan s) (λ out h. let q = from_has_flat_map (sent_again plan) out s.pending h in again q.0 (old q.0 q.1) out (all_started plan q.0) refl q.2)
       where
         again : (x : Transaction) → IsGathered x → (out : Outgoing) → (b : Bool) → all_started plan x ≡ b → Has out (if b then commits_again x else starts_again plan x) → AllGood (lists_in out.msg) × IsRound out.msg
         again x g out true e h = commits_carry x g e (filter (λ (shard : Shard). not (has_commitok shard x.commitoks)) x.asked) out h

@@ -4,7 +4,7 @@ use Rattle.std.proofs.lemmas.Bool.{cases_eq, ne_eqb, not_from_false}
 use Rattle.std.proofs.lemmas.List.{length-map}
 use Rattle.std.specs.Prelude.{slice_get, slice_set}
 use Rattle.roc_sequence.specs.Lists.{Has}
-use Rattle.roc_sequence.proofs.Members.{has_at, has_filter}
+use Rattle.roc_sequence.proofs.Members.{has_at, has_filter, same_there}
 use Rattle.roc_base.specs.declared.node.Node.{Node}
 use Rattle.roc_base.specs.declared.node.Node.TheVariants.{Server, Coord}
 use Rattle.roc_base.specs.declared.node.Shard.{Shard}
@@ -41,7 +41,6 @@ use Rattle.roc_protocol.proofs.Fetches.{HasAsked}
 use Rattle.roc_protocol.proofs.AskedFor.{run_asked}
 use Rattle.roc_protocol.proofs.Firsts.{found_at}
 use Rattle.roc_protocol.proofs.Worlds.{Submitting, is_refused, is_accepted, submitting}
-use Rattle.roc_protocol.proofs.OneRun.{same_there}
 use Rattle.roc_protocol.proofs.Ends.{server_takes}
 use Rattle.roc_protocol.proofs.Hears.{Hears}
 use Rattle.roc_protocol.proofs.Takes.{nothing_changes, message_result}

@@ -6,7 +6,7 @@ use Rattle.std.specs.List.{list_any}
 use Rattle.roc_sequence.specs.Lists.{Has}
 use Rattle.roc_sequence.proofs.Places.{listed_or_not}
 use Rattle.roc_sequence.proofs.Holds.{any_has, has_any}
-use Rattle.roc_sequence.proofs.Members.{has_append, has_left, has_right, has_map, has_filter, from_has_filter}
+use Rattle.roc_sequence.proofs.Members.{has_append, has_left, has_right, has_map, has_filter, from_has_filter, has_flat_map}
 use Rattle.roc_base.specs.declared.id.TxnId.{TxnId}
 use Rattle.roc_base.specs.TxnId.{is_txn}
 use Rattle.roc_base.specs.Equalities.{is_txn-true}
@@ -30,7 +30,6 @@ use Rattle.roc_server.specs.Runs.{commitok_of}
 use Rattle.roc_lists.specs.Carried.{list_with}
 use Rattle.roc_lists.specs.Asking.{known_to, knowns_for, fetch_from, asked_of}
 use Rattle.roc_server.specs.Lists.{lists_after, is_missing, missing_from, taught}
-use Rattle.roc_protocol.proofs.Flat.{has_flat}
 use Rattle.roc_protocol.proofs.Facts.{known_has}
 use Rattle.roc_await.proofs.Asking.{asked_still, asked_all}
 use Rattle.roc_protocol.proofs.Carried.{take_same}
@@ -151,7 +150,7 @@ module _ (plan : Plan) (s : ServerState) where
             inl (
               q.0.edges,
               has_left (known_to (list_with a.id q.0.edges) a) knowns (commitoks ++ fetches)
-                  (has_flat (knowns_for s.lists.waiting.askers) (known_to (list_with a.id q.0.edges) a) q.0 news q.1
+                  (has_flat_map (knowns_for s.lists.waiting.askers) (known_to (list_with a.id q.0.edges) a) q.0 news q.1
                   (subst (λ t. Has (known_to (list_with t q.0.edges) a) (knowns_for s.lists.waiting.askers q.0)) same
                   (has_map (known_to q.0) a (askers_of q.0.of s.lists.waiting.askers) (has_filter (λ (a : Asker). is_txn a.id q.0.of) a s.lists.waiting.askers h (is_txn-eq a.id q.0.of (sym same)))))),
             )
@@ -175,7 +174,7 @@ module _ (plan : Plan) (s : ServerState) where
     taught_seeks k h d m =
         let h2 = subst (λ (l : Lists). Has k l.known) lists_are h in
         let all = flat_map (λ (k : KnownList). k.edges) K in
-        let z = has-united all d (has_flat (λ (k : KnownList). k.edges) d k K h2 m) in
+        let z = has-united all d (has_flat_map (λ (k : KnownList). k.edges) d k K h2 m) in
         subst (IsSought r.state) z.2.from (sought z.0 z.1 (is_known K z.0.from) (is_here z.0.from s.started) (was_asked_for z.0.from s.lists.waiting.asked) refl refl refl)
       where
         asked_later : (u : TxnId) → was_asked_for u (with_all_asked (missing_from s K) s.lists.waiting.asked) ≡ true → was_asked_for u r.state.lists.waiting.asked ≡ true

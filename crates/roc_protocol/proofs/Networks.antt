@@ -7,7 +7,7 @@ use Rattle.roc_sequence.specs.Lists.{Has}
 use Rattle.roc_sequence.proofs.Holds.{every_has, all_has}
 use Rattle.roc_sequence.proofs.Ranges.{range_below}
 use Rattle.roc_sequence.proofs.Found.{found_has, none_found}
-use Rattle.roc_sequence.proofs.Members.{has_append, has_left, from_has_map}
+use Rattle.roc_sequence.proofs.Members.{has_append, has_left, from_has_map, has_flat_map, from_has_flat_map}
 use Rattle.roc_base.specs.declared.id.TxnId.{TxnId}
 use Rattle.roc_base.specs.declared.node.Node.{Node}
 use Rattle.roc_base.specs.declared.node.Node.TheVariants.{Server}
@@ -41,7 +41,6 @@ use Rattle.roc_protocol.proofs.Means.{run_of, place, Means, ToldMeans}
 use Rattle.roc_protocol.proofs.Changed.{get-set_here, get-set_other, get-set_cases}
 use Rattle.roc_protocol.proofs.Carried.{IsToldBy, HoldsGood, KeepsGood}
 use Rattle.roc_protocol.proofs.Gathered.{IsGathered}
-use Rattle.roc_protocol.proofs.Flat.{has_flat, from_has_flat}
 use Rattle.roc_protocol.proofs.Coordinators.{there}
 use Rattle.roc_protocol.proofs.Replies.{in_range}
 use Rattle.roc_lists.proofs.Unions.{same_members}
@@ -177,11 +176,11 @@ module _ (plan : Plan) (asked : TxnId → whole.Call) (S : Scheme) (is : IsSchem
 
         to_told : (d : Dependency) → Has d (flat_map (λ (ok : TakenStart). ok.edges) x.startoks) → Has d (flat_map (λ h. edges_of (find_startok h x.startoks)) (range_with_len 0 (count x.id)))
         to_told d k =
-            let a = from_has_flat (λ (ok : TakenStart). ok.edges) d x.startoks k in
+            let a = from_has_flat_map (λ (ok : TakenStart). ok.edges) d x.startoks k in
             let t = (g.startoks a.0 a.1).0 in
             let began = (from_place t.message t.has x.id a.0.group t.shard t.bound t.outs a.0.edges a.0.facts t.is).0.began in
             let l = (is.groups x.id a.0.group).0 (i.are_groups (run_of x.id a.0.group) began) in
-            has_flat (λ h. edges_of (find_startok h x.startoks)) d a.0.group (range_with_len 0 (count x.id)) (in_range 0 (count x.id) a.0.group (omega arith) (omega arith))
+            has_flat_map (λ h. edges_of (find_startok h x.startoks)) d a.0.group (range_with_len 0 (count x.id)) (in_range 0 (count x.id) a.0.group (omega arith) (omega arith))
             (first a.0 a.1 a.2 (find_startok a.0.group x.startoks) refl)
           where
             first : (ok : TakenStart) → Has ok x.startoks → Has d ok.edges → (o : Option TakenStart) → find_startok ok.group x.startoks ≡ o → Has d (edges_of o)
@@ -193,12 +192,12 @@ module _ (plan : Plan) (asked : TxnId → whole.Call) (S : Scheme) (is : IsSchem
 
         from_told : (d : Dependency) → Has d (flat_map (λ h. edges_of (find_startok h x.startoks)) (range_with_len 0 (count x.id))) → Has d (flat_map (λ (ok : TakenStart). ok.edges) x.startoks)
         from_told d k =
-            let a = from_has_flat (λ h. edges_of (find_startok h x.startoks)) d (range_with_len 0 (count x.id)) k in
+            let a = from_has_flat_map (λ h. edges_of (find_startok h x.startoks)) d (range_with_len 0 (count x.id)) k in
             back a.0 (find_startok a.0 x.startoks) refl a.2
           where
             back : (h : ℕ) (o : Option TakenStart) → find_startok h x.startoks ≡ o → Has d (edges_of o) → Has d (flat_map (λ (ok : TakenStart). ok.edges) x.startoks)
             back h None e k = absurd k
-            back h (Some b) e k = has_flat (λ (ok : TakenStart). ok.edges) d b x.startoks (found_has (λ (b : TakenStart). b.group == h) x.startoks b e).0 k
+            back h (Some b) e k = has_flat_map (λ (ok : TakenStart). ok.edges) d b x.startoks (found_has (λ (b : TakenStart). b.group == h) x.startoks b e).0 k
 
     -- ---- events
 

@@ -3,7 +3,7 @@ use Rattle.std.proofs.Common.{Bool, true, false, not, List, [], ◌∷◌, ◌++
 use Rattle.std.specs.Prelude.{filter, flat_map, if◌then◌else◌}
 use Rattle.roc_sequence.specs.Lists.{Has}
 use Rattle.roc_sequence.specs.Places.{is_listed}
-use Rattle.roc_sequence.proofs.Members.{has_append, has_one, from_has_map}
+use Rattle.roc_sequence.proofs.Members.{has_append, has_one, from_has_map, from_has_flat_map}
 use Rattle.roc_base.specs.declared.id.TxnId.{TxnId}
 use Rattle.roc_base.specs.declared.node.Shard.{Shard}
 use Rattle.roc_base.specs.TxnId.{is_txn}
@@ -27,7 +27,6 @@ use Rattle.roc_lists.specs.Carried.{list_with, carried, unknown_of}
 use Rattle.roc_lists.specs.Asking.{known_to, knowns_for, fetch_from}
 use Rattle.roc_server.specs.Lists.{missing_from, taught, commit_fault, after_commit, fetch_taken, after_fetch, known_fault, after_known}
 use Rattle.roc_server.specs.Step.{Findings, after_message, tick_sends}
-use Rattle.roc_protocol.proofs.Flat.{from_has_flat}
 use Rattle.roc_protocol.proofs.Served.{StartsAre}
 
 module _ (plan : Plan) (s : ServerState) (Of : TxnId → Type 0) where
@@ -49,7 +48,7 @@ module _ (plan : Plan) (s : ServerState) (Of : TxnId → Type 0) where
   taught_none news ts out h =
       elim (has_append out (flat_map (knowns_for s.lists.waiting.askers) news) (map (commitok_of plan (taught plan s news ts).state) (filter (λ t. is_here t s.started) ts) ++ map (fetch_from s.shard) (missing_from s (s.lists.known ++ news))) h) [
         | inl k ↦
-            (let p = from_has_flat (knowns_for s.lists.waiting.askers) out news k in
+            (let p = from_has_flat_map (knowns_for s.lists.waiting.askers) out news k in
             let q = from_has_map (known_to p.0) out (askers_of p.0.of s.lists.waiting.askers) p.2 in
             subst (λ (out : Outgoing). StartsAre Of out.msg) (sym q.2) tt)
         | inr k ↦ elim (has_append out (map (commitok_of plan (taught plan s news ts).state) (filter (λ t. is_here t s.started) ts)) (map (fetch_from s.shard) (missing_from s (s.lists.known ++ news))) k) [

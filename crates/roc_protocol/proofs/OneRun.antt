@@ -1,7 +1,8 @@
 -- What comes of an event is one, and so is the run of a list of events
 use Rattle.std.proofs.Common.{◌≡◌, ℕ, ℤ, ◌-◌, List, [], ◌∷◌, ◌++◌, map, Some, None, Option, Result, Ok, Err, refl, sym, ap, subst, ◌∙◌}
 use Rattle.std.proofs.lemmas.List.{map-append}
-use Rattle.std.specs.Prelude.{slice_get}
+use Rattle.roc_sequence.proofs.Members.{same_there}
+use Rattle.roc_sequence.proofs.Appended.{empty_more, same_more}
 use Rattle.roc_base.specs.declared.id.TxnId.{TxnId}
 use Rattle.roc_base.specs.declared.node.Node.{Node}
 use Rattle.roc_base.specs.declared.node.Node.TheVariants.{Server, Coord}
@@ -24,10 +25,6 @@ use Rattle.roc_protocol.specs.declared.event.Seen.TheVariants as seen
 use Rattle.roc_protocol.specs.World.{World, comes, at_coord}
 use Rattle.roc_protocol.specs.Happens.{Outcome, undecided, Submits, IsSubmissionOf, served, coordinated, IsReceived, Ticks, Happens}
 use Rattle.roc_protocol.specs.Run.{Stepped, Comes, IsRun, begun, goes_on}
-
--- what is found at a place is one
-pub same_there : {A : Type 0} (xs : List A) (i : ℕ) (a b : A) → slice_get xs i ≡ Some a → slice_get xs i ≡ Some b → a ≡ b
-same_there xs i a b h k = let both : Some a ≡ Some b = sym h ∙ k in cc
 
 module _ (plan : Plan) (one : (s : ServerState) (msg : Msg) (r other : ServerStep) → Handles plan s msg r → Handles plan s msg other → r ≡ other) where
   module _ (w : World) where
@@ -69,22 +66,6 @@ module _ (plan : Plan) (one : (s : ServerState) (msg : Msg) (r other : ServerSte
   pub one_step : (w : World) (e : Option Event) (o other : Outcome) → Comes plan w e o → Comes plan w e other → o ≡ other
   one_step w None o other h k = h ∙ sym k
   one_step w (Some e) o other h k = one_event w e o other h k
-
--- lists with one more at the end
-empty_more : {A : Type 0} (xs : List A) (x : A) → ¬ ([] ≡ xs ++ x ∷ [])
-empty_more [] x e = cc
-empty_more (y ∷ ys) x e = cc
-
-same_more : {A : Type 0} (xs ys : List A) (x y : A) → xs ++ x ∷ [] ≡ ys ++ y ∷ [] → (xs ≡ ys) × (x ≡ y)
-same_more [] [] x y e = (refl, cc)
-same_more [] (z ∷ zs) x y e = absurd (empty_more zs y (cc))
-same_more (z ∷ zs) [] x y e = absurd (empty_more zs x (cc))
-same_more {A} (a ∷ xs) (b ∷ ys) x y e =
-    let head : a ≡ b = cc in
-    let tail : xs ++ x ∷ [] ≡ ys ++ y ∷ [] = cc in
-    let r = same_more xs ys x y tail in
-    let both : A → List A → List A = λ c cs. c ∷ cs in
-    ((λ i. both (head i) (r.0 i)), r.1)
 
 abbrev events : List Stepped → List (Option Event)
 events steps = map (λ s. s.event) steps

@@ -5,7 +5,7 @@ use Rattle.std.specs.Prelude.{slice_get, slice_set, filter, is_none, if◌then�
 use Rattle.roc_sequence.specs.Lists.{Has}
 use Rattle.roc_sequence.proofs.Holds.{has_any}
 use Rattle.roc_sequence.proofs.Found.{found_has}
-use Rattle.roc_sequence.proofs.Members.{has_append, has_one, has_right, has_at, has_map, from_has_map, from_has_filter}
+use Rattle.roc_sequence.proofs.Members.{has_append, has_one, has_right, has_at, has_map, from_has_map, from_has_filter, from_has_flat_map}
 use Rattle.roc_base.specs.declared.id.TxnId.{TxnId}
 use Rattle.roc_base.specs.declared.node.Node.{Node}
 use Rattle.roc_base.specs.declared.node.Node.TheVariants.{Server, Coord}
@@ -50,7 +50,6 @@ use Rattle.roc_protocol.specs.Inner.Given.{LogLaws, StoreLaws}
 use Rattle.roc_protocol.proofs.Means.{TxnMeans}
 use Rattle.roc_protocol.proofs.Rounds.{told}
 use Rattle.roc_protocol.proofs.Coordinators.{number_below, ready_group}
-use Rattle.roc_protocol.proofs.Flat.{from_has_flat}
 use Rattle.roc_protocol.proofs.Carried.{message_good, tick_good}
 use Rattle.roc_protocol.proofs.Served.{StartsAre}
 use Rattle.roc_protocol.proofs.NoStarts.{no_starts, no_starts_at_tick}
@@ -152,8 +151,8 @@ module _ (plan : Plan) (asked : TxnId → whole.Call) (S : Scheme) (is : IsSchem
       tick_pending tells =
           let a = stays plan s once in
           coordinated_pending plan asked S is laws w log l subs o n s there s a (tick_sends plan s) tells (own_after s a)
-          (λ out h. let q = from_has_flat (sent_again plan) out s.pending h in again_starts a q.0 q.1 out (all_started plan q.0) q.2)
-          (λ out h k j. let q = from_has_flat (sent_again plan) out s.pending h in again_lists a q.0 q.1 out (all_started plan q.0) refl q.2 k j)
+          (λ out h. let q = from_has_flat_map (sent_again plan) out s.pending h in again_starts a q.0 q.1 out (all_started plan q.0) q.2)
+          (λ out h k j. let q = from_has_flat_map (sent_again plan) out s.pending h in again_lists a q.0 q.1 out (all_started plan q.0) refl q.2 k j)
         where
           again_starts : Advances plan s s → (x : Transaction) → Has x s.pending → (out : Outgoing) → (b : Bool) → Has out (if b then commits_again x else starts_again plan x) → StartsOn (slice_set w.coords n s) out.msg out.to
           again_starts a x h out true k = commit_starts plan w.coords n s s there once x (filter (λ (shard : Shard). not (has_commitok shard x.commitoks)) x.asked) out k

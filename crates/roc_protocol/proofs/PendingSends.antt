@@ -2,7 +2,7 @@
 use Rattle.std.proofs.Common.{◌≡◌, ℕ, Bool, true, false, not, List, [], Some, map, refl, sym, ap, subst, ◌∙◌, inl, inr}
 use Rattle.std.specs.Prelude.{slice_get, slice_set, filter, flat_map, if◌then◌else◌}
 use Rattle.roc_sequence.specs.Lists.{Has}
-use Rattle.roc_sequence.proofs.Members.{has_append, from_has_map, from_has_filter}
+use Rattle.roc_sequence.proofs.Members.{has_append, from_has_map, from_has_filter, from_has_flat_map}
 use Rattle.roc_base.specs.declared.id.TxnId.{TxnId}
 use Rattle.roc_base.specs.declared.node.Shard.{Shard}
 use Rattle.roc_base.specs.TxnId.{is_txn}
@@ -17,7 +17,6 @@ use Rattle.roc_coord.specs.Step.{with_commits, commits_for, sends_after}
 use Rattle.roc_protocol.specs.Final.{lists_in}
 use Rattle.roc_protocol.proofs.Changed.{get-set_here}
 use Rattle.roc_protocol.proofs.Facts.{has_fitting}
-use Rattle.roc_protocol.proofs.Flat.{from_has_flat}
 use Rattle.roc_protocol.proofs.Coordinators.{from_gathered}
 use Rattle.roc_protocol.proofs.Held.{committed, commits_id, new_asked}
 use Rattle.roc_protocol.proofs.Pending.{AskedBy, IsWholeAt, StartsOn}
@@ -53,7 +52,7 @@ module _ (plan : Plan) (old : List CoordState) (n : ℕ) (s after : CoordState) 
         | inl e ↦ subst (λ (k : KnownList). IsWholeAt plan coords k.of) (sym e) (whole_at y.id x h same own w)
         | inr m ↦
             (let a = (from_has_filter (λ fact. not (is_txn fact.of y.id)) l (gathered (flat_map (λ (ok : TakenStart). ok.facts) y.startoks)) (has_fitting (filter (λ fact. not (is_txn fact.of y.id)) (gathered (flat_map (λ (ok : TakenStart). ok.facts) y.startoks))) l m)).0 in
-            let b = from_has_flat (λ (ok : TakenStart). ok.facts) l y.startoks (from_gathered l (flat_map (λ (ok : TakenStart). ok.facts) y.startoks) a) in
+            let b = from_has_flat_map (λ (ok : TakenStart). ok.facts) l y.startoks (from_gathered l (flat_map (λ (ok : TakenStart). ok.facts) y.startoks) a) in
             facts b.0 b.1 l b.2)
       ]
 

@@ -5,7 +5,7 @@ use Rattle.std.specs.Prelude.{slice_get, flat_map}
 use Rattle.std.specs.List.{range_with_len}
 use Rattle.roc_sequence.specs.Lists.{Has}
 use Rattle.roc_sequence.proofs.Holds.{any_has, has_any, all_has}
-use Rattle.roc_sequence.proofs.Members.{has_at}
+use Rattle.roc_sequence.proofs.Members.{has_at, from_has_flat_map, same_there}
 use Rattle.roc_sequence.proofs.Ranges.{range_below}
 use Rattle.roc_base.specs.declared.id.TxnId.{TxnId}
 use Rattle.roc_base.specs.declared.node.Node.{Node}
@@ -39,8 +39,6 @@ use Rattle.roc_protocol.specs.Inner.Given.{LogLaws, StoreLaws}
 use Rattle.roc_protocol.proofs.Means.{Means}
 use Rattle.roc_protocol.proofs.Idle.{run_idle}
 use Rattle.roc_protocol.proofs.Facts.{known_has}
-use Rattle.roc_protocol.proofs.Flat.{from_has_flat}
-use Rattle.roc_protocol.proofs.OneRun.{same_there}
 use Rattle.roc_protocol.proofs.Finals.{known_final}
 use Rattle.roc_protocol.proofs.Serial as serial
 use Rattle.roc_protocol.proofs.Heard.{AreDelivered, StartsHeard, CommitsAreOut, CommitsHeard}
@@ -108,7 +106,7 @@ module _ (plan : Plan) (w : World) (o : HasHeard w) (finals : (n : ℕ) (s : Ser
       let f = finals n s there e.list e.is_known in
       let range = range_with_len 0 (length (groups_of plan f.proc)) in
       let a = (IsAllOf-united (flat_map f.union.told range) e.entry (subst (Has e.entry) f.union.is_union e.has)).at in
-      let g = from_has_flat f.union.told a.0 range a.1 in
+      let g = from_has_flat_map f.union.told a.0 range a.1 in
       let k = f.union.in_network g.0 (all_has (λ g. g < length (groups_of plan f.proc)) g.0 range (range_below 0 (length (groups_of plan f.proc)) (length (groups_of plan f.proc)) (omega arith)) g.1) in
       record { group = g.0; edges = f.union.told g.0; facts = k.0; told = subst (λ t. IsToldIn w.sent t g.0 (f.union.told g.0) k.0) e.of k.1; entry = a.0; listed = g.2; from = a.2 ∙ e.from }
 

@@ -7,7 +7,7 @@ use Rattle.std.specs.List.{list_any, range_with_len}
 use Rattle.roc_sequence.specs.Lists.{Has}
 use Rattle.roc_sequence.specs.Places.{IsListed}
 use Rattle.roc_sequence.proofs.Holds.{any_has, has_any, every_has}
-use Rattle.roc_sequence.proofs.Members.{has_append, from_has_filter, has_filter, has_left, has_right, has_map}
+use Rattle.roc_sequence.proofs.Members.{has_append, from_has_filter, has_filter, has_left, has_right, has_map, has_flat_map, from_has_flat_map}
 use Rattle.roc_base.specs.declared.id.TxnId.{TxnId}
 use Rattle.roc_base.specs.TxnId.{is_txn}
 use Rattle.roc_base.specs.declared.node.Shard.{Shard}
@@ -30,7 +30,6 @@ use Rattle.roc_coord.specs.Commits.{waits_on, groups_on, places_on, all_committe
 use Rattle.roc_protocol.specs.Asked.{IsSchemeOf}
 use Rattle.roc_protocol.proofs.Means.{run_of, place, Ran, stage, ToldMeans, DoneMeans, TxnMeans, waits_at, IsGiven, AnswerMeans}
 use Rattle.roc_protocol.proofs.Grows.{filter_same}
-use Rattle.roc_protocol.proofs.Flat.{has_flat, from_has_flat}
 use Rattle.roc_protocol.proofs.Coordinators.{number_below, below_number, numbers, told_all}
 use Rattle.roc_protocol.proofs.Rounds.{numbered, told}
 
@@ -196,8 +195,8 @@ module _ (plan : Plan) (asked : TxnId → whole.Call) (S : Scheme) (start : Stor
 
       from_placed : (at : ℕ) (v : ℤ) → Has (at, v) (placed_outs plan x) → IsGiven plan asked S start c t at v
       from_placed at v h = elim (has_append (at, v) (placed_by_startoks plan x) (placed_by_commitoks plan x) h) [
-        | inl k ↦ (let q = from_has_flat (given_by_start plan x) (at, v) x.startoks k in from_start at v q.0 q.1 q.2)
-        | inr k ↦ (let q = from_has_flat (given_by_commit plan x) (at, v) x.commitoks k in from_commit at v q.0 q.1 q.2)
+        | inl k ↦ (let q = from_has_flat_map (given_by_start plan x) (at, v) x.startoks k in from_start at v q.0 q.1 q.2)
+        | inr k ↦ (let q = from_has_flat_map (given_by_commit plan x) (at, v) x.commitoks k in from_commit at v q.0 q.1 q.2)
       ]
 
       -- ---- each place has a value
@@ -235,7 +234,7 @@ module _ (plan : Plan) (asked : TxnId → whole.Call) (S : Scheme) (start : Stor
                 let o = told_all plan asked S start is c i x (told plan asked S start is c i x m) all g l in
                 let n : length o.0.outs ≡ length (outs o.0.group) = subst (λ h. length o.0.outs ≡ length (outs h)) (sym o.3) (ap length (o.4.outs_now e) ∙ count_given (run_of t g) (i.now_ran (run_of t g) o.4.began e)) in
                 let q = has_pair at (outs o.0.group) o.0.outs n (subst (λ h. Has at (outs h)) (sym o.3) h) in
-                (q.0, has_left (at, q.0) (placed_by_startoks plan x) (placed_by_commitoks plan x) (has_flat (given_by_start plan x) (at, q.0) o.0 x.startoks o.1 (subst (λ p. Has (at, q.0) (zip (outs_of plan p o.0.group) o.0.outs)) (sym m.proc) q.1)))
+                (q.0, has_left (at, q.0) (placed_by_startoks plan x) (placed_by_commitoks plan x) (has_flat_map (given_by_start plan x) (at, q.0) o.0 x.startoks o.1 (subst (λ p. Has (at, q.0) (zip (outs_of plan p o.0.group) o.0.outs)) (sym m.proc) q.1)))
             go false e =
                 let number = below_number plan asked S start is c i x (told plan asked S start is c i x m) g l in
                 let k = committed_at g l in
@@ -244,8 +243,8 @@ module _ (plan : Plan) (asked : TxnId → whole.Call) (S : Scheme) (start : Stor
                 let gs = filter (waits_at plan asked S start c k.0.shard.0 t) below in
                 let waits : waits_at plan asked S start c k.0.shard.0 t g ≡ true = and_from (not (S.is_immediate (run_of t g))) (place plan asked S start c (run_of t g) == k.0.shard.0) (ap not e) (eq-eqb (place plan asked S start c (run_of t g)) k.0.shard.0 (sym same)) in
                 let mine : Has g gs = has_filter (waits_at plan asked S start c k.0.shard.0 t) g below (subst (Has g) (numbers plan asked S start is c i x (told plan asked S start is c i x m)) number) waits in
-                let q = has_pair at (flat_map outs gs) (flat_map gave gs) (lengths_of_flat outs gave gs (counts_at k.0.shard.0 d)) (has_flat outs at g gs mine h) in
-                (q.0, has_right (at, q.0) (placed_by_startoks plan x) (placed_by_commitoks plan x) (has_flat (given_by_commit plan x) (at, q.0) k.0 x.commitoks k.1 (subst (Has (at, q.0)) (sym (zip_of k.0 k.1)) q.1)))
+                let q = has_pair at (flat_map outs gs) (flat_map gave gs) (lengths_of_flat outs gave gs (counts_at k.0.shard.0 d)) (has_flat_map outs at g gs mine h) in
+                (q.0, has_right (at, q.0) (placed_by_startoks plan x) (placed_by_commitoks plan x) (has_flat_map (given_by_commit plan x) (at, q.0) k.0 x.commitoks k.1 (subst (Has (at, q.0)) (sym (zip_of k.0 k.1)) q.1)))
 
         pub answer_means : (w : IsListed is_txn c.order t) → AnswerMeans plan asked S start c t (reply_of plan x)
         answer_means w =

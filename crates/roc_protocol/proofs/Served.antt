@@ -6,7 +6,7 @@ use Rattle.roc_sequence.specs.Lists.{Has}
 use Rattle.roc_sequence.specs.Places.{IsListed, is_listed}
 use Rattle.roc_sequence.proofs.Places.{listed_true}
 use Rattle.roc_sequence.proofs.Found.{found_has}
-use Rattle.roc_sequence.proofs.Members.{has_append, has_one, from_has_map, from_has_filter}
+use Rattle.roc_sequence.proofs.Members.{has_append, has_one, from_has_map, from_has_filter, from_has_flat_map}
 use Rattle.roc_base.specs.declared.id.TxnId.{TxnId}
 use Rattle.roc_base.specs.declared.node.Node.TheVariants.{Server}
 use Rattle.roc_base.specs.declared.node.Shard.{Shard}
@@ -49,7 +49,6 @@ use Rattle.roc_protocol.specs.Inner.Given.{LogLaws}
 use Rattle.roc_protocol.proofs.Means.{Began, Means, ListMeans, AllMean, StartIs, DoneMeans, ServerMeans, WorldMeans}
 use Rattle.roc_protocol.proofs.Grows.{begun_grows, list_grows, decided_grows}
 use Rattle.roc_protocol.proofs.Buffered.{outs_told}
-use Rattle.roc_protocol.proofs.Flat.{from_has_flat}
 use Rattle.roc_protocol.proofs.Changed.{noted-new, server_means}
 use Rattle.roc_protocol.proofs.Elsewhere.{server_elsewhere}
 use Rattle.roc_protocol.proofs.Starting as starting
@@ -184,7 +183,7 @@ module _ (plan : Plan) (asked : TxnId → whole.Call) (S : Scheme) (start : Stor
     taught_mean : (out : Outgoing) → Has out (taught plan s news ts).sends → Means plan asked S start d2 out.msg out.to
     taught_mean out h = elim (has_append out (flat_map (knowns_for s.lists.waiting.askers) news) (map (commitok_of plan after) (filter (λ t. is_here t s.started) ts) ++ map (fetch_from s.shard) (missing_from s (s.lists.known ++ news))) h) [
       | inl k ↦
-          (let p = from_has_flat (knowns_for s.lists.waiting.askers) out news k in
+          (let p = from_has_flat_map (knowns_for s.lists.waiting.askers) out news k in
           let q = from_has_map (known_to p.0) out (askers_of p.0.of s.lists.waiting.askers) p.2 in
           subst (λ (out : Outgoing). Means plan asked S start d2 out.msg out.to) (sym q.2) (list_grows plan asked S start is c d2 i j2 g2 p.0.of p.0.edges (lists p.0 p.1), tt))
       | inr k ↦ elim (has_append out (map (commitok_of plan after) (filter (λ t. is_here t s.started) ts)) (map (fetch_from s.shard) (missing_from s (s.lists.known ++ news))) k) [

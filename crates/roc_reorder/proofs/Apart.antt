@@ -7,7 +7,7 @@ use Rattle.roc_sequence.specs.Lists.{Has}
 use Rattle.roc_sequence.specs.Places.{place_of, IsListed, IsListedBefore, NoneTwice}
 use Rattle.roc_sequence.specs.Rising.{IsRising}
 use Rattle.roc_sequence.proofs.Holds.{all_has, all_at, any_has, has_any}
-use Rattle.roc_sequence.proofs.Members.{has_map, has_filter, has_left, has_right}
+use Rattle.roc_sequence.proofs.Members.{has_map, has_filter, has_left, has_right, has_flat_map, from_has_flat_map}
 use Rattle.roc_sequence.proofs.Filtered.{before_filter, from_before_filter}
 use Rattle.roc_rows.specs.declared.cell.Cell.{Cell}
 use Rattle.roc_program.specs.Program.{Piece, Procedure}
@@ -15,8 +15,8 @@ use Rattle.roc_program.specs.Conflict.{conflict, are_in_conflict}
 use Rattle.roc_program.specs.Names.{piece_uses, bindings_of, bindings, has_name}
 use Rattle.roc_groups.specs.Groups.{piece_numbered, first_piece}
 use Rattle.roc_groups.specs.Flow.{feeds}
-use Rattle.roc_groups.proofs.Elements.{has_flat_map, from_has_flat_map, rising_across, numbers_one_way}
-use Rattle.roc_groups.proofs.Forward.{forward}
+use Rattle.roc_groups.proofs.Elements.{rising_across, numbers_one_way}
+use Rattle.roc_groups.proofs.Forward.{forward, name_has, has_named}
 use Rattle.roc_groups.proofs.Accepting.{pieces_apart}
 use Rattle.roc_conflict.proofs.Mirrored.{conflict_mirrored}
 use Rattle.roc_plan.specs.declared.group.Input.{Input}
@@ -26,7 +26,7 @@ use Rattle.roc_plan.specs.Turns.{AreInTurn}
 use Rattle.roc_group.proofs.Touches.{binds_in, known_in, touches, writes, not_true}
 use Rattle.roc_reorder.proofs.Commuting.{AreIndependent}
 use Rattle.roc_reorder.proofs.Sorting.{MayStand}
-use Rattle.roc_group.proofs.Starts.{bound_named, used_or_bound, name_has, has_named}
+use Rattle.roc_group.proofs.Starts.{bound_named, used_or_bound}
 use Rattle.roc_group.proofs.GroupStarts.{at, pieces_bound, binder, somewhere, is_taken}
 use Rattle.roc_reorder.proofs.Turned.{IsBehind, has_listed, listed_has, before_by_places, behind_first, behind_second, MayFollow, stand_all, conflict_of}
 use Rattle.roc_group.proofs.Grouped.{pr, pieces_of, has_names, has_row, one_group, group_rising, in_a_group, is_piece, source, source_is, piece_immediate, first_pieces}

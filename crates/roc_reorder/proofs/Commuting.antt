@@ -2,7 +2,7 @@
 use Rattle.std.proofs.Common.{◌≡◌, ℕ, ◌<◌, ℤ, pos, Bool, true, false, List, [], length, get_or, refl, sym, ap, ◌∙◌, arith}
 use Rattle.std.proofs.lemmas.Bool.{false≢true}
 use Rattle.roc_rows.specs.declared.cell.Cell.{Cell}
-use Rattle.roc_rows.specs.Store.{Store, read}
+use Rattle.roc_rows.specs.Store.{read}
 use Rattle.roc_rows.proofs.Stored.{same_store}
 use Rattle.roc_program.specs.Program.{Piece}
 use Rattle.roc_program.specs.Values.{Environment, value_of_name, value}
@@ -37,9 +37,6 @@ pub stays_long : (p : Progress) (x : Piece) → length (after_piece p x).environ
 stays_long p x = kept_long (value x.place p.environment) p x.body
 
 -- ---- what is the same
-
-pub same_numbers : (s t : Store) → ((c : Cell) → read s c ≡ read t c) → s ≡ t
-same_numbers s t h = same_store s t h
 
 pub same_values : (xs ys : Environment) → length xs ≡ length ys → ((n : ℕ) → value_of_name xs n ≡ value_of_name ys n) → xs ≡ ys
 same_values xs ys l h = same_at_each xs ys (pos 0) l (λ i k. h i)
@@ -77,7 +74,7 @@ module _ (p : Progress) (x y : Piece) (none : p.reply ≡ []) (apart : AreIndepe
   says_alike_first = sym first_x.said
 
   stores : (after_piece (then_piece p x) y).store ≡ (after_piece (then_piece p y) x).store
-  stores = same_numbers _ _ (λ c.
+  stores = same_store _ _ (λ c.
       either_way (touches y c) (touches x c) (read p.store c) (read (after_piece p x).store c) (read (after_piece p y).store c) (read (after_piece (then_piece p x) y).store c) (read (after_piece (then_piece p y) x).store c)
       (λ t. (sym (first_y.numbers c t), stays_number (then_piece p y) x c (apart.columns c t)))
       (λ f. (stays_number (then_piece p x) y c (untouched y c f), stays_number p y c (untouched y c f)))

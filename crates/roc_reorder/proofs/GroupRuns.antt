@@ -5,10 +5,12 @@ use Rattle.std.proofs.lemmas.Bool.{false≢true, eq-eqb, eqb-true}
 use Rattle.std.proofs.lemmas.List.{get_or-map, length-map, map-append}
 use Rattle.std.proofs.lemmas.List.Concat.{flat_map-append}
 use Rattle.std.proofs.lemmas.List.Folds.{list_any-append}
+use Rattle.roc_groups.proofs.Forward.{name_has, has_named}
 use Rattle.roc_sequence.specs.Lists.{Has}
 use Rattle.roc_sequence.proofs.Holds.{all_has, has_all, has_any, none_has}
-use Rattle.roc_sequence.proofs.Members.{has_left, has_right, has_append, has_map}
+use Rattle.roc_sequence.proofs.Members.{has_left, has_right, has_append, has_map, has_flat_map, from_has_flat_map}
 use Rattle.roc_rows.specs.Store.{Store}
+use Rattle.roc_rows.proofs.Stored.{same_store}
 use Rattle.roc_program.specs.Program.{Piece, Procedure}
 use Rattle.roc_program.specs.LookUps.{no_piece}
 use Rattle.roc_program.specs.Values.{Environment, value_of_name, with_arguments}
@@ -17,14 +19,11 @@ use Rattle.roc_whole.specs.Run.{Progress, progress, after_piece, after_pieces}
 use Rattle.roc_plan.specs.declared.group.Input.{Input}
 use Rattle.roc_plan.specs.Groups.{Plan, Group, no_group, procedure_of, groups_of, group_of, bound_in, bound_of, inputs_in, inputs_of, source_in, with_values}
 use Rattle.roc_group.specs.Group_run.{GroupCall, group_run, bound_by_run}
-use Rattle.roc_groups.proofs.Elements.{has_flat_map, from_has_flat_map}
 use Rattle.roc_reorder.specs.GroupsRun.{Given, TurnStage, bound_by, taken, call_of, after_turn, after_turns}
 use Rattle.roc_group.proofs.Alike.{Alike}
-use Rattle.roc_reorder.proofs.Commuting.{same_numbers}
 use Rattle.roc_reorder.proofs.Moving.{run_all, spoken, said_by, run_in_words, run_all-append, run_all-quiet}
-use Rattle.roc_group.proofs.Touches.{binds_in, known_in, any_implied, bound_known, or_false, not_true}
-use Rattle.roc_group.proofs.Starts.{name_has, has_named, at_position, position_within}
-use Rattle.roc_group.proofs.Touches.{binds_any, knows_any}
+use Rattle.roc_group.proofs.Touches.{binds_in, known_in, any_implied, bound_known, or_false, not_true, binds_any, knows_any}
+use Rattle.roc_group.proofs.Starts.{at_position, position_within}
 use Rattle.roc_reorder.proofs.Stages.{run_long, run_value, DoAlike, do_alike}
 use Rattle.roc_group.proofs.GroupStarts.{at, HasNames, pieces_bound, not_by_others, start_values, start_long, taken_is}
 
@@ -123,7 +122,7 @@ module _ (plan : Plan) (proc : ℕ) (args : List ℤ) (has : HasNames (procedure
     outs_are = ap (λ p. p.reply) group_ran ∙ sym alike.words
 
     cells_are : (group_run plan c s.store).store ≡ (run_all the_piece q (pieces_of g)).store
-    cells_are = ap (λ p. p.store) group_ran ∙ sym (same_numbers _ _ (λ c. alike.end.numbers c refl))
+    cells_are = ap (λ p. p.store) group_ran ∙ sym (same_store _ _ (λ c. alike.end.numbers c refl))
 
     known_bound : (n : ℕ) → binds_any the_piece (pieces_of g) n ≡ true → knows n ≡ true
     known_bound n e = any_implied (λ k. binds_in (the_piece k) n) (λ k. known_in (the_piece k) n) (λ k f. bound_known (the_piece k) n f) (pieces_of g) e

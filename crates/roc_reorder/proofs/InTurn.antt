@@ -9,11 +9,12 @@ use Rattle.roc_sequence.specs.Places.{place_of, IsListedBefore, NoneTwice, IsLis
 use Rattle.roc_sequence.specs.Rising.{IsRising}
 use Rattle.roc_sequence.proofs.Holds.{all_has, has_all, all_weaker, all_append}
 use Rattle.roc_sequence.proofs.Ranges.{range_below}
+use Rattle.roc_sequence.proofs.Members.{from_has_flat_map}
 use Rattle.roc_rows.specs.Store.{Store}
 use Rattle.roc_program.specs.Program.{Piece, Procedure}
 use Rattle.roc_program.specs.Values.{with_arguments}
 use Rattle.roc_whole.specs.Run.{Progress, progress, after_pieces, whole_run}
-use Rattle.roc_groups.proofs.Elements.{from_has_flat_map, range_rising}
+use Rattle.roc_groups.proofs.Elements.{range_rising}
 use Rattle.roc_plan.specs.Groups.{Plan, procedure_of, group_of, inputs_of, outs_of}
 use Rattle.roc_plan.specs.Accepted.{IsAccepted}
 use Rattle.roc_plan.specs.Turns.{AreInTurn}

@@ -2,24 +2,19 @@
 use Rattle.std.proofs.Common.{◌≡◌, ℕ, zero, suc, ◌+◌, ◌<◌, ◌≤◌, ℤ, pos, Bool, true, false, ◌==◌, if◌then◌else◌, List, [], ◌∷◌, ◌++◌, length, map, get_or, take, refl, sym, ap, subst, ◌∙◌, arith, append_assoc, append-nil, ◌⊎◌, inl, inr}
 use Rattle.std.specs.List.{AllByRecursion, flat_map, filter_map, range_with_len}
 use Rattle.std.proofs.lemmas.Bool.{false≢true, eq-eqb, eqb-true}
-use Rattle.std.proofs.lemmas.List.{length-append, map-append}
+use Rattle.std.proofs.lemmas.List.{map-append}
 use Rattle.roc_sequence.specs.Lists.{Has}
-use Rattle.roc_program.specs.Program.{Statement, Get, Set, Out, Piece, Procedure}
+use Rattle.roc_program.specs.Program.{Piece, Procedure}
 use Rattle.roc_program.specs.LookUps.{no_piece}
 use Rattle.roc_program.specs.Values.{value}
 use Rattle.roc_program.specs.Names.{output, outputs}
-use Rattle.roc_whole.specs.Run.{Progress, progress, after_statement, after_statements, after_piece}
+use Rattle.roc_whole.specs.Run.{Progress, progress, after_piece}
+use Rattle.roc_whole.proofs.Replied.{body_long}
 use Rattle.roc_group.proofs.Touches.{not_true}
 use Rattle.roc_reorder.proofs.Commuting.{then_piece}
 use Rattle.roc_reorder.proofs.Moving.{run_all, spoken, said_by}
 
 -- ---- how much a piece says
-
-body_long : (place : ℤ) (p : Progress) (ss : List Statement) → length (after_statements place p ss).reply ≡ length p.reply + length (filter_map output ss)
-body_long place p [] = omega arith
-body_long place p (Get number from ∷ ss) = body_long place (after_statement place p (Get number from)) ss
-body_long place p (Set to v ∷ ss) = body_long place (after_statement place p (Set to v)) ss
-body_long place p (Out v ∷ ss) = let r = body_long place (after_statement place p (Out v)) ss in let l = length-append p.reply (value v p.environment ∷ []) in omega (arith, r, l)
 
 pub piece_long : (p : Progress) (piece : Piece) → p.reply ≡ [] → length (after_piece p piece).reply ≡ length (outputs (piece ∷ []))
 piece_long p piece e =

@@ -12,7 +12,7 @@ use Rattle.roc_program.specs.Names.{bindings, has_name}
 use Rattle.roc_whole.specs.Run.{Progress, progress, after_piece, after_pieces}
 use Rattle.roc_group.proofs.Touches.{touches, binds_in, known_in, binds_any, knows_any, or_left, or_right}
 use Rattle.roc_group.proofs.Alike.{Alike, alike_piece}
-use Rattle.roc_reorder.proofs.Commuting.{then_piece, stays_value, stays_long, same_numbers}
+use Rattle.roc_reorder.proofs.Commuting.{then_piece, stays_value, stays_long}
 use Rattle.roc_reorder.proofs.Moving.{run_all, spoken, run_in_words}
 
 module _ (at : ℕ → Piece) where

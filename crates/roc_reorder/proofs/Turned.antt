@@ -8,7 +8,7 @@ use Rattle.roc_sequence.specs.Lists.{Has}
 use Rattle.roc_sequence.specs.Places.{place_of, IsListed, IsListedBefore, NoneTwice}
 use Rattle.roc_sequence.specs.Rising.{IsRising}
 use Rattle.roc_sequence.proofs.Holds.{all_has, has_all, all_at, any_has, has_any}
-use Rattle.roc_sequence.proofs.Members.{has_left, has_right, has_append, has_map, from_has_map}
+use Rattle.roc_sequence.proofs.Members.{has_left, has_right, has_append, has_map, from_has_map, has_flat_map, from_has_flat_map}
 use Rattle.roc_sequence.proofs.Filtered.{before_filter, from_before_filter}
 use Rattle.roc_rows.specs.declared.cell.Cell.{Cell}
 use Rattle.roc_program.specs.Program.{Workload, Procedure, Piece, Statement, Get, Set, Out}
@@ -20,7 +20,7 @@ use Rattle.roc_groups.specs.Groups.{groups_in, first_piece}
 use Rattle.roc_groups.specs.Flow.{feeds}
 use Rattle.roc_groups.specs.Grouping.{AreTogether, IsGrouping}
 use Rattle.roc_groups.specs.Accepted.{IsAcceptedIn, IsAcceptedGrouping}
-use Rattle.roc_groups.proofs.Elements.{has_flat_map, from_has_flat_map, place_of_has, has_at_place, rising_across, numbers_one_way}
+use Rattle.roc_groups.proofs.Elements.{place_of_has, has_at_place, rising_across, numbers_one_way}
 use Rattle.roc_group.proofs.Touches.{is_of, accesses, may_write, binds_in, known_in, touches, writes, not_true}
 use Rattle.roc_group.proofs.Covered.{collides}
 use Rattle.roc_reorder.proofs.Commuting.{AreIndependent}

@@ -9,7 +9,7 @@ use Rattle.roc_sequence.specs.Lists.{Has}
 use Rattle.roc_sequence.specs.Places.{place_of, IsListedBefore, NoneTwice, IsListed}
 use Rattle.roc_sequence.specs.Rising.{IsRising}
 use Rattle.roc_sequence.proofs.Holds.{all_has, has_all}
-use Rattle.roc_sequence.proofs.Members.{has_left, has_right, has_append}
+use Rattle.roc_sequence.proofs.Members.{has_left, has_right, has_append, has_flat_map, from_has_flat_map}
 use Rattle.roc_sequence.proofs.Ranges.{range_below}
 use Rattle.roc_rows.specs.Store.{Store}
 use Rattle.roc_program.specs.Program.{Expression, Piece, Procedure}
@@ -17,7 +17,7 @@ use Rattle.roc_program.specs.LookUps.{no_piece}
 use Rattle.roc_program.specs.Names.{output, outputs}
 use Rattle.roc_program.specs.Values.{with_arguments}
 use Rattle.roc_whole.specs.Run.{Progress, progress, after_piece, after_pieces, whole_run}
-use Rattle.roc_groups.proofs.Elements.{has_flat_map, from_has_flat_map, range_rising, numbers_one_way}
+use Rattle.roc_groups.proofs.Elements.{range_rising, numbers_one_way}
 use Rattle.roc_plan.specs.Groups.{Plan, procedure_of, pieces_at, inputs_of, outs_of, places_in}
 use Rattle.roc_plan.specs.Accepted.{IsAccepted}
 use Rattle.roc_plan.specs.Turns.{AreInTurn}

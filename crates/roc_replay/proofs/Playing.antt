@@ -1,6 +1,7 @@
 -- Lines that are played are a run, one run, and so are their fronts
 use Rattle.std.proofs.Common.{◌≡◌, List, [], ◌∷◌, ◌++◌, map, Option, refl, sym, ap, subst, ◌∙◌, append_assoc}
 use Rattle.std.proofs.lemmas.List.{map-append}
+use Rattle.roc_sequence.proofs.Appended.{empty_more, same_more}
 use Rattle.roc_plan.specs.Groups.{Plan}
 use Rattle.roc_protocol.specs.World.{World}
 use Rattle.roc_protocol.specs.Happens.{Outcome}
@@ -19,21 +20,6 @@ played_run plan lines steps w begun = run.begun
 played_run plan lines steps w (goes_on {lines = before} {steps = some} {w = old} line o p h) = run.goes_on (event_in old line.wanted) o (played_run plan before some old p) h
 
 -- ---- lists with one more at the end
-
-empty_more : {A : Type 0} (xs : List A) (x : A) → ¬ ([] ≡ xs ++ x ∷ [])
-empty_more [] x e = cc
-empty_more (y ∷ ys) x e = cc
-
-same_more : {A : Type 0} (xs ys : List A) (x y : A) → xs ++ x ∷ [] ≡ ys ++ y ∷ [] → (xs ≡ ys) × (x ≡ y)
-same_more [] [] x y e = (refl, cc)
-same_more [] (z ∷ zs) x y e = absurd (empty_more zs y (cc))
-same_more (z ∷ zs) [] x y e = absurd (empty_more zs x (cc))
-same_more {A} (a ∷ xs) (b ∷ ys) x y e =
-    let head : a ≡ b = cc in
-    let tail : xs ++ x ∷ [] ≡ ys ++ y ∷ [] = cc in
-    let r = same_more xs ys x y tail in
-    let both : A → List A → List A = λ c cs. c ∷ cs in
-    ((λ i. both (head i) (r.0 i)), r.1)
 
 -- ---- one run
 

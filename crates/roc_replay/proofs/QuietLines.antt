@@ -6,13 +6,13 @@ use Rattle.std.proofs.lemmas.Option.{slice_get_within}
 use Rattle.std.specs.List.{range_with_len}
 use Rattle.std.specs.Prelude.{slice_get}
 use Rattle.roc_sequence.specs.Lists.{Has}
-use Rattle.roc_sequence.proofs.Members.{has_append, has_left, has_right, from_has_map, from_has_filter}
+use Rattle.roc_sequence.proofs.Members.{has_append, has_left, has_right, from_has_map, from_has_filter, has_flat_map, from_has_flat_map}
 use Rattle.roc_base.specs.declared.id.TxnId.{TxnId}
 use Rattle.roc_base.specs.declared.node.Node.{Node}
 use Rattle.roc_base.specs.declared.node.Node.TheVariants.{Server, Coord}
 use Rattle.roc_depgraph.specs.Reach.{ReachesOrIs}
 use Rattle.roc_depgraph.proofs.Chains.{weaker_chain}
-use Rattle.roc_groups.proofs.Elements.{has_flat_map, from_has_flat_map, from_has_range}
+use Rattle.roc_groups.proofs.Elements.{from_has_range}
 use Rattle.roc_msg.specs.declared.msg.Msg.{Msg}
 use Rattle.roc_msg.specs.declared.msg.Sent.{Sent}
 use Rattle.roc_msg.specs.declared.outbox.Outgoing.{Outgoing}

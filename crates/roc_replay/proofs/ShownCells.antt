@@ -7,8 +7,7 @@ use Rattle.std.specs.Ordering.{is_gt}
 use Rattle.std.specs.List.{flat_map}
 use Rattle.std.specs.Prelude.{drop, slice_get, Contains}
 use Rattle.roc_sequence.specs.Lists.{Has}
-use Rattle.roc_sequence.proofs.Members.{has_left, has_right, has_map, has_at}
-use Rattle.roc_groups.proofs.Elements.{has_flat_map, from_has_flat_map}
+use Rattle.roc_sequence.proofs.Members.{has_left, has_right, has_map, has_at, has_flat_map, from_has_flat_map}
 use Rattle.roc_base.specs.declared.id.TxnId.{TxnId}
 use Rattle.roc_base.specs.declared.node.Shard.{Shard}
 use Rattle.roc_rows.specs.declared.cell.Cell.{Cell}

@@ -5,8 +5,8 @@ use Rattle.std.specs.Char.{is_ascii_digit}
 use Rattle.std.specs.Fmt.{decimal, signed_decimal}
 use Rattle.std.proofs.lemmas.Bool.{true≢false}
 use Rattle.std.proofs.lemmas.Int.{ints}
-use Rattle.std.proofs.lemmas.Bool.Decides.{nat_tests}
 use Rattle.std.proofs.lemmas.Fmt.{decimal_by_steps, decimal_injective, decimal_nonempty}
+use Rattle.roc_lang.proofs.Digits.{digit}
 use Rattle.roc_report.specs.ReportLine.{IsSmall}
 
 -- what stands behind a text: nothing, or a byte that the text does not have
@@ -42,9 +42,6 @@ runs_apart p (x ∷ xs) (y ∷ ys) r s all also stop end e =
 AreAll-more : (p : ℕ → Bool) (ds : List ℕ) (d : ℕ) → AreAll p ds → p d ≡ true → AreAll p (ds ++ d ∷ [])
 AreAll-more p [] d all is = (is, tt)
 AreAll-more p (c ∷ ds) d all is = (all.0, AreAll-more p ds d all.1 is)
-
-digit : (k : ℕ) → k < 10 → is_ascii_digit (48 + k) ≡ true
-digit k h = grind (arith, nat_tests)
 
 pub digits_of : (n : ℕ) → IsSmall n → AreAll is_ascii_digit (decimal n)
 digits_of n small = decimal_by_steps (λ m ds. AreAll is_ascii_digit ds) (λ m h. (digit m h, tt)) (λ m ds h all. AreAll-more is_ascii_digit ds (48 + m % 10) all (digit (m % 10) (omega arith))) n small

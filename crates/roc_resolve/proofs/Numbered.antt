@@ -4,13 +4,14 @@ use Rattle.std.proofs.lemmas.List.{map-append}
 use Rattle.std.proofs.lemmas.Slice.Eq.{bytes_eq-Decides}
 use Rattle.std.specs.List.{flat_map, filter_map, range_with_len}
 use Rattle.std.specs.Str.{bytes_eq}
+use Rattle.roc_scope.proofs.Names.{among-append}
 use Rattle.roc_lang.specs.Syntax as syntax
 use Rattle.roc_lang.specs.Syntax.{Name, Table, Statement, Piece}
 use Rattle.roc_lang.specs.Scope.{Twice, Bound, fault_at, is_among, bound_by, bound_after, repeated, key_faults, access_faults, statement_faults, statements_faults, piece_faults, pieces_faults}
 use Rattle.roc_program.specs.Names.{binding, bindings}
 use Rattle.roc_resolve.specs.Resolve as resolve
 use Rattle.roc_resolve.specs.Resolve.{texts, number_in}
-use Rattle.roc_resolve.proofs.Scoped.{front_none, back_none, number_of, among_append}
+use Rattle.roc_resolve.proofs.Scoped.{front_none, back_none, number_of}
 
 -- ---- what the resolved pieces bind
 
@@ -75,11 +76,11 @@ HasNoOther bound before = (name : Name) → is_among bound.known name ≡ false 
 is_new_here : (bound : Bound) (before : List Name) (name : Name) → HasNoOther bound before → repeated (bound.known ++ bound.own ++ bound.past) name ≡ [] → is_among (before ++ bound.own) name ≡ false
 is_new_here bound before name so e =
     let none : (is_among (bound.known ++ bound.own) name || is_among bound.past name) ≡ false =
-    sym (among_append (bound.known ++ bound.own) bound.past name) ∙ is_new (bound.known ++ bound.own ++ bound.past) name e in
+    sym (among-append (bound.known ++ bound.own) bound.past name) ∙ is_new (bound.known ++ bound.own ++ bound.past) name e in
     let parts = neither (is_among (bound.known ++ bound.own) name) (is_among bound.past name) none in
-    let front : (is_among bound.known name || is_among bound.own name) ≡ false = sym (among_append bound.known bound.own name) ∙ parts.0 in
+    let front : (is_among bound.known name || is_among bound.own name) ≡ false = sym (among-append bound.known bound.own name) ∙ parts.0 in
     let each = neither (is_among bound.known name) (is_among bound.own name) front in
-    among_append before bound.own name ∙ both_false (is_among before name) (is_among bound.own name) (so name each.0 parts.1) each.1
+    among-append before bound.own name ∙ both_false (is_among before name) (is_among bound.own name) (so name each.0 parts.1) each.1
 
 -- ---- numbers in a row
 
@@ -157,14 +158,14 @@ next_other bound before p so = go p.is_now
     after b = cond b (record { known = bound.known ++ own; own = []; past = bound.past }) (record { known = bound.known; own = []; past = bound.past ++ own })
 
     in_both : (name : Name) → is_among bound.known name ≡ false → is_among bound.past name ≡ false → is_among own name ≡ false → is_among (before ++ own) name ≡ false
-    in_both name k l m = among_append before own name ∙ both_false (is_among before name) (is_among own name) (so name k l) m
+    in_both name k l m = among-append before own name ∙ both_false (is_among before name) (is_among own name) (so name k l) m
 
     go : (b : Bool) → HasNoOther (after b) (before ++ own)
     go true name h k =
-        let parts = neither (is_among bound.known name) (is_among own name) (sym (among_append bound.known own name) ∙ h) in
+        let parts = neither (is_among bound.known name) (is_among own name) (sym (among-append bound.known own name) ∙ h) in
         in_both name parts.0 k parts.1
     go false name h k =
-        let parts = neither (is_among bound.past name) (is_among own name) (sym (among_append bound.past own name) ∙ k) in
+        let parts = neither (is_among bound.past name) (is_among own name) (sym (among-append bound.past own name) ∙ k) in
         in_both name h parts.0 parts.1
 
 after_none : (bound : Bound) (p : Piece) → (bound_after bound p).own ≡ []

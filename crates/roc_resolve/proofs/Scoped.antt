@@ -7,6 +7,7 @@ use Rattle.std.proofs.lemmas.List.FromFn.{length-range_with_len, get_or-range_wi
 use Rattle.std.proofs.lemmas.Slice.Eq.{bytes_eq-Decides}
 use Rattle.std.specs.List.{AllByRecursion, flat_map, range_with_len}
 use Rattle.std.specs.Str.{bytes_eq}
+use Rattle.roc_scope.proofs.Names.{among-append}
 use Rattle.roc_lang.specs.Syntax as syntax
 use Rattle.roc_lang.specs.Syntax.{Name, Table, Access, Statement}
 use Rattle.roc_lang.specs.Scope.{Fault, Unknown, LaterUsed, SamePieceKey, Unbound, Arity, Bound, fault_at, is_among, use_faults, names_of, key_faults, value_faults, table_named, table_faults, column_faults, arity_faults, access_faults, bound_by, statement_faults, statements_faults, repeated}
@@ -59,9 +60,6 @@ number_known (n ∷ ns) later name e =
 pub number_within : (all earlier later : List Name) (name : Name) → all ≡ earlier ++ later → is_among earlier name ≡ true → number_of all name < length earlier
 number_within all earlier later name e known = rw e (number_known earlier later name known)
 
-pub among_append : (xs ys : List Name) (name : Name) → is_among (xs ++ ys) name ≡ (is_among xs name || is_among ys name)
-among_append xs ys name = list_any-append (λ n. bytes_eq n.text name.text) xs ys
-
 -- ---- known names
 
 -- the numbers of these names are known
@@ -88,7 +86,7 @@ pub knows_both : (all xs ys : List Name) (ms ns : List ℕ) → Knows all xs ms 
 knows_both all xs ys ms ns k l name h =
     let n : ℕ = number_of all name in
     list_any-append (λ m. m == n) ms ns
-    ∙ elim (or_cases (is_among xs name) (is_among ys name) (sym (among_append xs ys name) ∙ h)) [
+    ∙ elim (or_cases (is_among xs name) (is_among ys name) (sym (among-append xs ys name) ∙ h)) [
       | inl e ↦ or_left (has_name ms n) (has_name ns n) (k name e)
       | inr e ↦ or_right (has_name ms n) (has_name ns n) (l name e)
     ]
@@ -116,7 +114,7 @@ use_key bound name e = go (is_among bound.known name) (is_among bound.own name) 
 
 -- a value may be bound in this piece too
 use_value : (bound : Bound) (name : Name) → use_faults bound false name ≡ [] → is_among (bound.known ++ bound.own) name ≡ true
-use_value bound name e = among_append bound.known bound.own name ∙ go (is_among bound.known name) (is_among bound.own name) (is_among bound.past name) e
+use_value bound name e = among-append bound.known bound.own name ∙ go (is_among bound.known name) (is_among bound.own name) (is_among bound.past name) e
   where
     go : (a b c : Bool) → cond a [] (cond b (cond false (fault_at name SamePieceKey) []) (cond c (fault_at name LaterUsed) (fault_at name Unbound))) ≡ [] → (a || b) ≡ true
     go true b c e = refl

@@ -15,6 +15,7 @@ use Rattle.std.specs.Map.{lookup, keys_of}
 use Rattle.std.specs.Ordering.{int_cmp, ordering_then, ordering_reverse, is_lt, is_eq}
 use Rattle.std.specs.declared.cmp.Ordering.{Ordering}
 use Rattle.std.specs.declared.cmp.Ordering.TheVariants.{Less, Equal, Greater}
+use Rattle.roc_sequence.proofs.Rising.{less_from_test}
 use Rattle.roc_rows.specs.declared.cell.Cell.{Cell}
 use Rattle.roc_rows.specs.Cells.{is_cell, cell_cmp}
 use Rattle.roc_rows.proofs.CellLaws.{is_cell-true, is_cell-swap, is_cell-equivalence, is_cell-by_cmp, cell_cmp-exact}
@@ -88,11 +89,6 @@ sorted_entries es fs d none p up =
     sym (map.entries-from_sorted cell_cmp fs sorted) ∙ ap map.entries same ∙ entries-numbers (store_of es)
 
 -- ---- what the entries of any store are
-
-less_from_test : (o : Ordering) → is_lt o ≡ true → o ≡ Less
-less_from_test Less h = refl
-less_from_test Equal h = absurd (false≢true h)
-less_from_test Greater h = absurd (false≢true h)
 
 true_from : (b : Bool) → T b → b ≡ true
 true_from true h = refl

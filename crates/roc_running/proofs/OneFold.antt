@@ -1,5 +1,6 @@
 -- The fold over a list of own events is one
-use Rattle.std.proofs.Common.{◌≡◌, ℕ, List, [], ◌∷◌, ◌++◌, refl, sym, ap, subst, ◌∙◌}
+use Rattle.std.proofs.Common.{◌≡◌, ℕ, List, ◌++◌, refl, sym, ap, subst, ◌∙◌}
+use Rattle.roc_sequence.proofs.Appended.{empty_more, same_more}
 use Rattle.roc_base.specs.declared.node.Shard.{Shard}
 use Rattle.roc_msg.specs.declared.msg.Msg.{Msg}
 use Rattle.roc_msg.specs.declared.outbox.Outgoing.{Outgoing}
@@ -9,21 +10,6 @@ use Rattle.roc_server.specs.Step.{Handles}
 use Rattle.roc_coord.specs.State.{CoordState}
 use Rattle.roc_running.specs.Own.{OwnEvent, delivered, ticked, requested}
 use Rattle.roc_running.specs.Fold.{ServerSteps, IsServerFold, server_begun, server_goes_on, CoordSteps, IsCoordFold, coord_begun, coord_goes_on}
-
-empty_more : {A : Type 0} (xs : List A) (x : A) → ¬ ([] ≡ xs ++ x ∷ [])
-empty_more [] x e = cc
-empty_more (y ∷ ys) x e = cc
-
-same_more : {A : Type 0} (xs ys : List A) (x y : A) → xs ++ x ∷ [] ≡ ys ++ y ∷ [] → (xs ≡ ys) × (x ≡ y)
-same_more [] [] x y e = (refl, cc)
-same_more [] (z ∷ zs) x y e = absurd (empty_more zs y (cc))
-same_more (z ∷ zs) [] x y e = absurd (empty_more zs x (cc))
-same_more {A} (a ∷ xs) (b ∷ ys) x y e =
-    let head : a ≡ b = cc in
-    let tail : xs ++ x ∷ [] ≡ ys ++ y ∷ [] = cc in
-    let r = same_more xs ys x y tail in
-    let both : A → List A → List A = λ c cs. c ∷ cs in
-    ((λ i. both (head i) (r.0 i)), r.1)
 
 module _ (plan : Plan) (one : (s : ServerState) (msg : Msg) (r other : ServerStep) → Handles plan s msg r → Handles plan s msg other → r ≡ other) where
   one_server_step : (s : ServerState) (own : OwnEvent) (after next : ServerState) (outs others : List Outgoing) → ServerSteps plan s own after outs → ServerSteps plan s own next others → (after ≡ next) × (outs ≡ others)

@@ -2,6 +2,7 @@
 use Rattle.std.proofs.Common.{◌≡◌, ℕ, ◌==◌, Bool, true, false, List, [], ◌∷◌, ◌++◌, Some, refl, sym, ap, subst, ◌∙◌, append-nil, arith}
 use Rattle.std.proofs.lemmas.Bool.{eqb-true, eq-eqb, false≢true}
 use Rattle.std.specs.Prelude.{slice_get, slice_set}
+use Rattle.roc_sequence.proofs.Members.{same_there}
 use Rattle.roc_base.specs.declared.node.Shard.{Shard}
 use Rattle.roc_base.specs.declared.node.Node.{Node}
 use Rattle.roc_base.specs.declared.node.Node.TheVariants.{Server, Coord}
@@ -18,10 +19,6 @@ use Rattle.roc_running.specs.Own.{OwnEvent, own_events, messages_of}
 use Rattle.roc_running.specs.Fold.{ServerSteps, IsServerFold, server_begun, server_goes_on, CoordSteps, IsCoordFold, coord_begun, coord_goes_on}
 use Rattle.roc_running.proofs.Stepping.{IsStepAt, IsStep, no_step, server_step, coord_step, stepping}
 use Rattle.roc_running.proofs.Owned.{Gains, gains_here, gains_elsewhere, gains_nothing}
-
--- what is found at a place is one
-same_there : {A : Type 0} (xs : List A) (i : ℕ) (a b : A) → slice_get xs i ≡ Some a → slice_get xs i ≡ Some b → a ≡ b
-same_there xs i a b h k = let both : Some a ≡ Some b = sym h ∙ k in cc
 
 -- ---- the same fold under equal lists
 

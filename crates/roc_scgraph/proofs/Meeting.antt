@@ -5,10 +5,11 @@ use Rattle.roc_program.specs.Program.{Workload}
 use Rattle.roc_program.specs.Pieces.{HasPiece}
 use Rattle.roc_program.specs.Conflict.{are_in_conflict}
 use Rattle.roc_program.specs.declared.piece_id.PieceId.{PieceId}
+use Rattle.roc_program.proofs.PieceIds.{same_id_parts}
 use Rattle.roc_scgraph.specs.Graph.{edge}
 use Rattle.roc_scgraph.specs.Cycles.{is_fixed, first_instance, IsUnreorderable}
 use Rattle.roc_scgraph.proofs.Vertices.{siblings_from, not_siblings, edge-siblings, edge-conflict}
-use Rattle.roc_scgraph.proofs.Middles.{second, through, same_id_parts}
+use Rattle.roc_scgraph.proofs.Middles.{second, through}
 
 either : (m n : ℕ) → (m ≡ n) ⊎ (m ≢ n)
 either m n = go (m == n) refl

@@ -1,5 +1,5 @@
 -- Cycles that begin and end in the first instance, and lead through second instances between
-use Rattle.std.proofs.Common.{◌≡◌, ◌≢◌, ℕ, Bool, true, false, ◌||◌, List, [], ◌∷◌, ◌++◌, map, Some, refl, sym, ap, subst, ◌∙◌, inl, inr, arith, length-append}
+use Rattle.std.proofs.Common.{◌≡◌, ◌≢◌, Bool, true, false, ◌||◌, List, [], ◌∷◌, ◌++◌, map, Some, refl, sym, ap, subst, inl, inr, arith, length-append}
 use Rattle.std.proofs.lemmas.Bool.{false≢true, or_right}
 use Rattle.std.specs.List.{AllByRecursion, list_any}
 use Rattle.roc_sequence.specs.Places.{NoneTwice, IsListed}
@@ -9,6 +9,7 @@ use Rattle.roc_program.specs.Program.{Workload}
 use Rattle.roc_program.specs.Pieces.{HasPiece}
 use Rattle.roc_program.specs.Conflict.{are_in_conflict}
 use Rattle.roc_program.specs.declared.piece_id.PieceId.{PieceId}
+use Rattle.roc_program.proofs.PieceIds.{same_id_parts}
 use Rattle.roc_scgraph.specs.declared.vertex.Vertex.{Vertex}
 use Rattle.roc_scgraph.specs.declared.vertex.Instance.TheVariants.{First, Second}
 use Rattle.roc_scgraph.specs.declared.vertex.Kind.TheVariants.{S, C}
@@ -19,13 +20,6 @@ use Rattle.roc_scgraph.proofs.Crossings.{AreFixed}
 
 abbrev pub second : PieceId → Vertex
 second p = record { proc = p.proc; piece = p.piece; instance = Second }
-
--- a piece has a number of its procedure and one of its own
-pub same_id_parts : (a b : PieceId) → a.proc ≡ b.proc → a.piece ≡ b.piece → a ≡ b
-same_id_parts a b e f =
-    let with_proc : ℕ → PieceId = λ n. record { proc = n; piece = a.piece } in
-    let with_piece : ℕ → PieceId = λ n. record { proc = b.proc; piece = n } in
-    ap with_proc e ∙ ap with_piece f
 
 pub first≢second : First ≢ Second
 first≢second e = false≢true (sym (ap (is_instance First) e))

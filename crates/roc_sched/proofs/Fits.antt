@@ -11,6 +11,7 @@ use Rattle.roc_base.specs.declared.node.Node.{Node}
 use Rattle.roc_base.specs.declared.node.Node.TheVariants.{Server, Coord}
 use Rattle.roc_lang.specs.Tokens.{decimal}
 use Rattle.roc_lang.specs.Grammar.{minus}
+use Rattle.roc_lang.proofs.Limited.{integer_fits}
 use Rattle.roc_sched.specs.declared.fault.What.TheVariants as what
 use Rattle.roc_sched.specs.declared.line.Act.{Act}
 use Rattle.roc_sched.specs.declared.line.Act.TheVariants.{Submit, Deliver, Any, Tick}
@@ -68,9 +69,6 @@ message_fits word n e =
     let fits = number_fits 4294967295 word m read in
     (omega (arith, same, some), omega (arith, same, fits)))
 
-plain_fits : (n : ℕ) → n < 2 ^ 63 → FitsSigned w64 (pos n)
-plain_fits n h = search rules
-
 negated_fits : (n : ℕ) → n ≤ 2 ^ 63 → FitsSigned w64 (neg_ℤ (pos n))
 negated_fits zero h = search rules
 negated_fits (suc n) h = search rules
@@ -82,7 +80,7 @@ integer_fits (b ∷ bs) z e = go (b == minus) e
   where
     go : (t : Bool) → cond t (option_map (λ n. neg_ℤ (pos n)) (number_up_to 9223372036854775808 bs)) (option_map pos (number_up_to 9223372036854775807 (b ∷ bs))) ≡ Some z → FitsSigned w64 z
     go true e = mapped (λ n. neg_ℤ (pos n)) (number_up_to 9223372036854775808 bs) z e (λ n read is. let fits = number_fits 9223372036854775808 bs n read in subst (FitsSigned w64) is (negated_fits n (omega (arith, fits))))
-    go false e = mapped pos (number_up_to 9223372036854775807 (b ∷ bs)) z e (λ n read is. let fits = number_fits 9223372036854775807 (b ∷ bs) n read in subst (FitsSigned w64) is (plain_fits n (omega (arith, fits))))
+    go false e = mapped pos (number_up_to 9223372036854775807 (b ∷ bs)) z e (λ n read is. let fits = number_fits 9223372036854775807 (b ∷ bs) n read in subst (FitsSigned w64) is (integer_fits n (omega (arith, fits))))
 
 -- ---- acts, whichever nodes there are
 

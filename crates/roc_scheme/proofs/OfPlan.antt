@@ -9,16 +9,17 @@ use Rattle.std.proofs.lemmas.List.FromFn.{length-range_with_len}
 use Rattle.roc_sequence.specs.Lists.{Has}
 use Rattle.roc_sequence.specs.Rising.{IsRising}
 use Rattle.roc_sequence.proofs.Holds.{all_has}
-use Rattle.roc_sequence.proofs.Members.{has_append}
+use Rattle.roc_sequence.proofs.Members.{has_append, has_flat_map, from_has_flat_map}
 use Rattle.roc_base.specs.declared.id.TxnId.{TxnId}
 use Rattle.roc_rows.specs.Store.{Store}
-use Rattle.roc_program.specs.Program.{Expression, Statement, Get, Set, Out, Piece, Procedure}
+use Rattle.roc_program.specs.Program.{Expression, Piece, Procedure}
 use Rattle.roc_program.specs.LookUps.{no_piece}
 use Rattle.roc_program.specs.Names.{output, outputs}
 use Rattle.roc_program.specs.Values.{value, with_arguments}
 use Rattle.roc_whole.specs.Serial as whole
-use Rattle.roc_whole.specs.Run.{Progress, progress, whole_run, after_statement, after_statements, after_piece, after_pieces}
-use Rattle.roc_groups.proofs.Elements.{has_flat_map, from_has_flat_map, from_has_range, has_range, range_rising, numbers_one_way}
+use Rattle.roc_whole.specs.Run.{Progress, progress, whole_run, after_piece, after_pieces}
+use Rattle.roc_whole.proofs.Replied.{body_long}
+use Rattle.roc_groups.proofs.Elements.{from_has_range, has_range, range_rising, numbers_one_way}
 use Rattle.roc_plan.specs.declared.group.Input.{Input}
 use Rattle.roc_plan.specs.Groups.{Plan, procedure_of, groups_of, group_of, inputs_of, is_immediate_of, outs_of, outs_in, pieces_at, places_in, shard_of}
 use Rattle.roc_plan.specs.Accepted.{IsAccepted}
@@ -37,12 +38,6 @@ few_shards plan ok (negsuc a) = let l = ok.well_formed.some_shard in let m : pla
     below n r l m = omega (arith, l, m)
 
 -- ---- how much a group says
-
-body_long : (place : ℤ) (p : Progress) (ss : List Statement) → length (after_statements place p ss).reply ≡ length p.reply + length (filter_map output ss)
-body_long place p [] = omega arith
-body_long place p (Get number from ∷ ss) = body_long place (after_statement place p (Get number from)) ss
-body_long place p (Set to v ∷ ss) = body_long place (after_statement place p (Set to v)) ss
-body_long place p (Out v ∷ ss) = let r = body_long place (after_statement place p (Out v)) ss in let l = length-append p.reply (value v p.environment ∷ []) in omega (arith, r, l)
 
 pieces_long : (procedure : Procedure) (p : Progress) (ks : List ℕ) → length (after_pieces p (pieces_at procedure ks)).reply ≡ length p.reply + length (outs_in procedure ks)
 pieces_long procedure p [] = omega arith

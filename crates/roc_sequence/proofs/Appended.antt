@@ -84,3 +84,19 @@ NoneTwice-append is own (x ∷ xs) ys h k apart = (
   ],
   NoneTwice-append is own xs ys h.1 k (λ a i j. apart a i (listed_tail is x xs a j)),
 )
+
+-- lists with one more at the end
+pub empty_more : {A : Type 0} (xs : List A) (x : A) → ¬ ([] ≡ xs ++ x ∷ [])
+empty_more [] x e = cc
+empty_more (y ∷ ys) x e = cc
+
+pub same_more : {A : Type 0} (xs ys : List A) (x y : A) → xs ++ x ∷ [] ≡ ys ++ y ∷ [] → (xs ≡ ys) × (x ≡ y)
+same_more [] [] x y e = (refl, cc)
+same_more [] (z ∷ zs) x y e = absurd (empty_more zs y (cc))
+same_more (z ∷ zs) [] x y e = absurd (empty_more zs x (cc))
+same_more {A} (a ∷ xs) (b ∷ ys) x y e =
+    let head : a ≡ b = cc in
+    let tail : xs ++ x ∷ [] ≡ ys ++ y ∷ [] = cc in
+    let r = same_more xs ys x y tail in
+    let both : A → List A → List A = λ c cs. c ∷ cs in
+    ((λ i. both (head i) (r.0 i)), r.1)

@@ -29,3 +29,8 @@ parts_at {A} xs i x within is =
     ap (λ (y : A). take i xs ++ y ∷ drop (suc i) xs) is
     ∙ ap (λ (rest : List A). take i xs ++ rest) (sym (drop-cons xs i x within))
     ∙ take-append-drop i xs
+
+-- nothing is left
+pub no_elements : {A : Type 0} (xs : List A) → length xs ≡ 0 → xs ≡ []
+no_elements [] e = refl
+no_elements (x ∷ xs) e = absurd (omega arith)

@@ -1,5 +1,5 @@
 -- What holds of all elements of a list, and what a test says of them
-use Rattle.std.proofs.Common.{◌≡◌, ℕ, zero, suc, ◌<◌, Bool, true, false, length, List, [], ◌∷◌, ◌++◌, get_or, set, sym, ap, subst, ◌∙◌, refl, inl, inr, arith}
+use Rattle.std.proofs.Common.{◌≡◌, ℕ, zero, suc, ◌<◌, Bool, true, false, length, List, [], ◌∷◌, ◌++◌, get_or, set, sym, ap, subst, ◌∙◌, refl, inl, inr, arith, map, ◌||◌}
 use Rattle.std.proofs.lemmas.Bool.{false≢true, or_cases, or_left, or_right, and_parts, and_from, or_from}
 use Rattle.std.specs.List.{AllByRecursion, list_any, list_all, remove}
 use Rattle.roc_sequence.specs.Lists.{Has}
@@ -74,3 +74,18 @@ module _ {A : Type 0} (p : A → Bool) where
   pub none_has : (xs : List A) → ((a : A) → Has a xs → p a ≡ false) → list_any p xs ≡ false
   none_has [] h = refl
   none_has (x ∷ xs) h = or_from (p x) (list_any p xs) (h x (inl refl)) (none_has xs (λ a k. h a (inr k)))
+
+-- a test of elements that are seen as others
+pub any_seen : {A B : Type 0} (p : B → Bool) (seen : A → B) (xs : List A) → list_any p (map seen xs) ≡ list_any (λ x. p (seen x)) xs
+any_seen p seen [] = refl
+any_seen p seen (x ∷ xs) = ap (λ b. p (seen x) || b) (any_seen p seen xs)
+
+pub all_pass : {A : Type 0} (test : A → Bool) (xs : List A) → AllByRecursion (λ x. test x ≡ true) xs → list_all test xs ≡ true
+all_pass test [] all = refl
+all_pass test (x ∷ xs) all = rw all.0 (all_pass test xs all.1)
+
+-- two tests that follow from each other
+pub same_tests : (a b : Bool) → (a ≡ true → b ≡ true) → (b ≡ true → a ≡ true) → a ≡ b
+same_tests true b f g = sym (f refl)
+same_tests false true f g = g refl
+same_tests false false f g = refl

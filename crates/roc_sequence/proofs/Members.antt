@@ -1,7 +1,7 @@
 -- What is in lists
-use Rattle.std.proofs.Common.{◌≡◌, ℕ, zero, suc, Bool, true, false, cond, List, [], ◌∷◌, ◌++◌, map, slice_get, Some, refl, sym, ap, ◌∙◌, ◌⊎◌, inl, inr}
+use Rattle.std.proofs.Common.{◌≡◌, ℕ, zero, suc, Bool, true, false, cond, List, [], ◌∷◌, ◌++◌, map, slice_get, Some, refl, sym, ap, ◌∙◌, ◌⊎◌, inl, inr, subst}
 use Rattle.std.proofs.lemmas.Bool.{false≢true}
-use Rattle.std.specs.List.{filter}
+use Rattle.std.specs.List.{filter, flat_map}
 use Rattle.roc_sequence.specs.Lists.{Has}
 
 -- the one element of a list
@@ -41,6 +41,19 @@ from_has_map f b [] h = elim h [ ]
 from_has_map f b (x ∷ xs) (inl e) = (x, inl refl, e)
 from_has_map f b (x ∷ xs) (inr h) = let r = from_has_map f b xs h in (r.0, inr r.1, r.2)
 
+pub has_flat_map : {A B : Type 0} (f : A → List B) (b : B) (a : A) (xs : List A) → Has a xs → Has b (f a) → Has b (flat_map f xs)
+has_flat_map f b a [] h k = absurd h
+has_flat_map f b a (x ∷ xs) (inl e) k = has_left b (f x) (flat_map f xs) (subst (λ y. Has b (f y)) e k)
+has_flat_map f b a (x ∷ xs) (inr h) k = has_right b (f x) (flat_map f xs) (has_flat_map f b a xs h k)
+
+pub from_has_flat_map : {A B : Type 0} (f : A → List B) (b : B) (xs : List A) → Has b (flat_map f xs) → (a : A) × Has a xs × Has b (f a)
+from_has_flat_map f b [] h = absurd h
+from_has_flat_map f b (x ∷ xs) h =
+    elim (has_append b (f x) (flat_map f xs) h) [
+      | inl k ↦ (x, inl refl, k)
+      | inr k ↦ (let r = from_has_flat_map f b xs k in (r.0, inr r.1, r.2))
+    ]
+
 module _ {A : Type 0} (p : A → Bool) where
   pub has_filter : (a : A) (xs : List A) → Has a xs → p a ≡ true → Has a (filter p xs)
   has_filter a [] h k = absurd h
@@ -66,3 +79,7 @@ pub has_at : {A : Type 0} (xs : List A) (i : ℕ) (a : A) → slice_get xs i ≡
 has_at [] i a e = absurd (cc)
 has_at (x ∷ xs) zero a e = inl (cc)
 has_at (x ∷ xs) (suc i) a e = inr (has_at xs i a e)
+
+-- what is found at a place is one
+pub same_there : {A : Type 0} (xs : List A) (i : ℕ) (a b : A) → slice_get xs i ≡ Some a → slice_get xs i ≡ Some b → a ≡ b
+same_there xs i a b h k = let both : Some a ≡ Some b = sym h ∙ k in cc

@@ -5,7 +5,7 @@ use Rattle.std.specs.List.{flat_map, list_any}
 use Rattle.roc_sequence.specs.Lists.{Has}
 use Rattle.roc_sequence.specs.Places.{is_listed}
 use Rattle.roc_sequence.proofs.Holds.{any_has, has_any}
-use Rattle.roc_sequence.proofs.Members.{has_map, from_has_map, has_filter, from_has_filter}
+use Rattle.roc_sequence.proofs.Members.{has_map, from_has_map, has_filter, from_has_filter, has_flat_map, from_has_flat_map}
 use Rattle.roc_base.specs.declared.id.TxnId.{TxnId}
 use Rattle.roc_base.specs.declared.node.Shard.{Shard}
 use Rattle.roc_base.specs.TxnId.{is_txn}
@@ -16,7 +16,6 @@ use Rattle.roc_rows.specs.declared.cell.Cell.{Cell}
 use Rattle.roc_rows.specs.Cells.{is_cell}
 use Rattle.roc_group.specs.declared.access.Access.{Access}
 use Rattle.roc_group.specs.Accesses.{meets, do_conflict}
-use Rattle.roc_groups.proofs.Elements.{has_flat_map, from_has_flat_map}
 use Rattle.roc_index.specs.declared.spot.Spot.{Spot}
 use Rattle.roc_index.specs.Spots.{spots_at}
 use Rattle.roc_plan.specs.Groups.{Plan, is_immediate_of}

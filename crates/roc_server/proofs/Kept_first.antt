@@ -1,5 +1,5 @@
 -- A server that keeps nothing but cells
-use Rattle.std.proofs.Common.{◌≡◌, List, [], refl, sym, subst, arith, false}
+use Rattle.std.proofs.Common.{◌≡◌, List, [], refl, sym, subst, false}
 use Rattle.std.proofs.lemmas.Bool.{false≢true}
 use Rattle.std.specs.List.Sorted.{IsStrictlySortedBy}
 use Rattle.roc_sequence.specs.Places.{IsListed, NoneTwice}
@@ -10,20 +10,14 @@ use Rattle.roc_depgraph.specs.Deps.{IsDecided}
 use Rattle.roc_server.specs.declared.kept.Kept.{Kept}
 use Rattle.std.specs.List.{AllByRecursion, flat_map}
 use Rattle.std.proofs.lemmas.Option.{none-some}
+use Rattle.roc_base.proofs.Ids.{none_rise, unlisted_none}
 use Rattle.roc_ancestors.specs.Least.{AreRows}
 use Rattle.roc_await.specs.Lacks.{AreLacks}
 use Rattle.roc_server.specs.Inner.Indexed.{IsIndexOf}
 use Rattle.roc_server.specs.Inner.Kept.{IsConsistent, is_left, is_same_group}
 
-pub none_rise : IsStrictlySortedBy txn_cmp []
-unfolding IsStrictlySortedBy
-none_rise = tt
-
 none_decided : (t : TxnId) → ¬ IsDecided [] t
 none_decided t d = false≢true d.own
-
-unlisted_none : (t : TxnId) → ¬ IsListed is_txn [] t
-unlisted_none t l = omega arith
 
 no_lacks : AreLacks [] []
 no_lacks = record { each = tt; some = tt; all = λ t h. absurd (false≢true h) }

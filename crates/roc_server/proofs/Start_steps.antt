@@ -12,7 +12,7 @@ use Rattle.roc_base.specs.TxnId.{is_txn, txn_cmp}
 use Rattle.roc_base.specs.Edge.{Dependency}
 use Rattle.roc_base.specs.Equalities.{is_txn-true}
 use Rattle.roc_depgraph.specs.declared.known.KnownList.{KnownList}
-use Rattle.roc_depgraph.specs.Deps.{IsDecided}
+use Rattle.roc_depgraph.specs.Deps.{IsDecided, is_known}
 use Rattle.roc_group.specs.Group_run.{GroupCall}
 use Rattle.roc_msg.specs.declared.outbox.Outbox.{Outbox}
 use Rattle.roc_msg.specs.declared.reason.Reason.{Reason}
@@ -28,12 +28,12 @@ use Rattle.roc_lists.specs.New.{AreLedTo}
 use Rattle.roc_server.specs.Start.{first_reason, has_procedure, has_counts, differs, start_fault, start_judged, start_taken, startok_of, edges_for}
 use Rattle.roc_server.specs.Step.{Shows}
 use Rattle.std.specs.List.{AllByRecursion, flat_map}
+use Rattle.roc_base.proofs.Ids.{none_rise}
 use Rattle.roc_sequence.proofs.Holds.{all_weaker, any_has, has_any}
 use Rattle.roc_sequence.proofs.Members.{has_left}
 use Rattle.roc_await.specs.Waits.{Waiting, was_asked_for}
 use Rattle.roc_ancestors.specs.Least.{AreRows}
 use Rattle.roc_await.specs.Lacks.{AreLacks}
-use Rattle.roc_depgraph.specs.Deps.{is_known}
 use Rattle.roc_lists.proofs.Skipped.{left_still}
 use Rattle.roc_server.specs.Inner.Indexed.{spot_of, IsIndexOf, IsAddedAt}
 use Rattle.roc_server.specs.Inner.Kept.{state_of, IsConsistent, is_left, is_same_group}
@@ -41,7 +41,6 @@ use Rattle.roc_server.specs.Inner.Starts.{StartTaken, StartsNew}
 use Rattle.roc_server.specs.State.{is_group, find_group, ServerState, ServerStep, is_here}
 use Rattle.roc_server.proofs.Same_groups.{same_own}
 use Rattle.roc_server.proofs.Index_steps.{index_started}
-use Rattle.roc_server.proofs.Kept_first.{none_rise}
 
 pub nothing_led : (known : List KnownList) → AreLedTo known [] []
 nothing_led known = record { rising = none_rise; sound = λ u l. absurd (none u l); complete = λ u p. elim p.1.is [ ] }

@@ -1,14 +1,14 @@
 //! The cells of a server before any message.
-ghost use Rattle.std.specs.Prelude.{◌≡◌, ◌==◌, filter, IfOk, OnOk};
+ghost use Rattle.std.specs.Prelude.{◌≡◌, ◌==◌, filter, IfOk};
 ghost use Rattle.roc_plan.specs.Groups.{shard_of};
-ghost use Rattle.roc_program.specs.Parts as pure;
-ghost use Rattle.roc_rows.specs.Store.{empty, write};
-ghost use Rattle.roc_whole.specs.Serial.{after_inits, init_cell};
+ghost use Rattle.roc_rows.specs.Store.{empty};
+ghost use Rattle.roc_whole.specs.Serial.{after_inits};
 
 use roc_base::{NoMemory, Shard};
 use roc_plan::Plan;
 use roc_program::Init;
-use roc_rows::{Cell, Rows};
+use roc_rows::Rows;
+use roc_whole::set_init;
 use std::alloc::Global;
 
 // The start cells of a shard's places.
@@ -29,17 +29,4 @@ fn is_here(plan: &Plan, shard: Shard, init: &Init) -> bool
     ensures { result ≡ (shard_of plan.now init.now.place == shard.0) }
 {
     plan.shard_of(init.place) == shard
-}
-
-// Sets the cell of an `init` line.
-fn set_init(rows: &mut Rows, init: &Init) -> Result<(), NoMemory>
-    ensures { OnOk result (rows.new.store ≡ write rows.old.store (init_cell (pure.init init.now)) init.now.value) }
-{
-    let cell = Cell {
-        table: init.table,
-        place: init.place,
-        id: init.id,
-        column: init.column,
-    };
-    rows.set(cell, init.value)
 }

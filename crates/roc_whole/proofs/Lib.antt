@@ -1,3 +1,4 @@
 pub mod Names
 pub mod Replies
 pub mod SerialRuns
+pub mod Replied

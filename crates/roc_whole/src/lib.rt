@@ -11,4 +11,4 @@ mod piece;
 mod whole;
 
 pub use piece::run_piece;
-pub use whole::{run_whole, start_rows};
+pub use whole::{run_whole, set_init, start_rows};

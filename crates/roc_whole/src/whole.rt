@@ -75,8 +75,8 @@ pub fn start_rows(alloc: Global, workload: &Workload) -> Result<Rows, NoMemory>
     Ok(rows)
 }
 
-// Sets the cell of an `init` line.
-fn set_init(rows: &mut Rows, init: &Init) -> Result<(), NoMemory>
+/// Sets the cell of an `init` line.
+pub fn set_init(rows: &mut Rows, init: &Init) -> Result<(), NoMemory>
     ensures { OnOk result (rows.new.store ≡ write rows.old.store (init_cell (pure.init init.now)) init.now.value) }
 {
     let cell = Cell {

@@ -1,15 +1,14 @@
 -- What is read rises: entries are a list as they stand, and facts come behind one another
-use Rattle.std.proofs.Common.{◌≡◌, ℕ, ◌<◌, ◌^◌, true, IsTrue, List, [], ◌∷◌, ◌++◌, Option, Some, None, Result, Ok, Err, sym, ap, ◌∙◌}
+use Rattle.std.proofs.Common.{◌≡◌, ℕ, ◌<◌, ◌^◌, true, IsTrue, List, [], ◌∷◌, ◌++◌, Option, Some, None, Result, Ok, Err, ap, ◌∙◌}
 use Rattle.std.specs.Prelude.{IfOk, ◌&&◌}
 use Rattle.std.proofs.lemmas.Bool.{and_parts}
 use Rattle.roc_sequence.specs.Rising.{IsRising}
 use Rattle.roc_base.specs.declared.id.TxnId.{TxnId}
 use Rattle.roc_base.specs.TxnId.{txn_lt}
 use Rattle.roc_base.specs.Edge.{Dependency}
-use Rattle.roc_base.specs.Edges.{comes_before, united}
+use Rattle.roc_base.specs.Edges.{comes_before}
 use Rattle.roc_base.proofs.Ids.{txn_lt-trans}
-use Rattle.roc_base.proofs.Rising.{IsBelowAll, below-chain, all_of-rising}
-use Rattle.roc_base.proofs.Union.{same_united}
+use Rattle.roc_base.proofs.Rising.{IsBelowAll, below-chain}
 use Rattle.roc_depgraph.specs.declared.known.KnownList.{KnownList}
 use Rattle.roc_msg.specs.Facts.{is_behind_facts}
 use Rattle.roc_wire.specs.declared.fault.WireFault.{WireFault}
@@ -18,10 +17,6 @@ use Rattle.roc_wire.specs.Fits.{AllAlong, FitsEdge, last_from, FitsFact, Room, r
 use Rattle.roc_wire.specs.Reading.{IsBytes, IsRead, several_read, edge_read, fact_read}
 use Rattle.roc_wire.proofs.Exact.{several_field}
 use Rattle.roc_wire.proofs.Members.{edge_field, fact_field}
-
--- the entries of a rising list, united, are that list
-pub united_rising : (es : List Dependency) → IsRising comes_before es → united es ≡ es
-united_rising es r = sym (same_united es es r (λ id. sym (all_of-rising id es r)))
 
 below_all : (id : TxnId) (es : List Dependency) → AllAlong FitsEdge last_from (Some id) es → IsBelowAll id es
 below_all id [] h = tt

@@ -10,6 +10,7 @@ use Rattle.roc_program.specs.Program.{Workload}
 use Rattle.roc_program.specs.Pieces.{HasPiece, pieces_in}
 use Rattle.roc_program.specs.Conflict.{are_in_conflict}
 use Rattle.roc_program.specs.declared.piece_id.PieceId.{PieceId}
+use Rattle.roc_program.proofs.PieceIds.{same_id_parts}
 use Rattle.roc_conflict.proofs.Mirrored.{conflict_mirrored}
 use Rattle.roc_conflict.proofs.Present.{present_from_conflict}
 use Rattle.roc_scgraph.specs.declared.vertex.Vertex.{Vertex}
@@ -18,7 +19,7 @@ use Rattle.roc_scgraph.specs.Graph.{piece_id, is_vertex, edge}
 use Rattle.roc_scgraph.specs.Cycles.{steps_to, is_fixed, first_instance, IsUnreorderable}
 use Rattle.roc_scgraph.proofs.Vertices.{siblings_share, siblings_from, same_vertex, same_piece, is_vertex-true, is_vertex-same, not_siblings, edge-siblings, edge-conflict}
 use Rattle.roc_scgraph.proofs.Crossings.{Meets, AreTwo}
-use Rattle.roc_scgraph.proofs.Middles.{second, same_id_parts, first≢second}
+use Rattle.roc_scgraph.proofs.Middles.{second, first≢second}
 use Rattle.roc_scgraph.proofs.Turned.{two_contended, steps-append}
 use Rattle.roc_witness.specs.Shortest.{IsCycleOf}
 use Rattle.roc_witness.specs.Inner.Table.{IsTableOf}

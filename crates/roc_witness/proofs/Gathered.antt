@@ -12,15 +12,11 @@ use Rattle.roc_program.specs.declared.parts.Statement as code
 use Rattle.roc_program.specs.declared.piece_id.PieceId.{PieceId}
 use Rattle.roc_program.proofs.Ranges.{map_pushed}
 use Rattle.roc_conflict.proofs.Present.{present_or_none}
-use Rattle.roc_sequence.proofs.Holds.{all_at}
+use Rattle.roc_sequence.proofs.Holds.{all_at, any_seen}
 use Rattle.roc_witness.specs.declared.columns.Columns.{Columns}
 use Rattle.roc_witness.specs.Inner.Columns.{column_of, is_at, touches, writes, marks, gathered_columns, collides, AreColumns}
 use Rattle.roc_witness.specs.Inner.Table.{numbered_piece}
 use Rattle.roc_witness.proofs.Joined.{quotient, remainder}
-
-any_seen : {A B : Type 0} (p : B → Bool) (seen : A → B) (xs : List A) → list_any p (map seen xs) ≡ list_any (λ x. p (seen x)) xs
-any_seen p seen [] = refl
-any_seen p seen (x ∷ xs) = ap (λ b. p (seen x) || b) (any_seen p seen xs)
 
 any_same : {A : Type 0} (p q : A → Bool) → ((x : A) → p x ≡ q x) → (xs : List A) → list_any p xs ≡ list_any q xs
 any_same p q same [] = refl

@@ -7,12 +7,12 @@ use Rattle.roc_program.specs.Pieces.{HasPiece}
 use Rattle.roc_program.specs.Conflict.{are_in_conflict}
 use Rattle.roc_program.specs.WellFormed.{IsProgram, IsProcedure}
 use Rattle.roc_program.specs.declared.piece_id.PieceId.{PieceId}
+use Rattle.roc_program.proofs.PieceIds.{same_id_parts}
 use Rattle.roc_sequence.proofs.Holds.{all_at}
 use Rattle.roc_scgraph.specs.declared.vertex.Vertex.{Vertex}
 use Rattle.roc_scgraph.specs.declared.vertex.Kind.TheVariants.{S, C}
 use Rattle.roc_scgraph.specs.Graph.{piece_id, are_siblings, edge}
 use Rattle.roc_scgraph.specs.Cycles.{is_fixed}
-use Rattle.roc_scgraph.proofs.Middles.{same_id_parts}
 use Rattle.roc_witness.specs.Inner.Table.{piece_number, numbered_piece, meet, row_for, table_of, joins, IsTableOf}
 
 pub quotient : (m k : ℕ) → k < 16 → (16 * m + k) / 16 ≡ m

@@ -12,6 +12,7 @@ use Rattle.roc_sequence.proofs.Appended.{NoneTwice-append}
 use Rattle.roc_program.specs.Program.{Workload}
 use Rattle.roc_program.specs.Pieces.{HasPiece}
 use Rattle.roc_program.specs.declared.piece_id.PieceId.{PieceId}
+use Rattle.roc_program.proofs.PieceIds.{same_id_parts}
 use Rattle.roc_scgraph.specs.declared.vertex.Vertex.{Vertex}
 use Rattle.roc_scgraph.specs.declared.vertex.Kind.{Kind}
 use Rattle.roc_scgraph.specs.declared.vertex.Kind.TheVariants.{S}
@@ -19,7 +20,6 @@ use Rattle.roc_scgraph.specs.Graph.{piece_id, are_siblings, is_vertex, edge}
 use Rattle.roc_scgraph.specs.Cycles.{steps_to, is_fixed, is_sibling_edge, is_conflict_edge, first_instance}
 use Rattle.roc_scgraph.proofs.Vertices.{siblings_from, same_vertex, is_vertex-true, is_vertex-same, edge-siblings, edge-conflict, fixed_apart}
 use Rattle.roc_scgraph.proofs.Crossings.{AreFixed, no_conflict_inside}
-use Rattle.roc_scgraph.proofs.Middles.{same_id_parts}
 use Rattle.roc_scgraph.proofs.Turned.{steps-append}
 use Rattle.roc_witness.specs.Shortest.{IsCycleOf}
 use Rattle.roc_witness.specs.Inner.Table.{joins, IsTableOf}

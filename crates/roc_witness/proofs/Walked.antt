@@ -8,6 +8,7 @@ use Rattle.roc_sequence.specs.Rising.{IsRising}
 use Rattle.roc_sequence.proofs.Holds.{all_has, any_has, has_any, has_all}
 use Rattle.roc_sequence.proofs.Members.{has_one, has_filter, from_has_filter}
 use Rattle.roc_sequence.proofs.Found.{found_has, none_passes}
+use Rattle.roc_sequence.proofs.Rising.{rising_filter}
 use Rattle.roc_scgraph.specs.declared.vertex.Vertex.{Vertex}
 use Rattle.roc_witness.specs.Order.{is_before, stands_before}
 use Rattle.roc_witness.specs.Inner.Walks.{IsWalk, IsLeastWalk, HasNoWalk, IsLeastAdded, level, AreLevels}
@@ -17,13 +18,6 @@ use Rattle.roc_witness.proofs.Ordered.{comes_not, comes_same}
 
 all_filter : {A : Type 0} (P : A → Type 0) (p : A → Bool) (xs : List A) → AllByRecursion P xs → AllByRecursion P (filter p xs)
 all_filter P p xs h = has_all P (filter p xs) (λ a k. all_has P a xs h (from_has_filter p a xs k).0)
-
-pub rising_filter : {A : Type 0} (before : A → A → Bool) (p : A → Bool) (xs : List A) → IsRising before xs → IsRising before (filter p xs)
-rising_filter before p [] h = tt
-rising_filter before p (x ∷ xs) h = elim (p x) as (λ t. IsRising before (cond t (x ∷ filter p xs) (filter p xs))) [
-  | true ↦ (all_filter (λ y. before x y ≡ true) p xs h.0, rising_filter before p xs h.1)
-  | false ↦ rising_filter before p xs h.1
-]
 
 -- what is found in a rising list comes before all others that pass
 first_found : {A : Type 0} (before : A → A → Bool) (p : A → Bool) (xs : List A) (v : A) → IsRising before xs → find p xs ≡ Some v → (o : A) → Has o xs → p o ≡ true → (o ≡ v) ⊎ (before v o ≡ true)

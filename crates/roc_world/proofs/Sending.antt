@@ -1,5 +1,5 @@
 -- Messages that are added one by one
-use Rattle.std.proofs.Common.{◌≡◌, ℕ, ◌+◌, List, [], ◌∷◌, ◌++◌, length, map, refl, sym, ap, ◌∙◌, append_assoc, append-nil, arith}
+use Rattle.std.proofs.Common.{◌≡◌, ℕ, ◌+◌, List, [], ◌∷◌, ◌++◌, length, map, sym, ap, ◌∙◌, append_assoc, append-nil}
 use Rattle.std.proofs.lemmas.List.{length-append}
 use Rattle.std.specs.List.{range_with_len}
 use Rattle.roc_base.specs.declared.node.Node.{Node}
@@ -18,11 +18,6 @@ module _ (from : Node) (left rest : List Outgoing) (m : Outgoing) (now new : Lis
       ∙ (append_assoc numbers ((length now + 1) ∷ []) (range_with_len (length new + 1) (length rest))
       ∙ (ap (λ n. numbers ++ (length now + 1) ∷ range_with_len (n + 1) (length rest)) long
       ∙ (ap (λ ms. numbers ++ range_with_len (length now + 1) (length ms)) (sym is_left) ∙ h)))
-
--- nothing is left
-pub nothing_left : {A : Type 0} (xs : List A) → length xs ≡ 0 → xs ≡ []
-nothing_left [] e = refl
-nothing_left (x ∷ xs) e = absurd (omega arith)
 
 -- and so all was sent, and has its number
 pub all_sent : (from : Node) (left start messages : List Outgoing) (now old : List Sent) → left ≡ [] → start ≡ messages → now ++ map (sent_by from) left ≡ old ++ map (sent_by from) start → now ≡ old ++ map (sent_by from) messages

@@ -1,9 +1,9 @@
 use Rattle.std.proofs.Common.{List, ap, sym, ◌∙◌}
 use Rattle.std.specs.List.{list_any}
+use Rattle.roc_sequence.proofs.Holds.{any_seen}
 use Rattle.roc_program.specs.Names as names
 use Rattle.roc_program.specs.Parts as view
 use Rattle.roc_program.specs.declared.parts.Expression.{Expression}
-use Rattle.roc_accept.proofs.Uses.{any_seen}
 use Rattle.roc_accept.proofs.flow.id_uses.Goals as goal
 
 pub returns : goal.returns

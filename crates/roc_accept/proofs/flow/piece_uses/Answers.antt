@@ -1,9 +1,10 @@
 use Rattle.std.proofs.Common.{List, map, ap, sym, ◌∙◌}
 use Rattle.std.specs.List.{list_any}
+use Rattle.roc_sequence.proofs.Holds.{any_seen}
 use Rattle.roc_program.specs.Names as names
 use Rattle.roc_program.specs.Parts as view
 use Rattle.roc_program.specs.declared.parts.Statement.{Statement}
-use Rattle.roc_accept.proofs.Uses.{any_seen, second_of}
+use Rattle.roc_accept.proofs.Uses.{second_of}
 use Rattle.roc_accept.proofs.flow.piece_uses.Goals as goal
 
 pub returns-else-uses : goal.returns-else-uses

@@ -29,7 +29,7 @@ loop-fact-preserved c =
     let rest : ℕ → List KnownList = λ n. front_of_facts (c.loop-fact.room - 1) (c.loop-fact.left - n) (filter of_others (drop (i + 1) all)) in
     let add : List KnownList → List KnownList = λ ys. facts ++ ys in
     let before_rest : List KnownList → List KnownList = λ ys. ys ++ rest c.len-in-loop-fact.result in
-    let pushed : c.push.new.self ≡ facts ++ x ∷ [] = let with_last : KnownList → List KnownList = λ v. facts ++ v ∷ [] in c.in_ok-push.ensures.ok ∙ ap with_last c.in_ok-copied.ensures in
+    let pushed : c.push.new.self ≡ facts ++ x ∷ [] = let with_last : KnownList → List KnownList = λ v. facts ++ v ∷ [] in c.in_ok-push.ensures.ok ∙ ap with_last c.in_ok-clone.ensures.cases in
     let more = goes_on of_others all i c.loop-fact.room c.loop-fact.left x c.loop-fact-test.true c.fact-item.is other room short in
     let next : List KnownList → List KnownList = λ ys. x ∷ ys in
     let same_left : rest (length x.edges) ≡ rest c.len-in-loop-fact.result = ap rest (sym c.len-in-loop-fact.ensures) in

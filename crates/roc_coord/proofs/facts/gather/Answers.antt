@@ -14,7 +14,7 @@ loop-at-preserved c =
     let most = c.loop-at.auto.at in
     let x = c.index-told-at.result in
     let put_in : KnownList → List KnownList = λ v. in_place is_fact_before v c.loop-at.facts.items in
-    let is_put = c.in_ok-put.ensures ∙ ap put_in c.in_ok-copied.ensures in
+    let is_put = c.in_ok-put.ensures ∙ ap put_in c.in_ok-clone.ensures.cases in
     let within : at - 1 < length told = omega arith in
     let next : at ≡ (at - 1) + 1 = omega arith in
     record {

@@ -1,9 +1,9 @@
 use Rattle.std.proofs.Common.{◌≡◌, ◌∙◌, ℕ, ◌-◌, Bool, true, false, not, ◌&&◌, List, filter, sym, ap, append-nil}
 use Rattle.std.specs.List.{list_any, range_with_len}
+use Rattle.roc_sequence.proofs.Holds.{any_seen}
 use Rattle.roc_program.specs.Names.{bindings, has_name, piece_uses}
 use Rattle.roc_program.specs.Parts as view
 use Rattle.roc_program.specs.Program.{Procedure}
-use Rattle.roc_accept.proofs.Uses.{any_seen}
 use Rattle.roc_plan.specs.Groups.{bound_in, inputs_in}
 use Rattle.roc_plan.specs.Sized.{piece_at}
 use Rattle.roc_planning.proofs.Built_up.{range_passed, range_done}

@@ -1,6 +1,7 @@
 use Rattle.std.proofs.Common.{length, sym, ap, ◌∙◌, arith, rules}
 use Rattle.std.specs.Vec.Iter.{into_iter_items}
-use Rattle.roc_world.proofs.Sending.{sent_turn, numbers_turn, nothing_left, all_sent, all_numbered}
+use Rattle.roc_sequence.proofs.Fronts.{no_elements}
+use Rattle.roc_world.proofs.Sending.{sent_turn, numbers_turn, all_sent, all_numbered}
 use Rattle.roc_world.proofs.network.add_all.Goals as goal
 
 pub loop-message-preserved : goal.loop-message-preserved
@@ -22,9 +23,9 @@ loop-message-preserved c =
 pub returns-clause-sent : goal.returns-clause-sent
 returns-clause-sent c =
     let l = c.loop-message in
-    all_sent c.args.from (into_iter_items l.message-iterator) (into_iter_items c.into_iter-message-iterator.result) c.args.messages.items l.sent.items c.args.sent.now.items (nothing_left (into_iter_items l.message-iterator) (sym l.invariant.left ∙ c.in-None.ensures.steps.0)) (search rules) l.invariant.sent
+    all_sent c.args.from (into_iter_items l.message-iterator) (into_iter_items c.into_iter-message-iterator.result) c.args.messages.items l.sent.items c.args.sent.now.items (no_elements (into_iter_items l.message-iterator) (sym l.invariant.left ∙ c.in-None.ensures.steps.0)) (search rules) l.invariant.sent
 
 pub returns-clause-undelivered : goal.returns-clause-undelivered
 returns-clause-undelivered c =
     let l = c.loop-message in
-    all_numbered (into_iter_items l.message-iterator) (into_iter_items c.into_iter-message-iterator.result) c.args.messages.items l.undelivered.items c.args.undelivered.now.items _ _ (nothing_left (into_iter_items l.message-iterator) (sym l.invariant.left ∙ c.in-None.ensures.steps.0)) (search rules) l.invariant.undelivered
+    all_numbered (into_iter_items l.message-iterator) (into_iter_items c.into_iter-message-iterator.result) c.args.messages.items l.undelivered.items c.args.undelivered.now.items _ _ (no_elements (into_iter_items l.message-iterator) (sym l.invariant.left ∙ c.in-None.ensures.steps.0)) (search rules) l.invariant.undelivered

@@ -1,6 +1,6 @@
 use Rattle.std.proofs.Common.{◌≡◌, ◌∙◌, length, arith, sym, subst}
+use Rattle.roc_sequence.proofs.Fronts.{no_elements}
 use Rattle.roc_component.specs.Inner.Search.{IsSearchOver, IsStep}
-use Rattle.roc_component.proofs.SearchSteps.{nothing}
 use Rattle.roc_component.proofs.search.Search.advance.Goals as goal
 
 pub returns-in-Some-2 : goal.returns-in-Some-2
@@ -17,5 +17,5 @@ pub returns : goal.returns
 returns c known S s =
     let old : length c.steps.self.path.items ≡ 0 = omega (arith, c.steps.self.path.ok, c.in_default.ensures.cases.0) in
     let new : length c.pop.new.self.items ≡ 0 = omega (arith, c.pop.new.self.ok, c.in_default.ensures.cases.1) in
-    let e = nothing c.pop.new.self.items new in
-    (subst (λ l. IsSearchOver known S c.args.met.now c.steps.self l) (nothing c.steps.self.path.items old ∙ sym e) (c.steps.invariant known S s), e)
+    let e = no_elements c.pop.new.self.items new in
+    (subst (λ l. IsSearchOver known S c.args.met.now c.steps.self l) (no_elements c.steps.self.path.items old ∙ sym e) (c.steps.invariant known S s), e)
