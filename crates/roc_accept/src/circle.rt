@@ -17,7 +17,8 @@ pub(crate) fn has_no_circle(workload: &Workload, proc: u16, groups: &[Vec<u16>])
     requires procedure { proc < length workload.now.procedures }
     requires few { length groups.now ≤ 16 }
     requires parts { AllByRecursion (IsPart (length (pieces_in workload.now proc))) (map (λ g. g.items) groups.now) }
-    ensures { IsTrue result ↔ ((g h : ℕ) → g ≢ h → Leads (group_feeds workload.now proc (map (λ g. g.items) groups.now)) g h → ¬ Leads (group_feeds workload.now proc (map (λ g. g.items) groups.now)) h g) }
+    ensures { IsTrue result ↔ ((g h : ℕ) → g ≢ h → Leads (group_feeds workload.now proc (map (λ g. g.items) groups.now)) g h
+        → ¬ Leads (group_feeds workload.now proc (map (λ g. g.items) groups.now)) h g) }
 {
     let paths = paths_of(workload, proc, groups);
     for one in 0..groups.len() {

@@ -44,9 +44,12 @@ fn meet(
     todo: &mut Vec<TxnId>,
     met: &mut Vec<TxnId>,
 ) -> Result<(), NoMemory>
-    ensures row { OnOk result ((ids : List Id) → row_of next rows.now.entries ≡ Some ids → (met.new.items ≡ met.old.items ++ ids) × (found.new.keys ≡ found.old.keys) × (todo.new.items ≡ todo.old.items)) }
-    ensures list { OnOk result (row_of next rows.now.entries ≡ None → (es : List Dependency) → list_of next deps.now ≡ Some es → (met.new.items ≡ met.old.items ++ next ∷ []) × Visits es found.old.keys todo.old.items found.new.keys todo.new.items) }
-    ensures nothing { OnOk result (row_of next rows.now.entries ≡ None → list_of next deps.now ≡ None → (met.new.items ≡ met.old.items) × (found.new.keys ≡ found.old.keys) × (todo.new.items ≡ todo.old.items)) }
+    ensures row { OnOk result ((ids : List Id) → row_of next rows.now.entries ≡ Some ids
+        → (met.new.items ≡ met.old.items ++ ids) × (found.new.keys ≡ found.old.keys) × (todo.new.items ≡ todo.old.items)) }
+    ensures list { OnOk result (row_of next rows.now.entries ≡ None → (es : List Dependency) → list_of next deps.now ≡ Some es
+        → (met.new.items ≡ met.old.items ++ next ∷ []) × Visits es found.old.keys todo.old.items found.new.keys todo.new.items) }
+    ensures nothing { OnOk result (row_of next rows.now.entries ≡ None → list_of next deps.now ≡ None
+        → (met.new.items ≡ met.old.items) × (found.new.keys ≡ found.old.keys) × (todo.new.items ≡ todo.old.items)) }
 {
     if let Some(ids) = rows.get(&next) {
         met.extend_from_slice(ids.as_slice())?;

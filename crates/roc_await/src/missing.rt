@@ -24,7 +24,8 @@ pub(crate) fn missing_for(
     edges: &Edges,
     later: &[TxnId],
 ) -> Result<Vec<TxnId>, NoMemory>
-    ensures { IfOk result (λ ids. (before : List Told) → (taken : AreLacksTaken before deps.now (id ∷ later.now) (all_lacks groups.now)) → list_of id deps.now ≡ Some edges.now → IsRisingListOf (IsMissing (learnt taken.known id edges.now) id) ids.items) }
+    ensures { IfOk result (λ ids. (before : List Told) → (taken : AreLacksTaken before deps.now (id ∷ later.now) (all_lacks groups.now))
+        → list_of id deps.now ≡ Some edges.now → IsRisingListOf (IsMissing (learnt taken.known id edges.now) id) ids.items) }
 {
     let mut ids = missing_for_named(alloc, groups, id, edges)?;
     let unknown = unknown_named(alloc, deps, edges.as_slice(), id, later)?;

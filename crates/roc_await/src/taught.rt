@@ -38,7 +38,8 @@ fn with_list(
     id: TxnId,
     later: &[TxnId],
 ) -> Result<Vec<Group>, NoMemory>
-    ensures { IfOk result (λ grown. (before : List Told) → AreLacksTaken before deps.now (id ∷ later.now) (all_lacks groups.items) → AreLacksTaken before deps.now later.now (all_lacks grown.items)) }
+    ensures { IfOk result (λ grown. (before : List Told) → AreLacksTaken before deps.now (id ∷ later.now) (all_lacks groups.items)
+        → AreLacksTaken before deps.now later.now (all_lacks grown.items)) }
 {
     match deps.list(id) {
         None => Ok(groups),

@@ -98,7 +98,8 @@ impl Queue {
         left: &BTreeMap<TxnId, Sequence<TxnId>>,
         taken: &Taken,
     ) -> Result<(), NoMemory>
-        ensures { (turns : List Taking) → AreTurns turns → IsQueueOf turns taken.now ids.now [] (left_of left.now) self.old → OnOk result (IsQueueOf turns taken.now [] [] (left_of left.now) self.new) }
+        ensures { (turns : List Taking) → AreTurns turns → IsQueueOf turns taken.now ids.now [] (left_of left.now) self.old
+            → OnOk result (IsQueueOf turns taken.now [] [] (left_of left.now) self.new) }
     {
         for id in ids {
             if let Some(held) = self.waiting.remove(id) {
@@ -116,7 +117,8 @@ impl Queue {
         left: &BTreeMap<TxnId, Sequence<TxnId>>,
         taken: &Taken,
     ) -> Result<(), NoMemory>
-        ensures { (turns : List Taking) (due : List Id) → AreTurns turns → IsQueueOf turns taken.now due held.items (left_of left.now) self.old → OnOk result (IsQueueOf turns taken.now due [] (left_of left.now) self.new) }
+        ensures { (turns : List Taking) (due : List Id) → AreTurns turns → IsQueueOf turns taken.now due held.items (left_of left.now) self.old
+            → OnOk result (IsQueueOf turns taken.now due [] (left_of left.now) self.new) }
     {
         let mut pending = held;
         'settle: while let Some(waiting) = pending.pop() {
@@ -129,7 +131,8 @@ impl Queue {
 
     // Makes a turn ready, or lets it wait under an id that comes before it and was not taken.
     fn settle(&mut self, alloc: Global, waiting: Waiting, taken: &Taken) -> Result<(), NoMemory>
-        ensures { (turns : List Taking) (due : List Id) (pending : List Held) (left : Id → Option (List Id)) (ids : List Id) → AreTurns turns → left waiting.key ≡ Some ids → IsQueueOf turns taken.now due (pending ++ waiting ∷ []) left self.old → OnOk result (IsQueueOf turns taken.now due pending left self.new) }
+        ensures { (turns : List Taking) (due : List Id) (pending : List Held) (left : Id → Option (List Id)) (ids : List Id) → AreTurns turns → left waiting.key ≡ Some ids
+            → IsQueueOf turns taken.now due (pending ++ waiting ∷ []) left self.old → OnOk result (IsQueueOf turns taken.now due pending left self.new) }
     {
         let Waiting { key, mut rest } = waiting;
         match open_at(&mut rest, taken) {

@@ -87,7 +87,8 @@ impl Search {
         met: &mut BTreeMap<TxnId, usize>,
         id: TxnId,
     ) -> Result<(), NoMemory>
-        ensures { (S : List Id) → ((u t : Id) → Precedes lists.now u t → Has u S) → IsSearchOf lists.now S met.old self.old → IsOpenable (Precedes lists.now) S (met_of met.old) self.old.path.items id → OnOk result (IsOpened lists.now S id met.old met.new self.new) }
+        ensures { (S : List Id) → ((u t : Id) → Precedes lists.now u t → Has u S) → IsSearchOf lists.now S met.old self.old
+            → IsOpenable (Precedes lists.now) S (met_of met.old) self.old.path.items id → OnOk result (IsOpened lists.now S id met.old met.new self.new) }
     {
         let start = met.len();
         let todo = before(alloc, lists, id)?;
@@ -125,7 +126,8 @@ impl Search {
         met: &BTreeMap<TxnId, usize>,
         part: Part,
     ) -> Result<Option<TxnId>, NoMemory>
-        ensures search { (known : List Known) (S : List Id) → IsSearchOver known S met.now self.old (self.old.path.items ++ part ∷ []) → IfOk result (λ new. IsStep known S met.now self.new new) }
+        ensures search { (known : List Known) (S : List Id) → IsSearchOver known S met.now self.old (self.old.path.items ++ part ∷ [])
+            → IfOk result (λ new. IsStep known S met.now self.new new) }
         ensures less { IfOk result (λ new. IsLess (self.old.path.items ++ part ∷ []) self.new.path.items new) }
     {
         let (start, members, mut todo) = (part.start, part.members, part.todo);

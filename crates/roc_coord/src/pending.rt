@@ -90,7 +90,8 @@ impl Pending {
         out: &mut Outbox,
     ) -> Result<Handled, NoMemory>
         requires fits { AllByRecursion (IsTransactionOf plan.now) self.old }
-        ensures step { IfOk result (λ answer. (s : CoordState) → s.pending ≡ self.old → IsOutcome (after_startok plan.now s (find_transaction id self.old) ok shard) answer (record s { pending = self.new }) out.old out.new) }
+        ensures step { IfOk result (λ answer. (s : CoordState) → s.pending ≡ self.old
+            → IsOutcome (after_startok plan.now s (find_transaction id self.old) ok shard) answer (record s { pending = self.new }) out.old out.new) }
         ensures ids { ids_of self.new ≡ ids_of self.old }
         ensures fits { AllByRecursion (IsTransactionOf plan.now) self.new }
     {
@@ -106,7 +107,8 @@ impl Pending {
         ok: TakenCommit,
     ) -> Result<Handled, NoMemory>
         requires { AllByRecursion (IsTransactionOf plan.now) self.old }
-        ensures step { IfOk result (λ answer. (s : CoordState) (out : Outbox) → s.pending ≡ self.old → IsOutcome (after_commitok plan.now s (find_transaction id self.old) ok) answer (record s { pending = self.new }) out out) }
+        ensures step { IfOk result (λ answer. (s : CoordState) (out : Outbox) → s.pending ≡ self.old
+            → IsOutcome (after_commitok plan.now s (find_transaction id self.old) ok) answer (record s { pending = self.new }) out out) }
         ensures given { (number next : ℕ) → AreGiven number next (ids_of self.old) → AreGiven number next (ids_of self.new) }
         ensures fits { AllByRecursion (IsTransactionOf plan.now) self.new }
     {
@@ -141,7 +143,8 @@ fn startok(
 ) -> Result<Handled, NoMemory>
     requires fits { AllByRecursion (IsTransactionOf plan.now) transactions.old.items }
     requires rising { IsRising txn_lt (ids_of transactions.old.items) }
-    ensures step { IfOk result (λ answer. (s : CoordState) → s.pending ≡ transactions.old.items → IsOutcome (after_startok plan.now s (find_transaction id transactions.old.items) ok shard) answer (record s { pending = transactions.new.items }) out.old out.new) }
+    ensures step { IfOk result (λ answer. (s : CoordState) → s.pending ≡ transactions.old.items
+        → IsOutcome (after_startok plan.now s (find_transaction id transactions.old.items) ok shard) answer (record s { pending = transactions.new.items }) out.old out.new) }
     ensures ids { ids_of transactions.new.items ≡ ids_of transactions.old.items }
     ensures fits { AllByRecursion (IsTransactionOf plan.now) transactions.new.items }
 {
@@ -167,7 +170,8 @@ fn commitok(
     requires fits { AllByRecursion (IsTransactionOf plan.now) transactions.old.items }
     requires ids { ids.old.items ≡ ids_of transactions.old.items }
     requires rising { IsRising txn_lt ids.old.items }
-    ensures step { IfOk result (λ answer. (s : CoordState) (out : Outbox) → s.pending ≡ transactions.old.items → IsOutcome (after_commitok plan.now s (find_transaction id transactions.old.items) ok) answer (record s { pending = transactions.new.items }) out out) }
+    ensures step { IfOk result (λ answer. (s : CoordState) (out : Outbox) → s.pending ≡ transactions.old.items
+        → IsOutcome (after_commitok plan.now s (find_transaction id transactions.old.items) ok) answer (record s { pending = transactions.new.items }) out out) }
     ensures ids { ids.new.items ≡ ids_of transactions.new.items }
     ensures rising { IsRising txn_lt ids.new.items }
     ensures given { (number next : ℕ) → AreGiven number next ids.old.items → AreGiven number next ids.new.items }

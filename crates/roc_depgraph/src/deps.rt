@@ -160,7 +160,11 @@ fn edges_at(lists: &[KnownList], at: usize) -> Option<&Edges>
 
 /// Puts the ids of entries among those that were found, and the new ones on the list of what is
 /// still to be done.
-pub fn visit(edges: &[Edge], found: &mut BTreeSet<TxnId>, todo: &mut Vec<TxnId>) -> Result<(), NoMemory>
+pub fn visit(
+    edges: &[Edge],
+    found: &mut BTreeSet<TxnId>,
+    todo: &mut Vec<TxnId>,
+) -> Result<(), NoMemory>
     ensures { OnOk result (Visits edges.now found.old.keys todo.old.items found.new.keys todo.new.items) }
 {
     for edge in edges {

@@ -133,7 +133,8 @@ pub fn shards_keep_order()
     ensures component { (S : Scheme) (start : Store) (log : Log) → LogInvariants S start log
         → (s : ℕ) (t u : TxnId) → HasGroup S start log.past.ran s t → IsListed is_txn (log.decided s) t → Mates (PrecedesTxn S start log.past) t u → IsListed is_txn (log.decided s) u }
     ensures mates { (S : Scheme) (start : Store) (log : Log) → LogInvariants S start log
-        → (s : ℕ) (t a b : TxnId) → HasGroup S start log.past.ran s t → IsListed is_txn (log.decided s) t → Mates (PrecedesTxn S start log.past) t a → Mates (PrecedesTxn S start log.past) t b
+        → (s : ℕ) (t a b : TxnId) → HasGroup S start log.past.ran s t → IsListed is_txn (log.decided s) t → Mates (PrecedesTxn S start log.past) t a
+        → Mates (PrecedesTxn S start log.past) t b
         → IsListedBefore is_txn (log.decided s) a b ↔ IsListedBefore is_txn log.order a b }
 {}
 

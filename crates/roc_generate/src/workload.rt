@@ -6,11 +6,32 @@ ghost use Rattle.roc_generate.specs.Workload_text.{account_line, pay_lines, mark
 
 use std::alloc::AllocError;
 
-const PAY: &str =
-    "proc pay(f,t,n) {\n  later take at f {\n    get b = acct[0].bal;\n    set acct[0].bal = b - n;\n    out b;\n  }\n  later give at t {\n    get d = acct[0].bal;\n    set acct[0].bal = d + n;\n    out d;\n  }\n}\n";
+const PAY: &str = "proc pay(f,t,n) {\n  \
+     later take at f {\n    \
+     get b = acct[0].bal;\n    \
+     set acct[0].bal = b - n;\n    \
+     out b;\n  \
+     }\n  \
+     later give at t {\n    \
+     get d = acct[0].bal;\n    \
+     set acct[0].bal = d + n;\n    \
+     out d;\n  \
+     }\n\
+     }\n";
 
-const MARK: &str =
-    "proc mark(p,q) {\n  now r at p {\n    get u = ctr[0].n;\n  }\n  now w at p {\n    set ctr[0].n = u + 1;\n  }\n  later l at q {\n    get b = acct[0].bal;\n    set acct[0].bal = b + u;\n    out b;\n  }\n}\n";
+const MARK: &str = "proc mark(p,q) {\n  \
+     now r at p {\n    \
+     get u = ctr[0].n;\n  \
+     }\n  \
+     now w at p {\n    \
+     set ctr[0].n = u + 1;\n  \
+     }\n  \
+     later l at q {\n    \
+     get b = acct[0].bal;\n    \
+     set acct[0].bal = b + u;\n    \
+     out b;\n  \
+     }\n\
+     }\n";
 
 /// Adds the account of each place.
 fn push_accounts(text: &mut String, shards: u8) -> Result<(), AllocError>

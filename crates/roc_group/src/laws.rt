@@ -11,7 +11,8 @@ ghost use Rattle.roc_group.specs.Group_run.{GroupCall, group_pieces, begin, grou
 
 /// The cells that a deferrable group uses follow from what it is given: they are the same on every store.
 pub fn cells_follow_from_what_is_given()
-    ensures { (plan : Plan) (c : GroupCall) (s t : Store) → IsAccepted plan → c.proc < length plan.program.procedures → is_immediate_of plan c.proc c.group ≡ false → group_uses plan c s ≡ group_uses plan c t }
+    ensures { (plan : Plan) (c : GroupCall) (s t : Store) → IsAccepted plan → c.proc < length plan.program.procedures → is_immediate_of plan c.proc c.group ≡ false
+        → group_uses plan c s ≡ group_uses plan c t }
 {}
 
 /// All cells that a group uses are at the group's place, so that they are on one shard.

@@ -34,7 +34,8 @@ pub fn cycles_are_between_contended_groups()
         → length groups ≡ length program.procedures → ((id : PieceId) → IsTrue (is_immediate id) ↔ IsImmediate program id)
         → ((proc : ℕ) → proc < length program.procedures → IsAcceptedIn program is_immediate proc (groups_in groups proc))
         → ((cycle : List Vertex) → ¬ IsUnreorderable (over_groups program groups) (is_immediate_group is_immediate groups) cycle)
-        ↔ ((proc x y : ℕ) → IsTrue (is_contended program is_immediate (piece_numbered proc x)) → IsTrue (is_contended program is_immediate (piece_numbered proc y)) → AreTogether (groups_in groups proc) x y) }
+        ↔ ((proc x y : ℕ) → IsTrue (is_contended program is_immediate (piece_numbered proc x)) → IsTrue (is_contended program is_immediate (piece_numbered proc y))
+        → AreTogether (groups_in groups proc) x y) }
 {}
 
 /// Of accepted groups each procedure has at most one that is contended; groups in conflict are of one class; and two groups of a
@@ -48,7 +49,8 @@ pub fn accepted_groups_meet_others_alone()
     ensures siblings { (program : Workload) (is_immediate : PieceId → Bool) (groups : List (List (List ℕ))) → IsAcceptedGrouping program is_immediate groups
         → (p q : PieceId) → p ≢ q → p.proc ≡ q.proc → IsTrue (is_immediate_group is_immediate groups p) → are_in_conflict (over_groups program groups) p q ≡ false }
     ensures contended_pieces { (program : Workload) (is_immediate : PieceId → Bool) (groups : List (List (List ℕ))) → IsAcceptedGrouping program is_immediate groups
-        → (proc x y : ℕ) → IsTrue (is_contended program is_immediate (piece_numbered proc x)) → IsTrue (is_contended program is_immediate (piece_numbered proc y)) → AreTogether (groups_in groups proc) x y }
+        → (proc x y : ℕ) → IsTrue (is_contended program is_immediate (piece_numbered proc x)) → IsTrue (is_contended program is_immediate (piece_numbered proc y))
+        → AreTogether (groups_in groups proc) x y }
     ensures pieces_apart { (program : Workload) (is_immediate : PieceId → Bool) (groups : List (List (List ℕ))) → IsAcceptedGrouping program is_immediate groups
         → (proc : ℕ) (g h : List ℕ) (x y : ℕ) → Has g (groups_in groups proc) → Has h (groups_in groups proc) → g ≢ h → Has x g → Has y h
         → IsTrue (is_immediate (piece_numbered proc x)) → are_in_conflict program (piece_numbered proc x) (piece_numbered proc y) ≡ false }
@@ -60,5 +62,6 @@ pub fn accepted_groups_need_immediate_ones()
     ensures some { (program : Workload) (is_immediate : PieceId → Bool) (groups : List (List (List ℕ))) → IsProgram program → IsAcceptedGrouping program is_immediate groups
         → (proc : ℕ) → proc < length program.procedures → 0 < length (groups_in groups proc) }
     ensures needed { (program : Workload) (is_immediate : PieceId → Bool) (groups : List (List (List ℕ))) → IsProgram program → IsAcceptedGrouping program is_immediate groups
-        → (proc g h : ℕ) → proc < length program.procedures → g ≢ h → IsTrue (group_feeds program proc (groups_in groups proc) g h) → IsTrue (is_immediate_group is_immediate groups (piece_numbered proc g)) }
+        → (proc g h : ℕ) → proc < length program.procedures → g ≢ h → IsTrue (group_feeds program proc (groups_in groups proc) g h)
+        → IsTrue (is_immediate_group is_immediate groups (piece_numbered proc g)) }
 {}

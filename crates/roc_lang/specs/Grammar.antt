@@ -131,7 +131,8 @@ mutual
   pub data IsExpression : (depth : ℕ) (tokens rest : List Token) → Expression → Type 0 where
     term : {depth : ℕ} {a b : List Token} {e : Expression} → IsTerm depth a b e → IsExpression depth a b e
     sum : {below depth : ℕ} {a b c d : List Token} {e f : Expression} → below < depth → IsExpression below a b e → IsMark plus b c → IsTerm below c d f → IsExpression depth a d (Sum e f)
-    difference : {below depth : ℕ} {a b c d : List Token} {e f : Expression} → below < depth → IsExpression below a b e → IsMark minus b c → IsTerm below c d f → IsExpression depth a d (Difference e f)
+    difference : {below depth : ℕ} {a b c d : List Token} {e f : Expression} → below < depth → IsExpression below a b e → IsMark minus b c → IsTerm below c d f
+        → IsExpression depth a d (Difference e f)
 
   -- atoms with * between, grouped to the left
   pub data IsTerm : (depth : ℕ) (tokens rest : List Token) → Expression → Type 0 where
@@ -141,12 +142,14 @@ mutual
   pub data IsAtom : (depth : ℕ) (tokens rest : List Token) → Expression → Type 0 where
     number : {depth : ℕ} {a b : List Token} {n : ℕ} → 0 < depth → IsInteger a b n → IsAtom depth a b (Number (pos n))
     variable : {depth : ℕ} {a b : List Token} {name : Name} → 0 < depth → IsName a b name → IsAtom depth a b (Variable name)
-    parentheses : {below depth : ℕ} {a b c d : List Token} {e : Expression} → below < depth → IsMark open_parenthesis a b → IsExpression below b c e → IsMark close_parenthesis c d → IsAtom depth a d e
+    parentheses : {below depth : ℕ} {a b c d : List Token} {e : Expression} → below < depth → IsMark open_parenthesis a b → IsExpression below b c e
+        → IsMark close_parenthesis c d → IsAtom depth a d e
     minimum : {below depth : ℕ} {a b c : List Token} {e f : Expression} → below < depth → IsToken (Word (codes "min")) a b → IsPair below b c e f → IsAtom depth a c (Minimum e f)
     maximum : {below depth : ℕ} {a b c : List Token} {e f : Expression} → below < depth → IsToken (Word (codes "max")) a b → IsPair below b c e f → IsAtom depth a c (Maximum e f)
     less : {below depth : ℕ} {a b c : List Token} {e f : Expression} → below < depth → IsToken (Word (codes "less")) a b → IsPair below b c e f → IsAtom depth a c (Less e f)
     pick : {below depth : ℕ} {a b c d e f g h i : List Token} {x y z : Expression} → below < depth
-        → IsToken (Word (codes "pick")) a b → IsMark open_parenthesis b c → IsExpression below c d x → IsMark comma d e → IsExpression below e f y → IsMark comma f g → IsExpression below g h z → IsMark close_parenthesis h i
+        → IsToken (Word (codes "pick")) a b → IsMark open_parenthesis b c → IsExpression below c d x → IsMark comma d e → IsExpression below e f y → IsMark comma f g
+        → IsExpression below g h z → IsMark close_parenthesis h i
         → IsAtom depth a i (Pick x y z)
 
   -- two operands in parentheses

@@ -131,7 +131,8 @@ init_faults tables i =
 abbrev pub procedures_faults : List Table → (earlier : List Name) → List Procedure → List Fault
 procedures_faults tables earlier [] = []
 procedures_faults tables earlier (p ∷ ps) =
-    repeated earlier p.name ++ repeats [] p.arguments ++ pieces_faults tables [] (record { known = p.arguments; own = []; past = [] }) p.pieces ++ procedures_faults tables (earlier ++ p.name ∷ []) ps
+    repeated earlier p.name ++ repeats [] p.arguments ++ pieces_faults tables [] (record { known = p.arguments; own = []; past = [] }) p.pieces
+    ++ procedures_faults tables (earlier ++ p.name ∷ []) ps
 
 -- there is a shard, and there are not too many
 abbrev pub shards_faults : Tree → List Fault

@@ -1,5 +1,6 @@
 -- Words, integers and marks, and the bytes that spell them: docs/LANGUAGE.md, "Tokens".
-use Rattle.std.specs.Prelude.{◌≡◌, ℕ, ◌+◌, ◌-◌, ◌*◌, ◌^◌, ◌<◌, ◌≤◌, Bool, ◌||◌, ◌==◌, if◌then◌else◌, IsTrue, IsFalse, List, [], ◌∷◌, ◌++◌, length}
+use Rattle.std.specs.Prelude.{◌≡◌, ℕ, ◌+◌, ◌-◌, ◌*◌, ◌^◌, ◌<◌, ◌≤◌, Bool, ◌||◌, ◌==◌, if◌then◌else◌, IsTrue, IsFalse, List, [], ◌∷◌}
+use Rattle.std.specs.Prelude.{◌++◌, length}
 use Rattle.std.specs.Char.{is_ascii_alphabetic, is_ascii_alphanumeric, is_ascii_digit}
 use Rattle.std.specs.List.{list_any, fold, AllByRecursion}
 use lib.Chars.{codes}
@@ -57,9 +58,12 @@ IsLineEnd (b ∷ bs) = b ≡ 10
 -- one step from bytes that begin on a line: a blank, a comment, or a token; and the line and the bytes behind it
 pub data IsTokenStep : (line : ℕ) (bytes : List ℕ) (tokens : List Token) (after : ℕ) (rest : List ℕ) → Type 0 where
   blank : {line b : ℕ} {rest : List ℕ} → IsTrue (is_blank b) → IsTokenStep line (b ∷ rest) [] (line_after line b) rest
-  comment : {line : ℕ} {bytes rest : List ℕ} (text : List ℕ) → bytes ≡ codes "//" ++ (text ++ rest) → AllByRecursion (λ b. IsFalse (b == 10)) text → IsLineEnd rest → IsTokenStep line bytes [] line rest
-  word : {line : ℕ} {bytes rest : List ℕ} (letters : List ℕ) → bytes ≡ letters ++ rest → IsWord letters → IsTokenEnd rest → IsTokenStep line bytes (record { kind = Word letters; line = line } ∷ []) line rest
-  integer : {line : ℕ} {bytes rest : List ℕ} (digits : List ℕ) → bytes ≡ digits ++ rest → IsDecimal digits → IsTokenEnd rest → IsTokenStep line bytes (record { kind = Integer (decimal digits); line = line } ∷ []) line rest
+  comment : {line : ℕ} {bytes rest : List ℕ} (text : List ℕ) → bytes ≡ codes "//" ++ (text ++ rest) → AllByRecursion (λ b. IsFalse (b == 10)) text → IsLineEnd rest
+      → IsTokenStep line bytes [] line rest
+  word : {line : ℕ} {bytes rest : List ℕ} (letters : List ℕ) → bytes ≡ letters ++ rest → IsWord letters → IsTokenEnd rest
+      → IsTokenStep line bytes (record { kind = Word letters; line = line } ∷ []) line rest
+  integer : {line : ℕ} {bytes rest : List ℕ} (digits : List ℕ) → bytes ≡ digits ++ rest → IsDecimal digits → IsTokenEnd rest
+      → IsTokenStep line bytes (record { kind = Integer (decimal digits); line = line } ∷ []) line rest
   mark : {line b : ℕ} {rest : List ℕ} → IsTrue (is_mark b) → IsTokenStep line (b ∷ rest) (record { kind = Mark b; line = line } ∷ []) line rest
 
 -- bytes that begin on a line, and their tokens: one step behind the other

@@ -41,7 +41,8 @@ impl Source {
         inits: Vec<Init>,
         procedures: Vec<Procedure>,
     ) -> Source
-        requires { IsWithinLimits (record { shards = shards; shards_line = shards_line; tables = map table_tree tables.items; inits = map init_tree inits.items; procedures = map procedure_tree procedures.items }) }
+        requires { IsWithinLimits
+            (record { shards = shards; shards_line = shards_line; tables = map table_tree tables.items; inits = map init_tree inits.items; procedures = map procedure_tree procedures.items }) }
         ensures { result
             ≡ record { shards = shards; shards_line = shards_line; tables = map table_tree tables.items; inits = map init_tree inits.items; procedures = map procedure_tree procedures.items } }
     {

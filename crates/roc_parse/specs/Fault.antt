@@ -37,15 +37,20 @@ pub data IsFirstFault (bytes : List ℕ) : (line : ℕ) → What → Type 0 wher
   -- too many bytes
   too_long : text_limit < length bytes → IsFirstFault bytes 1 Limit
   -- no token
-  broken : {line : ℕ} {rest : List ℕ} {before : List tokens.Token} → length bytes ≤ text_limit → IsLexed 1 bytes before line rest → IsBroken line rest → GoesOn standard before → IsFirstFault bytes line Word
+  broken : {line : ℕ} {rest : List ℕ} {before : List tokens.Token} → length bytes ≤ text_limit → IsLexed 1 bytes before line rest → IsBroken line rest
+      → GoesOn standard before → IsFirstFault bytes line Word
   -- 2 ^ 63 where no text goes on with it
-  misplaced : {after : ℕ} {rest : List ℕ} {before : List tokens.Token} (t : tokens.Token) (behind : List tokens.Token) → length bytes ≤ text_limit → IsLexed 1 bytes (before ++ t ∷ behind) after rest → GoesOn standard before
+  misplaced : {after : ℕ} {rest : List ℕ} {before : List tokens.Token} (t : tokens.Token) (behind : List tokens.Token) → length bytes ≤ text_limit
+      → IsLexed 1 bytes (before ++ t ∷ behind) after rest → GoesOn standard before
       → ((limits : Limits) → GoesOn limits (before ++ t ∷ []) → ⊥) → IsTrue (is_above t.kind) → IsFirstFault bytes t.line Word
   -- a token with which no text of the grammar goes on, whatever the limits
-  wrong : {after : ℕ} {rest : List ℕ} {before : List tokens.Token} (t : tokens.Token) (behind : List tokens.Token) → length bytes ≤ text_limit → IsLexed 1 bytes (before ++ t ∷ behind) after rest → GoesOn standard before
+  wrong : {after : ℕ} {rest : List ℕ} {before : List tokens.Token} (t : tokens.Token) (behind : List tokens.Token) → length bytes ≤ text_limit
+      → IsLexed 1 bytes (before ++ t ∷ behind) after rest → GoesOn standard before
       → ((limits : Limits) → GoesOn limits (before ++ t ∷ []) → ⊥) → IsFalse (is_above t.kind) → IsFirstFault bytes t.line Token
   -- a token with which a text of the grammar goes on, but none within the limits
-  beyond : {after : ℕ} {rest : List ℕ} {before : List tokens.Token} (t : tokens.Token) (behind : List tokens.Token) → length bytes ≤ text_limit → IsLexed 1 bytes (before ++ t ∷ behind) after rest → GoesOn standard before
+  beyond : {after : ℕ} {rest : List ℕ} {before : List tokens.Token} (t : tokens.Token) (behind : List tokens.Token) → length bytes ≤ text_limit
+      → IsLexed 1 bytes (before ++ t ∷ behind) after rest → GoesOn standard before
       → (GoesOn standard (before ++ t ∷ []) → ⊥) → (limits : Limits) → GoesOn limits (before ++ t ∷ []) → IsFirstFault bytes t.line Limit
   -- the text stops where more must come
-  stops : {all : List tokens.Token} → length bytes ≤ text_limit → IsTokens 1 bytes all → GoesOn standard all → ((t : Tree) → IsText standard all t → ⊥) → IsFirstFault bytes (last_line bytes) End
+  stops : {all : List tokens.Token} → length bytes ≤ text_limit → IsTokens 1 bytes all → GoesOn standard all → ((t : Tree) → IsText standard all t → ⊥)
+      → IsFirstFault bytes (last_line bytes) End

@@ -5,7 +5,8 @@ use Rattle.roc_lang.specs.Tokens.{Kind, Token}
 use Rattle.roc_lang.specs.Syntax.{Name, Expression, Number, Variable, Sum, Difference, Product, Minimum, Maximum, Less, Pick, Access, Statement, Get, Set, Out, Piece, Procedure, Table, Init, Tree}
 use Rattle.roc_lang.specs.Grammar.{Limits, open_brace, close_brace, open_parenthesis, close_parenthesis, open_bracket, close_bracket, comma, semicolon, dot, equals, plus, minus, star}
 use Rattle.roc_parse.specs.Stuck.{Stuck, Reading, ◌>>=◌, refuse, exceed, head_is}
-use Rattle.roc_parse.specs.Parts.{has_word, has_mark, has_integer, word_at, mark_at, mark_line_at, name_at, integer_at, bounded_at, signed_at, shards_at, class_at, sign_at, many_at, with_front, some_at, behind_comma_at, separated_at}
+use Rattle.roc_parse.specs.Parts.{has_word, has_mark, has_integer, word_at, mark_at, mark_line_at, name_at, integer_at, bounded_at, signed_at, shards_at, class_at, sign_at, many_at}
+use Rattle.roc_parse.specs.Parts.{with_front, some_at, behind_comma_at, separated_at}
 
 -- ---- expressions: each with its depth, which is at most the room
 

@@ -54,7 +54,8 @@ pub(crate) struct Operands {
 }
 
 pub(crate) fn paired(first: Deep, second: Deep) -> Operands
-    ensures { (expression_tree result.first ≡ expression_tree first.expression) × (expression_tree result.second ≡ expression_tree second.expression) × (result.depth ≡ max first.depth second.depth) }
+    ensures { (expression_tree result.first ≡ expression_tree first.expression) × (expression_tree result.second ≡ expression_tree second.expression)
+        × (result.depth ≡ max first.depth second.depth) }
 {
     let depth = first.depth.max(second.depth);
     Operands {
@@ -92,7 +93,8 @@ pub(crate) fn picked(
     second: Deep,
 ) -> Result<Deep, AllocError>
     requires { (chooser.depth < standard.depth) × (first.depth < standard.depth) × (second.depth < standard.depth) }
-    ensures { IfOk result (λ d. deep_view d ≡ (Pick (expression_tree chooser.expression) (expression_tree first.expression) (expression_tree second.expression), max chooser.depth (max first.depth second.depth) + 1)) }
+    ensures { IfOk result (λ d. deep_view d
+        ≡ (Pick (expression_tree chooser.expression) (expression_tree first.expression) (expression_tree second.expression), max chooser.depth (max first.depth second.depth) + 1)) }
 {
     let depth = chooser.depth.max(first.depth.max(second.depth)) + 1;
     let chooser = Box::new(alloc, chooser.expression)?;

@@ -6,7 +6,8 @@ ghost use Rattle.roc_lang.specs.Syntax.{Pick};
 ghost use Rattle.roc_lang.specs.Tree.{expression_tree};
 ghost use Rattle.roc_parse.specs.Inner.Views.{ReadsAs, token_views, deep_view, function_word, function_of};
 ghost use Rattle.roc_parse.specs.Parts.{behind_comma_at};
-ghost use Rattle.roc_parse.specs.Reading.{number_at, variable_at, enclosed_at, pair_at, function_at, pick_at, atom_at, factor_at, factors_at, times, term_at, signed_term_at, sums_at, plus_or_minus, sum_at, deep_at, expression_at};
+ghost use Rattle.roc_parse.specs.Reading.{number_at, variable_at, enclosed_at, pair_at, function_at, pick_at, atom_at, factor_at, factors_at, times, term_at, signed_term_at, sums_at};
+ghost use Rattle.roc_parse.specs.Reading.{plus_or_minus, sum_at, deep_at, expression_at};
 
 use crate::deep::{
     Deep, Function, Operands, applied, enclosed, paired, picked, plus_or_minus, times, word_of,

@@ -35,7 +35,8 @@ fn integers_behind(
     first: Expression,
     tokens: &[Token],
 ) -> Result<(Vec<Expression>, &[Token]), Refusal<'_>>
-    ensures { ReadsAs (λ x. (map expression_tree x.0.items, token_views x.1.now)) result (separated_behind (expression_at standard.depth) (expression_tree first) (standard.ids - 1) (token_views tokens.now)) }
+    ensures { ReadsAs (λ x. (map expression_tree x.0.items, token_views x.1.now)) result
+        (separated_behind (expression_at standard.depth) (expression_tree first) (standard.ids - 1) (token_views tokens.now)) }
 {
     let mut integers = vec![in alloc; first]?;
     let mut rest = tokens;

@@ -6,7 +6,8 @@ ghost use Rattle.roc_lang.specs.Grammar.{is_reserved};
 ghost use Rattle.roc_lang.specs.Tree.{name_tree};
 ghost use Rattle.roc_parse.specs.Stuck.{head_is};
 ghost use Rattle.roc_parse.specs.Inner.Views.{ReadsAs, kind_view, token_views};
-ghost use Rattle.roc_parse.specs.Parts.{has_word, has_mark, has_integer, word_at, mark_at, mark_line_at, free_word, name_at, small_integer, integer_at, bounded_at, negated, negated_at, signed_at, shards_at, piece_class, class_at, sign_of, sign_at};
+ghost use Rattle.roc_parse.specs.Parts.{has_word, has_mark, has_integer, word_at, mark_at, mark_line_at, free_word, name_at, small_integer, integer_at, bounded_at, negated, negated_at};
+ghost use Rattle.roc_parse.specs.Parts.{signed_at, shards_at, piece_class, class_at, sign_of, sign_at};
 ghost use Rattle.roc_parse.specs.Reading.{starts_statement, starts_piece, is_sign};
 
 use crate::refusal::{Refusal, limit_fault, or_refuse, token_fault};

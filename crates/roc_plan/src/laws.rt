@@ -11,7 +11,8 @@ ghost use Rattle.roc_plan.specs.Turns.{AreInTurn, may_meet};
 /// Each procedure has a group, and a group is immediate exactly where its pieces are.
 pub fn groups_have_the_class_of_their_pieces()
     ensures some { (plan : Plan) → IsAccepted plan → (proc : ℕ) → proc < length plan.program.procedures → 0 < length (groups_of plan proc) }
-    ensures class { (plan : Plan) → IsAccepted plan → (proc g x : ℕ) → Has x (group_of plan proc g).pieces → IsTrue (is_immediate_of plan proc g) ↔ IsImmediate plan.program (piece_numbered proc x) }
+    ensures class { (plan : Plan) → IsAccepted plan → (proc g x : ℕ) → Has x (group_of plan proc g).pieces → IsTrue (is_immediate_of plan proc g)
+        ↔ IsImmediate plan.program (piece_numbered proc x) }
 {}
 
 /// What a group takes comes from other groups of its procedure, which are immediate and bind it.
@@ -29,6 +30,7 @@ pub fn groups_can_run_in_turn()
 /// one of them immediate, never meet.
 pub fn groups_meet_their_own_class()
     ensures one_class { (plan : Plan) → IsAccepted plan → (p g q h : ℕ) → IsTrue (may_meet plan p g q h) → is_immediate_of plan p g ≡ is_immediate_of plan q h }
-    ensures one_contended { (plan : Plan) → IsAccepted plan → (p g h q i r j : ℕ) → IsTrue (is_immediate_of plan p g) → IsTrue (is_immediate_of plan p h) → IsTrue (may_meet plan p g q i) → IsTrue (may_meet plan p h r j) → g ≡ h }
+    ensures one_contended { (plan : Plan) → IsAccepted plan → (p g h q i r j : ℕ) → IsTrue (is_immediate_of plan p g) → IsTrue (is_immediate_of plan p h)
+        → IsTrue (may_meet plan p g q i) → IsTrue (may_meet plan p h r j) → g ≡ h }
     ensures siblings { (plan : Plan) → IsAccepted plan → (p g h : ℕ) → g ≢ h → IsTrue (is_immediate_of plan p g) → may_meet plan p g p h ≡ false }
 {}

@@ -48,7 +48,8 @@ fn outlines_in(
 ) -> Result<Vec<Outline>, NoMemory>
     requires grouping { IsGrouping (length (view.procedure procedure.now).pieces) (groups_in groups.now proc) }
     requires sized { IsSized (view.procedure procedure.now) }
-    ensures { IfOk result (λ row. AreDrawn (view.procedure procedure.now) (λ x. is_immediate classes.now (piece_numbered proc x)) (groups_in groups.now proc) row.items (length (groups_in groups.now proc))) }
+    ensures { IfOk result (λ row. AreDrawn (view.procedure procedure.now) (λ x. is_immediate classes.now (piece_numbered proc x)) (groups_in groups.now proc) row.items
+        (length (groups_in groups.now proc))) }
 {
     let bounds = bound_names(alloc, procedure, groups, proc)?;
     let mut row = Vec::new(alloc);

@@ -16,7 +16,8 @@ use std::alloc::Global;
 pub fn print(alloc: Global, source: &Source) -> Result<Vec<u8>, NoMemory>
     ensures text { IfOk result (λ text. text.items ≡ canonical source.now) }
     // Where the tree is that of a workload text, this is one of the same tree up to lines, if it is within the limit of bytes.
-    ensures again { (bytes : List ℕ) → IsWorkloadText bytes source.now → IfOk result (λ text. length text.items ≤ text_limit → (u : Tree) × IsWorkloadText text.items u × (without_lines u ≡ without_lines source.now)) }
+    ensures again { (bytes : List ℕ) → IsWorkloadText bytes source.now
+        → IfOk result (λ text. length text.items ≤ text_limit → (u : Tree) × IsWorkloadText text.items u × (without_lines u ≡ without_lines source.now)) }
 {
     let mut text = String::new(alloc);
     push_shards(&mut text, source.shards())?;

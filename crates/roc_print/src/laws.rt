@@ -11,5 +11,6 @@ ghost use Rattle.roc_print.specs.UpToLines.{without_lines};
 /// up to lines. With the clause `only` of `parse` this means: for each source that `parse` gave and whose canonical text
 /// is within that limit, parsing what `print` writes gives the same tree up to lines, unless memory runs out.
 pub fn canonical_text_is_parsed()
-    ensures { (bytes : List ℕ) (t : Tree) → IsWorkloadText bytes t → length (canonical t) ≤ text_limit → (u : Tree) × IsWorkloadText (canonical t) u × (without_lines u ≡ without_lines t) }
+    ensures { (bytes : List ℕ) (t : Tree) → IsWorkloadText bytes t → length (canonical t) ≤ text_limit
+        → (u : Tree) × IsWorkloadText (canonical t) u × (without_lines u ≡ without_lines t) }
 {}

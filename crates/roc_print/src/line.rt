@@ -5,7 +5,8 @@ ghost use Rattle.std.specs.List.{flat_map};
 ghost use Rattle.std.specs.Fmt.{signed_decimal};
 ghost use Rattle.std.specs.String.{string_bytes};
 ghost use Rattle.roc_lang.specs.Tree.{name_tree, expression_tree, access_tree, statement_tree, piece_tree, procedure_tree, table_tree, init_tree};
-ghost use Rattle.roc_print.specs.Canonical.{separated_text, names_text, expression_text, id_text, access_text, statement_text, statement_line, class_text, head_text, piece_lines, procedure_lines, arity_text, table_line, cell_text, init_line, shards_line};
+ghost use Rattle.roc_print.specs.Canonical.{separated_text, names_text, expression_text, id_text, access_text, statement_text, statement_line, class_text, head_text, piece_lines};
+ghost use Rattle.roc_print.specs.Canonical.{procedure_lines, arity_text, table_line, cell_text, init_line, shards_line};
 
 use crate::expression::push_expression;
 use roc_lang::{Access, Expression, Init, Name, Piece, Procedure, Statement, Table};

@@ -22,7 +22,8 @@ Comes plan w None o = o ≡ undecided seen.Done w
 -- the steps lead from the first world to w
 pub data IsRun (plan : Plan) (coords : ℕ) : List Stepped → World → Type 0 where
   begun : IsRun plan coords [] (first_world plan coords)
-  goes_on : {steps : List Stepped} {w : World} (e : Option Event) (o : Outcome) → IsRun plan coords steps w → Comes plan w e o → IsRun plan coords (steps ++ (record { event = e; outcome = o }) ∷ []) o.world
+  goes_on : {steps : List Stepped} {w : World} (e : Option Event) (o : Outcome) → IsRun plan coords steps w → Comes plan w e o
+      → IsRun plan coords (steps ++ (record { event = e; outcome = o }) ∷ []) o.world
 
 -- the node is one of the world's
 abbrev pub IsNodeOf : World → Node → Type 0

@@ -114,7 +114,8 @@ pub fn answered_worlds_rest()
 
 /// Each shard has its server, which holds no cell of another shard: each is 0 there.
 pub fn cells_are_in_their_place()
-    ensures servers { (plan : Plan) (coords : ℕ) (steps : List Stepped) (w : World) → IsRun plan coords steps w → (n : ℕ) → n < plan.program.shards → (s : ServerState) × (slice_get w.servers n ≡ Some s) }
+    ensures servers { (plan : Plan) (coords : ℕ) (steps : List Stepped) (w : World) → IsRun plan coords steps w → (n : ℕ) → n < plan.program.shards
+        → (s : ServerState) × (slice_get w.servers n ≡ Some s) }
     ensures apart { (plan : Plan) (coords : ℕ) (steps : List Stepped) (w : World) → HasSchemes plan → IsRun plan coords steps w
         → (shard : Shard) (s : ServerState) → slice_get w.servers shard.0 ≡ Some s → (x : Cell) → shard_of plan x.place ≢ shard.0 → read s.store x ≡ pos 0 }
 {
@@ -133,7 +134,8 @@ pub fn submissions_are_kept()
         → (c : CoordState) × (slice_get w.coords t.coord ≡ Some c)
         × (((x : Transaction) × Has x c.pending × (x.id ≡ t)) ⊎ ((reply : List ℤ) × WasAnswered w.history t reply)) }
     ensures gone { (plan : Plan) (coords : ℕ) (steps : List Stepped) (w : World) → HasSchemes plan → IsRun plan coords steps w
-        → (t : TxnId) (reply : List ℤ) → WasAnswered w.history t reply → (n : ℕ) (c : CoordState) → slice_get w.coords n ≡ Some c → (x : Transaction) → Has x c.pending → x.id ≢ t }
+        → (t : TxnId) (reply : List ℤ) → WasAnswered w.history t reply → (n : ℕ) (c : CoordState) → slice_get w.coords n ≡ Some c → (x : Transaction)
+        → Has x c.pending → x.id ≢ t }
 {
     machine_laws();
 }
@@ -194,7 +196,8 @@ pub fn quiet_is_answered()
     ensures answered { (plan : Plan) (coords : ℕ) (steps : List Stepped) (w : World) → HasSchemes plan → IsRun plan coords steps w
         → (t : TxnId) (proc : ℕ) (args : List ℤ) → Has (entry.Submitted t proc args) w.history → IsQuiet w t → (reply : List ℤ) × Has (entry.Answered t reply) w.history }
     ensures decided { (plan : Plan) (coords : ℕ) (steps : List Stepped) (w : World) → HasSchemes plan → IsRun plan coords steps w
-        → (t : TxnId) → IsQuiet w t → (shard : Shard) (s : ServerState) → slice_get w.servers shard.0 ≡ Some s → (e : StartedGroup) → Has e s.started → e.id ≡ t → IsDecided s.lists.known t }
+        → (t : TxnId) → IsQuiet w t → (shard : Shard) (s : ServerState) → slice_get w.servers shard.0 ≡ Some s → (e : StartedGroup) → Has e s.started → e.id ≡ t
+        → IsDecided s.lists.known t }
 {
     machine_laws();
 }
@@ -206,7 +209,8 @@ pub fn submissions_are_taken()
         → Happens plan w (event.Submit coord proc args) o → (o.seen ≡ seen.Spent → most_transactions ≤ c.next) × (most_transactions ≤ c.next → o.seen ≡ seen.Spent) }
     ensures busy { (plan : Plan) (w : World) (coord proc : ℕ) (args : List ℤ) (c : CoordState) (o : Outcome) → slice_get w.coords coord ≡ Some c
         → Happens plan w (event.Submit coord proc args) o
-        → (o.seen ≡ seen.Busy → (c.next < most_transactions) × (most_pending ≤ length c.pending)) × (c.next < most_transactions → most_pending ≤ length c.pending → o.seen ≡ seen.Busy) }
+        → (o.seen ≡ seen.Busy → (c.next < most_transactions) × (most_pending ≤ length c.pending))
+        × (c.next < most_transactions → most_pending ≤ length c.pending → o.seen ≡ seen.Busy) }
     ensures taken { (plan : Plan) (w : World) (coord proc : ℕ) (args : List ℤ) (c : CoordState) (o : Outcome) → slice_get w.coords coord ≡ Some c
         → Happens plan w (event.Submit coord proc args) o
         → c.next < most_transactions → length c.pending < most_pending → o.seen ≡ seen.Submitted (record { coord = c.number; seq = c.next }) }

@@ -25,7 +25,8 @@ coded_cell = code_by Parts (coded× coded_ℕ (coded× coded_ℤ (coded× (coded
 -- stores of the same map are one
 pub same_numbers : (s t : Store) → s.numbers ≡ t.numbers → s ≡ t
 same_numbers s t e =
-    let pairs : ◌≡◌ {A = (m : FinMap cell_cmp ℤ) × ((c : Cell) → map.get m c ≢ Some (pos 0))} (s.numbers, s.no_zero) (t.numbers, t.no_zero) = Σ_prop_path (λ m. Π_prop (λ c. Π_prop (λ e. ⊥_prop))) e in
+    let pairs : ◌≡◌ {A = (m : FinMap cell_cmp ℤ) × ((c : Cell) → map.get m c ≢ Some (pos 0))} (s.numbers, s.no_zero) (t.numbers, t.no_zero) =
+    Σ_prop_path (λ m. Π_prop (λ c. Π_prop (λ e. ⊥_prop))) e in
     λ i. record { numbers = (pairs i).0; no_zero = (pairs i).1 }
 
 abbrev pub coded_store : Coded Store

@@ -19,7 +19,8 @@ pub fn lines_are_unique()
 
 /// Bytes have at most one first fault.
 pub fn first_faults_are_unique()
-    ensures schedules { (shards : ℕ) (text : List ℕ) (line other : ℕ) (what cause : What) → IsScheduleFault shards text line what → IsScheduleFault shards text other cause → (line ≡ other) × (what ≡ cause) }
+    ensures schedules { (shards : ℕ) (text : List ℕ) (line other : ℕ) (what cause : What) → IsScheduleFault shards text line what
+        → IsScheduleFault shards text other cause → (line ≡ other) × (what ≡ cause) }
     ensures requests { (text : List ℕ) (line other : ℕ) (what cause : What) → IsRequestFault text line what → IsRequestFault text other cause → (line ≡ other) × (what ≡ cause) }
 {}
 

@@ -39,7 +39,8 @@ use roc_reorder::laws::groups_in_turn_are_the_whole_run;
 
 /// The scheme of an accepted plan is sound.
 pub fn schemes_are_sound()
-    ensures { (plan : Plan) (orders : ℕ → List ℕ) (asked : TxnId → whole.Call) → IsAccepted plan → AreOrders plan orders → AreCalls plan asked → IsSoundScheme (scheme_of plan orders asked) }
+    ensures { (plan : Plan) (orders : ℕ → List ℕ) (asked : TxnId → whole.Call) → IsAccepted plan → AreOrders plan orders → AreCalls plan asked
+        → IsSoundScheme (scheme_of plan orders asked) }
 {
     runs_follow_from_cells();
     conflicts_are_static();
@@ -50,7 +51,8 @@ pub fn schemes_are_sound()
 
 /// It does what the plan's groups do.
 pub fn schemes_are_of_their_plan()
-    ensures { (plan : Plan) (orders : ℕ → List ℕ) (asked : TxnId → whole.Call) → IsAccepted plan → AreOrders plan orders → AreCalls plan asked → IsSchemeOf plan asked (scheme_of plan orders asked) }
+    ensures { (plan : Plan) (orders : ℕ → List ℕ) (asked : TxnId → whole.Call) → IsAccepted plan → AreOrders plan orders → AreCalls plan asked
+        → IsSchemeOf plan asked (scheme_of plan orders asked) }
 {
     groups_have_the_class_of_their_pieces();
     inputs_come_from_immediate_groups();

@@ -10,4 +10,10 @@ use Rattle.roc_server.specs.State.{ServerState}
 -- it holds the start cells of its places, and nothing else
 abbrev pub first_server : Plan → Shard → ServerState
 first_server plan shard =
-    record { shard = shard; store = after_inits empty (filter (λ i. shard_of plan i.place == shard.0) plan.program.inits); started = []; lists = record { known = []; waiting = none_waiting }; stopped = false }
+    record {
+      shard = shard;
+      store = after_inits empty (filter (λ i. shard_of plan i.place == shard.0) plan.program.inits);
+      started = [];
+      lists = record { known = []; waiting = none_waiting };
+      stopped = false;
+    }

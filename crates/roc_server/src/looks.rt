@@ -36,7 +36,8 @@ pub(crate) fn entries<L: Ledger>(
 ) -> Result<Edges, NoMemory>
     requires fits { AreGroupsOf plan.now kept.now.started }
     requires index { IsIndexOf kept.now.index kept.now.decided kept.now.started }
-    ensures entries { IfOk result (λ edges. edges ≡ united (map (edge_to starting.shard starting.immediate) (filter (conflicts_before plan.now kept.now.decided starting.id starting.immediate cells.now) kept.now.started))) }
+    ensures entries { IfOk result (λ edges. edges
+        ≡ united (map (edge_to starting.shard starting.immediate) (filter (conflicts_before plan.now kept.now.decided starting.id starting.immediate cells.now) kept.now.started))) }
     ensures steps { steps.new ≤ steps.old + length (users plan.now kept.now.decided starting.immediate cells.now kept.now.started) }
 {
     let mut met = Vec::new(alloc);
@@ -61,7 +62,8 @@ fn push_met<L: Ledger>(
     steps: &mut Steps<L>,
 ) -> Result<(), NoMemory>
     requires { AllByRecursion (IsSpotWithin plan.now started.now) spots.now }
-    ensures met { OnOk result (met.new.items ≡ met.old.items ++ map (edge_from starting.shard starting.immediate) (filter (is_met plan.now started.now starting.id starting.immediate access.now) spots.now)) }
+    ensures met { OnOk result (met.new.items ≡ met.old.items
+        ++ map (edge_from starting.shard starting.immediate) (filter (is_met plan.now started.now starting.id starting.immediate access.now) spots.now)) }
     ensures steps { steps.new ≤ steps.old + length (filter (is_looked_at plan.now starting.id starting.immediate) spots.now) }
 {
     let Starting {

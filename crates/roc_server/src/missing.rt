@@ -22,7 +22,8 @@ pub(crate) fn missing_from(
     started: &StartedGroups,
     waits: &Waits,
 ) -> Result<Vec<Asked>, NoMemory>
-    ensures { IfOk result (λ asks. (s : ServerState) → s.started ≡ started.now → s.lists.waiting.asked ≡ waits.now.asked → asks.items ≡ map asked_of (filter (is_missing s deps.now) (united (flat_map (λ k. k.edges) news.now)))) }
+    ensures { IfOk result (λ asks. (s : ServerState) → s.started ≡ started.now → s.lists.waiting.asked ≡ waits.now.asked
+        → asks.items ≡ map asked_of (filter (is_missing s deps.now) (united (flat_map (λ k. k.edges) news.now)))) }
 {
     let edges = all_edges(alloc, news)?;
     let mut asks = Vec::new(alloc);

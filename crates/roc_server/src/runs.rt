@@ -70,7 +70,8 @@ fn run_number(
 ) -> Result<(), NoMemory>
     requires fits { AreGroupsOf plan.now started.old }
     requires once { NoneTwice is_same_group started.old }
-    ensures runs { OnOk result ((s : ServerState) → run_groups plan.now (holding s rows.old.store started.old) (buffered plan.now (option_to_list (find_group id number started.old))) ≡ holding s rows.new.store started.new) }
+    ensures runs { OnOk result ((s : ServerState)
+        → run_groups plan.now (holding s rows.old.store started.old) (buffered plan.now (option_to_list (find_group id number started.old))) ≡ holding s rows.new.store started.new) }
     ensures groups { OnOk result (AreSameGroups started.old started.new) }
 {
     match place_of_group(started, id, number) {

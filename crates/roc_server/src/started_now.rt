@@ -47,7 +47,8 @@ fn begun(
     ensures cells { IfOk result (λ o. o.cells ≡ group_uses plan.now (call proc group known.now.args known.now.inputs) rows.old.store) }
     ensures bound { IfOk result (λ o. o.bound ≡ (if is_immediate_of plan.now proc group then bound_by_run plan.now (call proc group known.now.args known.now.inputs) rows.old.store else [])) }
     ensures outs { IfOk result (λ o. o.outs ≡ (if is_immediate_of plan.now proc group then (group_run plan.now (call proc group known.now.args known.now.inputs) rows.old.store).reply else [])) }
-    ensures store { OnOk result (rows.new.store ≡ (if is_immediate_of plan.now proc group then (group_run plan.now (call proc group known.now.args known.now.inputs) rows.old.store).store else rows.old.store)) }
+    ensures store { OnOk result (rows.new.store
+        ≡ (if is_immediate_of plan.now proc group then (group_run plan.now (call proc group known.now.args known.now.inputs) rows.old.store).store else rows.old.store)) }
 {
     let mut out = Outputs::new(alloc);
     if is_immediate(plan, proc, group) {
@@ -72,7 +73,8 @@ fn edges_for<L: Ledger>(
     requires some { 0 < blank.parts }
     requires fits { AreGroupsOf plan.now kept.now.started }
     requires index { IsIndexOf kept.now.index kept.now.decided kept.now.started }
-    ensures { IfOk result (λ edges. edges ≡ united (map (edge_to starting.shard starting.immediate) (filter (conflicts_before plan.now kept.now.decided starting.id starting.immediate cells.now) kept.now.started))) }
+    ensures { IfOk result (λ edges. edges
+        ≡ united (map (edge_to starting.shard starting.immediate) (filter (conflicts_before plan.now kept.now.decided starting.id starting.immediate cells.now) kept.now.started))) }
 {
     let mut steps = Steps::<L>::new(blank);
     entries(alloc, plan, kept, starting, cells, &mut steps)

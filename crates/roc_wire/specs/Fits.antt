@@ -72,7 +72,9 @@ FitsFacts facts = (length facts ≤ most_facts) × AllAlong FitsFact room_behind
 
 abbrev pub FitsMsg : Msg → Type 0
 FitsMsg (Start id proc group args inputs) = FitsId id × (proc < 2 ^ 16) × (group < 2 ^ 16) × FitsNums most_args args × FitsNums most_nums inputs
-FitsMsg (StartOk id group shard bound outs edges facts) = FitsId id × (group < 2 ^ 16) × FitsShard shard × FitsNums most_nums bound × FitsNums most_nums outs × FitsEdges most_edges edges × FitsFacts facts
+FitsMsg (StartOk id group shard bound outs edges facts) =
+    FitsId id × (group < 2 ^ 16) × FitsShard shard × FitsNums most_nums bound × FitsNums most_nums outs
+    × FitsEdges most_edges edges × FitsFacts facts
 FitsMsg (Commit id edges facts) = FitsId id × FitsEdges most_edges edges × FitsFacts facts
 FitsMsg (CommitOk id shard outs) = FitsId id × FitsShard shard × FitsNums most_nums outs
 FitsMsg (Fetch id asker) = FitsId id × FitsShard asker

@@ -1,5 +1,6 @@
 -- A datagram as a grammar of fields, read from left to right, with the first fault that is met: docs/FORMATS.md, "Datagrams"
-use Rattle.std.specs.Prelude.{◌≡◌, ◌<◌, get_or, not, ℕ, zero, suc, ℤ, Bool, List, [], ◌∷◌, length, take, drop, Option, None, Result, Ok, Err, nat_lt, nat_le, ◌==◌, ◌&&◌, if◌then◌else◌, bytes_eq}
+use Rattle.std.specs.Prelude.{◌≡◌, ◌<◌, get_or, not, ℕ, zero, suc, ℤ, Bool, List, [], ◌∷◌, length, take, drop, Option, None, Result, Ok, Err, nat_lt, nat_le, ◌==◌}
+use Rattle.std.specs.Prelude.{◌&&◌, if◌then◌else◌, bytes_eq}
 use Rattle.std.specs.Int.{Width, w8, w16, w32, w64, byte_len, from_be_bytes, cast_signed}
 use Rattle.roc_base.specs.declared.id.TxnId.{TxnId}
 use Rattle.roc_base.specs.declared.node.Shard.{Shard}
@@ -113,13 +114,18 @@ abbrev pub start_of_parts : TxnId × (ℕ × (ℕ × (List ℤ × List ℤ))) �
 start_of_parts p = Start p.0 p.1.0 p.1.1.0 p.1.1.1.0 p.1.1.1.1
 
 unfoldable pub start_read : Field Msg
-start_read bytes = made_read start_of_parts (then_read id_read (λ id. then_read (number_read w16) (λ proc. then_read (number_read w16) (λ group. then_read (nums_read most_args) (λ args. nums_read most_nums))))) bytes
+start_read bytes =
+    made_read start_of_parts
+    (then_read id_read (λ id. then_read (number_read w16) (λ proc. then_read (number_read w16) (λ group. then_read (nums_read most_args) (λ args. nums_read most_nums))))) bytes
 
 abbrev pub start_ok_of_parts : TxnId × (ℕ × (Shard × (List ℤ × (List ℤ × (List Dependency × List KnownList))))) → Msg
 start_ok_of_parts p = StartOk p.0 p.1.0 p.1.1.0 p.1.1.1.0 p.1.1.1.1.0 p.1.1.1.1.1.0 p.1.1.1.1.1.1
 
 unfoldable pub start_ok_read : Field Msg
-start_ok_read bytes = made_read start_ok_of_parts (then_read id_read (λ id. then_read (number_read w16) (λ group. then_read shard_read (λ shard. then_read (nums_read most_nums) (λ bound. then_read (nums_read most_nums) (λ outs. then_read (edges_read most_edges) (λ edges. facts_read))))))) bytes
+start_ok_read bytes =
+    made_read start_ok_of_parts
+    (then_read id_read (λ id. then_read (number_read w16) (λ group. then_read shard_read (λ shard. then_read (nums_read most_nums)
+    (λ bound. then_read (nums_read most_nums) (λ outs. then_read (edges_read most_edges) (λ edges. facts_read))))))) bytes
 
 abbrev pub commit_of_parts : TxnId × (List Dependency × List KnownList) → Msg
 commit_of_parts p = Commit p.0 p.1.0 p.1.1
@@ -183,7 +189,9 @@ abbrev pub whole_of_parts : List ℕ × (ℕ × (ℕ × (List ℕ × (Node × Ms
 whole_of_parts p = (record { tag = p.1.1.1.0; from = p.1.1.1.1.0 }, p.1.1.1.1.1)
 
 unfoldable pub whole_read : Field (Header × Msg)
-whole_read bytes = made_read whole_of_parts (then_read magic_read (λ text. then_read version_read (λ number. then_read kind_read (λ kind. then_read (bytes_read 8) (λ tag. then_read node_read (λ from. body_read kind)))))) bytes
+whole_read bytes =
+    made_read whole_of_parts
+    (then_read magic_read (λ text. then_read version_read (λ number. then_read kind_read (λ kind. then_read (bytes_read 8) (λ tag. then_read node_read (λ from. body_read kind)))))) bytes
 
 -- a datagram is all of the bytes
 unfoldable pub datagram : List ℕ → Result (Header × Msg) WireFault

@@ -73,4 +73,6 @@ sender_number (Server shard) = shard.0
 sender_number (Coord number) = number
 
 abbrev pub spelling : Header → Msg → List ℕ
-spelling header msg = magic ++ to_be_bytes w8 version ++ to_be_bytes w8 (kind_of msg) ++ header.tag ++ to_be_bytes w8 (sender_role header.from) ++ to_be_bytes w16 (sender_number header.from) ++ body msg
+spelling header msg =
+    magic ++ to_be_bytes w8 version ++ to_be_bytes w8 (kind_of msg) ++ header.tag ++ to_be_bytes w8 (sender_role header.from)
+    ++ to_be_bytes w16 (sender_number header.from) ++ body msg

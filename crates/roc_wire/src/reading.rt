@@ -1,6 +1,7 @@
 //! Reading a datagram.
 ghost use Rattle.std.specs.Prelude.{◌≡◌, Ok, take, IfOk};
-ghost use Rattle.roc_wire.specs.Reading.{IsRead, bytes_read, start_read, start_ok_read, commit_read, commit_ok_read, fetch_read, known_read, body_read, magic_read, version_read, kind_read, node_read, whole_read, datagram, pair};
+ghost use Rattle.roc_wire.specs.Reading.{IsRead, bytes_read, start_read, start_ok_read, commit_read, commit_ok_read, fetch_read, known_read, body_read, magic_read, version_read, kind_read};
+ghost use Rattle.roc_wire.specs.Reading.{node_read, whole_read, datagram, pair};
 ghost use Rattle.roc_wire.specs.Fits.{IsSpellable};
 ghost use Rattle.roc_wire.specs.Spelling.{spelling};
 ghost use Rattle.roc_wire.specs.declared.header.Header.{Header as HeaderValue};

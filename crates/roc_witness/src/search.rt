@@ -34,7 +34,8 @@ pub fn shortest(
     requires { p.proc ≡ q.proc }
     ensures is { IfOk result (λ o. IfSome o (λ c. IsCycleOf workload.now (is_immediate classes.now) p q c.items)) }
     ensures shortest { IfOk result (λ o. IfSome o (λ c. (d : List Vertex) → IsCycleOf workload.now (is_immediate classes.now) p q d → length c.items ≤ length d)) }
-    ensures least { IfOk result (λ o. IfSome o (λ c. (d : List Vertex) → IsCycleOf workload.now (is_immediate classes.now) p q d → length d ≡ length c.items → ¬ IsTrue (stands_before d c.items))) }
+    ensures least { IfOk result (λ o. IfSome o
+        (λ c. (d : List Vertex) → IsCycleOf workload.now (is_immediate classes.now) p q d → length d ≡ length c.items → ¬ IsTrue (stands_before d c.items))) }
     ensures none { IfOk result (λ o. IfNone o ((d : List Vertex) → IsCycleOf workload.now (is_immediate classes.now) p q d → ⊥)) }
 {
     if !are_ends(workload, p, q) {

@@ -42,7 +42,9 @@ local_app = with_rule (with_rule (cluster_app (codes "local")) (standing_rule (c
 
 -- `gen SEED SHARDS TXNS PART`
 abbrev pub gen_app : App
-gen_app = with_rule (with_rule (with_rule (with_rule (new_app (codes "gen")) (standing_rule (codes "seed"))) (standing_rule (codes "shards"))) (standing_rule (codes "txns"))) (standing_rule (codes "part"))
+gen_app =
+    with_rule (with_rule (with_rule (with_rule (new_app (codes "gen")) (standing_rule (codes "seed"))) (standing_rule (codes "shards"))) (standing_rule (codes "txns")))
+    (standing_rule (codes "part"))
 
 -- the program's name is no word; one of the commands must stand, and there is no help
 abbrev pub bare_app : App

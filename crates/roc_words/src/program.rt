@@ -39,7 +39,8 @@ fn with<'a>(
     command: Result<Command<'a>, AllocError>,
     arg: Arg<'a>,
 ) -> Result<Command<'a>, AllocError>
-    ensures { (app : App) (rule : Rule) → IfOk command.entry (λ c. IsSoFar c app) → rule_of arg.entry ≡ rule → arg.entry.global ≡ false → IfOk result (λ c. IsSoFar c (with_rule app rule)) }
+    ensures { (app : App) (rule : Rule) → IfOk command.entry (λ c. IsSoFar c app) → rule_of arg.entry ≡ rule → arg.entry.global ≡ false
+        → IfOk result (λ c. IsSoFar c (with_rule app rule)) }
 {
     match command {
         Ok(command) => command.arg(arg),

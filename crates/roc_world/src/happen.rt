@@ -137,7 +137,8 @@ fn note_submitted(
     args: &Nums,
     out: Outbox,
 ) -> Result<Seen, NoMemory>
-    ensures { IfOk result (λ what. (what ≡ seen.Submitted id) × (world_of parts.new ≡ record (sends (world_of parts.old) (node.Coord coord) out.messages) { history = parts.old.history ++ entry.Submitted id proc args.now ∷ [] })) }
+    ensures { IfOk result (λ what. (what ≡ seen.Submitted id)
+        × (world_of parts.new ≡ record (sends (world_of parts.old) (node.Coord coord) out.messages) { history = parts.old.history ++ entry.Submitted id proc args.now ∷ [] })) }
 {
     send_from(parts, Node::Coord(coord), out)?;
     let args = args.clone()?;
@@ -160,7 +161,8 @@ fn note_at_server(
     handled: ServerHandled,
     out: Outbox,
 ) -> Result<Seen, NoMemory>
-    ensures { IfOk result (λ what. (what ≡ server_seen handled) × (world_of parts.new ≡ record (sends (world_of parts.old) (node.Server shard) out.messages) { order = noted parts.old.order out.decided })) }
+    ensures { IfOk result (λ what. (what ≡ server_seen handled)
+        × (world_of parts.new ≡ record (sends (world_of parts.old) (node.Server shard) out.messages) { order = noted parts.old.order out.decided })) }
 {
     let Outbox { messages, decided } = out;
     parts.network.add(Node::Server(shard), messages)?;
@@ -175,7 +177,8 @@ fn note_at_coord(
     handled: CoordHandled,
     out: Outbox,
 ) -> Result<Seen, NoMemory>
-    ensures { IfOk result (λ what. (what ≡ coord_seen handled) × (world_of parts.new ≡ record (sends (world_of parts.old) (node.Coord coord) out.messages) { history = parts.old.history ++ answer_entries handled })) }
+    ensures { IfOk result (λ what. (what ≡ coord_seen handled)
+        × (world_of parts.new ≡ record (sends (world_of parts.old) (node.Coord coord) out.messages) { history = parts.old.history ++ answer_entries handled })) }
 {
     send_from(parts, Node::Coord(coord), out)?;
     note_answer(&mut parts.history, &handled)?;

@@ -22,4 +22,7 @@ pub given_len : (len : ℕ) (numbers : List ℤ) → IsKeyShape len numbers → 
 given_len len numbers h = length-take-le len numbers (omega (arith, h.few, h.four))
 
 pub given_numbers : (len : ℕ) (numbers : List ℤ) → IsKeyShape len numbers → take len numbers ++ replicate (4 - length (take len numbers)) (pos 0) ≡ numbers
-given_numbers len numbers h = ap (λ n. take len numbers ++ replicate (4 - n) (pos 0)) (given_len len numbers h) ∙ ap (λ zeros. take len numbers ++ zeros) (sym h.rest) ∙ take-append-drop len numbers
+given_numbers len numbers h =
+    ap (λ n. take len numbers ++ replicate (4 - n) (pos 0)) (given_len len numbers h)
+    ∙ ap (λ zeros. take len numbers ++ zeros) (sym h.rest)
+    ∙ take-append-drop len numbers

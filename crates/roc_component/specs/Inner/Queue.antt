@@ -27,7 +27,8 @@ IsOfTurn turns taken but w =
     × ((p : TxnId) → Has p w.rest.items → IsListed is_txn t.before p)
 
 -- `left` has the ids of each turn that is left, by its key; each is ready, or among those still to be settled, or held back
-pub record IsQueue (turns : List Turn) (taken due : List TxnId) (pending : List Waiting) (left : TxnId → Option (List TxnId)) (ready : TxnId → Bool) (waiting : TxnId → Option (List Waiting)) : Type 0 where
+pub record IsQueue (turns : List Turn) (taken due : List TxnId) (pending : List Waiting) (left : TxnId → Option (List TxnId)) (ready : TxnId → Bool)
+    (waiting : TxnId → Option (List Waiting)) : Type 0 where
   pub here : (t : Turn) → Has t turns → IsLeft taken t → left t.key ≡ Some t.ids
   pub from : (k : TxnId) (ids : List TxnId) → left k ≡ Some ids → (t : Turn) × Has t turns × (t.key ≡ k) × (t.ids ≡ ids) × IsLeft taken t
   pub free : (k : TxnId) → ready k ≡ true → (t : Turn) × Has t turns × (t.key ≡ k) × IsLeft taken t × IsDue taken t

@@ -33,7 +33,8 @@ pub record IsSearch (E : TxnId → TxnId → Type 0) (S : List TxnId) (met : Txn
   pub joined : (p q : Part) → Has p parts → Has q parts → p.start ≤ q.start → (u t : TxnId) → Has u q.members.items ⊎ Has u q.todo.items → Has t p.members.items → ReachesOrIs E u t
   -- what comes before a member is still to be looked at, or done, or in its part or a later one
   pub led : (p : Part) → Has p parts → (u t : TxnId) → Has t p.members.items → E u t → Has u p.todo.items ⊎ (Has u done ⊎ IsOn parts p.start u)
-  pub numbered : (p : Part) → Has p parts → (u : TxnId) → Has u p.members.items → (n : ℕ) × (met u ≡ Some n) × (p.start ≤ n) × ((q : Part) → Has q parts → p.start < q.start → n < q.start)
+  pub numbered : (p : Part) → Has p parts → (u : TxnId) → Has u p.members.items
+      → (n : ℕ) × (met u ≡ Some n) × (p.start ≤ n) × ((q : Part) → Has q parts → p.start < q.start → n < q.start)
   pub bounded : (u : TxnId) (n : ℕ) → met u ≡ Some n → n < count
   pub known : (u : TxnId) (n : ℕ) → met u ≡ Some n → Has u done ⊎ IsOn parts 0 u
   pub over : (u : TxnId) → Has u done → WasNumbered met u

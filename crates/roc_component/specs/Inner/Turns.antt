@@ -34,7 +34,8 @@ IsNextTurn turns taken t =
 -- ids that are taken turn by turn
 pub data AreTurnsTaken (turns : List Turn) : List TxnId → Type 0 where
   none : AreTurnsTaken turns []
-  more : {taken longer : List TxnId} (t : Turn) → AreTurnsTaken turns taken → Has t turns → IsLeft taken t → IsNextTurn turns taken t → longer ≡ taken ++ t.ids → AreTurnsTaken turns longer
+  more : {taken longer : List TxnId} (t : Turn) → AreTurnsTaken turns taken → Has t turns → IsLeft taken t → IsNextTurn turns taken t → longer ≡ taken ++ t.ids
+      → AreTurnsTaken turns longer
 
 -- until all were taken
 abbrev pub AreAllTaken : (turns : List Turn) → List TxnId → Type 0

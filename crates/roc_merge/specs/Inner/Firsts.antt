@@ -17,7 +17,8 @@ IsJoined program is_immediate proc p q =
 -- x is not in the way of p and q
 abbrev pub IsClear : Workload → (PieceId → Bool) → (proc p q x : ℕ) → Type 0
 IsClear program is_immediate proc p q x =
-    IsTrue (is_contended program is_immediate (piece_numbered proc p)) → IsTrue (is_contended program is_immediate (piece_numbered proc q)) → IsBetween program proc p x q → AreCoLocated program proc p x
+    IsTrue (is_contended program is_immediate (piece_numbered proc p)) → IsTrue (is_contended program is_immediate (piece_numbered proc q)) → IsBetween program proc p x q
+    → AreCoLocated program proc p x
 
 -- the first q behind p
 pub record IsFirstBehind (program : Workload) (proc : ℕ) (contended : List Bool) (p q : ℕ) : Type 0 where

@@ -37,4 +37,5 @@ pub record AreDrawn (procedure : Procedure) (is_immediate : ℕ → Bool) (group
 pub record AreAllDrawn (program : Workload) (is_immediate : PieceId → Bool) (groups : List (List (List ℕ))) (rows : List (List Outline)) : Type 0 where
   pub procedures : length rows ≡ length program.procedures
   pub each : (proc : ℕ) → proc < length program.procedures
-      → AreDrawn (slice_index_or program.procedures proc no_procedure) (λ x. is_immediate (piece_numbered proc x)) (groups_in groups proc) (slice_index_or rows proc []) (length (groups_in groups proc))
+      → AreDrawn (slice_index_or program.procedures proc no_procedure) (λ x. is_immediate (piece_numbered proc x)) (groups_in groups proc) (slice_index_or rows proc [])
+      (length (groups_in groups proc))

@@ -30,7 +30,8 @@ pub record LogLaws (S : Scheme) (start : Store) : Type 0 where
   pub taken :
       (log : Log) → LogInvariants S start log
       → (s : ℕ) (edge now : TxnId → TxnId → Bool) (members all : List TxnId) → AreEdges S start log edge now all
-      → ((u t : TxnId) → IsListed is_txn (new_in (log.decided s) all) t → PrecedesTxn S start log.past u t → IsListed is_txn (log.decided s) u ⊎ (IsListed is_txn (new_in (log.decided s) all) u ⊎ IsWaived S start log u))
+      → ((u t : TxnId) → IsListed is_txn (new_in (log.decided s) all) t → PrecedesTxn S start log.past u t
+      → IsListed is_txn (log.decided s) u ⊎ (IsListed is_txn (new_in (log.decided s) all) u ⊎ IsWaived S start log u))
       → IsComponentOrder (λ u t. IsTrue (edge u t)) (λ u t. IsTrue (now u t)) members all
       → IsTakenOrder (PrecedesTxn S start log.past) (PrecedesTxnNow S start log.past) (IsWaived S start log) (new_in (log.decided s) all)
 
@@ -39,7 +40,8 @@ pub record SerialLaws (S : Scheme) (start : Store) : Type 0 where
   pub agree :
       (log : Log) → IsReachedLog S start log → (s : ℕ) (a b : TxnId) → Reaches (PrecedesTxn S start log.past) a b ⊎ Reaches (PrecedesTxn S start log.past) b a
       → IsListed is_txn (log.decided s) a → IsListed is_txn (log.decided s) b → IsListedBefore is_txn (log.decided s) a b → IsListedBefore is_txn log.order a b
-  pub serial : (log : Log) → IsReachedLog S start log → (r : TxnGroup) → IsListed is_txn_group log.past.ran r → IsListed is_txn log.order r.txn → account S.behaviour start (one_by_one S.behaviour log.order) r ≡ account S.behaviour start log.past.ran r
+  pub serial : (log : Log) → IsReachedLog S start log → (r : TxnGroup) → IsListed is_txn_group log.past.ran r → IsListed is_txn log.order r.txn
+      → account S.behaviour start (one_by_one S.behaviour log.order) r ≡ account S.behaviour start log.past.ran r
   pub stand : (order : List TxnId) → StandOneByOne S.behaviour order
   -- where all groups of the order's transactions ran, and no others
   pub last :

@@ -15,7 +15,8 @@ use Rattle.roc_replay.specs.Report.{end_line, closing_lines}
 
 -- the sink took the closing lines of a world, after so many submissions were refused as busy
 abbrev pub IsClosed : Workload → World → ℕ → Ended → (old new : Option (List ℕ)) → Type 0
-IsClosed program w busy (Done summary) old new = Adds old new (lines_text program (closing_lines w)) × (end_line w ≡ End summary.answered summary.pending summary.messages) × (summary.busy ≡ busy)
+IsClosed program w busy (Done summary) old new =
+    Adds old new (lines_text program (closing_lines w)) × (end_line w ≡ End summary.answered summary.pending summary.messages) × (summary.busy ≡ busy)
 IsClosed program w busy SinkFault old new = AddsFront old new (lines_text program (closing_lines w))
 IsClosed program w busy NoMemory old new = new ≡ old
 IsClosed program w busy (Text line what) old new = ⊥

@@ -70,7 +70,8 @@ pub record Teaches (plan : Plan) (shard : Shard) (old new : Kept) (before after 
 pub record Commits (plan : Plan) (shard : Shard) (old new : Kept) (before after : Outbox) (id : TxnId) (edges : List Dependency) (facts : List KnownList) (answer : Handled) : Type 0 where
   pub ids : List TxnId
   pub new_ids : AreNew (IsDecided old.deps) (old.deps ++ unless_ignored (commit_fault (state_of shard old false) id edges facts) (unknown_of old.deps (carried id edges facts))) ids
-  pub shown : Shows (after_commit plan old.decided ids (state_of shard old false) id edges facts (commit_fault (state_of shard old false) id edges facts)) answer (state_of shard new false) before after
+  pub shown : Shows (after_commit plan old.decided ids (state_of shard old false) id edges facts (commit_fault (state_of shard old false) id edges facts)) answer
+      (state_of shard new false) before after
 
 -- a list that was asked for was taken, or ignored
 pub record Knows (plan : Plan) (shard : Shard) (old new : Kept) (before after : Outbox) (id : TxnId) (edges : List Dependency) (answer : Handled) : Type 0 where
