@@ -1,6 +1,5 @@
 -- Runs of pieces, and what they use and bind, one after another
-use Rattle.std.proofs.Common.{◌≡◌, ℤ, true, false, Option, Some, None, Result, Ok, Err, OnOk, List, [], ◌∷◌, ◌++◌, refl, sym, ap, ◌∙◌, append_assoc, append-nil}
-use Rattle.std.specs.List.{filter_map, cons_option}
+use Rattle.std.proofs.Common.{◌≡◌, ℤ, true, false, Result, Ok, Err, OnOk, List, [], ◌∷◌, ◌++◌, refl, sym, ap, ◌∙◌, append_assoc, append-nil}
 use Rattle.roc_program.specs.Program.{Statement, Get, Set, Out, Piece}
 use Rattle.roc_base.specs.declared.memory.NoMemory.{NoMemory}
 use Rattle.roc_rows.specs.Store.{Store}
@@ -31,15 +30,6 @@ uses_of_pieces-behind said p (piece ∷ ps) =
     let one = uses_of_body-behind said (value piece.place p.environment) p piece.body in
     let rest = ap (λ q. uses_of_pieces q ps) (after_piece-behind said p piece) ∙ uses_of_pieces-behind said (after_piece p piece) ps in
     λ i. one i ++ rest i
-
--- one more at the end
-pub filter_map_behind : {A B : Type 0} (f : A → Option B) (xs : List A) (x : A) → filter_map f (xs ++ x ∷ []) ≡ filter_map f xs ++ filter_map f (x ∷ [])
-filter_map_behind f [] x = refl
-filter_map_behind {B = B} f (y ∷ xs) x = go (f y) (filter_map_behind f xs x)
-  where
-    go : (o : Option B) → filter_map f (xs ++ x ∷ []) ≡ filter_map f xs ++ filter_map f (x ∷ []) → cons_option o (filter_map f (xs ++ x ∷ [])) ≡ cons_option o (filter_map f xs) ++ filter_map f (x ∷ [])
-    go None h = h
-    go (Some b) h = ap (λ bs. b ∷ bs) h
 
 pub uses_said : (store : Store) (env : Environment) (said : List ℤ) (ps : List Piece) → uses_of_pieces (progress store env said) ps ≡ uses_of_pieces (progress store env []) ps
 uses_said store env said ps = ap (λ r. uses_of_pieces (progress store env r) ps) (sym (append-nil said)) ∙ uses_of_pieces-behind said (progress store env []) ps

@@ -9,13 +9,14 @@ use Rattle.roc_program.specs.Program.{Workload}
 use Rattle.roc_program.specs.Conflict.{are_in_conflict}
 use Rattle.roc_program.specs.WellFormed.{IsProgram, IsProcedure}
 use Rattle.roc_program.specs.declared.piece_id.PieceId.{PieceId}
-use Rattle.roc_conflict.specs.Immediate.{IsImmediate, in_conflict, declared}
+use Rattle.roc_conflict.specs.Immediate.{in_conflict, declared}
 use Rattle.roc_conflict.specs.Contended.{has_conflict, is_contended}
 use Rattle.roc_conflict.proofs.Mirrored.{conflict_mirrored}
 use Rattle.roc_conflict.proofs.Present.{some_conflict, present_from_now}
 use Rattle.roc_conflict.proofs.Least.{present_from_immediate}
 use Rattle.roc_scgraph.specs.declared.vertex.Vertex.{Vertex}
 use Rattle.roc_scgraph.specs.Cycles.{IsUnreorderable}
+use Rattle.roc_scgraph.proofs.Contended.{AreLeast}
 use Rattle.roc_groups.specs.Flow.{feeds}
 use Rattle.roc_groups.proofs.Elements.{has_row}
 use Rattle.roc_groups.proofs.Forward.{forward}
@@ -26,9 +27,6 @@ use Rattle.roc_groups.specs.Accepted.{over_groups, is_immediate_group, IsAccepte
 use Rattle.roc_groups.proofs.Cores.{core_immediate}
 use Rattle.roc_groups.proofs.Circles.{no_circle}
 use Rattle.roc_groups.proofs.Fused_classes.{AreFit, AreContendedTogether, over_least, one_contended, together_from_no_cycle, no_cycle_from_together, same_group}
-
-abbrev AreLeast : Workload → (PieceId → Bool) → Type 0
-AreLeast program is_immediate = (id : PieceId) → IsTrue (is_immediate id) ↔ IsImmediate program id
 
 module _ (program : Workload) (is_immediate : PieceId → Bool) (groups : List (List (List ℕ))) where
   -- a contended piece belongs to a procedure that is there

@@ -13,4 +13,5 @@ mod plan;
 
 pub use group::{Class, Input, Known};
 pub use outline::Outline;
+pub use place::set_values;
 pub use plan::Plan;

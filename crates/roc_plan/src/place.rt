@@ -37,8 +37,9 @@ fn with_args(args: &[i64]) -> [i64; NAMES]
     known
 }
 
-fn set_values(known: &mut [i64; NAMES], names: &[u16], values: &[i64])
-    requires known { AllByRecursion (λ name. name < 1032) names.now }
+/// Gives these names these values.
+pub fn set_values(known: &mut [i64], names: &[u16], values: &[i64])
+    requires known { AllByRecursion (λ name. name < length known.old) names.now }
     requires values { length values.now ≡ length names.now }
     ensures { known.new ≡ with_values names.now values.now known.old }
 {

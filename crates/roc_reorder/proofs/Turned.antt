@@ -4,6 +4,7 @@ use Rattle.std.specs.Bool.{nat_lt}
 use Rattle.std.specs.List.{AllByRecursion, list_any, flat_map, range_with_len, position_or_len}
 use Rattle.std.proofs.lemmas.Bool.{false≢true, eq-eqb, eqb-true, ltb-true, lt-ltb, cases_eq, cases_lt}
 use Rattle.std.proofs.lemmas.List.{length-map, get_or-map, get_or_past}
+use Rattle.roc_plan.proofs.Ordered.{is_number}
 use Rattle.roc_sequence.specs.Lists.{Has}
 use Rattle.roc_sequence.specs.Places.{place_of, IsListed, IsListedBefore, NoneTwice}
 use Rattle.roc_sequence.specs.Rising.{IsRising}
@@ -40,9 +41,6 @@ conflict_of x y c w t =
 abbrev pub IsBehind : List ℕ → (g h : ℕ) → Type 0
 IsBehind [] g h = ⊥
 IsBehind (o ∷ os) g h = ((g ≡ o) × Has h os) ⊎ IsBehind os g h
-
-abbrev is_number : ℕ → ℕ → Bool
-is_number a b = a == b
 
 pub listed_has : (xs : List ℕ) (a : ℕ) → Has a xs → IsListed is_number xs a
 listed_has [] a h = absurd h

@@ -22,7 +22,7 @@ use Rattle.roc_scgraph.proofs.Turned.{two_contended}
 use Rattle.roc_scgraph.proofs.Middles.{second}
 use Rattle.roc_scgraph.proofs.Meeting.{CycleThrough, meeting}
 
-abbrev AreLeast : Workload → (PieceId → Bool) → Type 0
+abbrev pub AreLeast : Workload → (PieceId → Bool) → Type 0
 AreLeast program is_immediate = (id : PieceId) → IsTrue (is_immediate id) ↔ IsImmediate program id
 
 contended_from_meets : (program : Workload) (is_immediate : PieceId → Bool) (v : Vertex) → Meets program is_immediate v → IsTrue (is_contended program is_immediate (piece_id v))

@@ -15,6 +15,7 @@ use Rattle.roc_rows.specs.Store.{Store}
 use Rattle.roc_plan.specs.declared.group.Input.{Input}
 use Rattle.roc_plan.specs.Groups.{Plan, groups_of, procedure_of, inputs_of, outs_of, is_immediate_of}
 use Rattle.roc_plan.specs.Turns.{AreInTurn}
+use Rattle.roc_plan.proofs.Ordered.{is_number}
 use Rattle.roc_whole.specs.Serial as whole
 use Rattle.roc_whole.specs.Run.{whole_run}
 use Rattle.roc_group.specs.Group_run.{call, group_run, bound_by_run}
@@ -84,9 +85,6 @@ picked_taken t F given (i ∷ is) h =
     let a = ap (λ v. slice_index_or v i.at (pos 0)) (sym h.0) in
     let b = picked_taken t F given is h.1 in
     λ j. a j ∷ b j
-
-abbrev pub is_number : ℕ → ℕ → Bool
-is_number a b = a == b
 
 abbrev pub onto : List ℕ → List ℕ → List ℕ
 onto done [] = done

@@ -1,10 +1,10 @@
 use Rattle.std.proofs.Common.{◌≡◌, ◌∙◌, ◌++◌, ◌∷◌, [], ◌+◌, map, take, get_or, sym, ap, append_assoc}
 use Rattle.std.proofs.lemmas.List.{take_more, map-append}
 use Rattle.std.specs.List.{filter_map}
+use Rattle.roc_plan.proofs.Taken.{filter_map_behind}
 use Rattle.roc_program.specs.Names.{binding}
 use Rattle.roc_program.specs.Parts as pure
 use Rattle.roc_program.specs.Values.{value_of_name}
-use Rattle.roc_group.proofs.Ran.{filter_map_behind}
 use Rattle.roc_group.proofs.run.push_body.Goals as goal
 
 pub loop-statement-preserved : goal.loop-statement-preserved

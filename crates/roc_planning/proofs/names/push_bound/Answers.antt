@@ -1,17 +1,10 @@
-use Rattle.std.proofs.Common.{◌≡◌, ◌∙◌, ◌++◌, ◌∷◌, [], ◌+◌, List, Option, map, take, get_or, Some, None, refl, sym, ap, append_assoc}
+use Rattle.std.proofs.Common.{◌≡◌, ◌∙◌, ◌++◌, ◌∷◌, [], ◌+◌, map, take, get_or, sym, ap, append_assoc}
 use Rattle.std.proofs.lemmas.List.{take_more, map-append}
-use Rattle.std.specs.List.{filter_map, cons_option}
+use Rattle.std.specs.List.{filter_map}
+use Rattle.roc_plan.proofs.Taken.{filter_map_behind}
 use Rattle.roc_program.specs.Names.{binding}
 use Rattle.roc_program.specs.Parts as view
 use Rattle.roc_planning.proofs.names.push_bound.Goals as goal
-
-filter_map_behind : {A B : Type 0} (f : A → Option B) (xs : List A) (x : A) → filter_map f (xs ++ x ∷ []) ≡ filter_map f xs ++ filter_map f (x ∷ [])
-filter_map_behind f [] x = refl
-filter_map_behind {B = B} f (y ∷ xs) x = go (f y) (filter_map_behind f xs x)
-  where
-    go : (o : Option B) → filter_map f (xs ++ x ∷ []) ≡ filter_map f xs ++ filter_map f (x ∷ []) → cons_option o (filter_map f (xs ++ x ∷ [])) ≡ cons_option o (filter_map f xs) ++ filter_map f (x ∷ [])
-    go None h = h
-    go (Some b) h = ap (λ bs. b ∷ bs) h
 
 pub loop-statement-preserved : goal.loop-statement-preserved
 loop-statement-preserved c =
