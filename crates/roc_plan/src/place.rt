@@ -28,7 +28,8 @@ fn no_values() -> [i64; NAMES]
 
 fn with_args(args: &[i64]) -> [i64; NAMES]
     requires { length args.now ≤ 1032 }
-    ensures { AgreeEverywhere result args.now }
+    ensures given { AgreeEverywhere result args.now }
+    ensures long { length result ≡ 1032 }
 {
     let mut known = no_values();
     for at in 0..args.len() {

@@ -1,4 +1,4 @@
-use Rattle.std.proofs.Common.{◌≡◌, ◌∙◌, ◌<◌, List, ℕ, length, sym, ap, subst}
+use Rattle.std.proofs.Common.{◌≡◌, ◌∙◌, ◌<◌, List, ℕ, ℤ, length, sym, ap, subst}
 use Rattle.std.specs.List.{AllByRecursion}
 use Rattle.roc_plan.specs.Groups.{procedure_of}
 use Rattle.roc_program.specs.Values.{with_arguments}
@@ -14,7 +14,8 @@ filled c =
 
 pub set_values-requires-clause-known : goal.set_values-requires-clause-known
 set_values-requires-clause-known c =
-    let P : List ℕ → Type 0 = AllByRecursion (λ number. number < length c.resize.new.self.items) in
-    subst P (sym c.input_names.ensures)
+    let P : List ℤ → List ℕ → Type 0 = λ values names. AllByRecursion (λ name. name < length values) names in
+    subst (λ values. P values c.input_names.result.now) (sym c.as_mut_slice.ensures.value)
+    (subst (P c.resize.new.self.items) (sym c.input_names.ensures)
     (taken_within c.workload.result.now c.procedures.result.now c.args.plan.now c.args.proc c.args.group c.index-procedures-proc.result c.workload.ensures.program c.procedures.ensures.value c.workload.ensures.accepted c.requires.exists c.index-procedures-proc.is
-    c.args.known.now.args c.resize.new.self.items (filled c))
+    c.args.known.now.args c.resize.new.self.items (filled c)))

@@ -26,7 +26,10 @@ loop-at-preserved c =
     set_more c.args.args.now c.loop-at.known at _ (to_z-of_z w64 value fits) (omega (arith, long, c.loop-at-test.true, c.requires)) c.loop-at.invariant
 
 pub returns : goal.returns
-returns c = λ n. elim (cases_lt n c.loop-at.at) [
-  | inl l ↦ c.loop-at.invariant.0 n l
-  | inr past ↦ c.loop-at.invariant.1 n past ∙ sym (get_or_past c.args.args.now n (pos 0) (omega (arith, past, c.loop-at-test.false)))
-]
+returns c = record {
+  given = λ n. elim (cases_lt n c.loop-at.at) [
+    | inl l ↦ c.loop-at.invariant.0 n l
+    | inr past ↦ c.loop-at.invariant.1 n past ∙ sym (get_or_past c.args.args.now n (pos 0) (omega (arith, past, c.loop-at-test.false)))
+  ];
+  long = c.loop-at.invariant.2;
+}
