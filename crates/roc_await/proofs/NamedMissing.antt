@@ -20,11 +20,12 @@ use Rattle.roc_depgraph.specs.Deps.{list_of, is_known, IsKnown, Precedes, learnt
 use Rattle.roc_depgraph.specs.Reach.{Reaches, direct, through, ReachesOrIs}
 use Rattle.roc_depgraph.proofs.Decided.{known_of_decided}
 use Rattle.roc_depgraph.proofs.Laws.{decided_stays}
-use Rattle.roc_depgraph.proofs.Listed.{has_under, under_has}
+use Rattle.roc_depgraph.proofs.Listed.{has_under}
 use Rattle.roc_await.specs.declared.group.Group.{Group}
 use Rattle.roc_await.specs.declared.lack.Lack.{Lack}
 use Rattle.roc_await.specs.Lacks.{IsMissing, IsLack}
 use Rattle.roc_depgraph.specs.Visits.{IsNamed}
+use Rattle.roc_depgraph.proofs.Walk.{listed_named}
 use Rattle.roc_await.specs.Inner.Grown.{AreListed, IsMissingFor, others}
 use Rattle.roc_await.specs.Inner.Groups.{lack_with, all_lacks, names_any, missing_if_named, is_other_unknown}
 use Rattle.roc_await.specs.Inner.Taken.{AreLacksSince}
@@ -58,11 +59,6 @@ entry_named (d ∷ es) t = go (is_txn d.from t) (entry_named es t)
     go : (b : Bool) → is_some (entry_at t es) ≡ list_any (λ d. is_txn d.from t) es → is_some (cond b (Some d) (entry_at t es)) ≡ b || list_any (λ d. is_txn d.from t) es
     go true ih = refl
     go false ih = ih
-
-named_listed : (edges : List Dependency) (x : TxnId) → IsNamed edges x → IsListed is_txn (map (λ d. d.from) edges) x
-named_listed edges x h =
-    let d = any_has (λ (d : Dependency). is_txn d.from x) edges h in
-    subst (IsListed is_txn (map (λ d. d.from) edges)) (is_txn-true d.0.from x d.2) (under_has (λ (d : Dependency). d.from) edges d.0 d.1)
 
 listed_named : (edges : List Dependency) (x : TxnId) → IsListed is_txn (map (λ d. d.from) edges) x → IsNamed edges x
 listed_named edges x l =
@@ -111,7 +107,7 @@ module _ (before known all : List KnownList) (u : TxnId) (edges : List Dependenc
 
   in_entries : (x : TxnId) → IsNamed edges x → x ≢ u → list_of x known ≡ None → IsListed is_txn of_entries x
   in_entries x h other none = listed_filter is_txn is_txn-true (is_other_unknown all later u) (map (λ d. d.from) edges) x
-      (and_from (not (is_txn x u)) (is_listed is_txn later x || not (is_known all x)) (other_test u x other) unknown) (named_listed edges x h)
+      (and_from (not (is_txn x u)) (is_listed is_txn later x || not (is_known all x)) (other_test u x other) unknown) (listed_named edges x h)
     where
       unknown : is_listed is_txn later x || not (is_known all x) ≡ true
       unknown = elim (listed_or_not is_txn later x) [

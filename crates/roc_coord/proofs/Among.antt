@@ -1,9 +1,9 @@
 -- One transaction among others: its place, what a change there leaves, and the others without it
 use Rattle.std.proofs.Common.{◌≡◌, ℕ, zero, suc, ◌<◌, Bool, true, false, cond, not, nat_lt, List, [], ◌∷◌, length, get_or, set, map, Some, None, IsTrue, refl, sym, ap, subst, ◌∙◌, arith}
-use Rattle.std.proofs.lemmas.Bool.{ltb-true, ltb-false}
+use Rattle.std.proofs.lemmas.Bool.{ltb-true}
 use Rattle.std.proofs.Math.Seq.{map-set_same}
 use Rattle.std.proofs.lemmas.List.Folds.{find_at}
-use Rattle.std.proofs.lemmas.Option.{slice_get_past, slice_get-get_or}
+use Rattle.std.proofs.lemmas.Option.{slice_get-get_or}
 use Rattle.std.specs.List.{find, filter, position, position_or_len, remove, AllByRecursion}
 use Rattle.roc_base.specs.declared.id.TxnId.{TxnId}
 use Rattle.roc_base.specs.TxnId.{is_txn, txn_lt}
@@ -31,13 +31,6 @@ place_found {X} p xs i h = go (nat_lt (position_or_len p xs) (length xs)) refl h
     go : (b : Bool) → nat_lt (position_or_len p xs) (length xs) ≡ b → cond b (Some (position_or_len p xs)) None ≡ Some i → IsPlaceOf p xs i
     go true e f = let same : position_or_len p xs ≡ i = cc in subst (IsPlaceOf p xs) same (at_place (ltb-true _ _ e))
     go false e f = cc
-
-pub place_absent : {X : Type 0} (p : X → Bool) (xs : List X) → position p xs ≡ None → find p xs ≡ None
-place_absent p xs h = go (nat_lt (position_or_len p xs) (length xs)) refl h
-  where
-    go : (b : Bool) → nat_lt (position_or_len p xs) (length xs) ≡ b → cond b (Some (position_or_len p xs)) None ≡ None → find p xs ≡ None
-    go true e f = cc
-    go false e f = find_at p xs ∙ slice_get_past xs (position_or_len p xs) (ltb-false _ _ e)
 
 -- ---- a change at one place, and its removal, among transactions of rising ids
 

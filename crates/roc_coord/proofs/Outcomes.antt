@@ -17,10 +17,11 @@ use Rattle.roc_coord.specs.declared.transaction.TakenCommit.{TakenCommit}
 use Rattle.roc_coord.specs.declared.transaction.Transaction.{Transaction}
 use Rattle.roc_coord.specs.Ids.{ids_of}
 use Rattle.roc_sequence.specs.Rising.{IsRising}
+use Rattle.roc_sequence.proofs.Found.{not_found}
 use Rattle.roc_coord.specs.State.{ignored, find_transaction, with_transaction, CoordState, CoordStep}
 use Rattle.roc_coord.specs.Starts.{with_starts}
 use Rattle.roc_coord.specs.Step.{IsOutcome, unless_refused, startok_refusal, startok_taken, with_startok, with_commits, sends_after, after_startok, commitok_refusal, commitok_taken, with_commitok, without_transaction, reply_now, after_commitok}
-use Rattle.roc_coord.proofs.Among.{place_absent, place_found, replaced, removed, remove-set}
+use Rattle.roc_coord.proofs.Among.{place_found, replaced, removed, remove-set}
 
 module _ (plan : Plan) (xs : List Transaction) (s : CoordState) (same : s.pending ≡ xs) where
   -- an ignored message leaves the transactions, and sends nothing
@@ -45,10 +46,10 @@ module _ (plan : Plan) (xs : List Transaction) (s : CoordState) (same : s.pendin
   module _ (id : TxnId) where
     -- of no transaction here
     pub startok_absent : (ok : TakenStart) (shard : Shard) (out : Outbox) → position (λ x. is_txn x.id id) xs ≡ None → IsOutcome (after_startok plan s (find_transaction id xs) ok shard) (Ignored Stale) (record s { pending = xs }) out out
-    startok_absent ok shard out h = ignored_outcome (after_startok plan s (find_transaction id xs) ok shard) Stale out (ap (λ o. after_startok plan s o ok shard) (place_absent (λ x. is_txn x.id id) xs h))
+    startok_absent ok shard out h = ignored_outcome (after_startok plan s (find_transaction id xs) ok shard) Stale out (ap (λ o. after_startok plan s o ok shard) (not_found (λ x. is_txn x.id id) xs h))
 
     pub commitok_absent : (ok : TakenCommit) (out : Outbox) → position (λ x. is_txn x.id id) xs ≡ None → IsOutcome (after_commitok plan s (find_transaction id xs) ok) (Ignored Stale) (record s { pending = xs }) out out
-    commitok_absent ok out h = ignored_outcome (after_commitok plan s (find_transaction id xs) ok) Stale out (ap (λ o. after_commitok plan s o ok) (place_absent (λ x. is_txn x.id id) xs h))
+    commitok_absent ok out h = ignored_outcome (after_commitok plan s (find_transaction id xs) ok) Stale out (ap (λ o. after_commitok plan s o ok) (not_found (λ x. is_txn x.id id) xs h))
 
     module _ (at : ℕ) (place : position (λ x. is_txn x.id id) xs ≡ Some at) (x : Transaction) (is : x ≡ get_or xs at x) where
       found : find_transaction id xs ≡ Some x

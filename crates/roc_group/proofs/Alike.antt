@@ -1,7 +1,7 @@
 -- Runs from stores and names that agree on what a piece touches
 use Rattle.std.proofs.Common.{◌≡◌, ℕ, zero, suc, ℤ, pos, Bool, true, false, ◌&&◌, ◌||◌, ◌==◌, if◌then◌else◌, List, [], ◌∷◌, ◌++◌, length, map, get_or, slice_set, refl, sym, ap, subst, ◌∙◌, arith}
 use Rattle.std.specs.List.{list_any, AllByRecursion}
-use Rattle.std.proofs.lemmas.Bool.{false≢true, eq-eqb}
+use Rattle.std.proofs.lemmas.Bool.{false≢true, eq-eqb, or_left, or_right, or_parts}
 use Rattle.std.proofs.lemmas.List.{length-set, get_or-set_other}
 use Rattle.roc_rows.specs.declared.cell.Cell.{Cell}
 use Rattle.roc_rows.specs.Cells.{is_cell}
@@ -12,7 +12,7 @@ use Rattle.roc_program.specs.Values.{Environment, value_of_name, value}
 use Rattle.roc_program.specs.Names.{uses, id_uses}
 use Rattle.roc_program.proofs.ValueLaws.{value_same}
 use Rattle.roc_whole.specs.Run.{Progress, access_cell, after_statement, after_statements, after_piece}
-use Rattle.roc_group.proofs.Touches.{is_of, accesses, may_write, binds, knows, touches, known_in, or_left, or_right, or_false}
+use Rattle.roc_group.proofs.Touches.{is_of, accesses, may_write, binds, knows, touches, known_in}
 
 -- the two agree on these names and cells, and have said the same
 pub record Alike (names : ℕ → Bool) (cells : Cell → Bool) (p q : Progress) : Type 0 where
@@ -117,7 +117,7 @@ pub kept_number : (place : ℤ) (p : Progress) (ss : List Statement) (c : Cell) 
 kept_number place p [] c e = refl
 kept_number place p (Get number from ∷ ss) c e = kept_number place (after_statement place p (Get number from)) ss c e
 kept_number place p (Set to v ∷ ss) c e =
-    let parts = or_false (is_of to c) (list_any (λ s. may_write s c) ss) e in
+    let parts = or_parts (is_of to c) (list_any (λ s. may_write s c) ss) e in
     let d = access_cell place p.environment to in
     kept_number place (after_statement place p (Set to v)) ss c parts.1
     ∙ (read-write p.store d (value v p.environment) c ∙ ap (λ b. if b then value v p.environment else read p.store c) (other_cell place p.environment to c parts.0))
@@ -126,7 +126,7 @@ kept_number place p (Out v ∷ ss) c e = kept_number place (after_statement plac
 pub kept_value : (place : ℤ) (p : Progress) (ss : List Statement) (n : ℕ) → list_any (λ s. binds s n) ss ≡ false → value_of_name (after_statements place p ss).environment n ≡ value_of_name p.environment n
 kept_value place p [] n e = refl
 kept_value place p (Get number from ∷ ss) n e =
-    let parts = or_false (number == n) (list_any (λ s. binds s n) ss) e in
+    let parts = or_parts (number == n) (list_any (λ s. binds s n) ss) e in
     kept_value place (after_statement place p (Get number from)) ss n parts.1
     ∙ get_or-set_other p.environment number n (read p.store (access_cell place p.environment from)) (pos 0) (λ (same : n ≡ number). false≢true (sym parts.0 ∙ subst (λ m. (number == m) ≡ true) (sym same) (eq-eqb number number refl)))
 kept_value place p (Set to v ∷ ss) n e = kept_value place (after_statement place p (Set to v)) ss n e

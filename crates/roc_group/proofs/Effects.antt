@@ -1,6 +1,6 @@
 -- What a run does follows from the numbers in the cells that it reads, and it changes only cells that it writes
 use Rattle.std.proofs.Common.{◌≡◌, ℤ, Bool, true, false, ◌&&◌, ◌||◌, if◌then◌else◌, List, [], ◌∷◌, ◌++◌, slice_set, refl, sym, ap, subst, ◌∙◌}
-use Rattle.std.proofs.lemmas.Bool.{false≢true}
+use Rattle.std.proofs.lemmas.Bool.{false≢true, or_parts}
 use Rattle.roc_rows.specs.declared.cell.Cell.{Cell}
 use Rattle.roc_rows.specs.Cells.{is_cell}
 use Rattle.roc_rows.specs.Store.{Store, read, write}
@@ -43,10 +43,6 @@ do_write-append (x ∷ xs) ys c = go (x.writes && is_cell x.cell c) (do_write-ap
 by_either : {P : Type 0} (a b : Bool) → (a || b) ≡ true → (a ≡ true → P) → (b ≡ true → P) → P
 by_either true b h f g = f refl
 by_either false b h f g = g h
-
-or_parts : (a b : Bool) → (a || b) ≡ false → (a ≡ false) × (b ≡ false)
-or_parts true b h = absurd (false≢true (sym h))
-or_parts false b h = (refl, h)
 
 -- ---- statements
 

@@ -1,6 +1,6 @@
 -- The names that a group knows before it runs are those that all pieces before it left
 use Rattle.std.proofs.Common.{◌≡◌, ℕ, suc, ◌<◌, ◌+◌, ℤ, pos, Bool, true, false, cond, not, ◌||◌, ◌==◌, List, [], ◌∷◌, length, map, filter, get_or, slice_set, refl, sym, ap, subst, ◌∙◌, ◌⊎◌, inl, inr, arith}
-use Rattle.std.proofs.lemmas.Bool.{false≢true, or_cases, eqb-true, eq-eqb}
+use Rattle.std.proofs.lemmas.Bool.{false≢true, or_cases, eqb-true, eq-eqb, or_left, or_right}
 use Rattle.std.proofs.lemmas.List.{length-set, get_or-set_other, get_or-set_same}
 use Rattle.std.specs.Bool.{nat_lt}
 use Rattle.std.specs.List.{list_any, filter_map, position_or_len}
@@ -13,7 +13,7 @@ use Rattle.roc_program.specs.Values.{Environment, value_of_name}
 use Rattle.roc_program.specs.Names.{uses, statement_uses, piece_uses, binding, bindings_of, has_name}
 use Rattle.roc_plan.specs.Groups.{with_values}
 use Rattle.roc_groups.proofs.Elements.{numbers_one_way}
-use Rattle.roc_group.proofs.Touches.{binds, knows, binds_in, known_in, or_left, or_right}
+use Rattle.roc_group.proofs.Touches.{binds, knows, binds_in, known_in}
 
 -- ---- names of a piece, in the two ways of saying it
 

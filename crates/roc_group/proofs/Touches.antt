@@ -1,7 +1,7 @@
 -- What a piece touches: the columns that it accesses, and the names that it uses or binds
 use Rattle.std.proofs.Common.{◌≡◌, ℕ, Bool, true, false, ◌&&◌, ◌||◌, ◌==◌, List, [], ◌∷◌, refl, sym, ◌∙◌, inl, inr}
 use Rattle.std.specs.List.{list_any}
-use Rattle.std.proofs.lemmas.Bool.{false≢true, or_cases}
+use Rattle.std.proofs.lemmas.Bool.{false≢true, or_cases, or_left, or_right}
 use Rattle.roc_rows.specs.declared.cell.Cell.{Cell}
 use Rattle.roc_program.specs.Program.{Access, Statement, Get, Set, Out, Piece}
 use Rattle.roc_program.specs.Names.{uses, statement_uses}
@@ -49,18 +49,6 @@ abbrev pub knows_any : (ℕ → Piece) → List ℕ → ℕ → Bool
 knows_any at ks n = list_any (λ k. known_in (at k) n) ks
 
 -- ---- tests of lists
-
-pub or_left : (a b : Bool) → a ≡ true → (a || b) ≡ true
-or_left true b e = refl
-or_left false b e = absurd (false≢true e)
-
-pub or_right : (a b : Bool) → b ≡ true → (a || b) ≡ true
-or_right true b e = refl
-or_right false b e = e
-
-pub or_false : (a b : Bool) → (a || b) ≡ false → (a ≡ false) × (b ≡ false)
-or_false true b e = absurd (false≢true (sym e))
-or_false false b e = (refl, e)
 
 -- where one test follows from another, so do the tests of lists
 pub any_implied : {A : Type 0} (f g : A → Bool) → ((x : A) → f x ≡ true → g x ≡ true) → (xs : List A) → list_any f xs ≡ true → list_any g xs ≡ true

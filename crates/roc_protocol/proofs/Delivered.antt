@@ -5,6 +5,7 @@ use Rattle.std.proofs.lemmas.Option.{slice_get_within}
 use Rattle.std.proofs.lemmas.List.{length-append}
 use Rattle.std.specs.Prelude.{slice_get, slice_set}
 use Rattle.std.specs.List.{range_with_len}
+use Rattle.roc_groups.proofs.Elements.{has_range}
 use Rattle.roc_sequence.specs.Lists.{Has}
 use Rattle.roc_sequence.proofs.Members.{has_left, has_right, has_map, same_there}
 use Rattle.roc_base.specs.declared.id.TxnId.{TxnId}
@@ -31,7 +32,6 @@ use Rattle.roc_protocol.specs.Quiet.{IsToldIn}
 use Rattle.roc_protocol.proofs.Changed.{get-set_here, get-set_other}
 use Rattle.roc_protocol.proofs.Carried.{HoldsGood, KeepsGood}
 use Rattle.roc_protocol.proofs.Networks.{told_more}
-use Rattle.roc_protocol.proofs.Replies.{in_range}
 use Rattle.roc_protocol.proofs.Hears.{SeeksAll, IsAnswered, Hears}
 use Rattle.roc_protocol.proofs.Takes.{Takes}
 
@@ -142,7 +142,7 @@ delivered_before sent more undelivered count same k m e n = elim (get-more sent 
   | inr l ↦
       (let within = slice_get_within (sent ++ more) k m e in
       let many = length-append sent more in
-      absurd (n (has_right (suc k) undelivered (range_with_len (length sent + 1) count) (in_range (length sent + 1) count (suc k) (omega arith) (omega arith)))))
+      absurd (n (has_right (suc k) undelivered (range_with_len (length sent + 1) count) (has_range (length sent + 1) count (suc k) (omega arith) (omega arith)))))
 ]
 
 -- ---- a step of a server

@@ -1,7 +1,7 @@
 pub mod Flat
 mod Means
 mod Grows
-mod Meets
+pub mod Meets
 pub mod Facts
 mod Local
 mod Elsewhere

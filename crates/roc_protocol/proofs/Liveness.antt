@@ -2,6 +2,7 @@
 use Rattle.std.proofs.Common.{◌≡◌, ◌≢◌, ℕ, ℤ, zero, suc, ◌<◌, ◌==◌, true, List, [], ◌∷◌, Some, length, refl, sym, ap, subst, ◌∙◌, inl, inr, arith, is_some}
 use Rattle.std.proofs.lemmas.Bool.{false≢true, eqb-true, cases_lt}
 use Rattle.std.specs.Prelude.{slice_get}
+use Rattle.roc_groups.proofs.Elements.{has_range}
 use Rattle.roc_sequence.specs.Lists.{Has}
 use Rattle.roc_sequence.specs.Places.{place_of, IsListed, IsListedBefore}
 use Rattle.roc_sequence.proofs.Holds.{all_has, has_every}
@@ -33,7 +34,6 @@ use Rattle.roc_protocol.specs.Run.{Stepped, IsRun}
 use Rattle.roc_protocol.specs.Inner.Given.{LogLaws, StoreLaws}
 use Rattle.roc_protocol.proofs.Heard.{AreDelivered, StartsHeard, CommitsAreOut, CommitsHeard}
 use Rattle.roc_protocol.proofs.Means.{run_of, Means, TxnMeans}
-use Rattle.roc_protocol.proofs.Replies.{in_range}
 use Rattle.roc_protocol.proofs.Rounds.{told}
 use Rattle.roc_protocol.proofs.Coordinators.{there, number_below}
 use Rattle.roc_protocol.proofs.Served.{StartsAre}
@@ -92,7 +92,7 @@ module _ (plan : Plan) (asked : TxnId → whole.Call) (S : Scheme) (is : IsSchem
         (λ b k. source b.group (before b (subst (λ proc. Has b (inputs_of plan proc h)) means.proc k)) (started_below n b.group))))
       where
         in_numbers : (h : ℕ) → h < length (groups_of plan (asked x.id).procedure) → Has h (group_numbers plan (asked x.id).procedure)
-        in_numbers h l = in_range 0 (length (groups_of plan (asked x.id).procedure)) h (omega arith) (omega arith)
+        in_numbers h l = has_range 0 (length (groups_of plan (asked x.id).procedure)) h (omega arith) (omega arith)
 
         before : (b : Input) → Has b (inputs_of plan (asked x.id).procedure h) → IsListedBefore is_group_number groups b.group h
         before b k =

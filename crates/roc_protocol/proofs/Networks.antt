@@ -3,6 +3,7 @@ use Rattle.std.proofs.Common.{◌≡◌, ℕ, ℤ, ◌<◌, ◌==◌, true, List
 use Rattle.std.proofs.lemmas.Bool.{false≢true, eqb-true, eq-eqb, cases_eq}
 use Rattle.std.specs.Prelude.{slice_get, slice_set, flat_map}
 use Rattle.std.specs.List.{range_with_len}
+use Rattle.roc_groups.proofs.Elements.{has_range}
 use Rattle.roc_sequence.specs.Lists.{Has}
 use Rattle.roc_sequence.proofs.Holds.{every_has, all_has}
 use Rattle.roc_sequence.proofs.Ranges.{range_below}
@@ -42,7 +43,6 @@ use Rattle.roc_protocol.proofs.Changed.{get-set_here, get-set_other, get-set_cas
 use Rattle.roc_protocol.proofs.Carried.{IsToldBy, HoldsGood, KeepsGood}
 use Rattle.roc_protocol.proofs.Gathered.{IsGathered}
 use Rattle.roc_protocol.proofs.Coordinators.{there}
-use Rattle.roc_protocol.proofs.Replies.{in_range}
 use Rattle.roc_lists.proofs.Unions.{same_members}
 use Rattle.roc_protocol.proofs.Worlds.{IsLogged}
 
@@ -164,7 +164,7 @@ module _ (plan : Plan) (asked : TxnId → whole.Call) (S : Scheme) (is : IsSchem
     gathered_good x g all =
         record {
           told = λ h. edges_of (find_startok h x.startoks);
-          in_network = λ h l. network h (find_startok h x.startoks) refl (every_has (λ h. is_some (find_startok h x.startoks)) (group_numbers plan x.proc) all h (subst (Has h) (ap (group_numbers plan) (sym g.calls)) (in_range 0 (count x.id) h (omega arith) (omega arith))));
+          in_network = λ h l. network h (find_startok h x.startoks) refl (every_has (λ h. is_some (find_startok h x.startoks)) (group_numbers plan x.proc) all h (subst (Has h) (ap (group_numbers plan) (sym g.calls)) (has_range 0 (count x.id) h (omega arith) (omega arith))));
           is_union = same_members (flat_map (λ (ok : TakenStart). ok.edges) x.startoks) (flat_map (λ h. edges_of (find_startok h x.startoks)) (range_with_len 0 (count x.id))) (λ d. (to_told d, from_told d));
         }
       where
@@ -180,7 +180,7 @@ module _ (plan : Plan) (asked : TxnId → whole.Call) (S : Scheme) (is : IsSchem
             let t = (g.startoks a.0 a.1).0 in
             let began = (from_place t.message t.has x.id a.0.group t.shard t.bound t.outs a.0.edges a.0.facts t.is).0.began in
             let l = (is.groups x.id a.0.group).0 (i.are_groups (run_of x.id a.0.group) began) in
-            has_flat_map (λ h. edges_of (find_startok h x.startoks)) d a.0.group (range_with_len 0 (count x.id)) (in_range 0 (count x.id) a.0.group (omega arith) (omega arith))
+            has_flat_map (λ h. edges_of (find_startok h x.startoks)) d a.0.group (range_with_len 0 (count x.id)) (has_range 0 (count x.id) a.0.group (omega arith) (omega arith))
             (first a.0 a.1 a.2 (find_startok a.0.group x.startoks) refl)
           where
             first : (ok : TakenStart) → Has ok x.startoks → Has d ok.edges → (o : Option TakenStart) → find_startok ok.group x.startoks ≡ o → Has d (edges_of o)

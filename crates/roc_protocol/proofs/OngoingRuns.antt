@@ -1,6 +1,7 @@
 -- In every world each submitted transaction is answered or goes on, and what was delivered to a coordinator was taken
 use Rattle.std.proofs.Common.{◌≡◌, ◌≢◌, ℕ, ℤ, suc, ◌-◌, ◌<◌, true, List, [], ◌∷◌, ◌++◌, Option, Some, None, length, refl, sym, ap, subst, ◌∙◌, inl, inr, arith}
 use Rattle.std.specs.Prelude.{slice_get, slice_set}
+use Rattle.roc_groups.proofs.Elements.{has_range}
 use Rattle.roc_sequence.specs.Lists.{Has}
 use Rattle.roc_sequence.proofs.Members.{has_one, has_right, has_at}
 use Rattle.roc_base.specs.declared.id.TxnId.{TxnId}
@@ -37,7 +38,7 @@ use Rattle.roc_protocol.specs.Quiet.{WasDelivered}
 use Rattle.roc_protocol.specs.Inner.Given.{LogLaws, StoreLaws}
 use Rattle.roc_protocol.proofs.Means.{run_of, Means}
 use Rattle.roc_protocol.proofs.Changed.{get-set_here}
-use Rattle.roc_protocol.proofs.Replies.{in_range, few_place}
+use Rattle.roc_protocol.proofs.Replies.{few_place}
 use Rattle.roc_protocol.proofs.Rounds.{told}
 use Rattle.roc_protocol.proofs.Coordinators.{below_number}
 use Rattle.roc_protocol.proofs.Coordinated.{message_coordinated, tick_coordinated, submission_coordinated}
@@ -147,7 +148,7 @@ module _ (plan : Plan) (asked : TxnId → whole.Call) (S : Scheme) (is : IsSchem
         no_answer t reply (inr h) = h
 
         number : Has 0 (group_numbers plan proc)
-        number = let some = subst (λ proc. 0 < length (groups_of plan proc)) (sym p) (is.some (next_id s)) in in_range 0 (length (groups_of plan proc)) 0 (omega arith) (omega arith)
+        number = let some = subst (λ proc. 0 < length (groups_of plan proc)) (sym p) (is.some (next_id s)) in has_range 0 (length (groups_of plan proc)) 0 (omega arith) (omega arith)
 
         submission_goes : Proceeds plan w.sent (Coord n) s (accepted plan s (new_transaction s proc args)).state (accepted plan s (new_transaction s proc args)).sends tells
         submission_goes = submission_goes_on plan w.sent (Coord n) s (o.once n s there) (g.holds n s there) is_whole proc args 0 number tells no_answer

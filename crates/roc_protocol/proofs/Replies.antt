@@ -1,9 +1,10 @@
 -- A reply is made of what the groups gave
-use Rattle.std.proofs.Common.{◌≡◌, ◌≢◌, ℕ, ℤ, pos, zero, suc, ◌+◌, ◌<◌, ◌≤◌, ◌==◌, Bool, true, false, not, cond, ◌&&◌, List, [], ◌∷◌, ◌++◌, length, map, refl, sym, ap, subst, ◌∙◌, arith, ◌⊎◌, inl, inr, length-append}
+use Rattle.std.proofs.Common.{◌≡◌, ◌≢◌, ℕ, ℤ, pos, zero, suc, ◌+◌, ◌<◌, ◌==◌, Bool, true, false, not, cond, ◌&&◌, List, [], ◌∷◌, ◌++◌, length, map, refl, sym, ap, subst, ◌∙◌, arith, ◌⊎◌, inl, inr, length-append}
 use Rattle.std.proofs.lemmas.List.{length-map}
-use Rattle.std.proofs.lemmas.Bool.{false≢true, and_parts, and_from, eq-eqb, eqb-true, not-true, cases_eq}
+use Rattle.std.proofs.lemmas.Bool.{false≢true, and_parts, and_from, eq-eqb, eqb-true, not-true}
 use Rattle.std.specs.Prelude.{filter, flat_map, zip, slice_index_or}
 use Rattle.std.specs.List.{list_any, range_with_len}
+use Rattle.roc_groups.proofs.Elements.{has_range}
 use Rattle.roc_sequence.specs.Lists.{Has}
 use Rattle.roc_sequence.specs.Places.{IsListed}
 use Rattle.roc_sequence.proofs.Holds.{any_has, has_any, every_has}
@@ -79,19 +80,11 @@ length-range : (a n : ℕ) → length (range_with_len a n) ≡ n
 length-range a zero = refl
 length-range a (suc n) = let e = length-range (a + 1) n in omega arith
 
-pub in_range : (a n g : ℕ) → a ≤ g → g < a + n → Has g (range_with_len a n)
-in_range a zero g l k = absurd (omega arith)
-in_range a (suc n) g l k = step (cases_eq a g) (in_range (a + 1) n g)
-  where
-    step : (a ≡ g) ⊎ (a ≢ g) → (a + 1 ≤ g → g < (a + 1) + n → Has g (range_with_len (a + 1) n)) → (g ≡ a) ⊎ Has g (range_with_len (a + 1) n)
-    step (inl e) ih = inl (sym e)
-    step (inr e) ih = inr (ih (omega arith) (omega arith))
-
 pub shard_listed : (starts : List SentStart) (s : Shard) (z : SentStart) → Has z starts → z.shard.0 == s.0 ≡ true → s.0 < 64 → Has s (shards_below 64 starts)
 unfolding shards_below
 shard_listed starts s z h e l =
     has_filter (λ (shard : Shard). list_any (λ (start : SentStart). start.shard.0 == shard.0) starts) s (map numbered (range_with_len 0 64))
-    (has_map numbered s.0 (range_with_len 0 64) (in_range 0 64 s.0 (omega arith) (omega arith)))
+    (has_map numbered s.0 (range_with_len 0 64) (has_range 0 64 s.0 (omega arith) (omega arith)))
     (has_any (λ (start : SentStart). start.shard.0 == s.0) starts z h e)
 
 module _ (plan : Plan) (asked : TxnId → whole.Call) (S : Scheme) (start : Store) (is : IsSchemeOf plan asked S) (c : Log) (i : LogInvariants S start c) where

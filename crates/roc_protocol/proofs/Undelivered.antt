@@ -5,6 +5,7 @@ use Rattle.std.proofs.lemmas.List.{length-map}
 use Rattle.std.proofs.lemmas.Option.{slice_get_within}
 use Rattle.std.specs.Prelude.{slice_get}
 use Rattle.std.specs.List.{range_with_len}
+use Rattle.roc_groups.proofs.Elements.{has_range}
 use Rattle.roc_sequence.specs.Lists.{Has}
 use Rattle.roc_sequence.proofs.Members.{has_left, has_right, has_filter}
 use Rattle.roc_base.specs.declared.node.Node.{Node}
@@ -12,7 +13,6 @@ use Rattle.roc_msg.specs.declared.msg.Sent.{Sent}
 use Rattle.roc_msg.specs.declared.outbox.Outgoing.{Outgoing}
 use Rattle.roc_protocol.specs.World.{World, sent_by, comes}
 use Rattle.roc_protocol.specs.Quiet.{WasDelivered}
-use Rattle.roc_protocol.proofs.Replies.{in_range}
 
 -- what is in a list has a place there
 pub number_of : {A : Type 0} (xs : List A) (a : A) → Has a xs → (k : ℕ) × (slice_get xs k ≡ Some a)
@@ -34,7 +34,7 @@ delivered_before w from outs k m e n = elim (front_or_behind w.sent (map (sent_b
   | inr h ↦
       (let p = h.0 in
       let q = subst (λ l. k < length w.sent + l) (length-map outs (sent_by from)) h.1 in
-      absurd (n (has_right (suc k) w.undelivered (range_with_len (length w.sent + 1) (length outs)) (in_range (length w.sent + 1) (length outs) (suc k) (omega arith) (omega arith)))))
+      absurd (n (has_right (suc k) w.undelivered (range_with_len (length w.sent + 1) (length outs)) (has_range (length w.sent + 1) (length outs) (suc k) (omega arith) (omega arith)))))
 ]
 
 -- what was delivered once k came was delivered before, or is k

@@ -1,7 +1,7 @@
 -- A group's run, where all pieces before it have run, is that of its pieces there
 use Rattle.std.proofs.Common.{◌≡◌, ℕ, ◌<◌, ℤ, pos, Bool, true, false, ◌||◌, ◌==◌, if◌then◌else◌, List, [], ◌∷◌, ◌++◌, length, map, get_or, refl, sym, ap, subst, ◌∙◌, ◌⊎◌, inl, inr, arith, append_assoc, append-nil}
 use Rattle.std.specs.List.{AllByRecursion, list_any, flat_map, position_or_len}
-use Rattle.std.proofs.lemmas.Bool.{false≢true, eq-eqb, eqb-true}
+use Rattle.std.proofs.lemmas.Bool.{false≢true, eq-eqb, eqb-true, or_parts}
 use Rattle.std.proofs.lemmas.List.{get_or-map, length-map, map-append}
 use Rattle.std.proofs.lemmas.List.Concat.{flat_map-append}
 use Rattle.std.proofs.lemmas.List.Folds.{list_any-append}
@@ -22,14 +22,14 @@ use Rattle.roc_group.specs.Group_run.{GroupCall, group_run, bound_by_run}
 use Rattle.roc_reorder.specs.GroupsRun.{Given, TurnStage, bound_by, taken, call_of, after_turn, after_turns}
 use Rattle.roc_group.proofs.Alike.{Alike}
 use Rattle.roc_reorder.proofs.Moving.{run_all, spoken, said_by, run_in_words, run_all-append, run_all-quiet}
-use Rattle.roc_group.proofs.Touches.{binds_in, known_in, any_implied, bound_known, or_false, not_true, binds_any, knows_any}
+use Rattle.roc_group.proofs.Touches.{binds_in, known_in, any_implied, bound_known, not_true, binds_any, knows_any}
 use Rattle.roc_group.proofs.Starts.{at_position, position_within}
 use Rattle.roc_reorder.proofs.Stages.{run_long, run_value, DoAlike, do_alike}
 use Rattle.roc_group.proofs.GroupStarts.{at, HasNames, pieces_bound, not_by_others, start_values, start_long, taken_is}
 
 -- ---- what was given
 
-bound_before : (given : List Given) (x : Given) (h : ℕ) → (x.group == h) ≡ false → bound_by (given ++ x ∷ []) h ≡ bound_by given h
+pub bound_before : (given : List Given) (x : Given) (h : ℕ) → (x.group == h) ≡ false → bound_by (given ++ x ∷ []) h ≡ bound_by given h
 bound_before [] x h e = ap (λ b. if b then x.bound else []) e
 bound_before (g ∷ gs) x h e = ap (λ rest. if g.group == h then g.bound else rest) (bound_before gs x h e)
 
@@ -147,7 +147,7 @@ module _ (plan : Plan) (proc : ℕ) (args : List ℤ) (has : HasNames (procedure
       nothing = run_all-quiet the_piece q (pieces_of g) is.nothing;
       long = run_long the_piece q (pieces_of g) ∙ is.long;
       fresh = λ n e.
-          let parts = or_false (binds_any the_piece (pieces_in_turn done) n) (binds_any the_piece (pieces_of g) n) (sym (both n) ∙ e) in
+          let parts = or_parts (binds_any the_piece (pieces_in_turn done) n) (binds_any the_piece (pieces_of g) n) (sym (both n) ∙ e) in
           run_value the_piece q (pieces_of g) n parts.1 ∙ is.fresh n parts.0;
       groups = map-append (λ g. g.group) s.given (gave ∷ []) ∙ ap (λ xs. xs ++ g ∷ []) is.groups;
       bound = λ h k. elim (has_append h done (g ∷ []) k) [

@@ -14,7 +14,7 @@ use Rattle.roc_rows.specs.Store.{Store}
 use Rattle.roc_program.specs.Program.{Piece, Procedure}
 use Rattle.roc_program.specs.Values.{with_arguments}
 use Rattle.roc_whole.specs.Run.{Progress, progress, after_pieces, whole_run}
-use Rattle.roc_groups.proofs.Elements.{range_rising}
+use Rattle.roc_groups.proofs.Elements.{range_rising, has_range}
 use Rattle.roc_plan.specs.Groups.{Plan, procedure_of, group_of, inputs_of, outs_of}
 use Rattle.roc_plan.specs.Accepted.{IsAccepted}
 use Rattle.roc_plan.specs.Turns.{AreInTurn}
@@ -28,7 +28,7 @@ use Rattle.roc_reorder.proofs.Turned.{listed_has}
 use Rattle.roc_reorder.proofs.Replies.{spoken_among, same_said_each}
 use Rattle.roc_group.proofs.Grouped.{has_names, bound_there, one_group, group_rising, is_piece}
 use Rattle.roc_reorder.proofs.Apart.{stand, all_pieces_in, only_pieces_in}
-use Rattle.roc_reorder.proofs.Whole.{by_number, range_has, distinct_rising, said_in_places}
+use Rattle.roc_reorder.proofs.Whole.{by_number, distinct_rising, said_in_places}
 
 -- what stands before one that is behind these is among these
 before_is_among : (done rest : List ℕ) (g i : ℕ) → NoneTwice (λ a b. a == b) (done ++ g ∷ rest) → IsListedBefore (λ a b. a == b) (done ++ g ∷ rest) i g → Has i done
@@ -118,7 +118,7 @@ module _ (plan : Plan) (proc : ℕ) (args : List ℤ) (store : Store) (ok : IsAc
   same_pieces =
       reordered piece (range_with_len 0 count) (flat_map pieces_of order) (range_rising 0 count)
       (λ k h. all_pieces_in plan proc ok there order turn k (all_has (λ x. x < count) k (range_with_len 0 count) (range_below 0 count count (omega arith)) h))
-      (λ k h. range_has 0 count k (omega arith) (let l = only_pieces_in plan proc ok there order turn k h in omega (arith, l)))
+      (λ k h. has_range 0 count k (omega arith) (let l = only_pieces_in plan proc ok there order turn k h in omega (arith, l)))
       (stand plan proc ok there order turn)
 
   whole_in_words : whole_run (procedure_of plan proc) args store ≡ progress (run_all piece start (range_with_len 0 (length (procedure_of plan proc).pieces))).store (run_all piece start (range_with_len 0 (length (procedure_of plan proc).pieces))).environment (spoken piece start (range_with_len 0 (length (procedure_of plan proc).pieces)))

@@ -2,7 +2,7 @@ mod Commuting
 mod Moving
 pub mod Sorting
 mod Stages
-mod GroupRuns
+pub mod GroupRuns
 mod Replies
 mod Turned
 mod Apart

@@ -1,5 +1,5 @@
 -- Groups in turn leave the cells of the whole run, and give its reply
-use Rattle.std.proofs.Common.{◌≡◌, ◌≢◌, ◌-◌, ℕ, zero, suc, ◌<◌, ◌≤◌, ◌+◌, ℤ, pos, Bool, true, false, cond, ◌==◌, if◌then◌else◌, List, [], ◌∷◌, ◌++◌, length, map, get_or, take, refl, sym, ap, subst, ◌∙◌, ◌⊎◌, inl, inr, arith, append_assoc, append-nil}
+use Rattle.std.proofs.Common.{◌≡◌, ◌≢◌, ◌-◌, ℕ, zero, suc, ◌<◌, ◌≤◌, ◌+◌, ℤ, pos, Bool, true, false, cond, ◌==◌, if◌then◌else◌, List, [], ◌∷◌, ◌++◌, length, map, get_or, take, refl, sym, ap, subst, ◌∙◌, inl, inr, arith, append_assoc, append-nil}
 use Rattle.std.specs.Bool.{nat_lt}
 use Rattle.std.specs.List.{AllByRecursion, flat_map, filter_map, range_with_len}
 use Rattle.std.proofs.lemmas.Bool.{false≢true, eq-eqb, eqb-true, cases_eq}
@@ -45,14 +45,6 @@ behind_one p ps from at (suc count) e =
 pub by_number : (ps : List Piece) → map (λ k. get_or ps k no_piece) (range_with_len 0 (length ps)) ≡ ps
 by_number [] = refl
 by_number (p ∷ ps) = ap (λ rest. p ∷ rest) (behind_one p ps 0 1 (length ps) (omega arith) ∙ by_number ps)
-
-pub range_has : (from count k : ℕ) → from ≤ k → k < from + count → Has k (range_with_len from count)
-range_has from zero k low high = absurd (omega (arith, low, high))
-range_has from (suc count) k low high = go (cases_eq k from) (range_has (from + 1) count k)
-  where
-    go : (k ≡ from) ⊎ (k ≢ from) → (from + 1 ≤ k → k < (from + 1) + count → Has k (range_with_len (from + 1) count)) → Has k (range_with_len from (suc count))
-    go (inl e) ih = inl e
-    go (inr n) ih = inr (ih (omega (arith, low, n)) (omega (arith, high)))
 
 pub distinct_rising : (at : ℕ → Piece) (ks : List ℕ) → IsRising nat_lt ks → Distinct at ks
 distinct_rising at [] r = tt

@@ -1,5 +1,5 @@
 -- A tree in scope gives a program whose names tell its parts apart.
-use Rattle.std.proofs.Common.{◌≡◌, ℕ, zero, suc, ◌<◌, Bool, true, false, cond, List, [], ◌∷◌, ◌++◌, length, map, refl, sym, ap, subst, ◌∙◌, inl, arith}
+use Rattle.std.proofs.Common.{◌≡◌, ℕ, zero, suc, ◌<◌, false, List, [], ◌∷◌, ◌++◌, length, map, refl, sym, ap, subst, ◌∙◌, inl, arith}
 use Rattle.std.specs.Prelude.{slice_index_or}
 use Rattle.std.specs.List.{AllByRecursion}
 use Rattle.std.specs.Str.{bytes_eq}
@@ -11,38 +11,25 @@ use Rattle.roc_sequence.proofs.Holds.{has_any}
 use Rattle.roc_sequence.proofs.Members.{has_left, has_right}
 use Rattle.roc_lang.specs.Syntax.{Name, Table, Procedure, Tree}
 use Rattle.roc_lang.specs.Tokens.{IsWord}
-use Rattle.roc_lang.specs.Scope.{fault_at, Twice, is_among, repeated, repeats, tables_faults, procedures_faults, shards_faults, faults}
+use Rattle.roc_lang.specs.Scope.{is_among, repeated, repeats, tables_faults, procedures_faults, shards_faults, faults}
 use Rattle.roc_program.specs.LookUps.{no_procedure, table_at}
 use Rattle.roc_resolve.specs.Resolve.{texts, table, procedure, resolved}
+use Rattle.roc_resolve.proofs.Numbered.{is_new}
+use Rattle.roc_resolve.proofs.Scoped.{front_none, back_none}
 use Rattle.roc_report.specs.Names.{IsWordName, HasWords}
 use Rattle.roc_report.specs.ReportLine.{AreNames, HasNames}
 
 -- ---- no faults
-
-no_front : {A : Type 0} (xs ys : List A) → xs ++ ys ≡ [] → xs ≡ []
-no_front [] ys e = refl
-no_front (x ∷ xs) ys e = absurd (cc)
-
-no_back : {A : Type 0} (xs ys : List A) → xs ++ ys ≡ [] → ys ≡ []
-no_back [] ys e = e
-no_back (x ∷ xs) ys e = absurd (cc)
 
 -- no name stands among those before it
 abbrev AreFresh : List Name → List Name → Type 0
 AreFresh earlier [] = Unit {0}
 AreFresh earlier (n ∷ ns) = (is_among earlier n ≡ false) × AreFresh (earlier ++ n ∷ []) ns
 
-unrepeated : (earlier : List Name) (n : Name) → repeated earlier n ≡ [] → is_among earlier n ≡ false
-unrepeated earlier n e = go (is_among earlier n) e
-  where
-    go : (b : Bool) → cond b (fault_at n Twice) [] ≡ [] → b ≡ false
-    go true e = absurd (cc)
-    go false e = refl
-
 fresh_names : (earlier names : List Name) → repeats earlier names ≡ [] → AreFresh earlier names
 fresh_names earlier [] e = tt
 fresh_names earlier (n ∷ ns) e =
-    (unrepeated earlier n (no_front (repeated earlier n) (repeats (earlier ++ n ∷ []) ns) e), fresh_names (earlier ++ n ∷ []) ns (no_back (repeated earlier n) (repeats (earlier ++ n ∷ []) ns) e))
+    (is_new earlier n (front_none (repeated earlier n) (repeats (earlier ++ n ∷ []) ns) e), fresh_names (earlier ++ n ∷ []) ns (back_none (repeated earlier n) (repeats (earlier ++ n ∷ []) ns) e))
 
 abbrev procedure_names : List Procedure → List Name
 procedure_names ps = map (λ p. p.name) ps
@@ -54,16 +41,16 @@ fresh_procedures : (tables : List Table) (earlier : List Name) (ps : List Proced
 fresh_procedures tables earlier [] e = tt
 fresh_procedures tables earlier (p ∷ ps) e =
     let others = procedures_faults tables (earlier ++ p.name ∷ []) ps in
-    let front = no_front _ others e in
-    (unrepeated earlier p.name (no_front _ _ (no_front _ _ front)), fresh_procedures tables (earlier ++ p.name ∷ []) ps (no_back _ others e))
+    let front = front_none _ others e in
+    (is_new earlier p.name (front_none _ _ (front_none _ _ front)), fresh_procedures tables (earlier ++ p.name ∷ []) ps (back_none _ others e))
 
 fresh_tables : (earlier : List Name) (ts : List Table) → tables_faults earlier ts ≡ [] → AreFresh earlier (table_names ts) × AllByRecursion (λ (t : Table). AreFresh [] t.columns) ts
 fresh_tables earlier [] e = (tt, tt)
 fresh_tables earlier (t ∷ ts) e =
     let others = tables_faults (earlier ++ t.name ∷ []) ts in
-    let front = no_front _ others e in
-    let rest = fresh_tables (earlier ++ t.name ∷ []) ts (no_back _ others e) in
-    ((unrepeated earlier t.name (no_front _ _ front), rest.0), (fresh_names [] t.columns (no_back _ _ front), rest.1))
+    let front = front_none _ others e in
+    let rest = fresh_tables (earlier ++ t.name ∷ []) ts (back_none _ others e) in
+    ((is_new earlier t.name (front_none _ _ front), rest.0), (fresh_names [] t.columns (back_none _ _ front), rest.1))
 
 -- ---- names by number
 
@@ -127,8 +114,8 @@ all_names name (x ∷ xs) all = (all.0, all_names name xs all.1)
 
 pub has_names : (t : Tree) → HasWords t → faults t ≡ [] → HasNames (resolved t)
 has_names t words e =
-    let procedures = no_back _ (procedures_faults t.tables [] t.procedures) e in
-    let tables = no_back (shards_faults t) (tables_faults [] t.tables) (no_front _ _ (no_front _ _ e)) in
+    let procedures = back_none _ (procedures_faults t.tables [] t.procedures) e in
+    let tables = back_none (shards_faults t) (tables_faults [] t.tables) (front_none _ _ (front_none _ _ e)) in
     let fresh = fresh_tables [] t.tables tables in
     let count : length (map table t.tables) ≡ length t.tables = length-map t.tables table in
     record {

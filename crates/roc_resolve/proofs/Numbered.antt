@@ -4,6 +4,7 @@ use Rattle.std.proofs.lemmas.List.{map-append}
 use Rattle.std.proofs.lemmas.Slice.Eq.{bytes_eq-Decides}
 use Rattle.std.specs.List.{flat_map, filter_map, range_with_len}
 use Rattle.std.specs.Str.{bytes_eq}
+use Rattle.std.proofs.lemmas.Bool.{or_from, or_parts}
 use Rattle.roc_scope.proofs.Names.{among-append}
 use Rattle.roc_lang.specs.Syntax as syntax
 use Rattle.roc_lang.specs.Syntax.{Name, Table, Statement, Piece}
@@ -37,14 +38,6 @@ pieces_bindings tables all (p ∷ ps) =
 same_bytes : (text : List ℕ) → bytes_eq text text ≡ true
 same_bytes text = (bytes_eq-Decides text text).1 refl
 
-neither : (x y : Bool) → (x || y) ≡ false → (x ≡ false) × (y ≡ false)
-neither true y e = cc
-neither false y e = (refl, e)
-
-both_false : (x y : Bool) → x ≡ false → y ≡ false → (x || y) ≡ false
-both_false true y e f = cc
-both_false false y e f = f
-
 new_step : (b : Bool) (m k : ℕ) → b ≡ false → m ≡ k → cond (not b) (1 + m) 0 ≡ k + 1
 new_step true m k e f = cc
 new_step false m k e f = omega arith
@@ -52,7 +45,7 @@ new_step false m k e f = omega arith
 number_new : (earlier later : List Name) (name : Name) → is_among earlier name ≡ false → number_in (texts (earlier ++ name ∷ later)) name.text ≡ length earlier
 number_new [] later name e = rw (same_bytes name.text)
 number_new (n ∷ ns) later name e =
-    let none = neither (bytes_eq n.text name.text) (is_among ns name) e in
+    let none = or_parts (bytes_eq n.text name.text) (is_among ns name) e in
     let next : number_in (texts (n ∷ ns ++ name ∷ later)) name.text ≡ length ns + 1 =
     new_step (bytes_eq n.text name.text) (number_in (texts (ns ++ name ∷ later)) name.text) (length ns) none.0 (number_new ns later name none.1) in
     omega arith
@@ -61,14 +54,14 @@ number_new (n ∷ ns) later name e =
 number_next : (all earlier later : List Name) (name : Name) → all ≡ earlier ++ name ∷ later → is_among earlier name ≡ false → number_of all name ≡ length earlier
 number_next all earlier later name e new = rw e (number_new earlier later name new)
 
-is_new : (earlier : List Name) (name : Name) → repeated earlier name ≡ [] → is_among earlier name ≡ false
+pub is_new : (earlier : List Name) (name : Name) → repeated earlier name ≡ [] → is_among earlier name ≡ false
 is_new earlier name e = go (is_among earlier name) e
   where
     go : (b : Bool) → cond b (fault_at name Twice) [] ≡ [] → b ≡ false
     go true e = cc
     go false e = refl
 
--- among the names before a piece is none that is neither known nor bound in an earlier later piece
+-- among the names before a piece is none that is or_parts known nor bound in an earlier later piece
 abbrev pub HasNoOther : Bound → (before : List Name) → Type 0
 HasNoOther bound before = (name : Name) → is_among bound.known name ≡ false → is_among bound.past name ≡ false → is_among before name ≡ false
 
@@ -77,10 +70,10 @@ is_new_here : (bound : Bound) (before : List Name) (name : Name) → HasNoOther 
 is_new_here bound before name so e =
     let none : (is_among (bound.known ++ bound.own) name || is_among bound.past name) ≡ false =
     sym (among-append (bound.known ++ bound.own) bound.past name) ∙ is_new (bound.known ++ bound.own ++ bound.past) name e in
-    let parts = neither (is_among (bound.known ++ bound.own) name) (is_among bound.past name) none in
+    let parts = or_parts (is_among (bound.known ++ bound.own) name) (is_among bound.past name) none in
     let front : (is_among bound.known name || is_among bound.own name) ≡ false = sym (among-append bound.known bound.own name) ∙ parts.0 in
-    let each = neither (is_among bound.known name) (is_among bound.own name) front in
-    among-append before bound.own name ∙ both_false (is_among before name) (is_among bound.own name) (so name each.0 parts.1) each.1
+    let each = or_parts (is_among bound.known name) (is_among bound.own name) front in
+    among-append before bound.own name ∙ or_from (is_among before name) (is_among bound.own name) (so name each.0 parts.1) each.1
 
 -- ---- numbers in a row
 
@@ -158,14 +151,14 @@ next_other bound before p so = go p.is_now
     after b = cond b (record { known = bound.known ++ own; own = []; past = bound.past }) (record { known = bound.known; own = []; past = bound.past ++ own })
 
     in_both : (name : Name) → is_among bound.known name ≡ false → is_among bound.past name ≡ false → is_among own name ≡ false → is_among (before ++ own) name ≡ false
-    in_both name k l m = among-append before own name ∙ both_false (is_among before name) (is_among own name) (so name k l) m
+    in_both name k l m = among-append before own name ∙ or_from (is_among before name) (is_among own name) (so name k l) m
 
     go : (b : Bool) → HasNoOther (after b) (before ++ own)
     go true name h k =
-        let parts = neither (is_among bound.known name) (is_among own name) (sym (among-append bound.known own name) ∙ h) in
+        let parts = or_parts (is_among bound.known name) (is_among own name) (sym (among-append bound.known own name) ∙ h) in
         in_both name parts.0 k parts.1
     go false name h k =
-        let parts = neither (is_among bound.past name) (is_among own name) (sym (among-append bound.past own name) ∙ k) in
+        let parts = or_parts (is_among bound.past name) (is_among own name) (sym (among-append bound.past own name) ∙ k) in
         in_both name h parts.0 parts.1
 
 after_none : (bound : Bound) (p : Piece) → (bound_after bound p).own ≡ []

@@ -20,6 +20,7 @@ use Rattle.roc_group.specs.Group_run.{GroupCall, group_pieces, begin, group_run,
 use Rattle.roc_serial.specs.Behaviour.{TxnGroup, is_group_number, is_used, is_written, Meet, DoesSame}
 use Rattle.roc_execution.specs.Scheme.{IsSoundScheme}
 use Rattle.roc_protocol.specs.Asked.{called, use_of}
+use Rattle.roc_protocol.proofs.Meets.{of_meet}
 use Rattle.roc_scheme.specs.Scheme.{scheme_of, AreOrders, AreCalls}
 
 agree : (s t : Store) (uses : List Access) → ((x : Cell) → is_used x (map use_of uses) ≡ true → read s x ≡ read t x) → AgreeOnReads s t uses
@@ -86,14 +87,6 @@ used_conflict x (a ∷ earlier) later u w =
       | inr k ↦ or_right (meets later a) (do_conflict earlier later) (used_conflict x earlier later k w)
     ]
 
--- uses that meet are in conflict
-conflict_where_met : (earlier later : List Access) → Meet (map use_of earlier) (map use_of later) → do_conflict earlier later ≡ true
-conflict_where_met earlier later m =
-    elim (or_cases (is_written m.cell (map use_of earlier)) (is_written m.cell (map use_of later)) m.one_writes) [
-      | inl w ↦ written_conflict m.cell earlier later w m.second
-      | inr w ↦ used_conflict m.cell earlier later m.first w
-    ]
-
 -- what the laws of groups and of plans say
 pub record Laws : Type 0 where
   pub same : (plan : Plan) (c : GroupCall) (s t : Store) → AgreeOnReads s t (group_uses plan c s) → RunAlike (begin plan c s) (begin plan c t) (group_pieces plan c)
@@ -135,7 +128,7 @@ module _ (laws : Laws) (plan : Plan) (orders : ℕ → List ℕ) (asked : TxnId 
   met q r i j s t m =
       let b = called plan asked q i in
       let c = called plan asked r j in
-      laws.static plan b c s t (conflict_where_met (group_uses plan b s) (group_uses plan c t) m)
+      laws.static plan b c s t (of_meet (group_uses plan b s) (group_uses plan c t) m)
 
   contended :
       IsAccepted plan → (p q r u : TxnGroup) → p.txn ≡ q.txn

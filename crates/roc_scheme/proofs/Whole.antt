@@ -1,5 +1,5 @@
 -- Transactions one by one are whole procedures
-use Rattle.std.proofs.Common.{◌≡◌, ◌≢◌, ℕ, ◌<◌, ℤ, pos, Bool, true, false, ◌==◌, if◌then◌else◌, List, [], ◌∷◌, ◌++◌, length, map, zip, slice_index_or, refl, sym, ap, subst, ◌∙◌, ◌⊎◌, inl, inr, arith, Some, IsTrue}
+use Rattle.std.proofs.Common.{◌≡◌, ◌≢◌, ℕ, ◌<◌, ℤ, pos, Bool, true, false, ◌==◌, List, [], ◌∷◌, ◌++◌, length, map, zip, slice_index_or, refl, sym, ap, subst, ◌∙◌, ◌⊎◌, inl, inr, arith, Some, IsTrue}
 use Rattle.std.specs.List.{AllByRecursion, flat_map, range_with_len}
 use Rattle.std.proofs.lemmas.Bool.{cond-true, cond-false, false_from_ne_true, false≢true, eqb-true, eq-eqb}
 use Rattle.roc_sequence.specs.Lists.{Has}
@@ -26,6 +26,7 @@ use Rattle.roc_serial.proofs.SameGroups.{same_group}
 use Rattle.roc_serial.proofs.Stages.{after-store, after-yielded_same, after-yielded_other}
 use Rattle.roc_reorder.specs.GroupsRun as turn
 use Rattle.roc_reorder.specs.GroupsRun.{Given, bound_by, taken, DoAs}
+use Rattle.roc_reorder.proofs.GroupRuns.{bound_before}
 use Rattle.roc_audit.specs.Witness.{reply_in}
 use Rattle.roc_protocol.specs.Asked.{picked, IsWholeReply}
 use Rattle.roc_scheme.specs.Scheme.{scheme_of, AreOrders}
@@ -37,10 +38,6 @@ other a b n = false_from_ne_true (a == b) (λ h. n (eqb-true a b h))
 
 is_itself : (a : ℕ) → (a == a) ≡ true
 is_itself a = eq-eqb a a refl
-
-bound_other : (gs : List Given) (e : Given) (g : ℕ) → (e.group == g) ≡ false → bound_by (gs ++ e ∷ []) g ≡ bound_by gs g
-bound_other [] e g n = cond-false (e.group == g) _ _ n
-bound_other (x ∷ xs) e g n = ap (λ v. if x.group == g then x.bound else v) (bound_other xs e g n)
 
 bound_new : (gs : List Given) (e : Given) → ((x : Given) → Has x gs → (x.group == e.group) ≡ false) → bound_by (gs ++ e ∷ []) e.group ≡ e.bound
 bound_new [] e n = cond-true (e.group == e.group) _ _ (is_itself e.group)
@@ -69,7 +66,7 @@ tied_more Y Z given done e fresh k b o same =
     bounds g (inl i) =
         subst (λ x. bound_by (given ++ e ∷ []) x ≡ (Z x).bound) (sym i)
         (bound_new given e (λ x m. other x.group e.group (λ f. fresh (subst (λ y. Has y done) f (k.all x m)))) ∙ sym b)
-    bounds g (inr m) = bound_other given e g (other e.group g (away g m)) ∙ k.bound g m ∙ ap (λ (y : Yield). y.bound) (sym (same g (away g m)))
+    bounds g (inr m) = bound_before given e g (other e.group g (away g m)) ∙ k.bound g m ∙ ap (λ (y : Yield). y.bound) (sym (same g (away g m)))
 
     outs : (g : ℕ) → Has g (e.group ∷ done) → (x : Given) × Has x (given ++ e ∷ []) × (x.group ≡ g) × ((Z g).outs ≡ x.outs)
     outs g (inl i) = (e, has_right e given (e ∷ []) (inl refl), sym i, subst (λ x. (Z x).outs ≡ e.outs) (sym i) o)

@@ -1,10 +1,11 @@
-use Rattle.std.proofs.Common.{◌≡◌, ℕ, zero, suc, ◌+◌, ◌-◌, ◌<◌, ◌≤◌, ◌∷◌, [], ◌++◌, List, length, map, drop, get_or, refl, ap, subst, sym, ◌∙◌, append_assoc, append-nil, arith}
+use Rattle.std.proofs.Common.{◌≡◌, ℕ, ◌+◌, ◌-◌, ◌<◌, ◌≤◌, ◌∷◌, [], ◌++◌, List, length, map, drop, get_or, refl, ap, subst, sym, ◌∙◌, append_assoc, append-nil, arith}
 use Rattle.std.proofs.lemmas.List.{drop_all}
 use Rattle.roc_base.specs.declared.id.TxnId.{TxnId}
 use Rattle.roc_base.specs.Edge.{Dependency}
 use Rattle.roc_depgraph.specs.declared.known.KnownList.{KnownList}
 use Rattle.roc_depgraph.specs.Deps.{entries_of}
 use Rattle.roc_msg.specs.Facts.{front_of_facts}
+use Rattle.roc_msg.proofs.FactFronts.{front_nothing}
 use Rattle.roc_lists.specs.Told.{facts_of}
 use Rattle.roc_lists.proofs.Told_facts.{AreBehind, goes_on, behind_none, behind_more, next_before, behind_rest}
 use Rattle.roc_lists.proofs.told.facts_of.Goals as goal
@@ -48,13 +49,9 @@ returns-then-room-eq0 c =
     let front : ℕ → List KnownList = λ n. c.loop-id.facts ++ front_of_facts n c.loop-id.left (map f (drop c.loop-id.id-index c.args.ids.now)) in
     sym (c.loop-id.invariant.whole ∙ ap front c.if-room-eq0.true ∙ append-nil c.loop-id.facts)
 
-none_left : (lists entries : ℕ) → front_of_facts lists entries [] ≡ []
-none_left zero entries = refl
-none_left (suc lists) entries = refl
-
 pub returns : goal.returns
 returns c =
     let f : TxnId → KnownList = λ u. record { of = u; edges = entries_of c.args.deps.now u } in
     let front : List TxnId → List KnownList = λ ids. c.loop-id.facts ++ front_of_facts c.loop-id.room c.loop-id.left (map f ids) in
     sym (c.loop-id.invariant.whole ∙ ap front (drop_all c.loop-id.id-index c.args.ids.now c.loop-id-test.false)
-    ∙ ap (λ xs. c.loop-id.facts ++ xs) (none_left c.loop-id.room c.loop-id.left) ∙ append-nil c.loop-id.facts)
+    ∙ ap (λ xs. c.loop-id.facts ++ xs) (front_nothing c.loop-id.room c.loop-id.left) ∙ append-nil c.loop-id.facts)
