@@ -25,7 +25,7 @@ use Rattle.roc_await.specs.declared.group.Group.{Group}
 use Rattle.roc_await.specs.declared.lack.Lack.{Lack}
 use Rattle.roc_await.specs.Lacks.{IsMissing, IsLack}
 use Rattle.roc_depgraph.specs.Visits.{IsNamed}
-use Rattle.roc_depgraph.proofs.Walk.{listed_named}
+use Rattle.roc_depgraph.proofs.Walk.{listed_named as named_listed}
 use Rattle.roc_await.specs.Inner.Grown.{AreListed, IsMissingFor, others}
 use Rattle.roc_await.specs.Inner.Groups.{lack_with, all_lacks, names_any, missing_if_named, is_other_unknown}
 use Rattle.roc_await.specs.Inner.Taken.{AreLacksSince}
@@ -107,7 +107,7 @@ module _ (before known all : List KnownList) (u : TxnId) (edges : List Dependenc
 
   in_entries : (x : TxnId) → IsNamed edges x → x ≢ u → list_of x known ≡ None → IsListed is_txn of_entries x
   in_entries x h other none = listed_filter is_txn is_txn-true (is_other_unknown all later u) (map (λ d. d.from) edges) x
-      (and_from (not (is_txn x u)) (is_listed is_txn later x || not (is_known all x)) (other_test u x other) unknown) (listed_named edges x h)
+      (and_from (not (is_txn x u)) (is_listed is_txn later x || not (is_known all x)) (other_test u x other) unknown) (named_listed edges x h)
     where
       unknown : is_listed is_txn later x || not (is_known all x) ≡ true
       unknown = elim (listed_or_not is_txn later x) [

@@ -11,7 +11,7 @@ use Rattle.roc_base.specs.declared.node.Node.{Node}
 use Rattle.roc_base.specs.declared.node.Node.TheVariants.{Server, Coord}
 use Rattle.roc_lang.specs.Tokens.{decimal}
 use Rattle.roc_lang.specs.Grammar.{minus}
-use Rattle.roc_lang.proofs.Limited.{integer_fits}
+use Rattle.roc_lang.proofs.Limited.{integer_fits as plain_fits}
 use Rattle.roc_sched.specs.declared.fault.What.TheVariants as what
 use Rattle.roc_sched.specs.declared.line.Act.{Act}
 use Rattle.roc_sched.specs.declared.line.Act.TheVariants.{Submit, Deliver, Any, Tick}
@@ -80,7 +80,7 @@ integer_fits (b ∷ bs) z e = go (b == minus) e
   where
     go : (t : Bool) → cond t (option_map (λ n. neg_ℤ (pos n)) (number_up_to 9223372036854775808 bs)) (option_map pos (number_up_to 9223372036854775807 (b ∷ bs))) ≡ Some z → FitsSigned w64 z
     go true e = mapped (λ n. neg_ℤ (pos n)) (number_up_to 9223372036854775808 bs) z e (λ n read is. let fits = number_fits 9223372036854775808 bs n read in subst (FitsSigned w64) is (negated_fits n (omega (arith, fits))))
-    go false e = mapped pos (number_up_to 9223372036854775807 (b ∷ bs)) z e (λ n read is. let fits = number_fits 9223372036854775807 (b ∷ bs) n read in subst (FitsSigned w64) is (integer_fits n (omega (arith, fits))))
+    go false e = mapped pos (number_up_to 9223372036854775807 (b ∷ bs)) z e (λ n read is. let fits = number_fits 9223372036854775807 (b ∷ bs) n read in subst (FitsSigned w64) is (plain_fits n (omega (arith, fits))))
 
 -- ---- acts, whichever nodes there are
 

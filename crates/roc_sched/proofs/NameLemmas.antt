@@ -4,7 +4,7 @@ use Rattle.std.specs.Prelude.{nat_lt}
 use Rattle.std.specs.List.{list_all, AllByRecursion}
 use Rattle.std.specs.Char.{is_ascii_alphabetic}
 use Rattle.std.proofs.lemmas.Bool.{ltb-true, ltb-false}
-use Rattle.roc_sequence.proofs.Holds.{all_pass}
+use Rattle.roc_sequence.proofs.Holds.{all_pass as pass_all}
 use Rattle.roc_lang.specs.Tokens.{is_word_byte, IsWord}
 use Rattle.roc_lang.specs.Grammar.{is_reserved}
 use Rattle.roc_sched.specs.Numbers.{is_name}
@@ -36,5 +36,5 @@ parts_name [] w free = absurd w
 parts_name (b ∷ bs) w free = go (nat_lt (length bs) 32) refl
   where
     go : (r : Bool) → nat_lt (length bs) 32 ≡ r → (is_ascii_alphabetic b && list_all is_word_byte bs && nat_lt (length bs) 32 && not (is_reserved (b ∷ bs))) ≡ true
-    go true h = rw (w.0, all_pass is_word_byte bs w.1, h, free) refl
+    go true h = rw (w.0, pass_all is_word_byte bs w.1, h, free) refl
     go false h = absurd (let long = ltb-false (length bs) 32 h in omega (arith, long, w.2))
