@@ -1,4 +1,3 @@
-pub mod Flat
 mod Means
 mod Grows
 pub mod Meets

@@ -1,1 +1,0 @@
--- Lists made one behind another
