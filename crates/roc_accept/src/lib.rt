@@ -1,8 +1,10 @@
-//! Which groups the protocol may rely on, and what a test of that or a merging of pieces asks of a program: the data flow between
-//! pieces, and whether two are at one place.
+//! Which groups the protocol may rely on, and what a test of that or a merging of pieces asks of a program.
 //!
-//! The words of the contracts stand in `roc_groups`: `specs/Flow.antt` has the data flow, `specs/Core.antt` the places, and
-//! `specs/Accepted.antt` what is asked of the groups of a plan, which [`are_accepted`] tests. Nothing here takes memory.
+//! [`are_accepted`] tells exactly whether groups are accepted, [`feeds`] whether a piece of a procedure uses a name
+//! that another binds, [`piece_uses`] whether a name occurs in a piece, and [`are_co_located`] whether the places of
+//! two pieces are one tree. Their words stand in `roc_groups` (`specs/Accepted.antt`, `Flow.antt` and `Core.antt`
+//! there). No call takes memory. Only merging and the making of plans stand on this crate, so that no server waits for
+//! its proof.
 #![tactic(auto)]
 
 mod acceptance;

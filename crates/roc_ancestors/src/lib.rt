@@ -1,7 +1,10 @@
-//! Of decided transactions, the least of them and their ancestors.
+//! Of decided transactions, the least of them and their ancestors: for each, the sixteen least ids
+//! (`specs/Least.antt`).
 //!
-//! What entries lead to is found by a search back through known lists. What is decided has all its ancestors known, and they never
-//! change, so [`Ancestors`] keeps the least of them, and a search goes no further there: its length follows what is undecided.
+//! [`Ancestors::led_to`] gives the least of all that entries lead to and whose lists are known (`specs/Led.antt`). It
+//! goes back through known lists, and no further than what is kept: what is decided has all its ancestors known, and
+//! they never change. [`Ancestors::keep`] takes in more that are decided and keeps something of each, beside what is
+//! kept (`KeepsRows`); where memory is wanting, nothing is promised of what is kept.
 #![tactic(auto)]
 
 mod ancestors;

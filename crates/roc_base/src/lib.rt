@@ -1,12 +1,15 @@
-//! The words that every layer speaks: transaction ids, shards and nodes, lists of numbers, and the
-//! lists of predecessors that servers and coordinators exchange. Contracts see a transaction id as
-//! `specs/TxnId.antt` orders it, `Nums` as a list of integers, and `Edges` as a list of `Dependency`
-//! that rises strictly by id (`specs/Edges.antt`).
+//! The words that every layer speaks: transaction ids, shards and nodes, lists of numbers, ids of rows, and the lists
+//! of predecessors that servers and coordinators exchange.
 //!
-//! The layers above may rely on this: `Edges::unite` is the union by id, tags joined and the least
-//! shard kept, whatever the order and the repetitions of what is added; and two values of `Edges`
-//! or of `Nums` are equal exactly where their lists are. What fails for want of memory leaves the
-//! value as it was.
+//! Contracts see a transaction id as `specs/TxnId.antt` orders and prints it (`c.s`), a shard and a node as
+//! `specs/Node.antt` does (`sN`, `cN`), `Nums` as a list of integers, a `Key` as its one to four integers
+//! (`specs/Key.antt`), an `Edge` as a `Dependency` with at least one of its two tags (`specs/Edge.antt`), and `Edges`
+//! as a list of these that rises strictly by id (`specs/Edges.antt`). `specs/Equality.antt` has what `==` computes.
+//!
+//! The layers above may rely on this: `Edges::unite` is the union by id, tags joined and the least shard kept, whatever
+//! the order and the repetitions of what is added, and by [`laws`] a union is the only rising list that has at each id
+//! what the entries say together; `Edges::find` is exactly the look-up. Two values of `Edges` or of `Nums` are equal
+//! exactly where their lists are. What fails for want of memory leaves the value as it was.
 #![tactic(auto)]
 
 mod among;

@@ -1,12 +1,14 @@
-//! The check of a workload: from its text to the plan that the protocol may rely on, or to the reason why there is none.
+//! The check of a workload: from its text to the plan that the protocol may rely on, or to the reason why there is
+//! none.
 //!
-//! [`check`] parses, resolves, promotes and merges, in this order; `specs/Checked.antt` says what each answer means: the plan of
-//! the text, or the fault of the first step that finds one. A refusal names the first pieces that cannot be merged and shows the
-//! shortest cycle through two of them (`docs/CHECKER.md`). [`check_text`] writes what is known of a plan, line by line
-//! (`specs/Lines.antt`).
+//! [`check`] parses, resolves, promotes and merges, in this order; `specs/Checked.antt` says what each answer means:
+//! the plan of the text, or the fault of the first step that finds one. A refusal names the first pieces that cannot be
+//! merged and shows the shortest cycle through two of them (`docs/CHECKER.md`), and hands back the workload, which has
+//! the names. [`check_text`] writes what is known of a plan, line by line (`specs/Lines.antt`).
 //!
-//! The layers above may rely on this: a plan comes exactly of a text in scope whose pieces may be merged, unless memory runs out,
-//! and is accepted; a text has one plan or one refusal ([`laws`]).
+//! The layers above may rely on this: a plan comes exactly of a text in scope whose pieces may be merged, unless memory
+//! runs out, and is accepted; a text has at most one plan and one text of `check`, and a program at most one line that
+//! refuses it, and none where it has a plan ([`laws`]).
 #![tactic(auto)]
 
 mod checking;

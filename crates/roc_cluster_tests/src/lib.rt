@@ -1,4 +1,4 @@
-//! Tests of cluster files, which no command reads yet. It gives nothing to use.
+//! Tests of cluster files: texts that are one, and the first fault of others. It gives nothing to use.
 #![tactic(auto)]
 
 #[cfg(test)]

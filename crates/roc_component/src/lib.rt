@@ -1,10 +1,13 @@
 //! The order in which transactions that precede one another are taken.
 //!
-//! [`order`] is component order (`specs/Components.antt`): strongly connected components one after
-//! another as they become ready, those with lower ids first, and inside a component immediate
-//! predecessors first. The layers above may rely on this: the answer is the only list that the rule
-//! names for the set, for any known lists, and it is the same wherever the same edges among the set
-//! are known.
+//! [`order`] is component order (`specs/Components.antt`): strongly connected components one after another as they
+//! become ready, those with lower ids first, and inside a component immediate predecessors first. The layers above may
+//! rely on this: the answer is an order that the rule names for the set, and by [`laws`] there is exactly one, for any
+//! known lists, and it is the same wherever the same edges among the set are known. [`component_lists`] gives the
+//! components alone (`AreComponentsOf`), and [`rising`] the ids of a list, rising and each once.
+//!
+//! The components are found by one search back along entries (Gabow, *Path-based depth-first search for strong and
+//! biconnected components*, 2000), in time near the number of ids and of entries among them, which no clause says.
 #![tactic(auto)]
 
 mod before;

@@ -1,13 +1,16 @@
-//! A coordinator: it submits transactions, starts their groups, has them committed, and answers
-//! them, as `docs/PROTOCOL.md` says under "Coordinator".
+//! A coordinator: it submits transactions, starts their groups, has them committed, and answers them, as
+//! `docs/PROTOCOL.md` says under "Coordinator".
 //!
-//! Contracts see a [`Coord`] as a `CoordState` (`specs/State.antt`). [`Coord::submit`] is
-//! `after_submit` (`specs/Submit.antt`), [`Coord::handle`] is `after_message` (`specs/Step.antt`)
-//! and [`Coord::tick`] sends `tick_sends` (`specs/Tick.antt`), for every plan and every message.
-//! The layers above may rely on this: a refused submission and an ignored message change nothing
-//! and send nothing; a tick changes nothing; want of memory stops the coordinator, and nothing else
-//! does; and what it holds stays of the plan that it is called with (`CoordFits`,
-//! `specs/Fits.antt`).
+//! Contracts see a [`Coord`] as a `CoordState` (`specs/State.antt`). [`Coord::submit`] is `after_submit`
+//! (`specs/Submit.antt`: the first reason to refuse, else the new transaction and its starts), [`Coord::handle`] is
+//! `after_message` (`specs/Step.antt`, on `specs/Starts.antt` and `specs/Commits.antt`: which starts can be sent, the
+//! commits once every group has started, and the reply) and [`Coord::tick`] sends `tick_sends` (`specs/Tick.antt`), for
+//! every plan and every message.
+//!
+//! The layers above may rely on this: a refused submission and an ignored message change nothing and send nothing; a
+//! tick changes nothing; want of memory stops the coordinator, and nothing else does; and what it holds stays of the
+//! plan that it is called with (`CoordFits`, `specs/Fits.antt`). [`Coord::unanswered`] lists the ids of the pending,
+//! rising (`specs/Ids.antt`). `specs/Inner/` is of this crate alone.
 #![tactic(auto)]
 
 mod commits;

@@ -1,10 +1,11 @@
-//! What one server knows of dependencies: the lists of predecessors that it was taught, and which
-//! transactions are decided by them. Contracts see a [`Deps`] as the list of known lists
-//! (`specs/Deps.antt`); chains of edges are the least relation of `specs/Reach.antt`.
+//! What one server knows of dependencies: the lists of predecessors that it was taught, and which transactions are
+//! decided by them. Contracts see a [`Deps`] as the list of known lists (`specs/Deps.antt`); chains of edges are the
+//! least relation of `specs/Reach.antt`.
 //!
-//! The layers above may rely on this: a list once known never changes; [`Deps::closure`] answers
-//! `Whole` exactly where a transaction is decided, with it and all its ancestors, and else exactly
-//! what is reached and unknown; an unlike list is told apart from an equal one.
+//! The layers above may rely on this: a list once known never changes, and [`Deps::learn`] tells an unlike list apart
+//! from an equal one (`specs/Learnt.antt`); [`Deps::closure`] answers `Whole` exactly where a transaction is decided,
+//! with it and all its ancestors, and else exactly what is reached and unknown (`specs/Closure.antt`). A [`KnownList`]
+//! is also what travels along with messages. [`is_among_rising`] is membership in a list that rises.
 #![tactic(auto)]
 
 mod among;

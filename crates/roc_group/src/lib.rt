@@ -1,11 +1,15 @@
-//! Groups of pieces: the cells that a group uses, and its part of a procedure's run. Contracts cite
-//! `group_uses` and `group_run` of `specs/Group_run.antt`, which run a group's pieces in program
-//! order from the arguments and inputs that it is given.
+//! Groups of pieces: the cells that a group uses, and its part of a procedure's run. Contracts cite `group_uses` and
+//! `group_run` of `specs/Group_run.antt`, which run a group's pieces in program order from the arguments and inputs
+//! that it is given; `specs/Accesses.antt` has uses of cells and when they conflict.
 //!
-//! The layers above may rely on this: `cells` is what the group uses whatever the store holds,
-//! since a deferrable group's cells follow from what it is given; `run_group` changes the cells and
-//! adds to the reply exactly as the group's run does; and the run of a procedure's only group is
-//! the procedure's whole run.
+//! The layers above may rely on this: [`cells`] is what a deferrable group uses, whatever the store holds;
+//! [`run_group`] changes the cells, and adds to what is bound, to the reply and to the cells used, exactly as the
+//! group's run does, unless memory runs out and a part of the run is done; and [`conflict`] tells exactly whether two
+//! lists of uses have a cell in common that one of them writes, without memory.
+//!
+//! By [`laws`], of accepted plans: what a deferrable group uses follows from what it is given, and the cells of each
+//! group are at its place. Of all plans: groups whose cells conflict may meet by static conflict; and what a group does
+//! follows from the cells that it reads, and it changes none but those that it uses as writes.
 #![tactic(auto)]
 
 mod access;

@@ -1,6 +1,11 @@
-//! The outside in memory, for tests: of each trait of `roc_io`, one implementation in memory that fails at chosen calls (`Mem..`), and one
-//! whose count is always 0 (`Calm..`), so that what holds unless a count rose holds of it without a premise. Beside them stand small callers
-//! over any implementation, which show that the clauses of the traits carry.
+//! The outside in memory, for tests: no crate of the program stands on it. Of each trait of `roc_io` there is one
+//! implementation that fails at chosen calls (`Mem..`), and one whose count is always 0 (`Calm..`), so that what holds
+//! unless a count rose holds of it without a premise.
+//!
+//! `specs/Calls.antt` has the calls made and those that are to fail; `Files.antt`, `Sink.antt`, `Link.antt` and
+//! `Spawner.antt` have what each implementation keeps. Once memory is wanting for what is kept, it is told no more, and
+//! the answers stay as they were. Small callers over any implementation ([`read_two`], [`drain`], [`wait_all`];
+//! `specs/Callers.antt`) show that the clauses of the traits carry.
 #![tactic(auto)]
 
 mod callers;

@@ -1,10 +1,12 @@
-//! The messages between coordinators and servers, and what a node does with one.
+//! The messages between coordinators and servers, and why a node ignores a message.
 //!
-//! A [`Msg`] is data: contracts see its lists as lists (`specs/Msg.antt` reads its id and its kind). Its [`Facts`] rise
-//! strictly by id, whatever the message (`specs/Facts.antt`).
-//! An [`Outbox`] collects what a node sends in one event, and the transactions that it decides in
-//! it. The layers above may rely on this: a call appends to an outbox and takes nothing away, and
-//! one that finds no memory leaves it as it was.
+//! A [`Msg`] is data: contracts see its lists as lists, and `specs/Msg.antt` reads its id and its kind. Its [`Facts`]
+//! are known lists that travel along; they rise strictly by id, whatever the message (`specs/Facts.antt`). A [`Reason`]
+//! prints as `specs/Reason.antt` says. `specs/InPlace.antt` has lists that rise with one more put into its place.
+//!
+//! An [`Outbox`] collects what a node sends in one event, and the transactions that it decides in it: [`Outbox::send`]
+//! and [`Outbox::decide`] add at the end, and leave it as it was where they find no memory. Its parts are open to the
+//! layers above, so what a call of theirs does to an outbox is for that call to say.
 #![tactic(auto)]
 
 mod facts;

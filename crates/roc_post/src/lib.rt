@@ -1,8 +1,11 @@
-//! What a node makes of the datagrams that come to it, and which ones it sends for its messages.
+//! What a node makes of the datagrams that come to it, and which ones it sends for its messages (`docs/PROTOCOL.md`,
+//! "Running nodes").
 //!
-//! [`judge`] tells a delivery from what is skipped (`specs/Judgement.antt`). [`Heard`] keeps where each coordinator was last heard, and
-//! [`post`] spells messages and addresses them (`specs/Posting.antt`); one that has no spelling (`specs/Spellable.antt`) is not sent.
-//! `specs/Moves.antt` has the words in which a node's loop says what it took off its link and gave to it.
+//! [`judge`] tells a delivery, exactly where the bytes are a datagram with the node's tag, from what is skipped and why
+//! (`specs/Judgement.antt`). [`Heard`] keeps where each of sixteen coordinators was last heard, and takes no memory.
+//! [`post`] spells messages and addresses them, in order (`specs/Posting.antt`); one that has no spelling, as
+//! [`has_spelling`] tells (`specs/Spellable.antt`), is not sent. `specs/Moves.antt` has the words in which a node's
+//! loop says what it took off its link and gave to it.
 #![tactic(auto)]
 
 mod heard;

@@ -1,9 +1,14 @@
 //! Programs: what a workload text means once its names are resolved.
 //!
-//! Contracts see a [`Workload`] as a program of `specs/Program.antt`, and each is well formed (`IsProgram` of
-//! `specs/WellFormed.antt`): its numbers are within the limits of the language, and its pieces use names that are in scope. The
-//! value of an expression is as `specs/Values.antt` says, pieces have the numbers of `specs/Pieces.antt`, and `specs/Conflict.antt`
-//! says which of them are in static conflict. Which program a text means is for `roc_resolve` to say.
+//! Contracts see a [`Workload`] as a program of `specs/Program.antt` (tables, init lines, procedures of pieces of
+//! statements, with numbers for names), and each is well formed (`IsProgram` of `specs/WellFormed.antt`): its numbers
+//! are within the limits of the language, and its pieces use names that are in scope. Which program a text means is for
+//! `roc_resolve` to say.
+//!
+//! The layers above may rely on this: [`Expression::value`] is the value of `specs/Values.antt`, where `+ - *` wrap
+//! modulo 2^64; [`Expression::is_same`] tells exactly whether two expressions are one tree; pieces have the numbers of
+//! `specs/Pieces.antt`; and [`conflict`] is exactly the static conflict of `specs/Conflict.antt`. `specs/Names.antt`
+//! has what a piece uses and binds.
 #![tactic(auto)]
 
 mod parts;

@@ -1,7 +1,19 @@
-//! The whole protocol: all nodes and the network, and what comes of each event. No code stands here but [`Event`] and [`Seen`].
+//! The whole protocol: all nodes and the network, and what comes of each event (`docs/PROTOCOL.md`, "World"). No code
+//! stands here but [`Event`] and [`Seen`].
 //!
-//! `specs/World.antt` has the world, `specs/Happens.antt` what comes of an event (one event changes one node, by that node's own
-//! step), and [`laws`] what holds in every world of every run, whatever is lost, repeated or reordered.
+//! `specs/World.antt` has the world: servers, coordinators, every message ever sent, the history and the serial order.
+//! `specs/Happens.antt` has what comes of an event: one event changes one node, by that node's own step.
+//! `specs/Run.antt` has runs, `specs/Fits.antt` worlds that fit a plan, `specs/Final.antt` lists as startoks make them,
+//! `specs/Quiet.antt` transactions whose messages were all delivered, and `specs/Asked.antt` what the laws ask of a
+//! plan: schemes of the log machine (`HasSchemes`), which every accepted plan has (`roc_scheme`).
+//!
+//! The layers above may rely on [`laws`]. Of every run of a plan with schemes, whatever is lost, repeated or reordered:
+//! the serial order explains the history; what a start leaves out is earlier in it; lists are final; servers agree; no
+//! server ignores a message, and a coordinator only stale ones; what is quiet is answered; who is answered is decided
+//! wherever it has a group; each submitted transaction is pending or answered; and where each is answered, the cells
+//! are those that the serial order leaves, and stay. Of every plan: a submission is refused exactly as spent or busy,
+//! and what comes of an event, or of a list of events, is one; and of every plan with a shard, whatever may happen in a
+//! world that fits has an outcome, so a list of such events has a run.
 #![tactic(auto)]
 
 mod event;

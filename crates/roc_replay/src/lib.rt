@@ -1,12 +1,22 @@
-//! A whole replay: a schedule in, the report of its run out.
+//! A whole replay: a schedule in, the report of its run out. [`replay`] steps a world of 16 coordinators through what
+//! the lines ask for, and writes the lines of each event in one piece after it, and the closing lines in one piece at
+//! the end.
 //!
-//! The contract of [`replay`] cites `specs/Ended.antt`, which has what each end says; `specs/Report.antt`
-//! has the lines of a run, `specs/Asked.antt` what the lines of a schedule ask for, `specs/Played.antt` how they are played, and `specs/Told.antt` what lines tell of themselves. The layers above may rely on
-//! this: where `replay` answers Done, the sink took the text of the report of the run of exactly that
-//! schedule, and the report's one `order` line is a serial witness of the history that its own `submit`
-//! and `answer` lines show. Of any other end they may rely on its cause, and on what the sink took: the text of
-//! whole lines of the schedule, and where a write failed a front of the text that was due behind it. `specs/Inner/`
-//! is of this crate alone.
+//! The contract of [`replay`] cites `specs/Ended.antt`, which has what each end says; `specs/Report.antt` has the lines
+//! of a run, on `specs/Cells.antt`; `specs/Asked.antt` what the lines of a schedule ask for, `specs/Played.antt` how
+//! they are played, and `specs/Told.antt` what lines tell of themselves (`IsExplained`).
+//!
+//! The layers above may rely on this. Where `replay` answers `Done`, the sink took the text of the report of the run of
+//! exactly that schedule, and the report explains itself: its one `order` line is a serial witness of the history that
+//! its own `submit` and `answer` lines show, each transaction that looks quiet has its answer, and where no line is
+//! `pending`, the `row` lines are the cells that the serial order leaves. Of any other end the layers above may rely on
+//! its cause, and on what the sink took: nothing, or the text of whole lines of the schedule, and where a write failed
+//! a front of the text that was due behind it. A schedule that delivers only what was sent is played whole where no
+//! failure is counted and memory suffices.
+//!
+//! By [`laws`] the report of every run of an accepted plan explains itself, what is played is a run, schedules with the
+//! same lines have one report, and a schedule can be played exactly where it delivers only what was sent.
+//! `specs/Inner/` is of this crate alone.
 #![tactic(auto)]
 
 mod asked;

@@ -1,12 +1,11 @@
-//! The cells of a shard: a map from cells to numbers that holds 0 wherever nothing was written.
-//! Contracts see `Rows` as a `Held` (`specs/Held.antt`): the `Store` of its cells, and how many
-//! more sets cannot fail. A `Store` (`specs/Store.antt`) is a finite map from cells to integers,
-//! in which 0 is the same as nothing.
+//! The cells of a shard: a map from cells to numbers that holds 0 wherever nothing was written. Contracts see `Rows` as
+//! a `Held` (`specs/Held.antt`): the `Store` of its cells, and how many more sets cannot fail. A `Store`
+//! (`specs/Store.antt`) is a finite map from cells to integers, in which 0 is the same as nothing.
 //!
-//! The layers above may rely on this: `get` is `read`, `set` is `write`, a read after a write has
-//! what was written in that cell and what was there before in every other, and two stores that
-//! read alike are equal. `nonzero` lists exactly the cells that are not 0, rising. A set cannot
-//! fail while `spare` is positive, and takes at most one of it.
+//! The layers above may rely on this: `get` is `read`, `set` is `write`, a read after a write has what was written in
+//! that cell and what was there before in every other, and two stores that read alike are equal ([`laws`]). `nonzero`
+//! lists exactly the cells that are not 0, rising. A set cannot fail while `spare` is positive, and takes at most one
+//! of it.
 #![tactic(auto)]
 
 mod cell;

@@ -1,8 +1,9 @@
-//! The test of scope: the first fault of the names of a workload's tree.
+//! The test of scope: the first fault of the names of a workload's tree (`docs/LANGUAGE.md`, "Scope").
 //!
-//! `specs/Scope.antt` of `roc_lang` lists the faults of a tree in the order of the text. The contract of `check_scope`
-//! cites this list: it answers `Ok` exactly where the list is empty, and else its first fault (`IsFirst` of
-//! `specs/Fault.antt`). The layers above may rely on this; `specs/Inner/` is of this crate alone.
+//! `specs/Scope.antt` of `roc_lang` lists the faults of a tree in the order of the text. The layers above may rely on
+//! this: [`check_scope`] answers `Ok` exactly where the list is empty, and its fault is the first of the list, with its
+//! kind, name and line (`IsFirst` of `specs/Fault.antt`); memory is taken for that name alone. Faults print as
+//! `specs/FaultText.antt` says. `specs/Inner/` is of this crate alone.
 #![tactic(auto)]
 
 mod before;

@@ -1,9 +1,15 @@
-//! Running a server: the loop that leads the datagrams of a link through a server's own core.
+//! Running a server: the loop that leads the datagrams of a link through a server's own core, over any link and any
+//! sink.
 //!
-//! [`serve`] runs a server, to the end that [`ServeEnd`] tells. Its contract cites `specs/ServeEnd.antt`, which says for each end what the link
-//! took and gave and what the sink took. It rests on the node's run: a fold of one event after another, a datagram that came or silence
-//! (`specs/ServerRun.antt`), whose steps are those of the core. The layers above may rely on these definitions; `specs/Inner/` is of this
-//! crate alone.
+//! [`serve`] binds the shard's address and runs a server, to the end that [`ServeEnd`] tells. Its contract cites
+//! `specs/ServeEnd.antt`, which says for each end what the link took and gave and what the sink took. It rests on the
+//! node's run: a fold of one event after another, a datagram that came or silence (`specs/ServerRun.antt`), whose steps
+//! are those of the core.
+//!
+//! The layers above may rely on these definitions. A fault of link or sink comes only where its count rose, and no
+//! other end where one did; the link took the node's datagrams in order, all but at most as many as its `lost` rose by.
+//! What arrived and was sent is spoken of where the link tells it, and what was written where the sink does.
+//! `specs/Inner/` is of this crate alone.
 #![tactic(auto)]
 
 mod ends;

@@ -1,11 +1,19 @@
-//! A shard's server: the cells of its places, the groups that started there, and the dependency
-//! lists that it knows. Contracts see a [`Server`] as a `ServerState` of plain lists
-//! (`specs/State.antt`), and what comes of a message as a `ServerStep` that `specs/Step.antt` fixes,
-//! case by case (`specs/Start.antt`, `specs/Lists.antt`), and that is one ([`laws`]).
+//! A shard's server: the cells of its places, the groups that started there, and the dependency lists that it knows
+//! (`docs/PROTOCOL.md`, "Server" to "Ticks of a server"). Contracts see a [`Server`] as a `ServerState` of plain lists
+//! (`specs/State.antt`), at first `first_server` (`specs/First.antt`), and what comes of a message as a `ServerStep`
+//! that `specs/Step.antt` fixes, case by case (`specs/Start.antt`, `specs/Runs.antt`, `specs/Lists.antt`), and that is
+//! one ([`laws`]).
 //!
-//! The layers above may rely on this: [`Server::handle`] is exactly that step, whatever the message,
-//! forged ones too, under any plan; an ignored message changes nothing and
-//! sends nothing; a server that found no memory says so from then on, and exactly then.
+//! The layers above may rely on this: [`Server::handle`] is exactly that step, whatever the message, forged ones too,
+//! under any plan that its groups are of (`ServerFits` of `specs/Fits.antt`), and they stay of it; an ignored message
+//! changes nothing and sends nothing; [`Server::tick`] sends exactly `tick_sends` and changes nothing; a server that
+//! found no memory says so from then on, and exactly then. [`Server::decided`] tells exactly whether a transaction is
+//! decided here, and [`Server::cells`] lists the cells that are not 0. [`Server::entries`] gives the entries of a group
+//! that would start, and looks at no more started groups than there are pairs of a cell that it uses and an undecided
+//! group of its class that uses that cell (`users` of `specs/Start.antt`).
+//!
+//! What a server keeps beside its state, so that a step costs what is undecided, is in an invariant of the type and in
+//! no clause. `specs/Inner/` is of this crate alone.
 #![tactic(auto)]
 
 mod commitoks;

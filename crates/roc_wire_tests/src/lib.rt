@@ -1,4 +1,4 @@
-//! Tests of datagrams, which no command sends yet. It gives nothing to use.
+//! Tests of datagrams: spellings, first faults and limits. It gives nothing to use.
 #![tactic(auto)]
 
 #[cfg(test)]

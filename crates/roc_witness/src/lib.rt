@@ -1,8 +1,10 @@
-//! Witnesses of why a workload is refused: unreorderable cycles of its SC-graph (`docs/CHECKER.md`).
+//! Witnesses of why a workload is refused: unreorderable cycles of its SC-graph (`docs/CHECKER.md`, "Witnesses").
 //!
-//! The layers above may rely on this: [`is_unreorderable`] holds exactly of the cycles of `roc_scgraph`'s `specs/Cycles.antt`, and
-//! [`shortest`] finds the shortest through the S-edge of two pieces, and of the shortest the least in the order of
-//! `specs/Order.antt`, or none where there is none. Its time grows with the square of the number of pieces, whatever they do.
+//! The layers above may rely on this: [`is_unreorderable`] holds exactly of the cycles of `roc_scgraph`'s
+//! `specs/Cycles.antt`, and takes no memory. [`shortest`] finds, of two pieces of one procedure, a shortest cycle that
+//! the S-edge of the two closes (`specs/Shortest.antt`), and of the shortest the least in the order of
+//! `specs/Order.antt`, or none where there is none. Its time grows with the square of the number of pieces, whatever
+//! they do, which no clause says.
 #![tactic(auto)]
 
 mod columns;

@@ -1,5 +1,5 @@
-//! The program. Its words are those of `docs/FORMATS.md`, "The program"; what they do stands in `roc_cli`, and the machine's own files, streams,
-//! network and processes in `roc_real`.
+//! The program: `run` of `roc_cli` over the machine's files, streams, network and processes of `roc_real`. Its words
+//! are those of `docs/FORMATS.md`, "The program". Nothing stands here that can stand elsewhere.
 #![tactic(auto)]
 
 use roc_cli::run;
