@@ -1,4 +1,4 @@
--- What a transaction depends on, as far as lists are known: docs/PROTOCOL.md, "Commit"
+-- What a transaction depends on, as far as lists are known: docs/PROTOCOL.md, "Lists"
 use Rattle.std.specs.Prelude.{List}
 use Rattle.std.specs.List.Sorted.{IsStrictlySortedBy}
 use Rattle.roc_sequence.specs.Places.{IsListed}

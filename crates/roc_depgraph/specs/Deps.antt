@@ -1,4 +1,4 @@
--- Dependency lists as one server knows them, and what is decided by them: docs/PROTOCOL.md, "Commit"
+-- Dependency lists as one server knows them, and what is decided by them: docs/PROTOCOL.md, "Lists"
 use Rattle.std.specs.Prelude.{Bool, ◌&&◌, List, [], ◌∷◌, ◌++◌, Option, Some, None, if◌then◌else◌, is_some, unwrap_or, IsTrue}
 use Rattle.std.specs.List.{list_any}
 use Rattle.roc_base.specs.declared.id.TxnId.{TxnId}

@@ -1,4 +1,4 @@
--- What teaching a list answers, and what is known afterwards: docs/PROTOCOL.md, "Commit"
+-- What teaching a list answers, and what is known afterwards: docs/PROTOCOL.md, "Lists"
 use Rattle.std.specs.Prelude.{◌≡◌, ◌≢◌, List, Some, None}
 use Rattle.roc_base.specs.declared.id.TxnId.{TxnId}
 use Rattle.roc_base.specs.Edge.{Dependency}
