@@ -4,7 +4,7 @@
 //! [`Ancestors::led_to`] gives the least of all that entries lead to and whose lists are known (`specs/Led.antt`). It
 //! goes back through known lists, and no further than what is kept: what is decided has all its ancestors known, and
 //! they never change. [`Ancestors::keep`] takes in more that are decided and keeps something of each, beside what is
-//! kept (`KeepsRows`); where memory is wanting, nothing is promised of what is kept.
+//! kept (`KeepsRows`); if memory is wanting, nothing is promised of what is kept.
 #![tactic(auto)]
 
 mod ancestors;

@@ -5,7 +5,7 @@
 //! replies of the serial run, and real time. No piece, message or graph occurs in it.
 //!
 //! The layers above may rely on this: what is in an order stays where it is, and those of the ids noted that are not in
-//! it are put at its end; where memory is wanting, the order stays as it was.
+//! it are put at its end; if memory is wanting, the order stays as it was.
 #![tactic(auto)]
 
 mod entry;

@@ -9,7 +9,7 @@
 //! The layers above may rely on this: `Edges::unite` is the union by id, tags joined and the least shard kept, whatever
 //! the order and the repetitions of what is added, and by [`laws`] a union is the only rising list that has at each id
 //! what the entries say together; `Edges::find` is exactly the look-up. Two values of `Edges` or of `Nums` are equal
-//! exactly where their lists are. What fails for want of memory leaves the value as it was.
+//! exactly if their lists are. What fails for want of memory leaves the value as it was.
 #![tactic(auto)]
 
 mod among;

@@ -4,7 +4,7 @@
 //! The immediate pieces are the least set of `specs/Immediate.antt`: those declared `now`, and each piece in conflict
 //! with an immediate one. Contracts see [`Classes`] as a list for each procedure, of which `specs/Classes.antt` reads
 //! whether a piece is immediate; a piece that is not there is not. The layers above may rely on this: [`promote`] finds
-//! exactly that set; [`is_least`] tells exactly whether classes are it; [`contended`] holds exactly where a piece is
+//! exactly that set; [`is_least`] tells exactly whether classes are it; [`contended`] holds exactly if a piece is
 //! immediate and conflicts with a piece of the program, itself included (`specs/Contended.antt`). The last two take no
 //! memory. By [`laws`] the set is the least one closed under conflict, conflict is symmetric, and each conflict joins
 //! two immediate pieces or two deferrable ones.

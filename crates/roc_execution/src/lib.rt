@@ -9,7 +9,7 @@
 //! `specs/Edges.antt` edges that somebody follows, as tests.
 //!
 //! The layers above may rely on [`laws`]: whatever these rules let happen, each group that ran of a decided transaction
-//! saw and did what it would where the decided transactions run one after another (`executions_are_serial`), and shards
+//! saw and did what it would if the decided transactions ran one after another (`executions_are_serial`), and shards
 //! agree on what precedes what (`shards_agree`). That a scheme can be sound and a transaction answered is shown by a
 //! small one (`specs/Counting.antt`).
 #![tactic(auto)]

@@ -9,9 +9,9 @@
 //!
 //! The layers above may rely on [`laws`]: one grouping at most is the merged one, and the merged groups of an
 //! acceptable workload are accepted; the graph over groups that are accepted in all else has no unreorderable cycle
-//! exactly where the contended pieces of each procedure are in one group; of accepted groups, those in conflict are of
-//! one class, two of one procedure never conflict where one of them is immediate, and what a group needs of others
-//! comes from immediate ones.
+//! exactly if the contended pieces of each procedure are in one group; of accepted groups, those in conflict are of one
+//! class, two of one procedure never conflict if one of them is immediate, and what a group needs of others comes from
+//! immediate ones.
 #![tactic(auto)]
 
 mod groups;

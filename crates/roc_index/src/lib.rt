@@ -3,8 +3,8 @@
 //!
 //! Contracts see an [`Index`] as the list of its cells with their spots, and read it by `spots_at` of
 //! `specs/Spots.antt` alone. The layers above may rely on this: what is added stands behind what is there, each spot
-//! once in a row; what is taken out at a cell are the spots of one transaction; and no other cell changes. Where memory
-//! is wanting for what is added, nothing is promised.
+//! once in a row; what is taken out at a cell are the spots of one transaction; and no other cell changes. If memory is
+//! wanting for what is added, nothing is promised.
 #![tactic(auto)]
 
 mod index;

@@ -5,7 +5,7 @@
 //! prints as `specs/Reason.antt` says. `specs/InPlace.antt` has lists that rise with one more put into its place.
 //!
 //! An [`Outbox`] collects what a node sends in one event, and the transactions that it decides in it: [`Outbox::send`]
-//! and [`Outbox::decide`] add at the end, and leave it as it was where they find no memory. Its parts are open to the
+//! and [`Outbox::decide`] add at the end, and leave it as it was if they find no memory. Its parts are open to the
 //! layers above, so what a call of theirs does to an outbox is for that call to say.
 #![tactic(auto)]
 

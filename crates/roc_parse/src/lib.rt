@@ -2,13 +2,13 @@
 //!
 //! The contract of [`parse`] cites `IsWorkloadText` and `IsFirstFault` of `specs/Fault.antt`. They stand on the
 //! definitions of `roc_lang` (`Tokens`, `Grammar`) and on `specs/Lexed.antt`, which says how far a text has tokens. The
-//! layers above may rely on this: a source is given exactly where the bytes are a workload text of it within the
-//! limits, unless memory runs out, and a fault is the first one from the left, with its kind and its line
-//! (`docs/LANGUAGE.md`, "Faults"). Scope is not asked here.
+//! layers above may rely on this: a source is given exactly if the bytes are a workload text of it within the limits,
+//! unless memory runs out, and a fault is the first one from the left, with its kind and its line (`docs/LANGUAGE.md`,
+//! "Faults"). Scope is not asked here.
 //!
 //! `specs/Inner/` is of this crate alone. The proofs go rule by rule: a reader is `Exact` for a rule
-//! (`proofs/Exact.antt`) where it takes exactly the rule's sentences and stops where none can go on, and readers that
-//! are put together are exact where their parts are.
+//! (`proofs/Exact.antt`) if it takes exactly the rule's sentences and stops where no sentence goes on, and readers that
+//! are put together are exact if their parts are.
 #![tactic(auto)]
 
 mod declaration;

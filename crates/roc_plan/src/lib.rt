@@ -5,8 +5,8 @@
 //! plan (`specs/Outlines.antt`), so each plan is one that the layers above may rely on (`IsAccepted` of
 //! `specs/Accepted.antt`). `make_plan` of `roc_planning` makes plans.
 //!
-//! By [`laws`], of each accepted plan: each procedure has a group, and a group is immediate exactly where its pieces
-//! are; what a group takes comes from other groups of its procedure, which are immediate and bind it; the groups of a
+//! By [`laws`], of each accepted plan: each procedure has a group, and a group is immediate exactly if its pieces are;
+//! what a group takes comes from other groups of its procedure, which are immediate and bind it; the groups of a
 //! procedure can run one after another, each behind those that it takes values from (`specs/Turns.antt`); groups that
 //! may meet are of one class; of one procedure at most one group is immediate and may meet any, and two groups, one of
 //! them immediate, never meet.

@@ -5,7 +5,7 @@
 //! in `docs/CHECKER.md`.
 //!
 //! The layers above may rely on this: [`edge`] is exactly that edge, and takes no memory; and by [`laws`] a procedure
-//! has an unreorderable cycle through an S-edge of its own exactly where two of its immediate pieces are contended, and
+//! has an unreorderable cycle through an S-edge of its own exactly if two of its immediate pieces are contended, and
 //! then one of at most six vertices between each two of them.
 #![tactic(auto)]
 

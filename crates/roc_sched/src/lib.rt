@@ -2,8 +2,8 @@
 //! plan is known here: each line keeps its number and the procedure's name as written.
 //!
 //! Their contracts cite `IsSchedule`, `AreRequests` and the first fault of other bytes, of `specs/Schedule.antt`: bytes
-//! are taken exactly where they are such a text, unless memory runs out, and else their first fault is named. What a
-//! line asks for stands in `specs/Acts.antt`, on `specs/Lines.antt`, `Words.antt` and `Numbers.antt`, and in words in
+//! are taken exactly if they are such a text, unless memory runs out, and else their first fault is named. What a line
+//! asks for stands in `specs/Acts.antt`, on `specs/Lines.antt`, `Words.antt` and `Numbers.antt`, and in words in
 //! `docs/FORMATS.md` ("Schedule" and "Requests"). By [`laws`] a text has one list of lines or one first fault, and not
 //! both; its nodes are there and its numbers within their bounds (`specs/Fits.antt`); and names are those of the
 //! language of workloads. `specs/Inner/` is of this crate alone.

@@ -6,9 +6,9 @@
 //! node's run: a fold of one event after another, a datagram that came or silence (`specs/ServerRun.antt`), whose steps
 //! are those of the core.
 //!
-//! The layers above may rely on these definitions. A fault of link or sink comes only where its count rose, and no
-//! other end where one did; the link took the node's datagrams in order, all but at most as many as its `lost` rose by.
-//! What arrived and was sent is spoken of where the link tells it, and what was written where the sink does.
+//! The layers above may rely on these definitions. A fault of link or sink comes only if its count rose, and no other
+//! end if a count did; the link took the node's datagrams in order, all but at most as many as its `lost` rose by. What
+//! arrived and was sent is spoken of as far as the link tells it, and what was written as far as the sink does.
 //! `specs/Inner/` is of this crate alone.
 #![tactic(auto)]
 

@@ -2,10 +2,10 @@
 //!
 //! `clap` takes words or refuses them, by its own definition of its refusals (`specs/Program.antt`); values reach it as
 //! texts, and are judged here (`specs/Values.antt`). What words ask for stands in `specs/Commands.antt`, and what `ask`
-//! answers in `specs/Answer.antt`: a command exactly where the words are those of one, unless memory runs out;
-//! `Refused` only where `clap` finds a fault, and then the words ask for no command; `Value` only where the first value
-//! that is wrong is this one. Want of memory is never told as a refusal. What the text of a refusal says is told by no
-//! clause. `specs/Inner/` is of this crate alone.
+//! answers in `specs/Answer.antt`: a command exactly if the words are those of one, unless memory runs out; `Refused`
+//! only if `clap` finds a fault, and then the words ask for no command; `Value` only if this value is the first that is
+//! wrong. Want of memory is never told as a refusal. What the text of a refusal says is told by no clause.
+//! `specs/Inner/` is of this crate alone.
 #![tactic(auto)]
 
 mod answer;

@@ -4,8 +4,8 @@
 //! So what the laws of `roc_protocol` and `roc_scheme` say of every run holds of each world that it steps through.
 //!
 //! The readers `sent`, `undelivered`, `history` and `order` take no memory; `cells` and `unanswered` list what a report
-//! needs of the nodes (`specs/Reads.antt`). Where memory is wanting in a step, nothing is promised of the world, which
-//! is to be thrown away. `specs/Inner/` is of this crate alone.
+//! needs of the nodes (`specs/Reads.antt`). If memory is wanting in a step, nothing is promised of the world, which is
+//! to be thrown away. `specs/Inner/` is of this crate alone.
 #![tactic(auto)]
 
 mod happen;
