@@ -39,16 +39,16 @@ module _ (call : RunCall) where
   -- ---- reading
 
   -- the workload gave no bytes
-  pub workload_unread : (workload : List ℕ) (fault : Fault) → NamesWorkload call.words workload → TakesNothing call → Blames call.failed_before call.failed_after fault
-      → IsReadFault call.content workload text_limit fault → Fails call fault
+  pub workload_unread : (workload : List ℕ) (fault : Fault) → NamesWorkload call.words workload → TakesNothing call → Blames call.files.failed_old call.files.failed_new fault
+      → IsReadFault call.files.content workload text_limit fault → Fails call fault
   workload_unread workload (TooLong file) names same blames (e, more) = subst (λ n. IsRefused call (long_line n)) (sym e) (long_workload workload names more same)
   workload_unread workload (File file) names same blames e = record { input = the_workload (subst (NamesWorkload call.words) (sym e) names); only = blames; untouched = same }
   workload_unread workload Memory names same blames h = with_nothing same
   workload_unread workload _ names same blames h = absurd h
 
   -- the workload gave no program
-  pub program_fails : (workload : List ℕ) (fault : Fault) → NamesProgram call.words workload → TakesNothing call → Blames call.failed_before call.failed_after fault
-      → IsProgramFault call.content workload fault → Fails call fault
+  pub program_fails : (workload : List ℕ) (fault : Fault) → NamesProgram call.words workload → TakesNothing call → Blames call.files.failed_old call.files.failed_new fault
+      → IsProgramFault call.files.content workload fault → Fails call fault
   program_fails workload (At file line what) names same blames (e, (w, held, g)) =
       line_known file.now workload line line what.now (what_text w) e refl g (no_text workload line w (as_workload call.words workload names) held same)
   program_fails workload (Scope file line what) names same blames (e, held) =
@@ -56,15 +56,15 @@ module _ (call : RunCall) where
   program_fails workload fault names same blames h = workload_unread workload fault (as_workload call.words workload names) same blames h
 
   -- the workload gave no plan
-  pub plan_fails : (workload : List ℕ) (fault : Fault) → NamesProgram call.words workload → Blames call.failed_before call.failed_after fault
-      → PlanFails call.content workload call.out_before call.out_after fault → Fails call fault
+  pub plan_fails : (workload : List ℕ) (fault : Fault) → NamesProgram call.words workload → Blames call.files.failed_old call.files.failed_new fault
+      → PlanFails call.files.content workload call.out.old call.out.new fault → Fails call fault
   plan_fails workload Rejected names blames h = record { workload = workload; named = names; program = h.0; said = h.1; held = h.2; taken = h.3 }
   plan_fails workload Sink names blames h = in_rejection workload h.0 h.1 names h.2 h.3
   plan_fails workload fault names blames h = program_fails workload fault names h.1 blames h.0
 
   -- the schedule gave no bytes
-  pub schedule_unread : (workload schedule : List ℕ) (plan : Plan) (fault : Fault) → IsReplay call.words workload schedule → HoldsPlan call.content workload plan
-      → TakesNothing call → Blames call.failed_before call.failed_after fault → IsReadFault call.content schedule most_bytes fault → Fails call fault
+  pub schedule_unread : (workload schedule : List ℕ) (plan : Plan) (fault : Fault) → IsReplay call.words workload schedule → HoldsPlan call.files.content workload plan
+      → TakesNothing call → Blames call.files.failed_old call.files.failed_new fault → IsReadFault call.files.content schedule most_bytes fault → Fails call fault
   schedule_unread workload schedule plan (TooLong file) given planned same blames (e, more) =
       subst (λ n. IsRefused call (long_line n)) (sym e) (long_schedule workload schedule plan given planned more same)
   schedule_unread workload schedule plan (File file) given planned same blames e =
@@ -76,7 +76,7 @@ module _ (call : RunCall) where
 
   -- the replay ended
   replay_ends : (plan : Plan) (bytes : List ℕ) (result : Result Unit Fault) → (asked : IsReplayOf call plan bytes)
-      → ReplayEnds plan bytes asked.schedule call.out_before call.out_after result → Ends call result
+      → ReplayEnds plan bytes asked.schedule call.out.old call.out.new result → Ends call result
   replay_ends plan bytes (Ok done) asked (summary, h) = inl (record { plan = plan; bytes = bytes; asked = asked; summary = summary; replayed = h })
   replay_ends plan bytes (Err (At file line what)) asked (e, (w, g, h)) =
       line_known file.now asked.schedule line line what.now (schedule_text w) e refl g (bad_schedule plan bytes asked line w h)
@@ -86,18 +86,18 @@ module _ (call : RunCall) where
 
   -- both files were read, and the replay ended
   pub files_end : (workload schedule : List ℕ) (plan : Plan) (bytes taken : List ℕ) (result : Result Unit Fault)
-      → IsReplay call.words workload schedule → HoldsPlan call.content workload plan
-      → HoldsWithin call.content schedule most_bytes bytes → taken ≡ bytes → ReplayEnds plan taken schedule call.out_before call.out_after result → Ends call result
+      → IsReplay call.words workload schedule → HoldsPlan call.files.content workload plan
+      → HoldsWithin call.files.content schedule most_bytes bytes → taken ≡ bytes → ReplayEnds plan taken schedule call.out.old call.out.new result → Ends call result
   files_end workload schedule plan bytes taken result given planned held e ends =
-      let is_held : Holds call.content schedule taken = subst (Holds call.content schedule) (sym e) held.held in
+      let is_held : Holds call.files.content schedule taken = subst (Holds call.files.content schedule) (sym e) held.held in
       let is_few : length taken ≤ most_bytes = subst (λ n. n ≤ most_bytes) (sym (ap length e)) held.few in
       replay_ends plan taken result (record { workload = workload; schedule = schedule; given = given; of_workload = planned; of_schedule = is_held; size = is_few }) ends
 
   -- ---- print and check
 
   -- the print ended
-  pub print_ends : (workload : List ℕ) (result : Result Unit Fault) → IsPrint call.words workload → ReadsBut call.failed_before call.failed_after result
-      → PrintEnds call.content workload call.out_before call.out_after result → Ends call result
+  pub print_ends : (workload : List ℕ) (result : Result Unit Fault) → IsPrint call.words workload → ReadsBut call.files.failed_old call.files.failed_new result
+      → PrintEnds call.files.content workload call.out.old call.out.new result → Ends call result
   print_ends workload (Ok done) given reads (tree, held, adds) = inr (inl (record { workload = workload; given = given; tree = tree; held = held; taken = adds }))
   print_ends workload (Err (At file line what)) given reads ((e, (w, held, g)), same) =
       line_known file.now workload line line what.now (what_text w) e refl g (no_text workload line w (print workload, given, refl) held same)
@@ -105,8 +105,8 @@ module _ (call : RunCall) where
   print_ends workload (Err fault) given reads h = workload_unread workload fault (print workload, given, refl) h.1 reads h.0
 
   -- the check ended
-  pub check_ends : (workload : List ℕ) (result : Result Unit Fault) → IsCheck call.words workload → ReadsBut call.failed_before call.failed_after result
-      → CheckEnds call.content workload call.out_before call.out_after result → Ends call result
+  pub check_ends : (workload : List ℕ) (result : Result Unit Fault) → IsCheck call.words workload → ReadsBut call.files.failed_old call.files.failed_new result
+      → CheckEnds call.files.content workload call.out.old call.out.new result → Ends call result
   check_ends workload (Ok done) given reads (plan, held, adds) = inr (inr (inl (record { workload = workload; given = given; plan = plan; held = held; taken = adds })))
   check_ends workload (Err Sink) given reads (inl h) = plan_fails workload Sink (check workload, given, refl) reads h
   check_ends workload (Err Sink) given reads (inr (plan, held, front)) = in_check workload plan given held front
@@ -115,7 +115,7 @@ module _ (call : RunCall) where
   -- ---- gen
 
   pub gen_ends : (seed shards txns : ℕ) (part : Part) (result : Result Unit Fault) → IsGen call.words seed shards txns part
-      → GenEnds seed shards txns part call.out_before call.out_after result → Ends call result
+      → GenEnds seed shards txns part call.out.old call.out.new result → Ends call result
   gen_ends seed shards txns part (Ok done) given (text, generated, adds) =
       inr (inr (inr (record { seed = seed; shards = shards; txns = txns; part = part; given = given; text = text; generated = generated; taken = adds })))
   gen_ends seed shards txns part (Err Memory) given same = with_nothing same
@@ -125,12 +125,12 @@ module _ (call : RunCall) where
 -- the end of what was done behind a first step that left all as it was
 pub behind : (words : List (List ℕ)) (later content : List ℕ → Option (List ℕ)) (between before after : Option (List (List ℕ))) (middle old new : Option (List ℕ)) (result : Result Unit Fault)
     → ((name : List ℕ) → later name ≡ content name) → between ≡ before → middle ≡ old
-    → Ends (record { words = words; content = later; failed_before = between; failed_after = after; out_before = middle; out_after = new }) result
-    → Ends (record { words = words; content = content; failed_before = before; failed_after = after; out_before = old; out_after = new }) result
+    → Ends (record { words = words; files = record { content = later; failed_old = between; failed_new = after }; out = record { old = middle; new = new } }) result
+    → Ends (record { words = words; files = record { content = content; failed_old = before; failed_new = after }; out = record { old = old; new = new } }) result
 behind words later content between before after middle old new result same failed untouched ends =
-    subst (λ (o : Option (List ℕ)). Ends (record { words = words; content = content; failed_before = before; failed_after = after; out_before = o; out_after = new }) result) untouched
-    (subst (λ (f : Option (List (List ℕ))). Ends (record { words = words; content = content; failed_before = f; failed_after = after; out_before = middle; out_after = new }) result) failed
-    (subst (λ (c : List ℕ → Option (List ℕ)). Ends (record { words = words; content = c; failed_before = between; failed_after = after; out_before = middle; out_after = new }) result) (fun_ext same) ends))
+    subst (λ (o : Option (List ℕ)). Ends (record { words = words; files = record { content = content; failed_old = before; failed_new = after }; out = record { old = o; new = new } }) result) untouched
+    (subst (λ (f : Option (List (List ℕ))). Ends (record { words = words; files = record { content = content; failed_old = f; failed_new = after }; out = record { old = middle; new = new } }) result) failed
+    (subst (λ (c : List ℕ → Option (List ℕ)). Ends (record { words = words; files = record { content = c; failed_old = between; failed_new = after }; out = record { old = middle; new = new } }) result) (fun_ext same) ends))
 
 -- ---- words that name no command
 

@@ -129,20 +129,20 @@ module _ (laws : TextLaws) (call : RunCall) where
     no_nodes = no_name node_files call.words (replay fit.workload fit.schedule) fit.given refl
 
     replay_right : (line : List ℕ) → IsRefused call line → ⊥
-    replay_right _ (long_workload workload names more same) = not_long laws call.content fit.workload fit.bytes fit.held fit.planned.text.tree fit.planned.text.text workload (the_workload workload names) more
-    replay_right _ (no_text workload line what names held same) = not_faulty laws call.content fit.workload fit.bytes fit.held fit.planned.text.tree fit.planned.text.text workload line what (the_workload workload names) held
-    replay_right _ (out_of_scope workload fault names held same) = in_scope laws call.content fit.workload fit.bytes fit.held fit.plan fit.planned workload fault (the_program workload names) held
+    replay_right _ (long_workload workload names more same) = not_long laws call.files.content fit.workload fit.bytes fit.held fit.planned.text.tree fit.planned.text.text workload (the_workload workload names) more
+    replay_right _ (no_text workload line what names held same) = not_faulty laws call.files.content fit.workload fit.bytes fit.held fit.planned.text.tree fit.planned.text.text workload line what (the_workload workload names) held
+    replay_right _ (out_of_scope workload fault names held same) = in_scope laws call.files.content fit.workload fit.bytes fit.held fit.plan fit.planned workload fault (the_program workload names) held
     replay_right _ (long_schedule workload schedule plan given planned more same) =
-        let past = told_more call.content fit.schedule schedule fit.text most_bytes fit.scheduled (the_schedule workload schedule given) more in
+        let past = told_more call.files.content fit.schedule schedule fit.text most_bytes fit.scheduled (the_schedule workload schedule given) more in
         let size = fit.of_text.schedule.size in
         absurd (omega arith)
     replay_right _ (bad_schedule plan bytes asked number what h) =
-        let e : plan ≡ fit.plan = same_plan laws call.content fit.workload fit.bytes fit.held fit.plan fit.planned asked.workload plan
+        let e : plan ≡ fit.plan = same_plan laws call.files.content fit.workload fit.bytes fit.held fit.plan fit.planned asked.workload plan
         (the_program asked.workload (replay asked.workload asked.schedule, asked.given, refl)) asked.of_workload in
-        let f : fit.text ≡ bytes = told call.content fit.schedule asked.schedule fit.text bytes fit.scheduled (the_schedule asked.workload asked.schedule asked.given) asked.of_schedule in
-        laws.no_text_fault fit.plan fit.text fit.lines fit.of_text fit.sends number what call.out_before call.out_after
-        (subst (λ b. IsTextFault fit.plan b number what call.out_before call.out_after) (sym f)
-        (subst (λ p. IsTextFault p bytes number what call.out_before call.out_after) e h))
+        let f : fit.text ≡ bytes = told call.files.content fit.schedule asked.schedule fit.text bytes fit.scheduled (the_schedule asked.workload asked.schedule asked.given) asked.of_schedule in
+        laws.no_text_fault fit.plan fit.text fit.lines fit.of_text fit.sends number what call.out.old call.out.new
+        (subst (λ b. IsTextFault fit.plan b number what call.out.old call.out.new) (sym f)
+        (subst (λ p. IsTextFault p bytes number what call.out.old call.out.new) e h))
     replay_right _ (long_cluster files plan names planned has more same) = no_nodes files names
     replay_right _ (bad_cluster files plan fault names planned has held same) = no_nodes files names
     replay_right _ (long_requests files plan addrs name names planned has held is more same) = no_nodes files names
@@ -151,7 +151,7 @@ module _ (laws : TextLaws) (call : RunCall) where
     replay_faultless : IsFaultless call
     replay_faultless = record {
       taken = words_taken call (replay fit.workload fit.schedule) fit.given no_nodes;
-      acceptable = λ h. not_rejected laws call.content fit.workload fit.bytes fit.held fit.plan fit.planned h.workload h.program h.said (the_program h.workload h.named) h.held;
+      acceptable = λ h. not_rejected laws call.files.content fit.workload fit.bytes fit.held fit.plan fit.planned h.workload h.program h.said (the_program h.workload h.named) h.held;
       right = replay_right;
     }
 
@@ -166,9 +166,9 @@ module _ (laws : TextLaws) (call : RunCall) where
     checked_alone = no_name node_files call.words (check fit.workload) fit.given refl
 
     check_right : (line : List ℕ) → IsRefused call line → ⊥
-    check_right _ (long_workload workload names more same) = not_long laws call.content fit.workload fit.bytes fit.held fit.planned.text.tree fit.planned.text.text workload (checked_workload workload names) more
-    check_right _ (no_text workload line what names held same) = not_faulty laws call.content fit.workload fit.bytes fit.held fit.planned.text.tree fit.planned.text.text workload line what (checked_workload workload names) held
-    check_right _ (out_of_scope workload fault names held same) = in_scope laws call.content fit.workload fit.bytes fit.held fit.plan fit.planned workload fault (checked_program workload names) held
+    check_right _ (long_workload workload names more same) = not_long laws call.files.content fit.workload fit.bytes fit.held fit.planned.text.tree fit.planned.text.text workload (checked_workload workload names) more
+    check_right _ (no_text workload line what names held same) = not_faulty laws call.files.content fit.workload fit.bytes fit.held fit.planned.text.tree fit.planned.text.text workload line what (checked_workload workload names) held
+    check_right _ (out_of_scope workload fault names held same) = in_scope laws call.files.content fit.workload fit.bytes fit.held fit.plan fit.planned workload fault (checked_program workload names) held
     check_right _ (long_schedule workload schedule plan given planned more same) = unlike ⊥ call.words (replay workload schedule) (check fit.workload) given fit.given refl
     check_right _ (bad_schedule plan bytes asked number what h) = unlike ⊥ call.words (replay asked.workload asked.schedule) (check fit.workload) asked.given fit.given refl
     check_right _ (long_cluster files plan names planned has more same) = checked_alone files names
@@ -179,7 +179,7 @@ module _ (laws : TextLaws) (call : RunCall) where
     check_faultless : IsFaultless call
     check_faultless = record {
       taken = words_taken call (check fit.workload) fit.given checked_alone;
-      acceptable = λ h. not_rejected laws call.content fit.workload fit.bytes fit.held fit.plan fit.planned h.workload h.program h.said (checked_program h.workload h.named) h.held;
+      acceptable = λ h. not_rejected laws call.files.content fit.workload fit.bytes fit.held fit.plan fit.planned h.workload h.program h.said (checked_program h.workload h.named) h.held;
       right = check_right;
     }
 
@@ -194,8 +194,8 @@ module _ (laws : TextLaws) (call : RunCall) where
     printed_alone = no_name node_files call.words (print fit.workload) fit.given refl
 
     print_right : (line : List ℕ) → IsRefused call line → ⊥
-    print_right _ (long_workload workload names more same) = not_long laws call.content fit.workload fit.bytes fit.held fit.tree fit.text workload (printed_workload workload names) more
-    print_right _ (no_text workload line what names held same) = not_faulty laws call.content fit.workload fit.bytes fit.held fit.tree fit.text workload line what (printed_workload workload names) held
+    print_right _ (long_workload workload names more same) = not_long laws call.files.content fit.workload fit.bytes fit.held fit.tree fit.text workload (printed_workload workload names) more
+    print_right _ (no_text workload line what names held same) = not_faulty laws call.files.content fit.workload fit.bytes fit.held fit.tree fit.text workload line what (printed_workload workload names) held
     print_right _ (out_of_scope workload fault names held same) = print_no_program workload names
     print_right _ (long_schedule workload schedule plan given planned more same) = unlike ⊥ call.words (replay workload schedule) (print fit.workload) given fit.given refl
     print_right _ (bad_schedule plan bytes asked number what h) = unlike ⊥ call.words (replay asked.workload asked.schedule) (print fit.workload) asked.given fit.given refl

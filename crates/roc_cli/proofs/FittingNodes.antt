@@ -53,27 +53,27 @@ module _ (laws : TextLaws) (call : RunCall) where
     their_program : (name : List ℕ) → NamesProgram call.words name → name ≡ fit.files.workload
     their_program name names = their_workload name (as_workload call.words name names)
 
-    their_plan : (files : NodeFiles) (plan : Plan) → NamesNodeFiles call.words files → HoldsPlan call.content files.workload plan → plan ≡ fit.plan
+    their_plan : (files : NodeFiles) (plan : Plan) → NamesNodeFiles call.words files → HoldsPlan call.files.content files.workload plan → plan ≡ fit.plan
     their_plan files plan names planned =
-        same_plan laws call.content fit.files.workload fit.bytes fit.held fit.plan fit.planned files.workload plan (ap (λ (f : NodeFiles). f.workload) (their_files files names)) planned
+        same_plan laws call.files.content fit.files.workload fit.bytes fit.held fit.plan fit.planned files.workload plan (ap (λ (f : NodeFiles). f.workload) (their_files files names)) planned
 
     no_replay : (workload schedule : List ℕ) → IsReplay call.words workload schedule → ⊥
     no_replay workload schedule is = no_name node_files call.words (replay workload schedule) is refl fit.files fit.given
 
-    listed_in : (files : NodeFiles) (name : List ℕ) → NamesNodeFiles call.words files → files.requests ≡ Some name → IsListOfRequests call.content fit.plan.program name
+    listed_in : (files : NodeFiles) (name : List ℕ) → NamesNodeFiles call.words files → files.requests ≡ Some name → IsListOfRequests call.files.content fit.plan.program name
     listed_in files name names is =
-        subst (λ o. IfSome o (IsListOfRequests call.content fit.plan.program)) (sym (ap (λ (f : NodeFiles). f.requests) (their_files files names)) ∙ is) fit.listed
+        subst (λ o. IfSome o (IsListOfRequests call.files.content fit.plan.program)) (sym (ap (λ (f : NodeFiles). f.requests) (their_files files names)) ∙ is) fit.listed
 
-    no_bad_cluster : (files : NodeFiles) (plan : Plan) (fault : ClusterFault) → NamesNodeFiles call.words files → HoldsPlan call.content files.workload plan
-        → HoldsNoCluster call.content files.cluster plan.program.shards fault → ⊥
+    no_bad_cluster : (files : NodeFiles) (plan : Plan) (fault : ClusterFault) → NamesNodeFiles call.words files → HoldsPlan call.files.content files.workload plan
+        → HoldsNoCluster call.files.content files.cluster plan.program.shards fault → ⊥
     no_bad_cluster files plan fault names planned held =
         let e : plan ≡ fit.plan = their_plan files plan names planned in
-        let f : fit.text ≡ held.bytes = told call.content fit.files.cluster files.cluster fit.text held.bytes fit.clustered (ap (λ (f : NodeFiles). f.cluster) (their_files files names)) held.held in
+        let f : fit.text ≡ held.bytes = told call.files.content fit.files.cluster files.cluster fit.text held.bytes fit.clustered (ap (λ (f : NodeFiles). f.cluster) (their_files files names)) held.held in
         held.of_bytes (laws.no_cluster_fault fit.plan.program.shards fit.text fit.addrs fault fit.of_text
         (subst (λ b. IsClusterFault fit.plan.program.shards b fault) (sym f) (subst (λ (p : Plan). IsClusterFault p.program.shards held.bytes fault) e held.is)))
 
-    list_is_right : (name : List ℕ) (line : ℕ) (what : What) → IsListOfRequests call.content fit.plan.program name → HoldsNoRequests call.content name fit.plan.program line what → ⊥
-    list_is_right name line what list held = go (subst (λ b. IsRequestsFault fit.plan.program b line what) (sym (told call.content name name list.text held.bytes list.held refl held.held)) held.fault)
+    list_is_right : (name : List ℕ) (line : ℕ) (what : What) → IsListOfRequests call.files.content fit.plan.program name → HoldsNoRequests call.files.content name fit.plan.program line what → ⊥
+    list_is_right name line what list held = go (subst (λ b. IsRequestsFault fit.plan.program b line what) (sym (told call.files.content name name list.text held.bytes list.held refl held.held)) held.fault)
       where
         go : IsRequestsFault fit.plan.program list.text line what → ⊥
         go (no_requests fault) = laws.no_list_fault list.text list.requests line what list.are.are fault
@@ -81,23 +81,23 @@ module _ (laws : TextLaws) (call : RunCall) where
             all_fit_none_unfit fit.plan.program requests line what (subst (FitEach fit.plan.program) (laws.one_list list.text list.requests requests list.are.are are) list.are.fit) unfit
 
     nodes_right : (line : List ℕ) → IsRefused call line → ⊥
-    nodes_right _ (long_workload workload names more same) = not_long laws call.content fit.files.workload fit.bytes fit.held fit.planned.text.tree fit.planned.text.text workload (their_workload workload names) more
-    nodes_right _ (no_text workload line what names held same) = not_faulty laws call.content fit.files.workload fit.bytes fit.held fit.planned.text.tree fit.planned.text.text workload line what (their_workload workload names) held
-    nodes_right _ (out_of_scope workload fault names held same) = in_scope laws call.content fit.files.workload fit.bytes fit.held fit.plan fit.planned workload fault (their_program workload names) held
+    nodes_right _ (long_workload workload names more same) = not_long laws call.files.content fit.files.workload fit.bytes fit.held fit.planned.text.tree fit.planned.text.text workload (their_workload workload names) more
+    nodes_right _ (no_text workload line what names held same) = not_faulty laws call.files.content fit.files.workload fit.bytes fit.held fit.planned.text.tree fit.planned.text.text workload line what (their_workload workload names) held
+    nodes_right _ (out_of_scope workload fault names held same) = in_scope laws call.files.content fit.files.workload fit.bytes fit.held fit.plan fit.planned workload fault (their_program workload names) held
     nodes_right _ (long_schedule workload schedule plan given planned more same) = no_replay workload schedule given
     nodes_right _ (bad_schedule plan bytes asked number what h) = no_replay asked.workload asked.schedule asked.given
     nodes_right _ (long_cluster files plan names planned has more same) =
-        let past = told_more call.content fit.files.cluster files.cluster fit.text text_limit fit.clustered (ap (λ (f : NodeFiles). f.cluster) (their_files files names)) more in
+        let past = told_more call.files.content fit.files.cluster files.cluster fit.text text_limit fit.clustered (ap (λ (f : NodeFiles). f.cluster) (their_files files names)) more in
         let size = fit.few in
         absurd (omega arith)
     nodes_right _ (bad_cluster files plan fault names planned has held same) = no_bad_cluster files plan fault names planned held
     nodes_right _ (long_requests files plan addrs name names planned has held is more same) =
         let list = listed_in files name names is in
-        let past = told_more call.content name name list.text most_bytes list.held refl more in
+        let past = told_more call.files.content name name list.text most_bytes list.held refl more in
         let size = list.few in
         absurd (omega arith)
     nodes_right _ (bad_requests files plan addrs name number what names planned has held is not same) =
-        list_is_right name number what (listed_in files name names is) (subst (λ (p : Plan). HoldsNoRequests call.content name p.program number what) (their_plan files plan names planned) not)
+        list_is_right name number what (listed_in files name names is) (subst (λ (p : Plan). HoldsNoRequests call.files.content name p.program number what) (their_plan files plan names planned) not)
 
     nodes_taken : (line : List ℕ) → AreRefusedWords call line → ⊥
     nodes_taken _ (by_clap text not) = not fit.given.1.taken
@@ -110,7 +110,7 @@ module _ (laws : TextLaws) (call : RunCall) where
     pub nodes_faultless : IsFaultless call
     nodes_faultless = record {
       taken = nodes_taken;
-      acceptable = λ h. not_rejected laws call.content fit.files.workload fit.bytes fit.held fit.plan fit.planned h.workload h.program h.said (their_program h.workload h.named) h.held;
+      acceptable = λ h. not_rejected laws call.files.content fit.files.workload fit.bytes fit.held fit.plan fit.planned h.workload h.program h.said (their_program h.workload h.named) h.held;
       right = nodes_right;
     }
 
@@ -125,10 +125,10 @@ module _ (laws : TextLaws) (call : WholeCall) (missing : MissesShard call.run) w
   same_program name names = same_workload name (as_workload call.run.words name names)
 
   -- no plan of the named workload has the shard
-  nowhere : (files : NodeFiles) (plan : Plan) → NamesNodeFiles call.run.words files → HoldsPlan call.run.content files.workload plan → HasShard files plan → ⊥
+  nowhere : (files : NodeFiles) (plan : Plan) → NamesNodeFiles call.run.words files → HoldsPlan call.run.files.content files.workload plan → HasShard files plan → ⊥
   nowhere files plan names planned has =
       let e : files ≡ missing.files = same_files files names in
-      let p : plan ≡ missing.plan = same_plan laws call.run.content missing.files.workload missing.bytes missing.held missing.plan missing.planned files.workload plan (ap (λ (f : NodeFiles). f.workload) e) planned in
+      let p : plan ≡ missing.plan = same_plan laws call.run.files.content missing.files.workload missing.bytes missing.held missing.plan missing.planned files.workload plan (ap (λ (f : NodeFiles). f.workload) e) planned in
       there_or_past files plan missing.number has (ap (λ (f : NodeFiles). f.shard) e ∙ missing.asked) (subst (λ (q : Plan). q.program.shards ≤ missing.number) (sym p) missing.past)
 
   not_alone : (workload schedule : List ℕ) → IsReplay call.run.words workload schedule → ⊥
@@ -136,11 +136,11 @@ module _ (laws : TextLaws) (call : WholeCall) (missing : MissesShard call.run) w
 
   missing_right : (line : List ℕ) → IsRefused call.run line → ⊥
   missing_right _ (long_workload workload names more same) =
-      not_long laws call.run.content missing.files.workload missing.bytes missing.held missing.planned.text.tree missing.planned.text.text workload (same_workload workload names) more
+      not_long laws call.run.files.content missing.files.workload missing.bytes missing.held missing.planned.text.tree missing.planned.text.text workload (same_workload workload names) more
   missing_right _ (no_text workload line what names held same) =
-      not_faulty laws call.run.content missing.files.workload missing.bytes missing.held missing.planned.text.tree missing.planned.text.text workload line what (same_workload workload names) held
+      not_faulty laws call.run.files.content missing.files.workload missing.bytes missing.held missing.planned.text.tree missing.planned.text.text workload line what (same_workload workload names) held
   missing_right _ (out_of_scope workload fault names held same) =
-      in_scope laws call.run.content missing.files.workload missing.bytes missing.held missing.plan missing.planned workload fault (same_program workload names) held
+      in_scope laws call.run.files.content missing.files.workload missing.bytes missing.held missing.plan missing.planned workload fault (same_program workload names) held
   missing_right _ (long_schedule workload schedule plan given planned more same) = not_alone workload schedule given
   missing_right _ (bad_schedule plan bytes asked number what h) = not_alone asked.workload asked.schedule asked.given
   missing_right _ (long_cluster files plan names planned has more same) = nowhere files plan names planned has
@@ -154,7 +154,7 @@ module _ (laws : TextLaws) (call : WholeCall) (missing : MissesShard call.run) w
   missing_uncut (in_check workload plan given held front) = no_name node_files call.run.words (check workload) given refl missing.files missing.given
   missing_uncut (in_generated seed shards txns part text given generated front) = no_name node_files call.run.words (gen seed shards txns part) given refl missing.files missing.given
   missing_uncut (in_rejection workload program said names held front) =
-      not_rejected laws call.run.content missing.files.workload missing.bytes missing.held missing.plan missing.planned workload program said (same_program workload names) held
+      not_rejected laws call.run.files.content missing.files.workload missing.bytes missing.held missing.plan missing.planned workload program said (same_program workload names) held
 
   missing_unrun : (end : SubmitEnd) → AreNodesEnded call end → ⊥
   missing_unrun end (inl (own, e, h)) =
@@ -176,7 +176,7 @@ module _ (laws : TextLaws) (call : WholeCall) (missing : MissesShard call.run) w
 
   pub shardless : IsShardless call
   shardless = record {
-    acceptable = λ h. not_rejected laws call.run.content missing.files.workload missing.bytes missing.held missing.plan missing.planned h.workload h.program h.said (same_program h.workload h.named) h.held;
+    acceptable = λ h. not_rejected laws call.run.files.content missing.files.workload missing.bytes missing.held missing.plan missing.planned h.workload h.program h.said (same_program h.workload h.named) h.held;
     right = missing_right;
     uncut = missing_uncut;
     unrun = missing_unrun;

@@ -19,10 +19,10 @@ use Rattle.roc_cli.specs.Inner.Ends.{Fails, WholeEnds}
 use Rattle.roc_launch.proofs.Naming.{as_program}
 use Rattle.roc_cli.proofs.Faults.{plan_fails}
 
-module _ (call : RunCall) (files : NodeFiles) (names : NamesNodeFiles call.words files) (plan : Plan) (planned : HoldsPlan call.content files.workload plan) (has : HasShard files plan)
+module _ (call : RunCall) (files : NodeFiles) (names : NamesNodeFiles call.words files) (plan : Plan) (planned : HoldsPlan call.files.content files.workload plan) (has : HasShard files plan)
     (same : TakesNothing call) where
   -- there is no cluster
-  pub cluster_fails : (fault : Fault) → Blames call.failed_before call.failed_after fault → ClusterFails call.content files.cluster plan.program.shards fault → Fails call fault
+  pub cluster_fails : (fault : Fault) → Blames call.files.failed_old call.files.failed_new fault → ClusterFails call.files.content files.cluster plan.program.shards fault → Fails call fault
   cluster_fails (Cluster file fault) blames (e, held) = subst (λ n. IsRefused call (text_line n (cluster_text fault))) (sym e) (bad_cluster files plan fault names planned has held same)
   cluster_fails (TooLong file) blames (e, more) = subst (λ n. IsRefused call (long_line n)) (sym e) (long_cluster files plan names planned has more same)
   cluster_fails (File file) blames e = record { input = the_cluster files plan names planned has (sym e); only = blames; untouched = same }
@@ -30,8 +30,8 @@ module _ (call : RunCall) (files : NodeFiles) (names : NamesNodeFiles call.words
   cluster_fails _ blames h = absurd h
 
   -- there are no requests
-  module _ (addrs : List Addr) (held : HoldsCluster call.content files.cluster plan.program.shards addrs) (name : List ℕ) (is : files.requests ≡ Some name) where
-    pub requests_fail : (fault : Fault) → Blames call.failed_before call.failed_after fault → RequestsFail call.content name plan.program fault → Fails call fault
+  module _ (addrs : List Addr) (held : HoldsCluster call.files.content files.cluster plan.program.shards addrs) (name : List ℕ) (is : files.requests ≡ Some name) where
+    pub requests_fail : (fault : Fault) → Blames call.files.failed_old call.files.failed_new fault → RequestsFail call.files.content name plan.program fault → Fails call fault
     requests_fail (At file line what) blames (e, (w, not, g)) =
         subst (λ n. IsRefused call (fault_line n line what.now)) (sym e)
         (subst (λ t. IsRefused call (fault_line name line t)) (sym g) (bad_requests files plan addrs name line w names planned has held is not same))
@@ -41,8 +41,8 @@ module _ (call : RunCall) (files : NodeFiles) (names : NamesNodeFiles call.words
     requests_fail _ blames h = absurd h
 
 -- the files do not hold what is needed
-pub nodes_fail : (call : RunCall) (files : NodeFiles) (fault : Fault) → NamesNodeFiles call.words files → Blames call.failed_before call.failed_after fault
-    → NodesFail call.content files call.out_before call.out_after fault → Fails call fault
+pub nodes_fail : (call : RunCall) (files : NodeFiles) (fault : Fault) → NamesNodeFiles call.words files → Blames call.files.failed_old call.files.failed_new fault
+    → NodesFail call.files.content files call.out.old call.out.new fault → Fails call fault
 nodes_fail call files _ names blames (by_workload fault fails) = plan_fails call files.workload fault (as_program call.words files names) blames fails
 nodes_fail call files _ names blames (by_shard lacks same) = (same, no_shard files names lacks)
 nodes_fail call files _ names blames (by_cluster plan fault planned has fails same) = cluster_fails call files names plan planned has same fault blames fails
@@ -50,7 +50,7 @@ nodes_fail call files _ names blames (by_requests plan addrs name fault planned 
     requests_fail call files names plan planned has same addrs held name is fault blames fails
 
 -- a command with nodes ended
-pub launched : (call : WholeCall) (result : Result Unit Fault) → ReadsBut call.run.failed_before call.run.failed_after result → IsLaunched call result → WholeEnds call result
+pub launched : (call : WholeCall) (result : Result Unit Fault) → ReadsBut call.run.files.failed_old call.run.files.failed_new result → IsLaunched call result → WholeEnds call result
 launched call (Ok done) reads h = inr h
 launched call (Err fault) reads (inl (files, names, fails)) = inl (nodes_fail call.run files fault names reads fails)
 launched call (Err fault) reads (inr h) = inr h

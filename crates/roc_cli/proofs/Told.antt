@@ -80,7 +80,7 @@ module _ (call : WholeCall) (err : Errors) where
   said_refused status line h read (inr (e, says)) = ended status 4 (line_of Memory) e says (memory (inl (refused_out call.run line h)) read)
 
   -- each fault, told: one that comes without nodes, and one that comes of them
-  said : (fault : Fault) (status : ℕ) → Fails call.run fault → Blames call.run.failed_before call.run.failed_after fault → IsTold fault status err → IsSaid call err status
+  said : (fault : Fault) (status : ℕ) → Fails call.run fault → Blames call.run.files.failed_old call.run.files.failed_new fault → IsTold fault status err → IsSaid call err status
   said Rejected status h read e = silent status 1 (line_of Rejected) e (inl refl) (rejected h read)
   said (Refused text) status none read (e, says) = ended status 2 (line_of (Refused text)) e says (no_words (line_of (Refused text)) none read)
   said (Value name) status none read (e, says) = ended status 2 (line_of (Value name)) e says (no_words (line_of (Value name)) none read)
@@ -98,7 +98,7 @@ module _ (call : WholeCall) (err : Errors) where
   said_child status shard own h read (inl (e, says)) = ended status 9 (line_of (Child shard own)) e says (child shard own h read)
   said_child status shard own h read (inr (e, says)) = ended status 4 (line_of Memory) e says (memory (inr (inr (shard, own, h))) read)
 
-  said_of_nodes : (fault : Fault) (status : ℕ) → LoopEnded (AreNodesEnded call) (IsChildBlamed call) (Err fault) → Blames call.run.failed_before call.run.failed_after fault → IsTold fault status err → IsSaid call err status
+  said_of_nodes : (fault : Fault) (status : ℕ) → LoopEnded (AreNodesEnded call) (IsChildBlamed call) (Err fault) → Blames call.run.files.failed_old call.run.files.failed_new fault → IsTold fault status err → IsSaid call err status
   said_of_nodes Memory status h read (e, says) = ended status 4 (line_of Memory) e says (memory (inr (inl h)) read)
   said_of_nodes Unanswered status h read e = silent status 5 (line_of Unanswered) e (inr refl) (unanswered h read)
   said_of_nodes Sink status h read (e, says) = ended status 7 (line_of Sink) e says (cut (inr h) read)
@@ -106,7 +106,7 @@ module _ (call : WholeCall) (err : Errors) where
   said_of_nodes (Child shard own) status h read told = said_child status shard own h read told
   said_of_nodes _ status h blames told = absurd h
 
-  said_whole : (fault : Fault) (status : ℕ) → WholeEnds call (Err fault) → Blames call.run.failed_before call.run.failed_after fault → IsTold fault status err → IsSaid call err status
+  said_whole : (fault : Fault) (status : ℕ) → WholeEnds call (Err fault) → Blames call.run.files.failed_old call.run.files.failed_new fault → IsTold fault status err → IsSaid call err status
   said_whole fault status (inl h) blames told = said fault status h blames told
   said_whole fault status (inr h) blames told = said_of_nodes fault status h blames told
 
@@ -228,7 +228,7 @@ module _ (call : WholeCall) (err : Errors) where
   of_missing _ _ (cut_off h read) is = absurd (is.unrun submit_end.LinkFault h)
   of_missing _ _ (child shard own h read) is = absurd (is.no_child shard own h)
 
-  pub fault_answers : (fault : Fault) (status : ℕ) → AreFitting call → WholeEnds call (Err fault) → Blames call.run.failed_before call.run.failed_after fault → IsTold fault status err → Answers call err status
+  pub fault_answers : (fault : Fault) (status : ℕ) → AreFitting call → WholeEnds call (Err fault) → Blames call.run.files.failed_old call.run.files.failed_new fault → IsTold fault status err → Answers call err status
   fault_answers fault status laws fails blames told =
       let h : IsSaid call err status = said_whole fault status fails blames told in
       record {
@@ -242,7 +242,7 @@ module _ (call : WholeCall) (err : Errors) where
         submitted = not_done (AreSubmitWords call.run.words → SubmitEnded call.run call.link submit_end.Done) status h.line h.is;
         stopped = not_done (AreStopWords call.run.words → StopEnded call.run call.link stop_end.Done) status h.line h.is;
         ran = not_done (AreLocalWords call.run.words → LocalEnded call.run call.link call.children local_end.Done) status h.line h.is;
-        childless = not_done (call.children.faults_after ≡ call.children.faults_before) status h.line h.is;
+        childless = not_done (call.children.faults_new ≡ call.children.faults_old) status h.line h.is;
         complete = λ fit. at_fitting status h.line h.is (fit_names_no_nodes call.run fit) (laws.files fit);
         complete_nodes = λ fit. at_fitting_nodes status h.line h.is (laws.nodes fit);
         rejected = at_rejected status h.line h.is;
@@ -330,7 +330,7 @@ module _ (call : WholeCall) where
   shardless_undone is (inl h) = is.undone h
   shardless_undone is (inr h) = is.unrun submit_end.Done h
 
-  pub done_answers : (err : Errors) → AreFitting call → WholeEnds call (Ok tt) → ReadsAll call.run → call.children.faults_after ≡ call.children.faults_before → Answers call err 0
+  pub done_answers : (err : Errors) → AreFitting call → WholeEnds call (Ok tt) → ReadsAll call.run → call.children.faults_new ≡ call.children.faults_old → Answers call err 0
   done_answers err laws done read childless = record {
     statuses = omega arith;
     replayed = λ _ are. replay_done done are;

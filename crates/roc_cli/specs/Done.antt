@@ -29,8 +29,8 @@ pub record IsReplayOf (call : RunCall) (plan : Plan) (bytes : List ℕ) : Type 0
   pub workload : List ℕ
   pub schedule : List ℕ
   pub given : IsReplay call.words workload schedule
-  pub of_workload : HoldsPlan call.content workload plan
-  pub of_schedule : Holds call.content schedule bytes
+  pub of_workload : HoldsPlan call.files.content workload plan
+  pub of_schedule : Holds call.files.content schedule bytes
   pub size : length bytes ≤ most_bytes
 
 -- standard output took the report of the run of exactly the named schedule, under the plan of the named workload
@@ -39,7 +39,7 @@ pub record Replays (call : RunCall) : Type 0 where
   pub bytes : List ℕ
   pub asked : IsReplayOf call plan bytes
   pub summary : Summary
-  pub replayed : IsReplayed plan bytes summary call.out_before call.out_after
+  pub replayed : IsReplayed plan bytes summary call.out.old call.out.new
 
 -- standard output took lines that explain themselves: the one order that they show is a serial witness of the history that they show
 pub record Explains (call : RunCall) : Type 0 where
@@ -47,7 +47,7 @@ pub record Explains (call : RunCall) : Type 0 where
   pub bytes : List ℕ
   pub asked : IsReplayOf call plan bytes
   pub lines : List Line
-  pub taken : Adds call.out_before call.out_after (lines_text plan.program lines)
+  pub taken : Adds call.out.old call.out.new (lines_text plan.program lines)
   pub explained : IsExplained plan.program lines
 
 -- ---- print
@@ -57,8 +57,8 @@ pub record Prints (call : RunCall) : Type 0 where
   pub workload : List ℕ
   pub given : IsPrint call.words workload
   pub tree : Tree
-  pub held : HoldsText call.content workload tree
-  pub taken : Adds call.out_before call.out_after (canonical tree)
+  pub held : HoldsText call.files.content workload tree
+  pub taken : Adds call.out.old call.out.new (canonical tree)
 
 -- ---- check
 
@@ -67,8 +67,8 @@ pub record Checks (call : RunCall) : Type 0 where
   pub workload : List ℕ
   pub given : IsCheck call.words workload
   pub plan : Plan
-  pub held : HoldsPlan call.content workload plan
-  pub taken : Adds call.out_before call.out_after (check_text plan)
+  pub held : HoldsPlan call.files.content workload plan
+  pub taken : Adds call.out.old call.out.new (check_text plan)
 
 -- ---- a workload that is not acceptable
 
@@ -78,8 +78,8 @@ pub record Rejects (call : RunCall) : Type 0 where
   pub named : NamesProgram call.words workload
   pub program : Workload
   pub said : Line
-  pub held : HoldsRejected call.content workload program said
-  pub taken : Adds call.out_before call.out_after (line_text program said)
+  pub held : HoldsRejected call.files.content workload program said
+  pub taken : Adds call.out.old call.out.new (line_text program said)
 
 -- ---- gen
 
@@ -99,4 +99,4 @@ pub record Generates (call : RunCall) : Type 0 where
   pub given : IsGen call.words seed shards txns part
   pub text : List ℕ
   pub generated : IsGenerated seed shards txns part text
-  pub taken : Adds call.out_before call.out_after text
+  pub taken : Adds call.out.old call.out.new text

@@ -33,11 +33,11 @@ pub record ReplayFits (call : RunCall) : Type 0 where
   pub schedule : List ℕ
   pub given : IsReplay call.words workload schedule
   pub bytes : List ℕ
-  pub held : call.content workload ≡ Some bytes
+  pub held : call.files.content workload ≡ Some bytes
   pub plan : Plan
   pub planned : IsPlanOfText bytes plan
   pub text : List ℕ
-  pub scheduled : call.content schedule ≡ Some text
+  pub scheduled : call.files.content schedule ≡ Some text
   pub lines : List Asked
   pub of_text : IsScheduleOf plan.program text lines
   pub sends : DeliversOnlySent plan lines
@@ -47,7 +47,7 @@ pub record CheckFits (call : RunCall) : Type 0 where
   pub workload : List ℕ
   pub given : IsCheck call.words workload
   pub bytes : List ℕ
-  pub held : call.content workload ≡ Some bytes
+  pub held : call.files.content workload ≡ Some bytes
   pub plan : Plan
   pub planned : IsPlanOfText bytes plan
 
@@ -56,7 +56,7 @@ pub record PrintFits (call : RunCall) : Type 0 where
   pub workload : List ℕ
   pub given : IsPrint call.words workload
   pub bytes : List ℕ
-  pub held : call.content workload ≡ Some bytes
+  pub held : call.files.content workload ≡ Some bytes
   pub tree : Tree
   pub text : IsWorkloadText bytes tree
 
@@ -65,23 +65,23 @@ pub record NodesFit (call : RunCall) : Type 0 where
   pub files : NodeFiles
   pub given : NamesNodeFiles call.words files
   pub bytes : List ℕ
-  pub held : call.content files.workload ≡ Some bytes
+  pub held : call.files.content files.workload ≡ Some bytes
   pub plan : Plan
   pub planned : IsPlanOfText bytes plan
   pub has_shard : HasShard files plan
   pub text : List ℕ
-  pub clustered : call.content files.cluster ≡ Some text
+  pub clustered : call.files.content files.cluster ≡ Some text
   pub few : length text ≤ text_limit
   pub addrs : List Addr
   pub of_text : IsClusterFile plan.program.shards text addrs
-  pub listed : IfSome files.requests (IsListOfRequests call.content plan.program)
+  pub listed : IfSome files.requests (IsListOfRequests call.files.content plan.program)
 
 -- the words ask to serve a shard that the named workload does not have
 pub record MissesShard (call : RunCall) : Type 0 where
   pub files : NodeFiles
   pub given : NamesNodeFiles call.words files
   pub bytes : List ℕ
-  pub held : call.content files.workload ≡ Some bytes
+  pub held : call.files.content files.workload ≡ Some bytes
   pub plan : Plan
   pub planned : IsPlanOfText bytes plan
   pub number : ℕ

@@ -28,28 +28,28 @@ use Rattle.roc_files.specs.Says.{word_line, long_line, text_line, fault_line}
 pub data AreRefusedWords (call : RunCall) : List ℕ → Type 0 where
   by_clap : (text : List ℕ) → (IsTakenByClap call.words → ⊥) → AreRefusedWords call text
   no_value : (name : ValueName) → HaveNoValue call.words name → AreRefusedWords call (word_line (value_text name))
-  no_shard : (files : NodeFiles) → NamesNodeFiles call.words files → LacksShard call.content files → AreRefusedWords call (word_line (codes "shard"))
+  no_shard : (files : NodeFiles) → NamesNodeFiles call.words files → LacksShard call.files.content files → AreRefusedWords call (word_line (codes "shard"))
 
 -- the first file that is too long, no text of its grammar or out of scope, or does not fit the plan or the run, with its line on standard
 -- error, and what standard output took before
 pub data IsRefused (call : RunCall) : List ℕ → Type 0 where
-  long_workload : (workload : List ℕ) → NamesWorkload call.words workload → HoldsMore call.content workload text_limit → TakesNothing call
+  long_workload : (workload : List ℕ) → NamesWorkload call.words workload → HoldsMore call.files.content workload text_limit → TakesNothing call
       → IsRefused call (long_line workload)
-  no_text : (workload : List ℕ) (line : ℕ) (what : What) → NamesWorkload call.words workload → HoldsFault call.content workload line what → TakesNothing call
+  no_text : (workload : List ℕ) (line : ℕ) (what : What) → NamesWorkload call.words workload → HoldsFault call.files.content workload line what → TakesNothing call
       → IsRefused call (fault_line workload line (what_text what))
-  out_of_scope : (workload : List ℕ) (fault : Fault) → NamesProgram call.words workload → HoldsMisuse call.content workload fault → TakesNothing call
+  out_of_scope : (workload : List ℕ) (fault : Fault) → NamesProgram call.words workload → HoldsMisuse call.files.content workload fault → TakesNothing call
       → IsRefused call (fault_line workload fault.line (kind_text fault.kind))
-  long_schedule : (workload schedule : List ℕ) (plan : Plan) → IsReplay call.words workload schedule → HoldsPlan call.content workload plan → HoldsMore call.content schedule most_bytes → TakesNothing call
-      → IsRefused call (long_line schedule)
-  bad_schedule : (plan : Plan) (bytes : List ℕ) (asked : IsReplayOf call plan bytes) (number : ℕ) (what : ScheduleWhat) → IsTextFault plan bytes number what call.out_before call.out_after
+  long_schedule : (workload schedule : List ℕ) (plan : Plan) → IsReplay call.words workload schedule → HoldsPlan call.files.content workload plan
+      → HoldsMore call.files.content schedule most_bytes → TakesNothing call → IsRefused call (long_line schedule)
+  bad_schedule : (plan : Plan) (bytes : List ℕ) (asked : IsReplayOf call plan bytes) (number : ℕ) (what : ScheduleWhat) → IsTextFault plan bytes number what call.out.old call.out.new
       → IsRefused call (fault_line asked.schedule number (schedule_text what))
-  long_cluster : (files : NodeFiles) (plan : Plan) → NamesNodeFiles call.words files → HoldsPlan call.content files.workload plan → HasShard files plan
-      → HoldsMore call.content files.cluster text_limit → TakesNothing call → IsRefused call (long_line files.cluster)
-  bad_cluster : (files : NodeFiles) (plan : Plan) (fault : ClusterFault) → NamesNodeFiles call.words files → HoldsPlan call.content files.workload plan → HasShard files plan
-      → HoldsNoCluster call.content files.cluster plan.program.shards fault → TakesNothing call → IsRefused call (text_line files.cluster (cluster_text fault))
-  long_requests : (files : NodeFiles) (plan : Plan) (addrs : List Addr) (name : List ℕ) → NamesNodeFiles call.words files → HoldsPlan call.content files.workload plan → HasShard files plan
-      → HoldsCluster call.content files.cluster plan.program.shards addrs → files.requests ≡ Some name
-      → HoldsMore call.content name most_bytes → TakesNothing call → IsRefused call (long_line name)
+  long_cluster : (files : NodeFiles) (plan : Plan) → NamesNodeFiles call.words files → HoldsPlan call.files.content files.workload plan → HasShard files plan
+      → HoldsMore call.files.content files.cluster text_limit → TakesNothing call → IsRefused call (long_line files.cluster)
+  bad_cluster : (files : NodeFiles) (plan : Plan) (fault : ClusterFault) → NamesNodeFiles call.words files → HoldsPlan call.files.content files.workload plan → HasShard files plan
+      → HoldsNoCluster call.files.content files.cluster plan.program.shards fault → TakesNothing call → IsRefused call (text_line files.cluster (cluster_text fault))
+  long_requests : (files : NodeFiles) (plan : Plan) (addrs : List Addr) (name : List ℕ) → NamesNodeFiles call.words files → HoldsPlan call.files.content files.workload plan
+      → HasShard files plan → HoldsCluster call.files.content files.cluster plan.program.shards addrs → files.requests ≡ Some name
+      → HoldsMore call.files.content name most_bytes → TakesNothing call → IsRefused call (long_line name)
   bad_requests : (files : NodeFiles) (plan : Plan) (addrs : List Addr) (name : List ℕ) (number : ℕ) (what : ScheduleWhat) → NamesNodeFiles call.words files
-      → HoldsPlan call.content files.workload plan → HasShard files plan → HoldsCluster call.content files.cluster plan.program.shards addrs → files.requests ≡ Some name
-      → HoldsNoRequests call.content name plan.program number what → TakesNothing call → IsRefused call (fault_line name number (schedule_text what))
+      → HoldsPlan call.files.content files.workload plan → HasShard files plan → HoldsCluster call.files.content files.cluster plan.program.shards addrs → files.requests ≡ Some name
+      → HoldsNoRequests call.files.content name plan.program number what → TakesNothing call → IsRefused call (fault_line name number (schedule_text what))

@@ -33,7 +33,7 @@ pub record Answers (call : WholeCall) (err : Errors) (status : ℕ) : Type 0 whe
   pub stopped : status ≡ 0 → AreStopWords call.run.words → StopEnded call.run call.link stop_end.Done
   -- ..or servers were started, each request has its reply, and the servers ended well
   pub ran : status ≡ 0 → AreLocalWords call.run.words → LocalEnded call.run call.link call.children local_end.Done
-  pub childless : status ≡ 0 → call.children.faults_after ≡ call.children.faults_before
+  pub childless : status ≡ 0 → call.children.faults_new ≡ call.children.faults_old
   -- a command whose words and files fit is done, unless memory, a file or standard output failed it
   pub complete : IsFit call.run → (status ≡ 0) ⊎ ((status ≡ 4) ⊎ ((status ≡ 6) ⊎ (status ≡ 7)))
   -- ..and one with nodes is done, or as far as its turns led, unless the link failed it too

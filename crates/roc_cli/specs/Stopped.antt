@@ -20,30 +20,33 @@ use Rattle.roc_files.specs.Input.{check_text}
 -- the cluster file is one of the workload
 pub data IsInput (call : RunCall) (name : List ℕ) : Type 0 where
   the_workload : NamesWorkload call.words name → IsInput call name
-  the_schedule : (workload : List ℕ) (plan : Plan) → IsReplay call.words workload name → HoldsPlan call.content workload plan → IsInput call name
-  the_cluster : (files : NodeFiles) (plan : Plan) → NamesNodeFiles call.words files → HoldsPlan call.content files.workload plan → HasShard files plan → files.cluster ≡ name → IsInput call name
-  the_requests : (files : NodeFiles) (plan : Plan) (addrs : List Addr) → NamesNodeFiles call.words files → HoldsPlan call.content files.workload plan → HasShard files plan
-      → HoldsCluster call.content files.cluster plan.program.shards addrs → files.requests ≡ Some name → IsInput call name
+  the_schedule : (workload : List ℕ) (plan : Plan) → IsReplay call.words workload name → HoldsPlan call.files.content workload plan → IsInput call name
+  the_cluster : (files : NodeFiles) (plan : Plan) → NamesNodeFiles call.words files → HoldsPlan call.files.content files.workload plan → HasShard files plan
+      → files.cluster ≡ name → IsInput call name
+  the_requests : (files : NodeFiles) (plan : Plan) (addrs : List Addr) → NamesNodeFiles call.words files → HoldsPlan call.files.content files.workload plan → HasShard files plan
+      → HoldsCluster call.files.content files.cluster plan.program.shards addrs → files.requests ≡ Some name → IsInput call name
 
 -- the file of this name could not be read, and no other read failed; standard output took nothing
 pub record IsUnread (call : RunCall) (name : List ℕ) : Type 0 where
   pub input : IsInput call name
-  pub only : Adds call.failed_before call.failed_after (name ∷ [])
+  pub only : Adds call.files.failed_old call.files.failed_new (name ∷ [])
   pub untouched : TakesNothing call
 
 -- memory ran out: standard output took nothing, or the whole text of some first lines of the named schedule
 pub data RunsOut (call : RunCall) : Type 0 where
   with_nothing : TakesNothing call → RunsOut call
-  with_lines : (plan : Plan) (bytes : List ℕ) → IsReplayOf call plan bytes → IsUnfinished plan bytes call.out_before call.out_after → RunsOut call
+  with_lines : (plan : Plan) (bytes : List ℕ) → IsReplayOf call plan bytes → IsUnfinished plan bytes call.out.old call.out.new → RunsOut call
 
 -- standard output failed at a text that was due, and took a front of it: of the named workload's canonical text, the text of its check or the
 -- line that says why it is not acceptable, of what was to be generated, or of a next line's or the closing lines' text in the report of the
 -- named schedule
 pub data CutsOutput (call : RunCall) : Type 0 where
-  in_report : (plan : Plan) (bytes : List ℕ) → IsReplayOf call plan bytes → IsCut plan bytes call.out_before call.out_after → CutsOutput call
-  in_text : (workload : List ℕ) (tree : Tree) → IsPrint call.words workload → HoldsText call.content workload tree → AddsFront call.out_before call.out_after (canonical tree) → CutsOutput call
-  in_check : (workload : List ℕ) (plan : Plan) → IsCheck call.words workload → HoldsPlan call.content workload plan → AddsFront call.out_before call.out_after (check_text plan) → CutsOutput call
-  in_rejection : (workload : List ℕ) (program : Workload) (said : Line) → NamesProgram call.words workload → HoldsRejected call.content workload program said
-      → AddsFront call.out_before call.out_after (line_text program said) → CutsOutput call
+  in_report : (plan : Plan) (bytes : List ℕ) → IsReplayOf call plan bytes → IsCut plan bytes call.out.old call.out.new → CutsOutput call
+  in_text : (workload : List ℕ) (tree : Tree) → IsPrint call.words workload → HoldsText call.files.content workload tree
+      → AddsFront call.out.old call.out.new (canonical tree) → CutsOutput call
+  in_check : (workload : List ℕ) (plan : Plan) → IsCheck call.words workload → HoldsPlan call.files.content workload plan
+      → AddsFront call.out.old call.out.new (check_text plan) → CutsOutput call
+  in_rejection : (workload : List ℕ) (program : Workload) (said : Line) → NamesProgram call.words workload → HoldsRejected call.files.content workload program said
+      → AddsFront call.out.old call.out.new (line_text program said) → CutsOutput call
   in_generated : (seed shards txns : ℕ) (part : Part) (text : List ℕ) → IsGen call.words seed shards txns part → IsGenerated seed shards txns part text
-      → AddsFront call.out_before call.out_after text → CutsOutput call
+      → AddsFront call.out.old call.out.new text → CutsOutput call

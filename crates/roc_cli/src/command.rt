@@ -1,12 +1,15 @@
 //! What the program does for its words.
 ghost use Rattle.std.specs.Prelude.{◌≡◌, ℕ, ◌<◌, ◌==◌, IsTrue, List, Option, false, map, string_bytes};
+ghost use Rattle.roc_io.specs.Call.{children_call, link_call};
 ghost use Rattle.roc_io.specs.Cause.{HasCause};
 ghost use Rattle.roc_words.specs.Answer.{AreWordsOf};
 ghost use Rattle.roc_words.specs.Commands.{IsWithin, command_of};
+ghost use Rattle.roc_launch.specs.Call.{run_call};
 ghost use Rattle.roc_launch.specs.Words.{IsReplay, NamesNodes, needs_nodes};
 ghost use Rattle.roc_files.specs.Held.{HoldsPlan};
 ghost use Rattle.roc_cli.specs.Status.{Answers, IsQuiet};
 ghost use Rattle.roc_files.specs.Fault.{blames_file, blames_sink, blames_link, Blames, ReadsBut, fails_by};
+ghost use Rattle.roc_files.specs.Says.{errors};
 ghost use Rattle.roc_launch.specs.Ends.{precedes_loop, CountsChildren};
 ghost use Rattle.roc_cli.specs.Inner.Ends.{Ends, WholeEnds, ReplayEnds, fault_of_words};
 
@@ -38,30 +41,11 @@ pub fn run<F: Files, S: Sink, E: Sink, L: Link, P: Spawner>(
     // What each status says of the words, of what the named files hold, of what standard output and standard error took, and of the link.
     ensures answers { Answers
         (record {
-          run = record {
-            words = map string_bytes words.now;
-            content = F.content files.old;
-            failed_before = F.failed_names files.old;
-            failed_after = F.failed_names files.new;
-            out_before = S.taken out.old;
-            out_after = S.taken out.new;
-          };
-          link = record {
-            bound_before = L.bound link.old;
-            bound_after = L.bound link.new;
-            before = record { arrivals = L.arrivals link.old; sent = L.sent link.old; lost = L.lost link.old };
-            after = record { arrivals = L.arrivals link.new; sent = L.sent link.new; lost = L.lost link.new };
-          };
-          children = record {
-            started_before = P.started children.old;
-            started_after = P.started children.new;
-            awaited_before = P.awaited children.old;
-            awaited_after = P.awaited children.new;
-            faults_before = P.faults children.old;
-            faults_after = P.faults children.new;
-          };
+          run = run_call F.Files S.Sink (map string_bytes words.now) files.old files.new out.old out.new;
+          link = link_call L.Link link.old link.new;
+          children = children_call P.Spawner children.old children.new;
         })
-        (record { before = E.taken err.old; after = E.taken err.new; faults_before = E.faults err.old; faults_after = E.faults err.new })
+        (errors E.Sink err.old err.new)
         result }
     ensures silent { result < 2 → err.new ≡ err.old }
     ensures unsaid { result ≡ 5 → err.new ≡ err.old }
@@ -91,7 +75,11 @@ fn perform<'a, F: Files, S: Sink, L: Link, P: Spawner>(
     link: &mut L,
     children: &mut P,
 ) -> Result<(), Fault<'a>>
-    ensures ends { WholeEnds (record { run = (record { words = map string_bytes words.entry.now; content = F.content files.old; failed_before = F.failed_names files.old; failed_after = F.failed_names files.new; out_before = S.taken out.old; out_after = S.taken out.new }); link = (record { bound_before = L.bound link.old; bound_after = L.bound link.new; before = record { arrivals = L.arrivals link.old; sent = L.sent link.old; lost = L.lost link.old }; after = record { arrivals = L.arrivals link.new; sent = L.sent link.new; lost = L.lost link.new } }); children = record { started_before = P.started children.old; started_after = P.started children.new; awaited_before = P.awaited children.old; awaited_after = P.awaited children.new; faults_before = P.faults children.old; faults_after = P.faults children.new } }) result }
+    ensures ends { WholeEnds (record {
+      run = run_call F.Files S.Sink (map string_bytes words.entry.now) files.old files.new out.old out.new;
+      link = link_call L.Link link.old link.new;
+      children = children_call P.Spawner children.old children.new;
+    }) result }
     ensures untouched { IsTrue (fails_by precedes_loop result) → (link.new ≡ link.old) × (children.new ≡ children.old) }
     ensures quiet { (NamesNodes (map string_bytes words.entry.now) → ⊥) → (link.new ≡ link.old) × (children.new ≡ children.old) }
     ensures childless { CountsChildren result (P.faults children.old) (P.faults children.new) }
@@ -137,7 +125,8 @@ fn perform_alone<'a, F: Files, S: Sink>(
 ) -> Result<(), Fault<'a>>
     requires alone { needs_nodes (command_of asked) ≡ false }
     requires within { IsWithin (command_of asked) }
-    ensures ends { (words : List (List ℕ)) → AreWordsOf words (command_of asked.entry) → Ends (record { words = words; content = F.content files.old; failed_before = F.failed_names files.old; failed_after = F.failed_names files.new; out_before = S.taken out.old; out_after = S.taken out.new }) result }
+    ensures ends { (words : List (List ℕ)) → AreWordsOf words (command_of asked.entry)
+        → Ends (run_call F.Files S.Sink words files.old files.new out.old out.new) result }
     ensures failed { ReadsBut (F.failed_names files.old) (F.failed_names files.new) result }
     ensures file_faults { HasCause (fails_by blames_file result) (F.faults files.old) (F.faults files.new) }
     ensures sink_faults { HasCause (fails_by blames_sink result) (S.faults out.old) (S.faults out.new) }
@@ -168,7 +157,8 @@ fn replay_files<'a, F: Files, S: Sink>(
     files: &mut F,
     out: &mut S,
 ) -> Result<(), Fault<'a>>
-    ensures ends { (words : List (List ℕ)) → IsReplay words workload.entry.now schedule.entry.now → Ends (record { words = words; content = F.content files.old; failed_before = F.failed_names files.old; failed_after = F.failed_names files.new; out_before = S.taken out.old; out_after = S.taken out.new }) result }
+    ensures ends { (words : List (List ℕ)) → IsReplay words workload.entry.now schedule.entry.now
+        → Ends (run_call F.Files S.Sink words files.old files.new out.old out.new) result }
     ensures failed { ReadsBut (F.failed_names files.old) (F.failed_names files.new) result }
     ensures file_faults { HasCause (fails_by blames_file result) (F.faults files.old) (F.faults files.new) }
     ensures sink_faults { HasCause (fails_by blames_sink result) (S.faults out.old) (S.faults out.new) }
@@ -188,7 +178,8 @@ fn replay_schedule<'a, F: Files, S: Sink>(
     files: &mut F,
     out: &mut S,
 ) -> Result<(), Fault<'a>>
-    ensures ends { (words : List (List ℕ)) (workload : List ℕ) → IsReplay words workload schedule.entry.now → HoldsPlan (F.content files.old) workload plan.now → Ends (record { words = words; content = F.content files.old; failed_before = F.failed_names files.old; failed_after = F.failed_names files.new; out_before = S.taken out.old; out_after = S.taken out.new }) result }
+    ensures ends { (words : List (List ℕ)) (workload : List ℕ) → IsReplay words workload schedule.entry.now → HoldsPlan (F.content files.old) workload plan.now
+        → Ends (run_call F.Files S.Sink words files.old files.new out.old out.new) result }
     ensures failed { ReadsBut (F.failed_names files.old) (F.failed_names files.new) result }
     ensures file_faults { HasCause (fails_by blames_file result) (F.faults files.old) (F.faults files.new) }
     ensures sink_faults { HasCause (fails_by blames_sink result) (S.faults out.old) (S.faults out.new) }

@@ -2,15 +2,19 @@
 use Rattle.std.specs.Prelude.{ℕ, List, [], ◌∷◌, ◌++◌, Option, Some, None, codes}
 use Rattle.std.specs.Fmt.{decimal}
 use Rattle.roc_io.specs.declared.sink.Written.{Written}
+use Rattle.roc_io.specs.declared.sink.Sink.{Ghosts as SinkOf}
+use Rattle.roc_io.specs.Call.{SinkCall, sink_call}
 use Rattle.roc_io.specs.Cause.{HasCause}
 use Rattle.roc_io.specs.Sink.{write_failed, Takes}
 
--- what standard error took, as far as that is told, and how many of its writes failed
+-- what standard error took before and after a call, as far as that is told, and how many of its writes failed
 pub record Errors : Type 0 where
-  pub before : Option (List ℕ)
-  pub after : Option (List ℕ)
-  pub faults_before : ℕ
-  pub faults_after : ℕ
+  pub taken : SinkCall
+  pub faults_old : ℕ
+  pub faults_new : ℕ
+
+abbrev pub errors : {E : Type 0} → SinkOf E → (old new : E) → Errors
+errors E old new = record { taken = sink_call E old new; faults_old = E.faults old; faults_new = E.faults new }
 
 -- `words`, `memory`, `sink`, or the name of a value
 abbrev pub word_line : List ℕ → List ℕ
@@ -40,5 +44,5 @@ child_line shard (Some status) = codes "child " ++ decimal shard ++ codes " " ++
 -- standard error takes this line, or a front of it at a fault of its own, which is counted
 pub record Says (err : Errors) (line : List ℕ) : Type 0 where
   pub answer : Written
-  pub takes : Takes answer err.before err.after line
-  pub cause : HasCause (write_failed answer) err.faults_before err.faults_after
+  pub takes : Takes answer err.taken.old err.taken.new line
+  pub cause : HasCause (write_failed answer) err.faults_old err.faults_new

@@ -1,6 +1,7 @@
 //! Why the program ends without having done what it was asked: its status, and its line on standard error.
 ghost use Rattle.std.specs.Prelude.{◌≡◌, ◌<◌, Some, None};
 ghost use Rattle.roc_files.specs.Fault.{IsTold};
+ghost use Rattle.roc_files.specs.Says.{errors};
 
 use roc_base::Shard;
 use roc_cluster::ClusterFault;
@@ -61,7 +62,7 @@ impl Fault<'_> {
     pub fn tell<E: Sink>(self, alloc: Global, err: &mut E) -> u8
         ensures silent { result < 2 → err.new ≡ err.old }
         ensures unsaid { result ≡ 5 → err.new ≡ err.old }
-        ensures told { IsTold self.entry result (record { before = E.taken err.old; after = E.taken err.new; faults_before = E.faults err.old; faults_after = E.faults err.new }) }
+        ensures told { IsTold self.entry result (errors E.Sink err.old err.new) }
     {
         match self {
             Fault::Rejected => 1,
@@ -115,7 +116,7 @@ impl Fault<'_> {
 
 // The same of a fault at a line, for whose text there may be no memory.
 fn tell_line<E: Sink>(alloc: Global, err: &mut E, file: &str, line: u32, what: &'static str) -> u8
-    ensures { IsTold (Fault.At file.entry line what.entry) result (record { before = E.taken err.old; after = E.taken err.new; faults_before = E.faults err.old; faults_after = E.faults err.new }) }
+    ensures { IsTold (Fault.At file.entry line what.entry) result (errors E.Sink err.old err.new) }
 {
     let Ok(text) = format!(in alloc; "{file}:{line}: {what}\n") else {
         err.write(b"memory\n");
@@ -127,7 +128,7 @@ fn tell_line<E: Sink>(alloc: Global, err: &mut E, file: &str, line: u32, what: &
 
 // The same of a fault of scope.
 fn tell_misuse<E: Sink>(alloc: Global, err: &mut E, file: &str, line: u32, what: ScopeWhat) -> u8
-    ensures { IsTold (Fault.Scope file.entry line what) result (record { before = E.taken err.old; after = E.taken err.new; faults_before = E.faults err.old; faults_after = E.faults err.new }) }
+    ensures { IsTold (Fault.Scope file.entry line what) result (errors E.Sink err.old err.new) }
 {
     let Ok(text) = format!(in alloc; "{file}:{line}: {what}\n") else {
         err.write(b"memory\n");
@@ -139,7 +140,7 @@ fn tell_misuse<E: Sink>(alloc: Global, err: &mut E, file: &str, line: u32, what:
 
 // The same of a cluster file.
 fn tell_cluster<E: Sink>(alloc: Global, err: &mut E, file: &str, fault: ClusterFault) -> u8
-    ensures { IsTold (Fault.Cluster file.entry fault) result (record { before = E.taken err.old; after = E.taken err.new; faults_before = E.faults err.old; faults_after = E.faults err.new }) }
+    ensures { IsTold (Fault.Cluster file.entry fault) result (errors E.Sink err.old err.new) }
 {
     let Ok(text) = format!(in alloc; "{file}: {fault}\n") else {
         err.write(b"memory\n");
@@ -151,7 +152,7 @@ fn tell_cluster<E: Sink>(alloc: Global, err: &mut E, file: &str, fault: ClusterF
 
 // The same of a child that could not be started or awaited.
 fn tell_child<E: Sink>(alloc: Global, err: &mut E, shard: Shard) -> u8
-    ensures { IsTold (Fault.Child shard None) result (record { before = E.taken err.old; after = E.taken err.new; faults_before = E.faults err.old; faults_after = E.faults err.new }) }
+    ensures { IsTold (Fault.Child shard None) result (errors E.Sink err.old err.new) }
 {
     let Ok(text) = format!(in alloc; "child {}\n", shard.0) else {
         err.write(b"memory\n");
@@ -163,7 +164,7 @@ fn tell_child<E: Sink>(alloc: Global, err: &mut E, shard: Shard) -> u8
 
 // The same of one that ended with a status.
 fn tell_status<E: Sink>(alloc: Global, err: &mut E, shard: Shard, status: u8) -> u8
-    ensures { IsTold (Fault.Child shard (Some status)) result (record { before = E.taken err.old; after = E.taken err.new; faults_before = E.faults err.old; faults_after = E.faults err.new }) }
+    ensures { IsTold (Fault.Child shard (Some status)) result (errors E.Sink err.old err.new) }
 {
     let Ok(text) = format!(in alloc; "child {} {status}\n", shard.0) else {
         err.write(b"memory\n");

@@ -71,7 +71,8 @@ fn nodes_of_bytes<'a, F: Files, S: Sink>(
 ) -> Result<Nodes, Fault<'a>>
     ensures held { HoldsWithin (F.content files.old) names.entry.workload.now text_limit bytes.now → IfOk result (HoldsAll (F.content files.old) (files_named names.entry)) }
     ensures untouched { IfOk result (λ nodes. S.taken out.new ≡ S.taken out.old) }
-    ensures fails { HoldsWithin (F.content files.old) names.entry.workload.now text_limit bytes.now → IfErr result (NodesFail (F.content files.old) (files_named names.entry) (S.taken out.old) (S.taken out.new)) }
+    ensures fails { HoldsWithin (F.content files.old) names.entry.workload.now text_limit bytes.now
+        → IfErr result (NodesFail (F.content files.old) (files_named names.entry) (S.taken out.old) (S.taken out.new)) }
     ensures failed { ReadsBut (F.failed_names files.old) (F.failed_names files.new) result }
     ensures file_faults { HasCause (fails_by blames_file result) (F.faults files.old) (F.faults files.new) }
     ensures sink_faults { HasCause (fails_by blames_sink result) (S.faults out.old) (S.faults out.new) }
@@ -92,7 +93,8 @@ fn nodes_of_plan<'a, F: Files>(
     tag: [u8; 8],
     files: &mut F,
 ) -> Result<Nodes, Fault<'a>>
-    ensures held { (bytes : List ℕ) → Holds (F.content files.old) names.entry.workload.now bytes → IsPlanOfText bytes plan → tag ≡ tag_of_bytes bytes → IfOk result (HoldsAll (F.content files.old) (files_named names.entry)) }
+    ensures held { (bytes : List ℕ) → Holds (F.content files.old) names.entry.workload.now bytes → IsPlanOfText bytes plan → tag ≡ tag_of_bytes bytes
+        → IfOk result (HoldsAll (F.content files.old) (files_named names.entry)) }
     ensures fails { (bytes : List ℕ) (out : Option (List ℕ)) → Holds (F.content files.old) names.entry.workload.now bytes → IsPlanOfText bytes plan
         → IfErr result (NodesFail (F.content files.old) (files_named names.entry) out out) }
     ensures failed { ReadsBut (F.failed_names files.old) (F.failed_names files.new) result }
@@ -125,7 +127,9 @@ fn nodes_of_shards<'a, F: Files>(
     tag: [u8; 8],
     files: &mut F,
 ) -> Result<Nodes, Fault<'a>>
-    ensures held { (bytes : List ℕ) → Holds (F.content files.old) names.entry.workload.now bytes → IsPlanOfText bytes plan → tag ≡ tag_of_bytes bytes → lacks_shard names.entry.shard plan.program.shards ≡ false → IfOk result (HoldsAll (F.content files.old) (files_named names.entry)) }
+    ensures held { (bytes : List ℕ) → Holds (F.content files.old) names.entry.workload.now bytes → IsPlanOfText bytes plan → tag ≡ tag_of_bytes bytes
+        → lacks_shard names.entry.shard plan.program.shards ≡ false
+        → IfOk result (HoldsAll (F.content files.old) (files_named names.entry)) }
     ensures fails { (bytes : List ℕ) (out : Option (List ℕ)) → Holds (F.content files.old) names.entry.workload.now bytes → IsPlanOfText bytes plan
         → lacks_shard names.entry.shard plan.program.shards ≡ false → IfErr result (NodesFail (F.content files.old) (files_named names.entry) out out) }
     ensures failed { ReadsBut (F.failed_names files.old) (F.failed_names files.new) result }
@@ -149,8 +153,11 @@ fn nodes_of_cluster<'a, F: Files>(
     cluster: Cluster,
     files: &mut F,
 ) -> Result<Nodes, Fault<'a>>
-    ensures held { (bytes : List ℕ) → Holds (F.content files.old) names.entry.workload.now bytes → IsPlanOfText bytes plan → tag ≡ tag_of_bytes bytes → lacks_shard names.entry.shard plan.program.shards ≡ false → HoldsCluster (F.content files.old) names.entry.cluster.now plan.program.shards cluster → IfOk result (HoldsAll (F.content files.old) (files_named names.entry)) }
-    ensures fails { (bytes : List ℕ) (out : Option (List ℕ)) → Holds (F.content files.old) names.entry.workload.now bytes → IsPlanOfText bytes plan → lacks_shard names.entry.shard plan.program.shards ≡ false → HoldsCluster (F.content files.old) names.entry.cluster.now plan.program.shards cluster
+    ensures held { (bytes : List ℕ) → Holds (F.content files.old) names.entry.workload.now bytes → IsPlanOfText bytes plan → tag ≡ tag_of_bytes bytes
+        → lacks_shard names.entry.shard plan.program.shards ≡ false → HoldsCluster (F.content files.old) names.entry.cluster.now plan.program.shards cluster
+        → IfOk result (HoldsAll (F.content files.old) (files_named names.entry)) }
+    ensures fails { (bytes : List ℕ) (out : Option (List ℕ)) → Holds (F.content files.old) names.entry.workload.now bytes → IsPlanOfText bytes plan
+        → lacks_shard names.entry.shard plan.program.shards ≡ false → HoldsCluster (F.content files.old) names.entry.cluster.now plan.program.shards cluster
         → IfErr result (NodesFail (F.content files.old) (files_named names.entry) out out) }
     ensures failed { ReadsBut (F.failed_names files.old) (F.failed_names files.new) result }
     ensures file_faults { HasCause (fails_by blames_file result) (F.faults files.old) (F.faults files.new) }

@@ -1,3 +1,4 @@
+pub mod Call
 pub mod Cause
 pub mod Files
 pub mod Link

@@ -9,21 +9,23 @@ use Rattle.roc_words.specs.Commands.{serve, submit, stop, local}
 use Rattle.roc_words.specs.Answer.{AreWordsOf}
 use Rattle.roc_submit.specs.declared.ends.SubmitEnd.{SubmitEnd}
 use Rattle.roc_submit.specs.declared.ends.SubmitEnd.TheVariants as submit_end
+use Rattle.roc_node.specs.NodeEvent.{node_setting}
 use Rattle.roc_serve.specs.ServeEnd.{Serves}
 use Rattle.roc_submit.specs.SubmitEnd.{BindsAndSubmits}
 use Rattle.roc_local.specs.declared.local.LocalEnd.{LocalEnd}
 use Rattle.roc_local.specs.declared.local.LocalEnd.TheVariants.{ChildFault}
 use Rattle.roc_local.specs.Stops.{SendsStops}
-use Rattle.roc_local.specs.Local.{RunsLocal, local_end_of}
+use Rattle.roc_local.specs.Local.{RunsLocal, local_ask, local_end_of}
 use Rattle.roc_files.specs.declared.fault.Fault.{Fault}
 use Rattle.roc_files.specs.declared.fault.Fault.TheVariants.{Memory, Unanswered, Sink, Link, Child}
 use Rattle.roc_files.specs.declared.nodes.Nodes.{Nodes}
-use Rattle.roc_launch.specs.Call.{RunCall, LinkCall, ChildrenCall, WholeCall}
+use Rattle.roc_io.specs.Call.{LinkCall, ChildrenCall}
+use Rattle.roc_launch.specs.Call.{RunCall, WholeCall}
 use Rattle.roc_files.specs.Held.{HoldNodes}
 use Rattle.roc_files.specs.NodeNames.{HoldsAll}
-use Rattle.roc_launch.specs.Nodes.{serve_call, turns_call, local_call, IsServed, SubmitEnded, AreStopped, LocalEnded, AreNodesEnded, IsChildBlamed}
+use Rattle.roc_launch.specs.Nodes.{node_call, local_call, IsServed, SubmitEnded, AreStopped, LocalEnded, AreNodesEnded, IsChildBlamed}
 use Rattle.roc_launch.specs.Ends.{LoopEnded, LaunchEnds, IsLaunched}
-use Rattle.roc_launch.specs.Inner.Running.{ServesAs, StopsAs, loop_call, LocalAs, LocalBlames, no_child}
+use Rattle.roc_launch.specs.Inner.Running.{ServesAs, StopsAs, LocalAs, LocalBlames, no_child}
 
 -- what is told of a loop, told of the command
 loop_told : (P Q : SubmitEnd → Type 0) (C D : Shard → Option ℕ → Type 0) (result : Result Unit Fault) → ((end : SubmitEnd) → P end → Q end)
@@ -61,13 +63,13 @@ without_requests : (content : List ℕ → Option (List ℕ)) (workload cluster 
 without_requests content workload cluster shard bytes plan addrs requests h =
     record { of_workload = h.of_workload; planned = h.planned; has_shard = h.has_shard; of_cluster = h.of_cluster; of_requests = refl }
 
-module _ (call : RunCall) (link : LinkCall) (nodes : Nodes) (middle : Option (List ℕ)) (same : middle ≡ call.out_before) (workload cluster : List ℕ) where
+module _ (call : RunCall) (link : LinkCall) (nodes : Nodes) (middle : Option (List ℕ)) (same : middle ≡ call.out.old) (workload cluster : List ℕ) where
   -- a server
   module _ (shard : Shard) (turns : ℕ) (counts : Bool) (given : AreWordsOf call.words (serve workload cluster shard.0 turns counts))
-      (held : HoldsAll call.content (record { workload = workload; cluster = cluster; requests = None; shard = Some shard.0 }) nodes) where
+      (held : HoldsAll call.files.content (record { workload = workload; cluster = cluster; requests = None; shard = Some shard.0 }) nodes) where
     served : (own : Addr) → slice_get nodes.cluster shard.0 ≡ Some own → (end : SubmitEnd)
-        → ServesAs (record { plan = nodes.plan; header = record { tag = nodes.tag; from = Server shard }; cluster = nodes.cluster }) shard own turns counts
-        (record { bound_old = link.bound_before; bound_new = link.bound_after; link_old = link.before; link_new = link.after; out_old = middle; out_new = call.out_after }) end
+        → ServesAs (node_setting nodes.plan nodes.tag (Server shard) nodes.cluster) shard own turns counts
+        (record { link = link; out = record { old = middle; new = call.out.new } }) end
         → IsServed call link end
     served own address end (e, is, serves) = (
       e,
@@ -82,20 +84,20 @@ module _ (call : RunCall) (link : LinkCall) (nodes : Nodes) (middle : Option (Li
         bytes = held.0;
         plan = nodes.plan;
         addrs = nodes.cluster;
-        held = without_requests call.content workload cluster (Some shard.0) held.0 nodes.plan nodes.cluster nodes.requests.items held.1;
+        held = without_requests call.files.content workload cluster (Some shard.0) held.0 nodes.plan nodes.cluster nodes.requests.items held.1;
         own = own;
         address = address;
         serves =
-            subst (λ (tag : List ℕ). Serves (record { plan = nodes.plan; header = record { tag = tag; from = Server shard }; cluster = nodes.cluster }) shard own turns counts (serve_call call link) e) held.2
-            (subst (λ (o : Option (List ℕ)). Serves (record { plan = nodes.plan; header = record { tag = nodes.tag; from = Server shard }; cluster = nodes.cluster }) shard own turns counts
-            (record { bound_old = link.bound_before; bound_new = link.bound_after; link_old = link.before; link_new = link.after; out_old = o; out_new = call.out_after }) e) same serves);
+            subst (λ (tag : List ℕ). Serves (node_setting nodes.plan tag (Server shard) nodes.cluster) shard own turns counts (node_call call link) e) held.2
+            (subst (λ (o : Option (List ℕ)). Serves (node_setting nodes.plan nodes.tag (Server shard) nodes.cluster) shard own turns counts
+            (record { link = link; out = record { old = o; new = call.out.new } }) e) same serves);
       },
     )
 
     pub serve_ended : (result : Result Unit Fault)
         → ((own : Addr) → slice_get nodes.cluster shard.0 ≡ Some own
-        → LoopEnded (ServesAs (record { plan = nodes.plan; header = record { tag = nodes.tag; from = Server shard }; cluster = nodes.cluster }) shard own turns counts
-        (record { bound_old = link.bound_before; bound_new = link.bound_after; link_old = link.before; link_new = link.after; out_old = middle; out_new = call.out_after })) no_child result)
+        → LoopEnded (ServesAs (node_setting nodes.plan nodes.tag (Server shard) nodes.cluster) shard own turns counts
+        (record { link = link; out = record { old = middle; new = call.out.new } })) no_child result)
         → LaunchEnds call (IsServed call link) no_child result
     serve_ended result ends =
         let each : length nodes.cluster ≡ nodes.plan.program.shards = held.1.of_cluster.is.is_cluster.each in
@@ -103,8 +105,8 @@ module _ (call : RunCall) (link : LinkCall) (nodes : Nodes) (middle : Option (Li
         loop_ends call _ (IsServed call link) no_child no_child result (served there.0 there.1) (λ shard status h. h) (ends there.0 there.1)
 
   -- stops
-  module _ (given : AreWordsOf call.words (stop workload cluster)) (held : HoldsAll call.content (record { workload = workload; cluster = cluster; requests = None; shard = None }) nodes)
-      (silent : call.out_after ≡ call.out_before) where
+  module _ (given : AreWordsOf call.words (stop workload cluster)) (held : HoldsAll call.files.content (record { workload = workload; cluster = cluster; requests = None; shard = None }) nodes)
+      (silent : call.out.new ≡ call.out.old) where
     stopped : (end : SubmitEnd) → StopsAs nodes.tag nodes.cluster link end → AreStopped call link end
     stopped end (e, is, h) = (
       e,
@@ -116,9 +118,9 @@ module _ (call : RunCall) (link : LinkCall) (nodes : Nodes) (middle : Option (Li
         bytes = held.0;
         plan = nodes.plan;
         addrs = nodes.cluster;
-        held = without_requests call.content workload cluster None held.0 nodes.plan nodes.cluster nodes.requests.items held.1;
+        held = without_requests call.files.content workload cluster None held.0 nodes.plan nodes.cluster nodes.requests.items held.1;
         bound = h.bound;
-        sends = subst (λ (tag : List ℕ). SendsStops e tag nodes.cluster link.before.lost link.after.lost link.before.sent link.after.sent) held.2 h.sends;
+        sends = subst (λ (tag : List ℕ). SendsStops e tag nodes.cluster link.old.lost link.new.lost link.old.sent link.new.sent) held.2 h.sends;
         arrivals = h.arrivals;
         silent = silent;
       },
@@ -127,12 +129,11 @@ module _ (call : RunCall) (link : LinkCall) (nodes : Nodes) (middle : Option (Li
     pub stop_ended : (result : Result Unit Fault) → LoopEnded (StopsAs nodes.tag nodes.cluster link) no_child result → LaunchEnds call (AreStopped call link) no_child result
     stop_ended result ends = loop_ends call _ (AreStopped call link) no_child no_child result stopped (λ shard status h. h) ends
 
-  module _ (listed : List ℕ) (turns : ℕ) (held : HoldsAll call.content (record { workload = workload; cluster = cluster; requests = Some listed; shard = None }) nodes) where
+  module _ (listed : List ℕ) (turns : ℕ) (held : HoldsAll call.files.content (record { workload = workload; cluster = cluster; requests = Some listed; shard = None }) nodes) where
     -- a coordinator
     module _ (coord : ℕ) (given : AreWordsOf call.words (submit workload cluster listed coord turns)) where
       submitted : (end : SubmitEnd)
-          → BindsAndSubmits (record { plan = nodes.plan; header = record { tag = nodes.tag; from = Coord coord }; cluster = nodes.cluster }) coord nodes.requests.items turns link.bound_before link.bound_after
-          (record { link_old = link.before; link_new = link.after; out_old = middle; out_new = call.out_after }) end
+          → BindsAndSubmits (node_setting nodes.plan nodes.tag (Coord coord) nodes.cluster) coord nodes.requests.items turns (record { link = link; out = record { old = middle; new = call.out.new } }) end
           → SubmitEnded call link end
       submitted end h = record {
         workload = workload;
@@ -147,22 +148,19 @@ module _ (call : RunCall) (link : LinkCall) (nodes : Nodes) (middle : Option (Li
         requests = nodes.requests.items;
         held = held.1;
         submits =
-            subst (λ (tag : List ℕ). BindsAndSubmits (record { plan = nodes.plan; header = record { tag = tag; from = Coord coord }; cluster = nodes.cluster }) coord nodes.requests.items turns
-            link.bound_before link.bound_after (turns_call call link) end) held.2
-            (subst (λ (o : Option (List ℕ)). BindsAndSubmits (record { plan = nodes.plan; header = record { tag = nodes.tag; from = Coord coord }; cluster = nodes.cluster }) coord nodes.requests.items turns
-            link.bound_before link.bound_after (record { link_old = link.before; link_new = link.after; out_old = o; out_new = call.out_after }) end) same h);
+            subst (λ (tag : List ℕ). BindsAndSubmits (node_setting nodes.plan tag (Coord coord) nodes.cluster) coord nodes.requests.items turns (node_call call link) end) held.2
+            (subst (λ (o : Option (List ℕ)). BindsAndSubmits (node_setting nodes.plan nodes.tag (Coord coord) nodes.cluster) coord nodes.requests.items turns (record { link = link; out = record { old = o; new = call.out.new } }) end) same h);
       }
 
       pub submit_ended : (result : Result Unit Fault)
-          → LoopEnded (BindsAndSubmits (record { plan = nodes.plan; header = record { tag = nodes.tag; from = Coord coord }; cluster = nodes.cluster }) coord nodes.requests.items turns
-          link.bound_before link.bound_after (record { link_old = link.before; link_new = link.after; out_old = middle; out_new = call.out_after })) no_child result
+          → LoopEnded (BindsAndSubmits (node_setting nodes.plan nodes.tag (Coord coord) nodes.cluster) coord nodes.requests.items turns (record { link = link; out = record { old = middle; new = call.out.new } })) no_child result
           → LaunchEnds call (SubmitEnded call link) no_child result
       submit_ended result ends = loop_ends call _ (SubmitEnded call link) no_child no_child result submitted (λ shard status h. h) ends
 
     -- servers and a coordinator
     module _ (children : ChildrenCall) (given : AreWordsOf call.words (local workload cluster listed turns)) where
-      ran : (end : LocalEnd) → RunsLocal (record { setting = record { plan = nodes.plan; header = record { tag = nodes.tag; from = Coord 0 }; cluster = nodes.cluster }; requests = nodes.requests.items; workload = workload; cluster = cluster; turns = turns })
-          (loop_call middle call.out_after link children) end
+      ran : (end : LocalEnd) → RunsLocal (local_ask nodes.plan nodes.tag nodes.cluster nodes.requests.items workload cluster turns)
+          (record { node = record { link = link; out = record { old = middle; new = call.out.new } }; children = children }) end
           → LocalEnded call link children end
       ran end h = record {
         workload = workload;
@@ -176,18 +174,16 @@ module _ (call : RunCall) (link : LinkCall) (nodes : Nodes) (middle : Option (Li
         requests = nodes.requests.items;
         held = held.1;
         runs =
-            subst (λ (tag : List ℕ). RunsLocal (record { setting = record { plan = nodes.plan; header = record { tag = tag; from = Coord 0 }; cluster = nodes.cluster }; requests = nodes.requests.items; workload = workload; cluster = cluster; turns = turns })
+            subst (λ (tag : List ℕ). RunsLocal (local_ask nodes.plan tag nodes.cluster nodes.requests.items workload cluster turns)
             (local_call call link children) end) held.2
-            (subst (λ (o : Option (List ℕ)). RunsLocal (record { setting = record { plan = nodes.plan; header = record { tag = nodes.tag; from = Coord 0 }; cluster = nodes.cluster }; requests = nodes.requests.items; workload = workload; cluster = cluster; turns = turns })
-            (loop_call o call.out_after link children) end) same h);
+            (subst (λ (o : Option (List ℕ)). RunsLocal (local_ask nodes.plan nodes.tag nodes.cluster nodes.requests.items workload cluster turns)
+            (record { node = record { link = link; out = record { old = o; new = call.out.new } }; children = children }) end) same h);
       }
 
       pub local_ended : (result : Result Unit Fault)
           → LoopEnded
-          (LocalAs (record { setting = record { plan = nodes.plan; header = record { tag = nodes.tag; from = Coord 0 }; cluster = nodes.cluster }; requests = nodes.requests.items; workload = workload; cluster = cluster; turns = turns })
-          middle call.out_after link children)
-          (LocalBlames (record { setting = record { plan = nodes.plan; header = record { tag = nodes.tag; from = Coord 0 }; cluster = nodes.cluster }; requests = nodes.requests.items; workload = workload; cluster = cluster; turns = turns })
-          middle call.out_after link children)
+          (LocalAs (local_ask nodes.plan nodes.tag nodes.cluster nodes.requests.items workload cluster turns) (record { node = record { link = link; out = record { old = middle; new = call.out.new } }; children = children }))
+          (LocalBlames (local_ask nodes.plan nodes.tag nodes.cluster nodes.requests.items workload cluster turns) (record { node = record { link = link; out = record { old = middle; new = call.out.new } }; children = children }))
           result
           → LaunchEnds call (λ end. LocalEnded call link children (local_end_of end)) (IsChildBlamed (record { run = call; link = link; children = children })) result
       local_ended result ends =

@@ -1,34 +1,17 @@
 -- One call of `run`, as its contract sees it
-use Rattle.std.specs.Prelude.{◌≡◌, ℕ, List, Option}
-use Rattle.roc_io.specs.declared.link.Addr.{Addr}
-use Rattle.roc_io.specs.declared.spawner.ChildWait.{ChildWait}
-use Rattle.roc_io.specs.Start.{Start}
-use Rattle.roc_post.specs.Moves.{LinkView}
+use Rattle.std.specs.Prelude.{◌≡◌, ℕ, List}
+use Rattle.roc_io.specs.declared.files.Files.{Ghosts as FilesOf}
+use Rattle.roc_io.specs.declared.sink.Sink.{Ghosts as SinkOf}
+use Rattle.roc_io.specs.Call.{FilesCall, SinkCall, LinkCall, ChildrenCall, files_call, sink_call}
 
--- the words, what files hold, the names whose reads failed before and after the call, and what standard output took; all but the words as far as they are told
+-- the words, what is told of the files, and what standard output took
 pub record RunCall : Type 0 where
   pub words : List (List ℕ)
-  pub content : List ℕ → Option (List ℕ)
-  pub failed_before : Option (List (List ℕ))
-  pub failed_after : Option (List (List ℕ))
-  pub out_before : Option (List ℕ)
-  pub out_after : Option (List ℕ)
+  pub files : FilesCall
+  pub out : SinkCall
 
--- what is told of the link before and after a call: the addresses that were bound, and the datagrams
-pub record LinkCall : Type 0 where
-  pub bound_before : Option (List Addr)
-  pub bound_after : Option (List Addr)
-  pub before : LinkView
-  pub after : LinkView
-
--- what is told of children before and after a call: those that were started and awaited, and how many starts and waits failed
-pub record ChildrenCall : Type 0 where
-  pub started_before : Option (List Start)
-  pub started_after : Option (List Start)
-  pub awaited_before : Option (List ChildWait)
-  pub awaited_after : Option (List ChildWait)
-  pub faults_before : ℕ
-  pub faults_after : ℕ
+abbrev pub run_call : {F S : Type 0} → FilesOf F → SinkOf S → (words : List (List ℕ)) → (files_old files_new : F) → (out_old out_new : S) → RunCall
+run_call F S words files_old files_new out_old out_new = record { words = words; files = files_call F files_old files_new; out = sink_call S out_old out_new }
 
 -- all that is seen of a call
 pub record WholeCall : Type 0 where
@@ -38,8 +21,8 @@ pub record WholeCall : Type 0 where
 
 -- standard output took nothing
 abbrev pub TakesNothing : RunCall → Type 0
-TakesNothing call = call.out_after ≡ call.out_before
+TakesNothing call = call.out.new ≡ call.out.old
 
 -- no read failed
 abbrev pub ReadsAll : RunCall → Type 0
-ReadsAll call = call.failed_after ≡ call.failed_before
+ReadsAll call = call.files.failed_new ≡ call.files.failed_old

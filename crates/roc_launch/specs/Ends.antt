@@ -13,7 +13,7 @@ use Rattle.roc_launch.specs.Nodes.{AreNodesEnded, IsChildBlamed}
 
 -- the files that the words name do not hold what the command needs, and this is why
 abbrev pub FilesFail : RunCall → Fault → Type 0
-FilesFail call fault = (files : NodeFiles) × NamesNodeFiles call.words files × NodesFail call.content files call.out_before call.out_after fault
+FilesFail call fault = (files : NodeFiles) × NamesNodeFiles call.words files × NodesFail call.files.content files call.out.old call.out.new fault
 
 -- how a loop ends, once the files were read: P is what is told of each end, and C of a child that is to blame
 abbrev pub LoopEnded : (P : SubmitEnd → Type 0) → (C : Shard → Option ℕ → Type 0) → Result Unit Fault → Type 0

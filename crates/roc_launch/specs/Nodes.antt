@@ -13,53 +13,31 @@ use Rattle.roc_submit.specs.SubmitEnd.{any_address}
 use Rattle.roc_local.specs.Stops.{SendsStops, stops_unbound}
 use Rattle.roc_local.specs.declared.local.LocalEnd.{LocalEnd}
 use Rattle.roc_local.specs.declared.local.LocalEnd.TheVariants.{ChildFault}
-use Rattle.roc_local.specs.Local.{LocalCall, RunsLocal, BlamesChild, local_end_of}
+use Rattle.roc_local.specs.Local.{LocalCall, RunsLocal, BlamesChild, local_ask, local_end_of}
 use Rattle.roc_words.specs.Commands.{serve, submit, stop, local}
 use Rattle.roc_words.specs.Answer.{AreWordsOf}
-use Rattle.roc_node.specs.NodeEvent.{NodeSetting}
+use Rattle.roc_node.specs.NodeEvent.{NodeSetting, node_setting}
 use Rattle.roc_serve.specs.declared.ends.ServeEnd.{ServeEnd}
 use Rattle.roc_serve.specs.declared.ends.ServeEnd.TheVariants as serve_end
 use Rattle.roc_submit.specs.declared.ends.SubmitEnd.{SubmitEnd}
 use Rattle.roc_submit.specs.declared.ends.SubmitEnd.TheVariants as submit_end
-use Rattle.roc_serve.specs.ServeEnd.{ServeCall, Serves}
-use Rattle.roc_submit.specs.SubmitEnd.{TurnsCall, BindsAndSubmits}
-use Rattle.roc_launch.specs.Call.{RunCall, LinkCall, ChildrenCall, WholeCall, TakesNothing}
+use Rattle.roc_serve.specs.ServeEnd.{Serves}
+use Rattle.roc_submit.specs.SubmitEnd.{BindsAndSubmits}
+use Rattle.roc_io.specs.Call.{NodeCall, LinkCall, ChildrenCall}
+use Rattle.roc_launch.specs.Call.{RunCall, WholeCall, TakesNothing}
 use Rattle.roc_files.specs.Held.{HoldNodes}
 use Rattle.roc_files.specs.NodeNames.{tag_of_bytes}
 
 -- what stays the same while a node of a workload of these bytes runs
 abbrev pub setting_of : (bytes : List ℕ) → Plan → Node → (cluster : List Addr) → NodeSetting
-setting_of bytes plan node cluster = record { plan = plan; header = record { tag = tag_of_bytes bytes; from = node }; cluster = cluster }
+setting_of bytes plan node cluster = node_setting plan (tag_of_bytes bytes) node cluster
 
 -- a call, as the loops of nodes see it
-abbrev pub serve_call : RunCall → LinkCall → ServeCall
-serve_call call link = record {
-  bound_old = link.bound_before;
-  bound_new = link.bound_after;
-  link_old = link.before;
-  link_new = link.after;
-  out_old = call.out_before;
-  out_new = call.out_after;
-}
-
-abbrev pub turns_call : RunCall → LinkCall → TurnsCall
-turns_call call link = record {
-  link_old = link.before;
-  link_new = link.after;
-  out_old = call.out_before;
-  out_new = call.out_after;
-}
+abbrev pub node_call : RunCall → LinkCall → NodeCall
+node_call call link = record { link = link; out = call.out }
 
 abbrev pub local_call : RunCall → LinkCall → ChildrenCall → LocalCall
-local_call call link children = record {
-  turns = turns_call call link;
-  bound_old = link.bound_before;
-  bound_new = link.bound_after;
-  started_old = children.started_before;
-  started_new = children.started_after;
-  awaited_old = children.awaited_before;
-  awaited_new = children.awaited_after;
-}
+local_call call link children = record { node = node_call call link; children = children }
 
 -- a shard of the workload was served, at its address in the cluster, and that ended so
 pub record ServeEnded (call : RunCall) (link : LinkCall) (end : ServeEnd) : Type 0 where
@@ -72,10 +50,10 @@ pub record ServeEnded (call : RunCall) (link : LinkCall) (end : ServeEnd) : Type
   pub bytes : List ℕ
   pub plan : Plan
   pub addrs : List Addr
-  pub held : HoldNodes call.content (record { workload = workload; cluster = cluster; requests = None; shard = Some shard }) bytes plan addrs []
+  pub held : HoldNodes call.files.content (record { workload = workload; cluster = cluster; requests = None; shard = Some shard }) bytes plan addrs []
   pub own : Addr
   pub address : slice_get addrs shard ≡ Some own
-  pub serves : Serves (setting_of bytes plan (Server (record { 0 = shard })) addrs) (record { 0 = shard }) own turns counts (serve_call call link) end
+  pub serves : Serves (setting_of bytes plan (Server (record { 0 = shard })) addrs) (record { 0 = shard }) own turns counts (node_call call link) end
 
 -- the requests were submitted by a coordinator, and that ended so
 pub record SubmitEnded (call : RunCall) (link : LinkCall) (end : SubmitEnd) : Type 0 where
@@ -89,8 +67,8 @@ pub record SubmitEnded (call : RunCall) (link : LinkCall) (end : SubmitEnd) : Ty
   pub plan : Plan
   pub addrs : List Addr
   pub requests : List Request
-  pub held : HoldNodes call.content (record { workload = workload; cluster = cluster; requests = Some listed; shard = None }) bytes plan addrs requests
-  pub submits : BindsAndSubmits (setting_of bytes plan (Coord coord) addrs) coord requests turns link.bound_before link.bound_after (turns_call call link) end
+  pub held : HoldNodes call.files.content (record { workload = workload; cluster = cluster; requests = Some listed; shard = None }) bytes plan addrs requests
+  pub submits : BindsAndSubmits (setting_of bytes plan (Coord coord) addrs) coord requests turns (node_call call link) end
 
 -- each server was sent its stops, or nothing was sent, and that ended so
 pub record StopEnded (call : RunCall) (link : LinkCall) (end : StopEnd) : Type 0 where
@@ -100,10 +78,10 @@ pub record StopEnded (call : RunCall) (link : LinkCall) (end : StopEnd) : Type 0
   pub bytes : List ℕ
   pub plan : Plan
   pub addrs : List Addr
-  pub held : HoldNodes call.content (record { workload = workload; cluster = cluster; requests = None; shard = None }) bytes plan addrs []
-  pub bound : AddsUnless (stops_unbound end) link.bound_before link.bound_after any_address
-  pub sends : SendsStops end (tag_of_bytes bytes) addrs link.before.lost link.after.lost link.before.sent link.after.sent
-  pub arrivals : link.after.arrivals ≡ link.before.arrivals
+  pub held : HoldNodes call.files.content (record { workload = workload; cluster = cluster; requests = None; shard = None }) bytes plan addrs []
+  pub bound : AddsUnless (stops_unbound end) link.bound_old link.bound_new any_address
+  pub sends : SendsStops end (tag_of_bytes bytes) addrs link.old.lost link.new.lost link.old.sent link.new.sent
+  pub arrivals : link.new.arrivals ≡ link.old.arrivals
   pub silent : TakesNothing call
 
 -- the end of a server, or of one that sends stops, as that of a coordinator
@@ -136,9 +114,9 @@ pub record LocalEnded (call : RunCall) (link : LinkCall) (children : ChildrenCal
   pub plan : Plan
   pub addrs : List Addr
   pub requests : List Request
-  pub held : HoldNodes call.content (record { workload = workload; cluster = cluster; requests = Some listed; shard = None }) bytes plan addrs requests
+  pub held : HoldNodes call.files.content (record { workload = workload; cluster = cluster; requests = Some listed; shard = None }) bytes plan addrs requests
   pub runs : RunsLocal
-      (record { setting = setting_of bytes plan (Coord 0) addrs; requests = requests; workload = workload; cluster = cluster; turns = turns })
+      (local_ask plan (tag_of_bytes bytes) addrs requests workload cluster turns)
       (local_call call link children) end
 
 -- how a command with nodes ended, once its files were read
@@ -150,7 +128,7 @@ AreNodesEnded call end =
 -- another status than 0
 pub record IsChildBlamed (call : WholeCall) (shard : Shard) (status : Option ℕ) : Type 0 where
   pub ended : LocalEnded call.run call.link call.children (ChildFault shard status)
-  pub cause : BlamesChild (ChildFault shard status) call.children.faults_before call.children.faults_after
+  pub cause : BlamesChild (ChildFault shard status) call.children.faults_old call.children.faults_new
 
 abbrev pub BlamesAnyChild : WholeCall → Type 0
 BlamesAnyChild call = (shard : Shard) × (status : Option ℕ) × IsChildBlamed call shard status

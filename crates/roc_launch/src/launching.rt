@@ -1,9 +1,11 @@
 //! The commands with nodes among all.
 ghost use Rattle.std.specs.Prelude.{◌≡◌, ℕ, List, IsTrue};
+ghost use Rattle.roc_io.specs.Call.{children_call, link_call};
 ghost use Rattle.roc_io.specs.Cause.{HasCause};
 ghost use Rattle.roc_words.specs.Answer.{AreWordsOf};
 ghost use Rattle.roc_words.specs.Commands.{IsWithin, command_of};
 ghost use Rattle.roc_files.specs.Fault.{blames_file, blames_sink, blames_link, fails_by, ReadsBut};
+ghost use Rattle.roc_launch.specs.Call.{run_call};
 ghost use Rattle.roc_launch.specs.Words.{needs_nodes};
 ghost use Rattle.roc_launch.specs.Ends.{precedes_loop, IsLaunched, CountsChildren};
 
@@ -40,7 +42,11 @@ pub fn launch<'a, F: Files, S: Sink, L: Link, P: Spawner>(
     requires needed { IsTrue (needs_nodes (command_of asked)) }
     requires within { IsWithin (command_of asked) }
     // Of any words that ask for this command: the loop ended so, or the files that they name gave nothing.
-    ensures ends { (words : List (List ℕ)) → AreWordsOf words (command_of asked.entry) → IsLaunched (record { run = (record { words = words; content = F.content files.old; failed_before = F.failed_names files.old; failed_after = F.failed_names files.new; out_before = S.taken out.old; out_after = S.taken out.new }); link = (record { bound_before = L.bound link.old; bound_after = L.bound link.new; before = record { arrivals = L.arrivals link.old; sent = L.sent link.old; lost = L.lost link.old }; after = record { arrivals = L.arrivals link.new; sent = L.sent link.new; lost = L.lost link.new } }); children = record { started_before = P.started children.old; started_after = P.started children.new; awaited_before = P.awaited children.old; awaited_after = P.awaited children.new; faults_before = P.faults children.old; faults_after = P.faults children.new } }) result }
+    ensures ends { (words : List (List ℕ)) → AreWordsOf words (command_of asked.entry) → IsLaunched (record {
+      run = run_call F.Files S.Sink words files.old files.new out.old out.new;
+      link = link_call L.Link link.old link.new;
+      children = children_call P.Spawner children.old children.new;
+    }) result }
     ensures untouched { IsTrue (fails_by precedes_loop result) → (link.new ≡ link.old) × (children.new ≡ children.old) }
     ensures childless { CountsChildren result (P.faults children.old) (P.faults children.new) }
     ensures failed { ReadsBut (F.failed_names files.old) (F.failed_names files.new) result }

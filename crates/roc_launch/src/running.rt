@@ -2,15 +2,18 @@
 ghost use Rattle.std.specs.Prelude.{◌≡◌, ◌<◌, ◌≤◌, ℕ, List, length, Some, slice_get, false, IsTrue};
 ghost use Rattle.roc_base.specs.declared.node.Node.TheVariants.{Server, Coord as Coordinator};
 ghost use Rattle.roc_io.specs.declared.link.Addr.{Addr};
+ghost use Rattle.roc_io.specs.Call.{children_call, link_call, sink_call};
 ghost use Rattle.roc_io.specs.Cause.{HasCause};
 ghost use Rattle.roc_words.specs.Commands.{serve, submit, stop, local};
 ghost use Rattle.roc_words.specs.Answer.{AreWordsOf};
+ghost use Rattle.roc_node.specs.NodeEvent.{node_setting};
 ghost use Rattle.roc_submit.specs.SubmitEnd.{BindsAndSubmits};
-ghost use Rattle.roc_launch.specs.Nodes.{IsServed, SubmitEnded, AreStopped, LocalEnded, IsChildBlamed};
+ghost use Rattle.roc_launch.specs.Call.{run_call};
+ghost use Rattle.roc_launch.specs.Nodes.{IsServed, SubmitEnded, AreStopped};
 ghost use Rattle.roc_files.specs.Fault.{blames_file, blames_sink, blames_link, fails_by, ReadsBut};
 ghost use Rattle.roc_launch.specs.Ends.{precedes_loop, LaunchEnds, LoopEnded, CountsChildren};
-ghost use Rattle.roc_launch.specs.Inner.Running.{ServesAs, StopsAs, LocalAs, LocalBlames, no_child};
-ghost use Rattle.roc_local.specs.Local.{local_end_of};
+ghost use Rattle.roc_launch.specs.Inner.Running.{ServesAs, StopsAs, LocalLaunched, LocalLoopEnded, no_child};
+ghost use Rattle.roc_local.specs.Local.{local_ask};
 
 use roc_base::Shard;
 use roc_files::{Fault, NodeNames, Nodes, nodes_of};
@@ -33,7 +36,8 @@ pub(crate) fn serve_files<'a, F: Files, S: Sink, L: Link>(
     link: &mut L,
 ) -> Result<(), Fault<'a>>
     ensures ends { (words : List (List ℕ)) → AreWordsOf words (serve workload.entry.now cluster.entry.now shard.0 turns counts)
-        → LaunchEnds (record { words = words; content = F.content files.old; failed_before = F.failed_names files.old; failed_after = F.failed_names files.new; out_before = S.taken out.old; out_after = S.taken out.new }) (IsServed (record { words = words; content = F.content files.old; failed_before = F.failed_names files.old; failed_after = F.failed_names files.new; out_before = S.taken out.old; out_after = S.taken out.new }) (record { bound_before = L.bound link.old; bound_after = L.bound link.new; before = record { arrivals = L.arrivals link.old; sent = L.sent link.old; lost = L.lost link.old }; after = record { arrivals = L.arrivals link.new; sent = L.sent link.new; lost = L.lost link.new } })) no_child result }
+        → LaunchEnds (run_call F.Files S.Sink words files.old files.new out.old out.new)
+        (IsServed (run_call F.Files S.Sink words files.old files.new out.old out.new) (link_call L.Link link.old link.new)) no_child result }
     ensures untouched { IsTrue (fails_by precedes_loop result) → link.new ≡ link.old }
     ensures failed { ReadsBut (F.failed_names files.old) (F.failed_names files.new) result }
     ensures file_faults { HasCause (fails_by blames_file result) (F.faults files.old) (F.faults files.new) }
@@ -66,8 +70,8 @@ fn serve_nodes<'a, S: Sink, L: Link>(
     requires cluster { length nodes.now.cluster ≡ nodes.now.plan.program.shards }
     requires shard { shard.0 < nodes.now.plan.program.shards }
     ensures ends { (own : Addr) → slice_get nodes.now.cluster shard.0 ≡ Some own
-        → LoopEnded (ServesAs (record { plan = nodes.now.plan; header = record { tag = nodes.now.tag; from = Server shard }; cluster = nodes.now.cluster }) shard own turns counts
-        (record { bound_old = L.bound link.old; bound_new = L.bound link.new; link_old = record { arrivals = L.arrivals link.old; sent = L.sent link.old; lost = L.lost link.old }; link_new = record { arrivals = L.arrivals link.new; sent = L.sent link.new; lost = L.lost link.new }; out_old = S.taken out.old; out_new = S.taken out.new })) no_child result }
+        → LoopEnded (ServesAs (node_setting nodes.now.plan nodes.now.tag (Server shard) nodes.now.cluster) shard own turns counts
+        (record { link = link_call L.Link link.old link.new; out = sink_call S.Sink out.old out.new })) no_child result }
     ensures files { fails_by blames_file result ≡ false }
     ensures late { fails_by precedes_loop result ≡ false }
     ensures sink_faults { HasCause (fails_by blames_sink result) (S.faults out.old) (S.faults out.new) }
@@ -105,7 +109,8 @@ pub(crate) fn submit_files<'a, F: Files, S: Sink, L: Link>(
 ) -> Result<(), Fault<'a>>
     requires { coord ≤ 15 }
     ensures ends { (words : List (List ℕ)) → AreWordsOf words (submit workload.entry.now cluster.entry.now listed.entry.now coord turns)
-        → LaunchEnds (record { words = words; content = F.content files.old; failed_before = F.failed_names files.old; failed_after = F.failed_names files.new; out_before = S.taken out.old; out_after = S.taken out.new }) (SubmitEnded (record { words = words; content = F.content files.old; failed_before = F.failed_names files.old; failed_after = F.failed_names files.new; out_before = S.taken out.old; out_after = S.taken out.new }) (record { bound_before = L.bound link.old; bound_after = L.bound link.new; before = record { arrivals = L.arrivals link.old; sent = L.sent link.old; lost = L.lost link.old }; after = record { arrivals = L.arrivals link.new; sent = L.sent link.new; lost = L.lost link.new } })) no_child result }
+        → LaunchEnds (run_call F.Files S.Sink words files.old files.new out.old out.new)
+        (SubmitEnded (run_call F.Files S.Sink words files.old files.new out.old out.new) (link_call L.Link link.old link.new)) no_child result }
     ensures untouched { IsTrue (fails_by precedes_loop result) → link.new ≡ link.old }
     ensures failed { ReadsBut (F.failed_names files.old) (F.failed_names files.new) result }
     ensures file_faults { HasCause (fails_by blames_file result) (F.faults files.old) (F.faults files.new) }
@@ -136,8 +141,8 @@ fn submit_nodes<'a, S: Sink, L: Link>(
 ) -> Result<(), Fault<'a>>
     requires cluster { length nodes.now.cluster ≡ nodes.now.plan.program.shards }
     requires coord { coord ≤ 15 }
-    ensures ends { LoopEnded (BindsAndSubmits (record { plan = nodes.now.plan; header = record { tag = nodes.now.tag; from = Coordinator coord }; cluster = nodes.now.cluster }) coord nodes.now.requests.items turns
-        (L.bound link.old) (L.bound link.new) (record { link_old = record { arrivals = L.arrivals link.old; sent = L.sent link.old; lost = L.lost link.old }; link_new = record { arrivals = L.arrivals link.new; sent = L.sent link.new; lost = L.lost link.new }; out_old = S.taken out.old; out_new = S.taken out.new })) no_child result }
+    ensures ends { LoopEnded (BindsAndSubmits (node_setting nodes.now.plan nodes.now.tag (Coordinator coord) nodes.now.cluster) coord nodes.now.requests.items turns
+        (record { link = link_call L.Link link.old link.new; out = sink_call S.Sink out.old out.new })) no_child result }
     ensures files { fails_by blames_file result ≡ false }
     ensures late { fails_by precedes_loop result ≡ false }
     ensures sink_faults { HasCause (fails_by blames_sink result) (S.faults out.old) (S.faults out.new) }
@@ -172,7 +177,8 @@ pub(crate) fn stop_files<'a, F: Files, S: Sink, L: Link>(
     link: &mut L,
 ) -> Result<(), Fault<'a>>
     ensures ends { (words : List (List ℕ)) → AreWordsOf words (stop workload.entry.now cluster.entry.now)
-        → LaunchEnds (record { words = words; content = F.content files.old; failed_before = F.failed_names files.old; failed_after = F.failed_names files.new; out_before = S.taken out.old; out_after = S.taken out.new }) (AreStopped (record { words = words; content = F.content files.old; failed_before = F.failed_names files.old; failed_after = F.failed_names files.new; out_before = S.taken out.old; out_after = S.taken out.new }) (record { bound_before = L.bound link.old; bound_after = L.bound link.new; before = record { arrivals = L.arrivals link.old; sent = L.sent link.old; lost = L.lost link.old }; after = record { arrivals = L.arrivals link.new; sent = L.sent link.new; lost = L.lost link.new } })) no_child result }
+        → LaunchEnds (run_call F.Files S.Sink words files.old files.new out.old out.new)
+        (AreStopped (run_call F.Files S.Sink words files.old files.new out.old out.new) (link_call L.Link link.old link.new)) no_child result }
     ensures untouched { IsTrue (fails_by precedes_loop result) → link.new ≡ link.old }
     ensures failed { ReadsBut (F.failed_names files.old) (F.failed_names files.new) result }
     ensures file_faults { HasCause (fails_by blames_file result) (F.faults files.old) (F.faults files.new) }
@@ -194,7 +200,7 @@ pub(crate) fn stop_files<'a, F: Files, S: Sink, L: Link>(
 
 // The same, once the files were read.
 fn stop_nodes<'a, L: Link>(alloc: Global, nodes: &Nodes, link: &mut L) -> Result<(), Fault<'a>>
-    ensures ends { LoopEnded (StopsAs nodes.now.tag nodes.now.cluster (record { bound_before = L.bound link.old; bound_after = L.bound link.new; before = record { arrivals = L.arrivals link.old; sent = L.sent link.old; lost = L.lost link.old }; after = record { arrivals = L.arrivals link.new; sent = L.sent link.new; lost = L.lost link.new } })) no_child result }
+    ensures ends { LoopEnded (StopsAs nodes.now.tag nodes.now.cluster (link_call L.Link link.old link.new)) no_child result }
     ensures files { fails_by blames_file result ≡ false }
     ensures late { fails_by precedes_loop result ≡ false }
     ensures no_sink { fails_by blames_sink result ≡ false }
@@ -220,7 +226,11 @@ pub(crate) fn local_files<'a, F: Files, S: Sink, L: Link, P: Spawner>(
     children: &mut P,
 ) -> Result<(), Fault<'a>>
     ensures ends { (words : List (List ℕ)) → AreWordsOf words (local workload.entry.now cluster.entry.now listed.entry.now turns)
-        → LaunchEnds (record { words = words; content = F.content files.old; failed_before = F.failed_names files.old; failed_after = F.failed_names files.new; out_before = S.taken out.old; out_after = S.taken out.new }) (λ end. LocalEnded (record { words = words; content = F.content files.old; failed_before = F.failed_names files.old; failed_after = F.failed_names files.new; out_before = S.taken out.old; out_after = S.taken out.new }) (record { bound_before = L.bound link.old; bound_after = L.bound link.new; before = record { arrivals = L.arrivals link.old; sent = L.sent link.old; lost = L.lost link.old }; after = record { arrivals = L.arrivals link.new; sent = L.sent link.new; lost = L.lost link.new } }) (record { started_before = P.started children.old; started_after = P.started children.new; awaited_before = P.awaited children.old; awaited_after = P.awaited children.new; faults_before = P.faults children.old; faults_after = P.faults children.new }) (local_end_of end)) (IsChildBlamed (record { run = record { words = words; content = F.content files.old; failed_before = F.failed_names files.old; failed_after = F.failed_names files.new; out_before = S.taken out.old; out_after = S.taken out.new }; link = record { bound_before = L.bound link.old; bound_after = L.bound link.new; before = record { arrivals = L.arrivals link.old; sent = L.sent link.old; lost = L.lost link.old }; after = record { arrivals = L.arrivals link.new; sent = L.sent link.new; lost = L.lost link.new } }; children = record { started_before = P.started children.old; started_after = P.started children.new; awaited_before = P.awaited children.old; awaited_after = P.awaited children.new; faults_before = P.faults children.old; faults_after = P.faults children.new } })) result }
+        → LocalLaunched (record {
+          run = run_call F.Files S.Sink words files.old files.new out.old out.new;
+          link = link_call L.Link link.old link.new;
+          children = children_call P.Spawner children.old children.new;
+        }) result }
     ensures children { CountsChildren result (P.faults children.old) (P.faults children.new) }
     ensures early { IsTrue (fails_by precedes_loop result) → children.new ≡ children.old }
     ensures untouched { IsTrue (fails_by precedes_loop result) → link.new ≡ link.old }
@@ -254,11 +264,11 @@ fn local_nodes<'a, S: Sink, L: Link, P: Spawner>(
     children: &mut P,
 ) -> Result<(), Fault<'a>>
     requires cluster { length nodes.now.cluster ≡ nodes.now.plan.program.shards }
-    ensures ends { LoopEnded
-        (LocalAs (record { setting = record { plan = nodes.now.plan; header = record { tag = nodes.now.tag; from = Coordinator 0 }; cluster = nodes.now.cluster }; requests = nodes.now.requests.items; workload = workload.now; cluster = cluster.now; turns = turns })
-        (S.taken out.old) (S.taken out.new) (record { bound_before = L.bound link.old; bound_after = L.bound link.new; before = record { arrivals = L.arrivals link.old; sent = L.sent link.old; lost = L.lost link.old }; after = record { arrivals = L.arrivals link.new; sent = L.sent link.new; lost = L.lost link.new } }) (record { started_before = P.started children.old; started_after = P.started children.new; awaited_before = P.awaited children.old; awaited_after = P.awaited children.new; faults_before = P.faults children.old; faults_after = P.faults children.new }))
-        (LocalBlames (record { setting = record { plan = nodes.now.plan; header = record { tag = nodes.now.tag; from = Coordinator 0 }; cluster = nodes.now.cluster }; requests = nodes.now.requests.items; workload = workload.now; cluster = cluster.now; turns = turns })
-        (S.taken out.old) (S.taken out.new) (record { bound_before = L.bound link.old; bound_after = L.bound link.new; before = record { arrivals = L.arrivals link.old; sent = L.sent link.old; lost = L.lost link.old }; after = record { arrivals = L.arrivals link.new; sent = L.sent link.new; lost = L.lost link.new } }) (record { started_before = P.started children.old; started_after = P.started children.new; awaited_before = P.awaited children.old; awaited_after = P.awaited children.new; faults_before = P.faults children.old; faults_after = P.faults children.new }))
+    ensures ends { LocalLoopEnded (local_ask nodes.now.plan nodes.now.tag nodes.now.cluster nodes.now.requests.items workload.now cluster.now turns)
+        (record {
+          node = record { link = link_call L.Link link.old link.new; out = sink_call S.Sink out.old out.new };
+          children = children_call P.Spawner children.old children.new;
+        })
         result }
     ensures children { CountsChildren result (P.faults children.old) (P.faults children.new) }
     ensures files { fails_by blames_file result ≡ false }

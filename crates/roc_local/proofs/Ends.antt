@@ -12,7 +12,7 @@ use Rattle.roc_io.specs.Cause.{HasCause, Rose}
 use Rattle.roc_io.specs.Packet.{Packet}
 use Rattle.roc_io.specs.Spawner.{StartsAll, EndsStarts, all_start_failed, ended_badly}
 use Rattle.roc_io.specs.Start.{Start}
-use Rattle.roc_post.specs.Moves.{LinkView}
+use Rattle.roc_io.specs.Call.{LinkView}
 use Rattle.roc_submit.specs.SubmitEnd.{TurnsCall}
 use Rattle.roc_submit.specs.declared.ends.SubmitEnd.{SubmitEnd}
 use Rattle.roc_submit.specs.declared.ends.SubmitEnd.TheVariants as submit
@@ -98,23 +98,18 @@ pub same_view : (a b : Option (List Packet)) (c d : Option (List Packet)) (m n :
 same_view a b c d m n e f g = rw (e, f, g) refl
 
 -- the same call from before its bind on
-pub from_bind : (asked : LocalAsk) (call : LocalCall) (end : LocalEnd) (link_old : LinkView) (bound_old bound_new : Option (List Addr)) → call.turns.link_old ≡ link_old → RunsServers asked call end
+pub from_bind : (asked : LocalAsk) (call : LocalCall) (end : LocalEnd) (old : LinkView) (bound_old bound_new : Option (List Addr)) → call.node.link.old ≡ old → RunsServers asked call end
     → RunsServers asked (record {
-      turns = record { link_old = link_old; link_new = call.turns.link_new; out_old = call.turns.out_old; out_new = call.turns.out_new };
-      bound_old = bound_old;
-      bound_new = bound_new;
-      started_old = call.started_old;
-      started_new = call.started_new;
-      awaited_old = call.awaited_old;
-      awaited_new = call.awaited_new;
+      node = record { link = record { bound_old = bound_old; bound_new = bound_new; old = old; new = call.node.link.new }; out = call.node.out };
+      children = call.children;
     }) end
-from_bind asked call end link_old bound_old bound_new same r = record {
+from_bind asked call end old bound_old bound_new same r = record {
   starts = r.starts;
   children = r.children;
   started = r.started;
   middle = r.middle;
   first = r.first;
-  works = subst (λ (l : LinkView). Works asked (record { link_old = l; link_new = r.middle; out_old = call.turns.out_old; out_new = call.turns.out_new }) r.starts (length r.children) r.first) same r.works;
+  works = subst (λ (l : LinkView). Works asked (record { old = l; new = r.middle; out = call.node.out }) r.starts (length r.children) r.first) same r.works;
   stopped = r.stopped;
   bad = r.bad;
   awaited = r.awaited;

@@ -1,18 +1,19 @@
 -- What a run does that starts the servers of its cluster, submits requests and stops them
 use Rattle.std.specs.Prelude.{◌≡◌, ◌≢◌, ℕ, ◌≤◌, Bool, true, false, List, [], ◌∷◌, length, Option, Some, None}
+use Rattle.roc_base.specs.declared.node.Node.TheVariants.{Coord}
 use Rattle.roc_io.specs.declared.link.Addr.{Addr}
 use Rattle.roc_io.specs.declared.spawner.AllStarted.{AllStarted}
 use Rattle.roc_io.specs.declared.spawner.AllStarted.TheVariants.{Ok, NoMemory as NoRoom, Failed}
-use Rattle.roc_io.specs.declared.spawner.ChildWait.{ChildWait}
 use Rattle.roc_io.specs.Cause.{Rose}
 use Rattle.roc_io.specs.Packet.{Packet}
 use Rattle.roc_io.specs.Spawner.{StartsAll}
-use Rattle.roc_io.specs.Start.{Start}
 use Rattle.roc_io.specs.Told.{Adds}
+use Rattle.roc_plan.specs.Groups.{Plan}
 use Rattle.roc_sched.specs.declared.line.Request.{Request}
-use Rattle.roc_post.specs.Moves.{LinkView, Moves}
-use Rattle.roc_node.specs.NodeEvent.{NodeSetting}
-use Rattle.roc_submit.specs.SubmitEnd.{TurnsCall, Submits, any_address}
+use Rattle.roc_io.specs.Call.{LinkView, NodeCall, ChildrenCall}
+use Rattle.roc_post.specs.Moves.{Moves}
+use Rattle.roc_node.specs.NodeEvent.{NodeSetting, node_setting}
+use Rattle.roc_submit.specs.SubmitEnd.{TurnsCall, turns_of, Submits, any_address}
 use Rattle.roc_submit.specs.declared.ends.SubmitEnd.{SubmitEnd}
 use Rattle.roc_submit.specs.declared.ends.SubmitEnd.TheVariants as submit
 use Rattle.roc_local.specs.declared.children.ChildEnd.{ChildEnd}
@@ -30,27 +31,27 @@ pub record LocalAsk : Type 0 where
   pub cluster : List ℕ
   pub turns : ℕ
 
+-- that is asked by coordinator 0 of a workload with this tag
+abbrev pub local_ask : Plan → (tag : List ℕ) → (addrs : List Addr) → List Request → (workload cluster : List ℕ) → (turns : ℕ) → LocalAsk
+local_ask plan tag addrs requests workload cluster turns =
+    record { setting = node_setting plan tag (Coord 0) addrs; requests = requests; workload = workload; cluster = cluster; turns = turns }
+
 -- what the call did to its link, its sink and its spawner, as far as they tell it
 pub record LocalCall : Type 0 where
-  pub turns : TurnsCall
-  pub bound_old : Option (List Addr)
-  pub bound_new : Option (List Addr)
-  pub started_old : Option (List Start)
-  pub started_new : Option (List Start)
-  pub awaited_old : Option (List ChildWait)
-  pub awaited_new : Option (List ChildWait)
+  pub node : NodeCall
+  pub children : ChildrenCall
 
 -- nothing was received, sent or written
 pub record IsIdle (call : TurnsCall) : Type 0 where
-  pub link : call.link_new ≡ call.link_old
-  pub out : call.out_new ≡ call.out_old
+  pub link : call.new ≡ call.old
+  pub out : call.out.new ≡ call.out.old
 
 -- and nothing was bound, started or awaited
 pub record IsNothing (call : LocalCall) : Type 0 where
-  pub idle : IsIdle call.turns
-  pub bound : call.bound_new ≡ call.bound_old
-  pub started : call.started_new ≡ call.started_old
-  pub awaited : call.awaited_new ≡ call.awaited_old
+  pub idle : IsIdle (turns_of call.node)
+  pub bound : call.node.link.bound_new ≡ call.node.link.bound_old
+  pub started : call.children.started_new ≡ call.children.started_old
+  pub awaited : call.children.awaited_new ≡ call.children.awaited_old
 
 abbrev pub local_end_of : SubmitEnd → LocalEnd
 local_end_of submit.Done = Done
@@ -82,13 +83,13 @@ with_child end bad = end
 pub record RunsServers (asked : LocalAsk) (call : LocalCall) (end : LocalEnd) : Type 0 where
   pub starts : AllStarted
   pub children : List ℕ
-  pub started : StartsAll starts call.started_old call.started_new (serve_commands asked.workload asked.cluster asked.turns (length asked.setting.cluster)) [] children
+  pub started : StartsAll starts call.children.started_old call.children.started_new (serve_commands asked.workload asked.cluster asked.turns (length asked.setting.cluster)) [] children
   pub middle : LinkView
   pub first : LocalEnd
-  pub works : Works asked (record { link_old = call.turns.link_old; link_new = middle; out_old = call.turns.out_old; out_new = call.turns.out_new }) starts (length children) first
-  pub stopped : Moves middle call.turns.link_new [] (stops_behind children (stop_bytes asked.setting.header.tag) asked.setting.cluster)
+  pub works : Works asked (record { old = call.node.link.old; new = middle; out = call.node.out }) starts (length children) first
+  pub stopped : Moves middle call.node.link.new [] (stops_behind children (stop_bytes asked.setting.header.tag) asked.setting.cluster)
   pub bad : Option ChildEnd
-  pub awaited : AwaitsAll call.awaited_old call.awaited_new children bad
+  pub awaited : AwaitsAll call.children.awaited_old call.children.awaited_new children bad
   pub ends : end ≡ with_child first bad
 
 pub data RunsLocal (asked : LocalAsk) (call : LocalCall) : LocalEnd → Type 0 where
@@ -96,7 +97,7 @@ pub data RunsLocal (asked : LocalAsk) (call : LocalCall) : LocalEnd → Type 0 w
   unready : IsNothing call → RunsLocal asked call NoMemory
   -- the link could not be bound
   unbound : IsNothing call → RunsLocal asked call LinkFault
-  bound : (end : LocalEnd) → Adds call.bound_old call.bound_new (any_address ∷ []) → RunsServers asked call end → RunsLocal asked call end
+  bound : (end : LocalEnd) → Adds call.node.link.bound_old call.node.link.bound_new (any_address ∷ []) → RunsServers asked call end → RunsLocal asked call end
 
 abbrev pub local_link_failed : LocalEnd → Bool
 local_link_failed LinkFault = true

@@ -24,9 +24,9 @@ abbrev pub thrice_to_each : (bytes : List ℕ) → (cluster : List Addr) → Lis
 thrice_to_each bytes cluster = flat_map (thrice_to bytes) cluster
 
 -- a link took these datagrams in order, all but those that it counted as lost, as long as that count stays below its last value
-pub record TakesInOrder (lost_before lost_after : ℕ) (before after : Option (List Packet)) (given : List Packet) : Type 0 where
-  pub never_falls : lost_before ≤ lost_after
-  pub taken : lost_after < last_count → AddsAllBut (lost_after - lost_before) before after given
+pub record TakesInOrder (lost_old lost_new : ℕ) (old new : Option (List Packet)) (given : List Packet) : Type 0 where
+  pub never_falls : lost_old ≤ lost_new
+  pub taken : lost_new < last_count → AddsAllBut (lost_new - lost_old) old new given
 
 abbrev pub stops_failed : StopEnd → Bool
 stops_failed LinkFault = true
@@ -40,6 +40,6 @@ stops_unbound LinkFault = true
 stops_unbound NoMemory = true
 
 -- the stops were sent, or nothing was
-abbrev pub SendsStops : StopEnd → (tag : List ℕ) → (cluster : List Addr) → (lost_before lost_after : ℕ) → (before after : Option (List Packet)) → Type 0
-SendsStops Done tag cluster lost_before lost_after before after = TakesInOrder lost_before lost_after before after (thrice_to_each (stop_bytes tag) cluster)
-SendsStops end tag cluster lost_before lost_after before after = (lost_after ≡ lost_before) × (after ≡ before)
+abbrev pub SendsStops : StopEnd → (tag : List ℕ) → (cluster : List Addr) → (lost_old lost_new : ℕ) → (old new : Option (List Packet)) → Type 0
+SendsStops Done tag cluster lost_old lost_new old new = TakesInOrder lost_old lost_new old new (thrice_to_each (stop_bytes tag) cluster)
+SendsStops end tag cluster lost_old lost_new old new = (lost_new ≡ lost_old) × (new ≡ old)

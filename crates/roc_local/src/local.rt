@@ -1,12 +1,12 @@
 //! A run with the servers of its cluster as children.
 ghost use Rattle.std.specs.Prelude.{◌≡◌, ◌≤◌, ℕ, List, [], length, map, string_bytes, None, IfOk};
-ghost use Rattle.roc_base.specs.declared.node.Node.TheVariants.{Coord};
+ghost use Rattle.roc_io.specs.Call.{children_call, link_call, link_view, sink_call};
 ghost use Rattle.roc_io.specs.Cause.{HasCause};
 ghost use Rattle.roc_io.specs.Spawner.{command_words};
 ghost use Rattle.roc_post.specs.Moves.{Moves};
 ghost use Rattle.roc_local.specs.Stops.{stop_bytes};
 ghost use Rattle.roc_local.specs.Children.{serve_commands};
-ghost use Rattle.roc_local.specs.Local.{BlamesChild, RunsLocal, RunsServers, Works, local_end_of, local_link_failed, local_sink_failed, stops_behind, with_child};
+ghost use Rattle.roc_local.specs.Local.{BlamesChild, RunsLocal, RunsServers, Works, local_ask, local_end_of, local_link_failed, local_sink_failed, stops_behind, with_child};
 
 use crate::children::{ChildEnd, await_all, serve_commands};
 use crate::stops::{ANY, send_to_each, stop_bytes};
@@ -98,13 +98,8 @@ fn work<L: Link, S: Sink>(
 ) -> LocalEnd
     requires { length cluster.now ≡ plan.now.program.shards }
     ensures works { (workload cluster_name : List ℕ) → Works
-        (record { setting = record { plan = plan.now; header = record { tag = tag; from = Coord 0 }; cluster = cluster.now }; requests = requests.now; workload = workload; cluster = cluster_name; turns = turns })
-        (record {
-          link_old = record { arrivals = L.arrivals link.old; sent = L.sent link.old; lost = L.lost link.old };
-          link_new = record { arrivals = L.arrivals link.new; sent = L.sent link.new; lost = L.lost link.new };
-          out_old = S.taken out.old;
-          out_new = S.taken out.new;
-        })
+        (local_ask plan.now tag cluster.now requests.now workload cluster_name turns)
+        (record { old = link_view L.Link link.old; new = link_view L.Link link.new; out = sink_call S.Sink out.old out.new })
         starts running result }
     ensures link_cause { HasCause (local_link_failed result) (L.faults link.old) (L.faults link.new) }
     ensures sink_cause { HasCause (local_sink_failed result) (S.faults out.old) (S.faults out.new) }
@@ -123,10 +118,7 @@ fn work<L: Link, S: Sink>(
 }
 
 fn stop_started<L: Link>(link: &mut L, cluster: &Cluster, stop: &[u8], children: &[Child])
-    ensures moves { Moves
-        (record { arrivals = L.arrivals link.old; sent = L.sent link.old; lost = L.lost link.old })
-        (record { arrivals = L.arrivals link.new; sent = L.sent link.new; lost = L.lost link.new })
-        [] (stops_behind children.now stop.now cluster.now) }
+    ensures moves { Moves (link_view L.Link link.old) (link_view L.Link link.new) [] (stops_behind children.now stop.now cluster.now) }
     ensures faults { L.faults link.new ≡ L.faults link.old }
     ensures bound { L.bound link.new ≡ L.bound link.old }
 {
@@ -165,20 +157,10 @@ fn run_servers<L: Link, P: Spawner, S: Sink>(
     requires few { length orders.old.commands.items ≤ 255 }
     requires children { orders.old.children.items ≡ [] }
     ensures runs { (workload cluster_name : List ℕ) → map command_words orders.old.commands.items ≡ serve_commands workload cluster_name turns (length cluster.now) → RunsServers
-        (record { setting = record { plan = plan.now; header = record { tag = tag; from = Coord 0 }; cluster = cluster.now }; requests = requests.now; workload = workload; cluster = cluster_name; turns = turns })
+        (local_ask plan.now tag cluster.now requests.now workload cluster_name turns)
         (record {
-          turns = record {
-            link_old = record { arrivals = L.arrivals link.old; sent = L.sent link.old; lost = L.lost link.old };
-            link_new = record { arrivals = L.arrivals link.new; sent = L.sent link.new; lost = L.lost link.new };
-            out_old = S.taken out.old;
-            out_new = S.taken out.new;
-          };
-          bound_old = L.bound link.old;
-          bound_new = L.bound link.new;
-          started_old = P.started spawner.old;
-          started_new = P.started spawner.new;
-          awaited_old = P.awaited spawner.old;
-          awaited_new = P.awaited spawner.new;
+          node = record { link = link_call L.Link link.old link.new; out = sink_call S.Sink out.old out.new };
+          children = children_call P.Spawner spawner.old spawner.new;
         })
         result }
     ensures link_cause { HasCause (local_link_failed result) (L.faults link.old) (L.faults link.new) }
@@ -214,20 +196,10 @@ pub fn run_local<L: Link, P: Spawner, S: Sink>(
 ) -> LocalEnd
     requires { length cluster.now ≡ plan.now.program.shards }
     ensures runs { RunsLocal
-        (record { setting = record { plan = plan.now; header = record { tag = tag; from = Coord 0 }; cluster = cluster.now }; requests = requests.now; workload = workload_name.now; cluster = cluster_name.now; turns = turns })
+        (local_ask plan.now tag cluster.now requests.now workload_name.now cluster_name.now turns)
         (record {
-          turns = record {
-            link_old = record { arrivals = L.arrivals link.old; sent = L.sent link.old; lost = L.lost link.old };
-            link_new = record { arrivals = L.arrivals link.new; sent = L.sent link.new; lost = L.lost link.new };
-            out_old = S.taken out.old;
-            out_new = S.taken out.new;
-          };
-          bound_old = L.bound link.old;
-          bound_new = L.bound link.new;
-          started_old = P.started spawner.old;
-          started_new = P.started spawner.new;
-          awaited_old = P.awaited spawner.old;
-          awaited_new = P.awaited spawner.new;
+          node = record { link = link_call L.Link link.old link.new; out = sink_call S.Sink out.old out.new };
+          children = children_call P.Spawner spawner.old spawner.new;
         })
         result }
     // A fault has its cause, and where all is done no failure was counted.

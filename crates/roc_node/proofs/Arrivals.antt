@@ -2,7 +2,8 @@
 use Rattle.std.proofs.Common.{◌≡◌, List, [], ◌∷◌, ◌++◌, refl, sym, ◌∙◌, ap, subst, append-nil, arith}
 use Rattle.std.specs.Prelude.{Option, option_map}
 use Rattle.roc_io.specs.Packet.{Packet}
-use Rattle.roc_post.specs.Moves.{LinkView, Moves}
+use Rattle.roc_io.specs.Call.{LinkView}
+use Rattle.roc_post.specs.Moves.{Moves}
 use Rattle.roc_post.proofs.Moving.{put_nothing, Moves-trans}
 use Rattle.roc_node.specs.NodeEvent.{NodeEvent, took, silent, arrived}
 use Rattle.roc_node.specs.Inner.Losing.{LosesOne}

@@ -1,5 +1,6 @@
 -- What a turn of a node takes: docs/PROTOCOL.md, "Running nodes"
-use Rattle.std.specs.Prelude.{List, [], ◌∷◌}
+use Rattle.std.specs.Prelude.{ℕ, List, [], ◌∷◌}
+use Rattle.roc_base.specs.declared.node.Node.{Node}
 use Rattle.roc_io.specs.declared.link.Addr.{Addr}
 use Rattle.roc_io.specs.Packet.{Packet}
 use Rattle.roc_plan.specs.Groups.{Plan}
@@ -22,3 +23,7 @@ pub record NodeSetting : Type 0 where
   pub plan : Plan
   pub header : Header
   pub cluster : List Addr
+
+-- that of a node of a workload with this tag
+abbrev pub node_setting : Plan → (tag : List ℕ) → Node → (cluster : List Addr) → NodeSetting
+node_setting plan tag node cluster = record { plan = plan; header = record { tag = tag; from = node }; cluster = cluster }

@@ -5,7 +5,8 @@ use Rattle.roc_io.specs.Packet.{Packet}
 use Rattle.roc_io.specs.Told.{Adds, AddsAllBut}
 use Rattle.roc_io.proofs.Links.{AddsAllBut-trans}
 use Rattle.roc_io.proofs.Told.{Adds-nil}
-use Rattle.roc_post.specs.Moves.{LinkView, Moves}
+use Rattle.roc_io.specs.Call.{LinkView}
+use Rattle.roc_post.specs.Moves.{Moves}
 
 pub put_nothing : {X : Type 0} (o : Option (List X)) → o ≡ option_map (λ left. [] ++ left) o
 put_nothing None = refl

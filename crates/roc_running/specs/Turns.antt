@@ -59,8 +59,10 @@ IsTurnOf tag silent (requested proc args) = ⊥
 -- the turns bring these own events, one each; between them may be datagrams that are skipped
 pub data AreTurnsOf (tag : List ℕ) : List NodeEvent → List OwnEvent → Type 0 where
   no_turns : AreTurnsOf tag [] []
-  turn : {events : List NodeEvent} {owns : List OwnEvent} (event : NodeEvent) (own : OwnEvent) → IsTurnOf tag event own → AreTurnsOf tag events owns → AreTurnsOf tag (event ∷ events) (own ∷ owns)
-  skipping : {events : List NodeEvent} {owns : List OwnEvent} (packet : Packet) (skip : Skip) → judged tag packet.bytes ≡ Skipped skip → AreTurnsOf tag events owns → AreTurnsOf tag (took packet ∷ events) owns
+  turn : {events : List NodeEvent} {owns : List OwnEvent} (event : NodeEvent) (own : OwnEvent) → IsTurnOf tag event own → AreTurnsOf tag events owns
+      → AreTurnsOf tag (event ∷ events) (own ∷ owns)
+  skipping : {events : List NodeEvent} {owns : List OwnEvent} (packet : Packet) (skip : Skip) → judged tag packet.bytes ≡ Skipped skip → AreTurnsOf tag events owns
+      → AreTurnsOf tag (took packet ∷ events) owns
 
 -- a tick, or a delivery of a message that has a spelling behind this header
 abbrev pub HasTurn : Header → OwnEvent → Type 0

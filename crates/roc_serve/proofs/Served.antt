@@ -7,7 +7,8 @@ use Rattle.roc_io.specs.Told.{Adds, AddsFront}
 use Rattle.roc_io.proofs.Told.{Adds-trans, AddsThenFront-behind}
 use Rattle.roc_plan.specs.Groups.{Plan}
 use Rattle.roc_wire.specs.declared.header.Header.{Header}
-use Rattle.roc_post.specs.Moves.{LinkView, Moves}
+use Rattle.roc_io.specs.Call.{LinkView, NodeCall}
+use Rattle.roc_post.specs.Moves.{Moves}
 use Rattle.roc_post.proofs.Moving.{Moves-behind}
 use Rattle.roc_serve.specs.declared.station.Station.{Station}
 use Rattle.roc_serve.specs.declared.ends.ServeEnd.{ServeEnd}
@@ -16,7 +17,7 @@ use Rattle.roc_serve.specs.declared.server_turns.RunEnd.TheVariants as run
 use Rattle.roc_node.specs.NodeEvent.{NodeEvent, NodeSetting}
 use Rattle.roc_node.specs.NodeLine.{node_lines_text, end_lines}
 use Rattle.roc_serve.specs.ServerRun.{ServerNode}
-use Rattle.roc_serve.specs.ServeEnd.{ServeCall, RunsServer, Serves, unserved, cut_off, wanted, untold, done, first_text}
+use Rattle.roc_serve.specs.ServeEnd.{RunsServer, Serves, unserved, cut_off, wanted, untold, done, first_text}
 use Rattle.roc_serve.specs.Inner.ServerTurn.{node_of, RunsTurns, ClosesServe}
 
 abbrev unwrap : Option Addr → Addr → Addr
@@ -28,35 +29,35 @@ own_bound : (at : Option Addr) (own found : Addr) (old new : Option (List Addr))
 own_bound at own found old new p q h = subst (λ a. Adds old new (a ∷ [])) (ap (λ o. unwrap o own) (sym q ∙ p)) h
 
 -- under the header that it is given
-pub ends_headed : (plan : Plan) (cluster : List Addr) (h k : Header) (shard : Shard) (own : Addr) (turns : ℕ) (counts : Bool) (call : ServeCall) (e : ServeEnd) → h ≡ k
+pub ends_headed : (plan : Plan) (cluster : List Addr) (h k : Header) (shard : Shard) (own : Addr) (turns : ℕ) (counts : Bool) (call : NodeCall) (e : ServeEnd) → h ≡ k
     → Serves (record { plan = plan; header = h; cluster = cluster }) shard own turns counts call e → Serves (record { plan = plan; header = k; cluster = cluster }) shard own turns counts call e
 ends_headed plan cluster h k shard own turns counts call e same = subst (λ v. Serves (record { plan = plan; header = v; cluster = cluster }) shard own turns counts call e) same
 
-module _ (S : NodeSetting) (shard : Shard) (own found : Addr) (turns : ℕ) (counts : Bool) (call : ServeCall) (at : Option Addr) (is : at ≡ Some own) (has : at ≡ Some found) where
-  pub ends_unserved : (piece : List ℕ) → Adds call.bound_old call.bound_new (found ∷ []) → Moves call.link_old call.link_new [] [] → piece ≡ first_text shard → AddsFront call.out_old call.out_new piece
+module _ (S : NodeSetting) (shard : Shard) (own found : Addr) (turns : ℕ) (counts : Bool) (call : NodeCall) (at : Option Addr) (is : at ≡ Some own) (has : at ≡ Some found) where
+  pub ends_unserved : (piece : List ℕ) → Adds call.link.bound_old call.link.bound_new (found ∷ []) → Moves call.link.old call.link.new [] [] → piece ≡ first_text shard → AddsFront call.out.old call.out.new piece
       → Serves S shard own turns counts call end.SinkFault
-  ends_unserved piece bound moves text told = unserved (own_bound at own found _ _ is has bound) moves (subst (AddsFront call.out_old call.out_new) text told)
+  ends_unserved piece bound moves text told = unserved (own_bound at own found _ _ is has bound) moves (subst (AddsFront call.out.old call.out.new) text told)
 
-  runs_behind : (mid : LinkView) (last : List Packet) (events : List NodeEvent) (node : ServerNode) → Moves call.link_old mid [] [] → RunsServer S shard turns last events node mid call.link_new
-      → RunsServer S shard turns last events node call.link_old call.link_new
-  runs_behind mid last events node p r = record { run = r.run; few = r.few; moves = Moves-behind call.link_old mid call.link_new _ _ p r.moves }
+  runs_behind : (mid : LinkView) (last : List Packet) (events : List NodeEvent) (node : ServerNode) → Moves call.link.old mid [] [] → RunsServer S shard turns last events node mid call.link.new
+      → RunsServer S shard turns last events node call.link.old call.link.new
+  runs_behind mid last events node p r = record { run = r.run; few = r.few; moves = Moves-behind call.link.old mid call.link.new _ _ p r.moves }
 
-  module _ (mid : LinkView) (greeted : Option (List ℕ)) (piece : List ℕ) (bound : Adds call.bound_old call.bound_new (found ∷ [])) (binds : Moves call.link_old mid [] []) (text : piece ≡ first_text shard) (first : Adds call.out_old greeted piece) where
-    first_told : Adds call.out_old greeted (first_text shard)
-    first_told = subst (Adds call.out_old greeted) text first
+  module _ (mid : LinkView) (greeted : Option (List ℕ)) (piece : List ℕ) (bound : Adds call.link.bound_old call.link.bound_new (found ∷ [])) (binds : Moves call.link.old mid [] []) (text : piece ≡ first_text shard) (first : Adds call.out.old greeted piece) where
+    first_told : Adds call.out.old greeted (first_text shard)
+    first_told = subst (Adds call.out.old greeted) text first
 
-    pub ends_cut : (station : Station) → RunsTurns run.LinkFault S shard turns station mid call.link_new → call.out_new ≡ greeted → Serves S shard own turns counts call end.LinkFault
-    ends_cut station r same = cut_off r.1 r.0 (own_bound at own found _ _ is has bound) (runs_behind mid [] r.1 r.0 binds r.4) r.2 r.3 (subst (λ o. Adds call.out_old o (first_text shard)) (sym same) first_told)
+    pub ends_cut : (station : Station) → RunsTurns run.LinkFault S shard turns station mid call.link.new → call.out.new ≡ greeted → Serves S shard own turns counts call end.LinkFault
+    ends_cut station r same = cut_off r.1 r.0 (own_bound at own found _ _ is has bound) (runs_behind mid [] r.1 r.0 binds r.4) r.2 r.3 (subst (λ o. Adds call.out.old o (first_text shard)) (sym same) first_told)
 
-    pub ends_wanted : (station : Station) → RunsTurns run.NoMemory S shard turns station mid call.link_new → call.out_new ≡ greeted → Serves S shard own turns counts call end.NoMemory
-    ends_wanted station r same = wanted r.1 r.0 r.2 (own_bound at own found _ _ is has bound) (runs_behind mid r.2 r.1 r.0 binds r.4) r.3 (subst (λ o. Adds call.out_old o (first_text shard)) (sym same) first_told)
+    pub ends_wanted : (station : Station) → RunsTurns run.NoMemory S shard turns station mid call.link.new → call.out.new ≡ greeted → Serves S shard own turns counts call end.NoMemory
+    ends_wanted station r same = wanted r.1 r.0 r.2 (own_bound at own found _ _ is has bound) (runs_behind mid r.2 r.1 r.0 binds r.4) r.3 (subst (λ o. Adds call.out.old o (first_text shard)) (sym same) first_told)
 
-    pub ends_over : (station : Station) (stopped : Bool) (e : ServeEnd) → RunsTurns (run.Over stopped) S shard turns station mid call.link_new
-        → ClosesServe e (node_lines_text (end_lines shard stopped counts station.counts)) greeted call.out_new → Serves S shard own turns counts call e
+    pub ends_over : (station : Station) (stopped : Bool) (e : ServeEnd) → RunsTurns (run.Over stopped) S shard turns station mid call.link.new
+        → ClosesServe e (node_lines_text (end_lines shard stopped counts station.counts)) greeted call.out.new → Serves S shard own turns counts call e
     ends_over station stopped end.Done r c =
-        done r.2 (node_of station r.0 r.1 stopped) (own_bound at own found _ _ is has bound) (runs_behind mid [] r.2 _ binds r.4) r.3 (Adds-trans call.out_old greeted call.out_new _ _ first_told c)
+        done r.2 (node_of station r.0 r.1 stopped) (own_bound at own found _ _ is has bound) (runs_behind mid [] r.2 _ binds r.4) r.3 (Adds-trans call.out.old greeted call.out.new _ _ first_told c)
     ends_over station stopped end.SinkFault r c =
-        untold r.2 (node_of station r.0 r.1 stopped) (own_bound at own found _ _ is has bound) (runs_behind mid [] r.2 _ binds r.4) r.3 (AddsThenFront-behind call.out_old greeted call.out_new _ _ first_told c)
+        untold r.2 (node_of station r.0 r.1 stopped) (own_bound at own found _ _ is has bound) (runs_behind mid [] r.2 _ binds r.4) r.3 (AddsThenFront-behind call.out.old greeted call.out.new _ _ first_told c)
     ends_over station stopped end.NoMemory r c =
-        wanted r.2 (node_of station r.0 r.1 stopped) [] (own_bound at own found _ _ is has bound) (runs_behind mid [] r.2 _ binds r.4) (omega arith) (subst (λ o. Adds call.out_old o (first_text shard)) (sym c) first_told)
+        wanted r.2 (node_of station r.0 r.1 stopped) [] (own_bound at own found _ _ is has bound) (runs_behind mid [] r.2 _ binds r.4) (omega arith) (subst (λ o. Adds call.out.old o (first_text shard)) (sym c) first_told)
     ends_over station stopped end.LinkFault r c = absurd c

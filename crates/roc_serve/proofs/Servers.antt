@@ -15,7 +15,8 @@ use Rattle.roc_post.specs.Posting.{Hearsay, none_heard, packets_for}
 use Rattle.roc_post.specs.Judgement.{judged}
 use Rattle.roc_post.specs.declared.judging.Judged.{Judged}
 use Rattle.roc_post.specs.declared.judging.Judged.TheVariants.{Delivery, Skipped}
-use Rattle.roc_post.specs.Moves.{LinkView, Moves}
+use Rattle.roc_io.specs.Call.{LinkView}
+use Rattle.roc_post.specs.Moves.{Moves}
 use Rattle.roc_post.proofs.Moving.{put_nothing, Moves-trans, Moves-none}
 use Rattle.roc_node.specs.declared.counts.Counts.{Counts}
 use Rattle.roc_serve.specs.declared.station.Station.{Station}

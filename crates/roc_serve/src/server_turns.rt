@@ -1,5 +1,6 @@
 //! The turns of a server's node.
 ghost use Rattle.std.specs.Prelude.{◌≡◌, length, OnOk, if◌then◌else◌};
+ghost use Rattle.roc_io.specs.Call.{link_view};
 ghost use Rattle.roc_io.specs.Cause.{HasCause};
 ghost use Rattle.roc_server.specs.Fits.{ServerFits};
 ghost use Rattle.roc_wire.specs.Fits.{FitsHeader};
@@ -76,9 +77,7 @@ pub fn take_turn<L: Link>(
     requires header { FitsHeader header.now }
     requires cluster { length cluster.now ≡ plan.now.program.shards }
     ensures cause { HasCause (turn_failed result) (L.faults link.old) (L.faults link.new) }
-    ensures turns { Turns (record { plan = plan.now; header = header.now; cluster = cluster.now }) result station.old station.new
-        (record { arrivals = L.arrivals link.old; sent = L.sent link.old; lost = L.lost link.old })
-        (record { arrivals = L.arrivals link.new; sent = L.sent link.new; lost = L.lost link.new }) }
+    ensures turns { Turns (record { plan = plan.now; header = header.now; cluster = cluster.now }) result station.old station.new (link_view L.Link link.old) (link_view L.Link link.new) }
     ensures fits { result ≡ Turned.Goes → ServerFits plan.now station.new.server }
     ensures bound { L.bound link.new ≡ L.bound link.old }
 {
@@ -122,9 +121,7 @@ pub fn run_turns<L: Link>(
     requires header { FitsHeader header.now }
     requires cluster { length cluster.now ≡ plan.now.program.shards }
     ensures cause { HasCause (run_failed result) (L.faults link.old) (L.faults link.new) }
-    ensures runs { RunsTurns result (record { plan = plan.now; header = header.now; cluster = cluster.now }) shard turns station.new
-        (record { arrivals = L.arrivals link.old; sent = L.sent link.old; lost = L.lost link.old })
-        (record { arrivals = L.arrivals link.new; sent = L.sent link.new; lost = L.lost link.new }) }
+    ensures runs { RunsTurns result (record { plan = plan.now; header = header.now; cluster = cluster.now }) shard turns station.new (link_view L.Link link.old) (link_view L.Link link.new) }
     ensures bound { L.bound link.new ≡ L.bound link.old }
 {
     let mut buffer = Vec::new(alloc);

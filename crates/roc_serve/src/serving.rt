@@ -2,9 +2,11 @@
 ghost use Rattle.std.specs.Prelude.{◌≡◌, false, ◌<◌, length, Some, IfOk, slice_get};
 ghost use Rattle.roc_base.specs.declared.node.Node.TheVariants as node;
 ghost use Rattle.roc_io.specs.declared.link.Addr.{Addr};
+ghost use Rattle.roc_io.specs.Call.{link_call, sink_call};
 ghost use Rattle.roc_io.specs.Cause.{HasCause};
 ghost use Rattle.roc_server.specs.Fits.{ServerFits};
 ghost use Rattle.roc_wire.specs.Fits.{FitsHeader};
+ghost use Rattle.roc_node.specs.NodeEvent.{node_setting};
 ghost use Rattle.roc_node.specs.NodeLine.{node_lines_text, end_lines};
 ghost use Rattle.roc_serve.specs.ServeEnd.{Serves, first_text, serve_link_failed, serve_sink_failed};
 ghost use Rattle.roc_serve.specs.Inner.ServerTurn.{first_station, ClosesServe};
@@ -44,15 +46,8 @@ pub fn serve<L: Link, S: Sink>(
     ensures sink_cause { HasCause (serve_sink_failed result) (S.faults out.old) (S.faults out.new) }
     // What the node's run gives over the arrivals is what was sent and written.
     ensures serves { (own : Addr) → slice_get cluster.now shard.0 ≡ Some own
-        → Serves (record { plan = plan.now; header = record { tag = tag; from = node.Server shard }; cluster = cluster.now }) shard own turns counts
-        (record {
-          bound_old = L.bound link.old;
-          bound_new = L.bound link.new;
-          link_old = record { arrivals = L.arrivals link.old; sent = L.sent link.old; lost = L.lost link.old };
-          link_new = record { arrivals = L.arrivals link.new; sent = L.sent link.new; lost = L.lost link.new };
-          out_old = S.taken out.old;
-          out_new = S.taken out.new;
-        })
+        → Serves (node_setting plan.now tag (node.Server shard) cluster.now) shard own turns counts
+        (record { link = link_call L.Link link.old link.new; out = sink_call S.Sink out.old out.new })
         result }
 {
     let header = own_header(plan, tag, shard);
@@ -95,14 +90,7 @@ fn serve_from<L: Link, S: Sink>(
     ensures sink_cause { HasCause (serve_sink_failed result) (S.faults out.old) (S.faults out.new) }
     ensures serves { (own : Addr) → slice_get cluster.now shard.0 ≡ Some own
         → Serves (record { plan = plan.now; header = header.now; cluster = cluster.now }) shard own turns counts
-        (record {
-          bound_old = L.bound link.old;
-          bound_new = L.bound link.new;
-          link_old = record { arrivals = L.arrivals link.old; sent = L.sent link.old; lost = L.lost link.old };
-          link_new = record { arrivals = L.arrivals link.new; sent = L.sent link.new; lost = L.lost link.new };
-          out_old = S.taken out.old;
-          out_new = S.taken out.new;
-        })
+        (record { link = link_call L.Link link.old link.new; out = sink_call S.Sink out.old out.new })
         result }
 {
     let first = match first_text(alloc, shard) {

@@ -131,7 +131,8 @@ pub fn take_datagram(
     requires fits { ServerFits plan.now station.old.server }
     requires header { FitsHeader header.now }
     requires cluster { length cluster.now ≡ plan.now.program.shards }
-    ensures leads { IfOk result (Leads (AfterEvent (record { plan = plan.now; header = header.now; cluster = cluster.now }) (bare station.old) (took (record { address = from; bytes = bytes.now }))) station.new) }
+    ensures leads { IfOk result (Leads (AfterEvent (record { plan = plan.now; header = header.now; cluster = cluster.now }) (bare station.old)
+        (took (record { address = from; bytes = bytes.now }))) station.new) }
     ensures fits { OnOk result (ServerFits plan.now station.new.server) }
 {
     match judge(alloc, header.tag, bytes) {

@@ -4,7 +4,8 @@ use Rattle.roc_io.specs.Told.{Adds, AddsThenFront}
 use Rattle.roc_io.proofs.Told.{Adds-trans, AddsThenFront-behind}
 use Rattle.roc_report.specs.Text.{lines_text}
 use Rattle.roc_sched.specs.declared.line.Request.{Request}
-use Rattle.roc_post.specs.Moves.{LinkView, Moves}
+use Rattle.roc_io.specs.Call.{LinkView}
+use Rattle.roc_post.specs.Moves.{Moves}
 use Rattle.roc_post.proofs.Moving.{Moves-before}
 use Rattle.roc_submit.specs.declared.desk.Desk.{Desk}
 use Rattle.roc_submit.specs.declared.ends.SubmitEnd.{SubmitEnd}
@@ -17,7 +18,7 @@ use Rattle.roc_submit.proofs.Coords.{Halved, halved}
 use Rattle.roc_node.proofs.Arrivals.{arrived-append, lost_last}
 
 abbrev pub call_of : LinkView → LinkView → Option (List ℕ) → Option (List ℕ) → TurnsCall
-call_of a b out0 out1 = record { link_old = a; link_new = b; out_old = out0; out_new = out1 }
+call_of a b out0 out1 = record { old = a; new = b; out = record { old = out0; new = out1 } }
 
 -- nothing more was written
 still : (old mid new : Option (List ℕ)) (text : List ℕ) → Adds old mid text → Adds mid new [] → Adds old new text

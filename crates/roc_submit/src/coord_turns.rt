@@ -1,5 +1,6 @@
 //! The turns of a coordinator's node.
 ghost use Rattle.std.specs.Prelude.{◌≡◌, ◌≤◌, [], length, OnOk};
+ghost use Rattle.roc_io.specs.Call.{link_view};
 ghost use Rattle.roc_io.specs.Cause.{HasCause};
 ghost use Rattle.roc_io.specs.Sink.{write_failed, Takes};
 ghost use Rattle.roc_post.specs.Moves.{Moves};
@@ -31,10 +32,7 @@ fn write_text<S: Sink>(out: &mut S, text: &[u8]) -> Written
 fn put_out<L: Link, S: Sink>(due: &Due, link: &mut L, out: &mut S) -> Written
     ensures cause { HasCause (write_failed result) (S.faults out.old) (S.faults out.new) }
     ensures taken { Takes result (S.taken out.old) (S.taken out.new) due.now.text.items }
-    ensures moves { Moves
-        (record { arrivals = L.arrivals link.old; sent = L.sent link.old; lost = L.lost link.old })
-        (record { arrivals = L.arrivals link.new; sent = L.sent link.new; lost = L.lost link.new })
-        [] (unless_failed result due.now.sends.items) }
+    ensures moves { Moves (link_view L.Link link.old) (link_view L.Link link.new) [] (unless_failed result due.now.sends.items) }
     ensures faults { L.faults link.new ≡ L.faults link.old }
     ensures bound { L.bound link.new ≡ L.bound link.old }
 {
@@ -65,9 +63,7 @@ pub fn submit_half<L: Link, S: Sink>(
     ensures link_cause { HasCause (half_link_failed result) (L.faults link.old) (L.faults link.new) }
     ensures sink_cause { HasCause (half_sink_failed result) (S.faults out.old) (S.faults out.new) }
     ensures submits { HalfSubmits result (record { plan = plan.now; header = header.now; cluster = cluster.now }) requests.now desk.old desk.new
-        (record { arrivals = L.arrivals link.old; sent = L.sent link.old; lost = L.lost link.old })
-        (record { arrivals = L.arrivals link.new; sent = L.sent link.new; lost = L.lost link.new })
-        (S.taken out.old) (S.taken out.new) }
+        (link_view L.Link link.old) (link_view L.Link link.new) (S.taken out.old) (S.taken out.new) }
     ensures fits { CoordFits plan.now desk.new.coord }
     ensures next { desk.new.next ≤ length requests.now }
     ensures bound { L.bound link.new ≡ L.bound link.old }
@@ -135,9 +131,7 @@ pub fn take_half<L: Link, S: Sink>(
     ensures link_cause { HasCause (half_link_failed result) (L.faults link.old) (L.faults link.new) }
     ensures sink_cause { HasCause (half_sink_failed result) (S.faults out.old) (S.faults out.new) }
     ensures takes { HalfTakes result (record { plan = plan.now; header = header.now; cluster = cluster.now }) desk.old desk.new
-        (record { arrivals = L.arrivals link.old; sent = L.sent link.old; lost = L.lost link.old })
-        (record { arrivals = L.arrivals link.new; sent = L.sent link.new; lost = L.lost link.new })
-        (S.taken out.old) (S.taken out.new) }
+        (link_view L.Link link.old) (link_view L.Link link.new) (S.taken out.old) (S.taken out.new) }
     ensures fits { CoordFits plan.now desk.new.coord }
     ensures next { OnOk result (desk.new.next ≡ desk.old.next) }
     ensures bound { L.bound link.new ≡ L.bound link.old }

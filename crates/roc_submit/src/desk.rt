@@ -192,7 +192,8 @@ fn take_message(
     requires fits { CoordFits plan.now desk.old.coord }
     requires header { FitsHeader header.now }
     requires cluster { length cluster.now ≡ plan.now.program.shards }
-    ensures takes { IfOk result (λ due. TakesStep (record { plan = plan.now; header = header.now; cluster = cluster.now }) (after_message plan.now desk.old.coord msg.now) desk.old desk.new due.text.items due.sends.items) }
+    ensures takes { IfOk result (λ due. TakesStep (record { plan = plan.now; header = header.now; cluster = cluster.now })
+        (after_message plan.now desk.old.coord msg.now) desk.old desk.new due.text.items due.sends.items) }
     ensures fits { CoordFits plan.now desk.new.coord }
 {
     let mut out = Outbox::new(alloc);

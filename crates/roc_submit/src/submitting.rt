@@ -1,8 +1,10 @@
 //! Submitting requests.
 ghost use Rattle.std.specs.Prelude.{◌≡◌, ◌≤◌, ◌++◌, false, [], length, map, OnOk};
 ghost use Rattle.roc_base.specs.declared.node.Node.TheVariants as node;
+ghost use Rattle.roc_io.specs.Call.{link_call, link_view, sink_call};
 ghost use Rattle.roc_io.specs.Cause.{HasCause};
 ghost use Rattle.roc_coord.specs.State.{first_coord};
+ghost use Rattle.roc_node.specs.NodeEvent.{node_setting};
 ghost use Rattle.roc_node.specs.NodeLine.{node_line_text, node_lines_text};
 ghost use Rattle.roc_submit.specs.CoordRun.{is_answered};
 ghost use Rattle.roc_submit.specs.Inner.CoordTurn.{coord_node_of, ClosesSubmit};
@@ -43,13 +45,8 @@ pub fn submit_turns<L: Link, S: Sink>(
     ensures sink_cause { HasCause (submit_sink_failed result) (S.faults out.old) (S.faults out.new) }
     ensures bound { L.bound link.new ≡ L.bound link.old }
     // What the node's run gives over the arrivals is what was sent and written.
-    ensures submits { Submits (record { plan = plan.now; header = record { tag = tag; from = node.Coord coord }; cluster = cluster.now }) coord requests.now turns
-        (record {
-          link_old = record { arrivals = L.arrivals link.old; sent = L.sent link.old; lost = L.lost link.old };
-          link_new = record { arrivals = L.arrivals link.new; sent = L.sent link.new; lost = L.lost link.new };
-          out_old = S.taken out.old;
-          out_new = S.taken out.new;
-        })
+    ensures submits { Submits (node_setting plan.now tag (node.Coord coord) cluster.now) coord requests.now turns
+        (record { old = link_view L.Link link.old; new = link_view L.Link link.new; out = sink_call S.Sink out.old out.new })
         result }
 {
     let header = Header {
@@ -182,14 +179,8 @@ pub fn submit_all<L: Link, S: Sink>(
     requires coord { coord ≤ 15 }
     ensures link_cause { HasCause (submit_link_failed result) (L.faults link.old) (L.faults link.new) }
     ensures sink_cause { HasCause (submit_sink_failed result) (S.faults out.old) (S.faults out.new) }
-    ensures submits { BindsAndSubmits (record { plan = plan.now; header = record { tag = tag; from = node.Coord coord }; cluster = cluster.now }) coord requests.now turns
-        (L.bound link.old) (L.bound link.new)
-        (record {
-          link_old = record { arrivals = L.arrivals link.old; sent = L.sent link.old; lost = L.lost link.old };
-          link_new = record { arrivals = L.arrivals link.new; sent = L.sent link.new; lost = L.lost link.new };
-          out_old = S.taken out.old;
-          out_new = S.taken out.new;
-        })
+    ensures submits { BindsAndSubmits (node_setting plan.now tag (node.Coord coord) cluster.now) coord requests.now turns
+        (record { link = link_call L.Link link.old link.new; out = sink_call S.Sink out.old out.new })
         result }
 {
     let any = Addr {

@@ -7,7 +7,8 @@ use Rattle.roc_msg.specs.declared.outbox.Outgoing.{Outgoing}
 use Rattle.roc_plan.specs.Groups.{Plan}
 use Rattle.roc_server.specs.First.{first_server}
 use Rattle.roc_post.specs.Posting.{none_heard}
-use Rattle.roc_post.specs.Moves.{LinkView, Moves}
+use Rattle.roc_io.specs.Call.{LinkView}
+use Rattle.roc_post.specs.Moves.{Moves}
 use Rattle.roc_serve.specs.declared.station.Station.{Station}
 use Rattle.roc_serve.specs.declared.station.Given.{Given}
 use Rattle.roc_serve.specs.declared.server_turns.Turned.{Turned}

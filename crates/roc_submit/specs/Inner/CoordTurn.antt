@@ -10,7 +10,8 @@ use Rattle.roc_plan.specs.Groups.{Plan}
 use Rattle.roc_report.specs.Line.{Line}
 use Rattle.roc_report.specs.Text.{lines_text}
 use Rattle.roc_sched.specs.declared.line.Request.{Request}
-use Rattle.roc_post.specs.Moves.{LinkView, Moves}
+use Rattle.roc_io.specs.Call.{LinkView}
+use Rattle.roc_post.specs.Moves.{Moves}
 use Rattle.roc_post.specs.Posting.{none_heard, packets_for}
 use Rattle.roc_submit.specs.declared.desk.Desk.{Desk}
 use Rattle.roc_submit.specs.declared.desk.Due.{Due}

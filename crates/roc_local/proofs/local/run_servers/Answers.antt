@@ -2,8 +2,7 @@ use Rattle.std.proofs.Common.{[], length, sym, ap, subst, arith}
 use Rattle.std.proofs.lemmas.List.{length-map}
 use Rattle.roc_io.specs.Spawner.{command_words}
 use Rattle.roc_local.specs.declared.local.LocalEnd.{LocalEnd}
-use Rattle.roc_base.specs.declared.node.Node.TheVariants.{Coord}
-use Rattle.roc_local.specs.Local.{BlamesChild, LocalAsk}
+use Rattle.roc_local.specs.Local.{BlamesChild, local_ask}
 use Rattle.roc_local.proofs.Ends.{few_run, blamed}
 use Rattle.roc_local.proofs.local.run_servers.Goals as goal
 
@@ -25,13 +24,7 @@ await_all-bad-requires g c =
 
 pub returns-clause-child_cause : goal.returns-clause-child_cause
 returns-clause-child_cause g c =
-    let asked : LocalAsk = record {
-      setting = record { plan = c.args.plan.now; header = record { tag = c.args.tag; from = Coord 0 }; cluster = c.args.cluster.now };
-      requests = c.args.requests.now;
-      workload = [];
-      cluster = [];
-      turns = c.args.turns;
-    } in
+    let asked = local_ask c.args.plan.now c.args.tag c.args.cluster.now c.args.requests.now [] [] c.args.turns in
     let failures = c.await_all-bad.ensures in
     subst (λ (end : LocalEnd). BlamesChild end (g.P.Spawner.faults c.args.spawner.now) (g.P.Spawner.faults c.await_all-bad.new.spawner)) (sym c.with_child.ensures)
     (blamed asked _ _ _ c.work-first.result c.await_all-bad.result _ _ _ _ _ _ c.start_all-starts.ensures.cause (c.work-first.ensures.works [] []) failures.awaited failures.failed failures.succeeded failures.never_falls)

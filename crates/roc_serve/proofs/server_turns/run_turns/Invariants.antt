@@ -1,5 +1,6 @@
 -- The turns so far are those of a run.
 use Rattle.std.proofs.Common.{◌≡◌, false}
+use Rattle.roc_io.specs.Call.{link_view}
 use Rattle.roc_server.specs.Fits.{ServerFits}
 use Rattle.roc_serve.specs.Inner.ServerTurn.{RanSo}
 use Rattle.roc_serve.proofs.server_turns.run_turns.Given as goal
@@ -8,8 +9,7 @@ abbrev pub invariant-loop : goal.invariant-loop
 invariant-loop g l =
     let L = g.L.Link in
     RanSo (record { plan = l.fn.plan; header = l.fn.header; cluster = l.fn.cluster }) l.fn.shard l.counter false l.station
-    (record { arrivals = L.arrivals l.fn.link; sent = L.sent l.fn.link; lost = L.lost l.fn.link })
-    (record { arrivals = L.arrivals l.link; sent = L.sent l.link; lost = L.lost l.link })
+    (link_view L l.fn.link) (link_view L l.link)
     × ServerFits l.fn.plan l.station.server
     × (L.faults l.link ≡ L.faults l.fn.link)
     × (L.bound l.link ≡ L.bound l.fn.link)
