@@ -1,7 +1,6 @@
 -- Commands with nodes: what their files held, and how their loops ended: docs/FORMATS.md, "The program", and docs/PROTOCOL.md, "Running nodes"
 use Rattle.std.specs.Prelude.{◌≡◌, ◌⊎◌, ℕ, Bool, List, [], Option, Some, None, slice_get}
 use Rattle.roc_base.specs.declared.node.Shard.{Shard}
-use Rattle.roc_base.specs.declared.node.Node.{Node}
 use Rattle.roc_base.specs.declared.node.Node.TheVariants.{Server, Coord}
 use Rattle.roc_io.specs.declared.link.Addr.{Addr}
 use Rattle.roc_plan.specs.Groups.{Plan}
@@ -16,7 +15,7 @@ use Rattle.roc_local.specs.declared.local.LocalEnd.TheVariants.{ChildFault}
 use Rattle.roc_local.specs.Local.{LocalCall, RunsLocal, BlamesChild, local_ask, local_end_of}
 use Rattle.roc_words.specs.Commands.{serve, submit, stop, local}
 use Rattle.roc_words.specs.Answer.{AreWordsOf}
-use Rattle.roc_node.specs.NodeEvent.{NodeSetting, node_setting}
+use Rattle.roc_node.specs.NodeEvent.{node_setting}
 use Rattle.roc_serve.specs.declared.ends.ServeEnd.{ServeEnd}
 use Rattle.roc_serve.specs.declared.ends.ServeEnd.TheVariants as serve_end
 use Rattle.roc_submit.specs.declared.ends.SubmitEnd.{SubmitEnd}
@@ -27,10 +26,6 @@ use Rattle.roc_io.specs.Call.{NodeCall, LinkCall, ChildrenCall}
 use Rattle.roc_launch.specs.Call.{RunCall, WholeCall, TakesNothing}
 use Rattle.roc_files.specs.Held.{HoldNodes}
 use Rattle.roc_files.specs.NodeNames.{tag_of_bytes}
-
--- what stays the same while a node of a workload of these bytes runs
-abbrev pub setting_of : (bytes : List ℕ) → Plan → Node → (cluster : List Addr) → NodeSetting
-setting_of bytes plan node cluster = node_setting plan (tag_of_bytes bytes) node cluster
 
 -- a call, as the loops of nodes see it
 abbrev pub node_call : RunCall → LinkCall → NodeCall
@@ -53,7 +48,7 @@ pub record ServeEnded (call : RunCall) (link : LinkCall) (end : ServeEnd) : Type
   pub held : HoldNodes call.files.content (record { workload = workload; cluster = cluster; requests = None; shard = Some shard }) bytes plan addrs []
   pub own : Addr
   pub address : slice_get addrs shard ≡ Some own
-  pub serves : Serves (setting_of bytes plan (Server (record { 0 = shard })) addrs) (record { 0 = shard }) own turns counts (node_call call link) end
+  pub serves : Serves (node_setting plan (tag_of_bytes bytes) (Server (record { 0 = shard })) addrs) (record { 0 = shard }) own turns counts (node_call call link) end
 
 -- the requests were submitted by a coordinator, and that ended so
 pub record SubmitEnded (call : RunCall) (link : LinkCall) (end : SubmitEnd) : Type 0 where
@@ -68,7 +63,7 @@ pub record SubmitEnded (call : RunCall) (link : LinkCall) (end : SubmitEnd) : Ty
   pub addrs : List Addr
   pub requests : List Request
   pub held : HoldNodes call.files.content (record { workload = workload; cluster = cluster; requests = Some listed; shard = None }) bytes plan addrs requests
-  pub submits : BindsAndSubmits (setting_of bytes plan (Coord coord) addrs) coord requests turns (node_call call link) end
+  pub submits : BindsAndSubmits (node_setting plan (tag_of_bytes bytes) (Coord coord) addrs) coord requests turns (node_call call link) end
 
 -- each server was sent its stops, or nothing was sent, and that ended so
 pub record StopEnded (call : RunCall) (link : LinkCall) (end : StopEnd) : Type 0 where

@@ -2,3 +2,4 @@ pub mod NodeEvent
 pub mod Counts
 pub mod NodeLine
 pub mod Inner
+pub mod Setting

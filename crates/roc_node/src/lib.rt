@@ -9,6 +9,8 @@
 
 mod counts;
 mod lines;
+mod setting;
 
 pub use counts::{Counts, IgnoreCounts, SkipCounts};
 pub use lines::{NodeLine, append_end, append_line};
+pub use setting::Setting;

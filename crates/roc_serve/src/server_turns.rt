@@ -4,14 +4,13 @@ ghost use Rattle.roc_io.specs.Call.{link_view};
 ghost use Rattle.roc_io.specs.Cause.{HasCause};
 ghost use Rattle.roc_server.specs.Fits.{ServerFits};
 ghost use Rattle.roc_wire.specs.Fits.{FitsHeader};
+ghost use Rattle.roc_node.specs.Setting.{setting_of};
 ghost use Rattle.roc_serve.specs.Inner.ServerTurn.{TakesOne, Turns, RunsTurns, event_failed, first_station, run_failed, turn_failed};
 
 use crate::station::{Given, Station, take_datagram, take_silence};
 use roc_base::Shard;
-use roc_cluster::Cluster;
 use roc_io::{Arrival, Link, send_all};
-use roc_plan::Plan;
-use roc_wire::Header;
+use roc_node::Setting;
 use std::alloc::Global;
 
 /// What comes of a turn.
@@ -30,31 +29,29 @@ pub enum Turned {
 // One receive, and what the node makes of it.
 fn one_event<L: Link>(
     alloc: Global,
-    plan: &Plan,
-    cluster: &Cluster,
-    header: &Header,
+    setting: Setting<'_>,
     station: &mut Station,
     link: &mut L,
     buffer: &mut Vec<u8>,
 ) -> Result<Given, Turned>
-    requires fits { ServerFits plan.now station.old.server }
-    requires header { FitsHeader header.now }
-    requires cluster { length cluster.now ≡ plan.now.program.shards }
+    requires fits { ServerFits setting.plan.now station.old.server }
+    requires header { FitsHeader setting.header.now }
+    requires cluster { length setting.cluster.now ≡ setting.plan.now.program.shards }
     ensures cause { HasCause (event_failed result) (L.faults link.old) (L.faults link.new) }
-    ensures takes { TakesOne (record { plan = plan.now; header = header.now; cluster = cluster.now }) result station.old station.new (L.arrivals link.old) (L.arrivals link.new) }
-    ensures fits { OnOk result (ServerFits plan.now station.new.server) }
+    ensures takes { TakesOne (setting_of setting.entry) result station.old station.new (L.arrivals link.old) (L.arrivals link.new) }
+    ensures fits { OnOk result (ServerFits setting.entry.plan.now station.new.server) }
     ensures sent { L.sent link.new ≡ L.sent link.old }
     ensures lost { L.lost link.new ≡ L.lost link.old }
     ensures bound { L.bound link.new ≡ L.bound link.old }
 {
     match link.receive(buffer) {
         Arrival::Datagram { from } => {
-            match take_datagram(alloc, plan, cluster, header, station, from, buffer) {
+            match take_datagram(alloc, setting, station, from, buffer) {
                 Ok(given) => Ok(given),
                 Err(_) => Err(Turned::NoMemory),
             }
         }
-        Arrival::Quiet => match take_silence(alloc, plan, cluster, header, station) {
+        Arrival::Quiet => match take_silence(alloc, setting, station) {
             Ok(given) => Ok(given),
             Err(_) => Err(Turned::NoMemory),
         },
@@ -66,22 +63,20 @@ fn one_event<L: Link>(
 /// One receive, what the node makes of it, and what it sends.
 pub fn take_turn<L: Link>(
     alloc: Global,
-    plan: &Plan,
-    cluster: &Cluster,
-    header: &Header,
+    setting: Setting<'_>,
     station: &mut Station,
     link: &mut L,
     buffer: &mut Vec<u8>,
 ) -> Turned
-    requires fits { ServerFits plan.now station.old.server }
-    requires header { FitsHeader header.now }
-    requires cluster { length cluster.now ≡ plan.now.program.shards }
+    requires fits { ServerFits setting.plan.now station.old.server }
+    requires header { FitsHeader setting.header.now }
+    requires cluster { length setting.cluster.now ≡ setting.plan.now.program.shards }
     ensures cause { HasCause (turn_failed result) (L.faults link.old) (L.faults link.new) }
-    ensures turns { Turns (record { plan = plan.now; header = header.now; cluster = cluster.now }) result station.old station.new (link_view L.Link link.old) (link_view L.Link link.new) }
-    ensures fits { result ≡ Turned.Goes → ServerFits plan.now station.new.server }
+    ensures turns { Turns (setting_of setting.entry) result station.old station.new (link_view L.Link link.old) (link_view L.Link link.new) }
+    ensures fits { result ≡ Turned.Goes → ServerFits setting.entry.plan.now station.new.server }
     ensures bound { L.bound link.new ≡ L.bound link.old }
 {
-    match one_event(alloc, plan, cluster, header, station, link, buffer) {
+    match one_event(alloc, setting, station, link, buffer) {
         Ok(given) => {
             send_all(link, &given.sends);
             if given.stopped {
@@ -108,25 +103,23 @@ pub enum RunEnd {
 /// Turns, until one stops the node or so many were taken.
 pub fn run_turns<L: Link>(
     alloc: Global,
-    plan: &Plan,
-    cluster: &Cluster,
-    header: &Header,
+    setting: Setting<'_>,
     shard: Shard,
     station: &mut Station,
     link: &mut L,
     turns: u32,
 ) -> RunEnd
-    requires first { station.old ≡ first_station plan.now shard }
-    requires fits { ServerFits plan.now station.old.server }
-    requires header { FitsHeader header.now }
-    requires cluster { length cluster.now ≡ plan.now.program.shards }
+    requires first { station.old ≡ first_station setting.plan.now shard }
+    requires fits { ServerFits setting.plan.now station.old.server }
+    requires header { FitsHeader setting.header.now }
+    requires cluster { length setting.cluster.now ≡ setting.plan.now.program.shards }
     ensures cause { HasCause (run_failed result) (L.faults link.old) (L.faults link.new) }
-    ensures runs { RunsTurns result (record { plan = plan.now; header = header.now; cluster = cluster.now }) shard turns station.new (link_view L.Link link.old) (link_view L.Link link.new) }
+    ensures runs { RunsTurns result (setting_of setting.entry) shard turns station.new (link_view L.Link link.old) (link_view L.Link link.new) }
     ensures bound { L.bound link.new ≡ L.bound link.old }
 {
     let mut buffer = Vec::new(alloc);
     for _ in 0..turns {
-        match take_turn(alloc, plan, cluster, header, station, link, &mut buffer) {
+        match take_turn(alloc, setting, station, link, &mut buffer) {
             Turned::Goes => {}
             Turned::Stopped => return RunEnd::Over(true),
             Turned::NoMemory => return RunEnd::NoMemory,

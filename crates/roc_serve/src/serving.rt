@@ -8,6 +8,7 @@ ghost use Rattle.roc_server.specs.Fits.{ServerFits};
 ghost use Rattle.roc_wire.specs.Fits.{FitsHeader};
 ghost use Rattle.roc_node.specs.NodeEvent.{node_setting};
 ghost use Rattle.roc_node.specs.NodeLine.{node_lines_text, end_lines};
+ghost use Rattle.roc_node.specs.Setting.{setting_of};
 ghost use Rattle.roc_serve.specs.ServeEnd.{Serves, first_text, serve_link_failed, serve_sink_failed};
 ghost use Rattle.roc_serve.specs.Inner.ServerTurn.{first_station, ClosesServe};
 
@@ -17,7 +18,7 @@ use crate::station::Station;
 use roc_base::{NoMemory, Node, Shard};
 use roc_cluster::Cluster;
 use roc_io::{Bound, Link, Sink, Written};
-use roc_node::{Counts, NodeLine, append_end, append_line};
+use roc_node::{Counts, NodeLine, Setting, append_end, append_line};
 use roc_plan::Plan;
 use roc_post::Heard;
 use roc_server::Server;
@@ -51,12 +52,15 @@ pub fn serve<L: Link, S: Sink>(
         result }
 {
     let header = own_header(plan, tag, shard);
+    let setting = Setting {
+        plan,
+        cluster,
+        header: &header,
+    };
     match open_station(alloc, plan, shard) {
         Ok(mut station) => serve_from(
             alloc,
-            plan,
-            cluster,
-            &header,
+            setting,
             shard,
             &mut station,
             counts,
@@ -71,9 +75,7 @@ pub fn serve<L: Link, S: Sink>(
 // Serves from what a server keeps before any turn.
 fn serve_from<L: Link, S: Sink>(
     alloc: Global,
-    plan: &Plan,
-    cluster: &Cluster,
-    header: &Header,
+    setting: Setting<'_>,
     shard: Shard,
     station: &mut Station,
     counts: bool,
@@ -81,15 +83,15 @@ fn serve_from<L: Link, S: Sink>(
     turns: u32,
     out: &mut S,
 ) -> ServeEnd
-    requires cluster { length cluster.now ≡ plan.now.program.shards }
-    requires shard { shard.0 < plan.now.program.shards }
-    requires header { FitsHeader header.now }
-    requires first { station.old ≡ first_station plan.now shard }
-    requires fits { ServerFits plan.now station.old.server }
+    requires cluster { length setting.cluster.now ≡ setting.plan.now.program.shards }
+    requires shard { shard.0 < setting.plan.now.program.shards }
+    requires header { FitsHeader setting.header.now }
+    requires first { station.old ≡ first_station setting.plan.now shard }
+    requires fits { ServerFits setting.plan.now station.old.server }
     ensures link_cause { HasCause (serve_link_failed result) (L.faults link.old) (L.faults link.new) }
     ensures sink_cause { HasCause (serve_sink_failed result) (S.faults out.old) (S.faults out.new) }
-    ensures serves { (own : Addr) → slice_get cluster.now shard.0 ≡ Some own
-        → Serves (record { plan = plan.now; header = header.now; cluster = cluster.now }) shard own turns counts
+    ensures serves { (own : Addr) → slice_get setting.entry.cluster.now shard.0 ≡ Some own
+        → Serves (setting_of setting.entry) shard own turns counts
         (record { link = link_call L.Link link.old link.new; out = sink_call S.Sink out.old out.new })
         result }
 {
@@ -97,7 +99,7 @@ fn serve_from<L: Link, S: Sink>(
         Ok(first) => first,
         Err(_) => return ServeEnd::NoMemory,
     };
-    match link.bind(cluster.addr(shard)) {
+    match link.bind(setting.cluster.addr(shard)) {
         Bound::Failed => return ServeEnd::LinkFault,
         Bound::Ok => {}
     }
@@ -105,7 +107,7 @@ fn serve_from<L: Link, S: Sink>(
         Written::Failed => return ServeEnd::SinkFault,
         Written::Ok => {}
     }
-    match run_turns(alloc, plan, cluster, header, shard, station, link, turns) {
+    match run_turns(alloc, setting, shard, station, link, turns) {
         RunEnd::Over(stopped) => close(alloc, shard, stopped, counts, station, out),
         RunEnd::NoMemory => ServeEnd::NoMemory,
         RunEnd::LinkFault => ServeEnd::LinkFault,

@@ -4,17 +4,15 @@ ghost use Rattle.roc_server.specs.Fits.{ServerFits};
 ghost use Rattle.roc_wire.specs.Fits.{FitsHeader};
 ghost use Rattle.roc_node.specs.NodeEvent.{took, silent};
 ghost use Rattle.roc_serve.specs.ServerRun.{TakesMessage, AfterEvent, is_stop, with_answer};
+ghost use Rattle.roc_node.specs.Setting.{setting_of};
 ghost use Rattle.roc_serve.specs.Inner.ServerTurn.{bare, Leads};
 
 use roc_base::NoMemory;
-use roc_cluster::Cluster;
 use roc_io::{Addr, Datagram};
 use roc_msg::{Msg, Outbox};
-use roc_node::Counts;
-use roc_plan::Plan;
+use roc_node::{Counts, Setting};
 use roc_post::{Heard, Judged, judge, post};
 use roc_server::{Handled, Server};
-use roc_wire::Header;
 use std::alloc::Global;
 
 /// A server with what its node keeps besides: where coordinators were heard, and its counts.
@@ -60,28 +58,26 @@ fn is_stop(msg: &Msg) -> bool
 // A message for the core.
 fn take_step(
     alloc: Global,
-    plan: &Plan,
-    cluster: &Cluster,
-    header: &Header,
+    setting: Setting<'_>,
     station: &mut Station,
     msg: &Msg,
 ) -> Result<Given, NoMemory>
-    requires fits { ServerFits plan.now station.old.server }
-    requires header { FitsHeader header.now }
-    requires cluster { length cluster.now ≡ plan.now.program.shards }
-    ensures leads { IfOk result (Leads (TakesMessage (record { plan = plan.now; header = header.now; cluster = cluster.now }) (bare station.old) false msg.now) station.new) }
-    ensures fits { OnOk result (ServerFits plan.now station.new.server) }
+    requires fits { ServerFits setting.plan.now station.old.server }
+    requires header { FitsHeader setting.header.now }
+    requires cluster { length setting.cluster.now ≡ setting.plan.now.program.shards }
+    ensures leads { IfOk result (Leads (TakesMessage (setting_of setting.entry) (bare station.old) false msg.now) station.new) }
+    ensures fits { OnOk result (ServerFits setting.entry.plan.now station.new.server) }
 {
     let mut out = Outbox::new(alloc);
-    let answer = match station.server.handle(plan, msg, &mut out) {
+    let answer = match station.server.handle(setting.plan, msg, &mut out) {
         Ok(answer) => answer,
         Err(_) => return Err(NoMemory),
     };
-    let shards = plan.workload().shards();
+    let shards = setting.plan.workload().shards();
     let sends = post(
         alloc,
-        header,
-        cluster,
+        setting.header,
+        setting.cluster,
         shards,
         &station.heard,
         out.messages.as_slice(),
@@ -96,17 +92,15 @@ fn take_step(
 // A delivery: a stop is for the node, and any other message for its core.
 fn take_message(
     alloc: Global,
-    plan: &Plan,
-    cluster: &Cluster,
-    header: &Header,
+    setting: Setting<'_>,
     station: &mut Station,
     msg: &Msg,
 ) -> Result<Given, NoMemory>
-    requires fits { ServerFits plan.now station.old.server }
-    requires header { FitsHeader header.now }
-    requires cluster { length cluster.now ≡ plan.now.program.shards }
-    ensures leads { IfOk result (Leads (TakesMessage (record { plan = plan.now; header = header.now; cluster = cluster.now }) (bare station.old) (is_stop msg.now) msg.now) station.new) }
-    ensures fits { OnOk result (ServerFits plan.now station.new.server) }
+    requires fits { ServerFits setting.plan.now station.old.server }
+    requires header { FitsHeader setting.header.now }
+    requires cluster { length setting.cluster.now ≡ setting.plan.now.program.shards }
+    ensures leads { IfOk result (Leads (TakesMessage (setting_of setting.entry) (bare station.old) (is_stop msg.now) msg.now) station.new) }
+    ensures fits { OnOk result (ServerFits setting.entry.plan.now station.new.server) }
 {
     if is_stop(msg) {
         station.counts.take();
@@ -115,30 +109,28 @@ fn take_message(
             sends: Vec::new(alloc),
         });
     }
-    take_step(alloc, plan, cluster, header, station, msg)
+    take_step(alloc, setting, station, msg)
 }
 
 /// A datagram from an address.
 pub fn take_datagram(
     alloc: Global,
-    plan: &Plan,
-    cluster: &Cluster,
-    header: &Header,
+    setting: Setting<'_>,
     station: &mut Station,
     from: Addr,
     bytes: &[u8],
 ) -> Result<Given, NoMemory>
-    requires fits { ServerFits plan.now station.old.server }
-    requires header { FitsHeader header.now }
-    requires cluster { length cluster.now ≡ plan.now.program.shards }
-    ensures leads { IfOk result (Leads (AfterEvent (record { plan = plan.now; header = header.now; cluster = cluster.now }) (bare station.old)
+    requires fits { ServerFits setting.plan.now station.old.server }
+    requires header { FitsHeader setting.header.now }
+    requires cluster { length setting.cluster.now ≡ setting.plan.now.program.shards }
+    ensures leads { IfOk result (Leads (AfterEvent (setting_of setting.entry) (bare station.old)
         (took (record { address = from; bytes = bytes.now }))) station.new) }
-    ensures fits { OnOk result (ServerFits plan.now station.new.server) }
+    ensures fits { OnOk result (ServerFits setting.entry.plan.now station.new.server) }
 {
-    match judge(alloc, header.tag, bytes) {
+    match judge(alloc, setting.header.tag, bytes) {
         Ok(Judged::Delivery(sender, msg)) => {
             station.heard.hear(sender.from, from);
-            take_message(alloc, plan, cluster, header, station, &msg)
+            take_message(alloc, setting, station, &msg)
         }
         Ok(Judged::Skipped(skip)) => {
             station.counts.skip(skip);
@@ -154,26 +146,24 @@ pub fn take_datagram(
 /// Silence.
 pub fn take_silence(
     alloc: Global,
-    plan: &Plan,
-    cluster: &Cluster,
-    header: &Header,
+    setting: Setting<'_>,
     station: &mut Station,
 ) -> Result<Given, NoMemory>
-    requires fits { ServerFits plan.now station.old.server }
-    requires header { FitsHeader header.now }
-    requires cluster { length cluster.now ≡ plan.now.program.shards }
-    ensures leads { IfOk result (Leads (AfterEvent (record { plan = plan.now; header = header.now; cluster = cluster.now }) (bare station.old) silent) station.new) }
-    ensures fits { OnOk result (ServerFits plan.now station.new.server) }
+    requires fits { ServerFits setting.plan.now station.old.server }
+    requires header { FitsHeader setting.header.now }
+    requires cluster { length setting.cluster.now ≡ setting.plan.now.program.shards }
+    ensures leads { IfOk result (Leads (AfterEvent (setting_of setting.entry) (bare station.old) silent) station.new) }
+    ensures fits { OnOk result (ServerFits setting.entry.plan.now station.new.server) }
 {
     let mut out = Outbox::new(alloc);
     if station.server.tick(&mut out).is_err() {
         return Err(NoMemory);
     }
-    let shards = plan.workload().shards();
+    let shards = setting.plan.workload().shards();
     let sends = post(
         alloc,
-        header,
-        cluster,
+        setting.header,
+        setting.cluster,
         shards,
         &station.heard,
         out.messages.as_slice(),

@@ -5,22 +5,22 @@ ghost use Rattle.roc_wire.specs.Fits.{FitsHeader};
 ghost use Rattle.roc_report.specs.Text.{lines_text};
 ghost use Rattle.roc_post.specs.Posting.{none_heard, packets_for};
 ghost use Rattle.roc_node.specs.NodeEvent.{silent};
+ghost use Rattle.roc_node.specs.Setting.{setting_of};
 ghost use Rattle.roc_coord.specs.Step.{after_message};
 ghost use Rattle.roc_post.specs.Judgement.{judged};
 ghost use Rattle.roc_submit.specs.CoordRun.{reply_lines, answered_then, step_of_judged};
 ghost use Rattle.roc_submit.specs.Inner.CoordTurn.{SubmitsOne, SubmitsSome, SubmitsHalf, TakesStep, TakesHalf};
 
 use roc_base::NoMemory;
-use roc_cluster::Cluster;
 use roc_coord::{Coord, Handled, SubmitFault};
 use roc_io::Datagram;
 use roc_msg::{Msg, Outbox};
+use roc_node::Setting;
 use roc_plan::Plan;
 use roc_post::{Heard, Judged, judge, post};
 use roc_program::Workload;
 use roc_report::{ReportLine, append};
 use roc_sched::Request;
-use roc_wire::Header;
 use std::alloc::Global;
 
 /// How many of a coordinator's transactions may be unanswered at a time.
@@ -105,24 +105,22 @@ fn submit_some(
 /// The submissions before a turn, one after another, while fewer than sixteen are unanswered.
 pub fn make_submissions(
     alloc: Global,
-    plan: &Plan,
-    cluster: &Cluster,
-    header: &Header,
+    setting: Setting<'_>,
     desk: &mut Desk,
     requests: &[Request],
 ) -> Result<Due, NoMemory>
-    requires fits { CoordFits plan.now desk.old.coord }
-    requires header { FitsHeader header.now }
-    requires cluster { length cluster.now ≡ plan.now.program.shards }
+    requires fits { CoordFits setting.plan.now desk.old.coord }
+    requires header { FitsHeader setting.header.now }
+    requires cluster { length setting.cluster.now ≡ setting.plan.now.program.shards }
     requires next { desk.old.next ≤ length requests.now }
-    ensures submits { IfOk result (λ due. SubmitsHalf (record { plan = plan.now; header = header.now; cluster = cluster.now }) requests.now desk.old desk.new due.text.items due.sends.items) }
-    ensures fits { CoordFits plan.now desk.new.coord }
+    ensures submits { IfOk result (λ due. SubmitsHalf (setting_of setting.entry) requests.now desk.old desk.new due.text.items due.sends.items) }
+    ensures fits { CoordFits setting.entry.plan.now desk.new.coord }
     ensures next { desk.new.next ≤ length requests.now }
 {
     let mut out = Outbox::new(alloc);
     let mut text = Vec::new(alloc);
-    submit_some(alloc, plan, desk, requests, &mut out, &mut text)?;
-    let sends = post_all(alloc, plan, cluster, header, &out)?;
+    submit_some(alloc, setting.plan, desk, requests, &mut out, &mut text)?;
+    let sends = post_all(alloc, setting, &out)?;
     Ok(Due { text, sends })
 }
 
@@ -158,22 +156,16 @@ fn answered_then(answered: u64, answer: &Handled) -> u64
 }
 
 // What messages of a coordinator are sent as.
-fn post_all(
-    alloc: Global,
-    plan: &Plan,
-    cluster: &Cluster,
-    header: &Header,
-    out: &Outbox,
-) -> Result<Vec<Datagram>, NoMemory>
-    requires header { FitsHeader header.now }
-    requires cluster { length cluster.now ≡ plan.now.program.shards }
-    ensures { IfOk result (λ sends. sends.items ≡ packets_for header.now cluster.now none_heard out.now.messages) }
+fn post_all(alloc: Global, setting: Setting<'_>, out: &Outbox) -> Result<Vec<Datagram>, NoMemory>
+    requires header { FitsHeader setting.header.now }
+    requires cluster { length setting.cluster.now ≡ setting.plan.now.program.shards }
+    ensures { IfOk result (λ sends. sends.items ≡ packets_for setting.entry.header.now setting.entry.cluster.now none_heard out.now.messages) }
 {
-    let shards = plan.workload().shards();
+    let shards = setting.plan.workload().shards();
     post(
         alloc,
-        header,
-        cluster,
+        setting.header,
+        setting.cluster,
         shards,
         &Heard::new(),
         out.messages.as_slice(),
@@ -183,27 +175,25 @@ fn post_all(
 // A delivery.
 fn take_message(
     alloc: Global,
-    plan: &Plan,
-    cluster: &Cluster,
-    header: &Header,
+    setting: Setting<'_>,
     desk: &mut Desk,
     msg: &Msg,
 ) -> Result<Due, NoMemory>
-    requires fits { CoordFits plan.now desk.old.coord }
-    requires header { FitsHeader header.now }
-    requires cluster { length cluster.now ≡ plan.now.program.shards }
-    ensures takes { IfOk result (λ due. TakesStep (record { plan = plan.now; header = header.now; cluster = cluster.now })
-        (after_message plan.now desk.old.coord msg.now) desk.old desk.new due.text.items due.sends.items) }
-    ensures fits { CoordFits plan.now desk.new.coord }
+    requires fits { CoordFits setting.plan.now desk.old.coord }
+    requires header { FitsHeader setting.header.now }
+    requires cluster { length setting.cluster.now ≡ setting.plan.now.program.shards }
+    ensures takes { IfOk result (λ due. TakesStep (setting_of setting.entry)
+        (after_message setting.entry.plan.now desk.old.coord msg.now) desk.old desk.new due.text.items due.sends.items) }
+    ensures fits { CoordFits setting.entry.plan.now desk.new.coord }
 {
     let mut out = Outbox::new(alloc);
-    let answer = match desk.coord.handle(plan, msg, &mut out) {
+    let answer = match desk.coord.handle(setting.plan, msg, &mut out) {
         Ok(answer) => answer,
         Err(_) => return Err(NoMemory),
     };
     let mut text = Vec::new(alloc);
-    push_reply(alloc, plan.workload(), &mut text, &answer)?;
-    let sends = post_all(alloc, plan, cluster, header, &out)?;
+    push_reply(alloc, setting.plan.workload(), &mut text, &answer)?;
+    let sends = post_all(alloc, setting, &out)?;
     desk.answered = answered_then(desk.answered, &answer);
     Ok(Due { text, sends })
 }
@@ -211,23 +201,19 @@ fn take_message(
 /// A datagram.
 pub fn take_datagram(
     alloc: Global,
-    plan: &Plan,
-    cluster: &Cluster,
-    header: &Header,
+    setting: Setting<'_>,
     desk: &mut Desk,
     bytes: &[u8],
 ) -> Result<Due, NoMemory>
-    requires fits { CoordFits plan.now desk.old.coord }
-    requires header { FitsHeader header.now }
-    requires cluster { length cluster.now ≡ plan.now.program.shards }
-    ensures takes { IfOk result (λ due. TakesStep (record { plan = plan.now; header = header.now; cluster = cluster.now })
-        (step_of_judged plan.now desk.old.coord (judged header.now.tag bytes.now)) desk.old desk.new due.text.items due.sends.items) }
-    ensures fits { CoordFits plan.now desk.new.coord }
+    requires fits { CoordFits setting.plan.now desk.old.coord }
+    requires header { FitsHeader setting.header.now }
+    requires cluster { length setting.cluster.now ≡ setting.plan.now.program.shards }
+    ensures takes { IfOk result (λ due. TakesStep (setting_of setting.entry)
+        (step_of_judged setting.entry.plan.now desk.old.coord (judged setting.entry.header.now.tag bytes.now)) desk.old desk.new due.text.items due.sends.items) }
+    ensures fits { CoordFits setting.entry.plan.now desk.new.coord }
 {
-    match judge(alloc, header.tag, bytes) {
-        Ok(Judged::Delivery(_sender, msg)) => {
-            take_message(alloc, plan, cluster, header, desk, &msg)
-        }
+    match judge(alloc, setting.header.tag, bytes) {
+        Ok(Judged::Delivery(_sender, msg)) => { take_message(alloc, setting, desk, &msg) }
         Ok(Judged::Skipped(_skip)) => Ok(Due {
             text: Vec::new(alloc),
             sends: Vec::new(alloc),
@@ -237,24 +223,18 @@ pub fn take_datagram(
 }
 
 /// Silence.
-pub fn take_silence(
-    alloc: Global,
-    plan: &Plan,
-    cluster: &Cluster,
-    header: &Header,
-    desk: &mut Desk,
-) -> Result<Due, NoMemory>
-    requires fits { CoordFits plan.now desk.old.coord }
-    requires header { FitsHeader header.now }
-    requires cluster { length cluster.now ≡ plan.now.program.shards }
-    ensures takes { IfOk result (λ due. TakesHalf (record { plan = plan.now; header = header.now; cluster = cluster.now }) silent desk.old desk.new due.text.items due.sends.items) }
-    ensures fits { CoordFits plan.now desk.new.coord }
+pub fn take_silence(alloc: Global, setting: Setting<'_>, desk: &mut Desk) -> Result<Due, NoMemory>
+    requires fits { CoordFits setting.plan.now desk.old.coord }
+    requires header { FitsHeader setting.header.now }
+    requires cluster { length setting.cluster.now ≡ setting.plan.now.program.shards }
+    ensures takes { IfOk result (λ due. TakesHalf (setting_of setting.entry) silent desk.old desk.new due.text.items due.sends.items) }
+    ensures fits { CoordFits setting.entry.plan.now desk.new.coord }
 {
     let mut out = Outbox::new(alloc);
-    if desk.coord.tick(plan, &mut out).is_err() {
+    if desk.coord.tick(setting.plan, &mut out).is_err() {
         return Err(NoMemory);
     }
-    let sends = post_all(alloc, plan, cluster, header, &out)?;
+    let sends = post_all(alloc, setting, &out)?;
     Ok(Due {
         text: Vec::new(alloc),
         sends,

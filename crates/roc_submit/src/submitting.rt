@@ -17,7 +17,7 @@ use roc_base::{NoMemory, Node, TxnId};
 use roc_cluster::Cluster;
 use roc_coord::Coord;
 use roc_io::{Addr, Bound, Link, Sink, Written};
-use roc_node::{NodeLine, append_line};
+use roc_node::{NodeLine, Setting, append_line};
 use roc_plan::Plan;
 use roc_sched::Request;
 use roc_wire::Header;
@@ -53,28 +53,22 @@ pub fn submit_turns<L: Link, S: Sink>(
         tag,
         from: Node::Coord(coord),
     };
+    let setting = Setting {
+        plan,
+        cluster,
+        header: &header,
+    };
     let mut desk = open_desk(alloc, coord);
     let mut buffer = Vec::new(alloc);
     for _ in 0..turns {
         if is_answered(&desk, requests) {
             return close(alloc, &desk, requests, out);
         }
-        match submit_half(
-            alloc, plan, cluster, &header, &mut desk, requests, link, out,
-        ) {
+        match submit_half(alloc, setting, &mut desk, requests, link, out) {
             Ok(()) => {}
             Err(end) => return end,
         }
-        match take_half(
-            alloc,
-            plan,
-            cluster,
-            &header,
-            &mut desk,
-            link,
-            &mut buffer,
-            out,
-        ) {
+        match take_half(alloc, setting, &mut desk, link, &mut buffer, out) {
             Ok(()) => {}
             Err(end) => return end,
         }

@@ -4,4 +4,4 @@ use Rattle.roc_io.specs.Packet.{Packet}
 
 -- at most one arrival was taken, and nothing came of it
 abbrev pub LosesOne : Option (List Packet) → Option (List Packet) → Type 0
-LosesOne before after = (last : List Packet) × (length last ≤ 1) × (before ≡ option_map (λ left. last ++ left) after)
+LosesOne old new = (last : List Packet) × (length last ≤ 1) × (old ≡ option_map (λ left. last ++ left) new)

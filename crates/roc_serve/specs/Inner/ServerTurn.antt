@@ -47,44 +47,44 @@ event_failed (Ok given) = false
 event_failed (Err end) = turn_failed end
 
 -- an event was taken off the arrivals, and this is what the node makes of it
-pub record TakesEvent (S : NodeSetting) (old new : Station) (given : Given) (before after : Option (List Packet)) : Type 0 where
+pub record TakesEvent (S : NodeSetting) (old new : Station) (given : Given) (arrivals_old arrivals_new : Option (List Packet)) : Type 0 where
   pub event : NodeEvent
   pub leads : Leads (AfterEvent S (bare old) event) new given
-  pub arrivals : before ≡ option_map (λ left. arrived (event ∷ []) ++ left) after
+  pub arrivals : arrivals_old ≡ option_map (λ left. arrived (event ∷ []) ++ left) arrivals_new
 
 abbrev pub TakesOne : NodeSetting → Result Given Turned → (old new : Station) → Option (List Packet) → Option (List Packet) → Type 0
-TakesOne S (Ok given) old new before after = TakesEvent S old new given before after
-TakesOne S (Err NoMemory) old new before after = LosesOne before after
-TakesOne S (Err LinkFault) old new before after = after ≡ before
-TakesOne S (Err Goes) old new before after = ⊥
-TakesOne S (Err Stopped) old new before after = ⊥
+TakesOne S (Ok given) old new arrivals_old arrivals_new = TakesEvent S old new given arrivals_old arrivals_new
+TakesOne S (Err NoMemory) old new arrivals_old arrivals_new = LosesOne arrivals_old arrivals_new
+TakesOne S (Err LinkFault) old new arrivals_old arrivals_new = arrivals_new ≡ arrivals_old
+TakesOne S (Err Goes) old new arrivals_old arrivals_new = ⊥
+TakesOne S (Err Stopped) old new arrivals_old arrivals_new = ⊥
 
 -- one event led from what a node kept to what it keeps
-pub record TurnsOnce (S : NodeSetting) (stopped : Bool) (old new : Station) (before after : LinkView) : Type 0 where
+pub record TurnsOnce (S : NodeSetting) (stopped : Bool) (old new : Station) (link_old link_new : LinkView) : Type 0 where
   pub event : NodeEvent
   pub messages : List Outgoing
   pub sends : List Packet
   pub leads : AfterEvent S (bare old) event (node_of new messages sends stopped)
-  pub moves : Moves before after (arrived (event ∷ [])) sends
+  pub moves : Moves link_old link_new (arrived (event ∷ [])) sends
 
 -- nothing was taken; want of memory may lose the datagram that came
 abbrev pub Loses : LinkView → LinkView → Type 0
-Loses before after = (last : List Packet) × (length last ≤ 1) × Moves before after last []
+Loses link_old link_new = (last : List Packet) × (length last ≤ 1) × Moves link_old link_new last []
 
 abbrev pub Turns : NodeSetting → Turned → (old new : Station) → LinkView → LinkView → Type 0
-Turns S Goes old new before after = TurnsOnce S false old new before after
-Turns S Stopped old new before after = TurnsOnce S true old new before after
-Turns S NoMemory old new before after = Loses before after
-Turns S LinkFault old new before after = Moves before after [] []
+Turns S Goes old new link_old link_new = TurnsOnce S false old new link_old link_new
+Turns S Stopped old new link_old link_new = TurnsOnce S true old new link_old link_new
+Turns S NoMemory old new link_old link_new = Loses link_old link_new
+Turns S LinkFault old new link_old link_new = Moves link_old link_new [] []
 
 -- so many events, of which none stopped the node, led from its start to this
-pub record RanSo (S : NodeSetting) (shard : Shard) (count : ℕ) (stopped : Bool) (station : Station) (before after : LinkView) : Type 0 where
+pub record RanSo (S : NodeSetting) (shard : Shard) (count : ℕ) (stopped : Bool) (station : Station) (link_old link_new : LinkView) : Type 0 where
   pub events : List NodeEvent
   pub messages : List Outgoing
   pub sends : List Packet
   pub counted : length events ≡ count
   pub run : IsServerRun S shard events (node_of station messages sends stopped)
-  pub moves : Moves before after (arrived events) sends
+  pub moves : Moves link_old link_new (arrived events) sends
 
 -- what a node keeps before any turn
 abbrev pub first_station : Plan → Shard → Station
@@ -97,13 +97,13 @@ run_failed run.NoMemory = false
 
 -- how the turns of a server ended
 abbrev pub RunsTurns : RunEnd → NodeSetting → Shard → ℕ → Station → LinkView → LinkView → Type 0
-RunsTurns (run.Over stopped) S shard turns station before after =
+RunsTurns (run.Over stopped) S shard turns station link_old link_new =
     (messages : List Outgoing) × (sends : List Packet) × (events : List NodeEvent)
-    × AreTurnsOver turns events (node_of station messages sends stopped) × RunsServer S shard turns [] events (node_of station messages sends stopped) before after
-RunsTurns run.NoMemory S shard turns station before after =
-    (node : ServerNode) × (events : List NodeEvent) × (last : List Packet) × (length last ≤ 1) × RunsServer S shard turns last events node before after
-RunsTurns run.LinkFault S shard turns station before after =
-    (node : ServerNode) × (events : List NodeEvent) × (node.stopped ≡ false) × (length events < turns) × RunsServer S shard turns [] events node before after
+    × AreTurnsOver turns events (node_of station messages sends stopped) × RunsServer S shard turns [] events (node_of station messages sends stopped) link_old link_new
+RunsTurns run.NoMemory S shard turns station link_old link_new =
+    (node : ServerNode) × (events : List NodeEvent) × (last : List Packet) × (length last ≤ 1) × RunsServer S shard turns last events node link_old link_new
+RunsTurns run.LinkFault S shard turns station link_old link_new =
+    (node : ServerNode) × (events : List NodeEvent) × (node.stopped ≡ false) × (length events < turns) × RunsServer S shard turns [] events node link_old link_new
 
 -- the last lines were written, or a front of them, or nothing
 abbrev pub ClosesServe : ServeEnd → List ℕ → Option (List ℕ) → Option (List ℕ) → Type 0

@@ -74,26 +74,26 @@ half_sink_failed (Ok u) = false
 half_sink_failed (Err end) = submit_sink_failed end
 
 -- what the submissions before a turn did to the link and the sink
-abbrev pub HalfSubmits : Result (Unit {0}) SubmitEnd → NodeSetting → List Request → (old new : Desk) → (before after : LinkView) → (out_old out_new : Option (List ℕ)) → Type 0
-HalfSubmits (Ok u) S requests old new before after out_old out_new =
-    (text : List ℕ) × (sends : List Packet) × SubmitsHalf S requests old new text sends × Moves before after [] sends × Adds out_old out_new text
-HalfSubmits (Err NoMemory) S requests old new before after out_old out_new = Moves before after [] [] × Adds out_old out_new []
-HalfSubmits (Err SinkFault) S requests old new before after out_old out_new =
-    Moves before after [] [] × AddsFront out_old out_new (lines_text S.plan.program (submitted_all S.plan (none_submitted old.coord) (drop old.next requests)).lines)
-HalfSubmits (Err Done) S requests old new before after out_old out_new = ⊥
-HalfSubmits (Err Unanswered) S requests old new before after out_old out_new = ⊥
-HalfSubmits (Err LinkFault) S requests old new before after out_old out_new = ⊥
+abbrev pub HalfSubmits : Result (Unit {0}) SubmitEnd → NodeSetting → List Request → (old new : Desk) → (link_old link_new : LinkView) → (out_old out_new : Option (List ℕ)) → Type 0
+HalfSubmits (Ok u) S requests old new link_old link_new out_old out_new =
+    (text : List ℕ) × (sends : List Packet) × SubmitsHalf S requests old new text sends × Moves link_old link_new [] sends × Adds out_old out_new text
+HalfSubmits (Err NoMemory) S requests old new link_old link_new out_old out_new = Moves link_old link_new [] [] × Adds out_old out_new []
+HalfSubmits (Err SinkFault) S requests old new link_old link_new out_old out_new =
+    Moves link_old link_new [] [] × AddsFront out_old out_new (lines_text S.plan.program (submitted_all S.plan (none_submitted old.coord) (drop old.next requests)).lines)
+HalfSubmits (Err Done) S requests old new link_old link_new out_old out_new = ⊥
+HalfSubmits (Err Unanswered) S requests old new link_old link_new out_old out_new = ⊥
+HalfSubmits (Err LinkFault) S requests old new link_old link_new out_old out_new = ⊥
 
 -- what a turn's receive did
-abbrev pub HalfTakes : Result (Unit {0}) SubmitEnd → NodeSetting → (old new : Desk) → (before after : LinkView) → (out_old out_new : Option (List ℕ)) → Type 0
-HalfTakes (Ok u) S old new before after out_old out_new =
-    (event : NodeEvent) × (text : List ℕ) × (sends : List Packet) × TakesHalf S event old new text sends × Moves before after (arrived (event ∷ [])) sends × Adds out_old out_new text
-HalfTakes (Err NoMemory) S old new before after out_old out_new = (last : List Packet) × (length last ≤ 1) × Moves before after last [] × Adds out_old out_new []
-HalfTakes (Err LinkFault) S old new before after out_old out_new = Moves before after [] [] × Adds out_old out_new []
-HalfTakes (Err SinkFault) S old new before after out_old out_new =
-    (event : NodeEvent) × Moves before after (arrived (event ∷ [])) [] × AddsFront out_old out_new (lines_text S.plan.program (reply_lines (step_of_event S old.coord event).answer))
-HalfTakes (Err Done) S old new before after out_old out_new = ⊥
-HalfTakes (Err Unanswered) S old new before after out_old out_new = ⊥
+abbrev pub HalfTakes : Result (Unit {0}) SubmitEnd → NodeSetting → (old new : Desk) → (link_old link_new : LinkView) → (out_old out_new : Option (List ℕ)) → Type 0
+HalfTakes (Ok u) S old new link_old link_new out_old out_new =
+    (event : NodeEvent) × (text : List ℕ) × (sends : List Packet) × TakesHalf S event old new text sends × Moves link_old link_new (arrived (event ∷ [])) sends × Adds out_old out_new text
+HalfTakes (Err NoMemory) S old new link_old link_new out_old out_new = (last : List Packet) × (length last ≤ 1) × Moves link_old link_new last [] × Adds out_old out_new []
+HalfTakes (Err LinkFault) S old new link_old link_new out_old out_new = Moves link_old link_new [] [] × Adds out_old out_new []
+HalfTakes (Err SinkFault) S old new link_old link_new out_old out_new =
+    (event : NodeEvent) × Moves link_old link_new (arrived (event ∷ [])) [] × AddsFront out_old out_new (lines_text S.plan.program (reply_lines (step_of_event S old.coord event).answer))
+HalfTakes (Err Done) S old new link_old link_new out_old out_new = ⊥
+HalfTakes (Err Unanswered) S old new link_old link_new out_old out_new = ⊥
 
 -- what was sent: nothing, where the write before failed
 abbrev pub unless_failed : Written → List Packet → List Packet
@@ -105,29 +105,29 @@ due_failed (Ok due) = false
 due_failed (Err end) = submit_link_failed end
 
 -- an event was taken off the arrivals, and this is due for it
-pub record TakesEventDue (S : NodeSetting) (old new : Desk) (due : Due) (before after : Option (List Packet)) : Type 0 where
+pub record TakesEventDue (S : NodeSetting) (old new : Desk) (due : Due) (arrivals_old arrivals_new : Option (List Packet)) : Type 0 where
   pub event : NodeEvent
   pub takes : TakesHalf S event old new due.text.items due.sends.items
-  pub arrivals : before ≡ option_map (λ left. arrived (event ∷ []) ++ left) after
+  pub arrivals : arrivals_old ≡ option_map (λ left. arrived (event ∷ []) ++ left) arrivals_new
 
 -- what one receive gives
 abbrev pub TakesOneHalf : Result Due SubmitEnd → NodeSetting → (old new : Desk) → Option (List Packet) → Option (List Packet) → Type 0
-TakesOneHalf (Ok due) S old new before after = TakesEventDue S old new due before after
-TakesOneHalf (Err NoMemory) S old new before after = LosesOne before after
-TakesOneHalf (Err LinkFault) S old new before after = after ≡ before
-TakesOneHalf (Err Done) S old new before after = ⊥
-TakesOneHalf (Err Unanswered) S old new before after = ⊥
-TakesOneHalf (Err SinkFault) S old new before after = ⊥
+TakesOneHalf (Ok due) S old new arrivals_old arrivals_new = TakesEventDue S old new due arrivals_old arrivals_new
+TakesOneHalf (Err NoMemory) S old new arrivals_old arrivals_new = LosesOne arrivals_old arrivals_new
+TakesOneHalf (Err LinkFault) S old new arrivals_old arrivals_new = arrivals_new ≡ arrivals_old
+TakesOneHalf (Err Done) S old new arrivals_old arrivals_new = ⊥
+TakesOneHalf (Err Unanswered) S old new arrivals_old arrivals_new = ⊥
+TakesOneHalf (Err SinkFault) S old new arrivals_old arrivals_new = ⊥
 
 -- so many events led from a coordinator's start to this
-pub record CoordRanSo (S : NodeSetting) (number : ℕ) (requests : List Request) (count : ℕ) (desk : Desk) (before after : LinkView) (out_old out_new : Option (List ℕ)) : Type 0 where
+pub record CoordRanSo (S : NodeSetting) (number : ℕ) (requests : List Request) (count : ℕ) (desk : Desk) (link_old link_new : LinkView) (out_old out_new : Option (List ℕ)) : Type 0 where
   pub events : List NodeEvent
   pub messages : List Outgoing
   pub sends : List Packet
   pub lines : List Line
   pub counted : length events ≡ count
   pub run : IsCoordRun S number requests events (coord_node_of desk requests messages sends lines)
-  pub moves : Moves before after (arrived events) sends
+  pub moves : Moves link_old link_new (arrived events) sends
   pub told : Adds out_old out_new (lines_text S.plan.program lines)
 
 -- the last lines were written, or a front of them, or nothing

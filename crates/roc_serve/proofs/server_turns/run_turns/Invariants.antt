@@ -2,14 +2,15 @@
 use Rattle.std.proofs.Common.{◌≡◌, false}
 use Rattle.roc_io.specs.Call.{link_view}
 use Rattle.roc_server.specs.Fits.{ServerFits}
+use Rattle.roc_node.specs.Setting.{setting_of}
 use Rattle.roc_serve.specs.Inner.ServerTurn.{RanSo}
 use Rattle.roc_serve.proofs.server_turns.run_turns.Given as goal
 
 abbrev pub invariant-loop : goal.invariant-loop
 invariant-loop g l =
     let L = g.L.Link in
-    RanSo (record { plan = l.fn.plan; header = l.fn.header; cluster = l.fn.cluster }) l.fn.shard l.counter false l.station
+    RanSo (setting_of l.fn.setting) l.fn.shard l.counter false l.station
     (link_view L l.fn.link) (link_view L l.link)
-    × ServerFits l.fn.plan l.station.server
+    × ServerFits l.fn.setting.plan.now l.station.server
     × (L.faults l.link ≡ L.faults l.fn.link)
     × (L.bound l.link ≡ L.bound l.fn.link)

@@ -1,0 +1,13 @@
+//! What stays the same while a node runs.
+
+use roc_cluster::Cluster;
+use roc_plan::Plan;
+use roc_wire::Header;
+
+/// What stays the same while a node runs: the plan, the addresses of the shards, and what stands before each message that it sends.
+#[derive(Clone, Copy)]
+pub struct Setting<'a> {
+    pub plan: &'a Plan,
+    pub cluster: &'a Cluster,
+    pub header: &'a Header,
+}
