@@ -18,16 +18,16 @@ module _ (call : RunCall) where
   refused_words _ (out_of_scope workload fault names held same) = (names.0, names.1)
   refused_words _ (long_schedule workload schedule plan given planned more same) = (replay workload schedule, given)
   refused_words _ (bad_schedule plan bytes asked number what h) = (replay asked.workload asked.schedule, asked.given)
-  refused_words _ (long_cluster files plan names planned has more same) = (names.0, names.1)
-  refused_words _ (bad_cluster files plan fault names planned has held same) = (names.0, names.1)
-  refused_words _ (long_requests files plan addrs name names planned has held is more same) = (names.0, names.1)
-  refused_words _ (bad_requests files plan addrs name number what names planned has held is not same) = (names.0, names.1)
+  refused_words _ (long_cluster files plan names planned more same) = (names.0, names.1)
+  refused_words _ (bad_cluster files plan fault names planned held same) = (names.0, names.1)
+  refused_words _ (long_requests files plan addrs name names planned held is more same) = (names.0, names.1)
+  refused_words _ (bad_requests files plan addrs name number what names planned held is not same) = (names.0, names.1)
 
   pub input_words : (name : List ℕ) → IsInput call name → AreCommandWords call.words
   input_words name (the_workload names) = (names.0, names.1)
   input_words name (the_schedule workload plan given planned) = (replay workload name, given)
-  input_words name (the_cluster files plan names planned has is) = (names.0, names.1)
-  input_words name (the_requests files plan addrs names planned has held is) = (names.0, names.1)
+  input_words name (the_cluster files plan names planned is) = (names.0, names.1)
+  input_words name (the_requests files plan addrs names planned held is) = (names.0, names.1)
 
   pub cut_words : CutsOutput call → AreCommandWords call.words
   cut_words (in_report plan bytes asked h) = (replay asked.workload asked.schedule, asked.given)

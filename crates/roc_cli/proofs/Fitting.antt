@@ -143,10 +143,10 @@ module _ (laws : TextLaws) (call : RunCall) where
         laws.no_text_fault fit.plan fit.text fit.lines fit.of_text fit.sends number what call.out.old call.out.new
         (subst (λ b. IsTextFault fit.plan b number what call.out.old call.out.new) (sym f)
         (subst (λ p. IsTextFault p bytes number what call.out.old call.out.new) e h))
-    replay_right _ (long_cluster files plan names planned has more same) = no_nodes files names
-    replay_right _ (bad_cluster files plan fault names planned has held same) = no_nodes files names
-    replay_right _ (long_requests files plan addrs name names planned has held is more same) = no_nodes files names
-    replay_right _ (bad_requests files plan addrs name number what names planned has held is not same) = no_nodes files names
+    replay_right _ (long_cluster files plan names planned more same) = no_nodes files names
+    replay_right _ (bad_cluster files plan fault names planned held same) = no_nodes files names
+    replay_right _ (long_requests files plan addrs name names planned held is more same) = no_nodes files names
+    replay_right _ (bad_requests files plan addrs name number what names planned held is not same) = no_nodes files names
 
     replay_faultless : IsFaultless call
     replay_faultless = record {
@@ -171,10 +171,10 @@ module _ (laws : TextLaws) (call : RunCall) where
     check_right _ (out_of_scope workload fault names held same) = in_scope laws call.files.content fit.workload fit.bytes fit.held fit.plan fit.planned workload fault (checked_program workload names) held
     check_right _ (long_schedule workload schedule plan given planned more same) = unlike ⊥ call.words (replay workload schedule) (check fit.workload) given fit.given refl
     check_right _ (bad_schedule plan bytes asked number what h) = unlike ⊥ call.words (replay asked.workload asked.schedule) (check fit.workload) asked.given fit.given refl
-    check_right _ (long_cluster files plan names planned has more same) = checked_alone files names
-    check_right _ (bad_cluster files plan fault names planned has held same) = checked_alone files names
-    check_right _ (long_requests files plan addrs name names planned has held is more same) = checked_alone files names
-    check_right _ (bad_requests files plan addrs name number what names planned has held is not same) = checked_alone files names
+    check_right _ (long_cluster files plan names planned more same) = checked_alone files names
+    check_right _ (bad_cluster files plan fault names planned held same) = checked_alone files names
+    check_right _ (long_requests files plan addrs name names planned held is more same) = checked_alone files names
+    check_right _ (bad_requests files plan addrs name number what names planned held is not same) = checked_alone files names
 
     check_faultless : IsFaultless call
     check_faultless = record {
@@ -199,10 +199,10 @@ module _ (laws : TextLaws) (call : RunCall) where
     print_right _ (out_of_scope workload fault names held same) = print_no_program workload names
     print_right _ (long_schedule workload schedule plan given planned more same) = unlike ⊥ call.words (replay workload schedule) (print fit.workload) given fit.given refl
     print_right _ (bad_schedule plan bytes asked number what h) = unlike ⊥ call.words (replay asked.workload asked.schedule) (print fit.workload) asked.given fit.given refl
-    print_right _ (long_cluster files plan names planned has more same) = printed_alone files names
-    print_right _ (bad_cluster files plan fault names planned has held same) = printed_alone files names
-    print_right _ (long_requests files plan addrs name names planned has held is more same) = printed_alone files names
-    print_right _ (bad_requests files plan addrs name number what names planned has held is not same) = printed_alone files names
+    print_right _ (long_cluster files plan names planned more same) = printed_alone files names
+    print_right _ (bad_cluster files plan fault names planned held same) = printed_alone files names
+    print_right _ (long_requests files plan addrs name names planned held is more same) = printed_alone files names
+    print_right _ (bad_requests files plan addrs name number what names planned held is not same) = printed_alone files names
 
     print_faultless : IsFaultless call
     print_faultless = record {
@@ -227,10 +227,10 @@ module _ (laws : TextLaws) (call : RunCall) where
     gen_right _ (out_of_scope workload fault names held same) = no_program workload names
     gen_right _ (long_schedule workload schedule plan of planned more same) = unlike ⊥ call.words (replay workload schedule) (gen seed shards txns part) of given refl
     gen_right _ (bad_schedule plan bytes asked number what h) = unlike ⊥ call.words (replay asked.workload asked.schedule) (gen seed shards txns part) asked.given given refl
-    gen_right _ (long_cluster files plan names planned has more same) = generated_alone files names
-    gen_right _ (bad_cluster files plan fault names planned has held same) = generated_alone files names
-    gen_right _ (long_requests files plan addrs name names planned has held is more same) = generated_alone files names
-    gen_right _ (bad_requests files plan addrs name number what names planned has held is not same) = generated_alone files names
+    gen_right _ (long_cluster files plan names planned more same) = generated_alone files names
+    gen_right _ (bad_cluster files plan fault names planned held same) = generated_alone files names
+    gen_right _ (long_requests files plan addrs name names planned held is more same) = generated_alone files names
+    gen_right _ (bad_requests files plan addrs name number what names planned held is not same) = generated_alone files names
 
     gen_faultless : IsFaultless call
     gen_faultless = record {

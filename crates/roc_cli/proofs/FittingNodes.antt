@@ -6,6 +6,7 @@ use Rattle.roc_base.specs.declared.node.Shard.{Shard}
 use Rattle.roc_lang.specs.Grammar.{text_limit}
 use Rattle.roc_program.specs.Program.{Workload}
 use Rattle.roc_plan.specs.Groups.{Plan}
+use Rattle.roc_report.specs.Line.{Line}
 use Rattle.roc_cluster.specs.declared.fault.ClusterFault.{ClusterFault}
 use Rattle.roc_io.specs.declared.link.Addr.{Addr}
 use Rattle.roc_cluster.specs.declared.fault.ClusterFault.TheVariants as cluster_fault
@@ -18,12 +19,12 @@ use Rattle.roc_submit.specs.declared.ends.SubmitEnd.{SubmitEnd}
 use Rattle.roc_words.specs.Commands.{check, print, replay, serve, submit, stop, local, gen}
 use Rattle.roc_launch.specs.Call.{RunCall, WholeCall}
 use Rattle.roc_launch.specs.Words.{IsReplay, node_files, workload_of, NamesProgram, NamesWorkload, NamesNodeFiles}
-use Rattle.roc_files.specs.Held.{NodeFiles, HasShard, HoldsPlan, HoldsNoCluster, HoldsNoRequests}
+use Rattle.roc_files.specs.Held.{NodeFiles, HasShard, HoldsPlan, HoldsRejected, HoldsNoCluster, HoldsNoRequests}
 use Rattle.roc_files.specs.Requests.{request_fault, FitEach, IsFirstUnfitRequest, IsRequestsFault, no_requests, unfit_request}
 use Rattle.roc_launch.specs.Nodes.{AreNodesEnded, IsChildBlamed}
 use Rattle.roc_cli.specs.Stopped.{CutsOutput, in_report, in_text, in_check, in_rejection, in_generated}
 use Rattle.roc_cli.specs.Refused.{AreRefusedWords, by_clap, no_value, no_shard, IsRefused, long_workload, no_text, out_of_scope, long_schedule, bad_schedule, long_cluster, bad_cluster, long_requests, bad_requests}
-use Rattle.roc_cli.specs.Fit.{IsListOfRequests, NodesFit, MissesShard}
+use Rattle.roc_cli.specs.Fit.{IsListOfRequests, NodeFilesFit, NodesFit, MissesShard}
 use Rattle.roc_cli.specs.Inner.Ends.{Ends}
 use Rattle.roc_cli.specs.Inner.Faultless.{IsFaultless, IsShardless}
 use Rattle.roc_launch.proofs.Naming.{same_name, no_name, as_workload, as_program}
@@ -43,7 +44,7 @@ there_or_past : (files : NodeFiles) (plan : Plan) (number : ℕ) → HasShard fi
 there_or_past files plan number has asked past = let below : number < plan.program.shards = subst (λ o. IfSome o (λ n. n < plan.program.shards)) asked has in absurd (omega arith)
 
 module _ (laws : TextLaws) (call : RunCall) where
-  module _ (fit : NodesFit call) where
+  module _ (fit : NodeFilesFit call) where
     their_files : (files : NodeFiles) → NamesNodeFiles call.words files → files ≡ fit.files
     their_files files names = same_name node_files call.words files fit.files names fit.given
 
@@ -86,75 +87,57 @@ module _ (laws : TextLaws) (call : RunCall) where
     nodes_right _ (out_of_scope workload fault names held same) = in_scope laws call.files.content fit.files.workload fit.bytes fit.held fit.plan fit.planned workload fault (their_program workload names) held
     nodes_right _ (long_schedule workload schedule plan given planned more same) = no_replay workload schedule given
     nodes_right _ (bad_schedule plan bytes asked number what h) = no_replay asked.workload asked.schedule asked.given
-    nodes_right _ (long_cluster files plan names planned has more same) =
+    nodes_right _ (long_cluster files plan names planned more same) =
         let past = told_more call.files.content fit.files.cluster files.cluster fit.text text_limit fit.clustered (ap (λ (f : NodeFiles). f.cluster) (their_files files names)) more in
         let size = fit.few in
         absurd (omega arith)
-    nodes_right _ (bad_cluster files plan fault names planned has held same) = no_bad_cluster files plan fault names planned held
-    nodes_right _ (long_requests files plan addrs name names planned has held is more same) =
+    nodes_right _ (bad_cluster files plan fault names planned held same) = no_bad_cluster files plan fault names planned held
+    nodes_right _ (long_requests files plan addrs name names planned held is more same) =
         let list = listed_in files name names is in
         let past = told_more call.files.content name name list.text most_bytes list.held refl more in
         let size = list.few in
         absurd (omega arith)
-    nodes_right _ (bad_requests files plan addrs name number what names planned has held is not same) =
+    nodes_right _ (bad_requests files plan addrs name number what names planned held is not same) =
         list_is_right name number what (listed_in files name names is) (subst (λ (p : Plan). HoldsNoRequests call.files.content name p.program number what) (their_plan files plan names planned) not)
 
+    no_rejection : (workload : List ℕ) (program : Workload) (said : Line) → NamesProgram call.words workload → HoldsRejected call.files.content workload program said → ⊥
+    no_rejection workload program said names held = not_rejected laws call.files.content fit.files.workload fit.bytes fit.held fit.plan fit.planned workload program said (their_program workload names) held
+
+  module _ (fit : NodesFit call) where
     nodes_taken : (line : List ℕ) → AreRefusedWords call line → ⊥
-    nodes_taken _ (by_clap text not) = not fit.given.1.taken
-    nodes_taken _ (no_value value none) = no_such_value call.words fit.given.0 value fit.given.1 none
+    nodes_taken _ (by_clap text not) = not fit.right.given.1.taken
+    nodes_taken _ (no_value value none) = no_such_value call.words fit.right.given.0 value fit.right.given.1 none
     nodes_taken _ (no_shard files names lacks) =
-        let e : lacks.plan ≡ fit.plan = their_plan files lacks.plan names lacks.of_workload in
-        there_or_past fit.files fit.plan lacks.number fit.has_shard (sym (ap (λ (f : NodeFiles). f.shard) (their_files files names)) ∙ lacks.asked)
+        let e : lacks.plan ≡ fit.right.plan = their_plan fit.right files lacks.plan names lacks.of_workload in
+        there_or_past fit.right.files fit.right.plan lacks.number fit.has_shard (sym (ap (λ (f : NodeFiles). f.shard) (their_files fit.right files names)) ∙ lacks.asked)
         (subst (λ (p : Plan). p.program.shards ≤ lacks.number) e lacks.past)
 
     pub nodes_faultless : IsFaultless call
     nodes_faultless = record {
       taken = nodes_taken;
-      acceptable = λ h. not_rejected laws call.files.content fit.files.workload fit.bytes fit.held fit.plan fit.planned h.workload h.program h.said (their_program h.workload h.named) h.held;
-      right = nodes_right;
+      acceptable = λ h. no_rejection fit.right h.workload h.program h.said h.named h.held;
+      right = nodes_right fit.right;
     }
 
 module _ (laws : TextLaws) (call : WholeCall) (missing : MissesShard call.run) where
-  same_files : (files : NodeFiles) → NamesNodeFiles call.run.words files → files ≡ missing.files
-  same_files files names = same_name node_files call.run.words files missing.files names missing.given
-
-  same_workload : (name : List ℕ) → NamesWorkload call.run.words name → name ≡ missing.files.workload
-  same_workload name names = same_name workload_of call.run.words name missing.files.workload names (as_workload call.run.words missing.files.workload (as_program call.run.words missing.files missing.given))
-
-  same_program : (name : List ℕ) → NamesProgram call.run.words name → name ≡ missing.files.workload
-  same_program name names = same_workload name (as_workload call.run.words name names)
+  same_files : (files : NodeFiles) → NamesNodeFiles call.run.words files → files ≡ missing.right.files
+  same_files = their_files laws call.run missing.right
 
   -- no plan of the named workload has the shard
   nowhere : (files : NodeFiles) (plan : Plan) → NamesNodeFiles call.run.words files → HoldsPlan call.run.files.content files.workload plan → HasShard files plan → ⊥
   nowhere files plan names planned has =
-      let e : files ≡ missing.files = same_files files names in
-      let p : plan ≡ missing.plan = same_plan laws call.run.files.content missing.files.workload missing.bytes missing.held missing.plan missing.planned files.workload plan (ap (λ (f : NodeFiles). f.workload) e) planned in
-      there_or_past files plan missing.number has (ap (λ (f : NodeFiles). f.shard) e ∙ missing.asked) (subst (λ (q : Plan). q.program.shards ≤ missing.number) (sym p) missing.past)
+      let p : plan ≡ missing.right.plan = their_plan laws call.run missing.right files plan names planned in
+      there_or_past files plan missing.number has (ap (λ (f : NodeFiles). f.shard) (same_files files names) ∙ missing.asked) (subst (λ (q : Plan). q.program.shards ≤ missing.number) (sym p) missing.past)
 
   not_alone : (workload schedule : List ℕ) → IsReplay call.run.words workload schedule → ⊥
-  not_alone workload schedule is = no_name node_files call.run.words (replay workload schedule) is refl missing.files missing.given
-
-  missing_right : (line : List ℕ) → IsRefused call.run line → ⊥
-  missing_right _ (long_workload workload names more same) =
-      not_long laws call.run.files.content missing.files.workload missing.bytes missing.held missing.planned.text.tree missing.planned.text.text workload (same_workload workload names) more
-  missing_right _ (no_text workload line what names held same) =
-      not_faulty laws call.run.files.content missing.files.workload missing.bytes missing.held missing.planned.text.tree missing.planned.text.text workload line what (same_workload workload names) held
-  missing_right _ (out_of_scope workload fault names held same) =
-      in_scope laws call.run.files.content missing.files.workload missing.bytes missing.held missing.plan missing.planned workload fault (same_program workload names) held
-  missing_right _ (long_schedule workload schedule plan given planned more same) = not_alone workload schedule given
-  missing_right _ (bad_schedule plan bytes asked number what h) = not_alone asked.workload asked.schedule asked.given
-  missing_right _ (long_cluster files plan names planned has more same) = nowhere files plan names planned has
-  missing_right _ (bad_cluster files plan fault names planned has held same) = nowhere files plan names planned has
-  missing_right _ (long_requests files plan addrs name names planned has held is more same) = nowhere files plan names planned has
-  missing_right _ (bad_requests files plan addrs name number what names planned has held is not same) = nowhere files plan names planned has
+  not_alone workload schedule is = no_name node_files call.run.words (replay workload schedule) is refl missing.right.files missing.right.given
 
   missing_uncut : CutsOutput call.run → ⊥
   missing_uncut (in_report plan bytes asked h) = not_alone asked.workload asked.schedule asked.given
-  missing_uncut (in_text workload tree given held front) = no_name node_files call.run.words (print workload) given refl missing.files missing.given
-  missing_uncut (in_check workload plan given held front) = no_name node_files call.run.words (check workload) given refl missing.files missing.given
-  missing_uncut (in_generated seed shards txns part text given generated front) = no_name node_files call.run.words (gen seed shards txns part) given refl missing.files missing.given
-  missing_uncut (in_rejection workload program said names held front) =
-      not_rejected laws call.run.files.content missing.files.workload missing.bytes missing.held missing.plan missing.planned workload program said (same_program workload names) held
+  missing_uncut (in_text workload tree given held front) = no_name node_files call.run.words (print workload) given refl missing.right.files missing.right.given
+  missing_uncut (in_check workload plan given held front) = no_name node_files call.run.words (check workload) given refl missing.right.files missing.right.given
+  missing_uncut (in_generated seed shards txns part text given generated front) = no_name node_files call.run.words (gen seed shards txns part) given refl missing.right.files missing.right.given
+  missing_uncut (in_rejection workload program said names held front) = no_rejection laws call.run missing.right workload program said names held
 
   missing_unrun : (end : SubmitEnd) → AreNodesEnded call end → ⊥
   missing_unrun end (inl (own, e, h)) =
@@ -170,14 +153,14 @@ module _ (laws : TextLaws) (call : WholeCall) (missing : MissesShard call.run) w
 
   missing_undone : Ends call.run (Ok tt) → ⊥
   missing_undone (inl done) = not_alone done.asked.workload done.asked.schedule done.asked.given
-  missing_undone (inr (inl done)) = no_name node_files call.run.words (print done.workload) done.given refl missing.files missing.given
-  missing_undone (inr (inr (inl done))) = no_name node_files call.run.words (check done.workload) done.given refl missing.files missing.given
-  missing_undone (inr (inr (inr done))) = no_name node_files call.run.words (gen done.seed done.shards done.txns done.part) done.given refl missing.files missing.given
+  missing_undone (inr (inl done)) = no_name node_files call.run.words (print done.workload) done.given refl missing.right.files missing.right.given
+  missing_undone (inr (inr (inl done))) = no_name node_files call.run.words (check done.workload) done.given refl missing.right.files missing.right.given
+  missing_undone (inr (inr (inr done))) = no_name node_files call.run.words (gen done.seed done.shards done.txns done.part) done.given refl missing.right.files missing.right.given
 
   pub shardless : IsShardless call
   shardless = record {
-    acceptable = λ h. not_rejected laws call.run.files.content missing.files.workload missing.bytes missing.held missing.plan missing.planned h.workload h.program h.said (same_program h.workload h.named) h.held;
-    right = missing_right;
+    acceptable = λ h. no_rejection laws call.run missing.right h.workload h.program h.said h.named h.held;
+    right = nodes_right laws call.run missing.right;
     uncut = missing_uncut;
     unrun = missing_unrun;
     no_child = missing_no_child;

@@ -5,7 +5,7 @@ use Rattle.roc_plan.specs.Groups.{Plan}
 use Rattle.roc_cluster.specs.FaultText.{fault_text as cluster_text}
 use Rattle.roc_files.specs.declared.fault.Fault.{Fault}
 use Rattle.roc_files.specs.declared.fault.Fault.TheVariants.{TooLong, At, Cluster, Memory, File}
-use Rattle.roc_files.specs.Held.{NodeFiles, HasShard, HoldsPlan, HoldsCluster}
+use Rattle.roc_files.specs.Held.{NodeFiles, HoldsPlan, HoldsCluster}
 use Rattle.roc_files.specs.Says.{long_line, text_line, fault_line}
 use Rattle.roc_files.specs.Fault.{Blames, ReadsBut}
 use Rattle.roc_files.specs.Listed.{ClusterFails, RequestsFail}
@@ -19,13 +19,12 @@ use Rattle.roc_cli.specs.Inner.Ends.{Fails, WholeEnds}
 use Rattle.roc_launch.proofs.Naming.{as_program}
 use Rattle.roc_cli.proofs.Faults.{plan_fails}
 
-module _ (call : RunCall) (files : NodeFiles) (names : NamesNodeFiles call.words files) (plan : Plan) (planned : HoldsPlan call.files.content files.workload plan) (has : HasShard files plan)
-    (same : TakesNothing call) where
+module _ (call : RunCall) (files : NodeFiles) (names : NamesNodeFiles call.words files) (plan : Plan) (planned : HoldsPlan call.files.content files.workload plan) (same : TakesNothing call) where
   -- there is no cluster
   pub cluster_fails : (fault : Fault) → Blames call.files.failed_old call.files.failed_new fault → ClusterFails call.files.content files.cluster plan.program.shards fault → Fails call fault
-  cluster_fails (Cluster file fault) blames (e, held) = subst (λ n. IsRefused call (text_line n (cluster_text fault))) (sym e) (bad_cluster files plan fault names planned has held same)
-  cluster_fails (TooLong file) blames (e, more) = subst (λ n. IsRefused call (long_line n)) (sym e) (long_cluster files plan names planned has more same)
-  cluster_fails (File file) blames e = record { input = the_cluster files plan names planned has (sym e); only = blames; untouched = same }
+  cluster_fails (Cluster file fault) blames (e, held) = subst (λ n. IsRefused call (text_line n (cluster_text fault))) (sym e) (bad_cluster files plan fault names planned held same)
+  cluster_fails (TooLong file) blames (e, more) = subst (λ n. IsRefused call (long_line n)) (sym e) (long_cluster files plan names planned more same)
+  cluster_fails (File file) blames e = record { input = the_cluster files plan names planned (sym e); only = blames; untouched = same }
   cluster_fails Memory blames h = with_nothing same
   cluster_fails _ blames h = absurd h
 
@@ -34,9 +33,9 @@ module _ (call : RunCall) (files : NodeFiles) (names : NamesNodeFiles call.words
     pub requests_fail : (fault : Fault) → Blames call.files.failed_old call.files.failed_new fault → RequestsFail call.files.content name plan.program fault → Fails call fault
     requests_fail (At file line what) blames (e, (w, not, g)) =
         subst (λ n. IsRefused call (fault_line n line what.now)) (sym e)
-        (subst (λ t. IsRefused call (fault_line name line t)) (sym g) (bad_requests files plan addrs name line w names planned has held is not same))
-    requests_fail (TooLong file) blames (e, more) = subst (λ n. IsRefused call (long_line n)) (sym e) (long_requests files plan addrs name names planned has held is more same)
-    requests_fail (File file) blames e = record { input = the_requests files plan addrs names planned has held (is ∙ ap Some (sym e)); only = blames; untouched = same }
+        (subst (λ t. IsRefused call (fault_line name line t)) (sym g) (bad_requests files plan addrs name line w names planned held is not same))
+    requests_fail (TooLong file) blames (e, more) = subst (λ n. IsRefused call (long_line n)) (sym e) (long_requests files plan addrs name names planned held is more same)
+    requests_fail (File file) blames e = record { input = the_requests files plan addrs names planned held (is ∙ ap Some (sym e)); only = blames; untouched = same }
     requests_fail Memory blames h = with_nothing same
     requests_fail _ blames h = absurd h
 
@@ -45,9 +44,9 @@ pub nodes_fail : (call : RunCall) (files : NodeFiles) (fault : Fault) → NamesN
     → NodesFail call.files.content files call.out.old call.out.new fault → Fails call fault
 nodes_fail call files _ names blames (by_workload fault fails) = plan_fails call files.workload fault (as_program call.words files names) blames fails
 nodes_fail call files _ names blames (by_shard lacks same) = (same, no_shard files names lacks)
-nodes_fail call files _ names blames (by_cluster plan fault planned has fails same) = cluster_fails call files names plan planned has same fault blames fails
-nodes_fail call files _ names blames (by_requests plan addrs name fault planned has held is fails same) =
-    requests_fail call files names plan planned has same addrs held name is fault blames fails
+nodes_fail call files _ names blames (by_cluster plan fault planned fails same) = cluster_fails call files names plan planned same fault blames fails
+nodes_fail call files _ names blames (by_requests plan addrs name fault planned held is fails same) =
+    requests_fail call files names plan planned same addrs held name is fault blames fails
 
 -- a command with nodes ended
 pub launched : (call : WholeCall) (result : Result Unit Fault) → ReadsBut call.run.files.failed_old call.run.files.failed_new result → IsLaunched call result → WholeEnds call result

@@ -39,10 +39,10 @@ module _ (call : RunCall) where
   refused_out _ (bad_schedule plan bytes asked number what (unfit fault same)) = with_nothing same
   refused_out _ (bad_schedule plan bytes asked number what (unsent is h)) =
       with_lines plan bytes asked (behind_lines h.before (h.line ∷ h.behind) h.steps h.world h.of_schedule h.played h.taken)
-  refused_out _ (long_cluster files plan names planned has more same) = with_nothing same
-  refused_out _ (bad_cluster files plan fault names planned has held same) = with_nothing same
-  refused_out _ (long_requests files plan addrs name names planned has held is more same) = with_nothing same
-  refused_out _ (bad_requests files plan addrs name number what names planned has held is not same) = with_nothing same
+  refused_out _ (long_cluster files plan names planned more same) = with_nothing same
+  refused_out _ (bad_cluster files plan fault names planned held same) = with_nothing same
+  refused_out _ (long_requests files plan addrs name names planned held is more same) = with_nothing same
+  refused_out _ (bad_requests files plan addrs name number what names planned held is not same) = with_nothing same
 
 -- what a call failed by, with its status and the line on standard error: one rule for each status
 data IsFailure (call : WholeCall) : (status : ℕ) → (line : List ℕ) → Type 0 where

@@ -61,14 +61,13 @@ pub record PrintFits (call : RunCall) : Type 0 where
   pub text : IsWorkloadText bytes tree
 
 -- the words ask for a command with nodes, and the named files hold what it needs
-pub record NodesFit (call : RunCall) : Type 0 where
+pub record NodeFilesFit (call : RunCall) : Type 0 where
   pub files : NodeFiles
   pub given : NamesNodeFiles call.words files
   pub bytes : List ℕ
   pub held : call.files.content files.workload ≡ Some bytes
   pub plan : Plan
   pub planned : IsPlanOfText bytes plan
-  pub has_shard : HasShard files plan
   pub text : List ℕ
   pub clustered : call.files.content files.cluster ≡ Some text
   pub few : length text ≤ text_limit
@@ -76,17 +75,17 @@ pub record NodesFit (call : RunCall) : Type 0 where
   pub of_text : IsClusterFile plan.program.shards text addrs
   pub listed : IfSome files.requests (IsListOfRequests call.files.content plan.program)
 
--- the words ask to serve a shard that the named workload does not have
+-- ..and the workload has the shard that is to be served
+pub record NodesFit (call : RunCall) : Type 0 where
+  pub right : NodeFilesFit call
+  pub has_shard : HasShard right.files right.plan
+
+-- ..or it has not
 pub record MissesShard (call : RunCall) : Type 0 where
-  pub files : NodeFiles
-  pub given : NamesNodeFiles call.words files
-  pub bytes : List ℕ
-  pub held : call.files.content files.workload ≡ Some bytes
-  pub plan : Plan
-  pub planned : IsPlanOfText bytes plan
+  pub right : NodeFilesFit call
   pub number : ℕ
-  pub asked : files.shard ≡ Some number
-  pub past : plan.program.shards ≤ number
+  pub asked : right.files.shard ≡ Some number
+  pub past : right.plan.program.shards ≤ number
 
 -- a command of one or two files; generated load needs none
 abbrev pub IsFit : RunCall → Type 0

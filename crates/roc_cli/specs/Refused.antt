@@ -19,12 +19,12 @@ use Rattle.roc_words.specs.Program.{IsTakenByClap}
 use Rattle.roc_words.specs.Answer.{HaveNoValue}
 use Rattle.roc_launch.specs.Call.{RunCall, TakesNothing}
 use Rattle.roc_launch.specs.Words.{IsReplay, NamesProgram, NamesWorkload, NamesNodeFiles}
-use Rattle.roc_files.specs.Held.{NodeFiles, HoldsMore, HoldsFault, HoldsMisuse, HoldsPlan, HoldsCluster, HoldsNoCluster, HoldsNoRequests, HasShard, LacksShard}
+use Rattle.roc_files.specs.Held.{NodeFiles, HoldsMore, HoldsFault, HoldsMisuse, HoldsPlan, HoldsCluster, HoldsNoCluster, HoldsNoRequests, LacksShard}
 use Rattle.roc_cli.specs.Done.{IsReplayOf}
 use Rattle.roc_files.specs.Says.{word_line, long_line, text_line, fault_line}
 
 -- words that are refused, with what is said on standard error: the text of `clap`, which no clause tells, where it refuses them; or the name
--- of the first value that is none; or `shard`, where the shard that is to be served is not one of the workload
+-- of the first value that is none; or `shard`, where the files hold what is needed and the shard that is to be served is not one of the workload
 pub data AreRefusedWords (call : RunCall) : List ℕ → Type 0 where
   by_clap : (text : List ℕ) → (IsTakenByClap call.words → ⊥) → AreRefusedWords call text
   no_value : (name : ValueName) → HaveNoValue call.words name → AreRefusedWords call (word_line (value_text name))
@@ -43,13 +43,13 @@ pub data IsRefused (call : RunCall) : List ℕ → Type 0 where
       → HoldsMore call.files.content schedule most_bytes → TakesNothing call → IsRefused call (long_line schedule)
   bad_schedule : (plan : Plan) (bytes : List ℕ) (asked : IsReplayOf call plan bytes) (number : ℕ) (what : ScheduleWhat) → IsTextFault plan bytes number what call.out.old call.out.new
       → IsRefused call (fault_line asked.schedule number (schedule_text what))
-  long_cluster : (files : NodeFiles) (plan : Plan) → NamesNodeFiles call.words files → HoldsPlan call.files.content files.workload plan → HasShard files plan
+  long_cluster : (files : NodeFiles) (plan : Plan) → NamesNodeFiles call.words files → HoldsPlan call.files.content files.workload plan
       → HoldsMore call.files.content files.cluster text_limit → TakesNothing call → IsRefused call (long_line files.cluster)
-  bad_cluster : (files : NodeFiles) (plan : Plan) (fault : ClusterFault) → NamesNodeFiles call.words files → HoldsPlan call.files.content files.workload plan → HasShard files plan
+  bad_cluster : (files : NodeFiles) (plan : Plan) (fault : ClusterFault) → NamesNodeFiles call.words files → HoldsPlan call.files.content files.workload plan
       → HoldsNoCluster call.files.content files.cluster plan.program.shards fault → TakesNothing call → IsRefused call (text_line files.cluster (cluster_text fault))
   long_requests : (files : NodeFiles) (plan : Plan) (addrs : List Addr) (name : List ℕ) → NamesNodeFiles call.words files → HoldsPlan call.files.content files.workload plan
-      → HasShard files plan → HoldsCluster call.files.content files.cluster plan.program.shards addrs → files.requests ≡ Some name
+      → HoldsCluster call.files.content files.cluster plan.program.shards addrs → files.requests ≡ Some name
       → HoldsMore call.files.content name most_bytes → TakesNothing call → IsRefused call (long_line name)
   bad_requests : (files : NodeFiles) (plan : Plan) (addrs : List Addr) (name : List ℕ) (number : ℕ) (what : ScheduleWhat) → NamesNodeFiles call.words files
-      → HoldsPlan call.files.content files.workload plan → HasShard files plan → HoldsCluster call.files.content files.cluster plan.program.shards addrs → files.requests ≡ Some name
+      → HoldsPlan call.files.content files.workload plan → HoldsCluster call.files.content files.cluster plan.program.shards addrs → files.requests ≡ Some name
       → HoldsNoRequests call.files.content name plan.program number what → TakesNothing call → IsRefused call (fault_line name number (schedule_text what))

@@ -40,7 +40,8 @@ pub record Answers (call : WholeCall) (err : Errors) (status : ℕ) : Type 0 whe
   pub complete_nodes : NodesFit call.run → (status ≡ 0) ⊎ (4 ≤ status)
   -- 1: the workload is not acceptable, and the line that says why was written
   pub rejected : status ≡ 1 → Rejects call.run
-  -- 2: exactly where the words are not those of a command, or ask for a shard that the workload lacks, unless memory or a file failed it before
+  -- 2: exactly where the words are not those of a command, or the files are right and the words ask for a shard that the workload lacks, unless memory or
+  -- the reading of a file failed it before
   pub no_words : status ≡ 2 → TakesNothing call.run × (line : List ℕ) × AreRefusedWords call.run line × Says err line
   pub words : (AreCommandWords call.run.words → ⊥) → (status ≡ 2) ⊎ (status ≡ 4)
   pub no_shard : MissesShard call.run → (status ≡ 2) ⊎ ((status ≡ 4) ⊎ (status ≡ 6))

@@ -12,7 +12,7 @@ use Rattle.roc_replay.specs.Ended.{IsCut, IsUnfinished}
 use Rattle.roc_launch.specs.Call.{RunCall, TakesNothing}
 use Rattle.roc_words.specs.declared.value.Part.{Part}
 use Rattle.roc_launch.specs.Words.{IsReplay, IsPrint, IsCheck, IsGen, NamesProgram, NamesWorkload, NamesNodeFiles}
-use Rattle.roc_files.specs.Held.{NodeFiles, HoldsPlan, HoldsText, HoldsRejected, HoldsCluster, HasShard}
+use Rattle.roc_files.specs.Held.{NodeFiles, HoldsPlan, HoldsText, HoldsRejected, HoldsCluster}
 use Rattle.roc_cli.specs.Done.{IsReplayOf, IsGenerated}
 use Rattle.roc_files.specs.Input.{check_text}
 
@@ -21,9 +21,8 @@ use Rattle.roc_files.specs.Input.{check_text}
 pub data IsInput (call : RunCall) (name : List ℕ) : Type 0 where
   the_workload : NamesWorkload call.words name → IsInput call name
   the_schedule : (workload : List ℕ) (plan : Plan) → IsReplay call.words workload name → HoldsPlan call.files.content workload plan → IsInput call name
-  the_cluster : (files : NodeFiles) (plan : Plan) → NamesNodeFiles call.words files → HoldsPlan call.files.content files.workload plan → HasShard files plan
-      → files.cluster ≡ name → IsInput call name
-  the_requests : (files : NodeFiles) (plan : Plan) (addrs : List Addr) → NamesNodeFiles call.words files → HoldsPlan call.files.content files.workload plan → HasShard files plan
+  the_cluster : (files : NodeFiles) (plan : Plan) → NamesNodeFiles call.words files → HoldsPlan call.files.content files.workload plan → files.cluster ≡ name → IsInput call name
+  the_requests : (files : NodeFiles) (plan : Plan) (addrs : List Addr) → NamesNodeFiles call.words files → HoldsPlan call.files.content files.workload plan
       → HoldsCluster call.files.content files.cluster plan.program.shards addrs → files.requests ≡ Some name → IsInput call name
 
 -- the file of this name could not be read, and no other read failed; standard output took nothing

@@ -11,10 +11,10 @@ use Rattle.roc_sched.specs.declared.line.Request.{Request}
 use Rattle.roc_files.specs.declared.fault.Fault.{Fault}
 use Rattle.roc_files.specs.declared.nodes.NodeNames.{NodeNames}
 use Rattle.roc_files.specs.declared.nodes.Nodes.{Nodes}
-use Rattle.roc_files.specs.Held.{NodeFiles, Holds, HoldsPlan, HoldsCluster, HoldsListed, LacksShard}
+use Rattle.roc_files.specs.Held.{NodeFiles, Holds, HoldsPlan, HoldsCluster, HoldsListed}
 use Rattle.roc_files.specs.Input.{HoldsWithin}
-use Rattle.roc_files.specs.NodeNames.{tag_of_bytes, files_named, HoldsAll, NodesFail}
-use Rattle.roc_files.specs.Inner.Shards.{lacks_shard}
+use Rattle.roc_files.specs.NodeNames.{tag_of_bytes, files_named, HoldsAll, NodesFail, by_shard}
+use Rattle.roc_files.specs.Inner.Shards.{lacks_shard, IsJudgedShard}
 
 -- a shard that is not lacked is there
 pub shard_is_there : (shard : Option Shard) (plan : Plan) → lacks_shard shard plan.program.shards ≡ false → IfSome (option_map (λ (s : Shard). s.0) shard) (λ n. n < plan.program.shards)
@@ -25,13 +25,6 @@ shard_is_there (Some shard) plan e = leb-false plan.program.shards shard.0 e
 pub shard_is_past : (shard : Option Shard) (shards : ℕ) → lacks_shard shard shards ≡ true → (number : ℕ) × (option_map (λ (s : Shard). s.0) shard ≡ Some number) × (shards ≤ number)
 shard_is_past None shards e = absurd (false≢true e)
 shard_is_past (Some shard) shards e = (shard.0, refl, leb-true shards shard.0 e)
-
--- a shard that the workload lacks
-pub shard_is_lacking : (content : List ℕ → Option (List ℕ)) (files : NodeFiles) (plan : Plan) (shard : Option Shard) → HoldsPlan content files.workload plan
-    → files.shard ≡ option_map (λ (s : Shard). s.0) shard → lacks_shard shard plan.program.shards ≡ true → LacksShard content files
-shard_is_lacking content files plan shard planned is lacks =
-    let past = shard_is_past shard plan.program.shards lacks in
-    record { plan = plan; of_workload = planned; number = past.0; asked = is ∙ past.1; past = past.2 }
 
 -- why there is nothing behind a first step that left all as it was
 pub fails_behind : (later content : List ℕ → Option (List ℕ)) (files : NodeFiles) (middle old new : Option (List ℕ)) {A : Type 0} (result : Result A Fault)
@@ -57,13 +50,24 @@ pub in_any_case : {A E : Type 0} (result : Result A E) (P : Type 0) → P → If
 in_any_case (Ok value) P h = h
 in_any_case (Err fault) P h = tt
 
--- all is held, once the requests are
-pub all_held : (content : List ℕ → Option (List ℕ)) (names : NodeNames) (bytes : List ℕ) (plan : Plan) (tag : List ℕ) (cluster : List Addr) (requests : Vec Request Global)
-    → Holds content names.workload.now bytes → IsPlanOfText bytes plan → tag ≡ tag_of_bytes bytes → lacks_shard names.shard plan.program.shards ≡ false
-    → HoldsCluster content names.cluster.now plan.program.shards cluster → HoldsListed content (files_named names).requests plan.program requests.items
-    → HoldsAll content (files_named names) (record { plan = plan; tag = tag; cluster = cluster; requests = requests })
-all_held content names bytes plan tag cluster requests held planned tagged there clustered listed =
-    (bytes, record { of_workload = held; planned = planned; has_shard = shard_is_there names.shard plan there; of_cluster = clustered; of_requests = listed }, tagged)
+module _ (content : List ℕ → Option (List ℕ)) (names : NodeNames) (nodes : Nodes)
+    (clustered : HoldsCluster content names.cluster.now nodes.plan.program.shards nodes.cluster) (listed : HoldsListed content (files_named names).requests nodes.plan.program nodes.requests.items) where
+  -- all is held, where the workload has the shard
+  pub all_held : (bytes : List ℕ) (result : Result Nodes Fault) → Holds content names.workload.now bytes → IsPlanOfText bytes nodes.plan → nodes.tag ≡ tag_of_bytes bytes
+      → IsJudgedShard names.shard nodes result → IfOk result (HoldsAll content (files_named names))
+  all_held bytes (Ok kept) held planned tagged (e, there) =
+      subst (HoldsAll content (files_named names)) (sym e)
+      (bytes, record { of_workload = held; planned = planned; has_shard = shard_is_there names.shard nodes.plan there; of_cluster = clustered; of_requests = listed }, tagged)
+  all_held bytes (Err fault) held planned tagged h = tt
+
+  -- why there is nothing, where it lacks the shard
+  pub shard_is_lacking : (out : Option (List ℕ)) (result : Result Nodes Fault) → HoldsPlan content names.workload.now nodes.plan → IsJudgedShard names.shard nodes result
+      → IfErr result (NodesFail content (files_named names) out out)
+  shard_is_lacking out (Ok kept) planned h = tt
+  shard_is_lacking out (Err fault) planned (e, lacks) =
+      let past = shard_is_past names.shard nodes.plan.program.shards lacks in
+      subst (NodesFail content (files_named names) out out) (sym e)
+      (by_shard (record { plan = nodes.plan; cluster = nodes.cluster; requests = nodes.requests.items; of_workload = planned; of_cluster = clustered; of_requests = listed; number = past.0; asked = past.1; past = past.2 }) refl)
 
 -- what a file holds behind a step that left all as it was
 pub held_still : (later content : List ℕ → Option (List ℕ)) (name bytes : List ℕ) → ((n : List ℕ) → later n ≡ content n) → Holds content name bytes → Holds later name bytes

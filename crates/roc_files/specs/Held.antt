@@ -115,10 +115,15 @@ pub record HoldNodes (content : List ℕ → Option (List ℕ)) (files : NodeFil
   pub of_cluster : HoldsCluster content files.cluster plan.program.shards cluster
   pub of_requests : HoldsListed content files.requests plan.program requests
 
--- the shard that is to be served is not one of the workload
+-- the files of a command with nodes hold a workload with this plan, this cluster and these requests, but the shard that is to be served is not
+-- one of the workload
 pub record LacksShard (content : List ℕ → Option (List ℕ)) (files : NodeFiles) : Type 0 where
   pub plan : Plan
+  pub cluster : List Addr
+  pub requests : List Request
   pub of_workload : HoldsPlan content files.workload plan
+  pub of_cluster : HoldsCluster content files.cluster plan.program.shards cluster
+  pub of_requests : HoldsListed content files.requests plan.program requests
   pub number : ℕ
   pub asked : files.shard ≡ Some number
   pub past : plan.program.shards ≤ number

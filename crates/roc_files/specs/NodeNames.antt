@@ -8,7 +8,7 @@ use Rattle.roc_files.specs.declared.fault.Fault.{Fault}
 use Rattle.roc_files.specs.declared.fault.Fault.TheVariants.{NoShard}
 use Rattle.roc_files.specs.declared.nodes.NodeNames.{NodeNames}
 use Rattle.roc_files.specs.declared.nodes.Nodes.{Nodes}
-use Rattle.roc_files.specs.Held.{NodeFiles, HoldsPlan, HasShard, LacksShard, HoldsCluster, HoldNodes}
+use Rattle.roc_files.specs.Held.{NodeFiles, HoldsPlan, LacksShard, HoldsCluster, HoldNodes}
 use Rattle.roc_files.specs.Input.{PlanFails}
 use Rattle.roc_files.specs.Listed.{ClusterFails, RequestsFail}
 
@@ -29,13 +29,13 @@ files_named names = record {
 abbrev pub HoldsAll : (List ℕ → Option (List ℕ)) → NodeFiles → Nodes → Type 0
 HoldsAll content files nodes = (bytes : List ℕ) × HoldNodes content files bytes nodes.plan nodes.cluster nodes.requests.items × (nodes.tag ≡ tag_of_bytes bytes)
 
--- why they do not: there is no plan, where standard output took what is said of a workload that is not acceptable; or, where it took nothing, the
--- plan lacks the shard, or there is no cluster, or there are no requests
+-- why they do not: there is no plan, where standard output took what is said of a workload that is not acceptable; or, where it took nothing, there
+-- is no cluster, or there are no requests, or all these are there and the plan lacks the shard
 pub data NodesFail (content : List ℕ → Option (List ℕ)) (files : NodeFiles) (old new : Option (List ℕ)) : Fault → Type 0 where
   by_workload : (fault : Fault) → PlanFails content files.workload old new fault → NodesFail content files old new fault
-  by_shard : LacksShard content files → new ≡ old → NodesFail content files old new NoShard
-  by_cluster : (plan : Plan) (fault : Fault) → HoldsPlan content files.workload plan → HasShard files plan → ClusterFails content files.cluster plan.program.shards fault
+  by_cluster : (plan : Plan) (fault : Fault) → HoldsPlan content files.workload plan → ClusterFails content files.cluster plan.program.shards fault
       → new ≡ old → NodesFail content files old new fault
-  by_requests : (plan : Plan) (addrs : List Addr) (name : List ℕ) (fault : Fault) → HoldsPlan content files.workload plan → HasShard files plan
+  by_requests : (plan : Plan) (addrs : List Addr) (name : List ℕ) (fault : Fault) → HoldsPlan content files.workload plan
       → HoldsCluster content files.cluster plan.program.shards addrs → files.requests ≡ Some name → RequestsFail content name plan.program fault
       → new ≡ old → NodesFail content files old new fault
+  by_shard : LacksShard content files → new ≡ old → NodesFail content files old new NoShard

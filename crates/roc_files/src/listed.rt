@@ -1,8 +1,8 @@
 //! Cluster files and request files.
-ghost use Rattle.std.specs.Prelude.{◌≡◌, ℕ, List, false};
+ghost use Rattle.std.specs.Prelude.{◌≡◌, ℕ, List, false, option_map};
 ghost use Rattle.roc_io.specs.Cause.{HasCause};
 ghost use Rattle.roc_files.specs.Fault.{blames_file, blames_sink, blames_link, fails_by, ReadsBut};
-ghost use Rattle.roc_files.specs.Inner.Listed.{ClusterEnds, ClusterTextEnds, RequestsEnd, RequestsTextEnd};
+ghost use Rattle.roc_files.specs.Inner.Listed.{ClusterEnds, ClusterTextEnds, ListedEnd, RequestsEnd, RequestsTextEnd};
 
 use crate::fault::Fault;
 use crate::input::bytes_of;
@@ -65,8 +65,28 @@ fn no_cluster(file: &str, fault: ClusterFault) -> Fault<'_>
     Fault::Cluster { file, fault }
 }
 
-/// The requests that a file holds, all of which fit the plan.
-pub(crate) fn requests_of<'a, F: Files>(
+/// The requests of the file of this name, where there is a name.
+pub(crate) fn requests_named<'a, F: Files>(
+    alloc: Global,
+    files: &mut F,
+    name: Option<&'a str>,
+    plan: &Plan,
+) -> Result<Vec<Request>, Fault<'a>>
+    ensures ends { ListedEnd (F.content files.old) (option_map (λ n. n.now) name.entry) plan.now.program result }
+    ensures failed { ReadsBut (F.failed_names files.old) (F.failed_names files.new) result }
+    ensures file_faults { HasCause (fails_by blames_file result) (F.faults files.old) (F.faults files.new) }
+    ensures no_sink { fails_by blames_sink result ≡ false }
+    ensures unchanged { (other : List ℕ) → F.content files.new other ≡ F.content files.old other }
+    ensures no_link { fails_by blames_link result ≡ false }
+{
+    match name {
+        Some(name) => requests_of(alloc, files, name, plan),
+        None => Ok(Vec::new(alloc)),
+    }
+}
+
+// The requests that a file holds, all of which fit the plan.
+fn requests_of<'a, F: Files>(
     alloc: Global,
     files: &mut F,
     name: &'a str,

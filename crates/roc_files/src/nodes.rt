@@ -7,11 +7,11 @@ ghost use Rattle.roc_files.specs.Held.{Holds, HoldsCluster};
 ghost use Rattle.roc_files.specs.Fault.{blames_file, blames_sink, blames_link, fails_by, ReadsBut};
 ghost use Rattle.roc_files.specs.Input.{HoldsWithin};
 ghost use Rattle.roc_files.specs.NodeNames.{tag_of_bytes, files_named, HoldsAll, NodesFail};
-ghost use Rattle.roc_files.specs.Inner.Shards.{lacks_shard};
+ghost use Rattle.roc_files.specs.Inner.Shards.{lacks_shard, IsJudgedShard};
 
 use crate::fault::Fault;
 use crate::input::{bytes_of, checked};
-use crate::listed::{cluster_of, requests_of};
+use crate::listed::{cluster_of, requests_named};
 use roc_base::Shard;
 use roc_cluster::Cluster;
 use roc_io::{Files, Sink};
@@ -103,41 +103,6 @@ fn nodes_of_plan<'a, F: Files>(
     ensures content { (name : List ℕ) → F.content files.new name ≡ F.content files.old name }
     ensures no_link { fails_by blames_link result ≡ false }
 {
-    if lacks(names.shard, plan.workload().shards()) {
-        return Err(Fault::NoShard);
-    }
-    nodes_of_shards(alloc, names, plan, tag, files)
-}
-
-// Whether a shard is asked for that is not one of so many.
-fn lacks(shard: Option<Shard>, shards: u8) -> bool
-    ensures { result ≡ lacks_shard shard shards }
-{
-    match shard {
-        Some(shard) => shard.0 >= shards,
-        None => false,
-    }
-}
-
-// The same, once the workload has the shard that is to be served.
-fn nodes_of_shards<'a, F: Files>(
-    alloc: Global,
-    names: NodeNames<'a>,
-    plan: Plan,
-    tag: [u8; 8],
-    files: &mut F,
-) -> Result<Nodes, Fault<'a>>
-    ensures held { (bytes : List ℕ) → Holds (F.content files.old) names.entry.workload.now bytes → IsPlanOfText bytes plan → tag ≡ tag_of_bytes bytes
-        → lacks_shard names.entry.shard plan.program.shards ≡ false
-        → IfOk result (HoldsAll (F.content files.old) (files_named names.entry)) }
-    ensures fails { (bytes : List ℕ) (out : Option (List ℕ)) → Holds (F.content files.old) names.entry.workload.now bytes → IsPlanOfText bytes plan
-        → lacks_shard names.entry.shard plan.program.shards ≡ false → IfErr result (NodesFail (F.content files.old) (files_named names.entry) out out) }
-    ensures failed { ReadsBut (F.failed_names files.old) (F.failed_names files.new) result }
-    ensures file_faults { HasCause (fails_by blames_file result) (F.faults files.old) (F.faults files.new) }
-    ensures no_sink { fails_by blames_sink result ≡ false }
-    ensures content { (name : List ℕ) → F.content files.new name ≡ F.content files.old name }
-    ensures no_link { fails_by blames_link result ≡ false }
-{
     match cluster_of(alloc, files, names.cluster, plan.workload().shards()) {
         Ok(cluster) => nodes_of_cluster(alloc, names, plan, tag, cluster, files),
         Err(fault) => Err(fault),
@@ -154,28 +119,45 @@ fn nodes_of_cluster<'a, F: Files>(
     files: &mut F,
 ) -> Result<Nodes, Fault<'a>>
     ensures held { (bytes : List ℕ) → Holds (F.content files.old) names.entry.workload.now bytes → IsPlanOfText bytes plan → tag ≡ tag_of_bytes bytes
-        → lacks_shard names.entry.shard plan.program.shards ≡ false → HoldsCluster (F.content files.old) names.entry.cluster.now plan.program.shards cluster
-        → IfOk result (HoldsAll (F.content files.old) (files_named names.entry)) }
+        → HoldsCluster (F.content files.old) names.entry.cluster.now plan.program.shards cluster → IfOk result (HoldsAll (F.content files.old) (files_named names.entry)) }
     ensures fails { (bytes : List ℕ) (out : Option (List ℕ)) → Holds (F.content files.old) names.entry.workload.now bytes → IsPlanOfText bytes plan
-        → lacks_shard names.entry.shard plan.program.shards ≡ false → HoldsCluster (F.content files.old) names.entry.cluster.now plan.program.shards cluster
-        → IfErr result (NodesFail (F.content files.old) (files_named names.entry) out out) }
+        → HoldsCluster (F.content files.old) names.entry.cluster.now plan.program.shards cluster → IfErr result (NodesFail (F.content files.old) (files_named names.entry) out out) }
     ensures failed { ReadsBut (F.failed_names files.old) (F.failed_names files.new) result }
     ensures file_faults { HasCause (fails_by blames_file result) (F.faults files.old) (F.faults files.new) }
     ensures no_sink { fails_by blames_sink result ≡ false }
     ensures content { (name : List ℕ) → F.content files.new name ≡ F.content files.old name }
     ensures no_link { fails_by blames_link result ≡ false }
 {
-    let requests = match names.requests {
-        Some(name) => match requests_of(alloc, files, name, &plan) {
-            Ok(requests) => requests,
-            Err(fault) => return Err(fault),
-        },
-        None => Vec::new(alloc),
-    };
-    Ok(Nodes {
-        plan,
-        tag,
-        cluster,
-        requests,
-    })
+    match requests_named(alloc, files, names.requests, &plan) {
+        Ok(requests) => {
+            let nodes = Nodes {
+                plan,
+                tag,
+                cluster,
+                requests,
+            };
+            with_shard(names.shard, nodes)
+        }
+        Err(fault) => Err(fault),
+    }
+}
+
+// The same, once all files were read: only now the shard is judged that is to be served.
+fn with_shard<'a>(shard: Option<Shard>, nodes: Nodes) -> Result<Nodes, Fault<'a>>
+    ensures { IsJudgedShard shard nodes result }
+{
+    if lacks(shard, nodes.plan.workload().shards()) {
+        return Err(Fault::NoShard);
+    }
+    Ok(nodes)
+}
+
+// Whether a shard is asked for that is not one of so many.
+fn lacks(shard: Option<Shard>, shards: u8) -> bool
+    ensures { result ≡ lacks_shard shard shards }
+{
+    match shard {
+        Some(shard) => shard.0 >= shards,
+        None => false,
+    }
 }

@@ -1,5 +1,5 @@
 -- What comes of reading a cluster file or a request file, and of their bytes
-use Rattle.std.specs.Prelude.{◌≡◌, ℕ, List, Option, Result, Ok, Err, Vec}
+use Rattle.std.specs.Prelude.{◌≡◌, ℕ, List, Option, Some, Result, Ok, Err, Vec}
 use Rattle.std.specs.declared.alloc.Global.{Global}
 use Rattle.roc_io.specs.declared.link.Addr.{Addr}
 use Rattle.roc_program.specs.Program.{Workload}
@@ -12,7 +12,7 @@ use Rattle.roc_sched.specs.FaultText.{what_text}
 use Rattle.roc_files.specs.declared.fault.Fault.{Fault}
 use Rattle.roc_files.specs.declared.fault.Fault.TheVariants.{Cluster, At, Memory}
 use Rattle.roc_files.specs.Requests.{AreRequestsOf, IsRequestsFault}
-use Rattle.roc_files.specs.Held.{HoldsCluster, HoldsRequests}
+use Rattle.roc_files.specs.Held.{HoldsCluster, HoldsRequests, HoldsListed}
 use Rattle.roc_files.specs.Listed.{ClusterFails, RequestsFail}
 
 -- ---- cluster files
@@ -38,6 +38,11 @@ ClusterTextEnds bytes name shards (Err fault) = ClusterTextFails bytes name shar
 abbrev pub RequestsEnd : (List ℕ → Option (List ℕ)) → (name : List ℕ) → Workload → Result (Vec Request Global) Fault → Type 0
 RequestsEnd content name program (Ok requests) = HoldsRequests content name program requests.items
 RequestsEnd content name program (Err fault) = RequestsFail content name program fault
+
+-- the same of a file that may be named
+abbrev pub ListedEnd : (List ℕ → Option (List ℕ)) → (name : Option (List ℕ)) → Workload → Result (Vec Request Global) Fault → Type 0
+ListedEnd content name program (Ok requests) = HoldsListed content name program requests.items
+ListedEnd content name program (Err fault) = (listed : List ℕ) × (name ≡ Some listed) × RequestsFail content listed program fault
 
 -- the same of the bytes that a file holds
 abbrev pub RequestsTextFail : (bytes name : List ℕ) → Workload → Fault → Type 0

@@ -1,19 +1,28 @@
-use Rattle.std.proofs.Common.{◌≡◌, true, false, refl, sym, ap, subst, ◌∙◌}
+use Rattle.std.proofs.Common.{◌≡◌, refl, ap, subst, ◌∙◌}
 use Rattle.roc_program.specs.Program.{Workload}
-use Rattle.roc_files.specs.NodeNames.{files_named, by_shard}
-use Rattle.roc_files.specs.Inner.Shards.{lacks_shard}
-use Rattle.roc_files.proofs.Loading.{shard_is_lacking}
+use Rattle.roc_files.specs.Listed.{ClusterFails}
+use Rattle.roc_files.specs.NodeNames.{by_cluster}
+use Rattle.roc_files.proofs.Loading.{fails_behind, holds_behind, held_still, cluster_still}
 use Rattle.roc_files.proofs.nodes.nodes_of_plan.Goals as goal
 
--- the shard is not one of the workload
-pub returns-then-lacks-clause-fails : goal.returns-then-lacks-clause-fails
-returns-then-lacks-clause-fails g c bytes out held planned =
+-- the cluster file was read
+pub returns-in-Ok-clause-held : goal.returns-in-Ok-clause-held
+returns-in-Ok-clause-held g c bytes held planned tagged =
     let shards : c.shards.result ≡ c.args.plan.program.shards = c.shards.ensures.value ∙ ap (λ (w : Workload). w.shards) c.workload.ensures.program in
-    by_shard (shard_is_lacking _ (files_named c.args.names) c.args.plan c.args.names.shard (record { bytes = bytes; held = held; is = planned }) refl
-    (subst (λ n. lacks_shard c.args.names.shard n ≡ true) shards (sym c.lacks.ensures ∙ c.if-lacks.true))) refl
+    holds_behind _ _ _ _ c.in-Ok.ensures.unchanged
+    (c.nodes_of_cluster.ensures.held bytes (held_still _ _ _ _ c.in-Ok.ensures.unchanged held) planned tagged
+    (cluster_still _ _ _ _ _ _ c.in-Ok.ensures.unchanged shards c.in-Ok.ensures.ends))
 
--- it is
+pub returns-in-Ok-clause-fails : goal.returns-in-Ok-clause-fails
+returns-in-Ok-clause-fails g c bytes out held planned =
+    let shards : c.shards.result ≡ c.args.plan.program.shards = c.shards.ensures.value ∙ ap (λ (w : Workload). w.shards) c.workload.ensures.program in
+    fails_behind _ _ _ _ _ _ _ c.in-Ok.ensures.unchanged refl
+    (c.nodes_of_cluster.ensures.fails bytes out (held_still _ _ _ _ c.in-Ok.ensures.unchanged held) planned
+    (cluster_still _ _ _ _ _ _ c.in-Ok.ensures.unchanged shards c.in-Ok.ensures.ends))
+
+-- it was not
 pub returns-clause-fails : goal.returns-clause-fails
 returns-clause-fails g c bytes out held planned =
     let shards : c.shards.result ≡ c.args.plan.program.shards = c.shards.ensures.value ∙ ap (λ (w : Workload). w.shards) c.workload.ensures.program in
-    c.nodes_of_shards.ensures.fails bytes out held planned (subst (λ n. lacks_shard c.args.names.shard n ≡ false) shards (sym c.lacks.ensures ∙ c.if-lacks.false))
+    by_cluster c.args.plan c.in-Err.fault (record { bytes = bytes; held = held; is = planned })
+    (subst (λ n. ClusterFails (g.F.Files.content c.args.files.now) c.args.names.cluster.now n c.in-Err.fault) shards c.in-Err.ensures.ends) refl
