@@ -13,7 +13,7 @@ use Rattle.roc_depgraph.specs.declared.known.KnownList.{KnownList}
 use Rattle.roc_depgraph.specs.Closure.{IsClosure}
 use Rattle.roc_depgraph.specs.Deps.{IsKnown, IsDecided}
 use Rattle.roc_depgraph.proofs.Listed.{has_under, has_listed, listed_has}
-use Rattle.roc_depgraph.proofs.Rising_lists.{rising_one}
+use Rattle.roc_depgraph.proofs.RisingLists.{rising_one}
 use Rattle.roc_await.specs.declared.group.Group.{Group}
 use Rattle.roc_await.specs.declared.lack.Lack.{Lack}
 use Rattle.roc_await.specs.Lacks.{IsMissing, IsLack, AreLacks, count_of_missing}

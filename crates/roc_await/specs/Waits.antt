@@ -4,12 +4,12 @@ use Rattle.std.specs.List.{list_any}
 use Rattle.roc_base.specs.declared.id.TxnId.{TxnId}
 use Rattle.roc_base.specs.TxnId.{is_txn, txn_lt}
 use Rattle.roc_msg.specs.InPlace.{in_place}
-use Rattle.roc_await.specs.declared.waits.Asked.{Asked}
+use Rattle.roc_await.specs.declared.waits.OpenFetch.{OpenFetch}
 use Rattle.roc_await.specs.declared.waits.Asker.{Asker}
 
 pub record Waiting : Type 0 where
   -- the transactions whose lists were asked for, each with the shard that was asked, rising by id
-  pub asked : List Asked
+  pub asked : List OpenFetch
   -- who asked for the list of a transaction that is not known here, rising by id and shard
   pub askers : List Asker
 
@@ -17,22 +17,22 @@ abbrev pub none_waiting : Waiting
 none_waiting = record { asked = []; askers = [] }
 
 -- the order in which each is kept
-abbrev pub is_asked_before : Asked → Asked → Bool
+abbrev pub is_asked_before : OpenFetch → OpenFetch → Bool
 is_asked_before a b = txn_lt a.id b.id
 
 abbrev pub is_asker_before : Asker → Asker → Bool
 is_asker_before a b = txn_lt a.id b.id || (is_txn a.id b.id && nat_lt a.shard.0 b.shard.0)
 
 -- the list of a transaction was asked for
-abbrev pub was_asked_for : TxnId → List Asked → Bool
+abbrev pub was_asked_for : TxnId → List OpenFetch → Bool
 was_asked_for id asked = list_any (λ a. is_txn a.id id) asked
 
 -- one more is asked for
-abbrev pub with_asked : Asked → List Asked → List Asked
+abbrev pub with_asked : OpenFetch → List OpenFetch → List OpenFetch
 with_asked a asked = in_place is_asked_before a asked
 
 -- several more, one after another
-abbrev pub with_all_asked : List Asked → List Asked → List Asked
+abbrev pub with_all_asked : List OpenFetch → List OpenFetch → List OpenFetch
 with_all_asked [] asked = asked
 with_all_asked (a ∷ more) asked = with_all_asked more (with_asked a asked)
 

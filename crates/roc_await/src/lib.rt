@@ -21,4 +21,4 @@ mod waits;
 
 pub use lack::Lack;
 pub use lacks::Lacks;
-pub use waits::{Asked, Asker, Waits};
+pub use waits::{Asker, OpenFetch, Waits};

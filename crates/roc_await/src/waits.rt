@@ -9,7 +9,7 @@ use std::marker::Model;
 
 /// A transaction whose list was asked for, and the shard that was asked.
 #[derive(Clone, Copy)]
-pub struct Asked {
+pub struct OpenFetch {
     pub id: TxnId,
     pub at: Shard,
 }
@@ -25,7 +25,7 @@ pub struct Asker {
 #[derive(Drop)]
 pub struct Waits {
     alloc: Global,
-    asked: Vec<Asked>,
+    asked: Vec<OpenFetch>,
     askers: Vec<Asker>,
 }
 
@@ -53,7 +53,7 @@ impl Waits {
     }
 
     /// What was asked for, by id rising.
-    pub fn asked(&self) -> &[Asked]
+    pub fn asked(&self) -> &[OpenFetch]
         ensures { result.now ≡ self.now.asked }
     {
         self.asked.as_slice()
@@ -74,7 +74,7 @@ impl Waits {
     }
 
     /// One more is asked for. `NoMemory` leaves all as it was.
-    pub fn ask(&mut self, asked: Asked) -> Result<(), NoMemory>
+    pub fn ask(&mut self, asked: OpenFetch) -> Result<(), NoMemory>
         ensures ok { OnOk result (self.new ≡ record self.old { asked = with_asked asked self.old.asked }) }
         ensures err { OnErr result (self.new ≡ self.old) }
     {
@@ -102,7 +102,11 @@ impl Waits {
 }
 
 // What was asked for, with one more in its place.
-fn with_asked(alloc: Global, asked: Asked, all: &[Asked]) -> Result<Vec<Asked>, NoMemory>
+fn with_asked(
+    alloc: Global,
+    asked: OpenFetch,
+    all: &[OpenFetch],
+) -> Result<Vec<OpenFetch>, NoMemory>
     ensures { IfOk result (λ v. v.items ≡ with_asked asked all.now) }
 {
     let mut with = asked_before(alloc, asked, all)?;
@@ -112,7 +116,11 @@ fn with_asked(alloc: Global, asked: Asked, all: &[Asked]) -> Result<Vec<Asked>, 
 }
 
 // Those of them that come before one.
-fn asked_before(alloc: Global, asked: Asked, all: &[Asked]) -> Result<Vec<Asked>, NoMemory>
+fn asked_before(
+    alloc: Global,
+    asked: OpenFetch,
+    all: &[OpenFetch],
+) -> Result<Vec<OpenFetch>, NoMemory>
     ensures { IfOk result (λ v. v.items ≡ filter (λ a. is_asked_before a asked) all.now) }
 {
     Ok(
@@ -124,7 +132,11 @@ fn asked_before(alloc: Global, asked: Asked, all: &[Asked]) -> Result<Vec<Asked>
 }
 
 // Those of them that come behind one.
-fn asked_behind(alloc: Global, asked: Asked, all: &[Asked]) -> Result<Vec<Asked>, NoMemory>
+fn asked_behind(
+    alloc: Global,
+    asked: OpenFetch,
+    all: &[OpenFetch],
+) -> Result<Vec<OpenFetch>, NoMemory>
     ensures { IfOk result (λ v. v.items ≡ filter (λ a. is_asked_before asked a) all.now) }
 {
     Ok(

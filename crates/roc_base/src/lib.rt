@@ -10,6 +10,10 @@
 //! the order and the repetitions of what is added, and by [`laws`] a union is the only rising list that has at each id
 //! what the entries say together; `Edges::find` is exactly the look-up. Two values of `Edges` or of `Nums` are equal
 //! exactly if their lists are. What fails for want of memory leaves the value as it was.
+//!
+//! [`Steps`] counts steps, which only contracts see: at run time a count takes no bytes, and a step no code. A function
+//! that may be held to a bound takes a count and says by how much the count grows. The step's tick stands where nothing
+//! else leads to what is counted. A caller that counts nothing takes a `Blank` and is called with `Brand` for the ledger.
 #![tactic(auto)]
 
 mod among;
@@ -21,6 +25,7 @@ pub mod laws;
 mod memory;
 mod node;
 mod nums;
+mod steps;
 
 pub use among::is_among;
 pub use edge::Edge;
@@ -30,3 +35,4 @@ pub use key::Key;
 pub use memory::NoMemory;
 pub use node::{Node, Shard};
 pub use nums::Nums;
+pub use steps::Steps;

@@ -2,9 +2,9 @@
 use Rattle.std.proofs.Common.{◌≡◌, ℕ, List, [], Result, Ok, Err, sym, ap, subst, ◌∙◌}
 use Rattle.roc_lang.specs.Scope.{faults}
 use Rattle.roc_lang.specs.declared.fault.LangError.TheVariants as error
-use Rattle.roc_parse.proofs.Unique.{one_tree, text_has_none}
-use Rattle.roc_scope.specs.Fault.{first}
-use Rattle.roc_scope.specs.declared.fault.ScopeFault.TheVariants as misuse
+use Rattle.roc_lang_parse.proofs.Unique.{one_tree, text_has_none}
+use Rattle.roc_lang_scope.specs.Fault.{first}
+use Rattle.roc_lang_scope.specs.declared.fault.ScopeFault.TheVariants as misuse
 use Rattle.roc_program.specs.Program.{Workload}
 use Rattle.roc_plan.specs.Groups.{Plan}
 use Rattle.roc_report.specs.Line as line

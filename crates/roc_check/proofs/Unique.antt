@@ -1,16 +1,16 @@
 -- A text has one plan or one refusal
 use Rattle.std.proofs.Common.{◌≡◌, ℕ, Bool, true, false, IsTrue, List, refl, sym, ap, subst, ◌∙◌}
 use Rattle.std.proofs.Math.Path.{fun_ext}
-use Rattle.roc_parse.proofs.Unique.{one_tree}
+use Rattle.roc_lang_parse.proofs.Unique.{one_tree}
 use Rattle.roc_program.specs.Program.{Workload}
 use Rattle.roc_program.specs.declared.piece_id.PieceId.{PieceId}
-use Rattle.roc_resolve.specs.Resolve.{resolved}
+use Rattle.roc_lang_resolve.specs.Resolve.{resolved}
 use Rattle.roc_scgraph.specs.declared.vertex.Vertex.{Vertex}
 use Rattle.roc_witness.specs.Shortest.{IsShortestOf}
 use Rattle.roc_witness.proofs.Single.{one_cycle}
-use Rattle.roc_groups.specs.Core.{IsAcceptable}
-use Rattle.roc_groups.specs.Grouping.{IsMerged}
-use Rattle.roc_groups.specs.Refusals.{IsApart, IsBlocked}
+use Rattle.roc_merge_groups.specs.Core.{IsAcceptable}
+use Rattle.roc_merge_groups.specs.Grouping.{IsMerged}
+use Rattle.roc_merge_groups.specs.Refusals.{IsApart, IsBlocked}
 use Rattle.roc_merge.proofs.Firsts.{one_pair, one_three, apart_unacceptable, blocked_unacceptable}
 use Rattle.roc_plan.specs.Groups.{Plan}
 use Rattle.roc_plan.specs.Accepted.{grouped_plan}

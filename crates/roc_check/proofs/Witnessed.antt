@@ -9,10 +9,10 @@ use Rattle.roc_scgraph.specs.declared.vertex.Vertex.{Vertex}
 use Rattle.roc_scgraph.specs.Cycles.{first_instance}
 use Rattle.roc_scgraph.proofs.Contended.{each}
 use Rattle.roc_witness.specs.Shortest.{IsCycleOf}
-use Rattle.roc_groups.specs.Groups.{piece_numbered}
-use Rattle.roc_groups.specs.Core.{AreCoLocated}
-use Rattle.roc_groups.specs.Refusals.{AreApart, IsInTheWay}
-use Rattle.roc_groups.proofs.Forward.{rises}
+use Rattle.roc_merge_groups.specs.Groups.{piece_numbered}
+use Rattle.roc_merge_groups.specs.Core.{AreCoLocated}
+use Rattle.roc_merge_groups.specs.Refusals.{AreApart, IsInTheWay}
+use Rattle.roc_merge_groups.proofs.Forward.{rises}
 use Rattle.roc_check.specs.Checked.{AreImmediate}
 
 module _ (program : Workload) (is_immediate : PieceId → Bool) (least : AreImmediate program is_immediate) where

@@ -4,19 +4,19 @@ use Rattle.roc_lang.specs.Syntax.{Tree}
 use Rattle.roc_lang.specs.Scope.{faults}
 use Rattle.roc_lang.specs.declared.fault.LangError.{LangError}
 use Rattle.roc_lang.specs.declared.fault.LangError.TheVariants as error
-use Rattle.roc_parse.specs.Fault.{IsWorkloadText, IsFirstFault}
-use Rattle.roc_scope.specs.Fault.{kind, first}
-use Rattle.roc_scope.specs.declared.fault.ScopeFault.{ScopeFault}
-use Rattle.roc_scope.specs.declared.fault.ScopeFault.TheVariants as misuse
+use Rattle.roc_lang_parse.specs.Fault.{IsWorkloadText, IsFirstFault}
+use Rattle.roc_lang_scope.specs.Fault.{kind, first}
+use Rattle.roc_lang_scope.specs.declared.fault.ScopeFault.{ScopeFault}
+use Rattle.roc_lang_scope.specs.declared.fault.ScopeFault.TheVariants as misuse
 use Rattle.roc_program.specs.Program.{Workload}
 use Rattle.roc_program.specs.declared.piece_id.PieceId.{PieceId}
-use Rattle.roc_resolve.specs.Resolve.{resolved}
+use Rattle.roc_lang_resolve.specs.Resolve.{resolved}
 use Rattle.roc_conflict.specs.Immediate.{IsImmediate}
 use Rattle.roc_scgraph.specs.declared.vertex.Vertex.{Vertex}
 use Rattle.roc_witness.specs.Shortest.{IsShortestOf}
-use Rattle.roc_groups.specs.Core.{IsAcceptable}
-use Rattle.roc_groups.specs.Grouping.{IsMerged}
-use Rattle.roc_groups.specs.Refusals.{IsApart, IsBlocked}
+use Rattle.roc_merge_groups.specs.Core.{IsAcceptable}
+use Rattle.roc_merge_groups.specs.Grouping.{IsMerged}
+use Rattle.roc_merge_groups.specs.Refusals.{IsApart, IsBlocked}
 use Rattle.roc_plan.specs.Groups.{Plan}
 use Rattle.roc_plan.specs.Accepted.{grouped_plan}
 use Rattle.roc_report.specs.Line.{Line}

@@ -1,9 +1,9 @@
 //! Why a text has no plan.
 use roc_base::NoMemory;
 use roc_lang::LangError;
+use roc_lang_scope::ScopeFault;
 use roc_program::{PieceId, Workload};
 use roc_scgraph::Vertex;
-use roc_scope::ScopeFault;
 use roc_sequence::Sequence;
 
 /// Why a text has no plan: the fault of the first step that finds one. Pieces and vertices are numbers, so a refusal hands back the

@@ -6,7 +6,7 @@ ghost use Rattle.roc_report.specs.Line.{Line};
 ghost use Rattle.roc_check.specs.Lines.{check_lines};
 ghost use Rattle.roc_check.specs.Checked.{IsPlanOf, IsPlanOfText, IsRefusedBy, IsRefusedText};
 
-use roc_groups::laws::merged_groups_are_one;
+use roc_merge_groups::laws::merged_groups_are_one;
 
 /// A text has at most one plan, and so one text of `check`.
 pub fn plans_are_unique()

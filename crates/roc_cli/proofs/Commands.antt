@@ -1,12 +1,12 @@
 -- Of which words each end is
 use Rattle.std.proofs.Common.{inl, inr, ℕ, List, refl}
-use Rattle.roc_words.specs.Commands.{check, print, replay, gen}
-use Rattle.roc_launch.specs.Call.{RunCall}
-use Rattle.roc_launch.specs.Words.{AreCommandWords, NamesProgram, NamesNodes, node_files}
+use Rattle.roc_cli_words.specs.Commands.{check, print, replay, gen}
+use Rattle.roc_cli_nodes.specs.Call.{RunCall}
+use Rattle.roc_cli_nodes.specs.Words.{AreCommandWords, NamesProgram, NamesNodes, node_files}
 use Rattle.roc_cli.specs.Stopped.{IsInput, the_workload, the_schedule, the_cluster, the_requests, CutsOutput, in_report, in_text, in_check, in_rejection, in_generated}
 use Rattle.roc_cli.specs.Refused.{IsRefused, long_workload, no_text, out_of_scope, long_schedule, bad_schedule, long_cluster, bad_cluster, long_requests, bad_requests}
 use Rattle.roc_cli.specs.Fit.{IsFit}
-use Rattle.roc_launch.proofs.Naming.{no_name}
+use Rattle.roc_cli_nodes.proofs.Naming.{no_name}
 
 pub of_program : (words : List (List ℕ)) (workload : List ℕ) → NamesProgram words workload → AreCommandWords words
 of_program words workload (c, is, e) = (c, is)

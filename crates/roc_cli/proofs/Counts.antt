@@ -1,15 +1,15 @@
 -- A count rises exactly where the status is its own
 use Rattle.std.proofs.Common.{◌≡◌, ◌⊎◌, inl, inr, ℕ, ◌≤◌, ◌==◌, Bool, IsTrue, true, false, List, Option, Result, Ok, Err, refl, sym, ap, subst, ◌∙◌, arith}
 use Rattle.roc_io.specs.Cause.{HasCause}
-use Rattle.roc_files.specs.declared.fault.Fault.{Fault}
-use Rattle.roc_files.specs.declared.fault.Fault.TheVariants.{Rejected, Refused, Value, NoShard, Memory, Unanswered, File, Sink, Link, Child}
-use Rattle.roc_files.specs.Says.{Errors}
-use Rattle.roc_words.specs.declared.value.Part.{Part}
-use Rattle.roc_launch.specs.Call.{RunCall}
-use Rattle.roc_launch.specs.Words.{NamesNodes}
+use Rattle.roc_cli_files.specs.declared.fault.Fault.{Fault}
+use Rattle.roc_cli_files.specs.declared.fault.Fault.TheVariants.{Rejected, Refused, Value, NoShard, Memory, Unanswered, File, Sink, Link, Child}
+use Rattle.roc_cli_files.specs.Says.{Errors}
+use Rattle.roc_cli_words.specs.declared.value.Part.{Part}
+use Rattle.roc_cli_nodes.specs.Call.{RunCall}
+use Rattle.roc_cli_nodes.specs.Words.{NamesNodes}
 use Rattle.roc_cli.specs.Status.{IsQuiet}
-use Rattle.roc_files.specs.Fault.{IsTold, EndsWith, line_of, blames_file, blames_sink, blames_link, fails_by, ReadsBut}
-use Rattle.roc_launch.specs.Ends.{precedes_loop, CountsChildren}
+use Rattle.roc_cli_files.specs.Fault.{IsTold, EndsWith, line_of, blames_file, blames_sink, blames_link, fails_by, ReadsBut}
+use Rattle.roc_cli_nodes.specs.Ends.{precedes_loop, CountsChildren}
 use Rattle.roc_cli.specs.Inner.Ends.{Ends, GenEnds}
 
 counted_at : (status n wanted : ℕ) (test : Bool) (old new : ℕ) → status ≡ n → (n == wanted) ≡ test → HasCause test old new → HasCause (status == wanted) old new

@@ -3,29 +3,29 @@ use Rattle.std.proofs.Common.{◌≡◌, inl, inr, ℕ, List, Option, Result, Ok
 use Rattle.std.proofs.Math.Path.{fun_ext}
 use Rattle.roc_lang.specs.Grammar.{text_limit}
 use Rattle.roc_lang.specs.FaultText.{what_text}
-use Rattle.roc_scope.specs.FaultText.{what_text as scope_text}
+use Rattle.roc_lang_scope.specs.FaultText.{what_text as scope_text}
 use Rattle.roc_sched.specs.FaultText.{what_text as schedule_text}
-use Rattle.roc_scope.specs.Fault.{kind}
+use Rattle.roc_lang_scope.specs.Fault.{kind}
 use Rattle.roc_plan.specs.Groups.{Plan}
 use Rattle.roc_sched.specs.Schedule.{most_bytes}
-use Rattle.roc_files.specs.declared.fault.Fault.{Fault}
-use Rattle.roc_files.specs.declared.fault.Fault.TheVariants.{TooLong, At, Scope, Rejected, Memory, File, Sink}
-use Rattle.roc_launch.specs.Call.{RunCall, WholeCall, TakesNothing}
-use Rattle.roc_words.specs.declared.answer.WordsFault.{WordsFault}
-use Rattle.roc_words.specs.declared.answer.WordsFault.TheVariants as words_fault
-use Rattle.roc_words.specs.Answer.{AnswersWords}
-use Rattle.roc_words.specs.declared.value.Part.{Part}
-use Rattle.roc_words.specs.Commands.{check, print}
-use Rattle.roc_launch.specs.Words.{IsReplay, IsPrint, IsCheck, IsGen, NamesProgram, NamesWorkload}
-use Rattle.roc_launch.proofs.Naming.{as_workload}
-use Rattle.roc_files.specs.Held.{Holds, HoldsPlan}
-use Rattle.roc_files.specs.Says.{long_line, fault_line}
+use Rattle.roc_cli_files.specs.declared.fault.Fault.{Fault}
+use Rattle.roc_cli_files.specs.declared.fault.Fault.TheVariants.{TooLong, At, Scope, Rejected, Memory, File, Sink}
+use Rattle.roc_cli_nodes.specs.Call.{RunCall, WholeCall, TakesNothing}
+use Rattle.roc_cli_words.specs.declared.answer.WordsFault.{WordsFault}
+use Rattle.roc_cli_words.specs.declared.answer.WordsFault.TheVariants as words_fault
+use Rattle.roc_cli_words.specs.Answer.{AnswersWords}
+use Rattle.roc_cli_words.specs.declared.value.Part.{Part}
+use Rattle.roc_cli_words.specs.Commands.{check, print}
+use Rattle.roc_cli_nodes.specs.Words.{IsReplay, IsPrint, IsCheck, IsGen, NamesProgram, NamesWorkload}
+use Rattle.roc_cli_nodes.proofs.Naming.{as_workload}
+use Rattle.roc_cli_files.specs.Held.{Holds, HoldsPlan}
+use Rattle.roc_cli_files.specs.Says.{long_line, fault_line}
 use Rattle.roc_cli.specs.Done.{IsReplayOf}
 use Rattle.roc_cli.specs.Stopped.{the_workload, the_schedule, with_nothing, with_lines, in_report, in_text, in_check, in_rejection, in_generated}
 use Rattle.roc_cli.specs.Refused.{by_clap, no_value, IsRefused, long_workload, no_text, out_of_scope, long_schedule, bad_schedule}
-use Rattle.roc_files.specs.Input.{HoldsWithin, IsReadFault, IsProgramFault, PlanFails, PrintEnds, CheckEnds}
+use Rattle.roc_cli_files.specs.Input.{HoldsWithin, IsReadFault, IsProgramFault, PlanFails, PrintEnds, CheckEnds}
 use Rattle.roc_cli.specs.Inner.Ends.{Fails, Ends, WholeEnds, ReplayEnds, GenEnds, fault_of_words}
-use Rattle.roc_files.specs.Fault.{Blames, ReadsBut}
+use Rattle.roc_cli_files.specs.Fault.{Blames, ReadsBut}
 
 module _ (call : RunCall) where
   -- where a file's name, a line and what is wrong there are known, so is the line of standard error

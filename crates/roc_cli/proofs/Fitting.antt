@@ -5,10 +5,10 @@ use Rattle.roc_lang.specs.Syntax.{Tree}
 use Rattle.roc_lang.specs.Scope.{Fault, faults}
 use Rattle.roc_lang.specs.Grammar.{text_limit}
 use Rattle.roc_lang.specs.declared.fault.What.{What}
-use Rattle.roc_parse.specs.Fault.{IsWorkloadText, IsFirstFault}
-use Rattle.roc_scope.specs.Fault.{first}
+use Rattle.roc_lang_parse.specs.Fault.{IsWorkloadText, IsFirstFault}
+use Rattle.roc_lang_scope.specs.Fault.{first}
 use Rattle.roc_program.specs.Program.{Workload}
-use Rattle.roc_resolve.specs.Resolve.{resolved}
+use Rattle.roc_lang_resolve.specs.Resolve.{resolved}
 use Rattle.roc_plan.specs.Groups.{Plan}
 use Rattle.roc_io.specs.declared.link.Addr.{Addr}
 use Rattle.roc_cluster.specs.declared.fault.ClusterFault.{ClusterFault}
@@ -19,22 +19,22 @@ use Rattle.roc_report.specs.Line.{Line}
 use Rattle.roc_check.specs.Checked.{IsPlanOf, IsPlanOfText, IsRefusedBy, IsRefusedText}
 use Rattle.roc_sched.specs.declared.fault.What.{What as ScheduleWhat}
 use Rattle.roc_sched.specs.declared.line.Request.{Request}
-use Rattle.roc_replay.specs.declared.asked.Asked.{Asked}
+use Rattle.roc_replay.specs.declared.asked.BoundLine.{BoundLine}
 use Rattle.roc_sched.specs.Schedule.{most_bytes, AreRequests, IsRequestFault}
-use Rattle.roc_replay.specs.Asked.{IsScheduleOf}
+use Rattle.roc_replay.specs.BoundLine.{IsScheduleOf}
 use Rattle.roc_replay.specs.Played.{DeliversOnlySent}
 use Rattle.roc_replay.specs.Ended.{IsTextFault}
-use Rattle.roc_words.specs.declared.value.Part.{Part}
-use Rattle.roc_words.specs.declared.value.ValueName.{ValueName}
-use Rattle.roc_words.specs.Commands.{Command, check, print, replay, gen}
-use Rattle.roc_words.specs.Answer.{AreWordsOf, HaveNoValue}
-use Rattle.roc_launch.specs.Call.{RunCall}
-use Rattle.roc_launch.specs.Words.{IsReplay, IsGen, node_files, program_of, workload_of, NamesProgram, NamesWorkload, NamesNodeFiles}
-use Rattle.roc_files.specs.Held.{NodeFiles, Holds, HoldsMore, HoldsPlan, HoldsText, HoldsFault, HoldsMisuse, HoldsRejected}
+use Rattle.roc_cli_words.specs.declared.value.Part.{Part}
+use Rattle.roc_cli_words.specs.declared.value.ValueName.{ValueName}
+use Rattle.roc_cli_words.specs.Commands.{Command, check, print, replay, gen}
+use Rattle.roc_cli_words.specs.Answer.{AreWordsOf, HaveNoValue}
+use Rattle.roc_cli_nodes.specs.Call.{RunCall}
+use Rattle.roc_cli_nodes.specs.Words.{IsReplay, IsGen, node_files, program_of, workload_of, NamesProgram, NamesWorkload, NamesNodeFiles}
+use Rattle.roc_cli_files.specs.Held.{NodeFiles, Holds, HoldsMore, HoldsPlan, HoldsText, HoldsFault, HoldsMisuse, HoldsRejected}
 use Rattle.roc_cli.specs.Refused.{AreRefusedWords, by_clap, no_value, no_shard, IsRefused, long_workload, no_text, out_of_scope, long_schedule, bad_schedule, long_cluster, bad_cluster, long_requests, bad_requests}
 use Rattle.roc_cli.specs.Fit.{ReplayFits, PrintFits, CheckFits, IsFit}
 use Rattle.roc_cli.specs.Inner.Faultless.{IsFaultless}
-use Rattle.roc_launch.proofs.Naming.{unlike, same_name, no_name, as_workload, replay_schedule}
+use Rattle.roc_cli_nodes.proofs.Naming.{unlike, same_name, no_name, as_workload, replay_schedule}
 
 -- ---- what a file holds
 
@@ -59,7 +59,7 @@ pub record TextLaws : Type 0 where
   pub one_list : (text : List ℕ) (some others : List Request) → AreRequests text some → AreRequests text others → some ≡ others
   pub no_list_fault : (text : List ℕ) (requests : List Request) (line : ℕ) (what : ScheduleWhat) → AreRequests text requests → IsRequestFault text line what → ⊥
   pub no_text_fault :
-      (plan : Plan) (text : List ℕ) (lines : List Asked) → IsScheduleOf plan.program text lines → DeliversOnlySent plan lines
+      (plan : Plan) (text : List ℕ) (lines : List BoundLine) → IsScheduleOf plan.program text lines → DeliversOnlySent plan lines
       → (number : ℕ) (fault : ScheduleWhat) (old new : Option (List ℕ)) → IsTextFault plan text number fault old new → ⊥
 
 -- ---- words

@@ -15,19 +15,19 @@ use Rattle.roc_cluster.specs.Answer.{IsFirstIn, IsClusterFault}
 use Rattle.roc_sched.specs.declared.fault.What.{What}
 use Rattle.roc_sched.specs.declared.line.Request.{Request}
 use Rattle.roc_sched.specs.Schedule.{most_bytes}
-use Rattle.roc_submit.specs.declared.ends.SubmitEnd.{SubmitEnd}
-use Rattle.roc_words.specs.Commands.{check, print, replay, serve, submit, stop, local, gen}
-use Rattle.roc_launch.specs.Call.{RunCall, WholeCall}
-use Rattle.roc_launch.specs.Words.{IsReplay, node_files, workload_of, NamesProgram, NamesWorkload, NamesNodeFiles}
-use Rattle.roc_files.specs.Held.{NodeFiles, HasShard, HoldsPlan, HoldsRejected, HoldsNoCluster, HoldsNoRequests}
-use Rattle.roc_files.specs.Requests.{request_fault, FitEach, IsFirstUnfitRequest, IsRequestsFault, no_requests, unfit_request}
-use Rattle.roc_launch.specs.Nodes.{AreNodesEnded, IsChildBlamed}
+use Rattle.roc_node_submit.specs.declared.ends.SubmitEnd.{SubmitEnd}
+use Rattle.roc_cli_words.specs.Commands.{check, print, replay, serve, submit, stop, local, gen}
+use Rattle.roc_cli_nodes.specs.Call.{RunCall, WholeCall}
+use Rattle.roc_cli_nodes.specs.Words.{IsReplay, node_files, workload_of, NamesProgram, NamesWorkload, NamesNodeFiles}
+use Rattle.roc_cli_files.specs.Held.{NodeFiles, HasShard, HoldsPlan, HoldsRejected, HoldsNoCluster, HoldsNoRequests}
+use Rattle.roc_cli_files.specs.Requests.{request_fault, FitEach, IsFirstUnfitRequest, IsRequestsFault, no_requests, unfit_request}
+use Rattle.roc_cli_nodes.specs.Nodes.{AreNodesEnded, IsChildBlamed}
 use Rattle.roc_cli.specs.Stopped.{CutsOutput, in_report, in_text, in_check, in_rejection, in_generated}
 use Rattle.roc_cli.specs.Refused.{AreRefusedWords, by_clap, no_value, no_shard, IsRefused, long_workload, no_text, out_of_scope, long_schedule, bad_schedule, long_cluster, bad_cluster, long_requests, bad_requests}
 use Rattle.roc_cli.specs.Fit.{IsListOfRequests, NodeFilesFit, NodesFit, MissesShard}
 use Rattle.roc_cli.specs.Inner.Ends.{Ends}
 use Rattle.roc_cli.specs.Inner.Faultless.{IsFaultless, IsShardless}
-use Rattle.roc_launch.proofs.Naming.{same_name, no_name, as_workload, as_program}
+use Rattle.roc_cli_nodes.proofs.Naming.{same_name, no_name, as_workload, as_program}
 use Rattle.roc_cli.proofs.Fitting.{TextLaws, told, told_more, not_long, not_faulty, in_scope, same_plan, not_rejected, no_such_value}
 
 -- what holds of each holds of the one behind some

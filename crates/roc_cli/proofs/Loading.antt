@@ -3,20 +3,20 @@ use Rattle.std.proofs.Common.{◌≡◌, inl, inr, ℕ, List, Some, Result, Ok, 
 use Rattle.roc_io.specs.declared.link.Addr.{Addr}
 use Rattle.roc_plan.specs.Groups.{Plan}
 use Rattle.roc_cluster.specs.FaultText.{fault_text as cluster_text}
-use Rattle.roc_files.specs.declared.fault.Fault.{Fault}
-use Rattle.roc_files.specs.declared.fault.Fault.TheVariants.{TooLong, At, Cluster, Memory, File}
-use Rattle.roc_files.specs.Held.{NodeFiles, HoldsPlan, HoldsCluster}
-use Rattle.roc_files.specs.Says.{long_line, text_line, fault_line}
-use Rattle.roc_files.specs.Fault.{Blames, ReadsBut}
-use Rattle.roc_files.specs.Listed.{ClusterFails, RequestsFail}
-use Rattle.roc_files.specs.NodeNames.{NodesFail, by_workload, by_shard, by_cluster, by_requests}
-use Rattle.roc_launch.specs.Call.{RunCall, WholeCall, TakesNothing}
-use Rattle.roc_launch.specs.Words.{NamesNodeFiles}
+use Rattle.roc_cli_files.specs.declared.fault.Fault.{Fault}
+use Rattle.roc_cli_files.specs.declared.fault.Fault.TheVariants.{TooLong, At, Cluster, Memory, File}
+use Rattle.roc_cli_files.specs.Held.{NodeFiles, HoldsPlan, HoldsCluster}
+use Rattle.roc_cli_files.specs.Says.{long_line, text_line, fault_line}
+use Rattle.roc_cli_files.specs.Fault.{Blames, ReadsBut}
+use Rattle.roc_cli_files.specs.Listed.{ClusterFails, RequestsFail}
+use Rattle.roc_cli_files.specs.NodeNames.{NodesFail, by_workload, by_shard, by_cluster, by_requests}
+use Rattle.roc_cli_nodes.specs.Call.{RunCall, WholeCall, TakesNothing}
+use Rattle.roc_cli_nodes.specs.Words.{NamesNodeFiles}
 use Rattle.roc_cli.specs.Stopped.{the_cluster, the_requests, with_nothing}
 use Rattle.roc_cli.specs.Refused.{no_shard, IsRefused, long_cluster, bad_cluster, long_requests, bad_requests}
-use Rattle.roc_launch.specs.Ends.{IsLaunched}
+use Rattle.roc_cli_nodes.specs.Ends.{IsLaunched}
 use Rattle.roc_cli.specs.Inner.Ends.{Fails, WholeEnds}
-use Rattle.roc_launch.proofs.Naming.{as_program}
+use Rattle.roc_cli_nodes.proofs.Naming.{as_program}
 use Rattle.roc_cli.proofs.Faults.{plan_fails}
 
 module _ (call : RunCall) (files : NodeFiles) (names : NamesNodeFiles call.words files) (plan : Plan) (planned : HoldsPlan call.files.content files.workload plan) (same : TakesNothing call) where

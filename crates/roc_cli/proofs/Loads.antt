@@ -14,19 +14,19 @@ use Rattle.roc_sched.specs.declared.line.Act.TheVariants as act
 use Rattle.roc_sched.specs.declared.line.Line.{Line}
 use Rattle.roc_sched.specs.Schedule.{IsSchedule, IsScheduleFault, item_of}
 use Rattle.roc_generate.specs.Load.{IsCallOrChoice, IsLoadOf}
-use Rattle.roc_replay.specs.declared.asked.Asked.{Asked}
+use Rattle.roc_replay.specs.declared.asked.BoundLine.{BoundLine}
 use Rattle.roc_replay.specs.declared.asked.Wanted.{Wanted}
 use Rattle.roc_replay.specs.declared.asked.Wanted.TheVariants as wanted
-use Rattle.roc_replay.specs.Asked.{arguments_of, submission_of, wanted_by, numbered, asked_by}
+use Rattle.roc_replay.specs.BoundLine.{arguments_of, submission_of, wanted_by, numbered, asked_by}
 use Rattle.roc_replay.specs.Ended.{IsReplayed, IsTextFault, no_schedule, unfit, unsent}
 use Rattle.roc_replay.proofs.Schedules.{each_made}
 use Rattle.roc_check.specs.Checked.{IsPlanOfText}
-use Rattle.roc_generate.specs.Workload_text.{generated_workload}
-use Rattle.roc_generate.specs.Schedule_text.{generated_schedule}
-use Rattle.roc_generate.specs.Summary_text.{load_summary_text}
+use Rattle.roc_generate.specs.WorkloadText.{generated_workload}
+use Rattle.roc_generate.specs.ScheduleText.{generated_schedule}
+use Rattle.roc_generate.specs.SummaryText.{load_summary_text}
 use Rattle.roc_replay.specs.declared.ended.Summary.{Summary}
-use Rattle.roc_words.specs.declared.value.Part.{Part}
-use Rattle.roc_words.specs.declared.value.Part.TheVariants as part
+use Rattle.roc_cli_words.specs.declared.value.Part.{Part}
+use Rattle.roc_cli_words.specs.declared.value.Part.TheVariants as part
 use Rattle.roc_cli.specs.Done.{IsGenerated, the_workload, the_schedule, the_run}
 use Rattle.roc_cli.proofs.FittingNodes.{at_behind}
 
@@ -54,11 +54,11 @@ module _ (program : Workload) where
       let both : Ok (record { number = line.number; wanted = found.0 }) ≡ Err fault = sym (ap (numbered line.number) found.1) ∙ e in
       absurd (cc)
 
-  never_named : (line : Line) (one : Asked) → IsCallOrChoice program line.act → item_of (asked_by program line) ≡ Some one → NamesNone one.wanted
+  never_named : (line : Line) (one : BoundLine) → IsCallOrChoice program line.act → item_of (asked_by program line) ≡ Some one → NamesNone one.wanted
   never_named line one h e =
       let found = wants line.act h in
       let same : record { number = line.number; wanted = found.0 } ≡ one = same_Some _ one (sym (ap (λ r. item_of (numbered line.number r)) found.1) ∙ e) in
-      subst (λ (x : Asked). NamesNone x.wanted) same found.2
+      subst (λ (x : BoundLine). NamesNone x.wanted) same found.2
 
 module _
     (one_list : (shards : ℕ) (text : List ℕ) (some others : List Line) → IsSchedule shards text some → IsSchedule shards text others → some ≡ others)

@@ -2,28 +2,28 @@
 use Rattle.std.proofs.Common.{◌≡◌, ◌⊎◌, inl, inr, ℕ, ◌≤◌, List, Option, codes, refl, sym, subst, ◌∙◌, arith, ◌∷◌, Ok, Err}
 use Rattle.roc_replay.specs.Ended.{no_schedule, unfit, unsent, behind_lines}
 use Rattle.roc_replay.specs.Report.{report}
-use Rattle.roc_serve.specs.declared.ends.ServeEnd.TheVariants as serve_end
-use Rattle.roc_submit.specs.declared.ends.SubmitEnd.TheVariants as submit_end
+use Rattle.roc_node_serve.specs.declared.ends.ServeEnd.TheVariants as serve_end
+use Rattle.roc_node_submit.specs.declared.ends.SubmitEnd.TheVariants as submit_end
 use Rattle.roc_base.specs.declared.node.Shard.{Shard}
-use Rattle.roc_local.specs.declared.stops.StopEnd.TheVariants as stop_end
-use Rattle.roc_local.specs.declared.local.LocalEnd.TheVariants as local_end
-use Rattle.roc_words.specs.Commands.{check, print, replay, serve, submit, stop, local, gen}
-use Rattle.roc_files.specs.declared.fault.Fault.{Fault}
-use Rattle.roc_files.specs.declared.fault.Fault.TheVariants.{Rejected, Refused, Value, NoShard, Memory, Unanswered, File, Sink, Link, Child}
-use Rattle.roc_launch.specs.Call.{RunCall, WholeCall, TakesNothing, ReadsAll}
-use Rattle.roc_files.specs.Says.{Errors, Says, word_line, file_line, child_line}
-use Rattle.roc_launch.specs.Words.{AreReplayWords, ArePrintWords, AreCheckWords, AreGenWords, AreServeWords, AreSubmitWords, AreStopWords, AreLocalWords, AreCommandWords, NamesNodes, node_files}
+use Rattle.roc_node_local.specs.declared.stops.StopEnd.TheVariants as stop_end
+use Rattle.roc_node_local.specs.declared.local.LocalEnd.TheVariants as local_end
+use Rattle.roc_cli_words.specs.Commands.{check, print, replay, serve, submit, stop, local, gen}
+use Rattle.roc_cli_files.specs.declared.fault.Fault.{Fault}
+use Rattle.roc_cli_files.specs.declared.fault.Fault.TheVariants.{Rejected, Refused, Value, NoShard, Memory, Unanswered, File, Sink, Link, Child}
+use Rattle.roc_cli_nodes.specs.Call.{RunCall, WholeCall, TakesNothing, ReadsAll}
+use Rattle.roc_cli_files.specs.Says.{Errors, Says, word_line, file_line, child_line}
+use Rattle.roc_cli_nodes.specs.Words.{AreReplayWords, ArePrintWords, AreCheckWords, AreGenWords, AreServeWords, AreSubmitWords, AreStopWords, AreLocalWords, AreCommandWords, NamesNodes, node_files}
 use Rattle.roc_cli.specs.Done.{Replays, Explains, Prints, Checks, Generates, Rejects}
-use Rattle.roc_launch.specs.Nodes.{ServeEnded, SubmitEnded, StopEnded, LocalEnded, AreNodesEnded, IsChildBlamed, BlamesAnyChild}
+use Rattle.roc_cli_nodes.specs.Nodes.{ServeEnded, SubmitEnded, StopEnded, LocalEnded, AreNodesEnded, IsChildBlamed, BlamesAnyChild}
 use Rattle.roc_cli.specs.Stopped.{IsUnread, RunsOut, with_nothing, with_lines, CutsOutput}
 use Rattle.roc_cli.specs.Refused.{AreRefusedWords, IsRefused, long_workload, no_text, out_of_scope, long_schedule, bad_schedule, long_cluster, bad_cluster, long_requests, bad_requests}
 use Rattle.roc_cli.specs.Status.{Answers}
 use Rattle.roc_cli.specs.Inner.Faultless.{IsFaultless, IsShardless, AreFitting}
-use Rattle.roc_files.specs.Fault.{IsTold, EndsWith, line_of, Blames}
+use Rattle.roc_cli_files.specs.Fault.{IsTold, EndsWith, line_of, Blames}
 use Rattle.roc_cli.specs.Inner.Ends.{RefusesWords, Fails, Ends, WholeEnds}
-use Rattle.roc_launch.proofs.Naming.{unlike, no_name}
-use Rattle.roc_launch.specs.Ends.{LoopEnded}
-use Rattle.roc_launch.proofs.Named.{nodes_named, child_named, nodes_words, serve_done, submit_done, stop_done, local_done}
+use Rattle.roc_cli_nodes.proofs.Naming.{unlike, no_name}
+use Rattle.roc_cli_nodes.specs.Ends.{LoopEnded}
+use Rattle.roc_cli_nodes.proofs.Named.{nodes_named, child_named, nodes_words, serve_done, submit_done, stop_done, local_done}
 use Rattle.roc_cli.proofs.Commands.{of_program, refused_words, input_words, cut_words, fit_names_no_nodes}
 
 -- ---- one fault, told

@@ -1,26 +1,26 @@
 -- What was done, and what standard output took: docs/FORMATS.md, "Report", "Text of check" and "Refusals", and docs/LANGUAGE.md, "Canonical text"
 use Rattle.std.specs.Prelude.{ℕ, ◌≤◌, List, length, None}
-use Rattle.roc_io.specs.Told.{Adds}
+use Rattle.roc_io.specs.Observed.{Adds}
 use Rattle.roc_lang.specs.Syntax.{Tree}
-use Rattle.roc_print.specs.Canonical.{canonical}
+use Rattle.roc_lang_print.specs.Canonical.{canonical}
 use Rattle.roc_program.specs.Program.{Workload}
 use Rattle.roc_plan.specs.Groups.{Plan}
 use Rattle.roc_report.specs.Line.{Line}
 use Rattle.roc_report.specs.Text.{line_text, lines_text}
 use Rattle.roc_check.specs.Checked.{IsPlanOfText}
 use Rattle.roc_sched.specs.Schedule.{most_bytes}
-use Rattle.roc_generate.specs.Workload_text.{generated_workload}
-use Rattle.roc_generate.specs.Schedule_text.{generated_schedule}
-use Rattle.roc_generate.specs.Summary_text.{load_summary_text}
+use Rattle.roc_generate.specs.WorkloadText.{generated_workload}
+use Rattle.roc_generate.specs.ScheduleText.{generated_schedule}
+use Rattle.roc_generate.specs.SummaryText.{load_summary_text}
 use Rattle.roc_replay.specs.declared.ended.Summary.{Summary}
-use Rattle.roc_replay.specs.Told.{IsExplained}
+use Rattle.roc_replay.specs.Readback.{IsExplained}
 use Rattle.roc_replay.specs.Ended.{IsReplayed}
-use Rattle.roc_words.specs.declared.value.Part.{Part}
-use Rattle.roc_words.specs.declared.value.Part.TheVariants as part
-use Rattle.roc_launch.specs.Call.{RunCall}
-use Rattle.roc_launch.specs.Words.{IsReplay, IsPrint, IsCheck, IsGen, NamesProgram}
-use Rattle.roc_files.specs.Held.{Holds, HoldsPlan, HoldsText, HoldsRejected}
-use Rattle.roc_files.specs.Input.{check_text}
+use Rattle.roc_cli_words.specs.declared.value.Part.{Part}
+use Rattle.roc_cli_words.specs.declared.value.Part.TheVariants as part
+use Rattle.roc_cli_nodes.specs.Call.{RunCall}
+use Rattle.roc_cli_nodes.specs.Words.{IsReplay, IsPrint, IsCheck, IsGen, NamesProgram}
+use Rattle.roc_cli_files.specs.Held.{Holds, HoldsPlan, HoldsText, HoldsRejected}
+use Rattle.roc_cli_files.specs.Input.{check_text}
 
 -- ---- replay
 

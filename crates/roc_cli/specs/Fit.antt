@@ -7,16 +7,16 @@ use Rattle.roc_cluster.specs.File.{IsClusterFile}
 use Rattle.roc_sched.specs.declared.line.Request.{Request}
 use Rattle.roc_sched.specs.Schedule.{most_bytes}
 use Rattle.roc_lang.specs.Syntax.{Tree}
-use Rattle.roc_parse.specs.Fault.{IsWorkloadText}
+use Rattle.roc_lang_parse.specs.Fault.{IsWorkloadText}
 use Rattle.roc_plan.specs.Groups.{Plan}
 use Rattle.roc_check.specs.Checked.{IsPlanOfText}
-use Rattle.roc_replay.specs.declared.asked.Asked.{Asked}
-use Rattle.roc_replay.specs.Asked.{IsScheduleOf}
+use Rattle.roc_replay.specs.declared.asked.BoundLine.{BoundLine}
+use Rattle.roc_replay.specs.BoundLine.{IsScheduleOf}
 use Rattle.roc_replay.specs.Played.{DeliversOnlySent}
-use Rattle.roc_launch.specs.Call.{RunCall}
-use Rattle.roc_launch.specs.Words.{IsReplay, IsPrint, IsCheck, AreGenWords, NamesNodeFiles}
-use Rattle.roc_files.specs.Held.{NodeFiles, HasShard}
-use Rattle.roc_files.specs.Requests.{AreRequestsOf}
+use Rattle.roc_cli_nodes.specs.Call.{RunCall}
+use Rattle.roc_cli_nodes.specs.Words.{IsReplay, IsPrint, IsCheck, AreGenWords, NamesNodeFiles}
+use Rattle.roc_cli_files.specs.Held.{NodeFiles, HasShard}
+use Rattle.roc_cli_files.specs.Requests.{AreRequestsOf}
 
 -- the name holds a request file whose requests fit the program
 pub record IsListOfRequests (content : List ℕ → Option (List ℕ)) (program : Workload) (name : List ℕ) : Type 0 where
@@ -38,7 +38,7 @@ pub record ReplayFits (call : RunCall) : Type 0 where
   pub planned : IsPlanOfText bytes plan
   pub text : List ℕ
   pub scheduled : call.files.content schedule ≡ Some text
-  pub lines : List Asked
+  pub lines : List BoundLine
   pub of_text : IsScheduleOf plan.program text lines
   pub sends : DeliversOnlySent plan lines
 

@@ -4,9 +4,9 @@ pub mod Stopped
 pub mod Fit
 pub mod Status
 pub mod Inner
-pub use Rattle.roc_files.specs.Held
-pub use Rattle.roc_files.specs.Requests
-pub use Rattle.roc_files.specs.Says
-pub use Rattle.roc_launch.specs.Call
-pub use Rattle.roc_launch.specs.Words
-pub use Rattle.roc_launch.specs.Nodes
+pub use Rattle.roc_cli_files.specs.Held
+pub use Rattle.roc_cli_files.specs.Requests
+pub use Rattle.roc_cli_files.specs.Says
+pub use Rattle.roc_cli_nodes.specs.Call
+pub use Rattle.roc_cli_nodes.specs.Words
+pub use Rattle.roc_cli_nodes.specs.Nodes

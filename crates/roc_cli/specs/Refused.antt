@@ -4,7 +4,7 @@ use Rattle.roc_lang.specs.FaultText.{what_text}
 use Rattle.roc_lang.specs.Grammar.{text_limit}
 use Rattle.roc_lang.specs.Scope.{Fault}
 use Rattle.roc_lang.specs.declared.fault.What.{What}
-use Rattle.roc_scope.specs.FaultText.{kind_text}
+use Rattle.roc_lang_scope.specs.FaultText.{kind_text}
 use Rattle.roc_plan.specs.Groups.{Plan}
 use Rattle.roc_sched.specs.Schedule.{most_bytes}
 use Rattle.roc_io.specs.declared.link.Addr.{Addr}
@@ -13,15 +13,15 @@ use Rattle.roc_cluster.specs.FaultText.{fault_text as cluster_text}
 use Rattle.roc_sched.specs.declared.fault.What.{What as ScheduleWhat}
 use Rattle.roc_sched.specs.FaultText.{what_text as schedule_text}
 use Rattle.roc_replay.specs.Ended.{IsTextFault}
-use Rattle.roc_words.specs.declared.value.ValueName.{ValueName}
-use Rattle.roc_words.specs.FaultText.{value_text}
-use Rattle.roc_words.specs.Program.{IsTakenByClap}
-use Rattle.roc_words.specs.Answer.{HaveNoValue}
-use Rattle.roc_launch.specs.Call.{RunCall, TakesNothing}
-use Rattle.roc_launch.specs.Words.{IsReplay, NamesProgram, NamesWorkload, NamesNodeFiles}
-use Rattle.roc_files.specs.Held.{NodeFiles, HoldsMore, HoldsFault, HoldsMisuse, HoldsPlan, HoldsCluster, HoldsNoCluster, HoldsNoRequests, LacksShard}
+use Rattle.roc_cli_words.specs.declared.value.ValueName.{ValueName}
+use Rattle.roc_cli_words.specs.FaultText.{value_text}
+use Rattle.roc_cli_words.specs.Program.{IsTakenByClap}
+use Rattle.roc_cli_words.specs.Answer.{HaveNoValue}
+use Rattle.roc_cli_nodes.specs.Call.{RunCall, TakesNothing}
+use Rattle.roc_cli_nodes.specs.Words.{IsReplay, NamesProgram, NamesWorkload, NamesNodeFiles}
+use Rattle.roc_cli_files.specs.Held.{NodeFiles, HoldsMore, HoldsFault, HoldsMisuse, HoldsPlan, HoldsCluster, HoldsNoCluster, HoldsNoRequests, LacksShard}
 use Rattle.roc_cli.specs.Done.{IsReplayOf}
-use Rattle.roc_files.specs.Says.{word_line, long_line, text_line, fault_line}
+use Rattle.roc_cli_files.specs.Says.{word_line, long_line, text_line, fault_line}
 
 -- words that are refused, with what is said on standard error: the text of `clap`, which no clause tells, where it refuses them; or the name
 -- of the first value that is none; or `shard`, where the files hold what is needed and the shard that is to be served is not one of the workload

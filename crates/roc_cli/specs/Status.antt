@@ -1,15 +1,15 @@
 -- What each status of `run` says: docs/FORMATS.md, "The program"
 use Rattle.std.specs.Prelude.{◌≡◌, ◌≤◌, ◌⊎◌, ℕ, List, Option, codes}
-use Rattle.roc_serve.specs.declared.ends.ServeEnd.TheVariants as serve_end
-use Rattle.roc_submit.specs.declared.ends.SubmitEnd.TheVariants as submit_end
+use Rattle.roc_node_serve.specs.declared.ends.ServeEnd.TheVariants as serve_end
+use Rattle.roc_node_submit.specs.declared.ends.SubmitEnd.TheVariants as submit_end
 use Rattle.roc_base.specs.declared.node.Shard.{Shard}
-use Rattle.roc_local.specs.declared.stops.StopEnd.TheVariants as stop_end
-use Rattle.roc_local.specs.declared.local.LocalEnd.TheVariants as local_end
-use Rattle.roc_launch.specs.Call.{WholeCall, TakesNothing, ReadsAll}
-use Rattle.roc_files.specs.Says.{Errors, Says, word_line, file_line, child_line}
-use Rattle.roc_launch.specs.Words.{AreReplayWords, ArePrintWords, AreCheckWords, AreGenWords, AreServeWords, AreSubmitWords, AreStopWords, AreLocalWords, AreCommandWords, NamesNodes}
+use Rattle.roc_node_local.specs.declared.stops.StopEnd.TheVariants as stop_end
+use Rattle.roc_node_local.specs.declared.local.LocalEnd.TheVariants as local_end
+use Rattle.roc_cli_nodes.specs.Call.{WholeCall, TakesNothing, ReadsAll}
+use Rattle.roc_cli_files.specs.Says.{Errors, Says, word_line, file_line, child_line}
+use Rattle.roc_cli_nodes.specs.Words.{AreReplayWords, ArePrintWords, AreCheckWords, AreGenWords, AreServeWords, AreSubmitWords, AreStopWords, AreLocalWords, AreCommandWords, NamesNodes}
 use Rattle.roc_cli.specs.Done.{Replays, Explains, Prints, Checks, Generates, Rejects}
-use Rattle.roc_launch.specs.Nodes.{ServeEnded, SubmitEnded, StopEnded, LocalEnded, AreNodesEnded, IsChildBlamed, BlamesAnyChild}
+use Rattle.roc_cli_nodes.specs.Nodes.{ServeEnded, SubmitEnded, StopEnded, LocalEnded, AreNodesEnded, IsChildBlamed, BlamesAnyChild}
 use Rattle.roc_cli.specs.Fit.{IsFit, NodesFit, MissesShard}
 use Rattle.roc_cli.specs.Refused.{AreRefusedWords, IsRefused}
 use Rattle.roc_cli.specs.Stopped.{IsUnread, RunsOut, CutsOutput}

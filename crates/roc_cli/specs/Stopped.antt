@@ -1,20 +1,20 @@
 -- What stopped a command on the way, and what standard output took before: docs/FORMATS.md, "The program"
 use Rattle.std.specs.Prelude.{◌≡◌, ℕ, List, [], ◌∷◌, Some}
 use Rattle.roc_io.specs.declared.link.Addr.{Addr}
-use Rattle.roc_io.specs.Told.{Adds, AddsFront}
+use Rattle.roc_io.specs.Observed.{Adds, AddsFront}
 use Rattle.roc_lang.specs.Syntax.{Tree}
-use Rattle.roc_print.specs.Canonical.{canonical}
+use Rattle.roc_lang_print.specs.Canonical.{canonical}
 use Rattle.roc_program.specs.Program.{Workload}
 use Rattle.roc_plan.specs.Groups.{Plan}
 use Rattle.roc_report.specs.Line.{Line}
 use Rattle.roc_report.specs.Text.{line_text}
 use Rattle.roc_replay.specs.Ended.{IsCut, IsUnfinished}
-use Rattle.roc_launch.specs.Call.{RunCall, TakesNothing}
-use Rattle.roc_words.specs.declared.value.Part.{Part}
-use Rattle.roc_launch.specs.Words.{IsReplay, IsPrint, IsCheck, IsGen, NamesProgram, NamesWorkload, NamesNodeFiles}
-use Rattle.roc_files.specs.Held.{NodeFiles, HoldsPlan, HoldsText, HoldsRejected, HoldsCluster}
+use Rattle.roc_cli_nodes.specs.Call.{RunCall, TakesNothing}
+use Rattle.roc_cli_words.specs.declared.value.Part.{Part}
+use Rattle.roc_cli_nodes.specs.Words.{IsReplay, IsPrint, IsCheck, IsGen, NamesProgram, NamesWorkload, NamesNodeFiles}
+use Rattle.roc_cli_files.specs.Held.{NodeFiles, HoldsPlan, HoldsText, HoldsRejected, HoldsCluster}
 use Rattle.roc_cli.specs.Done.{IsReplayOf, IsGenerated}
-use Rattle.roc_files.specs.Input.{check_text}
+use Rattle.roc_cli_files.specs.Input.{check_text}
 
 -- the name is that of a file that is to be read: the workload; the schedule or the cluster file where the workload has a plan; the requests where
 -- the cluster file is one of the workload

@@ -2,25 +2,25 @@
 ghost use Rattle.std.specs.Prelude.{◌≡◌, ℕ, ◌<◌, ◌==◌, IsTrue, List, Option, false, map, string_bytes};
 ghost use Rattle.roc_io.specs.Call.{children_call, link_call};
 ghost use Rattle.roc_io.specs.Cause.{HasCause};
-ghost use Rattle.roc_words.specs.Answer.{AreWordsOf};
-ghost use Rattle.roc_words.specs.Commands.{IsWithin, command_of};
-ghost use Rattle.roc_launch.specs.Call.{run_call};
-ghost use Rattle.roc_launch.specs.Words.{IsReplay, NamesNodes, needs_nodes};
-ghost use Rattle.roc_files.specs.Held.{HoldsPlan};
+ghost use Rattle.roc_cli_words.specs.Answer.{AreWordsOf};
+ghost use Rattle.roc_cli_words.specs.Commands.{IsWithin, command_of};
+ghost use Rattle.roc_cli_nodes.specs.Call.{run_call};
+ghost use Rattle.roc_cli_nodes.specs.Words.{IsReplay, NamesNodes, needs_nodes};
+ghost use Rattle.roc_cli_files.specs.Held.{HoldsPlan};
 ghost use Rattle.roc_cli.specs.Status.{Answers, IsQuiet};
-ghost use Rattle.roc_files.specs.Fault.{blames_file, blames_sink, blames_link, Blames, ReadsBut, fails_by};
-ghost use Rattle.roc_files.specs.Says.{errors};
-ghost use Rattle.roc_launch.specs.Ends.{precedes_loop, CountsChildren};
+ghost use Rattle.roc_cli_files.specs.Fault.{blames_file, blames_sink, blames_link, Blames, ReadsBut, fails_by};
+ghost use Rattle.roc_cli_files.specs.Says.{errors};
+ghost use Rattle.roc_cli_nodes.specs.Ends.{precedes_loop, CountsChildren};
 ghost use Rattle.roc_cli.specs.Inner.Ends.{Ends, WholeEnds, ReplayEnds, fault_of_words};
 
 use crate::fit::fitting_calls_are_faultless;
 use crate::generated::write_generated;
-use roc_files::{Fault, MOST_LISTED_BYTES, bytes_of, check_file, plan_of, print_file};
+use roc_cli_files::{Fault, MOST_LISTED_BYTES, bytes_of, check_file, plan_of, print_file};
+use roc_cli_nodes::{launch, needs_nodes};
+use roc_cli_words::{Ask, WordsFault, ask};
 use roc_io::{Files, Link, Sink, Spawner};
-use roc_launch::{launch, needs_nodes};
 use roc_plan::Plan;
 use roc_replay::{Ended, replay};
-use roc_words::{Ask, WordsFault, ask};
 use std::alloc::Global;
 
 /// Does what the words behind the program's name ask for, and answers the status with which the program is to end. The commands are those

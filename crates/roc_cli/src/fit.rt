@@ -1,10 +1,10 @@
 //! Why a command whose words and files fit is done.
-ghost use Rattle.roc_launch.specs.Call.{WholeCall};
+ghost use Rattle.roc_cli_nodes.specs.Call.{WholeCall};
 ghost use Rattle.roc_cli.specs.Inner.Faultless.{AreFitting};
 
 use roc_check::laws::{plans_are_unique, refusals_are_unique};
 use roc_cluster::laws::cluster_files_keep_the_rules;
-use roc_parse::laws::{text_has_no_fault, tree_is_unique};
+use roc_lang_parse::laws::{text_has_no_fault, tree_is_unique};
 use roc_replay::laws::sent_schedules_have_no_fault;
 use roc_sched::laws::{lines_are_unique, texts_are_right_or_wrong};
 

@@ -2,24 +2,24 @@
 ghost use Rattle.std.specs.Prelude.{◌≡◌, ◌<◌, ◌≤◌, ◌++◌, IfOk, OnOk, string_bytes};
 ghost use Rattle.roc_io.specs.Cause.{HasCause};
 ghost use Rattle.roc_check.specs.Checked.{IsPlanOfText};
-ghost use Rattle.roc_generate.specs.Workload_text.{generated_workload};
-ghost use Rattle.roc_generate.specs.Schedule_text.{generated_schedule};
-ghost use Rattle.roc_generate.specs.Summary_text.{load_summary_text};
+ghost use Rattle.roc_generate.specs.WorkloadText.{generated_workload};
+ghost use Rattle.roc_generate.specs.ScheduleText.{generated_schedule};
+ghost use Rattle.roc_generate.specs.SummaryText.{load_summary_text};
 ghost use Rattle.roc_cli.specs.Done.{IsGenerated};
-ghost use Rattle.roc_files.specs.Fault.{blames_sink, fails_by};
+ghost use Rattle.roc_cli_files.specs.Fault.{blames_sink, fails_by};
 ghost use Rattle.roc_cli.specs.Inner.Ends.{GenEnds};
 
 use crate::unseen::Unseen;
 use roc_base::NoMemory;
 use roc_check::{CheckFault, check};
-use roc_files::Fault;
+use roc_cli_files::Fault;
+use roc_cli_words::Part;
 use roc_generate::generate;
 use roc_generate::laws::{schedules_fit, workloads_have_plans};
 use roc_io::{Sink, Written};
 use roc_plan::Plan;
 use roc_replay::{Ended, Summary, replay};
 use roc_sched::laws::{lines_are_unique, texts_are_right_or_wrong};
-use roc_words::Part;
 use std::alloc::{AllocError, Global};
 
 /// Writes a generated text, or the numbers of its run.

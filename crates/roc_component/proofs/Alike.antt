@@ -6,7 +6,7 @@ use Rattle.roc_base.specs.TxnId.{is_txn}
 use Rattle.roc_depgraph.specs.declared.known.KnownList.{KnownList}
 use Rattle.roc_depgraph.specs.Deps.{Precedes, PrecedesNow}
 use Rattle.roc_depgraph.proofs.Chains.{weaker_chain}
-use Rattle.roc_component.specs.Components.{Mates, IsReady, IsNextInside, IsNext, among, IsComponentOrder, IsTakingOrder, HaveSameEdges, HaveSameMembers}
+use Rattle.roc_component.specs.Components.{Mates, IsReady, IsNextInside, IsNext, among, IsComponentOrder, IsComponentOrderOf, HaveSameEdges, HaveSameMembers}
 use Rattle.roc_component.proofs.OneOrder.{one_order}
 
 module _ (A B : TxnId → TxnId → Type 0) (to : (u t : TxnId) → A u t → B u t) where
@@ -66,7 +66,7 @@ module _ (E F I J : TxnId → TxnId → Type 0) (M N xs : List TxnId) (same : Ha
         next = λ x h. next_on (among M E) (among N F) to from (among M I) (among N J) now_to now_from (λ u. IsListedBefore is_txn xs u x) x M N same (o.next x h);
       }
 
-pub one_by_edges : (known other : List KnownList) (M xs ys : List TxnId) → HaveSameEdges M known other → IsTakingOrder known M xs → IsTakingOrder other M ys → xs ≡ ys
+pub one_by_edges : (known other : List KnownList) (M xs ys : List TxnId) → HaveSameEdges M known other → IsComponentOrderOf known M xs → IsComponentOrderOf other M ys → xs ≡ ys
 one_by_edges known other M xs ys s p q =
     one_order (Precedes other) (PrecedesNow other) M xs ys
     (order_alike (Precedes known) (Precedes other) (PrecedesNow known) (PrecedesNow other) M M xs (λ t. (λ h. h, λ h. h))
@@ -74,11 +74,11 @@ one_by_edges known other M xs ys s p q =
     (λ u t e. (e.0, e.1, (s.immediate u t e.0 e.1).0 e.2)) (λ u t e. (e.0, e.1, (s.immediate u t e.0 e.1).1 e.2)) p)
     q
 
-pub order_of_same : (known : List KnownList) (M N xs : List TxnId) → HaveSameMembers M N → IsTakingOrder known M xs → IsTakingOrder known N xs
+pub order_of_same : (known : List KnownList) (M N xs : List TxnId) → HaveSameMembers M N → IsComponentOrderOf known M xs → IsComponentOrderOf known N xs
 order_of_same known M N xs same =
     order_alike (Precedes known) (Precedes known) (PrecedesNow known) (PrecedesNow known) M N xs same
     (λ u t e. ((same u).0 e.0, (same t).0 e.1, e.2)) (λ u t e. ((same u).1 e.0, (same t).1 e.1, e.2))
     (λ u t e. ((same u).0 e.0, (same t).0 e.1, e.2)) (λ u t e. ((same u).1 e.0, (same t).1 e.1, e.2))
 
-pub one_by_members : (known : List KnownList) (M N xs ys : List TxnId) → HaveSameMembers M N → IsTakingOrder known M xs → IsTakingOrder known N ys → xs ≡ ys
+pub one_by_members : (known : List KnownList) (M N xs ys : List TxnId) → HaveSameMembers M N → IsComponentOrderOf known M xs → IsComponentOrderOf known N ys → xs ≡ ys
 one_by_members known M N xs ys same p q = one_order (Precedes known) (PrecedesNow known) N xs ys (order_of_same known M N xs same p) q

@@ -10,7 +10,7 @@ use Rattle.roc_depgraph.specs.declared.known.KnownList.{KnownList}
 use Rattle.roc_depgraph.specs.Deps.{Precedes, PrecedesNow}
 use Rattle.roc_depgraph.specs.Reach.{Reaches, direct, through}
 use Rattle.roc_depgraph.proofs.Chains.{closed_chain}
-use Rattle.roc_component.specs.Components.{Mates, among, IsComponentOrder, IsTakingOrder}
+use Rattle.roc_component.specs.Components.{Mates, among, IsComponentOrder, IsComponentOrderOf}
 use Rattle.roc_component.proofs.Relations.{mates_sym, mates_trans}
 
 module _ (E I : TxnId → TxnId → Type 0) (M xs : List TxnId) (o : IsComponentOrder E I M xs) where
@@ -64,7 +64,7 @@ module _ (E I : TxnId → TxnId → Type 0) (M xs : List TxnId) (o : IsComponent
           absurd (omega arith)
 
 -- a member that precedes another and is not preceded by it is taken before it
-pub earlier : (known : List KnownList) (M xs : List TxnId) → IsTakingOrder known M xs → (u t : TxnId) → Reaches (among M (Precedes known)) u t → ¬ Reaches (among M (Precedes known)) t u → IsListedBefore is_txn xs u t
+pub earlier : (known : List KnownList) (M xs : List TxnId) → IsComponentOrderOf known M xs → (u t : TxnId) → Reaches (among M (Precedes known)) u t → ¬ Reaches (among M (Precedes known)) t u → IsListedBefore is_txn xs u t
 earlier known M xs o u t p n = ancestor_first (Precedes known) (PrecedesNow known) M xs o u t p not_mates
   where
     not_mates : Mates (among M (Precedes known)) t u → ⊥

@@ -19,7 +19,7 @@ use Rattle.roc_depgraph.proofs.Chains.{weaker_chain}
 use Rattle.roc_depgraph.proofs.Listed.{has_listed, listed_has}
 use Rattle.roc_depgraph.proofs.RisingIds.{ids, ids_sound, ids_complete, ids_rise}
 use Rattle.roc_component.proofs.Member.{Member, next_of}
-use Rattle.roc_component.specs.Components.{Mates, among, IsTakingOrder}
+use Rattle.roc_component.specs.Components.{Mates, among, IsComponentOrderOf}
 use Rattle.roc_component.proofs.Front.{front_none, front_next, front_done}
 use Rattle.roc_component.proofs.MembersOf.{IsMember, AreMembers}
 use Rattle.roc_component.proofs.NextMember.{IsFront}
@@ -147,17 +147,17 @@ module _ (known : List KnownList) (M : List TxnId) where
   abbrev count : ℕ
   count = length (map (λ (m : Member). m.id) members)
 
-  grown : (n : ℕ) (xs : List TxnId) → IsFront (Precedes known) (PrecedesNow known) M xs → count - length xs ≤ n → (ys : List TxnId) × IsTakingOrder known M ys
+  grown : (n : ℕ) (xs : List TxnId) → IsFront (Precedes known) (PrecedesNow known) M xs → count - length xs ≤ n → (ys : List TxnId) × IsComponentOrderOf known M ys
   grown zero xs f less = go (next_of xs members) refl
     where
-      go : (o : Option TxnId) → next_of xs members ≡ o → (ys : List TxnId) × IsTakingOrder known M ys
+      go : (o : Option TxnId) → next_of xs members ≡ o → (ys : List TxnId) × IsComponentOrderOf known M ys
       go None e = (xs, front_done (Precedes known) (PrecedesNow known) M members are_described xs f (sym e))
       go (Some x) e = (let p = (front_next (Precedes known) (PrecedesNow known) M members are_described xs _ x f (sym e) refl).1 in absurd (omega arith))
   grown (suc n) xs f less = go (next_of xs members) refl (grown n)
     where
-      go : (o : Option TxnId) → next_of xs members ≡ o → ((ys : List TxnId) → IsFront (Precedes known) (PrecedesNow known) M ys → count - length ys ≤ n → (zs : List TxnId) × IsTakingOrder known M zs) → (ys : List TxnId) × IsTakingOrder known M ys
+      go : (o : Option TxnId) → next_of xs members ≡ o → ((ys : List TxnId) → IsFront (Precedes known) (PrecedesNow known) M ys → count - length ys ≤ n → (zs : List TxnId) × IsComponentOrderOf known M zs) → (ys : List TxnId) × IsComponentOrderOf known M ys
       go None e ih = (xs, front_done (Precedes known) (PrecedesNow known) M members are_described xs f (sym e))
       go (Some x) e ih = (let p = front_next (Precedes known) (PrecedesNow known) M members are_described xs _ x f (sym e) refl in let l = p.1 in ih _ p.0 (omega arith))
 
-  pub order_of : (xs : List TxnId) × IsTakingOrder known M xs
+  pub order_of : (xs : List TxnId) × IsComponentOrderOf known M xs
   order_of = grown count [] (front_none (Precedes known) (PrecedesNow known) M) (omega arith)

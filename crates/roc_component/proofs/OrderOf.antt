@@ -8,7 +8,7 @@ use Rattle.roc_depgraph.specs.declared.known.KnownList.{KnownList}
 use Rattle.roc_depgraph.specs.Closure.{IsRisingListOf}
 use Rattle.roc_depgraph.specs.Deps.{Precedes, PrecedesNow}
 use Rattle.roc_depgraph.proofs.Listed.{listed_has, has_listed}
-use Rattle.roc_component.specs.Components.{among, AreComponents, AreComponentsOf, IsTakingOrder}
+use Rattle.roc_component.specs.Components.{among, AreComponents, AreComponentsOf, IsComponentOrderOf}
 use Rattle.roc_component.specs.declared.turn.Turn.{Turn}
 use Rattle.roc_component.specs.Inner.Turns.{AreAllTaken, AreComponentTurns}
 use Rattle.roc_component.specs.Inner.Within.{within}
@@ -34,7 +34,7 @@ module _ (known : List KnownList) (M S S1 : List TxnId) (lists : List KnownList)
   pub starts_inside : (T : List TxnId) → T ≡ S → (u t : TxnId) → Precedes lists u t → Has u T
   starts_inside T f u t p = subst (Has u) (sym f) (listed_has S u (edges_inside u t p).0)
 
-  pub order_is : (T : List TxnId) (cs ds : List (List TxnId)) (ts : List Turn) (order : List TxnId) → T ≡ S → AreComponents (Precedes lists) T cs → ds ≡ cs → AreComponentTurns lists ds ts → AreAllTaken ts order → IsTakingOrder known M order
+  pub order_is : (T : List TxnId) (cs ds : List (List TxnId)) (ts : List Turn) (order : List TxnId) → T ≡ S → AreComponents (Precedes lists) T cs → ds ≡ cs → AreComponentTurns lists ds ts → AreAllTaken ts order → IsComponentOrderOf known M order
   order_is T cs ds ts order f ac g to taken =
       order_alike (Precedes lists) (Precedes known) (PrecedesNow lists) (PrecedesNow known) S M order (λ t. (all.sound t, all.complete t))
       (λ u t p. edges_from u t p.2)

@@ -75,8 +75,8 @@ pub record IsComponentOrder (E I : TxnId → TxnId → Type 0) (M xs : List TxnI
   pub next : (x : TxnId) → IsListed is_txn xs x → IsNext (among M E) (among M I) M (λ u. IsListedBefore is_txn xs u x) x
 
 -- the component order of members of known lists
-abbrev pub IsTakingOrder : List KnownList → (M xs : List TxnId) → Type 0
-IsTakingOrder known M xs = IsComponentOrder (Precedes known) (PrecedesNow known) M xs
+abbrev pub IsComponentOrderOf : List KnownList → (M xs : List TxnId) → Type 0
+IsComponentOrderOf known M xs = IsComponentOrder (Precedes known) (PrecedesNow known) M xs
 
 -- two known lists have the same edges among the members of M, and the same immediate ones; what leads out of M may differ
 pub record HaveSameEdges (M : List TxnId) (known other : List KnownList) : Type 0 where

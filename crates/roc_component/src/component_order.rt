@@ -1,6 +1,6 @@
 //! Component order.
 ghost use Rattle.std.specs.Prelude.{◌≡◌, IfOk};
-ghost use Rattle.roc_component.specs.Components.{IsTakingOrder};
+ghost use Rattle.roc_component.specs.Components.{IsComponentOrderOf};
 
 use crate::queue::take_all;
 use crate::search::components;
@@ -15,7 +15,7 @@ use std::alloc::Global;
 /// once; one whose list is not known counts as one without predecessors. The time is near that of
 /// looking up the lists of the ids and of reading them a few times.
 pub fn order(alloc: Global, deps: &Deps, ids: &[TxnId]) -> Result<Vec<TxnId>, NoMemory>
-    ensures { IfOk result (λ order. IsTakingOrder deps.now ids.now order.items) }
+    ensures { IfOk result (λ order. IsComponentOrderOf deps.now ids.now order.items) }
 {
     let set = rising(alloc, ids)?;
     let lists = lists_within(alloc, deps, &set)?;

@@ -62,9 +62,9 @@ fn send_each(
     edges: &Edges,
     facts: &Facts,
     shards: &[Shard],
-    out: &mut Outbox,
+    outbox: &mut Outbox,
 ) -> Result<(), NoMemory>
-    ensures { OnOk result (out.new ≡ record out.old { messages = out.old.messages ++ map (commit_with id edges.now facts.now) shards.now }) }
+    ensures { OnOk result (outbox.new ≡ record outbox.old { messages = outbox.old.messages ++ map (commit_with id edges.now facts.now) shards.now }) }
 {
     for shard in shards {
         let commit = Msg::Commit {
@@ -72,7 +72,7 @@ fn send_each(
             edges: edges.clone()?,
             facts: facts.clone()?,
         };
-        out.send(Node::Server(*shard), commit)?;
+        outbox.send(Node::Server(*shard), commit)?;
     }
     Ok(())
 }
@@ -82,13 +82,13 @@ fn send_to(
     alloc: Global,
     x: &Transaction,
     shards: &[Shard],
-    out: &mut Outbox,
+    outbox: &mut Outbox,
 ) -> Result<(), NoMemory>
-    ensures { OnOk result (out.new ≡ record out.old { messages = out.old.messages ++ map (commit_to x.now) shards.now }) }
+    ensures { OnOk result (outbox.new ≡ record outbox.old { messages = outbox.old.messages ++ map (commit_to x.now) shards.now }) }
 {
     let edges = all_edges(alloc, x.startoks.as_slice())?;
     let facts = all_facts(alloc, x)?;
-    send_each(x.id, &edges, &facts, shards, out)
+    send_each(x.id, &edges, &facts, shards, outbox)
 }
 
 /// Sends the commits to the transaction's shards, rising, and keeps these shards as asked.
@@ -96,14 +96,14 @@ fn send_to(
 pub(crate) fn send_commits(
     alloc: Global,
     x: &mut Transaction,
-    out: &mut Outbox,
+    outbox: &mut Outbox,
 ) -> Result<(), NoMemory>
     ensures asked { OnOk result (x.new.asked ≡ shards_of x.old) }
-    ensures sent { OnOk result (out.new ≡ record out.old { messages = out.old.messages ++ commits_of x.old }) }
+    ensures sent { OnOk result (outbox.new ≡ record outbox.old { messages = outbox.old.messages ++ commits_of x.old }) }
     ensures others { x.new ≡ record x.old { asked = x.new.asked } }
 {
     let shards = shards_below(alloc, x.starts.as_slice(), SHARDS)?;
-    send_to(alloc, x, shards.as_slice(), out)?;
+    send_to(alloc, x, shards.as_slice(), outbox)?;
     x.asked = shards;
     Ok(())
 }
@@ -125,12 +125,12 @@ fn unanswered(alloc: Global, x: &Transaction) -> Result<Sequence<Shard>, AllocEr
 pub(crate) fn send_commits_again(
     alloc: Global,
     x: &Transaction,
-    out: &mut Outbox,
+    outbox: &mut Outbox,
 ) -> Result<(), NoMemory>
-    ensures { OnOk result (out.new ≡ record out.old { messages = out.old.messages ++ commits_again x.now }) }
+    ensures { OnOk result (outbox.new ≡ record outbox.old { messages = outbox.old.messages ++ commits_again x.now }) }
 {
     let shards = unanswered(alloc, x)?;
-    send_to(alloc, x, shards.as_slice(), out)
+    send_to(alloc, x, shards.as_slice(), outbox)
 }
 
 /// Whether a shard's commitok was taken.

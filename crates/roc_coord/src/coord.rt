@@ -71,14 +71,14 @@ impl Coord {
         plan: &Plan,
         proc: u16,
         args: &[i64],
-        out: &mut Outbox,
+        outbox: &mut Outbox,
     ) -> Result<TxnId, SubmitFault>
         requires fits { CoordFits plan.now self.old }
-        ensures step { UnlessStopped result (IsSubmitted (after_submit plan.now self.old proc args.now) result self.new out.old out.new) }
+        ensures step { UnlessStopped result (IsSubmitted (after_submit plan.now self.old proc args.now) result self.new outbox.old outbox.new) }
 
         // Stopped comes exactly where the coordinator found no memory before, and changes nothing.
         ensures stopped { (result ≡ Err SubmitFault.Stopped) ↔ (self.old.stopped ≡ true) }
-        ensures unchanged { result ≡ Err SubmitFault.Stopped → (self.new ≡ self.old) × (out.new ≡ out.old) }
+        ensures unchanged { result ≡ Err SubmitFault.Stopped → (self.new ≡ self.old) × (outbox.new ≡ outbox.old) }
 
         // Nothing else is promised where there is no memory.
         ensures no_memory { result ≡ Err SubmitFault.NoMemory → self.new.stopped ≡ true }
@@ -90,7 +90,7 @@ impl Coord {
         if let Some(fault) = self.refusal(plan, proc, args) {
             return Err(fault);
         }
-        match self.accept(plan, proc, args, out) {
+        match self.accept(plan, proc, args, outbox) {
             Ok(id) => Ok(id),
             Err(NoMemory) => {
                 self.stopped = true;
@@ -101,13 +101,18 @@ impl Coord {
 
     /// Handles a message: what becomes of it, and what goes to the outbox. An ignored message
     /// leaves all as it was.
-    pub fn handle(&mut self, plan: &Plan, msg: &Msg, out: &mut Outbox) -> Result<Handled, NodeFault>
+    pub fn handle(
+        &mut self,
+        plan: &Plan,
+        msg: &Msg,
+        outbox: &mut Outbox,
+    ) -> Result<Handled, NodeFault>
         requires fits { CoordFits plan.now self.old }
-        ensures step { IfOk result (λ answer. IsOutcome (after_message plan.now self.old msg.now) answer self.new out.old out.new) }
+        ensures step { IfOk result (λ answer. IsOutcome (after_message plan.now self.old msg.now) answer self.new outbox.old outbox.new) }
 
         // Stopped comes exactly where the coordinator found no memory before, and changes nothing.
         ensures stopped { (result ≡ Err NodeFault.Stopped) ↔ (self.old.stopped ≡ true) }
-        ensures unchanged { result ≡ Err NodeFault.Stopped → (self.new ≡ self.old) × (out.new ≡ out.old) }
+        ensures unchanged { result ≡ Err NodeFault.Stopped → (self.new ≡ self.old) × (outbox.new ≡ outbox.old) }
 
         // Nothing else is promised where there is no memory.
         ensures no_memory { result ≡ Err NodeFault.NoMemory → self.new.stopped ≡ true }
@@ -116,7 +121,7 @@ impl Coord {
         if self.stopped {
             return Err(NodeFault::Stopped);
         }
-        match self.take(plan, msg, out) {
+        match self.take(plan, msg, outbox) {
             Ok(answer) => Ok(answer),
             Err(NoMemory) => {
                 self.stopped = true;
@@ -126,20 +131,20 @@ impl Coord {
     }
 
     /// Sends again, for each transaction without a reply, the starts without a startok, or the commits without a commitok. It changes
-    /// nothing but that `NoMemory`, which promises nothing of `out`, stops the coordinator.
-    pub fn tick(&mut self, plan: &Plan, out: &mut Outbox) -> Result<(), NodeFault>
+    /// nothing but that `NoMemory`, which promises nothing of `outbox`, stops the coordinator.
+    pub fn tick(&mut self, plan: &Plan, outbox: &mut Outbox) -> Result<(), NodeFault>
         requires { CoordFits plan.now self.old }
-        ensures sent { OnOk result (out.new ≡ record out.old { messages = out.old.messages ++ tick_sends plan.now self.old }) }
+        ensures sent { OnOk result (outbox.new ≡ record outbox.old { messages = outbox.old.messages ++ tick_sends plan.now self.old }) }
         ensures same { OnOk result (self.new ≡ self.old) }
         ensures stopped { (result ≡ Err NodeFault.Stopped) ↔ (self.old.stopped ≡ true) }
-        ensures unchanged { result ≡ Err NodeFault.Stopped → (self.new ≡ self.old) × (out.new ≡ out.old) }
+        ensures unchanged { result ≡ Err NodeFault.Stopped → (self.new ≡ self.old) × (outbox.new ≡ outbox.old) }
         ensures no_memory { result ≡ Err NodeFault.NoMemory → self.new.stopped ≡ true }
         ensures fits { CoordFits plan.now self.new }
     {
         if self.stopped {
             return Err(NodeFault::Stopped);
         }
-        match self.pending.send_again(self.alloc, plan, out) {
+        match self.pending.send_again(self.alloc, plan, outbox) {
             Ok(()) => Ok(()),
             Err(NoMemory) => {
                 self.stopped = true;
@@ -179,27 +184,27 @@ impl Coord {
         plan: &Plan,
         proc: u16,
         args: &[i64],
-        out: &mut Outbox,
+        outbox: &mut Outbox,
     ) -> Result<TxnId, NoMemory>
         requires fits { CoordFits plan.now self.old }
         requires accepted { refusal_of plan.now self.old proc args.now ≡ None }
-        ensures step { IfOk result (λ id. IsSubmitted (after_submit plan.now self.old proc args.now) (Ok id) self.new out.old out.new) }
+        ensures step { IfOk result (λ id. IsSubmitted (after_submit plan.now self.old proc args.now) (Ok id) self.new outbox.old outbox.new) }
         ensures fits { CoordFits plan.now self.new }
     {
         let id = TxnId {
             coord: self.number,
             seq: self.next,
         };
-        let x = started(self.alloc, plan, id, proc, args, out)?;
+        let x = started(self.alloc, plan, id, proc, args, outbox)?;
         self.pending.push(x)?;
         self.next += 1;
         Ok(id)
     }
 
     // Takes a message, or ignores it.
-    fn take(&mut self, plan: &Plan, msg: &Msg, out: &mut Outbox) -> Result<Handled, NoMemory>
+    fn take(&mut self, plan: &Plan, msg: &Msg, outbox: &mut Outbox) -> Result<Handled, NoMemory>
         requires fits { CoordFits plan.now self.old }
-        ensures step { IfOk result (λ answer. IsOutcome (after_message plan.now self.old msg.now) answer self.new out.old out.new) }
+        ensures step { IfOk result (λ answer. IsOutcome (after_message plan.now self.old msg.now) answer self.new outbox.old outbox.new) }
         ensures fits { CoordFits plan.now self.new }
     {
         match msg {
@@ -219,7 +224,8 @@ impl Coord {
                     edges: edges.clone()?,
                     facts: facts.clone()?,
                 };
-                self.pending.startok(self.alloc, plan, *id, ok, *shard, out)
+                self.pending
+                    .startok(self.alloc, plan, *id, ok, *shard, outbox)
             }
             Msg::CommitOk { id, shard, outs } => {
                 let ok = TakenCommit {
@@ -244,12 +250,12 @@ fn started(
     id: TxnId,
     proc: u16,
     args: &[i64],
-    out: &mut Outbox,
+    outbox: &mut Outbox,
 ) -> Result<Transaction, NoMemory>
     requires proc { proc < length plan.now.program.procedures }
     requires args { length args.now ≡ (procedure_of plan.now proc).arguments }
     ensures kept { IfOk result (λ x. x ≡ with_starts plan.now (unstarted id proc args.now)) }
-    ensures sent { OnOk result (out.new ≡ record out.old { messages = out.old.messages ++ starts_of plan.now (unstarted id proc args.now) }) }
+    ensures sent { OnOk result (outbox.new ≡ record outbox.old { messages = outbox.old.messages ++ starts_of plan.now (unstarted id proc args.now) }) }
     ensures fits { IfOk result (IsTransactionOf plan.now) }
 {
     let mut x = Transaction {
@@ -261,6 +267,6 @@ fn started(
         asked: Sequence::new(alloc),
         commitoks: Sequence::new(alloc),
     };
-    send_starts(alloc, plan, &mut x, out)?;
+    send_starts(alloc, plan, &mut x, outbox)?;
     Ok(x)
 }

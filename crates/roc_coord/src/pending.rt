@@ -87,15 +87,15 @@ impl Pending {
         id: TxnId,
         ok: TakenStart,
         shard: Shard,
-        out: &mut Outbox,
+        outbox: &mut Outbox,
     ) -> Result<Handled, NoMemory>
         requires fits { AllByRecursion (IsTransactionOf plan.now) self.old }
         ensures step { IfOk result (λ answer. (s : CoordState) → s.pending ≡ self.old
-            → IsOutcome (after_startok plan.now s (find_transaction id self.old) ok shard) answer (record s { pending = self.new }) out.old out.new) }
+            → IsOutcome (after_startok plan.now s (find_transaction id self.old) ok shard) answer (record s { pending = self.new }) outbox.old outbox.new) }
         ensures ids { ids_of self.new ≡ ids_of self.old }
         ensures fits { AllByRecursion (IsTransactionOf plan.now) self.new }
     {
-        startok(alloc, plan, &mut self.transactions, id, ok, shard, out)
+        startok(alloc, plan, &mut self.transactions, id, ok, shard, outbox)
     }
 
     /// What comes of a commitok. `NoMemory` may leave its transaction with a part of it.
@@ -116,11 +116,16 @@ impl Pending {
     }
 
     /// Sends again what has no answer. `NoMemory` may leave some sent.
-    pub fn send_again(&self, alloc: Global, plan: &Plan, out: &mut Outbox) -> Result<(), NoMemory>
+    pub fn send_again(
+        &self,
+        alloc: Global,
+        plan: &Plan,
+        outbox: &mut Outbox,
+    ) -> Result<(), NoMemory>
         requires { AllByRecursion (IsTransactionOf plan.now) self.now }
-        ensures { OnOk result (out.new ≡ record out.old { messages = out.old.messages ++ flat_map (sent_again plan.now) self.now }) }
+        ensures { OnOk result (outbox.new ≡ record outbox.old { messages = outbox.old.messages ++ flat_map (sent_again plan.now) self.now }) }
     {
-        send_each_again(alloc, plan, self.transactions.as_slice(), out)
+        send_each_again(alloc, plan, self.transactions.as_slice(), outbox)
     }
 }
 
@@ -139,12 +144,12 @@ fn startok(
     id: TxnId,
     ok: TakenStart,
     shard: Shard,
-    out: &mut Outbox,
+    outbox: &mut Outbox,
 ) -> Result<Handled, NoMemory>
     requires fits { AllByRecursion (IsTransactionOf plan.now) transactions.old.items }
     requires rising { IsRising txn_lt (ids_of transactions.old.items) }
     ensures step { IfOk result (λ answer. (s : CoordState) → s.pending ≡ transactions.old.items
-        → IsOutcome (after_startok plan.now s (find_transaction id transactions.old.items) ok shard) answer (record s { pending = transactions.new.items }) out.old out.new) }
+        → IsOutcome (after_startok plan.now s (find_transaction id transactions.old.items) ok shard) answer (record s { pending = transactions.new.items }) outbox.old outbox.new) }
     ensures ids { ids_of transactions.new.items ≡ ids_of transactions.old.items }
     ensures fits { AllByRecursion (IsTransactionOf plan.now) transactions.new.items }
 {
@@ -154,7 +159,7 @@ fn startok(
     if let Some(reason) = startok_refusal(plan, &transactions[at], &ok, shard) {
         return Ok(Handled::Ignored(reason));
     }
-    take_startok(alloc, plan, &mut transactions[at], ok, out)?;
+    take_startok(alloc, plan, &mut transactions[at], ok, outbox)?;
     Ok(Handled::Done)
 }
 
@@ -198,13 +203,13 @@ fn send_each_again(
     alloc: Global,
     plan: &Plan,
     transactions: &[Transaction],
-    out: &mut Outbox,
+    outbox: &mut Outbox,
 ) -> Result<(), NoMemory>
     requires { AllByRecursion (IsTransactionOf plan.now) transactions.now }
-    ensures { OnOk result (out.new ≡ record out.old { messages = out.old.messages ++ flat_map (sent_again plan.now) transactions.now }) }
+    ensures { OnOk result (outbox.new ≡ record outbox.old { messages = outbox.old.messages ++ flat_map (sent_again plan.now) transactions.now }) }
 {
     for x in transactions {
-        send_again(alloc, plan, x, out)?;
+        send_again(alloc, plan, x, outbox)?;
     }
     Ok(())
 }

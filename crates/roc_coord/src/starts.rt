@@ -126,18 +126,18 @@ fn send_each(
     plan: &Plan,
     x: &mut Transaction,
     ready: &[u16],
-    out: &mut Outbox,
+    outbox: &mut Outbox,
 ) -> Result<(), NoMemory>
     requires transaction { IsTransactionOf plan.now x.old }
     requires groups { All (λ group. group < length (groups_of plan.now x.old.proc)) ready.now }
     ensures kept { OnOk result (x.new ≡ record x.old { starts = x.old.starts ++ map (sent_start plan.now x.old) ready.now }) }
-    ensures sent { OnOk result (out.new ≡ record out.old { messages = out.old.messages ++ map (start_for plan.now x.old) ready.now }) }
+    ensures sent { OnOk result (outbox.new ≡ record outbox.old { messages = outbox.old.messages ++ map (start_for plan.now x.old) ready.now }) }
     ensures id { x.new.id ≡ x.old.id }
     ensures fits { IsTransactionOf plan.now x.new }
 {
     for group in ready {
         let (shard, start) = start_for(alloc, plan, x, *group)?;
-        out.send(Node::Server(shard), start)?;
+        outbox.send(Node::Server(shard), start)?;
         x.starts.push(SentStart {
             group: *group,
             shard,
@@ -151,16 +151,16 @@ pub(crate) fn send_starts(
     alloc: Global,
     plan: &Plan,
     x: &mut Transaction,
-    out: &mut Outbox,
+    outbox: &mut Outbox,
 ) -> Result<(), NoMemory>
     requires transaction { IsTransactionOf plan.now x.old }
     ensures kept { OnOk result (x.new ≡ with_starts plan.now x.old) }
-    ensures sent { OnOk result (out.new ≡ record out.old { messages = out.old.messages ++ starts_of plan.now x.old }) }
+    ensures sent { OnOk result (outbox.new ≡ record outbox.old { messages = outbox.old.messages ++ starts_of plan.now x.old }) }
     ensures id { x.new.id ≡ x.old.id }
     ensures fits { IsTransactionOf plan.now x.new }
 {
     let ready = ready_groups(alloc, plan, x)?;
-    send_each(alloc, plan, x, ready.as_slice(), out)
+    send_each(alloc, plan, x, ready.as_slice(), outbox)
 }
 
 // Whether a group was asked to start, and has no startok.
@@ -190,15 +190,15 @@ fn resend_each(
     plan: &Plan,
     x: &Transaction,
     groups: &[u16],
-    out: &mut Outbox,
+    outbox: &mut Outbox,
 ) -> Result<(), NoMemory>
     requires transaction { IsTransactionOf plan.now x.now }
     requires groups { All (λ group. group < length (groups_of plan.now x.now.proc)) groups.now }
-    ensures { OnOk result (out.new ≡ record out.old { messages = out.old.messages ++ map (start_for plan.now x.now) groups.now }) }
+    ensures { OnOk result (outbox.new ≡ record outbox.old { messages = outbox.old.messages ++ map (start_for plan.now x.now) groups.now }) }
 {
     for group in groups {
         let (shard, start) = start_for(alloc, plan, x, *group)?;
-        out.send(Node::Server(shard), start)?;
+        outbox.send(Node::Server(shard), start)?;
     }
     Ok(())
 }
@@ -208,13 +208,13 @@ pub(crate) fn send_starts_again(
     alloc: Global,
     plan: &Plan,
     x: &Transaction,
-    out: &mut Outbox,
+    outbox: &mut Outbox,
 ) -> Result<(), NoMemory>
     requires { IsTransactionOf plan.now x.now }
-    ensures { OnOk result (out.new ≡ record out.old { messages = out.old.messages ++ starts_again plan.now x.now }) }
+    ensures { OnOk result (outbox.new ≡ record outbox.old { messages = outbox.old.messages ++ starts_again plan.now x.now }) }
 {
     let groups = awaiting_groups(alloc, plan, x)?;
-    resend_each(alloc, plan, x, groups.as_slice(), out)
+    resend_each(alloc, plan, x, groups.as_slice(), outbox)
 }
 
 /// Whether every group has started.

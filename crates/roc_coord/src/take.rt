@@ -79,19 +79,19 @@ pub(crate) fn take_startok(
     plan: &Plan,
     x: &mut Transaction,
     ok: TakenStart,
-    out: &mut Outbox,
+    outbox: &mut Outbox,
 ) -> Result<(), NoMemory>
     requires transaction { IsTransactionOf plan.now x.old }
     requires group { ok.group < length (groups_of plan.now x.old.proc) }
     ensures kept { OnOk result (x.new ≡ with_commits plan.now (with_starts plan.now (with_startok x.old ok))) }
-    ensures sent { OnOk result (out.new ≡ record out.old { messages = out.old.messages ++ sends_after plan.now (with_startok x.old ok) }) }
+    ensures sent { OnOk result (outbox.new ≡ record outbox.old { messages = outbox.old.messages ++ sends_after plan.now (with_startok x.old ok) }) }
     ensures id { x.new.id ≡ x.old.id }
     ensures fits { IsTransactionOf plan.now x.new }
 {
     x.startoks.push(ok)?;
-    send_starts(alloc, plan, x, out)?;
+    send_starts(alloc, plan, x, outbox)?;
     if all_started(plan, x) {
-        send_commits(alloc, x, out)?;
+        send_commits(alloc, x, outbox)?;
     }
     Ok(())
 }
@@ -163,14 +163,14 @@ pub(crate) fn send_again(
     alloc: Global,
     plan: &Plan,
     x: &Transaction,
-    out: &mut Outbox,
+    outbox: &mut Outbox,
 ) -> Result<(), NoMemory>
     requires { IsTransactionOf plan.now x.now }
-    ensures { OnOk result (out.new ≡ record out.old { messages = out.old.messages ++ sent_again plan.now x.now }) }
+    ensures { OnOk result (outbox.new ≡ record outbox.old { messages = outbox.old.messages ++ sent_again plan.now x.now }) }
 {
     if all_started(plan, x) {
-        send_commits_again(alloc, x, out)
+        send_commits_again(alloc, x, outbox)
     } else {
-        send_starts_again(alloc, plan, x, out)
+        send_starts_again(alloc, plan, x, outbox)
     }
 }

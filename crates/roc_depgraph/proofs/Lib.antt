@@ -4,7 +4,7 @@ pub mod Visited
 pub mod Walk
 pub mod Decided
 pub mod Laws
-pub mod Rising_lists
+pub mod RisingLists
 pub mod Searched
-pub mod Looked_up
+pub mod LookedUp
 pub mod RisingIds

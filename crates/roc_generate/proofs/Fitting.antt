@@ -3,7 +3,7 @@ use Rattle.std.proofs.Common.{◌≡◌, ℕ, zero, suc, pos, ◌+◌, ◌*◌, 
 use Rattle.std.specs.List.{AllByRecursion}
 use lib.Chars.{codes}
 use Rattle.roc_program.specs.Program.{Workload}
-use Rattle.roc_resolve.specs.Resolve.{table, init, resolved}
+use Rattle.roc_lang_resolve.specs.Resolve.{table, init, resolved}
 use Rattle.roc_conflict.specs.Classes.{is_immediate}
 use Rattle.roc_plan.specs.Groups.{Plan}
 use Rattle.roc_plan.specs.Accepted.{grouped_plan}
@@ -13,12 +13,12 @@ use Rattle.roc_sched.specs.declared.line.Act.TheVariants.{Submit}
 use Rattle.roc_sched.specs.declared.line.Line.{Line}
 use Rattle.roc_generate.specs.Draws.{next_state, draw, state_after}
 use Rattle.roc_generate.specs.Drawn.{drawn_choices, drawn_call, drawn_calls, drawn_acts}
-use Rattle.roc_generate.specs.Workload_text.{generated_workload}
-use Rattle.roc_generate.specs.Schedule_text.{generated_schedule, numbered_acts, generated_lines}
+use Rattle.roc_generate.specs.WorkloadText.{generated_workload}
+use Rattle.roc_generate.specs.ScheduleText.{generated_schedule, numbered_acts, generated_lines}
 use Rattle.roc_generate.specs.Load.{IsCanonicalText, IsCallOrChoice, IsLoadOf}
 use Rattle.roc_generate.proofs.Trees.{tables_tree, account_trees, line_behind, workload_tree}
 use Rattle.roc_generate.proofs.Parsed.{workload_parsed, workload_in_scope}
-use Rattle.roc_generate.proofs.Canonical_text.{workload_shown}
+use Rattle.roc_generate.proofs.CanonicalText.{workload_shown}
 use Rattle.roc_generate.proofs.Planned.{classes, program, groups, are_immediate, acceptable, merged}
 use Rattle.roc_generate.proofs.Read.{schedule_read}
 

@@ -2,9 +2,9 @@
 use Rattle.std.proofs.Common.{◌≡◌, ℕ, zero, suc, List, [], ◌++◌, Some, None, refl, sym, ap, subst, ◌∙◌, append_assoc}
 use Rattle.std.proofs.lemmas.Option.{same_Some, none-some}
 use Rattle.roc_lang.specs.Tokens.{Token, IsTokenStep, IsTokens, step}
-use Rattle.roc_parse.specs.Scanning.{Scanned, scanned_step}
-use Rattle.roc_parse.proofs.Steps.{next_is}
-use Rattle.roc_parse.proofs.Places.{Place}
+use Rattle.roc_lang_parse.specs.Scanning.{Scanned, scanned_step}
+use Rattle.roc_lang_parse.proofs.Steps.{next_is}
+use Rattle.roc_lang_parse.proofs.Places.{Place}
 
 abbrev pub in_front : List Token → Scanned → Scanned
 in_front ts None = None

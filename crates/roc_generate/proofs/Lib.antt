@@ -7,5 +7,5 @@ mod Trees
 mod Tokens
 mod Parsed
 mod Planned
-mod Canonical_text
+mod CanonicalText
 mod Fitting

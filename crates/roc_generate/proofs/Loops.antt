@@ -6,8 +6,8 @@ use Rattle.roc_sched.specs.declared.line.Act.{Act}
 use Rattle.roc_sched.specs.declared.line.Act.TheVariants.{Any}
 use Rattle.roc_generate.specs.Draws.{next_state, draw, state_after}
 use Rattle.roc_generate.specs.Drawn.{drawn_choices, drawn_call, drawn_calls}
-use Rattle.roc_generate.specs.Schedule_text.{act_line}
-use Rattle.roc_generate.specs.Workload_text.{account_line}
+use Rattle.roc_generate.specs.ScheduleText.{act_line}
+use Rattle.roc_generate.specs.WorkloadText.{account_line}
 
 moved : (old front rest whole new : List ℕ) → new ≡ old ++ front → old ++ (front ++ rest) ≡ whole → new ++ rest ≡ whole
 moved old front rest whole new added h = ap (λ z. z ++ rest) added ∙ append_assoc old front rest ∙ h

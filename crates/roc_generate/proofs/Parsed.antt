@@ -10,13 +10,13 @@ use Rattle.roc_lang.specs.Tokens.{Kind, Token}
 use Rattle.roc_lang.specs.Syntax.{Table, Init, Procedure}
 use Rattle.roc_lang.specs.Grammar.{Limits, standard, text_limit}
 use Rattle.roc_lang.specs.Scope.{Fault, faults, shards_faults, tables_faults, init_faults, procedures_faults}
-use Rattle.roc_parse.specs.Fault.{IsWorkloadText}
-use Rattle.roc_parse.specs.Stuck.{Reading, head_is}
-use Rattle.roc_parse.specs.Parts.{has_word, first_at, bounded_at, signed_at, many_at, some_at, behind_comma_at}
-use Rattle.roc_parse.specs.Reading.{number_at, variable_at, enclosed_at, pair_at, function_at, pick_at, atom_with, factor_at, loop_at, term_with, signed_term_at, sum_with, rooms, expression_at, access_at, get_at, set_at, out_at, statement_at, head_at, piece_at, names_closed_at, names_or_none_at, arguments_at, procedure_at, said_arity_at, arity_at, table_at, row_at, init_at, front_at, end_at, tables_at, inits_at, procedures_at, text_at, whole_at}
-use Rattle.roc_parse.proofs.Answers.{read_is}
-use Rattle.roc_generate.specs.Workload_text.{account_line, pay_lines, mark_lines, generated_workload}
-use Rattle.roc_parse.specs.Scanning.{word_run, line_run, value_from, value_of, word_next, integer_next, comment_next, scanned_step}
+use Rattle.roc_lang_parse.specs.Fault.{IsWorkloadText}
+use Rattle.roc_lang_parse.specs.Stuck.{Reading, head_is}
+use Rattle.roc_lang_parse.specs.Parts.{has_word, first_at, bounded_at, signed_at, many_at, some_at, behind_comma_at}
+use Rattle.roc_lang_parse.specs.Reading.{number_at, variable_at, enclosed_at, pair_at, function_at, pick_at, atom_with, factor_at, loop_at, term_with, signed_term_at, sum_with, rooms, expression_at, access_at, get_at, set_at, out_at, statement_at, head_at, piece_at, names_closed_at, names_or_none_at, arguments_at, procedure_at, said_arity_at, arity_at, table_at, row_at, init_at, front_at, end_at, tables_at, inits_at, procedures_at, text_at, whole_at}
+use Rattle.roc_lang_parse.proofs.Answers.{read_is}
+use Rattle.roc_generate.specs.WorkloadText.{account_line, pay_lines, mark_lines, generated_workload}
+use Rattle.roc_lang_parse.specs.Scanning.{word_run, line_run, value_from, value_of, word_next, integer_next, comment_next, scanned_step}
 use Rattle.roc_generate.proofs.Trees.{account_tree, account_trees, tables_tree, procedures_tree, line_behind, workload_tree}
 use Rattle.roc_generate.proofs.Tokens.{pay_tokens, mark_tokens, procedure_tokens, account_tokens, accounts_tokens, tables_tokens, front_tokens, workload_tokens, workload_spelt}
 

@@ -6,14 +6,14 @@ use Rattle.roc_program.specs.Program.{Workload, Table, Init}
 use Rattle.roc_program.specs.declared.piece_id.PieceId.{PieceId}
 use Rattle.roc_program.specs.Pieces.{piece_of, pieces_in}
 use Rattle.roc_program.specs.Conflict.{are_in_conflict}
-use Rattle.roc_resolve.specs.Resolve.{procedure}
+use Rattle.roc_lang_resolve.specs.Resolve.{procedure}
 use Rattle.roc_conflict.specs.Classes.{is_immediate}
 use Rattle.roc_conflict.specs.Immediate.{IsImmediate, declared, in_conflict}
 use Rattle.roc_conflict.specs.Contended.{is_contended, has_conflict}
-use Rattle.roc_groups.specs.Groups.{piece_numbered}
-use Rattle.roc_groups.specs.Flow.{feeds, Leads, directly, onward}
-use Rattle.roc_groups.specs.Core.{InCore, contended, between, IsAcceptable, AreCoLocated}
-use Rattle.roc_groups.specs.Grouping.{IsMergedIn, IsMerged}
+use Rattle.roc_merge_groups.specs.Groups.{piece_numbered}
+use Rattle.roc_merge_groups.specs.Flow.{feeds, Leads, directly, onward}
+use Rattle.roc_merge_groups.specs.Core.{InCore, contended, between, IsAcceptable, AreCoLocated}
+use Rattle.roc_merge_groups.specs.Grouping.{IsMergedIn, IsMerged}
 use Rattle.roc_merge.specs.Grouped.{grouped}
 use Rattle.roc_merge.proofs.Grouped.{grouped_merged}
 use Rattle.roc_generate.proofs.Trees.{tables_tree, procedures_tree}

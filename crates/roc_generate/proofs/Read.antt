@@ -13,7 +13,7 @@ use Rattle.roc_sched.specs.Acts.{line_at}
 use Rattle.roc_sched.specs.Schedule.{item_of, numbered, IsSchedule}
 use Rattle.roc_generate.specs.Draws.{next_state, draw, state_after}
 use Rattle.roc_generate.specs.Drawn.{drawn_choices, drawn_call, drawn_calls, drawn_acts}
-use Rattle.roc_generate.specs.Schedule_text.{act_line, generated_schedule, numbered_acts, generated_lines}
+use Rattle.roc_generate.specs.ScheduleText.{act_line, generated_schedule, numbered_acts, generated_lines}
 use Rattle.roc_generate.proofs.Parts.{spaced_words, words_read, spaced_above, line_read}
 use Rattle.roc_generate.proofs.Written.{IsSmallAct, ActWords, act_words}
 

@@ -4,9 +4,9 @@ use Rattle.std.specs.List.{range_with_len}
 use Rattle.std.specs.Fmt as fmt
 use lib.Chars.{codes}
 use Rattle.roc_lang.specs.Tokens.{Word, Integer, Mark, Token, IsTokens, nothing}
-use Rattle.roc_parse.specs.Scanning.{Scanned, word_run, line_run, value_from, value_of, word_next, integer_next, comment_next, scanned_step}
-use Rattle.roc_print.proofs.Spelling.{at_line, integer_spelt, grouped_3}
-use Rattle.roc_generate.specs.Workload_text.{account_line, pay_lines, mark_lines, generated_workload}
+use Rattle.roc_lang_parse.specs.Scanning.{Scanned, word_run, line_run, value_from, value_of, word_next, integer_next, comment_next, scanned_step}
+use Rattle.roc_lang_print.proofs.Spelling.{at_line, integer_spelt, grouped_3}
+use Rattle.roc_generate.specs.WorkloadText.{account_line, pay_lines, mark_lines, generated_workload}
 use Rattle.roc_generate.proofs.Lexing.{scanned, scanned_are}
 use Rattle.roc_generate.proofs.Trees.{line_behind, behind_pay}
 

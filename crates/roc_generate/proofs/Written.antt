@@ -12,7 +12,7 @@ use Rattle.std.proofs.lemmas.Fmt.{length-decimal-le}
 use lib.Chars.{codes}
 use Rattle.roc_sequence.proofs.Holds.{all_pass}
 use Rattle.roc_lang.specs.Tokens.{IsDecimal}
-use Rattle.roc_print.proofs.Numerals.{written_is_decimal, written_value}
+use Rattle.roc_lang_print.proofs.Numerals.{written_is_decimal, written_value}
 use Rattle.roc_sched.specs.declared.line.Act.{Act}
 use Rattle.roc_sched.specs.declared.line.Act.TheVariants.{Submit, Deliver, Any, Tick}
 use Rattle.roc_sched.specs.declared.fault.What.TheVariants as what
@@ -20,7 +20,7 @@ use Rattle.roc_sched.specs.Each.{each}
 use Rattle.roc_sched.specs.Words.{is_skipped}
 use Rattle.roc_sched.specs.Numbers.{is_decimal, number_up_to, integer_of, is_name}
 use Rattle.roc_sched.specs.Acts.{act_of, or_word, or_node, numbered_line, line_at}
-use Rattle.roc_generate.specs.Schedule_text.{act_line}
+use Rattle.roc_generate.specs.ScheduleText.{act_line}
 use Rattle.roc_generate.proofs.Parts.{AllAbove, IsPlainWord, some_bytes, spaced_words}
 
 -- ---- numbers

@@ -1,6 +1,6 @@
 pub mod Draws
-pub mod Workload_text
+pub mod WorkloadText
 pub mod Drawn
-pub mod Schedule_text
+pub mod ScheduleText
 pub mod Load
-pub mod Summary_text
+pub mod SummaryText

@@ -2,8 +2,8 @@
 use Rattle.std.specs.Prelude.{◌≡◌, ℕ, ◌<◌, List, length, Some, slice_index_or}
 use Rattle.std.specs.List.{AllByRecursion}
 use Rattle.roc_lang.specs.Syntax.{Tree}
-use Rattle.roc_parse.specs.Fault.{IsWorkloadText}
-use Rattle.roc_print.specs.Canonical.{canonical}
+use Rattle.roc_lang_parse.specs.Fault.{IsWorkloadText}
+use Rattle.roc_lang_print.specs.Canonical.{canonical}
 use Rattle.roc_program.specs.Program.{Workload}
 use Rattle.roc_program.specs.LookUps.{no_procedure, procedure_named}
 use Rattle.roc_sched.specs.declared.line.Act.{Act}

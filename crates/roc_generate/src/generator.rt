@@ -1,7 +1,7 @@
 //! Both texts.
 ghost use Rattle.std.specs.Prelude.{◌≡◌, ◌<◌, IfOk};
-ghost use Rattle.roc_generate.specs.Workload_text.{generated_workload};
-ghost use Rattle.roc_generate.specs.Schedule_text.{generated_schedule};
+ghost use Rattle.roc_generate.specs.WorkloadText.{generated_workload};
+ghost use Rattle.roc_generate.specs.ScheduleText.{generated_schedule};
 
 use crate::schedule::push_schedule;
 use crate::workload::push_workload;

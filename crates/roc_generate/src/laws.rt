@@ -3,8 +3,8 @@ ghost use Rattle.std.specs.Prelude.{◌≡◌, ℕ, ◌<◌, ◌≤◌, ◌/◌,
 ghost use Rattle.roc_plan.specs.Groups.{Plan};
 ghost use Rattle.roc_check.specs.Checked.{IsPlanOfText};
 ghost use Rattle.roc_generate.specs.Draws.{next_state};
-ghost use Rattle.roc_generate.specs.Workload_text.{generated_workload};
-ghost use Rattle.roc_generate.specs.Schedule_text.{generated_schedule, generated_lines};
+ghost use Rattle.roc_generate.specs.WorkloadText.{generated_workload};
+ghost use Rattle.roc_generate.specs.ScheduleText.{generated_schedule, generated_lines};
 ghost use Rattle.roc_generate.specs.Load.{IsCanonicalText, IsLoadOf};
 
 use roc_check::laws::plans_are_unique;

@@ -5,7 +5,7 @@ ghost use Rattle.std.specs.String.{string_bytes};
 ghost use Rattle.roc_sched.specs.declared.line.Act.TheVariants.{Any};
 ghost use Rattle.roc_generate.specs.Draws.{next_state, draw, state_after};
 ghost use Rattle.roc_generate.specs.Drawn.{drawn_choices, drawn_call, drawn_calls};
-ghost use Rattle.roc_generate.specs.Schedule_text.{act_line, generated_schedule};
+ghost use Rattle.roc_generate.specs.ScheduleText.{act_line, generated_schedule};
 
 use crate::draws::Draws;
 use std::alloc::AllocError;

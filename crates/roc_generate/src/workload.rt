@@ -2,7 +2,7 @@
 ghost use Rattle.std.specs.Prelude.{◌≡◌, ◌++◌, OnOk};
 ghost use Rattle.std.specs.List.{flat_map, range_with_len};
 ghost use Rattle.std.specs.String.{string_bytes};
-ghost use Rattle.roc_generate.specs.Workload_text.{account_line, pay_lines, mark_lines, generated_workload};
+ghost use Rattle.roc_generate.specs.WorkloadText.{account_line, pay_lines, mark_lines, generated_workload};
 
 use std::alloc::AllocError;
 

@@ -14,12 +14,12 @@ use Rattle.roc_program.specs.LookUps.{no_piece}
 use Rattle.roc_program.specs.Conflict.{collide, conflict, are_in_conflict}
 use Rattle.roc_program.specs.Values.{Environment, value}
 use Rattle.roc_whole.specs.Run.{Progress, after_statement, after_piece}
-use Rattle.roc_groups.specs.Groups.{piece_numbered}
+use Rattle.roc_merge_groups.specs.Groups.{piece_numbered}
 use Rattle.roc_plan.specs.Groups.{Plan, procedure_of, group_of}
 use Rattle.roc_plan.specs.Turns.{may_meet}
 use Rattle.roc_group.specs.declared.access.Access.{Access}
 use Rattle.roc_group.specs.Accesses.{uses_of_body, uses_of_piece, uses_of_pieces, meets, do_conflict}
-use Rattle.roc_group.specs.Group_run.{GroupCall, begin, group_pieces, group_uses}
+use Rattle.roc_group.specs.GroupRun.{GroupCall, begin, group_pieces, group_uses}
 use Rattle.roc_group.proofs.Touches.{is_of, accesses, may_write}
 
 -- where a use comes from: a statement that accesses its column, and may write it where the use writes

@@ -17,9 +17,9 @@ use Rattle.roc_program.specs.Names.{piece_uses, bindings_of, bindings, has_name}
 use Rattle.roc_program.specs.WellFormed.{IsProcedure}
 use Rattle.roc_plan.specs.Groups.{pieces_at, bound_in, inputs_in, with_values}
 use Rattle.roc_plan.proofs.Values.{long_with}
-use Rattle.roc_groups.proofs.Elements.{range_rising}
-use Rattle.roc_groups.proofs.Forward as forward
-use Rattle.roc_groups.proofs.Forward.{name_has, has_named}
+use Rattle.roc_merge_groups.proofs.Elements.{range_rising}
+use Rattle.roc_merge_groups.proofs.Forward as forward
+use Rattle.roc_merge_groups.proofs.Forward.{name_has, has_named}
 use Rattle.roc_group.proofs.Touches.{binds_in, known_in, binds_any, knows_any}
 use Rattle.roc_group.proofs.Starts.{bound_named, used_or_bound, values_other, values_here, rising_filter}
 

@@ -11,14 +11,14 @@ use Rattle.roc_program.specs.Program.{Procedure, Piece}
 use Rattle.roc_program.specs.LookUps.{no_piece, no_procedure}
 use Rattle.roc_program.specs.Names.{uses, bindings_of, bindings, has_name}
 use Rattle.roc_program.specs.WellFormed.{IsProcedure, ArePieces, known_behind}
-use Rattle.roc_groups.specs.Groups.{groups_in, first_piece, piece_numbered}
-use Rattle.roc_groups.specs.Accepted.{IsAcceptedIn}
-use Rattle.roc_groups.proofs.Elements.{place_of_has, has_at_place}
-use Rattle.roc_groups.proofs.Forward.{either_name, name_has, has_named}
+use Rattle.roc_merge_groups.specs.Groups.{groups_in, first_piece, piece_numbered}
+use Rattle.roc_merge_groups.specs.Accepted.{IsAcceptedIn}
+use Rattle.roc_merge_groups.proofs.Elements.{place_of_has, has_at_place}
+use Rattle.roc_merge_groups.proofs.Forward.{either_name, name_has, has_named}
 use Rattle.roc_sequence.proofs.Ranges.{range_below}
 use Rattle.roc_sequence.proofs.Members.{from_has_flat_map}
 use Rattle.roc_program.proofs.ValueLaws.{uses_known}
-use Rattle.roc_groups.proofs.Fused_classes.{numbered_once}
+use Rattle.roc_merge_groups.proofs.FusedClasses.{numbered_once}
 use Rattle.roc_plan.specs.Groups.{Plan, Group, no_group, procedure_of, groups_of, group_of, is_immediate_of, bound_in, bound_of, source_in}
 use Rattle.roc_plan.specs.Accepted.{IsAccepted, grouping_of, is_piece_immediate}
 use Rattle.roc_group.proofs.Touches.{binds_in}

@@ -1,4 +1,4 @@
-pub mod Known_uses
+pub mod KnownUses
 pub mod Effects
 pub mod Touches
 pub mod Alike

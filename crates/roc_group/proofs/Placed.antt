@@ -13,12 +13,12 @@ use Rattle.roc_program.specs.Names.{uses}
 use Rattle.roc_program.specs.Values.{value}
 use Rattle.roc_program.proofs.ValueLaws.{value_same}
 use Rattle.roc_whole.specs.Run.{Progress, after_statement, after_piece}
-use Rattle.roc_groups.specs.Groups.{first_piece}
+use Rattle.roc_merge_groups.specs.Groups.{first_piece}
 use Rattle.roc_plan.specs.Groups.{Plan, procedure_of, group_of, group_place}
 use Rattle.roc_plan.specs.Accepted.{IsAccepted}
 use Rattle.roc_group.specs.declared.access.Access.{Access}
 use Rattle.roc_group.specs.Accesses.{uses_of_body, uses_of_piece, uses_of_pieces}
-use Rattle.roc_group.specs.Group_run.{GroupCall, begin, group_pieces, group_uses}
+use Rattle.roc_group.specs.GroupRun.{GroupCall, begin, group_pieces, group_uses}
 use Rattle.roc_group.proofs.Touches.{binds_in, not_true}
 use Rattle.roc_group.proofs.Alike.{kept_value}
 use Rattle.roc_group.proofs.GroupStarts.{at}

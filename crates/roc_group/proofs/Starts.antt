@@ -12,7 +12,7 @@ use Rattle.roc_program.specs.Program.{Statement, Get, Set, Out, Piece}
 use Rattle.roc_program.specs.Values.{Environment, value_of_name}
 use Rattle.roc_program.specs.Names.{uses, statement_uses, piece_uses, binding, bindings_of, has_name}
 use Rattle.roc_plan.specs.Groups.{with_values}
-use Rattle.roc_groups.proofs.Elements.{numbers_one_way}
+use Rattle.roc_merge_groups.proofs.Elements.{numbers_one_way}
 use Rattle.roc_group.proofs.Touches.{binds, knows, binds_in, known_in}
 
 -- ---- names of a piece, in the two ways of saying it

@@ -12,15 +12,15 @@ use Rattle.roc_program.specs.Names.{bindings_of, has_name}
 use Rattle.roc_program.specs.Values.{value}
 use Rattle.roc_program.specs.WellFormed.{IsPiece, ArePieces, known_behind}
 use Rattle.roc_whole.specs.Run.{Progress}
-use Rattle.roc_groups.proofs.Forward.{either_name, name_has, has_named}
+use Rattle.roc_merge_groups.proofs.Forward.{either_name, name_has, has_named}
 use Rattle.roc_plan.specs.Groups.{Plan, procedure_of, group_of, is_immediate_of}
 use Rattle.roc_plan.specs.Accepted.{IsAccepted}
 use Rattle.roc_group.specs.declared.access.Access.{Access}
 use Rattle.roc_group.specs.Accesses.{uses_of, uses_of_piece, uses_of_pieces}
 use Rattle.roc_base.specs.declared.memory.NoMemory.{NoMemory}
 use Rattle.roc_group.specs.Inner.Steady.{uses_with}
-use Rattle.roc_group.specs.Group_run.{GroupCall, begin, group_pieces, group_uses}
-use Rattle.roc_group.proofs.Known_uses.{uses_of_body-known}
+use Rattle.roc_group.specs.GroupRun.{GroupCall, begin, group_pieces, group_uses}
+use Rattle.roc_group.proofs.KnownUses.{uses_of_body-known}
 use Rattle.roc_group.proofs.Touches.{not_true}
 use Rattle.roc_group.proofs.Starts.{bound_named}
 use Rattle.roc_group.proofs.GroupStarts.{at, binder}

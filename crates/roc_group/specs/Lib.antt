@@ -1,3 +1,3 @@
 pub mod Accesses
-pub mod Group_run
+pub mod GroupRun
 pub mod Inner

@@ -7,7 +7,7 @@ ghost use Rattle.roc_plan.specs.Groups.{Plan, is_immediate_of, group_place};
 ghost use Rattle.roc_plan.specs.Accepted.{IsAccepted};
 ghost use Rattle.roc_plan.specs.Turns.{may_meet};
 ghost use Rattle.roc_group.specs.Accesses.{do_conflict, do_write, AgreeOnReads, RunAlike};
-ghost use Rattle.roc_group.specs.Group_run.{GroupCall, group_pieces, begin, group_run, group_uses};
+ghost use Rattle.roc_group.specs.GroupRun.{GroupCall, group_pieces, begin, group_run, group_uses};
 
 /// The cells that a deferrable group uses follow from what it is given: they are the same on every store.
 pub fn cells_follow_from_what_is_given()

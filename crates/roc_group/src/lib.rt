@@ -1,5 +1,5 @@
 //! Groups of pieces: the cells that a group uses, and its part of a procedure's run. Contracts cite `group_uses` and
-//! `group_run` of `specs/Group_run.antt`, which run a group's pieces in program order from the arguments and inputs
+//! `group_run` of `specs/GroupRun.antt`, which run a group's pieces in program order from the arguments and inputs
 //! that it is given; `specs/Accesses.antt` has uses of cells and when they conflict.
 //!
 //! The layers above may rely on this: [`cells`] is what a deferrable group uses, whatever the store holds;

@@ -8,7 +8,7 @@ ghost use Rattle.roc_program.specs.Values.{value_of_name};
 ghost use Rattle.roc_whole.specs.Run.{progress, after_piece, after_pieces};
 ghost use Rattle.roc_plan.specs.Groups.{procedure_of, groups_of, inputs_of, pieces_at, bound_in};
 ghost use Rattle.roc_group.specs.Accesses.{uses_of_piece, uses_of_pieces};
-ghost use Rattle.roc_group.specs.Group_run.{call, group_run, group_uses, bound_by_run};
+ghost use Rattle.roc_group.specs.GroupRun.{call, group_run, group_uses, bound_by_run};
 ghost use Rattle.roc_group.specs.Inner.Steady.{IsSteady, AreSteady};
 
 use crate::names::names_before;

@@ -8,7 +8,7 @@ ghost use Rattle.roc_program.specs.Keys.{IsKey, HasKey, HasKeys};
 ghost use Rattle.roc_program.specs.Parts as pure;
 ghost use Rattle.roc_whole.specs.Run.{access_cell};
 ghost use Rattle.roc_group.specs.Accesses.{access, uses_of};
-ghost use Rattle.roc_group.specs.Group_run.{call, group_uses};
+ghost use Rattle.roc_group.specs.GroupRun.{call, group_uses};
 
 use crate::Access;
 use crate::names::names_before;

@@ -3,7 +3,7 @@ use Rattle.std.proofs.Common.{◌≡◌, inl, inr, ℕ, zero, suc, ◌+◌, ◌-
 use Rattle.std.proofs.lemmas.List.{take_more}
 use Rattle.std.specs.Prelude.{Option}
 use Rattle.roc_io.specs.Cause.{HasCause, last_count}
-use Rattle.roc_io.specs.Told.{Adds, AddsUnless, AllBut, AddsAllBut}
+use Rattle.roc_io.specs.Observed.{Adds, AddsUnless, AllBut, AddsAllBut}
 use Rattle.roc_io.proofs.Causes.{never_falls}
 use Rattle.roc_io.proofs.Told.{Adds-nil, Adds-trans}
 

@@ -6,7 +6,7 @@ use Rattle.std.proofs.Math.Seq.{take-length}
 use Rattle.std.proofs.lemmas.List.{map-append, length-map, take_more, length-take-le}
 use Rattle.roc_io.specs.declared.spawner.AllStarted.{AllStarted}
 use Rattle.roc_io.specs.declared.spawner.AllStarted.TheVariants.{Ok}
-use Rattle.roc_io.specs.Told.{Adds}
+use Rattle.roc_io.specs.Observed.{Adds}
 use Rattle.roc_io.specs.Spawner.{StartsAll, EndsStarts}
 use Rattle.roc_io.specs.Start.{Start}
 use Rattle.roc_io.proofs.Told.{Adds-trans}

@@ -5,7 +5,7 @@ use Rattle.std.specs.Prelude.{Option, Some, None}
 use Rattle.std.proofs.Math.Seq.{take-append-add, drop-cons}
 use Rattle.std.proofs.lemmas.Grind.{flat_map-append}
 use Rattle.std.proofs.lemmas.List.{append-nil}
-use Rattle.roc_io.specs.Told.{Adds, AddsFront, AddsThenFront}
+use Rattle.roc_io.specs.Observed.{Adds, AddsFront, AddsThenFront}
 
 pub Adds-nil : {X : Type 0} (a : Option (List X)) → Adds a a []
 Adds-nil None = tt

@@ -6,4 +6,4 @@ pub mod Packet
 pub mod Sink
 pub mod Spawner
 pub mod Start
-pub mod Told
+pub mod Observed

@@ -2,7 +2,7 @@
 use Rattle.std.specs.Prelude.{ℕ, Bool, true, false, List, Option}
 use Rattle.roc_io.specs.declared.sink.Written.{Written}
 use Rattle.roc_io.specs.declared.sink.Written.TheVariants.{Ok, Failed}
-use Rattle.roc_io.specs.Told.{Adds, AddsFront}
+use Rattle.roc_io.specs.Observed.{Adds, AddsFront}
 
 abbrev pub write_failed : Written → Bool
 write_failed Ok = false

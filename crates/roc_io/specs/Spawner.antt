@@ -6,7 +6,7 @@ use Rattle.roc_io.specs.declared.spawner.Started.TheVariants.{Running, NoMemory,
 use Rattle.roc_io.specs.declared.spawner.ChildWait.{ChildWait}
 use Rattle.roc_io.specs.declared.spawner.AllStarted.{AllStarted}
 use Rattle.roc_io.specs.declared.spawner.AllStarted.TheVariants.{Ok as AllOk, NoMemory as AllNoMemory, Failed as AllFailed}
-use Rattle.roc_io.specs.Told.{Adds}
+use Rattle.roc_io.specs.Observed.{Adds}
 use Rattle.roc_io.specs.Start.{Start}
 
 abbrev pub start_failed : Started → Bool

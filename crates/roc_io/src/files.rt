@@ -1,7 +1,7 @@
 // Where a program reads its input files.
 ghost use Rattle.std.specs.Prelude.{◌≡◌, ℕ, Option, List, IfSome};
 ghost use Rattle.roc_io.specs.Cause.{HasCause};
-ghost use Rattle.roc_io.specs.Told.{AddsIf};
+ghost use Rattle.roc_io.specs.Observed.{AddsIf};
 ghost use Rattle.roc_io.specs.Files.{read_failed, Reads, Fills};
 
 /// What a read answers.

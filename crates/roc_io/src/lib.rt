@@ -4,7 +4,7 @@
 //! bytes that a name holds, the names whose reads failed, the bytes that a sink took, the datagrams that are to arrive
 //! and those that were sent, the children started and awaited. `HasCause` (`specs/Cause.antt`) ties each answer that
 //! reports a failure to its count: a call that failed was counted (or the count stands at its type's end), and any
-//! other left the count as it was. `Adds` and its kin (`specs/Told.antt`) say what a call adds to the content as far as
+//! other left the count as it was. `Adds` and its kin (`specs/Observed.antt`) say what a call adds to the content as far as
 //! it is told.
 //!
 //! The layers above may rely on these clauses for every implementation. They hand a failure on only with its cause, as

@@ -2,7 +2,7 @@
 ghost use Rattle.std.specs.Prelude.{◌≡◌, ℕ, ◌-◌, ◌<◌, ◌≤◌, List, Option};
 ghost use Rattle.roc_io.specs.Cause.{HasCause, last_count};
 ghost use Rattle.roc_io.specs.Link.{bind_failed, send_failed, receive_failed, Receives};
-ghost use Rattle.roc_io.specs.Told.{AddsUnless, AddsAllBut};
+ghost use Rattle.roc_io.specs.Observed.{AddsUnless, AddsAllBut};
 ghost use Rattle.roc_io.specs.Packet.{Packet};
 ghost use Rattle.roc_io.specs.declared.link.Addr.{Addr};
 

@@ -1,7 +1,7 @@
 // Where a program starts other processes.
 ghost use Rattle.std.specs.Prelude.{◌≡◌, ℕ, List, [], ◌∷◌, Option, Some, None, is_none, if◌then◌else◌, map, string_bytes};
 ghost use Rattle.roc_io.specs.Cause.{HasCause};
-ghost use Rattle.roc_io.specs.Told.{Adds};
+ghost use Rattle.roc_io.specs.Observed.{Adds};
 ghost use Rattle.roc_io.specs.Spawner.{start_failed, Starts, all_start_failed, command_words, StartsAll};
 ghost use Rattle.roc_io.specs.Start.{Start};
 ghost use Rattle.roc_io.specs.declared.spawner.ChildWait.{ChildWait};

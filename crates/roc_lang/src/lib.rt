@@ -6,7 +6,7 @@
 //! `specs/Syntax.antt` and `Tree.antt`, and each is within the limits, as the tree of each text is ([`laws`]). A
 //! [`LangError`] prints as `specs/FaultText.antt` says.
 //!
-//! `roc_parse` reads texts, `roc_print` writes them, and `roc_scope` tests their names. `specs/Inner/` is of this crate
+//! `roc_lang_parse` reads texts, `roc_lang_print` writes them, and `roc_lang_scope` tests their names. `specs/Inner/` is of this crate
 //! alone.
 #![tactic(auto)]
 

@@ -6,12 +6,12 @@ use Rattle.roc_program.specs.Pieces.{pieces_in}
 use Rattle.roc_program.specs.declared.piece_id.PieceId.{PieceId}
 use Rattle.roc_program.proofs.PieceIds.{same_id_parts}
 use Rattle.roc_conflict.specs.Contended.{is_contended}
-use Rattle.roc_groups.specs.Groups.{piece_numbered}
-use Rattle.roc_groups.specs.Core.{InCore, contended, between, AreCoLocated, IsAcceptable}
-use Rattle.roc_groups.specs.Refusals.{IsUpTo, AreApart, IsApart, IsInTheWay, IsBlocked}
+use Rattle.roc_merge_groups.specs.Groups.{piece_numbered}
+use Rattle.roc_merge_groups.specs.Core.{InCore, contended, between, AreCoLocated, IsAcceptable}
+use Rattle.roc_merge_groups.specs.Refusals.{IsUpTo, AreApart, IsApart, IsInTheWay, IsBlocked}
 use Rattle.roc_merge.specs.Inner.Tables.{AreContended, IsFlow, IsClearBy, IsJoinedBy}
 use Rattle.roc_merge.specs.Inner.Firsts.{IsJoined, IsClear, IsFirstBehind, IsFirstPair, IsFirstFrom, IsFirstThree}
-use Rattle.roc_accept.proofs.Tested.{contended_there}
+use Rattle.roc_merge_accept.proofs.Tested.{contended_there}
 use Rattle.roc_merge.proofs.Flows.{leads_there}
 
 -- the order of lists of numbers

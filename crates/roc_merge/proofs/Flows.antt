@@ -10,11 +10,11 @@ use Rattle.roc_program.specs.Names.{bindings_of, piece_uses}
 use Rattle.roc_program.specs.Pieces.{pieces_in, piece_of}
 use Rattle.roc_program.specs.WellFormed.{IsProgram}
 use Rattle.roc_program.specs.declared.piece_id.PieceId.{PieceId}
-use Rattle.roc_groups.specs.Groups.{piece_numbered}
-use Rattle.roc_groups.specs.Flow.{feeds, Leads, directly, onward}
-use Rattle.roc_groups.specs.Core.{InCore, contended, between}
-use Rattle.roc_groups.proofs.Forward.{forward}
-use Rattle.roc_accept.proofs.Tested.{contended_there}
+use Rattle.roc_merge_groups.specs.Groups.{piece_numbered}
+use Rattle.roc_merge_groups.specs.Flow.{feeds, Leads, directly, onward}
+use Rattle.roc_merge_groups.specs.Core.{InCore, contended, between}
+use Rattle.roc_merge_groups.proofs.Forward.{forward}
+use Rattle.roc_merge_accept.proofs.Tested.{contended_there}
 use Rattle.roc_merge.specs.Inner.Tables.{holds, row_in, AreContended, IsFlow, IsCoreBy}
 use Rattle.roc_merge.proofs.Rows.{set_exact}
 

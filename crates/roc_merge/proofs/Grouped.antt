@@ -14,10 +14,10 @@ use Rattle.roc_sequence.proofs.Rising.{rising_filter}
 use Rattle.roc_program.specs.Program.{Workload}
 use Rattle.roc_program.specs.Pieces.{pieces_in}
 use Rattle.roc_program.specs.declared.piece_id.PieceId.{PieceId}
-use Rattle.roc_groups.specs.Groups.{first_piece}
-use Rattle.roc_groups.specs.Core.{InCore}
-use Rattle.roc_groups.specs.Grouping.{AreTogether, IsGrouping, IsMergedIn}
-use Rattle.roc_groups.proofs.Elements.{range_rising, has_range, from_has_range}
+use Rattle.roc_merge_groups.specs.Groups.{first_piece}
+use Rattle.roc_merge_groups.specs.Core.{InCore}
+use Rattle.roc_merge_groups.specs.Grouping.{AreTogether, IsGrouping, IsMergedIn}
+use Rattle.roc_merge_groups.proofs.Elements.{range_rising, has_range, from_has_range}
 use Rattle.roc_merge.specs.Grouped.{group_from, grouped}
 use Rattle.roc_merge.proofs.Flows.{core_there}
 

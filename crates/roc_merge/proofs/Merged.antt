@@ -5,7 +5,7 @@ use Rattle.std.proofs.lemmas.List.{get_or_append_left, map-append}
 use Rattle.std.proofs.Math.Seq.{get_or-append_seam}
 use Rattle.roc_program.specs.Program.{Workload}
 use Rattle.roc_program.specs.declared.piece_id.PieceId.{PieceId}
-use Rattle.roc_groups.specs.Grouping.{IsMergedIn, IsMerged}
+use Rattle.roc_merge_groups.specs.Grouping.{IsMergedIn, IsMerged}
 
 -- those of the first n procedures
 pub record AreMerged (program : Workload) (is_immediate : PieceId → Bool) (rows : List (List (List ℕ))) (n : ℕ) : Type 0 where

@@ -3,8 +3,8 @@ use Rattle.std.proofs.Common.{◌≡◌, ◌↔◌, ℕ, Bool, Result, Ok, Err, 
 use Rattle.std.proofs.lemmas.Bool.{false≢true}
 use Rattle.roc_program.specs.Program.{Workload}
 use Rattle.roc_program.specs.declared.piece_id.PieceId.{PieceId}
-use Rattle.roc_groups.specs.Core.{IsAcceptable}
-use Rattle.roc_groups.specs.Refusals.{IsApart, IsBlocked}
+use Rattle.roc_merge_groups.specs.Core.{IsAcceptable}
+use Rattle.roc_merge_groups.specs.Refusals.{IsApart, IsBlocked}
 use Rattle.roc_merge.specs.declared.refusal.Refusal.{Refusal}
 use Rattle.roc_merge.specs.declared.refusal.Refusal.TheVariants.{Apart, Blocked, NoMemory}
 use Rattle.roc_merge.specs.Inner.Firsts.{IsJoined, IsClear}

@@ -2,13 +2,13 @@
 ghost use Rattle.std.specs.Prelude.{◌≡◌, ◌<◌, ◌≤◌, ℕ, true, false, length, IfSome, IfNone};
 ghost use Rattle.roc_program.specs.Pieces.{pieces_in};
 ghost use Rattle.roc_conflict.specs.Classes.{is_immediate};
-ghost use Rattle.roc_groups.specs.Refusals.{IsApart};
+ghost use Rattle.roc_merge_groups.specs.Refusals.{IsApart};
 ghost use Rattle.roc_merge.specs.Inner.Tables.{IsApartBy, IsJoinedBy};
 ghost use Rattle.roc_merge.specs.Inner.Firsts.{IsJoined, IsFirstBehind, IsFirstPair};
 
 use crate::tables::{contended_in, count_of};
-use roc_accept::are_co_located;
 use roc_conflict::Classes;
+use roc_merge_accept::are_co_located;
 use roc_program::{PieceId, Workload, procedure_count};
 
 /// The first two of all procedures.

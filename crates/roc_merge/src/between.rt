@@ -3,13 +3,13 @@ ghost use Rattle.std.specs.Prelude.{◌≡◌, ◌<◌, ◌≤◌, ℕ, true, fa
 ghost use Rattle.roc_program.specs.Pieces.{pieces_in};
 ghost use Rattle.roc_conflict.specs.Classes.{is_immediate};
 ghost use Rattle.roc_program.specs.declared.piece_id.PieceId.{PieceId};
-ghost use Rattle.roc_groups.specs.Refusals.{AreApart, IsBlocked};
+ghost use Rattle.roc_merge_groups.specs.Refusals.{AreApart, IsBlocked};
 ghost use Rattle.roc_merge.specs.Inner.Tables.{IsWayBy, IsClearBy};
 ghost use Rattle.roc_merge.specs.Inner.Firsts.{IsClear, IsFirstBetween, IsFirstFrom, IsFirstThree};
 
 use crate::tables::{contended_in, count_of, flow_in};
-use roc_accept::are_co_located;
 use roc_conflict::Classes;
+use roc_merge_accept::are_co_located;
 use roc_program::{PieceId, Workload, procedure_count};
 
 /// Two contended pieces, and one between them.

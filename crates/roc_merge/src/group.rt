@@ -3,15 +3,15 @@ ghost use Rattle.std.specs.Prelude.{◌≡◌, ◌↔◌, ◌<◌, ◌≤◌, []
 ghost use Rattle.std.specs.List.{list_any, range_with_len};
 ghost use Rattle.roc_program.specs.Pieces.{pieces_in};
 ghost use Rattle.roc_conflict.specs.Classes.{is_immediate};
-ghost use Rattle.roc_groups.specs.Core.{InCore};
-ghost use Rattle.roc_groups.specs.Grouping.{IsMergedIn, IsMerged};
+ghost use Rattle.roc_merge_groups.specs.Core.{InCore};
+ghost use Rattle.roc_merge_groups.specs.Grouping.{IsMergedIn, IsMerged};
 ghost use Rattle.roc_merge.specs.Inner.Tables.{holds, row_in, IsCoreBy};
 ghost use Rattle.roc_merge.specs.Grouped.{group_from, grouped};
 
 use crate::tables::{contended_in, count_of, flow_in};
 use roc_base::NoMemory;
 use roc_conflict::Classes;
-use roc_groups::Groups;
+use roc_merge_groups::Groups;
 use roc_program::{Workload, procedure_count};
 use std::alloc::Global;
 

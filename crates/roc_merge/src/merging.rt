@@ -2,16 +2,16 @@
 ghost use Rattle.std.specs.Prelude.{◌≡◌, ◌↔◌, ◌⊎◌, IsOk, IfOk, IsErrOf};
 ghost use Rattle.roc_program.specs.declared.piece_id.PieceId.{PieceId};
 ghost use Rattle.roc_conflict.specs.Classes.{is_immediate};
-ghost use Rattle.roc_groups.specs.Core.{IsAcceptable};
-ghost use Rattle.roc_groups.specs.Grouping.{IsMerged};
-ghost use Rattle.roc_groups.specs.Refusals.{IsApart, IsBlocked};
+ghost use Rattle.roc_merge_groups.specs.Core.{IsAcceptable};
+ghost use Rattle.roc_merge_groups.specs.Grouping.{IsMerged};
+ghost use Rattle.roc_merge_groups.specs.Refusals.{IsApart, IsBlocked};
 
 use crate::Refusal;
 use crate::apart::first_apart;
 use crate::between::first_blocked;
 use crate::group::merged;
 use roc_conflict::Classes;
-use roc_groups::Groups;
+use roc_merge_groups::Groups;
 use roc_program::Workload;
 use std::alloc::Global;
 

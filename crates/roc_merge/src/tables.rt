@@ -2,11 +2,11 @@
 ghost use Rattle.std.specs.Prelude.{◌≡◌, ◌↔◌, ◌<◌, ◌≤◌, ◌⊎◌, ℕ, length, IsTrue};
 ghost use Rattle.roc_program.specs.Pieces.{pieces_in};
 ghost use Rattle.roc_conflict.specs.Classes.{is_immediate};
-ghost use Rattle.roc_groups.specs.Flow.{feeds, Leads};
+ghost use Rattle.roc_merge_groups.specs.Flow.{feeds, Leads};
 ghost use Rattle.roc_merge.specs.Inner.Tables.{holds, AreContended, IsFlow};
 
-use roc_accept::feeds;
 use roc_conflict::{Classes, contended};
+use roc_merge_accept::feeds;
 use roc_program::{PieceId, Workload, piece_count};
 
 /// How many pieces a procedure has.

@@ -15,6 +15,6 @@ mod outbox;
 mod reason;
 
 pub use facts::{Facts, MOST_FACT_EDGES, MOST_FACTS};
-pub use msg::{Msg, Sent};
+pub use msg::{Envelope, Msg};
 pub use outbox::{Outbox, Outgoing};
 pub use reason::{NodeFault, Reason};

@@ -152,7 +152,7 @@ impl Msg {
 
 /// A message with who sent it and to whom.
 #[derive(Debug, Drop)]
-pub struct Sent {
+pub struct Envelope {
     pub from: Node,
     pub to: Node,
     pub msg: Msg,

@@ -3,10 +3,10 @@ use Rattle.std.proofs.Common.{◌≡◌, List, [], ◌∷◌, ◌++◌, refl, sy
 use Rattle.std.specs.Prelude.{Option, option_map}
 use Rattle.roc_io.specs.Packet.{Packet}
 use Rattle.roc_io.specs.Call.{LinkView}
-use Rattle.roc_post.specs.Moves.{Moves}
-use Rattle.roc_post.proofs.Moving.{put_nothing, Moves-trans}
+use Rattle.roc_node.specs.Moves.{Moves}
+use Rattle.roc_node.proofs.Moving.{put_nothing, Moves-trans}
 use Rattle.roc_node.specs.NodeEvent.{NodeEvent, took, silent, arrived}
-use Rattle.roc_node.specs.Inner.Losing.{LosesOne}
+use Rattle.roc_node.specs.Losing.{LosesOne}
 
 pub arrived-append : (xs ys : List NodeEvent) → arrived (xs ++ ys) ≡ arrived xs ++ arrived ys
 arrived-append [] ys = refl

@@ -1,2 +1,5 @@
 pub mod Arrivals
 mod Texts
+pub mod Moving
+mod Ranges
+mod Sets

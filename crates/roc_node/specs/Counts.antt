@@ -3,8 +3,8 @@ use Rattle.roc_io.specs.Cause.{one_more}
 use Rattle.roc_msg.specs.declared.reason.Reason.{Reason}
 use Rattle.roc_msg.specs.declared.reason.Reason.TheVariants.{Foreign, BadProc, BadGroup, BadInputs, NotHere, Late, Differs, Stale, Unfit}
 use Rattle.roc_wire.specs.declared.fault.WireFault.TheVariants.{Short, Magic, Version, Kind, Count, Order, Rest, NoMemory}
-use Rattle.roc_post.specs.declared.judging.Skip.{Skip}
-use Rattle.roc_post.specs.declared.judging.Skip.TheVariants.{Fault, Tag}
+use Rattle.roc_node.specs.declared.judging.Skip.{Skip}
+use Rattle.roc_node.specs.declared.judging.Skip.TheVariants.{Fault, Tag}
 use Rattle.roc_node.specs.declared.counts.SkipCounts.{SkipCounts}
 use Rattle.roc_node.specs.declared.counts.IgnoreCounts.{IgnoreCounts}
 use Rattle.roc_node.specs.declared.counts.Counts.{Counts}

@@ -1,2 +1,2 @@
--- What stands here is of private functions of the crates that run nodes
-pub mod Losing
+-- What stands here is of private functions alone
+pub mod InRange

@@ -9,8 +9,8 @@ use Rattle.roc_msg.specs.declared.reason.Reason.TheVariants as reason
 use Rattle.roc_wire.specs.Fault.{fault_text}
 use Rattle.roc_wire.specs.declared.fault.WireFault.TheVariants as fault
 use Rattle.roc_report.specs.Text.{spaced}
-use Rattle.roc_post.specs.declared.judging.Skip.{Skip}
-use Rattle.roc_post.specs.declared.judging.Skip.TheVariants.{Fault, Tag}
+use Rattle.roc_node.specs.declared.judging.Skip.{Skip}
+use Rattle.roc_node.specs.declared.judging.Skip.TheVariants.{Fault, Tag}
 use Rattle.roc_node.specs.declared.counts.SkipCounts.{SkipCounts}
 use Rattle.roc_node.specs.declared.counts.IgnoreCounts.{IgnoreCounts}
 use Rattle.roc_node.specs.declared.counts.Counts.{Counts}

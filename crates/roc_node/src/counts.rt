@@ -2,8 +2,8 @@
 ghost use Rattle.std.specs.Prelude.{◌≡◌};
 ghost use Rattle.roc_node.specs.Counts.{no_counts, one_skip_more, one_ignore_more, with_skip, with_taken};
 
+use crate::Skip;
 use roc_msg::Reason;
-use roc_post::Skip;
 use roc_wire::WireFault;
 
 /// How many datagrams were skipped, by the word of the fault, or for the tag.

@@ -3,10 +3,9 @@ ghost use Rattle.std.specs.Prelude.{◌≡◌, ◌++◌, ◌∷◌, [], OnOk, On
 ghost use Rattle.std.specs.String.{string_bytes};
 ghost use Rattle.roc_node.specs.NodeLine.{skip_text, ender_text, where_some, node_line_words, node_line_text, node_lines_text, skip_lines, ignore_lines, count_lines, end_lines};
 
-use crate::{Counts, IgnoreCounts, SkipCounts};
+use crate::{Counts, IgnoreCounts, Skip, SkipCounts};
 use roc_base::{NoMemory, Shard, TxnId};
 use roc_msg::Reason;
-use roc_post::Skip;
 use roc_wire::WireFault;
 use std::alloc::{AllocError, Global};
 

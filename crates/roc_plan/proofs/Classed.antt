@@ -5,10 +5,10 @@ use Rattle.std.proofs.lemmas.List.{get_or_past}
 use Rattle.std.specs.List.{list_any}
 use Rattle.roc_sequence.specs.Lists.{Has}
 use Rattle.roc_sequence.proofs.Holds.{any_has, has_any, same_tests}
-use Rattle.roc_groups.specs.Groups.{piece_numbered, groups_in, group_at}
-use Rattle.roc_groups.specs.Accepted.{is_immediate_group}
-use Rattle.roc_groups.proofs.Elements.{place_of_has, has_at_place, has_row}
-use Rattle.roc_groups.proofs.Fused_classes.{numbered_once}
+use Rattle.roc_merge_groups.specs.Groups.{piece_numbered, groups_in, group_at}
+use Rattle.roc_merge_groups.specs.Accepted.{is_immediate_group}
+use Rattle.roc_merge_groups.proofs.Elements.{place_of_has, has_at_place, has_row}
+use Rattle.roc_merge_groups.proofs.FusedClasses.{numbered_once}
 use Rattle.roc_plan.specs.Groups.{Group, Plan, no_group, groups_of, group_of, is_immediate_of}
 use Rattle.roc_plan.specs.Accepted.{grouping_of, is_piece_immediate, IsAccepted}
 use Rattle.roc_plan.proofs.Placed.{group_again, count_again, procedure_there, accepted_at}

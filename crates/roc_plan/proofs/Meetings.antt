@@ -9,9 +9,9 @@ use Rattle.roc_conflict.specs.Immediate.{in_conflict}
 use Rattle.roc_conflict.specs.Contended.{has_conflict, is_contended}
 use Rattle.roc_conflict.proofs.Mirrored.{conflict_mirrored}
 use Rattle.roc_conflict.proofs.Present.{some_conflict}
-use Rattle.roc_groups.specs.Groups.{piece_numbered, groups_in}
-use Rattle.roc_groups.proofs.Accepting.{contended_together}
-use Rattle.roc_groups.proofs.Elements.{place_of_has}
+use Rattle.roc_merge_groups.specs.Groups.{piece_numbered, groups_in}
+use Rattle.roc_merge_groups.proofs.Accepting.{contended_together}
+use Rattle.roc_merge_groups.proofs.Elements.{place_of_has}
 use Rattle.roc_plan.specs.Groups.{Plan, group_of, is_immediate_of}
 use Rattle.roc_plan.specs.Accepted.{grouping_of, is_piece_immediate, IsAccepted}
 use Rattle.roc_plan.specs.Turns.{may_meet}

@@ -11,10 +11,10 @@ use Rattle.roc_program.specs.Program.{Procedure, Expression}
 use Rattle.roc_program.specs.Values.{Environment, with_arguments, value}
 use Rattle.roc_program.specs.WellFormed.{IsProcedure}
 use Rattle.roc_program.proofs.ValueLaws.{value_same}
-use Rattle.roc_groups.specs.Groups.{groups_in, group_at}
-use Rattle.roc_groups.specs.Accepted.{IsAcceptedIn}
-use Rattle.roc_groups.specs.Parts.{IsPart}
-use Rattle.roc_groups.proofs.Parts.{parts_of_grouping}
+use Rattle.roc_merge_groups.specs.Groups.{groups_in, group_at}
+use Rattle.roc_merge_groups.specs.Accepted.{IsAcceptedIn}
+use Rattle.roc_merge_groups.specs.Parts.{IsPart}
+use Rattle.roc_merge_groups.proofs.Parts.{parts_of_grouping}
 use Rattle.roc_plan.specs.Groups.{Plan, no_group, pieces_at, inputs_in, environment_in, place_in, with_values, procedure_of, groups_of, group_of}
 use Rattle.roc_plan.specs.Accepted.{grouping_of, is_piece_immediate, IsAccepted}
 use Rattle.roc_plan.specs.Sized.{piece_at, IsSized}

@@ -8,12 +8,12 @@ use Rattle.roc_sequence.proofs.Members.{has_map, from_has_map, from_has_filter, 
 use Rattle.roc_program.specs.LookUps.{no_piece}
 use Rattle.roc_program.specs.Names.{bindings_of, bindings, piece_uses, has_name}
 use Rattle.roc_program.specs.Program.{Piece, Procedure}
-use Rattle.roc_groups.specs.Groups.{groups_in, group_at}
-use Rattle.roc_groups.specs.Flow.{feeds}
-use Rattle.roc_groups.specs.Accepted.{group_feeds}
-use Rattle.roc_groups.proofs.Accepting.{needed_immediate}
-use Rattle.roc_groups.proofs.Elements.{place_of_has, has_at_place}
-use Rattle.roc_groups.proofs.Forward.{name_has, has_named}
+use Rattle.roc_merge_groups.specs.Groups.{groups_in, group_at}
+use Rattle.roc_merge_groups.specs.Flow.{feeds}
+use Rattle.roc_merge_groups.specs.Accepted.{group_feeds}
+use Rattle.roc_merge_groups.proofs.Accepting.{needed_immediate}
+use Rattle.roc_merge_groups.proofs.Elements.{place_of_has, has_at_place}
+use Rattle.roc_merge_groups.proofs.Forward.{name_has, has_named}
 use Rattle.roc_plan.specs.declared.group.Input.{Input}
 use Rattle.roc_plan.specs.Groups.{Plan, no_group, bound_in, inputs_in, source_in, procedure_of, groups_of, group_of, is_immediate_of, bound_of, inputs_of, pieces_at}
 use Rattle.roc_plan.specs.Accepted.{grouping_of, is_piece_immediate, IsAccepted}

@@ -11,13 +11,13 @@ use Rattle.roc_sequence.proofs.Filtered.{NoneTwice-filter}
 use Rattle.roc_sequence.proofs.Holds.{all_has, has_all}
 use Rattle.roc_sequence.proofs.Listed.{listed_has, has_listed}
 use Rattle.roc_sequence.proofs.Members.{has_left, has_right, has_append, has_filter, from_has_filter}
-use Rattle.roc_groups.specs.Groups.{groups_in}
-use Rattle.roc_groups.specs.Flow.{directly}
-use Rattle.roc_groups.specs.Accepted.{group_feeds}
-use Rattle.roc_groups.specs.Paths.{leads_below}
-use Rattle.roc_groups.proofs.Cores.{leads_through}
-use Rattle.roc_groups.proofs.Elements.{range_above, has_range, from_has_range}
-use Rattle.roc_groups.proofs.Paths.{feeds_inside, leads_from_below, below_from_leads}
+use Rattle.roc_merge_groups.specs.Groups.{groups_in}
+use Rattle.roc_merge_groups.specs.Flow.{directly}
+use Rattle.roc_merge_groups.specs.Accepted.{group_feeds}
+use Rattle.roc_merge_groups.specs.Paths.{leads_below}
+use Rattle.roc_merge_groups.proofs.Cores.{leads_through}
+use Rattle.roc_merge_groups.proofs.Elements.{range_above, has_range, from_has_range}
+use Rattle.roc_merge_groups.proofs.Paths.{feeds_inside, leads_from_below, below_from_leads}
 use Rattle.roc_plan.specs.declared.group.Input.{Input}
 use Rattle.roc_plan.specs.Groups.{Plan, groups_of, is_immediate_of, inputs_of}
 use Rattle.roc_plan.specs.Accepted.{grouping_of, IsAccepted}

@@ -4,8 +4,8 @@ use Rattle.std.specs.List.{list_any, range_with_len}
 use Rattle.roc_program.specs.Program.{Workload}
 use Rattle.roc_program.specs.WellFormed.{IsProgram}
 use Rattle.roc_program.specs.declared.piece_id.PieceId.{PieceId}
-use Rattle.roc_groups.specs.Groups.{piece_numbered, groups_in}
-use Rattle.roc_groups.specs.Accepted.{IsAcceptedGrouping}
+use Rattle.roc_merge_groups.specs.Groups.{piece_numbered, groups_in}
+use Rattle.roc_merge_groups.specs.Accepted.{IsAcceptedGrouping}
 use Rattle.roc_plan.specs.Groups.{Group, Plan, groups_of}
 
 -- a group of these pieces: it is immediate where a piece of it is

@@ -3,7 +3,7 @@ use Rattle.std.specs.Prelude.{◌≡◌, ◌↔◌, ℕ, ◌<◌, Bool, not, ◌
 use Rattle.std.specs.List.{AllByRecursion, list_any, range_with_len}
 use Rattle.roc_sequence.specs.Places.{IsListed, IsListedBefore, NoneTwice}
 use Rattle.roc_program.specs.Conflict.{are_in_conflict}
-use Rattle.roc_groups.specs.Groups.{piece_numbered}
+use Rattle.roc_merge_groups.specs.Groups.{piece_numbered}
 use Rattle.roc_plan.specs.Groups.{Plan, groups_of, group_of, is_immediate_of, inputs_of}
 
 -- Each group of a procedure once, behind those that it takes values from, which are immediate; the deferrable groups by number

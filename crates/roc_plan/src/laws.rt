@@ -2,7 +2,7 @@
 ghost use Rattle.std.specs.Prelude.{◌≡◌, ◌≢◌, ◌↔◌, ℕ, false, ◌<◌, IsTrue, List, length};
 ghost use Rattle.roc_sequence.specs.Lists.{Has};
 ghost use Rattle.roc_conflict.specs.Immediate.{IsImmediate};
-ghost use Rattle.roc_groups.specs.Groups.{piece_numbered};
+ghost use Rattle.roc_merge_groups.specs.Groups.{piece_numbered};
 ghost use Rattle.roc_plan.specs.declared.group.Input.{Input};
 ghost use Rattle.roc_plan.specs.Groups.{Plan, groups_of, group_of, is_immediate_of, bound_of, inputs_of};
 ghost use Rattle.roc_plan.specs.Accepted.{IsAccepted};

@@ -3,7 +3,7 @@
 //! Contracts see a [`Plan`] as a program with its groups, as `specs/Groups.antt` has it, and each reader answers what
 //! that file says of the plan, without memory. [`Plan::from_outlines`] asks that the outlines are those of an accepted
 //! plan (`specs/Outlines.antt`), so each plan is one that the layers above may rely on (`IsAccepted` of
-//! `specs/Accepted.antt`). `make_plan` of `roc_planning` makes plans.
+//! `specs/Accepted.antt`). `make_plan` of `roc_plan_make` makes plans.
 //!
 //! By [`laws`], of each accepted plan: each procedure has a group, and a group is immediate exactly if its pieces are;
 //! what a group takes comes from other groups of its procedure, which are immediate and bind it; the groups of a

@@ -3,7 +3,7 @@
 //! Contracts see a [`Workload`] as a program of `specs/Program.antt` (tables, init lines, procedures of pieces of
 //! statements, with numbers for names), and each is well formed (`IsProgram` of `specs/WellFormed.antt`): its numbers
 //! are within the limits of the language, and its pieces use names that are in scope. Which program a text means is for
-//! `roc_resolve` to say.
+//! `roc_lang_resolve` to say.
 //!
 //! The layers above may rely on this: [`Expression::value`] is the value of `specs/Values.antt`, where `+ - *` wrap
 //! modulo 2^64; [`Expression::is_same`] tells exactly whether two expressions are one tree; pieces have the numbers of

@@ -12,9 +12,9 @@ use Rattle.roc_depgraph.proofs.Chains.{other_chain}
 use Rattle.roc_component.specs.Components.{Mates}
 use Rattle.roc_plan.specs.Groups.{Plan}
 use Rattle.roc_whole.specs.Serial.{start_store}
-use Rattle.roc_execution.specs.Scheme.{Scheme, IsSoundScheme}
+use Rattle.roc_law_log.specs.Scheme.{Scheme, IsSoundScheme}
 use Rattle.roc_server.specs.State.{ServerState}
-use Rattle.roc_protocol.specs.Asked.{HasSchemes}
+use Rattle.roc_protocol.specs.PlanAssumptions.{HasSchemes}
 use Rattle.roc_protocol.specs.World.{World}
 use Rattle.roc_protocol.specs.Run.{Stepped, IsRun}
 use Rattle.roc_protocol.specs.Inner.Given.{LogLaws, StoreLaws}

@@ -22,9 +22,9 @@ use Rattle.roc_coord.specs.Tick as coord
 use Rattle.roc_audit.specs.declared.entry.Entry.TheVariants.{Submitted}
 use Rattle.roc_protocol.specs.declared.event.Event.{Event}
 use Rattle.roc_protocol.specs.declared.event.Event.TheVariants.{Submit, Deliver, Tick}
-use Rattle.roc_protocol.specs.World.{World, comes}
+use Rattle.roc_protocol.specs.World.{World, mark_delivered}
 use Rattle.roc_protocol.specs.Happens.{Outcome, answer_entries, IsReceived}
-use Rattle.roc_protocol.specs.Run.{Stepped, Comes, IsRun, begun, goes_on}
+use Rattle.roc_protocol.specs.Run.{Stepped, Transition, IsRun, begun, goes_on}
 use Rattle.roc_protocol.proofs.Fetches.{FetchedFor, message_fetches, tick_fetches, IsAskedFor, HasAsked, served_asked, coordinated_asked, comes_asked}
 use Rattle.roc_protocol.proofs.Gathered.{IsGathered, IsRound, Tells, message_gathered, tick_gathered, submission_gathered}
 use Rattle.roc_protocol.proofs.Firsts.{found_at}
@@ -65,7 +65,7 @@ module _ (plan : Plan) (s : CoordState) where
 
 -- ---- worlds
 
-step_asked : (plan : Plan) (w : World) → HasAsked w → (e : Option Event) (v : Outcome) → Comes plan w e v → HasAsked v.world
+step_asked : (plan : Plan) (w : World) → HasAsked w → (e : Option Event) (v : Outcome) → Transition plan w e v → HasAsked v.world
 step_asked plan w o None v h = subst (λ (v : Outcome). HasAsked v.world) (sym h) o
 step_asked plan w o (Some (Submit n proc args)) v (s, there, h) = go (submitting plan w n proc args s v h)
   where
@@ -74,9 +74,9 @@ step_asked plan w o (Some (Submit n proc args)) v (s, there, h) = go (submitting
     go (is_accepted known counted e) = subst HasAsked (sym e) (coordinated_asked plan w o n (accepted plan s (new_transaction s proc args)).state (accepted plan s (new_transaction s proc args)).sends (Submitted (next_id s) proc args ∷ []) (submission_round plan s proc args))
 step_asked plan w o (Some (Deliver k)) v (m, some, there, h) = go m.to (o.sent m (has_at w.sent (k - 1) m there)) h
   where
-    go : (to : Node) → FetchedFor (IsAskedFor w.servers) m.msg to → IsReceived plan (comes w k) m.msg to v → HasAsked v.world
-    go (Server shard) f (s, r, at, step, e) = subst (λ (v : Outcome). HasAsked v.world) (sym e) (served_asked plan (comes w k) (comes_asked plan w o k) shard.0 s at r (message_fetches plan (IsAskedFor w.servers) s ((comes_asked plan w o k).askers shard.0 s at) m.msg (Server shard) r step f))
-    go (Coord n) f (s, at, e) = subst (λ (v : Outcome). HasAsked v.world) (sym e) (coordinated_asked plan (comes w k) (comes_asked plan w o k) n (after_message plan s m.msg).state (after_message plan s m.msg).sends (answer_entries (after_message plan s m.msg).answer) (message_round plan s m.msg))
+    go : (to : Node) → FetchedFor (IsAskedFor w.servers) m.msg to → IsReceived plan (mark_delivered w k) m.msg to v → HasAsked v.world
+    go (Server shard) f (s, r, at, step, e) = subst (λ (v : Outcome). HasAsked v.world) (sym e) (served_asked plan (mark_delivered w k) (comes_asked plan w o k) shard.0 s at r (message_fetches plan (IsAskedFor w.servers) s ((comes_asked plan w o k).askers shard.0 s at) m.msg (Server shard) r step f))
+    go (Coord n) f (s, at, e) = subst (λ (v : Outcome). HasAsked v.world) (sym e) (coordinated_asked plan (mark_delivered w k) (comes_asked plan w o k) n (after_message plan s m.msg).state (after_message plan s m.msg).sends (answer_entries (after_message plan s m.msg).answer) (message_round plan s m.msg))
 step_asked plan w o (Some (Tick (Server shard))) v (s, there, e) = subst (λ (v : Outcome). HasAsked v.world) (sym e) (served_asked plan w o shard.0 s there (answered s (server.tick_sends s)) (tick_fetches plan (IsAskedFor w.servers) s (o.askers shard.0 s there)))
 step_asked plan w o (Some (Tick (Coord n))) v (s, there, e) = subst (λ (v : Outcome). HasAsked v.world) (sym e) (coordinated_asked plan w o n s (coord.tick_sends plan s) [] (tick_round plan s))
 

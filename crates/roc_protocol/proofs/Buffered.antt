@@ -14,15 +14,15 @@ use Rattle.roc_base.specs.Equalities.{is_txn-true}
 use Rattle.roc_rows.specs.Store.{Store}
 use Rattle.roc_plan.specs.Groups.{Plan, groups_of, is_immediate_of}
 use Rattle.roc_whole.specs.Serial as whole
-use Rattle.roc_serial.specs.Orders.{all_groups}
-use Rattle.roc_execution.specs.Scheme.{Scheme}
-use Rattle.roc_execution.specs.Log.{Log, IsWhole}
-use Rattle.roc_execution.specs.Steps.{waits_here}
-use Rattle.roc_execution.specs.Invariants.{LogInvariants}
+use Rattle.roc_law_orders.specs.Orders.{all_groups}
+use Rattle.roc_law_log.specs.Scheme.{Scheme}
+use Rattle.roc_law_log.specs.Log.{Log, IsWhole}
+use Rattle.roc_law_log.specs.Steps.{waits_here}
+use Rattle.roc_law_log.specs.Invariants.{LogInvariants}
 use Rattle.roc_server.specs.declared.started.StartedGroup.{StartedGroup}
 use Rattle.roc_server.specs.State.{is_group, find_group, ServerState}
 use Rattle.roc_server.specs.Runs.{count_of_groups, groups_here, buffered_here, outs_here}
-use Rattle.roc_protocol.specs.Asked.{IsSchemeOf}
+use Rattle.roc_protocol.specs.PlanAssumptions.{IsSchemeOf}
 use Rattle.roc_protocol.proofs.Means.{run_of, entry_run, place, Ran, Began, stage, waits_at, DoneMeans, AreGroupsHere, ServerMeans}
 use Rattle.roc_protocol.proofs.Grows.{filter_same}
 

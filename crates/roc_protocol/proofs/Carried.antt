@@ -13,7 +13,7 @@ use Rattle.roc_base.specs.Equalities.{is_txn-true, is_txn-same}
 use Rattle.roc_base.specs.Edge.{Dependency}
 use Rattle.roc_depgraph.specs.declared.known.KnownList.{KnownList}
 use Rattle.roc_depgraph.specs.Deps.{list_of, is_known, IsKnown}
-use Rattle.roc_await.specs.declared.waits.Asked.{Asked}
+use Rattle.roc_await.specs.declared.waits.OpenFetch.{OpenFetch}
 use Rattle.roc_await.specs.Waits.{askers_of}
 use Rattle.roc_msg.specs.declared.msg.Msg.{Msg}
 use Rattle.roc_msg.specs.declared.msg.Msg.TheVariants.{Start, StartOk, Commit, CommitOk, Fetch, Known, Stop}
@@ -22,13 +22,13 @@ use Rattle.roc_msg.specs.declared.reason.Reason.{Reason}
 use Rattle.roc_msg.specs.declared.reason.Reason.TheVariants.{NotHere, Foreign, Differs}
 use Rattle.roc_msg.specs.Facts.{is_fact_before}
 use Rattle.roc_plan.specs.Groups.{Plan}
-use Rattle.roc_group.specs.Group_run.{GroupCall, call, group_run}
+use Rattle.roc_group.specs.GroupRun.{GroupCall, call, group_run}
 use Rattle.roc_server.specs.declared.started.StartedGroup.{StartedGroup}
 use Rattle.roc_server.specs.State.{ignored, answered, is_here, is_group, find_group, Lists, ServerState, ServerStep, unrun}
 use Rattle.roc_server.specs.Start.{start_fault, start_taken, start_judged, startok_of, new_group}
 use Rattle.roc_server.specs.Runs.{group_call, with_later, run_group, run_groups, buffered_here, take_all, commitok_of, outs_here}
-use Rattle.roc_lists.specs.Carried.{list_with, carried, unknown_of}
-use Rattle.roc_lists.specs.Asking.{known_to, knowns_for, fetch_from}
+use Rattle.roc_server_lists.specs.Carried.{list_with, carried, unknown_of}
+use Rattle.roc_server_lists.specs.Asking.{known_to, knowns_for, fetch_from}
 use Rattle.roc_server.specs.Lists.{commit_differs, lists_after, missing_from, taught, commit_fault, after_commit, fetch_taken, after_fetch, known_fault, after_known}
 use Rattle.roc_server.specs.Step.{Findings, AreFindings, Handles, after_message, tick_sends}
 use Rattle.roc_protocol.specs.Final.{lists_in}
@@ -238,7 +238,7 @@ module _ (plan : Plan) (Good : TxnId → List Dependency → Type 0) (Here : Txn
           }
 
       -- what a taught list sends is a Known of it, a CommitOk or a Fetch
-      taught_sends : (P : Msg → Type 0) → ((k : KnownList) → Has k news → P (Known k.of k.edges)) → ((t : TxnId) → is_here t s.started ≡ true → P (CommitOk t r.state.shard (outs_here plan t r.state.started))) → ((a : Asked) → P (Fetch a.id s.shard)) → (out : Outgoing) → Has out r.sends → P out.msg
+      taught_sends : (P : Msg → Type 0) → ((k : KnownList) → Has k news → P (Known k.of k.edges)) → ((t : TxnId) → is_here t s.started ≡ true → P (CommitOk t r.state.shard (outs_here plan t r.state.started))) → ((a : OpenFetch) → P (Fetch a.id s.shard)) → (out : Outgoing) → Has out r.sends → P out.msg
       taught_sends P known commitoks fetches out h =
           elim (has_append out (flat_map (knowns_for s.lists.waiting.askers) news) (map (commitok_of plan r.state) (filter (λ t. is_here t s.started) ts) ++ map (fetch_from s.shard) (missing_from s (s.lists.known ++ news))) h) [
             | inl k ↦
@@ -327,5 +327,5 @@ module _ (plan : Plan) (Good : TxnId → List Dependency → Type 0) (Here : Txn
     pub tick_good : KeepsGood (answered s (tick_sends s))
     tick_good =
         answers (tick_sends s)
-        (λ out h. let q = from_has_map (fetch_from s.shard) out (filter (λ (a : Asked). not (is_known s.lists.known a.id)) s.lists.waiting.asked) h in subst (λ (out : Outgoing). AllGood Good (lists_in out.msg)) (sym q.2) (λ k j. absurd j))
-        (λ out h. let q = from_has_map (fetch_from s.shard) out (filter (λ (a : Asked). not (is_known s.lists.known a.id)) s.lists.waiting.asked) h in subst (λ (out : Outgoing). IsToldBy s.shard s.started out.msg) (sym q.2) tt)
+        (λ out h. let q = from_has_map (fetch_from s.shard) out (filter (λ (a : OpenFetch). not (is_known s.lists.known a.id)) s.lists.waiting.asked) h in subst (λ (out : Outgoing). AllGood Good (lists_in out.msg)) (sym q.2) (λ k j. absurd j))
+        (λ out h. let q = from_has_map (fetch_from s.shard) out (filter (λ (a : OpenFetch). not (is_known s.lists.known a.id)) s.lists.waiting.asked) h in subst (λ (out : Outgoing). IsToldBy s.shard s.started out.msg) (sym q.2) tt)

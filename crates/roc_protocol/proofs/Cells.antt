@@ -14,22 +14,22 @@ use Rattle.roc_rows.specs.Store.{Store, read, empty}
 use Rattle.roc_plan.specs.Groups.{Plan, shard_of}
 use Rattle.roc_whole.specs.Serial as whole
 use Rattle.roc_whole.specs.Serial.{start_store, serial_store}
-use Rattle.roc_serial.specs.Behaviour.{TxnGroup, is_txn_group, is_group_number}
-use Rattle.roc_serial.specs.Runs.{stage_behind}
-use Rattle.roc_serial.specs.Orders.{one_by_one}
-use Rattle.roc_execution.specs.Scheme.{Scheme, IsSoundScheme}
-use Rattle.roc_execution.specs.Log.{Log, IsDecidedThroughout}
-use Rattle.roc_execution.specs.Invariants.{LogInvariants}
+use Rattle.roc_law_orders.specs.Behaviour.{TxnGroup, is_txn_group, is_group_number}
+use Rattle.roc_law_orders.specs.Runs.{stage_behind}
+use Rattle.roc_law_orders.specs.Orders.{one_by_one}
+use Rattle.roc_law_log.specs.Scheme.{Scheme, IsSoundScheme}
+use Rattle.roc_law_log.specs.Log.{Log, IsDecidedThroughout}
+use Rattle.roc_law_log.specs.Invariants.{LogInvariants}
 use Rattle.roc_server.specs.First.{first_server}
 use Rattle.roc_server.specs.State.{ServerState}
 use Rattle.roc_audit.specs.History.{WasSubmitted, WasAnswered}
 use Rattle.roc_audit.specs.Witness.{submitted_call, submitted_calls}
-use Rattle.roc_protocol.specs.Asked.{IsSchemeOf, HasSchemes}
+use Rattle.roc_protocol.specs.PlanAssumptions.{IsSchemeOf, HasSchemes}
 use Rattle.roc_protocol.specs.declared.event.Event.{Event}
 use Rattle.roc_protocol.specs.declared.event.Event.TheVariants.{Submit, Deliver, Tick}
-use Rattle.roc_protocol.specs.World.{World, comes}
+use Rattle.roc_protocol.specs.World.{World, mark_delivered}
 use Rattle.roc_protocol.specs.Happens.{Outcome, IsReceived}
-use Rattle.roc_protocol.specs.Run.{Stepped, Comes, IsRun, begun, goes_on}
+use Rattle.roc_protocol.specs.Run.{Stepped, Transition, IsRun, begun, goes_on}
 use Rattle.roc_protocol.specs.Inner.Given.{LogLaws, SerialLaws, StoreLaws}
 use Rattle.roc_protocol.proofs.Means.{Began}
 use Rattle.roc_protocol.proofs.Firsts.{start_cells, start_elsewhere}
@@ -136,7 +136,7 @@ all_set xs count i a b e h n l = elim (cases_eq i n) [
   | inr other ↦ (let x = h n l in (x.0, get-set_other xs i n b other ∙ x.1))
 ]
 
-step_servers : (plan : Plan) (w : World) (count : ℕ) → HasAll w.servers count → (e : Option Event) (o : Outcome) → Comes plan w e o → HasAll o.world.servers count
+step_servers : (plan : Plan) (w : World) (count : ℕ) → HasAll w.servers count → (e : Option Event) (o : Outcome) → Transition plan w e o → HasAll o.world.servers count
 step_servers plan w count h None o c = subst (λ (o : Outcome). HasAll o.world.servers count) (sym c) h
 step_servers plan w count h (Some (Submit n proc args)) o (s, there, c) = go (submitting plan w n proc args s o c)
   where
@@ -145,7 +145,7 @@ step_servers plan w count h (Some (Submit n proc args)) o (s, there, c) = go (su
     go (is_accepted known counted e) = subst (λ (v : World). HasAll v.servers count) (sym e) h
 step_servers plan w count h (Some (Deliver k)) o (m, some, there, c) = go m.to c
   where
-    go : (to : Node) → IsReceived plan (comes w k) m.msg to o → HasAll o.world.servers count
+    go : (to : Node) → IsReceived plan (mark_delivered w k) m.msg to o → HasAll o.world.servers count
     go (Server shard) (s, r, at, step, e) = subst (λ (o : Outcome). HasAll o.world.servers count) (sym e) (all_set w.servers count shard.0 s r.state at h)
     go (Coord n) (s, at, e) = subst (λ (o : Outcome). HasAll o.world.servers count) (sym e) h
 step_servers plan w count h (Some (Tick (Server shard))) o (s, there, e) = subst (λ (o : Outcome). HasAll o.world.servers count) (sym e) (all_set w.servers count shard.0 s s there h)

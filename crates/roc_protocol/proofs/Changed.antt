@@ -13,21 +13,21 @@ use Rattle.roc_base.specs.declared.node.Node.TheVariants.{Server, Coord}
 use Rattle.roc_base.specs.TxnId.{is_txn}
 use Rattle.roc_rows.specs.Store.{Store}
 use Rattle.roc_depgraph.proofs.Listed.{listed_one, has_listed}
-use Rattle.roc_msg.specs.declared.msg.Sent.{Sent}
+use Rattle.roc_msg.specs.declared.msg.Envelope.{Envelope}
 use Rattle.roc_msg.specs.declared.outbox.Outgoing.{Outgoing}
 use Rattle.roc_plan.specs.Groups.{Plan}
 use Rattle.roc_whole.specs.Serial as whole
-use Rattle.roc_execution.specs.Scheme.{Scheme}
-use Rattle.roc_execution.specs.Log.{Log}
-use Rattle.roc_execution.specs.Steps.{IsReachedLog, new_in}
-use Rattle.roc_execution.specs.Invariants.{LogInvariants, LogGrows}
+use Rattle.roc_law_log.specs.Scheme.{Scheme}
+use Rattle.roc_law_log.specs.Log.{Log}
+use Rattle.roc_law_log.specs.Steps.{IsReachedLog, new_in}
+use Rattle.roc_law_log.specs.Invariants.{LogInvariants, LogGrows}
 use Rattle.roc_server.specs.State.{ServerState, ServerStep}
 use Rattle.roc_coord.specs.State.{CoordState}
 use Rattle.roc_audit.specs.declared.entry.Entry.{Entry}
 use Rattle.roc_audit.specs.declared.entry.Entry.TheVariants.{Answered}
 use Rattle.roc_audit.specs.Order.{noted}
-use Rattle.roc_protocol.specs.Asked.{IsSchemeOf}
-use Rattle.roc_protocol.specs.World.{World, sent_by, comes, at_server, at_coord}
+use Rattle.roc_protocol.specs.PlanAssumptions.{IsSchemeOf}
+use Rattle.roc_protocol.specs.World.{World, sent_by, mark_delivered, at_server, at_coord}
 use Rattle.roc_protocol.proofs.Means.{Means, ServerMeans, CoordMeans, AnswerMeans, WorldMeans}
 use Rattle.roc_protocol.proofs.Grows.{means_grow, coord_grows, answer_grows}
 
@@ -83,14 +83,14 @@ noted-new order (t ∷ ts) once = go (is_listed is_txn order t) refl (λ o. note
 
 module _ (plan : Plan) (asked : TxnId → whole.Call) (S : Scheme) (start : Store) (is : IsSchemeOf plan asked S) where
   -- a message comes
-  pub comes_means : (c : Log) (w : World) (k : ℕ) → WorldMeans plan asked S start c w → WorldMeans plan asked S start c (comes w k)
+  pub comes_means : (c : Log) (w : World) (k : ℕ) → WorldMeans plan asked S start c w → WorldMeans plan asked S start c (mark_delivered w k)
   comes_means c w k o = record { reached = o.reached; order = o.order; servers = o.servers; messages = o.messages; coords = o.coords; answered = o.answered; answers = o.answers }
 
-  messages_after : (c : Log) (sent : List Sent) (from : Node) (outs : List Outgoing) → ((m : Sent) → Has m sent → Means plan asked S start c m.msg m.to) → ((o : Outgoing) → Has o outs → Means plan asked S start c o.msg o.to)
-      → (m : Sent) → Has m (sent ++ map (sent_by from) outs) → Means plan asked S start c m.msg m.to
+  messages_after : (c : Log) (sent : List Envelope) (from : Node) (outs : List Outgoing) → ((m : Envelope) → Has m sent → Means plan asked S start c m.msg m.to) → ((o : Outgoing) → Has o outs → Means plan asked S start c o.msg o.to)
+      → (m : Envelope) → Has m (sent ++ map (sent_by from) outs) → Means plan asked S start c m.msg m.to
   messages_after c sent from outs f g m h = elim (has_append m sent (map (sent_by from) outs) h) [
     | inl k ↦ f m k
-    | inr k ↦ (let r = from_has_map (sent_by from) m outs k in subst (λ (m : Sent). Means plan asked S start c m.msg m.to) (sym r.2) (g r.0 r.1))
+    | inr k ↦ (let r = from_has_map (sent_by from) m outs k in subst (λ (m : Envelope). Means plan asked S start c m.msg m.to) (sym r.2) (g r.0 r.1))
   ]
 
   -- a server takes a step, and the log one that agrees with it

@@ -21,11 +21,11 @@ use Rattle.roc_msg.specs.declared.outbox.Outgoing.{Outgoing}
 use Rattle.roc_msg.specs.declared.reason.Reason.TheVariants.{Stale, Unfit}
 use Rattle.roc_plan.specs.Groups.{Plan}
 use Rattle.roc_whole.specs.Serial as whole
-use Rattle.roc_execution.specs.Scheme.{Scheme}
-use Rattle.roc_execution.specs.Log.{Log}
-use Rattle.roc_serial.specs.Behaviour.{TxnGroup}
-use Rattle.roc_execution.specs.Steps.{LogSteps, no_steps, one_step_more, is_answered, with_answer, IsReachedLog}
-use Rattle.roc_execution.specs.Invariants.{LogInvariants, LogGrows}
+use Rattle.roc_law_log.specs.Scheme.{Scheme}
+use Rattle.roc_law_log.specs.Log.{Log}
+use Rattle.roc_law_orders.specs.Behaviour.{TxnGroup}
+use Rattle.roc_law_log.specs.Steps.{LogSteps, no_steps, one_step_more, is_answered, with_answer, IsReachedLog}
+use Rattle.roc_law_log.specs.Invariants.{LogInvariants, LogGrows}
 use Rattle.roc_coord.specs.declared.transaction.Transaction.{Transaction}
 use Rattle.roc_coord.specs.declared.transaction.SentStart.{SentStart}
 use Rattle.roc_coord.specs.declared.transaction.TakenStart.{TakenStart}
@@ -38,7 +38,7 @@ use Rattle.roc_coord.specs.Submit.{next_id, new_transaction, accepted}
 use Rattle.roc_coord.specs.Tick.{awaits_startok, starts_again, commits_again, sent_again, tick_sends}
 use Rattle.roc_audit.specs.declared.entry.Entry.{Entry}
 use Rattle.roc_audit.specs.declared.entry.Entry.TheVariants as entry
-use Rattle.roc_protocol.specs.Asked.{IsSchemeOf}
+use Rattle.roc_protocol.specs.PlanAssumptions.{IsSchemeOf}
 use Rattle.roc_protocol.specs.World.{World, at_coord}
 use Rattle.roc_protocol.specs.Happens.{answer_entries}
 use Rattle.roc_protocol.specs.Inner.Given.{LogLaws}

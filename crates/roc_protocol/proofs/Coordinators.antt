@@ -23,17 +23,17 @@ use Rattle.roc_msg.specs.Facts.{is_fact_before}
 use Rattle.roc_plan.specs.declared.group.Input.{Input}
 use Rattle.roc_plan.specs.Groups.{Plan, groups_of, inputs_of, shard_of, group_place}
 use Rattle.roc_whole.specs.Serial as whole
-use Rattle.roc_serial.specs.Behaviour.{is_group_number}
-use Rattle.roc_serial.specs.Runs.{inputs_at}
-use Rattle.roc_execution.specs.Scheme.{Scheme}
-use Rattle.roc_execution.specs.Log.{Log}
-use Rattle.roc_execution.specs.Invariants.{LogInvariants}
+use Rattle.roc_law_orders.specs.Behaviour.{is_group_number}
+use Rattle.roc_law_orders.specs.Runs.{inputs_at}
+use Rattle.roc_law_log.specs.Scheme.{Scheme}
+use Rattle.roc_law_log.specs.Log.{Log}
+use Rattle.roc_law_log.specs.Invariants.{LogInvariants}
 use Rattle.roc_coord.specs.declared.transaction.Transaction.{Transaction}
 use Rattle.roc_coord.specs.declared.transaction.TakenStart.{TakenStart}
 use Rattle.roc_coord.specs.State.{find_startok}
 use Rattle.roc_coord.specs.Starts.{group_numbers, input_value, inputs_for, is_ready, shard_for, start_for, all_started, all_edges, shards_of, gathered, all_facts, commit_to, commits_of}
 use Rattle.roc_coord.specs.Step.{commits_for}
-use Rattle.roc_protocol.specs.Asked.{picked, IsSchemeOf}
+use Rattle.roc_protocol.specs.PlanAssumptions.{picked, IsSchemeOf}
 use Rattle.roc_protocol.proofs.Means.{HasBegun, run_of, Precedes, Ran, stage, values_for, IsSeen, ListMeans, AllMean, ToldMeans, StartMeans, StartIs, Means}
 use Rattle.roc_protocol.proofs.Facts.{has_fitting}
 

@@ -25,30 +25,30 @@ use Rattle.roc_depgraph.proofs.Laws.{KeepsLists, decided_stays, ancestor_decided
 use Rattle.roc_depgraph.proofs.Listed.{has_listed}
 use Rattle.roc_plan.specs.Groups.{Plan, is_immediate_of}
 use Rattle.roc_whole.specs.Serial as whole
-use Rattle.roc_serial.specs.Behaviour.{TxnGroup, is_txn_group}
-use Rattle.roc_serial.specs.Runs.{Stage, needs, after_group, after_groups}
-use Rattle.roc_serial.specs.Orders.{one_by_one}
-use Rattle.roc_serial.proofs.SameGroups.{same_group, is_group-same}
-use Rattle.roc_serial.proofs.OneByOne.{from_order}
-use Rattle.roc_serial.proofs.Stages.{after-yielded_other, same_inputs}
-use Rattle.roc_execution.specs.Scheme.{Scheme}
-use Rattle.roc_execution.specs.Log.{Log, PrecedesGroup, PrecedesTxn, PrecedesTxnNow, IsWhole}
-use Rattle.roc_execution.specs.Edges.{AreEdges}
-use Rattle.roc_execution.specs.Taking.{IsTakenOrder}
-use Rattle.roc_execution.specs.Steps.{MayDecide, IsWaived, waits_here, waiting_here, new_in, with_decision, IsReachedLog, LogStep, shard_decides, no_steps, one_step_more}
-use Rattle.roc_execution.specs.Invariants.{LogInvariants, LogGrows}
+use Rattle.roc_law_orders.specs.Behaviour.{TxnGroup, is_txn_group}
+use Rattle.roc_law_orders.specs.Runs.{Stage, needs, after_group, after_groups}
+use Rattle.roc_law_orders.specs.Orders.{one_by_one}
+use Rattle.roc_law_orders.proofs.SameGroups.{same_group, is_group-same}
+use Rattle.roc_law_orders.proofs.OneByOne.{from_order}
+use Rattle.roc_law_orders.proofs.Stages.{after-yielded_other, same_inputs}
+use Rattle.roc_law_log.specs.Scheme.{Scheme}
+use Rattle.roc_law_log.specs.Log.{Log, PrecedesGroup, PrecedesTxn, PrecedesTxnNow, IsWhole}
+use Rattle.roc_law_log.specs.Edges.{AreEdges}
+use Rattle.roc_law_log.specs.Taking.{RespectsPrecedence}
+use Rattle.roc_law_log.specs.Steps.{MayDecide, IsWaived, waits_here, waiting_here, new_in, with_decision, IsReachedLog, LogStep, shard_decides, no_steps, one_step_more}
+use Rattle.roc_law_log.specs.Invariants.{LogInvariants, LogGrows}
 use Rattle.roc_server.specs.declared.started.StartedGroup.{StartedGroup}
 use Rattle.roc_server.specs.State.{is_group, find_group, ServerState, Lists, unrun}
-use Rattle.roc_lists.specs.New.{AreNew}
+use Rattle.roc_server_lists.specs.New.{AreNew}
 use Rattle.roc_server.specs.Runs.{count_of_groups, groups_here, buffered_here, run_group, run_groups, take_all}
 use Rattle.roc_base.specs.Edges.{united}
 use Rattle.roc_base.specs.declared.node.Shard.{Shard}
 use Rattle.roc_base.proofs.Members.{IsAllOf-united}
-use Rattle.roc_await.specs.declared.waits.Asked.{Asked}
+use Rattle.roc_await.specs.declared.waits.OpenFetch.{OpenFetch}
 use Rattle.roc_await.specs.Waits.{is_asked_before, with_asked, with_all_asked}
-use Rattle.roc_lists.specs.Asking.{asked_of}
+use Rattle.roc_server_lists.specs.Asking.{asked_of}
 use Rattle.roc_server.specs.Lists.{is_missing, missing_from, lists_after}
-use Rattle.roc_protocol.specs.Asked.{IsSchemeOf}
+use Rattle.roc_protocol.specs.PlanAssumptions.{IsSchemeOf}
 use Rattle.roc_protocol.specs.Inner.Given.{LogLaws}
 use Rattle.roc_protocol.proofs.Means.{HasBegun, run_of, entry_run, place, Ran, Began, stage, AllMean, AreGroupsHere, ServerMeans}
 use Rattle.roc_protocol.proofs.Grows.{begun_grows, place_grows, entry_grows, all_grow}
@@ -197,7 +197,7 @@ module _ (plan : Plan) (asked : TxnId → whole.Call) (S : Scheme) (start : Stor
         new = are_new;
         whole = λ t h. (let k = known_has K t (new.members.only t h).0.own in subst (IsWhole S c.past.started) k.2 (known_mean k.0 k.1).is_whole);
         closed = closed;
-        ordered = subst (IsTakenOrder E (PrecedesTxnNow S start c.past) (IsWaived S start c)) same_new
+        ordered = subst (RespectsPrecedence E (PrecedesTxnNow S start c.past) (IsWaived S start c)) same_new
             (laws.taken c i n edge edge_now ts ts are_edges
             (subst (λ l. (u t : TxnId) → IsListed is_txn l t → E u t → IsListed is_txn (c.decided n) u ⊎ (IsListed is_txn l u ⊎ IsWaived S start c u)) (sym same_new) closed)
             new.ordered);
@@ -284,7 +284,7 @@ module _ (plan : Plan) (asked : TxnId → whole.Call) (S : Scheme) (start : Stor
   )
 
   -- what is missing began where it is asked for
-  pub missing_begun : (a : Asked) → Has a (missing_from s K) → HasBegun plan asked S start c a.id a.at.0
+  pub missing_begun : (a : OpenFetch) → Has a (missing_from s K) → HasBegun plan asked S start c a.id a.at.0
   missing_begun a h =
       let q = from_has_map asked_of a (filter (is_missing s K) (united (flat_map (λ (k : KnownList). k.edges) K))) h in
       let z = (from_has_filter (is_missing s K) q.0 (united (flat_map (λ (k : KnownList). k.edges) K)) q.1).0 in
@@ -295,12 +295,12 @@ module _ (plan : Plan) (asked : TxnId → whole.Call) (S : Scheme) (start : Stor
       let first : HasBegun plan asked S start c d.0.from d.0.at.0 =
       subst (λ t. HasBegun plan asked S start c t d.0.at.0) p.of_first
       (record { group = p.first.group; began = began_first m.0 p; on = laws.one_shard c i p.first m.0 p.conflict ∙ sym m.3 }) in
-      subst (λ (a : Asked). HasBegun plan asked S start c a.id a.at.0) (sym q.2) (subst (λ t. HasBegun plan asked S start c t q.0.at.0) d.2 (subst (λ (s : Shard). HasBegun plan asked S start c d.0.from s.0) d.3 first))
+      subst (λ (a : OpenFetch). HasBegun plan asked S start c a.id a.at.0) (sym q.2) (subst (λ t. HasBegun plan asked S start c t q.0.at.0) d.2 (subst (λ (s : Shard). HasBegun plan asked S start c d.0.from s.0) d.3 first))
     where
       began_first : (r : TxnGroup) {u : TxnId} → (p : PrecedesGroup S start c.past u r) → Began plan asked S start c (run_of p.first.txn p.first.group)
       began_first r p = listed_by_before is_txn_group c.past.started p.first r p.before
 
-  asked_cases : (a : Asked) (more old : List Asked) → Has a (with_all_asked more old) → Has a more ⊎ Has a old
+  asked_cases : (a : OpenFetch) (more old : List OpenFetch) → Has a (with_all_asked more old) → Has a more ⊎ Has a old
   asked_cases a [] old h = inr h
   asked_cases a (b ∷ more) old h = elim (asked_cases a more (with_asked b old) h) [
     | inl k ↦ inl (inr k)

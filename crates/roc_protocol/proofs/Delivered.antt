@@ -5,7 +5,7 @@ use Rattle.std.proofs.lemmas.Option.{slice_get_within}
 use Rattle.std.proofs.lemmas.List.{length-append}
 use Rattle.std.specs.Prelude.{slice_get, slice_set}
 use Rattle.std.specs.List.{range_with_len}
-use Rattle.roc_groups.proofs.Elements.{has_range}
+use Rattle.roc_merge_groups.proofs.Elements.{has_range}
 use Rattle.roc_sequence.specs.Lists.{Has}
 use Rattle.roc_sequence.proofs.Members.{has_left, has_right, has_map, same_there}
 use Rattle.roc_base.specs.declared.id.TxnId.{TxnId}
@@ -15,18 +15,18 @@ use Rattle.roc_base.specs.declared.node.Shard.{Shard}
 use Rattle.roc_base.specs.Edge.{Dependency}
 use Rattle.roc_depgraph.specs.declared.known.KnownList.{KnownList}
 use Rattle.roc_depgraph.specs.Deps.{IsKnown, IsDecided}
-use Rattle.roc_await.specs.declared.waits.Asked.{Asked}
+use Rattle.roc_await.specs.declared.waits.OpenFetch.{OpenFetch}
 use Rattle.roc_await.specs.declared.waits.Asker.{Asker}
 use Rattle.roc_msg.specs.declared.msg.Msg.{Msg}
 use Rattle.roc_msg.specs.declared.msg.Msg.TheVariants.{Start, StartOk, Commit, CommitOk, Fetch, Known, Stop}
-use Rattle.roc_msg.specs.declared.msg.Sent.{Sent}
+use Rattle.roc_msg.specs.declared.msg.Envelope.{Envelope}
 use Rattle.roc_msg.specs.declared.outbox.Outgoing.{Outgoing}
 use Rattle.roc_plan.specs.Groups.{Plan}
 use Rattle.roc_server.specs.State.{is_here, ServerState, ServerStep}
 use Rattle.roc_server.specs.Start.{startok_of}
 use Rattle.roc_server.specs.Runs.{commitok_of, outs_here}
-use Rattle.roc_lists.specs.Carried.{list_with}
-use Rattle.roc_lists.specs.Asking.{known_to, fetch_from}
+use Rattle.roc_server_lists.specs.Carried.{list_with}
+use Rattle.roc_server_lists.specs.Asking.{known_to, fetch_from}
 use Rattle.roc_protocol.specs.World.{sent_by}
 use Rattle.roc_protocol.specs.Quiet.{IsToldIn}
 use Rattle.roc_protocol.proofs.Changed.{get-set_here, get-set_other}
@@ -42,23 +42,23 @@ abbrev pub At : List ServerState → ℕ → (ServerState → Type 0) → Type 0
 At servers n P = (s : ServerState) × (slice_get servers n ≡ Some s) × P s
 
 -- a commitok of t from the shard is in the network
-abbrev pub IsDoneIn : List Sent → TxnId → Shard → Type 0
-IsDoneIn sent t shard = (outs : List ℤ) × (m : Sent) × Has m sent × (m.msg ≡ CommitOk t shard outs)
+abbrev pub IsDoneIn : List Envelope → TxnId → Shard → Type 0
+IsDoneIn sent t shard = (outs : List ℤ) × (m : Envelope) × Has m sent × (m.msg ≡ CommitOk t shard outs)
 
 -- a list of t to the shard is in the network
-abbrev pub IsAnsweredIn : List Sent → TxnId → Shard → Type 0
-IsAnsweredIn sent t shard = (edges : List Dependency) × (m : Sent) × Has m sent × (m.to ≡ Server shard) × (m.msg ≡ Known t edges)
+abbrev pub IsAnsweredIn : List Envelope → TxnId → Shard → Type 0
+IsAnsweredIn sent t shard = (edges : List Dependency) × (m : Envelope) × Has m sent × (m.to ≡ Server shard) × (m.msg ≡ Known t edges)
 
 -- a fetch by the shard is in the network
-abbrev pub IsFetchedIn : List Sent → ℕ → Asked → Type 0
-IsFetchedIn sent n a = (m : Sent) × Has m sent × (m.to ≡ Server a.at) × (m.msg ≡ Fetch a.id (record { 0 = n }))
+abbrev pub IsFetchedIn : List Envelope → ℕ → OpenFetch → Type 0
+IsFetchedIn sent n a = (m : Envelope) × Has m sent × (m.to ≡ Server a.at) × (m.msg ≡ Fetch a.id (record { 0 = n }))
 
 -- a start of the group to the shard is in the network
-abbrev pub IsStartedIn : List Sent → ℕ → TxnId → ℕ → Type 0
-IsStartedIn sent n t g = (proc : ℕ) × (args : List ℤ) × (inputs : List ℤ) × (m : Sent) × Has m sent × (m.to ≡ Server (record { 0 = n })) × (m.msg ≡ Start t proc g args inputs)
+abbrev pub IsStartedIn : List Envelope → ℕ → TxnId → ℕ → Type 0
+IsStartedIn sent n t g = (proc : ℕ) × (args : List ℤ) × (inputs : List ℤ) × (m : Envelope) × Has m sent × (m.to ≡ Server (record { 0 = n })) × (m.msg ≡ Start t proc g args inputs)
 
 -- a server that took a commit from the shard of this name
-abbrev pub HasCommit : List Sent → TxnId → Shard → ServerState → Type 0
+abbrev pub HasCommit : List Envelope → TxnId → Shard → ServerState → Type 0
 HasCommit sent t shard v = (is_here t v.started ≡ true) × IsKnown v.lists.known t × (IsDecided v.lists.known t → IsDoneIn sent t shard)
 
 -- the asker waits for a list that is unknown, of a transaction that has a group here
@@ -70,7 +70,7 @@ abbrev pub HasList : TxnId → ServerState → Type 0
 HasList t v = IsKnown v.lists.known t
 
 -- what a message that was delivered left
-abbrev pub IsTaken : List ServerState → List Sent → Msg → Node → Type 0
+abbrev pub IsTaken : List ServerState → List Envelope → Msg → Node → Type 0
 IsTaken servers sent (Start id proc group args inputs) (Server shard) = (edges : List Dependency) × (facts : List KnownList) × IsToldIn sent id group edges facts
 IsTaken servers sent (Start id proc group args inputs) (Coord number) = Unit {0}
 IsTaken servers sent (Commit id edges facts) (Server shard) = At servers shard.0 (HasCommit sent id shard)
@@ -84,14 +84,14 @@ IsTaken servers sent (CommitOk id shard outs) to = Unit {0}
 IsTaken servers sent Stop to = Unit {0}
 
 -- what a server started, it was asked to; what it asked for, it sent a fetch for, until the list is known; and it seeks what lists name
-pub record Awaits (sent : List Sent) (n : ℕ) (s : ServerState) : Type 0 where
+pub record Awaits (sent : List Envelope) (n : ℕ) (s : ServerState) : Type 0 where
   pub starts : HoldsGood (λ t es. Unit {0}) (IsStartedIn sent n) s
-  pub fetched : (a : Asked) → Has a s.lists.waiting.asked → ¬ IsKnown s.lists.known a.id → IsFetchedIn sent n a
+  pub fetched : (a : OpenFetch) → Has a s.lists.waiting.asked → ¬ IsKnown s.lists.known a.id → IsFetchedIn sent n a
   pub seeks : SeeksAll s
 
 -- ---- more is sent
 
-module _ (sent more : List Sent) where
+module _ (sent more : List Envelope) where
   started_more : (n : ℕ) (t : TxnId) (g : ℕ) → IsStartedIn sent n t g → IsStartedIn (sent ++ more) n t g
   started_more n t g k = (k.0, k.1, k.2, k.3, has_left k.3 sent more k.4, k.5, k.6)
 
@@ -101,7 +101,7 @@ module _ (sent more : List Sent) where
   answered_more : (t : TxnId) (shard : Shard) → IsAnsweredIn sent t shard → IsAnsweredIn (sent ++ more) t shard
   answered_more t shard k = (k.0, k.1, has_left k.1 sent more k.2, k.3, k.4)
 
-  fetched_more : (n : ℕ) (a : Asked) → IsFetchedIn sent n a → IsFetchedIn (sent ++ more) n a
+  fetched_more : (n : ℕ) (a : OpenFetch) → IsFetchedIn sent n a → IsFetchedIn (sent ++ more) n a
   fetched_more n a k = (k.0, has_left k.0 sent more k.1, k.2, k.3)
 
   holds_more : (n : ℕ) (s : ServerState) → HoldsGood (λ t es. Unit {0}) (IsStartedIn sent n) s → HoldsGood (λ t es. Unit {0}) (IsStartedIn (sent ++ more) n) s
@@ -129,13 +129,13 @@ module _ (sent more : List Sent) where
   taken_more servers (CommitOk id shard outs) to k = tt
   taken_more servers Stop to k = tt
 
-get-more : (sent more : List Sent) (k : ℕ) (m : Sent) → slice_get (sent ++ more) k ≡ Some m → (slice_get sent k ≡ Some m) ⊎ (length sent ≤ k)
+get-more : (sent more : List Envelope) (k : ℕ) (m : Envelope) → slice_get (sent ++ more) k ≡ Some m → (slice_get sent k ≡ Some m) ⊎ (length sent ≤ k)
 get-more [] more k m e = inr (omega arith)
 get-more (x ∷ sent) more zero m e = inl e
 get-more (x ∷ sent) more (suc k) m e = elim (get-more sent more k m e) [ inl h ↦ inl h | inr l ↦ inr (omega arith) ]
 
 -- what was delivered was sent before, since nothing that is sent now was
-pub delivered_before : (sent more : List Sent) (undelivered : List ℕ) (count : ℕ) → length more ≡ count → (k : ℕ) (m : Sent) → slice_get (sent ++ more) k ≡ Some m → ¬ Has (suc k) (undelivered ++ range_with_len (length sent + 1) count)
+pub delivered_before : (sent more : List Envelope) (undelivered : List ℕ) (count : ℕ) → length more ≡ count → (k : ℕ) (m : Envelope) → slice_get (sent ++ more) k ≡ Some m → ¬ Has (suc k) (undelivered ++ range_with_len (length sent + 1) count)
     → (slice_get sent k ≡ Some m) × (¬ Has (suc k) undelivered)
 delivered_before sent more undelivered count same k m e n = elim (get-more sent more k m e) [
   | inl h ↦ (h, λ j. n (has_left (suc k) undelivered (range_with_len (length sent + 1) count) j))
@@ -147,8 +147,8 @@ delivered_before sent more undelivered count same k m e n = elim (get-more sent 
 
 -- ---- a step of a server
 
-module _ (plan : Plan) (servers : List ServerState) (sent : List Sent) (n : ℕ) (s : ServerState) (there : slice_get servers n ≡ Some s) (number : s.shard.0 ≡ n) (r : ServerStep) (h : Hears plan s r) (g : KeepsGood plan (λ t es. Unit {0}) (IsStartedIn sent n) s r) where
-  abbrev more : List Sent
+module _ (plan : Plan) (servers : List ServerState) (sent : List Envelope) (n : ℕ) (s : ServerState) (there : slice_get servers n ≡ Some s) (number : s.shard.0 ≡ n) (r : ServerStep) (h : Hears plan s r) (g : KeepsGood plan (λ t es. Unit {0}) (IsStartedIn sent n) s r) where
+  abbrev more : List Envelope
   more = map (sent_by (Server (record { 0 = n }))) r.sends
 
   abbrev after : List ServerState

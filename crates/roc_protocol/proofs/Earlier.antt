@@ -11,19 +11,19 @@ use Rattle.roc_base.specs.TxnId.{is_txn}
 use Rattle.roc_depgraph.specs.declared.known.KnownList.{KnownList}
 use Rattle.roc_depgraph.specs.Deps.{IsDecided}
 use Rattle.roc_msg.specs.declared.msg.Msg.TheVariants.{Start}
-use Rattle.roc_msg.specs.declared.msg.Sent.{Sent}
+use Rattle.roc_msg.specs.declared.msg.Envelope.{Envelope}
 use Rattle.roc_plan.specs.Groups.{Plan}
 use Rattle.roc_whole.specs.Serial.{start_store}
-use Rattle.roc_execution.specs.Scheme.{Scheme, IsSoundScheme}
-use Rattle.roc_execution.specs.Invariants.{Continues}
+use Rattle.roc_law_log.specs.Scheme.{Scheme, IsSoundScheme}
+use Rattle.roc_law_log.specs.Invariants.{Continues}
 use Rattle.roc_server.specs.State.{find_group, ServerState}
 use Rattle.roc_audit.specs.Order.{noted}
 use Rattle.roc_protocol.specs.declared.event.Event.{Event}
 use Rattle.roc_protocol.specs.declared.event.Event.TheVariants.{Submit, Deliver, Tick}
-use Rattle.roc_protocol.specs.Asked.{HasSchemes}
-use Rattle.roc_protocol.specs.World.{World, comes}
+use Rattle.roc_protocol.specs.PlanAssumptions.{HasSchemes}
+use Rattle.roc_protocol.specs.World.{World, mark_delivered}
 use Rattle.roc_protocol.specs.Happens.{Outcome, IsReceived}
-use Rattle.roc_protocol.specs.Run.{Stepped, Comes, IsRun}
+use Rattle.roc_protocol.specs.Run.{Stepped, Transition, IsRun}
 use Rattle.roc_protocol.specs.Inner.Given.{LogLaws, StoreLaws}
 use Rattle.roc_protocol.proofs.Means.{run_of, Means}
 use Rattle.roc_protocol.proofs.Starting.{shard_number}
@@ -43,7 +43,7 @@ noted_goes_on order (t ∷ ts) = go (if is_listed is_txn order t then [] else t 
 same_order : (w : World) → Continues w.order w.order
 same_order w = ([], sym (append-nil w.order))
 
-pub order_goes_on : (plan : Plan) (w : World) (e : Option Event) (o : Outcome) → Comes plan w e o → Continues w.order o.world.order
+pub order_goes_on : (plan : Plan) (w : World) (e : Option Event) (o : Outcome) → Transition plan w e o → Continues w.order o.world.order
 order_goes_on plan w None o h = subst (λ (o : Outcome). Continues w.order o.world.order) (sym h) (same_order w)
 order_goes_on plan w (Some (Submit n proc args)) o (s, there, h) = go (submitting plan w n proc args s o h)
   where
@@ -52,7 +52,7 @@ order_goes_on plan w (Some (Submit n proc args)) o (s, there, h) = go (submittin
     go (is_accepted known counted e) = subst (λ (v : World). Continues w.order v.order) (sym e) (same_order w)
 order_goes_on plan w (Some (Deliver k)) o (m, some, there, h) = go m.to h
   where
-    go : (to : Node) → IsReceived plan (comes w k) m.msg to o → Continues w.order o.world.order
+    go : (to : Node) → IsReceived plan (mark_delivered w k) m.msg to o → Continues w.order o.world.order
     go (Server shard) (s, r, at, step, e) = subst (λ (o : Outcome). Continues w.order o.world.order) (sym e) (noted_goes_on w.order r.decided)
     go (Coord n) (s, at, e) = subst (λ (o : Outcome). Continues w.order o.world.order) (sym e) (same_order w)
 order_goes_on plan w (Some (Tick (Server shard))) o (s, there, e) = subst (λ (o : Outcome). Continues w.order o.world.order) (sym e) (same_order w)
@@ -73,7 +73,7 @@ module _ (plan : Plan) (schemes : HasSchemes plan) (laws : (S : Scheme) → IsSo
       nothing : (known : List KnownList) → known ≡ [] → IsDecided known t → ⊥
       nothing known e d = let d2 : IsDecided [] t = subst (λ k. IsDecided k t) e d in false≢true d2.own
 
-  pub starting_unordered : (n : ℕ) (s : ServerState) → slice_get w.servers n ≡ Some s → (m : Sent) → Has m w.sent → m.to ≡ Server (record { 0 = n }) → (id : TxnId) (proc group : ℕ) (args inputs : List ℤ) → m.msg ≡ Start id proc group args inputs
+  pub starting_unordered : (n : ℕ) (s : ServerState) → slice_get w.servers n ≡ Some s → (m : Envelope) → Has m w.sent → m.to ≡ Server (record { 0 = n }) → (id : TxnId) (proc group : ℕ) (args inputs : List ℤ) → m.msg ≡ Start id proc group args inputs
       → find_group id group s.started ≡ None → ¬ IsListed is_txn w.order id
   starting_unordered n s there m has to id proc group args inputs msg none h = elim (cases_lt 0 (length plan.program.procedures)) [
     | inl some ↦

@@ -8,13 +8,13 @@ use Rattle.roc_rows.specs.Store.{Store, read}
 use Rattle.roc_depgraph.specs.Deps.{IsDecided}
 use Rattle.roc_plan.specs.Groups.{Plan}
 use Rattle.roc_whole.specs.Serial as whole
-use Rattle.roc_serial.specs.Behaviour.{TxnGroup, Yield}
-use Rattle.roc_execution.specs.Scheme.{Scheme}
-use Rattle.roc_execution.specs.Log.{Log}
-use Rattle.roc_execution.specs.Invariants.{LogInvariants, LogGrows}
+use Rattle.roc_law_orders.specs.Behaviour.{TxnGroup, Yield}
+use Rattle.roc_law_log.specs.Scheme.{Scheme}
+use Rattle.roc_law_log.specs.Log.{Log}
+use Rattle.roc_law_log.specs.Invariants.{LogInvariants, LogGrows}
 use Rattle.roc_server.specs.State.{ServerState}
 use Rattle.roc_server.specs.State.{unrun}
-use Rattle.roc_protocol.specs.Asked.{IsSchemeOf}
+use Rattle.roc_protocol.specs.PlanAssumptions.{IsSchemeOf}
 use Rattle.roc_protocol.proofs.Means.{entry_run, place, Ran, Began, stage, ServerMeans}
 use Rattle.roc_protocol.proofs.Grows.{place_grows, entry_grows, all_grow, begun_grows}
 

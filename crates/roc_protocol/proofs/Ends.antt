@@ -8,17 +8,17 @@ use Rattle.roc_sequence.proofs.Members.{has_at}
 use Rattle.roc_base.specs.declared.node.Shard.{Shard}
 use Rattle.roc_base.specs.declared.node.Node.{Node}
 use Rattle.roc_base.specs.declared.node.Node.TheVariants.{Server, Coord}
-use Rattle.roc_msg.specs.declared.msg.Sent.{Sent}
+use Rattle.roc_msg.specs.declared.msg.Envelope.{Envelope}
 use Rattle.roc_plan.specs.Groups.{Plan, procedure_of}
 use Rattle.roc_whole.specs.Serial.{start_store}
-use Rattle.roc_execution.specs.Scheme.{Scheme, IsSoundScheme}
+use Rattle.roc_law_log.specs.Scheme.{Scheme, IsSoundScheme}
 use Rattle.roc_coord.specs.declared.handled.SubmitFault.TheVariants as fault
 use Rattle.roc_coord.specs.State.{CoordState}
 use Rattle.roc_coord.specs.Submit.{Submission, refused_or_accepted, after_submit, most_transactions, most_pending}
 use Rattle.roc_protocol.specs.declared.event.Event.TheVariants.{Deliver}
 use Rattle.roc_protocol.specs.declared.event.Seen.TheVariants as seen
-use Rattle.roc_protocol.specs.Asked.{HasSchemes}
-use Rattle.roc_protocol.specs.World.{World, comes}
+use Rattle.roc_protocol.specs.PlanAssumptions.{HasSchemes}
+use Rattle.roc_protocol.specs.World.{World, mark_delivered}
 use Rattle.roc_protocol.specs.Happens.{Outcome, IsSubmissionOf, IsReceived, Happens, server_seen, coord_seen}
 use Rattle.roc_protocol.specs.Run.{Stepped, IsRun}
 use Rattle.roc_protocol.specs.Inner.Given.{LogLaws, StoreLaws}
@@ -69,16 +69,16 @@ submission_ends plan w coord proc args d c o e f s = let same : d ≡ c = cc in 
 -- ---- a delivery
 
 module _ (plan : Plan) (schemes : HasSchemes plan) (laws : (S : Scheme) → IsSoundScheme S → LogLaws S (start_store plan.program)) (stores : StoreLaws) (coords : ℕ) (steps : List Stepped) (w : World) (run : IsRun plan coords steps w) where
-  pub server_takes : (k : ℕ) (m : Sent) (shard : Shard) (o : Outcome) → slice_get w.sent (k - 1) ≡ Some m → m.to ≡ Server shard → Happens plan w (Deliver k) o → o.seen ≡ seen.Done
+  pub server_takes : (k : ℕ) (m : Envelope) (shard : Shard) (o : Outcome) → slice_get w.sent (k - 1) ≡ Some m → m.to ≡ Server shard → Happens plan w (Deliver k) o → o.seen ≡ seen.Done
   server_takes k m shard o there to (b, first, at, h) = elim (cases_lt 0 (length plan.program.procedures)) [
-    | inl some ↦ taken_by some b at (let same : b ≡ m = cc in ap (λ (m : Sent). m.to) same ∙ to) h
+    | inl some ↦ taken_by some b at (let same : b ≡ m = cc in ap (λ (m : Envelope). m.to) same ∙ to) h
     | inr none ↦ absurd (subst (Has m) (run_idle plan none coords steps w run).sent (has_at w.sent (k - 1) m there))
   ]
     where
-      taken_by : 0 < length plan.program.procedures → (b : Sent) → slice_get w.sent (k - 1) ≡ Some b → b.to ≡ Server shard → IsReceived plan (comes w k) b.msg b.to o → o.seen ≡ seen.Done
+      taken_by : 0 < length plan.program.procedures → (b : Envelope) → slice_get w.sent (k - 1) ≡ Some b → b.to ≡ Server shard → IsReceived plan (mark_delivered w k) b.msg b.to o → o.seen ≡ seen.Done
       taken_by some b at to h = go b.to refl to h
         where
-          go : (t : Node) → b.to ≡ t → t ≡ Server shard → IsReceived plan (comes w k) b.msg t o → o.seen ≡ seen.Done
+          go : (t : Node) → b.to ≡ t → t ≡ Server shard → IsReceived plan (mark_delivered w k) b.msg t o → o.seen ≡ seen.Done
           go (Coord c) is e x = absurd (cc)
           go (Server s) is e (v, r, found, step, is_o) =
               let x = serial.logged plan schemes laws stores coords steps w run some in
@@ -102,8 +102,8 @@ module _ (plan : Plan) (schemes : HasSchemes plan) (laws : (S : Scheme) → IsSo
       was_ignored (coord_answer.Answered id reply) e = absurd (cc)
       was_ignored (coord_answer.Ignored reason) e = let same : reason ≡ why = cc in ap coord_answer.Ignored same
 
-      by_node : 0 < length plan.program.procedures → (t : Node) → b.to ≡ t → IsReceived plan (comes w k) b.msg t o → why ≡ Stale
-      by_node some (Server s) to x = absurd (let done = server_takes k b s o at to (b, first, at, subst (λ t. IsReceived plan (comes w k) b.msg t o) (sym to) x) in cc)
+      by_node : 0 < length plan.program.procedures → (t : Node) → b.to ≡ t → IsReceived plan (mark_delivered w k) b.msg t o → why ≡ Stale
+      by_node some (Server s) to x = absurd (let done = server_takes k b s o at to (b, first, at, subst (λ t. IsReceived plan (mark_delivered w k) b.msg t o) (sym to) x) in cc)
       by_node some (Coord n) to (s, found, e) =
           let x = serial.logged plan schemes laws stores coords steps w run some in
           let subs = serial.submissions plan schemes laws stores coords steps w run some in

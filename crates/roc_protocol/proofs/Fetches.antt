@@ -17,30 +17,30 @@ use Rattle.roc_base.proofs.Ids.{is_txn-eq, txn_cases}
 use Rattle.roc_base.specs.Edge.{Dependency}
 use Rattle.roc_depgraph.specs.declared.known.KnownList.{KnownList}
 use Rattle.roc_depgraph.specs.Deps.{list_of, is_known}
-use Rattle.roc_await.specs.declared.waits.Asked.{Asked}
+use Rattle.roc_await.specs.declared.waits.OpenFetch.{OpenFetch}
 use Rattle.roc_await.specs.declared.waits.Asker.{Asker}
 use Rattle.roc_await.specs.Waits.{is_asked_before, is_asker_before, was_asked_for, with_asked, with_all_asked, askers_of}
 use Rattle.roc_await.proofs.Asking.{asked_still, asked_all}
 use Rattle.roc_msg.specs.declared.msg.Msg.{Msg}
 use Rattle.roc_msg.specs.declared.msg.Msg.TheVariants.{Start, StartOk, Commit, CommitOk, Fetch, Known, Stop}
-use Rattle.roc_msg.specs.declared.msg.Sent.{Sent}
+use Rattle.roc_msg.specs.declared.msg.Envelope.{Envelope}
 use Rattle.roc_msg.specs.declared.outbox.Outgoing.{Outgoing}
 use Rattle.roc_msg.specs.declared.reason.Reason.{Reason}
 use Rattle.roc_msg.specs.declared.reason.Reason.TheVariants.{NotHere, Foreign}
 use Rattle.roc_plan.specs.Groups.{Plan}
-use Rattle.roc_group.specs.Group_run.{GroupCall, call}
+use Rattle.roc_group.specs.GroupRun.{GroupCall, call}
 use Rattle.roc_server.specs.declared.started.StartedGroup.{StartedGroup}
 use Rattle.roc_server.specs.State.{ignored, answered, is_here, find_group, Lists, ServerState, ServerStep}
 use Rattle.roc_server.specs.Start.{start_fault, start_taken, start_judged, startok_of, new_group}
 use Rattle.roc_server.specs.Runs.{commitok_of}
-use Rattle.roc_lists.specs.Carried.{list_with, carried, unknown_of}
-use Rattle.roc_lists.specs.Asking.{known_to, knowns_for, fetch_from}
+use Rattle.roc_server_lists.specs.Carried.{list_with, carried, unknown_of}
+use Rattle.roc_server_lists.specs.Asking.{known_to, knowns_for, fetch_from}
 use Rattle.roc_server.specs.Lists.{lists_after, missing_from, taught, commit_fault, after_commit, fetch_taken, after_fetch, known_fault, after_known}
 use Rattle.roc_server.specs.Step.{Findings, Handles, after_message, tick_sends}
 use Rattle.roc_protocol.proofs.Deciding.{take_keeps}
 use Rattle.roc_coord.specs.State.{CoordState}
 use Rattle.roc_audit.specs.declared.entry.Entry.{Entry}
-use Rattle.roc_protocol.specs.World.{World, sent_by, comes, at_server, at_coord}
+use Rattle.roc_protocol.specs.World.{World, sent_by, mark_delivered, at_server, at_coord}
 use Rattle.roc_protocol.proofs.Gathered.{IsRound}
 use Rattle.roc_protocol.proofs.Changed.{get-set_here, get-set_other, get-set_cases}
 
@@ -169,9 +169,9 @@ module _ (plan : Plan) (For : TxnId → ℕ → Type 0) (s : ServerState) (waits
         asked = λ id h. h;
         askers = waits;
         sends = λ out h.
-            (let q = from_has_map (fetch_from s.shard) out (filter (λ (a : Asked). not (is_known s.lists.known a.id)) s.lists.waiting.asked) h in
-            let a = (from_has_filter (λ (a : Asked). not (is_known s.lists.known a.id)) q.0 s.lists.waiting.asked q.1).0 in
-            subst (λ (out : Outgoing). FetchedFor (IsFor For s) out.msg out.to) (sym q.2) (inl (refl, has_any (λ (x : Asked). is_txn x.id q.0.id) s.lists.waiting.asked q.0 a (is_txn-eq q.0.id q.0.id refl))));
+            (let q = from_has_map (fetch_from s.shard) out (filter (λ (a : OpenFetch). not (is_known s.lists.known a.id)) s.lists.waiting.asked) h in
+            let a = (from_has_filter (λ (a : OpenFetch). not (is_known s.lists.known a.id)) q.0 s.lists.waiting.asked q.1).0 in
+            subst (λ (out : Outgoing). FetchedFor (IsFor For s) out.msg out.to) (sym q.2) (inl (refl, has_any (λ (x : OpenFetch). is_txn x.id q.0.id) s.lists.waiting.asked q.0 a (is_txn-eq q.0.id q.0.id refl))));
         shard = refl;
       }
 
@@ -185,7 +185,7 @@ pub record IsAskedFor (servers : List ServerState) (t : TxnId) (n : ℕ) : Type 
 
 pub record HasAsked (w : World) : Type 0 where
   pub numbers : (n : ℕ) (s : ServerState) → slice_get w.servers n ≡ Some s → s.shard.0 ≡ n
-  pub sent : (m : Sent) → Has m w.sent → FetchedFor (IsAskedFor w.servers) m.msg m.to
+  pub sent : (m : Envelope) → Has m w.sent → FetchedFor (IsAskedFor w.servers) m.msg m.to
   pub askers : (n : ℕ) (s : ServerState) → slice_get w.servers n ≡ Some s → (a : Asker) → Has a s.lists.waiting.askers → IsAskedFor w.servers a.id a.shard.0
 
 fetched_later : (P Q : TxnId → ℕ → Type 0) → ((t : TxnId) (n : ℕ) → P t n → Q t n) → (msg : Msg) (to : Node) → FetchedFor P msg to → FetchedFor Q msg to
@@ -207,7 +207,7 @@ module _ (plan : Plan) (w : World) (o : HasAsked w) where
           | inl j ↦ fetched_later (IsAskedFor w.servers) (IsAskedFor (slice_set w.servers n r.state)) later m.msg m.to (o.sent m j)
           | inr j ↦
               (let q = from_has_map (sent_by (Server (record { 0 = n }))) m r.sends j in
-              subst (λ (m : Sent). FetchedFor (IsAskedFor (slice_set w.servers n r.state)) m.msg m.to) (sym q.2) (fetched_later (IsFor (IsAskedFor w.servers) r.state) (IsAskedFor (slice_set w.servers n r.state)) new q.0.msg q.0.to (k.sends q.0 q.1)))
+              subst (λ (m : Envelope). FetchedFor (IsAskedFor (slice_set w.servers n r.state)) m.msg m.to) (sym q.2) (fetched_later (IsFor (IsAskedFor w.servers) r.state) (IsAskedFor (slice_set w.servers n r.state)) new q.0.msg q.0.to (k.sends q.0 q.1)))
         ];
         askers = λ m v h a j. later a.id a.shard.0 (elim (get-set_cases w.servers n m s r.state v there h) [ inl e ↦ k.askers a (subst (λ (v : ServerState). Has a v.lists.waiting.askers) e.1 j) | inr e ↦ o.askers m v e.1 a j ]);
       }
@@ -230,7 +230,7 @@ module _ (plan : Plan) (w : World) (o : HasAsked w) where
         numbers = o.numbers;
         sent = λ m h. elim (has_append m w.sent (map (sent_by (Coord n)) outs) h) [
           | inl j ↦ o.sent m j
-          | inr j ↦ (let q = from_has_map (sent_by (Coord n)) m outs j in subst (λ (m : Sent). FetchedFor (IsAskedFor w.servers) m.msg m.to) (sym q.2) (of_round q.0.msg q.0.to (none q.0 q.1)))
+          | inr j ↦ (let q = from_has_map (sent_by (Coord n)) m outs j in subst (λ (m : Envelope). FetchedFor (IsAskedFor w.servers) m.msg m.to) (sym q.2) (of_round q.0.msg q.0.to (none q.0 q.1)))
         ];
         askers = o.askers;
       }
@@ -245,5 +245,5 @@ module _ (plan : Plan) (w : World) (o : HasAsked w) where
       of_round (Known id edges) (Coord number) k = tt
       of_round Stop to k = tt
 
-  pub comes_asked : (k : ℕ) → HasAsked (comes w k)
+  pub comes_asked : (k : ℕ) → HasAsked (mark_delivered w k)
   comes_asked k = record { numbers = o.numbers; sent = o.sent; askers = o.askers }

@@ -12,13 +12,13 @@ use Rattle.roc_base.specs.Edge.{Dependency}
 use Rattle.roc_depgraph.specs.declared.known.KnownList.{KnownList}
 use Rattle.roc_msg.specs.declared.msg.Msg.{Msg}
 use Rattle.roc_msg.specs.declared.msg.Msg.TheVariants.{Start, StartOk, Commit, CommitOk, Fetch, Known, Stop}
-use Rattle.roc_msg.specs.declared.msg.Sent.{Sent}
+use Rattle.roc_msg.specs.declared.msg.Envelope.{Envelope}
 use Rattle.roc_msg.specs.declared.outbox.Outgoing.{Outgoing}
 use Rattle.roc_plan.specs.Groups.{Plan, groups_of}
 use Rattle.roc_whole.specs.Serial as whole
 use Rattle.roc_whole.specs.Serial.{start_store}
-use Rattle.roc_execution.specs.Scheme.{Scheme, IsSoundScheme}
-use Rattle.roc_execution.specs.Log.{Log}
+use Rattle.roc_law_log.specs.Scheme.{Scheme, IsSoundScheme}
+use Rattle.roc_law_log.specs.Log.{Log}
 use Rattle.roc_server.specs.State.{answered, ServerState}
 use Rattle.roc_server.specs.First.{first_server}
 use Rattle.roc_server.specs.Step as server
@@ -31,10 +31,10 @@ use Rattle.roc_audit.specs.declared.entry.Entry.TheVariants.{Submitted}
 use Rattle.roc_audit.specs.History.{WasSubmitted}
 use Rattle.roc_protocol.specs.declared.event.Event.{Event}
 use Rattle.roc_protocol.specs.declared.event.Event.TheVariants.{Submit, Deliver, Tick}
-use Rattle.roc_protocol.specs.Asked.{IsSchemeOf, HasSchemes}
-use Rattle.roc_protocol.specs.World.{World, sent_by, comes, at_coord}
+use Rattle.roc_protocol.specs.PlanAssumptions.{IsSchemeOf, HasSchemes}
+use Rattle.roc_protocol.specs.World.{World, sent_by, mark_delivered, at_coord}
 use Rattle.roc_protocol.specs.Happens.{Outcome, answer_entries, IsReceived, Ticks}
-use Rattle.roc_protocol.specs.Run.{Stepped, Comes, IsRun, begun, goes_on}
+use Rattle.roc_protocol.specs.Run.{Stepped, Transition, IsRun, begun, goes_on}
 use Rattle.roc_protocol.specs.Final.{lists_in, IsUnionIn, IsFinalIn}
 use Rattle.roc_protocol.specs.Inner.Given.{LogLaws, StoreLaws}
 use Rattle.roc_protocol.proofs.Means.{run_of, Means}
@@ -83,7 +83,7 @@ module _ (plan : Plan) (asked : TxnId → whole.Call) (S : Scheme) (is : IsSchem
         record {
           told = λ m h. elim (has_append m w.sent more h) [
             | inl j ↦ nw.told m j
-            | inr j ↦ (let q = from_has_map (sent_by (Coord n)) m outs j in subst (λ (m : Sent). IsToldHere w.servers m.msg) (sym q.2) (no_startok q.0.msg (k.sends q.0 q.1).1))
+            | inr j ↦ (let q = from_has_map (sent_by (Coord n)) m outs j in subst (λ (m : Envelope). IsToldHere w.servers m.msg) (sym q.2) (no_startok q.0.msg (k.sends q.0 q.1).1))
           ];
           lists = lists_after plan asked S is laws w log o nw (Coord n) outs (λ out h. (k.sends out h).0);
           servers = λ m v h. holds_later plan asked S is laws w log o nw more v (nw.servers m v h);
@@ -93,7 +93,7 @@ module _ (plan : Plan) (asked : TxnId → whole.Call) (S : Scheme) (is : IsSchem
           ]);
         }
 
-    pub comes_networked : (k : ℕ) → IsNetworked plan asked S is laws (comes w k)
+    pub comes_networked : (k : ℕ) → IsNetworked plan asked S is laws (mark_delivered w k)
     comes_networked k = record { told = nw.told; lists = nw.lists; servers = nw.servers; taken = nw.taken }
 
     tick_networked : (node : Node) (v : Outcome) → Ticks plan w node v → IsNetworked plan asked S is laws v.world
@@ -103,7 +103,7 @@ module _ (plan : Plan) (asked : TxnId → whole.Call) (S : Scheme) (is : IsSchem
         (coordinated_networked n s there s (coord.tick_sends plan s) [] (tick_gathered plan Goods (Told plan asked S is laws w.sent) (Calls plan asked S is laws) (told_facts plan asked S is laws w.sent) s (λ x h. nw.taken n s there x h) (gathered_good plan asked S is laws w log o nw)))
 
     -- a message in the network tells what it tells
-    tells : (m : Sent) → Has m w.sent → (msg : Msg) → m.msg ≡ msg → ((k : KnownList) → Has k (lists_in msg) → Good plan asked S is laws w.sent k.of k.edges) → (n : ℕ) (s : CoordState) (there : slice_get w.coords n ≡ Some s)
+    tells : (m : Envelope) → Has m w.sent → (msg : Msg) → m.msg ≡ msg → ((k : KnownList) → Has k (lists_in msg) → Good plan asked S is laws w.sent k.of k.edges) → (n : ℕ) (s : CoordState) (there : slice_get w.coords n ≡ Some s)
         → Tells plan Goods (Told plan asked S is laws w.sent) (Calls plan asked S is laws) (told_facts plan asked S is laws w.sent) s (λ x h. nw.taken n s there x h) (gathered_good plan asked S is laws w log o nw) msg
     tells m h (StartOk id group shard bound outs edges facts) e good n s there = (record { message = m; has = h; shard = shard; bound = bound; outs = outs; is = e }, good)
     tells m h (Start id proc group args inputs) e good n s there = tt
@@ -113,7 +113,7 @@ module _ (plan : Plan) (asked : TxnId → whole.Call) (S : Scheme) (is : IsSchem
     tells m h (Known id edges) e good n s there = tt
     tells m h Stop e good n s there = tt
 
-    receive_networked : (m : Sent) → Has m w.sent → (to : Node) (v : Outcome) → IsReceived plan w m.msg to v → IsNetworked plan asked S is laws v.world
+    receive_networked : (m : Envelope) → Has m w.sent → (to : Node) (v : Outcome) → IsReceived plan w m.msg to v → IsNetworked plan asked S is laws v.world
     receive_networked m h (Server shard) v (s, r, there, step, e) = subst (λ (v : Outcome). IsNetworked plan asked S is laws v.world) (sym e)
         (served_networked plan asked S is laws w log o nw shard.0 s there r (message_good plan Goods (Anywhere plan asked S is laws) s (nw.servers shard.0 s there) m.msg r step (nw.lists m h) (anywhere m.msg)))
     receive_networked m h (Coord n) v (s, there, e) = subst (λ (v : Outcome). IsNetworked plan asked S is laws v.world) (sym e)
@@ -130,11 +130,11 @@ module _ (plan : Plan) (asked : TxnId → whole.Call) (S : Scheme) (is : IsSchem
         (submission_gathered plan Goods (Told plan asked S is laws w.sent) (Calls plan asked S is laws) (told_facts plan asked S is laws w.sent) s (λ x h. nw.taken n s there x h) (gathered_good plan asked S is laws w log o nw) proc args
         (g.proc (next_id s) proc args (has_right (Submitted (next_id s) proc args) w.history more (inl refl)))))
 
-  step_networked : (w : World) (log : Log) → IsLogged plan asked S is laws w log → IsNetworked plan asked S is laws w → (e : Option Event) (v : Outcome) → Comes plan w e v → Agrees asked v.world.history → IsNetworked plan asked S is laws v.world
+  step_networked : (w : World) (log : Log) → IsLogged plan asked S is laws w log → IsNetworked plan asked S is laws w → (e : Option Event) (v : Outcome) → Transition plan w e v → Agrees asked v.world.history → IsNetworked plan asked S is laws v.world
   step_networked w log o nw None v h fits = subst (λ (v : Outcome). IsNetworked plan asked S is laws v.world) (sym h) nw
   step_networked w log o nw (Some (Submit n proc args)) v (s, there, h) fits = submit_networked w log o nw n proc args s there v (submitting plan w n proc args s v h) fits
   step_networked w log o nw (Some (Deliver k)) v (m, some, there, h) fits =
-      receive_networked (comes w k) log (comes_logged plan asked S is laws w log o k) (comes_networked w log o nw k) m (has_at w.sent (k - 1) m there) m.to v h
+      receive_networked (mark_delivered w k) log (comes_logged plan asked S is laws w log o k) (comes_networked w log o nw k) m (has_at w.sent (k - 1) m there) m.to v h
   step_networked w log o nw (Some (Tick node)) v h fits = tick_networked w log o nw node v h
 
   module _ (stores : StoreLaws) where
@@ -186,13 +186,13 @@ module _ (plan : Plan) (schemes : HasSchemes plan) (laws : (S : Scheme) → IsSo
     | inr none ↦ absurd (subst (Has k) ((run_idle plan none coords steps w run).known n s there) h)
   ]
 
-  pub sent_final : (m : Sent) → Has m w.sent → (k : KnownList) → Has k (lists_in m.msg) → IsFinalIn plan w k.of k.edges
+  pub sent_final : (m : Envelope) → Has m w.sent → (k : KnownList) → Has k (lists_in m.msg) → IsFinalIn plan w k.of k.edges
   sent_final m h k j = elim (cases_lt 0 (length plan.program.procedures)) [
     | inl some ↦ final_of some k.of k.edges ((networked some).lists m h k j)
     | inr none ↦ absurd (subst (Has m) (run_idle plan none coords steps w run).sent h)
   ]
 
-  pub startoks_one : (m other : Sent) → Has m w.sent → Has other w.sent → (t : TxnId) (g : ℕ) (shard at : Shard) (bound outs values gave : List ℤ) (es ds : List Dependency) (fs hs : List KnownList)
+  pub startoks_one : (m other : Envelope) → Has m w.sent → Has other w.sent → (t : TxnId) (g : ℕ) (shard at : Shard) (bound outs values gave : List ℤ) (es ds : List Dependency) (fs hs : List KnownList)
       → m.msg ≡ StartOk t g shard bound outs es fs → other.msg ≡ StartOk t g at values gave ds hs → m.msg ≡ other.msg
   startoks_one m other h k t g shard at bound outs values gave es ds fs hs e f = elim (cases_lt 0 (length plan.program.procedures)) [
     | inl some ↦

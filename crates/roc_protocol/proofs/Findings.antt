@@ -19,10 +19,10 @@ use Rattle.roc_depgraph.specs.Deps.{list_of, entries_of, is_known, IsKnown, Prec
 use Rattle.roc_depgraph.specs.Reach.{Reaches, direct, through, ReachesOrIs}
 use Rattle.roc_depgraph.proofs.Listed.{has_listed, listed_has, under_has}
 use Rattle.roc_depgraph.proofs.RisingIds.{ids, ids_complete, ids_rise}
-use Rattle.roc_ancestors.specs.Led.{IsKnownAndLedTo}
-use Rattle.roc_component.specs.Components.{HaveSameMembers, IsTakingOrder}
+use Rattle.roc_server_ancestors.specs.Led.{IsKnownAndLedTo}
+use Rattle.roc_component.specs.Components.{HaveSameMembers, IsComponentOrderOf}
 use Rattle.roc_component.proofs.Paths.{path, path_chain, chain_path}
-use Rattle.roc_lists.specs.New.{AreDecided, AreLedTo, IsNew, AreNew}
+use Rattle.roc_server_lists.specs.New.{AreDecided, AreLedTo, IsNew, AreNew}
 use Rattle.roc_msg.specs.declared.msg.Msg.{Msg}
 use Rattle.roc_plan.specs.Groups.{Plan}
 use Rattle.roc_server.specs.State.{ServerState, ServerStep}
@@ -157,8 +157,8 @@ module _ (known later : List KnownList) where
   fresh_to : (t : TxnId) → IsNew (IsDecided known) later t → fresh t ≡ true
   fresh_to t n = and_from (decides later t) (not (decides known t)) (decides_to later t n.0) (not_from_false (decides known t) (false_from_ne_true (decides known t) (λ e. n.1 (decides_from known t e))))
 
-module _ (exists : (known : List KnownList) (M : List TxnId) → (xs : List TxnId) × IsTakingOrder known M xs)
-    (one : (known : List KnownList) (M N xs ys : List TxnId) → HaveSameMembers M N → IsTakingOrder known M xs → IsTakingOrder known N ys → xs ≡ ys) where
+module _ (exists : (known : List KnownList) (M : List TxnId) → (xs : List TxnId) × IsComponentOrderOf known M xs)
+    (one : (known : List KnownList) (M N xs ys : List TxnId) → HaveSameMembers M N → IsComponentOrderOf known M xs → IsComponentOrderOf known N ys → xs ≡ ys) where
   pub new_there : (known later : List KnownList) → (ts : List TxnId) × AreNew (IsDecided known) later ts
   new_there known later =
       let all = rising_of (IsNew (IsDecided known) later) (told later) (fresh known later) (fresh_from known later) (fresh_to known later) (λ t n. known_told later t n.0.own) in
@@ -168,7 +168,7 @@ module _ (exists : (known : List KnownList) (M : List TxnId) → (xs : List TxnI
         xs.0,
         record {
           members = record { only = λ t l. all.1.sound t (xs.1.from t l); all = λ t n. xs.1.all t (all.1.complete t n) };
-          ordered = subst (λ zs. IsTakingOrder later xs.0 zs) (sym same) ys.1;
+          ordered = subst (λ zs. IsComponentOrderOf later xs.0 zs) (sym same) ys.1;
         },
       )
 

@@ -13,12 +13,12 @@ use Rattle.roc_program.specs.Program.{Init}
 use Rattle.roc_plan.specs.Groups.{Plan, shard_of}
 use Rattle.roc_whole.specs.Serial.{after_inits, init_cell, start_store}
 use Rattle.roc_whole.specs.Serial as whole
-use Rattle.roc_execution.specs.Scheme.{Scheme}
-use Rattle.roc_execution.specs.Log.{first_log}
-use Rattle.roc_execution.specs.Steps.{no_steps}
+use Rattle.roc_law_log.specs.Scheme.{Scheme}
+use Rattle.roc_law_log.specs.Log.{first_log}
+use Rattle.roc_law_log.specs.Steps.{no_steps}
 use Rattle.roc_server.specs.First.{first_server}
 use Rattle.roc_coord.specs.State.{first_coord, CoordState}
-use Rattle.roc_protocol.specs.Asked.{IsSchemeOf}
+use Rattle.roc_protocol.specs.PlanAssumptions.{IsSchemeOf}
 use Rattle.roc_protocol.specs.World.{first_world}
 use Rattle.roc_protocol.proofs.Means.{ServerMeans, WorldMeans}
 use Rattle.roc_protocol.specs.Inner.Given.{StoreLaws}

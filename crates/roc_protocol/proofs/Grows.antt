@@ -21,14 +21,14 @@ use Rattle.roc_msg.specs.declared.msg.Msg.{Msg}
 use Rattle.roc_msg.specs.declared.msg.Msg.TheVariants.{Start, StartOk, Commit, CommitOk, Fetch, Known, Stop}
 use Rattle.roc_plan.specs.Groups.{Plan, groups_of, inputs_of, outs_of}
 use Rattle.roc_whole.specs.Serial as whole
-use Rattle.roc_serial.specs.Behaviour.{TxnGroup, is_txn_group, is_group_number}
-use Rattle.roc_serial.specs.Runs.{needs}
-use Rattle.roc_execution.specs.Scheme.{Scheme}
-use Rattle.roc_execution.specs.Log.{Log, IsWhole, IsDecidedThroughout}
-use Rattle.roc_execution.specs.Invariants.{LogInvariants, LogGrows}
+use Rattle.roc_law_orders.specs.Behaviour.{TxnGroup, is_txn_group, is_group_number}
+use Rattle.roc_law_orders.specs.Runs.{needs}
+use Rattle.roc_law_log.specs.Scheme.{Scheme}
+use Rattle.roc_law_log.specs.Log.{Log, IsWhole, IsDecidedThroughout}
+use Rattle.roc_law_log.specs.Invariants.{LogInvariants, LogGrows}
 use Rattle.roc_server.specs.declared.started.StartedGroup.{StartedGroup}
 use Rattle.roc_coord.specs.declared.transaction.Transaction.{Transaction}
-use Rattle.roc_protocol.specs.Asked.{picked, IsSchemeOf}
+use Rattle.roc_protocol.specs.PlanAssumptions.{picked, IsSchemeOf}
 use Rattle.roc_protocol.proofs.Means.{run_of, entry_run, place, Ran, Began, stage, values_for, EdgesMean, IsSeen, ListMeans, AllMean, ToldMeans, StartMeans, HasBegun, IsBegunAt, waits_at, outs_at, DoneMeans, StartIs, Means, EntryMeans, TxnMeans, CoordMeans, IsGiven, AnswerMeans}
 
 pub flat_map_same : {A B : Type 0} (f g : A → List B) (xs : List A) → ((x : A) → Has x xs → f x ≡ g x) → flat_map f xs ≡ flat_map g xs

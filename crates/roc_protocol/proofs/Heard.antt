@@ -7,29 +7,29 @@ use Rattle.roc_base.specs.declared.node.Node.TheVariants.{Server}
 use Rattle.roc_base.specs.Edge.{Dependency}
 use Rattle.roc_depgraph.specs.declared.known.KnownList.{KnownList}
 use Rattle.roc_msg.specs.declared.msg.Msg.TheVariants.{Start, Commit, CommitOk}
-use Rattle.roc_msg.specs.declared.msg.Sent.{Sent}
+use Rattle.roc_msg.specs.declared.msg.Envelope.{Envelope}
 use Rattle.roc_msg.specs.Msg.{id_of}
 use Rattle.roc_protocol.specs.World.{World}
 use Rattle.roc_protocol.specs.Quiet.{IsToldIn, WasDelivered}
 
 -- every message of t was delivered
 pub record AreDelivered (w : World) (t : TxnId) : Type 0 where
-  pub each : (k : ℕ) (m : Sent) → slice_get w.sent k ≡ Some m → id_of m.msg ≡ Some t → WasDelivered w (suc k)
+  pub each : (k : ℕ) (m : Envelope) → slice_get w.sent k ≡ Some m → id_of m.msg ≡ Some t → WasDelivered w (suc k)
 
 -- each start of t that was delivered has a startok in the network
 pub record StartsHeard (w : World) (t : TxnId) : Type 0 where
   pub each :
-      (k : ℕ) (m : Sent) (proc group : ℕ) (args inputs : List ℤ) → slice_get w.sent k ≡ Some m → m.msg ≡ Start t proc group args inputs
+      (k : ℕ) (m : Envelope) (proc group : ℕ) (args inputs : List ℤ) → slice_get w.sent k ≡ Some m → m.msg ≡ Start t proc group args inputs
       → WasDelivered w (suc k) → (edges : List Dependency) × (facts : List KnownList) × IsToldIn w.sent t group edges facts
 
 -- where a group of t was asked to start, there is a commit of t in the network
 pub record CommitsAreOut (w : World) (t : TxnId) : Type 0 where
   pub each :
-      (m : Sent) (shard : Shard) (proc group : ℕ) (args inputs : List ℤ) → Has m w.sent → m.to ≡ Server shard → m.msg ≡ Start t proc group args inputs
-      → (edges : List Dependency) × (facts : List KnownList) × (n : Sent) × Has n w.sent × (n.to ≡ Server shard) × (n.msg ≡ Commit t edges facts)
+      (m : Envelope) (shard : Shard) (proc group : ℕ) (args inputs : List ℤ) → Has m w.sent → m.to ≡ Server shard → m.msg ≡ Start t proc group args inputs
+      → (edges : List Dependency) × (facts : List KnownList) × (n : Envelope) × Has n w.sent × (n.to ≡ Server shard) × (n.msg ≡ Commit t edges facts)
 
 -- each commit of t that was delivered to a server has a commitok from there in the network
 pub record CommitsHeard (w : World) (t : TxnId) : Type 0 where
   pub each :
-      (k : ℕ) (m : Sent) (shard : Shard) (edges : List Dependency) (facts : List KnownList) → slice_get w.sent k ≡ Some m → m.to ≡ Server shard
-      → m.msg ≡ Commit t edges facts → WasDelivered w (suc k) → (outs : List ℤ) × (n : Sent) × Has n w.sent × (n.msg ≡ CommitOk t shard outs)
+      (k : ℕ) (m : Envelope) (shard : Shard) (edges : List Dependency) (facts : List KnownList) → slice_get w.sent k ≡ Some m → m.to ≡ Server shard
+      → m.msg ≡ Commit t edges facts → WasDelivered w (suc k) → (outs : List ℤ) × (n : Envelope) × Has n w.sent × (n.msg ≡ CommitOk t shard outs)

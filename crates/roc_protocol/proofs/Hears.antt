@@ -18,17 +18,17 @@ use Rattle.roc_depgraph.specs.declared.known.KnownList.{KnownList}
 use Rattle.roc_depgraph.specs.Deps.{list_of, is_known, IsKnown, IsDecided}
 use Rattle.roc_depgraph.proofs.Laws.{known_stays}
 use Rattle.roc_depgraph.proofs.Listed.{listed_has}
-use Rattle.roc_await.specs.declared.waits.Asked.{Asked}
+use Rattle.roc_await.specs.declared.waits.OpenFetch.{OpenFetch}
 use Rattle.roc_await.specs.declared.waits.Asker.{Asker}
 use Rattle.roc_await.specs.Waits.{is_asked_before, was_asked_for, with_asked, with_all_asked, askers_of}
 use Rattle.roc_msg.specs.declared.outbox.Outgoing.{Outgoing}
 use Rattle.roc_msg.specs.InPlace.{in_place}
 use Rattle.roc_plan.specs.Groups.{Plan}
-use Rattle.roc_lists.specs.New.{AreNew, AreDecided}
+use Rattle.roc_server_lists.specs.New.{AreNew, AreDecided}
 use Rattle.roc_server.specs.State.{is_here, Lists, ServerState, ServerStep}
 use Rattle.roc_server.specs.Runs.{commitok_of}
-use Rattle.roc_lists.specs.Carried.{list_with}
-use Rattle.roc_lists.specs.Asking.{known_to, knowns_for, fetch_from, asked_of}
+use Rattle.roc_server_lists.specs.Carried.{list_with}
+use Rattle.roc_server_lists.specs.Asking.{known_to, knowns_for, fetch_from, asked_of}
 use Rattle.roc_server.specs.Lists.{lists_after, is_missing, missing_from, taught}
 use Rattle.roc_protocol.proofs.Facts.{known_has}
 use Rattle.roc_await.proofs.Asking.{asked_still, asked_all}
@@ -66,7 +66,7 @@ known_either known news t h =
     elim (has_append k.0 known news k.1) [ inl j ↦ inl (subst (IsKnown known) k.2 (has_known known k.0 j)) | inr j ↦ inr (k.0, j, k.2) ]
 
 -- what was asked for by now is of these, or was asked for
-asked_either : (a : Asked) (more old : List Asked) → Has a (with_all_asked more old) → Has a more ⊎ Has a old
+asked_either : (a : OpenFetch) (more old : List OpenFetch) → Has a (with_all_asked more old) → Has a more ⊎ Has a old
 asked_either a [] old h = inr h
 asked_either a (b ∷ more) old h = elim (asked_either a more (with_asked b old) h) [
   | inl k ↦ inl (inr k)
@@ -95,7 +95,7 @@ module _ (plan : Plan) (s : ServerState) where
     -- what is decided now and has a group here is told of, or was decided
     pub says : (t : TxnId) → is_here t s.started ≡ true → IsDecided r.state.lists.known t → IsDecided s.lists.known t ⊎ Has (commitok_of plan r.state t) r.sends
     pub askers : (a : Asker) → Has a s.lists.waiting.askers → ¬ IsKnown s.lists.known a.id → IsAnswered r.sends a ⊎ (Has a r.state.lists.waiting.askers × (¬ IsKnown r.state.lists.known a.id))
-    pub asked : (a : Asked) → Has a r.state.lists.waiting.asked → Has a s.lists.waiting.asked ⊎ Has (fetch_from s.shard a) r.sends
+    pub asked : (a : OpenFetch) → Has a r.state.lists.waiting.asked → Has a s.lists.waiting.asked ⊎ Has (fetch_from s.shard a) r.sends
     pub seeks : SeeksAll s → SeeksAll r.state
 
   module _ (before : List TxnId) (was : AreDecided s.lists.known before) (news : List KnownList) (ts : List TxnId) (new : AreNew (IsDecided s.lists.known) (s.lists.known ++ news) ts) where
@@ -163,7 +163,7 @@ module _ (plan : Plan) (s : ServerState) where
               ],
             )
 
-    taught_asked : (a : Asked) → Has a r.state.lists.waiting.asked → Has a s.lists.waiting.asked ⊎ Has (fetch_from s.shard a) r.sends
+    taught_asked : (a : OpenFetch) → Has a r.state.lists.waiting.asked → Has a s.lists.waiting.asked ⊎ Has (fetch_from s.shard a) r.sends
     taught_asked a h = elim (asked_either a (missing_from s K) s.lists.waiting.asked (subst (λ (l : Lists). Has a l.waiting.asked) lists_are h)) [
       | inl k ↦ inr (has_right (fetch_from s.shard a) knowns (commitoks ++ fetches) (has_right (fetch_from s.shard a) commitoks fetches (has_map (fetch_from s.shard) a (missing_from s K) k)))
       | inr k ↦ inl k

@@ -4,11 +4,11 @@ use Rattle.std.specs.Prelude.{slice_get, filter, flat_map, not}
 use Rattle.std.proofs.Common.{append-nil}
 use Rattle.roc_depgraph.specs.Deps.{is_known}
 use Rattle.roc_base.specs.declared.node.Node.TheVariants.{Server, Coord}
-use Rattle.roc_msg.specs.declared.msg.Sent.{Sent}
+use Rattle.roc_msg.specs.declared.msg.Envelope.{Envelope}
 use Rattle.roc_plan.specs.Groups.{Plan}
 use Rattle.roc_server.specs.First.{first_server}
 use Rattle.roc_server.specs.State.{answered, ServerState}
-use Rattle.roc_lists.specs.Asking.{fetch_from}
+use Rattle.roc_server_lists.specs.Asking.{fetch_from}
 use Rattle.roc_server.specs.Step as server
 use Rattle.roc_coord.specs.State.{first_coord, CoordState}
 use Rattle.roc_coord.specs.Tick as coord
@@ -16,7 +16,7 @@ use Rattle.roc_protocol.specs.declared.event.Event.{Event}
 use Rattle.roc_protocol.specs.declared.event.Event.TheVariants.{Submit, Deliver, Tick}
 use Rattle.roc_protocol.specs.World.{World, at_server, at_coord}
 use Rattle.roc_protocol.specs.Happens.{Outcome}
-use Rattle.roc_protocol.specs.Run.{Stepped, Comes, IsRun, begun, goes_on}
+use Rattle.roc_protocol.specs.Run.{Stepped, Transition, IsRun, begun, goes_on}
 use Rattle.roc_protocol.proofs.Changed.{get-set_cases}
 use Rattle.roc_protocol.proofs.Firsts.{found_at}
 use Rattle.roc_protocol.proofs.Worlds.{Submitting, is_refused, is_accepted, submitting}
@@ -32,7 +32,7 @@ pub record IsIdle (plan : Plan) (w : World) : Type 0 where
   pub nexts : (n : ℕ) (c : CoordState) → slice_get w.coords n ≡ Some c → c.next ≡ 0
 
 module _ (plan : Plan) (none : length plan.program.procedures ≤ 0) where
-  step_idle : (w : World) → IsIdle plan w → (e : Option Event) (o : Outcome) → Comes plan w e o → IsIdle plan o.world
+  step_idle : (w : World) → IsIdle plan w → (e : Option Event) (o : Outcome) → Transition plan w e o → IsIdle plan o.world
   step_idle w i None o h = subst (λ (o : Outcome). IsIdle plan o.world) (sym h) i
   step_idle w i (Some (Submit n proc args)) o (s, there, h) = go (submitting plan w n proc args s o h)
     where
@@ -41,7 +41,7 @@ module _ (plan : Plan) (none : length plan.program.procedures ≤ 0) where
       go (is_accepted known counted e) = absurd (omega arith)
   step_idle w i (Some (Deliver k)) o (m, some, there, h) = absurd (nothing (k - 1) m (subst (λ l. slice_get l (k - 1) ≡ Some m) i.sent there))
     where
-      nothing : (at : ℕ) (m : Sent) → slice_get [] at ≡ Some m → ⊥
+      nothing : (at : ℕ) (m : Envelope) → slice_get [] at ≡ Some m → ⊥
       nothing at m e = cc
   step_idle w i (Some (Tick (Server shard))) o (s, there, e) =
       let quiet : server.tick_sends s ≡ [] = ap (λ l. map (fetch_from s.shard) (filter (λ a. not (is_known s.lists.known a.id)) l)) (i.servers shard.0 s there) in

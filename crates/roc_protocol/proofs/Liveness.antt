@@ -2,7 +2,7 @@
 use Rattle.std.proofs.Common.{◌≡◌, ◌≢◌, ℕ, ℤ, zero, suc, ◌<◌, ◌==◌, true, List, [], ◌∷◌, Some, length, refl, sym, ap, subst, ◌∙◌, inl, inr, arith, is_some}
 use Rattle.std.proofs.lemmas.Bool.{false≢true, eqb-true, cases_lt}
 use Rattle.std.specs.Prelude.{slice_get}
-use Rattle.roc_groups.proofs.Elements.{has_range}
+use Rattle.roc_merge_groups.proofs.Elements.{has_range}
 use Rattle.roc_sequence.specs.Lists.{Has}
 use Rattle.roc_sequence.specs.Places.{place_of, IsListed, IsListedBefore}
 use Rattle.roc_sequence.proofs.Holds.{all_has, has_every}
@@ -11,16 +11,16 @@ use Rattle.roc_sequence.proofs.Members.{has_map}
 use Rattle.roc_sequence.proofs.Places.{listed_by_before}
 use Rattle.roc_base.specs.declared.id.TxnId.{TxnId}
 use Rattle.roc_base.specs.declared.node.Node.TheVariants.{Coord}
-use Rattle.roc_msg.specs.declared.msg.Sent.{Sent}
+use Rattle.roc_msg.specs.declared.msg.Envelope.{Envelope}
 use Rattle.roc_msg.specs.Msg.{id_of}
 use Rattle.roc_plan.specs.declared.group.Input.{Input}
 use Rattle.roc_plan.specs.Groups.{Plan, groups_of, inputs_of}
 use Rattle.roc_whole.specs.Serial as whole
 use Rattle.roc_whole.specs.Serial.{start_store}
-use Rattle.roc_serial.specs.Behaviour.{is_group_number}
-use Rattle.roc_execution.specs.Scheme.{Scheme, IsSoundScheme}
-use Rattle.roc_execution.specs.Log.{Log}
-use Rattle.roc_execution.specs.Invariants.{LogInvariants}
+use Rattle.roc_law_orders.specs.Behaviour.{is_group_number}
+use Rattle.roc_law_log.specs.Scheme.{Scheme, IsSoundScheme}
+use Rattle.roc_law_log.specs.Log.{Log}
+use Rattle.roc_law_log.specs.Invariants.{LogInvariants}
 use Rattle.roc_coord.specs.declared.transaction.Transaction.{Transaction}
 use Rattle.roc_coord.specs.declared.transaction.SentStart.{SentStart}
 use Rattle.roc_coord.specs.State.{find_start, find_startok, has_commitok, CoordState}
@@ -28,7 +28,7 @@ use Rattle.roc_coord.specs.Starts.{group_numbers, all_started}
 use Rattle.roc_coord.specs.Commits.{all_committed}
 use Rattle.roc_audit.specs.declared.entry.Entry.TheVariants.{Submitted, Answered}
 use Rattle.roc_audit.specs.History.{WasSubmitted}
-use Rattle.roc_protocol.specs.Asked.{IsSchemeOf, HasSchemes}
+use Rattle.roc_protocol.specs.PlanAssumptions.{IsSchemeOf, HasSchemes}
 use Rattle.roc_protocol.specs.World.{World}
 use Rattle.roc_protocol.specs.Run.{Stepped, IsRun}
 use Rattle.roc_protocol.specs.Inner.Given.{LogLaws, StoreLaws}
@@ -67,7 +67,7 @@ module _ (plan : Plan) (asked : TxnId → whole.Call) (S : Scheme) (is : IsSchem
     held = g.holds x.id.coord c at x has
 
     -- what is said to it in the network was taken
-    is_taken : (m : Sent) → Has m w.sent → id_of m.msg ≡ Some x.id → m.to ≡ Coord x.id.coord → IsTakenBy c.pending m.msg
+    is_taken : (m : Envelope) → Has m w.sent → id_of m.msg ≡ Some x.id → m.to ≡ Coord x.id.coord → IsTakenBy c.pending m.msg
     is_taken m h id to = let k = number_of w.sent m h in a.each k.0 x.id.coord m c k.1 (delivered.each k.0 m k.1 id) to at
 
     -- a group that was asked to start has its startok

@@ -5,12 +5,12 @@ use Rattle.roc_rows.specs.declared.cell.Cell.{Cell}
 use Rattle.roc_rows.specs.Store.{Store, read}
 use Rattle.roc_plan.specs.Groups.{Plan, inputs_of}
 use Rattle.roc_whole.specs.Serial as whole
-use Rattle.roc_group.specs.Group_run.{GroupCall, call, group_run, group_uses, bound_by_run}
-use Rattle.roc_serial.specs.Behaviour.{TxnGroup, Yield, DoesSame}
-use Rattle.roc_serial.specs.Runs.{Stage, inputs_at, uses_at, yield_at, after_group}
-use Rattle.roc_serial.proofs.Stages.{after-store, after-yielded_same}
-use Rattle.roc_execution.specs.Scheme.{Scheme}
-use Rattle.roc_protocol.specs.Asked.{picked, called, use_of, IsSchemeOf}
+use Rattle.roc_group.specs.GroupRun.{GroupCall, call, group_run, group_uses, bound_by_run}
+use Rattle.roc_law_orders.specs.Behaviour.{TxnGroup, Yield, DoesSame}
+use Rattle.roc_law_orders.specs.Runs.{Stage, inputs_at, uses_at, yield_at, after_group}
+use Rattle.roc_law_orders.proofs.Stages.{after-store, after-yielded_same}
+use Rattle.roc_law_log.specs.Scheme.{Scheme}
+use Rattle.roc_protocol.specs.PlanAssumptions.{picked, called, use_of, IsSchemeOf}
 use Rattle.roc_protocol.specs.Inner.Given.{LogLaws}
 use Rattle.roc_protocol.proofs.Means.{run_of}
 

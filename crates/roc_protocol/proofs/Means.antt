@@ -14,17 +14,17 @@ use Rattle.roc_rows.specs.declared.cell.Cell.{Cell}
 use Rattle.roc_rows.specs.Store.{Store, read}
 use Rattle.roc_depgraph.specs.declared.known.KnownList.{KnownList}
 use Rattle.roc_depgraph.specs.Deps.{IsDecided}
-use Rattle.roc_await.specs.declared.waits.Asked.{Asked}
+use Rattle.roc_await.specs.declared.waits.OpenFetch.{OpenFetch}
 use Rattle.roc_msg.specs.declared.msg.Msg.{Msg}
 use Rattle.roc_msg.specs.declared.msg.Msg.TheVariants.{Start, StartOk, Commit, CommitOk, Fetch, Known, Stop}
-use Rattle.roc_msg.specs.declared.msg.Sent.{Sent}
+use Rattle.roc_msg.specs.declared.msg.Envelope.{Envelope}
 use Rattle.roc_plan.specs.Groups.{Plan, groups_of, inputs_of, outs_of}
 use Rattle.roc_whole.specs.Serial as whole
-use Rattle.roc_serial.specs.Behaviour.{TxnGroup, is_txn_group, is_group_number}
-use Rattle.roc_serial.specs.Runs.{Stage, needs, inputs_at, stage_behind, uses_in}
-use Rattle.roc_execution.specs.Scheme.{Scheme}
-use Rattle.roc_execution.specs.Log.{Log, PrecedesGroup, shard_at, IsWhole, IsDecidedThroughout}
-use Rattle.roc_execution.specs.Steps.{IsReachedLog}
+use Rattle.roc_law_orders.specs.Behaviour.{TxnGroup, is_txn_group, is_group_number}
+use Rattle.roc_law_orders.specs.Runs.{Stage, needs, inputs_at, stage_behind, uses_in}
+use Rattle.roc_law_log.specs.Scheme.{Scheme}
+use Rattle.roc_law_log.specs.Log.{Log, PrecedesGroup, shard_at, IsWhole, IsDecidedThroughout}
+use Rattle.roc_law_log.specs.Steps.{IsReachedLog}
 use Rattle.roc_server.specs.declared.started.StartedGroup.{StartedGroup}
 use Rattle.roc_server.specs.State.{find_group, ServerState}
 use Rattle.roc_server.specs.State.{unrun}
@@ -33,7 +33,7 @@ use Rattle.roc_coord.specs.declared.transaction.TakenStart.{TakenStart}
 use Rattle.roc_coord.specs.State.{was_asked, CoordState}
 use Rattle.roc_coord.specs.Starts.{is_ready, all_started, shards_of}
 use Rattle.roc_audit.specs.declared.entry.Entry.TheVariants.{Answered}
-use Rattle.roc_protocol.specs.Asked.{picked, use_of}
+use Rattle.roc_protocol.specs.PlanAssumptions.{picked, use_of}
 use Rattle.roc_protocol.specs.World.{World}
 
 abbrev pub run_of : TxnId → ℕ → TxnGroup
@@ -174,7 +174,7 @@ module _ (plan : Plan) (asked : TxnId → whole.Call) (S : Scheme) (start : Stor
     pub part : IsPart shard stage Ran s.store s.started
     pub known : AllMean s.lists.known
     pub decided : (t : TxnId) → IsListed is_txn (log.decided shard) t ↔ IsDecided s.lists.known t
-    pub fetched : (a : Asked) → Has a s.lists.waiting.asked → HasBegun a.id a.at.0
+    pub fetched : (a : OpenFetch) → Has a s.lists.waiting.asked → HasBegun a.id a.at.0
 
   -- ---- coordinators
 
@@ -219,7 +219,7 @@ module _ (plan : Plan) (asked : TxnId → whole.Call) (S : Scheme) (start : Stor
     pub reached : IsReachedLog S start log
     pub order : w.order ≡ log.order
     pub servers : (n : ℕ) (s : ServerState) → slice_get w.servers n ≡ Some s → ServerMeans n s
-    pub messages : (m : Sent) → Has m w.sent → Means m.msg m.to
+    pub messages : (m : Envelope) → Has m w.sent → Means m.msg m.to
     pub coords : (n : ℕ) (c : CoordState) → slice_get w.coords n ≡ Some c → CoordMeans c
     pub answered : (t : TxnId) (reply : List ℤ) → Has (Answered t reply) w.history → AnswerMeans t reply
     -- who is answered in the log is who was answered

@@ -9,8 +9,8 @@ use Rattle.roc_rows.specs.Cells.{is_cell}
 use Rattle.roc_rows.proofs.CellLaws.{is_cell-same, is_cell-true}
 use Rattle.roc_group.specs.declared.access.Access.{Access}
 use Rattle.roc_group.specs.Accesses.{meets, do_conflict}
-use Rattle.roc_serial.specs.Behaviour.{Use, is_used, is_written, Meet}
-use Rattle.roc_protocol.specs.Asked.{use_of}
+use Rattle.roc_law_orders.specs.Behaviour.{Use, is_used, is_written, Meet}
+use Rattle.roc_protocol.specs.PlanAssumptions.{use_of}
 
 -- a use of a cell, among those of a list
 used_by : (x : Cell) (uses : List Access) (a : Access) → Has a uses → a.cell ≡ x → is_used x (map use_of uses) ≡ true

@@ -3,7 +3,7 @@ use Rattle.std.proofs.Common.{◌≡◌, ℕ, ℤ, ◌<◌, ◌==◌, true, List
 use Rattle.std.proofs.lemmas.Bool.{false≢true, eqb-true, eq-eqb, cases_eq}
 use Rattle.std.specs.Prelude.{slice_get, slice_set, flat_map}
 use Rattle.std.specs.List.{range_with_len}
-use Rattle.roc_groups.proofs.Elements.{has_range}
+use Rattle.roc_merge_groups.proofs.Elements.{has_range}
 use Rattle.roc_sequence.specs.Lists.{Has}
 use Rattle.roc_sequence.proofs.Holds.{every_has, all_has}
 use Rattle.roc_sequence.proofs.Ranges.{range_below}
@@ -19,21 +19,21 @@ use Rattle.roc_depgraph.specs.declared.known.KnownList.{KnownList}
 use Rattle.roc_rows.specs.Store.{Store}
 use Rattle.roc_msg.specs.declared.msg.Msg.{Msg}
 use Rattle.roc_msg.specs.declared.msg.Msg.TheVariants.{Start, StartOk, Commit, CommitOk, Fetch, Known, Stop}
-use Rattle.roc_msg.specs.declared.msg.Sent.{Sent}
+use Rattle.roc_msg.specs.declared.msg.Envelope.{Envelope}
 use Rattle.roc_msg.specs.declared.outbox.Outgoing.{Outgoing}
 use Rattle.roc_plan.specs.Groups.{Plan, groups_of}
 use Rattle.roc_whole.specs.Serial as whole
 use Rattle.roc_whole.specs.Serial.{start_store}
-use Rattle.roc_execution.specs.Scheme.{Scheme}
-use Rattle.roc_execution.specs.Log.{Log}
-use Rattle.roc_execution.specs.Invariants.{LogInvariants}
+use Rattle.roc_law_log.specs.Scheme.{Scheme}
+use Rattle.roc_law_log.specs.Log.{Log}
+use Rattle.roc_law_log.specs.Invariants.{LogInvariants}
 use Rattle.roc_server.specs.declared.started.StartedGroup.{StartedGroup}
 use Rattle.roc_server.specs.State.{is_here, find_group, ServerState, ServerStep}
 use Rattle.roc_coord.specs.declared.transaction.Transaction.{Transaction}
 use Rattle.roc_coord.specs.declared.transaction.TakenStart.{TakenStart}
 use Rattle.roc_coord.specs.State.{find_startok, CoordState}
 use Rattle.roc_coord.specs.Starts.{group_numbers, all_started, all_edges}
-use Rattle.roc_protocol.specs.Asked.{IsSchemeOf}
+use Rattle.roc_protocol.specs.PlanAssumptions.{IsSchemeOf}
 use Rattle.roc_protocol.specs.World.{World, sent_by, at_server}
 use Rattle.roc_protocol.specs.Quiet.{IsToldIn}
 use Rattle.roc_protocol.specs.Final.{lists_in, IsUnionIn}
@@ -43,14 +43,14 @@ use Rattle.roc_protocol.proofs.Changed.{get-set_here, get-set_other, get-set_cas
 use Rattle.roc_protocol.proofs.Carried.{IsToldBy, HoldsGood, KeepsGood}
 use Rattle.roc_protocol.proofs.Gathered.{IsGathered}
 use Rattle.roc_protocol.proofs.Coordinators.{there}
-use Rattle.roc_lists.proofs.Unions.{same_members}
+use Rattle.roc_server_lists.proofs.Unions.{same_members}
 use Rattle.roc_protocol.proofs.Worlds.{IsLogged}
 
 -- what is in the network stays there
-pub told_more : (sent more : List Sent) (t : TxnId) (g : ℕ) (es : List Dependency) (fs : List KnownList) → IsToldIn sent t g es fs → IsToldIn (sent ++ more) t g es fs
+pub told_more : (sent more : List Envelope) (t : TxnId) (g : ℕ) (es : List Dependency) (fs : List KnownList) → IsToldIn sent t g es fs → IsToldIn (sent ++ more) t g es fs
 told_more sent more t g es fs k = record { message = k.message; has = has_left k.message sent more k.has; shard = k.shard; bound = k.bound; outs = k.outs; is = k.is }
 
-pub union_more : (sent more : List Sent) (n : ℕ) (t : TxnId) (es : List Dependency) → IsUnionIn sent n t es → IsUnionIn (sent ++ more) n t es
+pub union_more : (sent more : List Envelope) (n : ℕ) (t : TxnId) (es : List Dependency) → IsUnionIn sent n t es → IsUnionIn (sent ++ more) n t es
 union_more sent more n t es u = record { told = u.told; in_network = λ g l. (let k = u.in_network g l in (k.0, told_more sent more t g (u.told g) k.0 k.1)); is_union = u.is_union }
 
 -- the server of a shard keeps what a startok told
@@ -70,10 +70,10 @@ module _ (plan : Plan) (asked : TxnId → whole.Call) (S : Scheme) (is : IsSchem
   abbrev pub count : TxnId → ℕ
   count t = length (groups_of plan (asked t).procedure)
 
-  abbrev pub Good : List Sent → TxnId → List Dependency → Type 0
+  abbrev pub Good : List Envelope → TxnId → List Dependency → Type 0
   Good sent t es = IsUnionIn sent (count t) t es
 
-  abbrev pub Told : List Sent → TxnId → TakenStart → Type 0
+  abbrev pub Told : List Envelope → TxnId → TakenStart → Type 0
   Told sent t ok = IsToldIn sent t ok.group ok.edges ok.facts × ((k : KnownList) → Has k ok.facts → Good sent k.of k.edges)
 
   -- nothing is asked of where groups are
@@ -83,15 +83,15 @@ module _ (plan : Plan) (asked : TxnId → whole.Call) (S : Scheme) (is : IsSchem
   abbrev pub Calls : TxnId → ℕ → Type 0
   Calls t proc = proc ≡ (asked t).procedure
 
-  pub told_facts : (sent : List Sent) (t : TxnId) (ok : TakenStart) → Told sent t ok → (k : KnownList) → Has k ok.facts → Good sent k.of k.edges
+  pub told_facts : (sent : List Envelope) (t : TxnId) (ok : TakenStart) → Told sent t ok → (k : KnownList) → Has k ok.facts → Good sent k.of k.edges
   told_facts sent t ok k = k.1
 
-  abbrev pub IsTold : List Sent → Transaction → Type 0
+  abbrev pub IsTold : List Envelope → Transaction → Type 0
   IsTold sent x = IsGathered plan (Good sent) (Told sent) Calls (told_facts sent) x
 
   pub record IsNetworked (w : World) : Type 0 where
-    pub told : (m : Sent) → Has m w.sent → IsToldHere w.servers m.msg
-    pub lists : (m : Sent) → Has m w.sent → (k : KnownList) → Has k (lists_in m.msg) → Good w.sent k.of k.edges
+    pub told : (m : Envelope) → Has m w.sent → IsToldHere w.servers m.msg
+    pub lists : (m : Envelope) → Has m w.sent → (k : KnownList) → Has k (lists_in m.msg) → Good w.sent k.of k.edges
     pub servers : (n : ℕ) (s : ServerState) → slice_get w.servers n ≡ Some s → HoldsGood (Good w.sent) Anywhere s
     pub taken : (n : ℕ) (c : CoordState) → slice_get w.coords n ≡ Some c → (x : Transaction) → Has x c.pending → IsTold w.sent x
 
@@ -102,11 +102,11 @@ module _ (plan : Plan) (asked : TxnId → whole.Call) (S : Scheme) (is : IsSchem
     -- ---- one startok of each group
 
     -- it comes from the shard of its group
-    from_place : (m : Sent) → Has m w.sent → (t : TxnId) (g : ℕ) (shard : Shard) (bound outs : List ℤ) (es : List Dependency) (fs : List KnownList) → m.msg ≡ StartOk t g shard bound outs es fs
+    from_place : (m : Envelope) → Has m w.sent → (t : TxnId) (g : ℕ) (shard : Shard) (bound outs : List ℤ) (es : List Dependency) (fs : List KnownList) → m.msg ≡ StartOk t g shard bound outs es fs
         → ToldMeans plan asked S start log (run_of t g) bound outs es fs × (shard.0 ≡ place plan asked S start log (run_of t g))
     from_place m h t g shard bound outs es fs e = let k = subst (λ msg. Means plan asked S start log msg m.to) e (o.means.messages m h) in (k.0, k.1)
 
-    pub one_startok : (m k : Sent) → Has m w.sent → Has k w.sent → (t : TxnId) (g : ℕ) (shard other : Shard) (bound outs values gave : List ℤ) (es ds : List Dependency) (fs hs : List KnownList)
+    pub one_startok : (m k : Envelope) → Has m w.sent → Has k w.sent → (t : TxnId) (g : ℕ) (shard other : Shard) (bound outs values gave : List ℤ) (es ds : List Dependency) (fs hs : List KnownList)
         → m.msg ≡ StartOk t g shard bound outs es fs → k.msg ≡ StartOk t g other values gave ds hs → m.msg ≡ k.msg
     one_startok m k h l t g shard other bound outs values gave es ds fs hs e f =
         let p = (from_place m h t g shard bound outs es fs e).1 in
@@ -201,23 +201,23 @@ module _ (plan : Plan) (asked : TxnId → whole.Call) (S : Scheme) (is : IsSchem
 
     -- ---- events
 
-    pub lists_after : (from : Node) (outs : List Outgoing) → ((out : Outgoing) → Has out outs → (k : KnownList) → Has k (lists_in out.msg) → Good w.sent k.of k.edges) → (m : Sent) → Has m (w.sent ++ map (sent_by from) outs) → (k : KnownList) → Has k (lists_in m.msg) → Good (w.sent ++ map (sent_by from) outs) k.of k.edges
+    pub lists_after : (from : Node) (outs : List Outgoing) → ((out : Outgoing) → Has out outs → (k : KnownList) → Has k (lists_in out.msg) → Good w.sent k.of k.edges) → (m : Envelope) → Has m (w.sent ++ map (sent_by from) outs) → (k : KnownList) → Has k (lists_in m.msg) → Good (w.sent ++ map (sent_by from) outs) k.of k.edges
     lists_after from outs f m h k j = union_more w.sent (map (sent_by from) outs) (count k.of) k.of k.edges (elim (has_append m w.sent (map (sent_by from) outs) h) [
       | inl l ↦ nw.lists m l k j
-      | inr l ↦ (let q = from_has_map (sent_by from) m outs l in f q.0 q.1 k (subst (λ (m : Sent). Has k (lists_in m.msg)) q.2 j))
+      | inr l ↦ (let q = from_has_map (sent_by from) m outs l in f q.0 q.1 k (subst (λ (m : Envelope). Has k (lists_in m.msg)) q.2 j))
     ])
 
-    pub told_later : (more : List Sent) (x : Transaction) → IsTold w.sent x → IsTold (w.sent ++ more) x
+    pub told_later : (more : List Envelope) (x : Transaction) → IsTold w.sent x → IsTold (w.sent ++ more) x
     told_later more x g = record { calls = g.calls; startoks = λ ok h. (let t = g.startoks ok h in (told_more w.sent more x.id ok.group ok.edges ok.facts t.0, λ k j. union_more w.sent more (count k.of) k.of k.edges (t.1 k j))) }
 
-    pub holds_later : (more : List Sent) (s : ServerState) → HoldsGood (Good w.sent) Anywhere s → HoldsGood (Good (w.sent ++ more)) Anywhere s
+    pub holds_later : (more : List Envelope) (s : ServerState) → HoldsGood (Good w.sent) Anywhere s → HoldsGood (Good (w.sent ++ more)) Anywhere s
     holds_later more s g = record { groups = g.groups; known = λ k h. union_more w.sent more (count k.of) k.of k.edges (g.known k h); facts = λ e h k j. union_more w.sent more (count k.of) k.of k.edges (g.facts e h k j) }
 
     pub served_networked : (n : ℕ) (s : ServerState) (there : slice_get w.servers n ≡ Some s) (r : ServerStep) → KeepsGood plan (Good w.sent) Anywhere s r → IsNetworked (at_server w n r)
     served_networked n s there r g =
         let more = map (sent_by (Server (record { 0 = n }))) r.sends in
         record {
-          told = λ m h. elim (has_append m w.sent more h) [ inl k ↦ still m.msg (nw.told m k) | inr k ↦ (let q = from_has_map (sent_by (Server (record { 0 = n }))) m r.sends k in subst (λ (m : Sent). IsToldHere (slice_set w.servers n r.state) m.msg) (sym q.2) (new q.0.msg (g.told q.0 q.1))) ];
+          told = λ m h. elim (has_append m w.sent more h) [ inl k ↦ still m.msg (nw.told m k) | inr k ↦ (let q = from_has_map (sent_by (Server (record { 0 = n }))) m r.sends k in subst (λ (m : Envelope). IsToldHere (slice_set w.servers n r.state) m.msg) (sym q.2) (new q.0.msg (g.told q.0 q.1))) ];
           lists = lists_after (Server (record { 0 = n })) r.sends g.sends;
           servers = λ m v h. holds_later more v (elim (get-set_cases w.servers n m s r.state v there h) [ inl k ↦ subst (HoldsGood (Good w.sent) Anywhere) (sym k.1) g.state | inr k ↦ nw.servers m v k.1 ]);
           taken = λ m c e x h. told_later more x (nw.taken m c e x h);

@@ -10,7 +10,7 @@ use Rattle.roc_base.specs.TxnId.{is_txn}
 use Rattle.roc_base.specs.Edge.{Dependency}
 use Rattle.roc_depgraph.specs.declared.known.KnownList.{KnownList}
 use Rattle.roc_depgraph.specs.Deps.{list_of, is_known}
-use Rattle.roc_await.specs.declared.waits.Asked.{Asked}
+use Rattle.roc_await.specs.declared.waits.OpenFetch.{OpenFetch}
 use Rattle.roc_await.specs.Waits.{askers_of}
 use Rattle.roc_msg.specs.declared.msg.Msg.{Msg}
 use Rattle.roc_msg.specs.declared.msg.Msg.TheVariants.{Start, StartOk, Commit, CommitOk, Fetch, Known, Stop}
@@ -18,13 +18,13 @@ use Rattle.roc_msg.specs.declared.outbox.Outgoing.{Outgoing}
 use Rattle.roc_msg.specs.declared.reason.Reason.{Reason}
 use Rattle.roc_msg.specs.declared.reason.Reason.TheVariants.{NotHere}
 use Rattle.roc_plan.specs.Groups.{Plan}
-use Rattle.roc_group.specs.Group_run.{GroupCall, call}
+use Rattle.roc_group.specs.GroupRun.{GroupCall, call}
 use Rattle.roc_server.specs.declared.started.StartedGroup.{StartedGroup}
 use Rattle.roc_server.specs.State.{ignored, answered, is_here, find_group, ServerState, ServerStep}
 use Rattle.roc_server.specs.Start.{start_fault, start_taken, start_judged, startok_of, new_group}
 use Rattle.roc_server.specs.Runs.{commitok_of}
-use Rattle.roc_lists.specs.Carried.{list_with, carried, unknown_of}
-use Rattle.roc_lists.specs.Asking.{known_to, knowns_for, fetch_from}
+use Rattle.roc_server_lists.specs.Carried.{list_with, carried, unknown_of}
+use Rattle.roc_server_lists.specs.Asking.{known_to, knowns_for, fetch_from}
 use Rattle.roc_server.specs.Lists.{missing_from, taught, commit_fault, after_commit, fetch_taken, after_fetch, known_fault, after_known}
 use Rattle.roc_server.specs.Step.{Findings, after_message, tick_sends}
 use Rattle.roc_protocol.proofs.Served.{StartsAre}
@@ -93,4 +93,4 @@ module _ (plan : Plan) (s : ServerState) (Of : TxnId → Type 0) where
   no_starts f Stop out h = absurd h
 
   pub no_starts_at_tick : SendsNone (answered s (tick_sends s))
-  no_starts_at_tick out h = let q = from_has_map (fetch_from s.shard) out (filter (λ (a : Asked). not (is_known s.lists.known a.id)) s.lists.waiting.asked) h in subst (λ (out : Outgoing). StartsAre Of out.msg) (sym q.2) tt
+  no_starts_at_tick out h = let q = from_has_map (fetch_from s.shard) out (filter (λ (a : OpenFetch). not (is_known s.lists.known a.id)) s.lists.waiting.asked) h in subst (λ (out : Outgoing). StartsAre Of out.msg) (sym q.2) tt

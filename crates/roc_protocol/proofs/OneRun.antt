@@ -7,7 +7,7 @@ use Rattle.roc_base.specs.declared.id.TxnId.{TxnId}
 use Rattle.roc_base.specs.declared.node.Node.{Node}
 use Rattle.roc_base.specs.declared.node.Node.TheVariants.{Server, Coord}
 use Rattle.roc_msg.specs.declared.msg.Msg.{Msg}
-use Rattle.roc_msg.specs.declared.msg.Sent.{Sent}
+use Rattle.roc_msg.specs.declared.msg.Envelope.{Envelope}
 use Rattle.roc_msg.specs.declared.outbox.Outgoing.{Outgoing}
 use Rattle.roc_plan.specs.Groups.{Plan}
 use Rattle.roc_server.specs.State.{answered, ServerState, ServerStep}
@@ -22,9 +22,9 @@ use Rattle.roc_coord.specs.Tick as coord
 use Rattle.roc_protocol.specs.declared.event.Event.{Event}
 use Rattle.roc_protocol.specs.declared.event.Event.TheVariants.{Submit, Deliver, Tick}
 use Rattle.roc_protocol.specs.declared.event.Seen.TheVariants as seen
-use Rattle.roc_protocol.specs.World.{World, comes, at_coord}
+use Rattle.roc_protocol.specs.World.{World, mark_delivered, at_coord}
 use Rattle.roc_protocol.specs.Happens.{Outcome, undecided, Submits, IsSubmissionOf, served, coordinated, IsReceived, Ticks, Happens}
-use Rattle.roc_protocol.specs.Run.{Stepped, Comes, IsRun, begun, goes_on}
+use Rattle.roc_protocol.specs.Run.{Stepped, Transition, IsRun, begun, goes_on}
 
 module _ (plan : Plan) (one : (s : ServerState) (msg : Msg) (r other : ServerStep) → Handles plan s msg r → Handles plan s msg other → r ≡ other) where
   module _ (w : World) where
@@ -60,10 +60,10 @@ module _ (plan : Plan) (one : (s : ServerState) (msg : Msg) (r other : ServerSte
       one_submission w n proc args (after_submit plan t proc args).state (after_submit plan t proc args).sends (after_submit plan t proc args).answer o other (subst (λ (u : CoordState). IsSubmissionOf w n proc args (after_submit plan u proc args) o) same h) k
   one_event w (Deliver k) o other (m, some, there, c) (n, some2, there2, d) =
       let same : m ≡ n = same_there w.sent (k - 1) m n there there2 in
-      one_delivery (comes w k) n.msg n.to o other (subst (λ (x : Sent). IsReceived plan (comes w k) x.msg x.to o) same c) d
+      one_delivery (mark_delivered w k) n.msg n.to o other (subst (λ (x : Envelope). IsReceived plan (mark_delivered w k) x.msg x.to o) same c) d
   one_event w (Tick node) o other h k = one_tick w node o other h k
 
-  pub one_step : (w : World) (e : Option Event) (o other : Outcome) → Comes plan w e o → Comes plan w e other → o ≡ other
+  pub one_step : (w : World) (e : Option Event) (o other : Outcome) → Transition plan w e o → Transition plan w e other → o ≡ other
   one_step w None o other h k = h ∙ sym k
   one_step w (Some e) o other h k = one_event w e o other h k
 
@@ -81,8 +81,8 @@ module _ (plan : Plan) (one : (s : ServerState) (msg : Msg) (r other : ServerSte
     where
       go : (xs ≡ ys) × (w ≡ v) → d ≡ f → (xs ++ (record { event = d; outcome = o }) ∷ [] ≡ ys ++ (record { event = f; outcome = p }) ∷ []) × (o.world ≡ p.world)
       go front same =
-          let P : World → Option Event → Type 0 = λ u x. Comes plan u x o in
-          let moved : Comes plan v f o = subst (P v) same (subst (λ (u : World). P u d) front.1 h) in
+          let P : World → Option Event → Type 0 = λ u x. Transition plan u x o in
+          let moved : Transition plan v f o = subst (P v) same (subst (λ (u : World). P u d) front.1 h) in
           let out : o ≡ p = one_step plan one v f o p moved k in
           let more : List Stepped → Option Event → Outcome → List Stepped = λ zs x y. zs ++ (record { event = x; outcome = y }) ∷ [] in
           ((λ i. more (front.0 i) (same i) (out i)), ap (λ (y : Outcome). y.world) out)

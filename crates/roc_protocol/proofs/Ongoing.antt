@@ -12,14 +12,14 @@ use Rattle.roc_base.specs.declared.node.Node.TheVariants.{Server, Coord}
 use Rattle.roc_base.specs.TxnId.{is_txn}
 use Rattle.roc_msg.specs.declared.msg.Msg.{Msg}
 use Rattle.roc_msg.specs.declared.msg.Msg.TheVariants.{Start, StartOk, Commit, CommitOk, Fetch, Known, Stop}
-use Rattle.roc_msg.specs.declared.msg.Sent.{Sent}
+use Rattle.roc_msg.specs.declared.msg.Envelope.{Envelope}
 use Rattle.roc_msg.specs.declared.outbox.Outgoing.{Outgoing}
 use Rattle.roc_plan.specs.Groups.{Plan}
 use Rattle.roc_whole.specs.Serial as whole
 use Rattle.roc_whole.specs.Serial.{start_store}
-use Rattle.roc_execution.specs.Scheme.{Scheme}
-use Rattle.roc_execution.specs.Log.{Log}
-use Rattle.roc_execution.specs.Invariants.{LogInvariants}
+use Rattle.roc_law_log.specs.Scheme.{Scheme}
+use Rattle.roc_law_log.specs.Log.{Log}
+use Rattle.roc_law_log.specs.Invariants.{LogInvariants}
 use Rattle.roc_server.specs.State.{ServerStep}
 use Rattle.roc_coord.specs.declared.transaction.Transaction.{Transaction}
 use Rattle.roc_coord.specs.declared.transaction.SentStart.{SentStart}
@@ -29,7 +29,7 @@ use Rattle.roc_coord.specs.Submit.{next_id}
 use Rattle.roc_audit.specs.declared.entry.Entry.{Entry}
 use Rattle.roc_audit.specs.declared.entry.Entry.TheVariants.{Submitted, Answered}
 use Rattle.roc_audit.specs.History.{WasSubmitted}
-use Rattle.roc_protocol.specs.Asked.{IsSchemeOf}
+use Rattle.roc_protocol.specs.PlanAssumptions.{IsSchemeOf}
 use Rattle.roc_protocol.specs.World.{World, sent_by, at_server, at_coord}
 use Rattle.roc_protocol.specs.Inner.Given.{LogLaws}
 use Rattle.roc_protocol.proofs.Heard.{CommitsAreOut}
@@ -69,7 +69,7 @@ commits_stay w v from outs e t none k =
             | inl j ↦ j
             | inr j ↦
                 (let q = from_has_map (sent_by from) m outs j in
-                let start : q.0.msg ≡ Start t proc group args inputs = ap (λ (m : Sent). m.msg) (sym q.2) ∙ is in
+                let start : q.0.msg ≡ Start t proc group args inputs = ap (λ (m : Envelope). m.msg) (sym q.2) ∙ is in
                 absurd (subst (StartsAre (λ u. u ≢ t)) start (none q.0 q.1) refl))
           ] in
           let a = k.each m shard proc group args inputs old to is in
@@ -149,7 +149,7 @@ module _ (plan : Plan) (asked : TxnId → whole.Call) (S : Scheme) (is : IsSchem
     taken_later Stop was k = tt
 
     -- a message that was taken stays taken
-    pub still_taken : (m : Sent) → Has m w.sent → (number : ℕ) (c : CoordState) → ((d : CoordState) → slice_get w.coords number ≡ Some d → IsTakenBy d.pending m.msg) → slice_get coords number ≡ Some c → IsTakenBy c.pending m.msg
+    pub still_taken : (m : Envelope) → Has m w.sent → (number : ℕ) (c : CoordState) → ((d : CoordState) → slice_get w.coords number ≡ Some d → IsTakenBy d.pending m.msg) → slice_get coords number ≡ Some c → IsTakenBy c.pending m.msg
     still_taken m h number c old e = elim (get-set_cases w.coords n number s after c there e) [
       | inl k ↦ subst (λ (c : CoordState). IsTakenBy c.pending m.msg) (sym k.1)
           (taken_later m.msg (taken_submitted m.msg m.to (l.means.messages m h)) (old s (subst (λ m. slice_get w.coords m ≡ Some s) k.0 there)))

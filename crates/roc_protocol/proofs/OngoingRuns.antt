@@ -1,7 +1,7 @@
 -- In every world each submitted transaction is answered or goes on, and what was delivered to a coordinator was taken
 use Rattle.std.proofs.Common.{◌≡◌, ◌≢◌, ℕ, ℤ, suc, ◌-◌, ◌<◌, true, List, [], ◌∷◌, ◌++◌, Option, Some, None, length, refl, sym, ap, subst, ◌∙◌, inl, inr, arith}
 use Rattle.std.specs.Prelude.{slice_get, slice_set}
-use Rattle.roc_groups.proofs.Elements.{has_range}
+use Rattle.roc_merge_groups.proofs.Elements.{has_range}
 use Rattle.roc_sequence.specs.Lists.{Has}
 use Rattle.roc_sequence.proofs.Members.{has_one, has_right, has_at}
 use Rattle.roc_base.specs.declared.id.TxnId.{TxnId}
@@ -10,14 +10,14 @@ use Rattle.roc_base.specs.declared.node.Node.TheVariants.{Server, Coord}
 use Rattle.roc_base.specs.declared.node.Shard.{Shard}
 use Rattle.roc_msg.specs.declared.msg.Msg.{Msg}
 use Rattle.roc_msg.specs.declared.msg.Msg.TheVariants.{Start, StartOk, Commit, CommitOk, Fetch, Known, Stop}
-use Rattle.roc_msg.specs.declared.msg.Sent.{Sent}
+use Rattle.roc_msg.specs.declared.msg.Envelope.{Envelope}
 use Rattle.roc_msg.specs.declared.outbox.Outgoing.{Outgoing}
 use Rattle.roc_plan.specs.Groups.{Plan, groups_of}
 use Rattle.roc_whole.specs.Serial as whole
 use Rattle.roc_whole.specs.Serial.{start_store}
-use Rattle.roc_execution.specs.Scheme.{Scheme}
-use Rattle.roc_execution.specs.Log.{Log}
-use Rattle.roc_execution.specs.Invariants.{LogInvariants}
+use Rattle.roc_law_log.specs.Scheme.{Scheme}
+use Rattle.roc_law_log.specs.Log.{Log}
+use Rattle.roc_law_log.specs.Invariants.{LogInvariants}
 use Rattle.roc_server.specs.State.{answered, ServerStep}
 use Rattle.roc_server.specs.Step as server
 use Rattle.roc_coord.specs.declared.transaction.Transaction.{Transaction}
@@ -30,10 +30,10 @@ use Rattle.roc_audit.specs.declared.entry.Entry.{Entry}
 use Rattle.roc_audit.specs.declared.entry.Entry.TheVariants.{Submitted, Answered}
 use Rattle.roc_protocol.specs.declared.event.Event.{Event}
 use Rattle.roc_protocol.specs.declared.event.Event.TheVariants.{Submit, Deliver, Tick}
-use Rattle.roc_protocol.specs.Asked.{IsSchemeOf}
-use Rattle.roc_protocol.specs.World.{World, comes, at_server, at_coord}
+use Rattle.roc_protocol.specs.PlanAssumptions.{IsSchemeOf}
+use Rattle.roc_protocol.specs.World.{World, mark_delivered, at_server, at_coord}
 use Rattle.roc_protocol.specs.Happens.{Outcome, answer_entries, IsReceived}
-use Rattle.roc_protocol.specs.Run.{Stepped, Comes, IsRun, begun, goes_on}
+use Rattle.roc_protocol.specs.Run.{Stepped, Transition, IsRun, begun, goes_on}
 use Rattle.roc_protocol.specs.Quiet.{WasDelivered}
 use Rattle.roc_protocol.specs.Inner.Given.{LogLaws, StoreLaws}
 use Rattle.roc_protocol.proofs.Means.{run_of, Means}
@@ -61,24 +61,24 @@ use Rattle.roc_protocol.proofs.Ongoing.{IsOngoing, served_ongoing, answered_subm
 -- what was delivered to a coordinator was taken
 pub record AreTaken (w : World) : Type 0 where
   pub each :
-      (k number : ℕ) (m : Sent) (c : CoordState) → slice_get w.sent k ≡ Some m → WasDelivered w (suc k) → m.to ≡ Coord number
+      (k number : ℕ) (m : Envelope) (c : CoordState) → slice_get w.sent k ≡ Some m → WasDelivered w (suc k) → m.to ≡ Coord number
       → slice_get w.coords number ≡ Some c → IsTakenBy c.pending m.msg
 
 -- a coordinator's step, where what was delivered is taken then
 coordinated_taken : (w : World) (n : ℕ) (after : CoordState) (outs : List Outgoing) (tells : List Entry)
-    → ((k number : ℕ) (m : Sent) (c : CoordState) → slice_get w.sent k ≡ Some m → WasDelivered w (suc k) → m.to ≡ Coord number → slice_get (slice_set w.coords n after) number ≡ Some c → IsTakenBy c.pending m.msg)
+    → ((k number : ℕ) (m : Envelope) (c : CoordState) → slice_get w.sent k ≡ Some m → WasDelivered w (suc k) → m.to ≡ Coord number → slice_get (slice_set w.coords n after) number ≡ Some c → IsTakenBy c.pending m.msg)
     → AreTaken (at_coord w n after outs tells)
 coordinated_taken w n after outs tells old = record { each = λ k number m c e d to f. (let q = delivered_before w (Coord n) outs k m e d in old k number m c q.0 q.1 to f) }
 
 -- a server's step, where what was delivered to coordinators was taken
 served_taken : (w : World) (n : ℕ) (r : ServerStep)
-    → ((k number : ℕ) (m : Sent) (c : CoordState) → slice_get w.sent k ≡ Some m → WasDelivered w (suc k) → m.to ≡ Coord number → slice_get w.coords number ≡ Some c → IsTakenBy c.pending m.msg)
+    → ((k number : ℕ) (m : Envelope) (c : CoordState) → slice_get w.sent k ≡ Some m → WasDelivered w (suc k) → m.to ≡ Coord number → slice_get w.coords number ≡ Some c → IsTakenBy c.pending m.msg)
     → AreTaken (at_server w n r)
 served_taken w n r old = record { each = λ k number m c e d to f. (let q = delivered_before w (Server (record { 0 = n })) r.sends k m e d in old k number m c q.0 q.1 to f) }
 
 -- message k came: what was delivered is it, or was delivered before
-came : (w : World) (k : ℕ) (m : Sent) → 0 < k → slice_get w.sent (k - 1) ≡ Some m → (place : ℕ) (b : Sent) → slice_get w.sent place ≡ Some b → WasDelivered (comes w k) (suc place)
-    → (P : Sent → Type 0) → P m → (WasDelivered w (suc place) → P b) → P b
+came : (w : World) (k : ℕ) (m : Envelope) → 0 < k → slice_get w.sent (k - 1) ≡ Some m → (place : ℕ) (b : Envelope) → slice_get w.sent place ≡ Some b → WasDelivered (mark_delivered w k) (suc place)
+    → (P : Envelope → Type 0) → P m → (WasDelivered w (suc place) → P b) → P b
 came w k m some there place b e d P now before = elim (delivered_or_comes w k (suc place) d) [
   | inl f ↦
       (let at : k - 1 ≡ place = omega arith in
@@ -197,7 +197,7 @@ module _ (plan : Plan) (asked : TxnId → whole.Call) (S : Scheme) (is : IsSchem
           kept_taken n s (accepted plan s (new_transaction s proc args)).state (accepted plan s (new_transaction s proc args)).sends more there (submission_goes w log l subs o g n s there proc args p x),
         )
 
-    tick_all : (node : Node) (v : Outcome) → Comes plan w (Some (Tick node)) v → Goes v.world
+    tick_all : (node : Node) (v : Outcome) → Transition plan w (Some (Tick node)) v → Goes v.world
     tick_all (Server shard) v (s, there, e) = subst (λ (v : Outcome). Goes v.world) (sym e) (
       served_ongoing plan w g shard.0 (answered s (server.tick_sends s)) (λ t. no_starts_at_tick plan s (λ u. u ≢ t)),
       served_taken w shard.0 (answered s (server.tick_sends s)) a.each,
@@ -209,9 +209,9 @@ module _ (plan : Plan) (asked : TxnId → whole.Call) (S : Scheme) (is : IsSchem
 
     -- ---- a delivery
 
-    module _ (k : ℕ) (m : Sent) (some : 0 < k) (there : slice_get w.sent (k - 1) ≡ Some m) where
+    module _ (k : ℕ) (m : Envelope) (some : 0 < k) (there : slice_get w.sent (k - 1) ≡ Some m) where
       abbrev u : World
-      u = comes w k
+      u = mark_delivered w k
 
       on_way : IsLogged plan asked S is laws u log
       on_way = comes_logged plan asked S is laws w log l k
@@ -253,7 +253,7 @@ module _ (plan : Plan) (asked : TxnId → whole.Call) (S : Scheme) (is : IsSchem
               let one : after ≡ c = cc in
               subst (λ (c : CoordState). IsTakenBy c.pending msg) one k
 
-    step_ongoing : (e : Option Event) (v : Outcome) → Comes plan w e v → Agrees asked v.world.history → Goes v.world
+    step_ongoing : (e : Option Event) (v : Outcome) → Transition plan w e v → Agrees asked v.world.history → Goes v.world
     step_ongoing None v h fits = subst (λ (v : Outcome). Goes v.world) (sym h) (g, a)
     step_ongoing (Some (Submit n proc args)) v (s, there, h) fits = submit_ongoing n proc args s there v (submitting plan w n proc args s v h) fits
     step_ongoing (Some (Deliver k)) v (m, some, there, h) fits = receive_all k m some there m.to refl v h

@@ -19,18 +19,18 @@ use Rattle.roc_depgraph.specs.declared.known.KnownList.{KnownList}
 use Rattle.roc_depgraph.specs.Deps.{list_of, is_known, entries_of, Precedes, IsAncestor, IsDecided}
 use Rattle.roc_depgraph.specs.Reach.{Reaches}
 use Rattle.roc_depgraph.proofs.Chains.{weaker_chain}
-use Rattle.roc_msg.specs.declared.msg.Sent.{Sent}
+use Rattle.roc_msg.specs.declared.msg.Envelope.{Envelope}
 use Rattle.roc_plan.specs.Groups.{Plan}
 use Rattle.roc_whole.specs.Serial as whole
 use Rattle.roc_whole.specs.Serial.{start_store}
 use Rattle.roc_rows.specs.Store.{Store}
-use Rattle.roc_execution.specs.Scheme.{Scheme, IsSoundScheme}
-use Rattle.roc_execution.specs.Log.{Log, PrecedesTxn, PrecedesGroup}
+use Rattle.roc_law_log.specs.Scheme.{Scheme, IsSoundScheme}
+use Rattle.roc_law_log.specs.Log.{Log, PrecedesTxn, PrecedesGroup}
 use Rattle.roc_server.specs.State.{ServerState}
 use Rattle.roc_audit.specs.History.{WasSubmitted}
 use Rattle.roc_protocol.specs.declared.event.Event.TheVariants.{Deliver}
-use Rattle.roc_protocol.specs.Asked.{HasSchemes}
-use Rattle.roc_protocol.specs.World.{World, comes}
+use Rattle.roc_protocol.specs.PlanAssumptions.{HasSchemes}
+use Rattle.roc_protocol.specs.World.{World, mark_delivered}
 use Rattle.roc_protocol.specs.Happens.{Outcome, IsReceived, Happens}
 use Rattle.roc_protocol.specs.Run.{Stepped, IsRun}
 use Rattle.roc_protocol.specs.Inner.Given.{LogLaws, SerialLaws, StoreLaws}
@@ -79,7 +79,7 @@ in_list xs ys a b once (inr p) =
 
 module _ (plan : Plan) (schemes : HasSchemes plan) (laws : (S : Scheme) → IsSoundScheme S → LogLaws S (start_store plan.program)) (serials : (S : Scheme) → IsSoundScheme S → SerialLaws S (start_store plan.program)) (stores : StoreLaws) (coords : ℕ) (steps : List Stepped) (w : World) (run : IsRun plan coords steps w) where
   module _ (k : ℕ) (shard : Shard) (s v : ServerState) (o : Outcome) (here : slice_get w.servers shard.0 ≡ Some s) (after : slice_get o.world.servers shard.0 ≡ Some v) (a b : TxnId) (related : IsAncestor v.lists.known a b ⊎ IsAncestor v.lists.known b a) (taken : (IsDecided s.lists.known a × IsListed is_txn o.decided b) ⊎ (IsListed is_txn o.decided b × IsListedBefore is_txn o.decided a b)) where
-    at_event : 0 < length plan.program.procedures → (m : Sent) → slice_get w.sent (k - 1) ≡ Some m → (t : Node) → m.to ≡ t → t ≡ Server shard → IsReceived plan (comes w k) m.msg t o → IsListedBefore is_txn o.world.order a b
+    at_event : 0 < length plan.program.procedures → (m : Envelope) → slice_get w.sent (k - 1) ≡ Some m → (t : Node) → m.to ≡ t → t ≡ Server shard → IsReceived plan (mark_delivered w k) m.msg t o → IsListedBefore is_txn o.world.order a b
     at_event some m at (Coord n) to is x = absurd (cc)
     at_event some m at (Server at_shard) to is (u, r, there, step, e) =
         let x = serial.logged plan schemes laws stores coords steps w run some in
@@ -90,7 +90,7 @@ module _ (plan : Plan) (schemes : HasSchemes plan) (laws : (S : Scheme) → IsSo
         let l = laws S sound in
         let means = comes_means plan asked S (start_store plan.program) scheme x.0 w k x.1.means in
         let has = has_at w.sent (k - 1) m at in
-        let y = message_explained plan asked S (start_store plan.program) scheme l x.0 (comes w k) means at_shard.0 u there (WasSubmitted w.history) m.msg r step
+        let y = message_explained plan asked S (start_store plan.program) scheme l x.0 (mark_delivered w k) means at_shard.0 u there (WasSubmitted w.history) m.msg r step
         (subst (λ t. Means plan asked S (start_store plan.program) x.0 m.msg t) to (x.1.means.messages m has)) (x.1.starts m has) in
         let i = l.holds y.log y.means.reached in
         let same : at_shard.0 ≡ shard.0 = ap number is in
@@ -114,8 +114,8 @@ module _ (plan : Plan) (schemes : HasSchemes plan) (laws : (S : Scheme) → IsSo
         number (Server n) = n.0
         number (Coord n) = 0
 
-    pub taken_in_order : (m : Sent) → slice_get w.sent (k - 1) ≡ Some m → m.to ≡ Server shard → Happens plan w (Deliver k) o → IsListedBefore is_txn o.world.order a b
+    pub taken_in_order : (m : Envelope) → slice_get w.sent (k - 1) ≡ Some m → m.to ≡ Server shard → Happens plan w (Deliver k) o → IsListedBefore is_txn o.world.order a b
     taken_in_order m at to (q, first, found, x) = elim (cases_lt 0 (length plan.program.procedures)) [
-      | inl some ↦ (let same : q ≡ m = cc in at_event some q found q.to refl (ap (λ (m : Sent). m.to) same ∙ to) x)
+      | inl some ↦ (let same : q ≡ m = cc in at_event some q found q.to refl (ap (λ (m : Envelope). m.to) same ∙ to) x)
       | inr none ↦ absurd (subst (Has m) (run_idle plan none coords steps w run).sent (has_at w.sent (k - 1) m at))
     ]

@@ -8,7 +8,7 @@ use Rattle.roc_sequence.proofs.Holds.{all_has}
 use Rattle.roc_sequence.proofs.Members.{has_at}
 use Rattle.roc_base.specs.declared.node.Node.{Node}
 use Rattle.roc_base.specs.declared.node.Node.TheVariants.{Server, Coord}
-use Rattle.roc_component.specs.Components.{HaveSameMembers, IsTakingOrder}
+use Rattle.roc_component.specs.Components.{HaveSameMembers, IsComponentOrderOf}
 use Rattle.roc_msg.specs.declared.msg.Msg.{Msg}
 use Rattle.roc_plan.specs.Groups.{Plan, procedure_of}
 use Rattle.roc_server.specs.State.{answered}
@@ -22,7 +22,7 @@ use Rattle.roc_audit.specs.declared.entry.Entry.TheVariants.{Submitted}
 use Rattle.roc_protocol.specs.declared.event.Event.{Event}
 use Rattle.roc_protocol.specs.declared.event.Event.TheVariants.{Submit, Deliver, Tick}
 use Rattle.roc_protocol.specs.declared.event.Seen.TheVariants as seen
-use Rattle.roc_protocol.specs.World.{World, comes, at_coord}
+use Rattle.roc_protocol.specs.World.{World, mark_delivered, at_coord}
 use Rattle.roc_protocol.specs.Fits.{IsNode, IsSentHere, FitsWorld}
 use Rattle.roc_protocol.specs.Happens.{Outcome, undecided, IsSubmissionOf, served, coordinated, IsReceived, Happens}
 use Rattle.roc_protocol.specs.Run.{IsEventOf}
@@ -88,8 +88,8 @@ event_of plan w (Deliver k) o (m, some, at, h) = (some, (let within = slice_get_
 event_of plan w (Tick (Server shard)) o (s, at, h) = slice_get_within w.servers shard.0 s at
 event_of plan w (Tick (Coord n)) o (s, at, h) = slice_get_within w.coords n s at
 
-module _ (exists : (known : List KnownList) (M : List TxnId) → (xs : List TxnId) × IsTakingOrder known M xs)
-    (one : (known : List KnownList) (M N xs ys : List TxnId) → HaveSameMembers M N → IsTakingOrder known M xs → IsTakingOrder known N ys → xs ≡ ys) (plan : Plan) (w : World) where
+module _ (exists : (known : List KnownList) (M : List TxnId) → (xs : List TxnId) × IsComponentOrderOf known M xs)
+    (one : (known : List KnownList) (M N xs ys : List TxnId) → HaveSameMembers M N → IsComponentOrderOf known M xs → IsComponentOrderOf known N ys → xs ≡ ys) (plan : Plan) (w : World) where
   received : (msg : Msg) (to : Node) → IsNode (length w.servers) (length w.coords) to → (o : Outcome) × IsReceived plan w msg to o
   received msg (Server shard) l =
       let s = there w.servers shard.0 l in
@@ -97,14 +97,14 @@ module _ (exists : (known : List KnownList) (M : List TxnId) → (xs : List TxnI
       (served w shard.0 r.0, (s.0, r.0, s.1, r.1, refl))
   received msg (Coord n) l = let s = there w.coords n l in (coordinated w n (after_message plan s.0 msg), (s.0, s.1, refl))
 
-module _ (exists : (known : List KnownList) (M : List TxnId) → (xs : List TxnId) × IsTakingOrder known M xs)
-    (one : (known : List KnownList) (M N xs ys : List TxnId) → HaveSameMembers M N → IsTakingOrder known M xs → IsTakingOrder known N ys → xs ≡ ys) (plan : Plan) (w : World) (fits : FitsWorld plan w) where
+module _ (exists : (known : List KnownList) (M : List TxnId) → (xs : List TxnId) × IsComponentOrderOf known M xs)
+    (one : (known : List KnownList) (M N xs ys : List TxnId) → HaveSameMembers M N → IsComponentOrderOf known M xs → IsComponentOrderOf known N ys → xs ≡ ys) (plan : Plan) (w : World) (fits : FitsWorld plan w) where
   happens : (e : Event) → IsEventOf plan w e → (o : Outcome) × Happens plan w e o
   happens (Submit n proc args) (l, known, counted) = let s = there w.coords n l in let o = submission plan w n proc args s.0 known counted in (o.0, (s.0, s.1, o.1))
   happens (Deliver k) (some, sent) =
       let m = there w.sent (k - 1) (omega arith) in
       let here = all_has (IsSentHere (length w.servers) (length w.coords)) m.0 w.sent fits.sent_here (has_at w.sent (k - 1) m.0 m.1) in
-      let o = received exists one plan (comes w k) m.0.msg m.0.to here.to in
+      let o = received exists one plan (mark_delivered w k) m.0.msg m.0.to here.to in
       (o.0, (m.0, some, m.1, o.1))
   happens (Tick (Server shard)) l = let s = there w.servers shard.0 l in (served w shard.0 (answered s.0 (server.tick_sends s.0)), (s.0, s.1, refl))
   happens (Tick (Coord n)) l = let s = there w.coords n l in (undecided seen.Done (at_coord w n s.0 (coord.tick_sends plan s.0) []), (s.0, s.1, refl))

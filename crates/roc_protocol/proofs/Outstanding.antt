@@ -13,7 +13,7 @@ use Rattle.roc_base.specs.declared.node.Shard.{Shard}
 use Rattle.roc_base.specs.Edge.{Dependency}
 use Rattle.roc_depgraph.specs.declared.known.KnownList.{KnownList}
 use Rattle.roc_msg.specs.declared.msg.Msg.TheVariants.{Start, Commit}
-use Rattle.roc_msg.specs.declared.msg.Sent.{Sent}
+use Rattle.roc_msg.specs.declared.msg.Envelope.{Envelope}
 use Rattle.roc_msg.specs.declared.outbox.Outgoing.{Outgoing}
 use Rattle.roc_plan.specs.Groups.{Plan}
 use Rattle.roc_coord.specs.declared.transaction.Transaction.{Transaction}
@@ -29,8 +29,8 @@ use Rattle.roc_protocol.specs.World.{sent_by}
 use Rattle.roc_protocol.proofs.Replies.{shard_listed}
 
 -- a start of a group of t went to the shard
-pub record IsStartOut (sent : List Sent) (t : TxnId) (group : ℕ) (shard : Shard) : Type 0 where
-  pub message : Sent
+pub record IsStartOut (sent : List Envelope) (t : TxnId) (group : ℕ) (shard : Shard) : Type 0 where
+  pub message : Envelope
   pub has : Has message sent
   pub to : message.to ≡ Server shard
   pub proc : ℕ
@@ -39,8 +39,8 @@ pub record IsStartOut (sent : List Sent) (t : TxnId) (group : ℕ) (shard : Shar
   pub is : message.msg ≡ Start t proc group args inputs
 
 -- a commit of t went to the shard
-pub record IsCommitOut (sent : List Sent) (t : TxnId) (shard : Shard) : Type 0 where
-  pub message : Sent
+pub record IsCommitOut (sent : List Envelope) (t : TxnId) (shard : Shard) : Type 0 where
+  pub message : Envelope
   pub has : Has message sent
   pub to : message.to ≡ Server shard
   pub edges : List Dependency
@@ -48,7 +48,7 @@ pub record IsCommitOut (sent : List Sent) (t : TxnId) (shard : Shard) : Type 0 w
   pub is : message.msg ≡ Commit t edges facts
 
 -- what stands between a transaction and its reply was sent
-pub record IsOutstanding (plan : Plan) (sent : List Sent) (x : Transaction) : Type 0 where
+pub record IsOutstanding (plan : Plan) (sent : List Envelope) (x : Transaction) : Type 0 where
   -- each group whose inputs are known was asked to start, and the start was sent
   pub asks : (g : ℕ) → Has g (group_numbers plan x.proc) → is_ready plan x g ≡ true → is_some (find_start g x.starts) ≡ true
   pub starts : (z : SentStart) → Has z x.starts → IsStartOut sent x.id z.group z.shard
@@ -61,14 +61,14 @@ pub record IsOutstanding (plan : Plan) (sent : List Sent) (x : Transaction) : Ty
 
 -- ---- what is sent stays
 
-start_stays : (sent more : List Sent) (t : TxnId) (g : ℕ) (s : Shard) → IsStartOut sent t g s → IsStartOut (sent ++ more) t g s
+start_stays : (sent more : List Envelope) (t : TxnId) (g : ℕ) (s : Shard) → IsStartOut sent t g s → IsStartOut (sent ++ more) t g s
 start_stays sent more t g s k = record { message = k.message; has = has_left k.message sent more k.has; to = k.to; proc = k.proc; args = k.args; inputs = k.inputs; is = k.is }
 
-commit_stays : (sent more : List Sent) (t : TxnId) (s : Shard) → IsCommitOut sent t s → IsCommitOut (sent ++ more) t s
+commit_stays : (sent more : List Envelope) (t : TxnId) (s : Shard) → IsCommitOut sent t s → IsCommitOut (sent ++ more) t s
 commit_stays sent more t s k = record { message = k.message; has = has_left k.message sent more k.has; to = k.to; edges = k.edges; facts = k.facts; is = k.is }
 
 -- so a transaction that waits still does as more is sent
-pub outstanding_stays : (plan : Plan) (sent more : List Sent) (x : Transaction) → IsOutstanding plan sent x → IsOutstanding plan (sent ++ more) x
+pub outstanding_stays : (plan : Plan) (sent more : List Envelope) (x : Transaction) → IsOutstanding plan sent x → IsOutstanding plan (sent ++ more) x
 outstanding_stays plan sent more x o =
     record {
       asks = o.asks;
@@ -89,7 +89,7 @@ is_found {A = A} p xs a h e = go (find p xs) refl
     go None f = absurd (false≢true (sym (none_found p xs f a h) ∙ e))
     go (Some b) f = refl
 
-module _ (plan : Plan) (sent : List Sent) (from : Node) (x : Transaction) where
+module _ (plan : Plan) (sent : List Envelope) (from : Node) (x : Transaction) where
   abbrev y : Transaction
   y = with_starts plan x
 
@@ -132,7 +132,7 @@ module _ (plan : Plan) (sent : List Sent) (from : Node) (x : Transaction) where
 
 -- ---- a transaction is new
 
-pub new_outstanding : (plan : Plan) (sent : List Sent) (from : Node) (id : TxnId) (proc : ℕ) (args : List ℤ) (g : ℕ) → Has g (group_numbers plan proc)
+pub new_outstanding : (plan : Plan) (sent : List Envelope) (from : Node) (id : TxnId) (proc : ℕ) (args : List ℤ) (g : ℕ) → Has g (group_numbers plan proc)
     → IsOutstanding plan (sent ++ map (sent_by from) (starts_of plan (unstarted id proc args))) (with_starts plan (unstarted id proc args))
 new_outstanding plan sent from id proc args g number =
     let x = unstarted id proc args in
@@ -150,7 +150,7 @@ new_outstanding plan sent from id proc args g number =
 
 -- ---- a startok is taken, and what follows is sent
 
-module _ (plan : Plan) (sent : List Sent) (from : Node) (x : Transaction) (o : IsOutstanding plan sent x) where
+module _ (plan : Plan) (sent : List Envelope) (from : Node) (x : Transaction) (o : IsOutstanding plan sent x) where
   module _ (ok : TakenStart) (shard : Shard) (fresh : is_some (find_startok ok.group x.startoks) ≡ false) (was : was_asked x ok.group shard ≡ true) (few : shard.0 < 64) (number : Has ok.group (group_numbers plan x.proc)) where
     abbrev told : Transaction
     told = with_startok x ok
@@ -158,7 +158,7 @@ module _ (plan : Plan) (sent : List Sent) (from : Node) (x : Transaction) (o : I
     abbrev started : Transaction
     started = with_starts plan told
 
-    abbrev now : List Sent
+    abbrev now : List Envelope
     now = sent ++ map (sent_by from) (sends_after plan told)
 
     -- one group had no startok
@@ -222,7 +222,7 @@ module _ (plan : Plan) (sent : List Sent) (from : Node) (x : Transaction) (o : I
 
   -- ---- a commitok is taken, and it is not the last
 
-  pub commitok_outstanding : (more : List Sent) (ok : TakenCommit) → all_started plan x ≡ true → all_committed (with_commitok x ok) ≡ false → IsOutstanding plan (sent ++ more) (with_commitok x ok)
+  pub commitok_outstanding : (more : List Envelope) (ok : TakenCommit) → all_started plan x ≡ true → all_committed (with_commitok x ok) ≡ false → IsOutstanding plan (sent ++ more) (with_commitok x ok)
   commitok_outstanding more ok all unheard =
       record {
         asks = o.asks;

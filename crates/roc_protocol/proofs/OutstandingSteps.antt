@@ -14,7 +14,7 @@ use Rattle.roc_base.specs.Equalities.{is_txn-true}
 use Rattle.roc_base.proofs.Ids.{is_txn-eq}
 use Rattle.roc_msg.specs.declared.msg.Msg.{Msg}
 use Rattle.roc_msg.specs.declared.msg.Msg.TheVariants.{Start, StartOk, Commit, CommitOk, Fetch, Known, Stop}
-use Rattle.roc_msg.specs.declared.msg.Sent.{Sent}
+use Rattle.roc_msg.specs.declared.msg.Envelope.{Envelope}
 use Rattle.roc_msg.specs.declared.outbox.Outgoing.{Outgoing}
 use Rattle.roc_msg.specs.declared.reason.Reason.TheVariants.{Stale, Unfit}
 use Rattle.roc_plan.specs.Groups.{Plan}
@@ -35,7 +35,7 @@ use Rattle.roc_protocol.proofs.Taken.{TakesMore, as_it_was, startok_more, commit
 use Rattle.roc_protocol.proofs.Outstanding.{IsOutstanding, outstanding_stays, new_outstanding, startok_outstanding, commitok_outstanding}
 
 -- each transaction goes on, is new, or is answered now, where its commits were sent before and nothing is sent
-pub record Proceeds (plan : Plan) (sent : List Sent) (from : Node) (s after : CoordState) (outs : List Outgoing) (tells : List Entry) : Type 0 where
+pub record Proceeds (plan : Plan) (sent : List Envelope) (from : Node) (s after : CoordState) (outs : List Outgoing) (tells : List Entry) : Type 0 where
   pub before : (y : Transaction) → Has y after.pending → ((x : Transaction) × Has x s.pending × TakesMore x y) ⊎ (y.id ≡ next_id s)
   pub stays : (x : Transaction) → Has x s.pending → ((y : Transaction) × Has y after.pending × (y.id ≡ x.id)) ⊎ ((reply : List ℤ) × Has (entry.Answered x.id reply) tells)
   pub holds : (y : Transaction) → Has y after.pending → IsOutstanding plan (sent ++ map (sent_by from) outs) y
@@ -52,7 +52,7 @@ IsOfGroup plan pending (Fetch id asker) = Unit {0}
 IsOfGroup plan pending (Known id edges) = Unit {0}
 IsOfGroup plan pending Stop = Unit {0}
 
-module _ (plan : Plan) (sent : List Sent) (from : Node) (s : CoordState) (once : (y z : Transaction) → Has y s.pending → Has z s.pending → y.id ≡ z.id → y ≡ z)
+module _ (plan : Plan) (sent : List Envelope) (from : Node) (s : CoordState) (once : (y z : Transaction) → Has y s.pending → Has z s.pending → y.id ≡ z.id → y ≡ z)
     (old : (x : Transaction) → Has x s.pending → IsOutstanding plan sent x) (whole : (x : Transaction) → Has x s.pending → (a : Shard) → Has a x.asked → all_started plan x ≡ true) where
   abbrev Goes : CoordState → List Outgoing → List Entry → Type 0
   Goes after outs tells = Proceeds plan sent from s after outs tells

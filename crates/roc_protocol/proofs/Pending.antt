@@ -10,13 +10,13 @@ use Rattle.roc_base.specs.Edge.{Dependency}
 use Rattle.roc_depgraph.specs.declared.known.KnownList.{KnownList}
 use Rattle.roc_msg.specs.declared.msg.Msg.{Msg}
 use Rattle.roc_msg.specs.declared.msg.Msg.TheVariants.{Start, StartOk, Commit, CommitOk, Fetch, Known, Stop}
-use Rattle.roc_msg.specs.declared.msg.Sent.{Sent}
+use Rattle.roc_msg.specs.declared.msg.Envelope.{Envelope}
 use Rattle.roc_msg.specs.declared.outbox.Outgoing.{Outgoing}
 use Rattle.roc_plan.specs.Groups.{Plan}
 use Rattle.roc_whole.specs.Serial as whole
 use Rattle.roc_whole.specs.Serial.{start_store}
-use Rattle.roc_execution.specs.Scheme.{Scheme}
-use Rattle.roc_execution.specs.Log.{Log}
+use Rattle.roc_law_log.specs.Scheme.{Scheme}
+use Rattle.roc_law_log.specs.Log.{Log}
 use Rattle.roc_server.specs.State.{ServerState, ServerStep}
 use Rattle.roc_coord.specs.declared.transaction.Transaction.{Transaction}
 use Rattle.roc_coord.specs.State.{was_asked, CoordState}
@@ -24,7 +24,7 @@ use Rattle.roc_coord.specs.Starts.{all_started, shards_of}
 use Rattle.roc_audit.specs.declared.entry.Entry.{Entry}
 use Rattle.roc_audit.specs.declared.entry.Entry.TheVariants.{Submitted}
 use Rattle.roc_audit.specs.History.{WasSubmitted}
-use Rattle.roc_protocol.specs.Asked.{IsSchemeOf}
+use Rattle.roc_protocol.specs.PlanAssumptions.{IsSchemeOf}
 use Rattle.roc_protocol.specs.Final.{lists_in}
 use Rattle.roc_protocol.specs.World.{World, sent_by, at_server, at_coord}
 use Rattle.roc_protocol.specs.Inner.Given.{LogLaws}
@@ -57,8 +57,8 @@ StartsOn coords Stop to = Unit {0}
 pub record IsPending (plan : Plan) (w : World) : Type 0 where
   pub own : (n : ℕ) (c : CoordState) → slice_get w.coords n ≡ Some c → (x : Transaction) → Has x c.pending → x.id.coord ≡ n
   pub once : (n : ℕ) (c : CoordState) → slice_get w.coords n ≡ Some c → (y z : Transaction) → Has y c.pending → Has z c.pending → y.id ≡ z.id → y ≡ z
-  pub starts : (m : Sent) → Has m w.sent → StartsOn w.coords m.msg m.to
-  pub lists : (m : Sent) → Has m w.sent → (k : KnownList) → Has k (lists_in m.msg) → IsWholeAt plan w.coords k.of
+  pub starts : (m : Envelope) → Has m w.sent → StartsOn w.coords m.msg m.to
+  pub lists : (m : Envelope) → Has m w.sent → (k : KnownList) → Has k (lists_in m.msg) → IsWholeAt plan w.coords k.of
   pub servers : (n : ℕ) (s : ServerState) → slice_get w.servers n ≡ Some s → HoldsGood (λ t es. IsWholeAt plan w.coords t) (λ t g. AskedBy w.coords t g n) s
 
 -- ---- a step of a server
@@ -90,11 +90,11 @@ served_pending plan w o n s there r k none =
       once = o.once;
       starts = λ m h. elim (has_append m w.sent more h) [
         | inl j ↦ o.starts m j
-        | inr j ↦ (let q = from_has_map (sent_by (Server (record { 0 = n }))) m r.sends j in subst (λ (m : Sent). StartsOn w.coords m.msg m.to) (sym q.2) (no_start_on w.coords q.0.msg q.0.to (none q.0 q.1)))
+        | inr j ↦ (let q = from_has_map (sent_by (Server (record { 0 = n }))) m r.sends j in subst (λ (m : Envelope). StartsOn w.coords m.msg m.to) (sym q.2) (no_start_on w.coords q.0.msg q.0.to (none q.0 q.1)))
       ];
       lists = λ m h l i. elim (has_append m w.sent more h) [
         | inl j ↦ o.lists m j l i
-        | inr j ↦ (let q = from_has_map (sent_by (Server (record { 0 = n }))) m r.sends j in k.sends q.0 q.1 l (subst (λ (m : Sent). Has l (lists_in m.msg)) q.2 i))
+        | inr j ↦ (let q = from_has_map (sent_by (Server (record { 0 = n }))) m r.sends j in k.sends q.0 q.1 l (subst (λ (m : Envelope). Has l (lists_in m.msg)) q.2 i))
       ];
       servers = λ m v h. elim (get-set_cases w.servers n m s r.state v there h) [
         | inl e ↦ subst (λ m. HoldsGood (λ t es. IsWholeAt plan w.coords t) (λ t g. AskedBy w.coords t g m) v) e.0 (subst (HoldsGood (λ t es. IsWholeAt plan w.coords t) (λ t g. AskedBy w.coords t g n)) (sym e.1) k.state)
@@ -147,7 +147,7 @@ module _ (plan : Plan) (asked : TxnId → whole.Call) (S : Scheme) (is : IsSchem
   starts_later (Known id edges) to f k = tt
   starts_later Stop to f k = tt
 
-  pub lists_later : (m : Sent) → Has m w.sent → (k : KnownList) → Has k (lists_in m.msg) → IsWholeAt plan coords k.of
+  pub lists_later : (m : Envelope) → Has m w.sent → (k : KnownList) → Has k (lists_in m.msg) → IsWholeAt plan coords k.of
   lists_later m h k j = whole_later k.of (carried_submitted m.msg m.to (l.means.messages m h) k j) (o.lists m h k j)
 
   pub coordinated_pending :
@@ -164,11 +164,11 @@ module _ (plan : Plan) (asked : TxnId → whole.Call) (S : Scheme) (is : IsSchem
         ];
         starts = λ m h. elim (has_append m w.sent more h) [
           | inl j ↦ starts_later m.msg m.to (l.starts m j) (o.starts m j)
-          | inr j ↦ (let q = from_has_map (sent_by (Coord n)) m outs j in subst (λ (m : Sent). StartsOn coords m.msg m.to) (sym q.2) (starts q.0 q.1))
+          | inr j ↦ (let q = from_has_map (sent_by (Coord n)) m outs j in subst (λ (m : Envelope). StartsOn coords m.msg m.to) (sym q.2) (starts q.0 q.1))
         ];
         lists = λ m h k i. elim (has_append m w.sent more h) [
           | inl j ↦ lists_later m j k i
-          | inr j ↦ (let q = from_has_map (sent_by (Coord n)) m outs j in lists q.0 q.1 k (subst (λ (m : Sent). Has k (lists_in m.msg)) q.2 i))
+          | inr j ↦ (let q = from_has_map (sent_by (Coord n)) m outs j in lists q.0 q.1 k (subst (λ (m : Envelope). Has k (lists_in m.msg)) q.2 i))
         ];
         servers = λ m v h.
             (let g = o.servers m v h in

@@ -16,15 +16,15 @@ use Rattle.roc_base.specs.Edge.{Dependency}
 use Rattle.roc_depgraph.specs.declared.known.KnownList.{KnownList}
 use Rattle.roc_msg.specs.declared.msg.Msg.{Msg}
 use Rattle.roc_msg.specs.declared.msg.Msg.TheVariants.{Start, StartOk, Commit, CommitOk, Fetch, Known, Stop}
-use Rattle.roc_msg.specs.declared.msg.Sent.{Sent}
+use Rattle.roc_msg.specs.declared.msg.Envelope.{Envelope}
 use Rattle.roc_msg.specs.declared.outbox.Outgoing.{Outgoing}
 use Rattle.roc_msg.specs.declared.reason.Reason.{Reason}
 use Rattle.roc_plan.specs.Groups.{Plan}
 use Rattle.roc_whole.specs.Serial as whole
 use Rattle.roc_whole.specs.Serial.{start_store}
-use Rattle.roc_execution.specs.Scheme.{Scheme}
-use Rattle.roc_execution.specs.Log.{Log}
-use Rattle.roc_execution.specs.Invariants.{LogInvariants}
+use Rattle.roc_law_log.specs.Scheme.{Scheme}
+use Rattle.roc_law_log.specs.Log.{Log}
+use Rattle.roc_law_log.specs.Invariants.{LogInvariants}
 use Rattle.roc_server.specs.First.{first_server}
 use Rattle.roc_server.specs.State.{answered, ServerState, ServerStep}
 use Rattle.roc_server.specs.Step as server
@@ -41,11 +41,11 @@ use Rattle.roc_audit.specs.declared.entry.Entry.{Entry}
 use Rattle.roc_audit.specs.declared.entry.Entry.TheVariants.{Submitted}
 use Rattle.roc_protocol.specs.declared.event.Event.{Event}
 use Rattle.roc_protocol.specs.declared.event.Event.TheVariants.{Submit, Deliver, Tick}
-use Rattle.roc_protocol.specs.Asked.{IsSchemeOf}
+use Rattle.roc_protocol.specs.PlanAssumptions.{IsSchemeOf}
 use Rattle.roc_protocol.specs.Final.{lists_in}
-use Rattle.roc_protocol.specs.World.{World, comes, at_coord}
+use Rattle.roc_protocol.specs.World.{World, mark_delivered, at_coord}
 use Rattle.roc_protocol.specs.Happens.{Outcome, answer_entries, IsReceived}
-use Rattle.roc_protocol.specs.Run.{Stepped, Comes, IsRun, begun, goes_on}
+use Rattle.roc_protocol.specs.Run.{Stepped, Transition, IsRun, begun, goes_on}
 use Rattle.roc_protocol.specs.Inner.Given.{LogLaws, StoreLaws}
 use Rattle.roc_protocol.proofs.Means.{TxnMeans}
 use Rattle.roc_protocol.proofs.Rounds.{told}
@@ -91,7 +91,7 @@ module _ (plan : Plan) (asked : TxnId → whole.Call) (S : Scheme) (is : IsSchem
           let t = ((nw.taken n s there x h).startoks ok j).0 in
           lists_later plan asked S is laws w log l subs o n s there after a t.message t.has k (subst (λ msg. Has k (lists_in msg)) (sym t.is) i)
 
-      startok_pending : (m : Sent) → Has m w.sent → (id : TxnId) (group : ℕ) (shard : Shard) (bound outs : List ℤ) (edges : List Dependency) (facts : List KnownList) → m.msg ≡ StartOk id group shard bound outs edges facts
+      startok_pending : (m : Envelope) → Has m w.sent → (id : TxnId) (group : ℕ) (shard : Shard) (bound outs : List ℤ) (edges : List Dependency) (facts : List KnownList) → m.msg ≡ StartOk id group shard bound outs edges facts
           → (x : Option Transaction) → find_transaction id s.pending ≡ x
           → Advances plan s (after_startok plan s x (record { group = group; bound = bound; outs = outs; edges = edges; facts = facts }) shard).state
           → Result n (after_startok plan s x (record { group = group; bound = bound; outs = outs; edges = edges; facts = facts }) shard).state (after_startok plan s x (record { group = group; bound = bound; outs = outs; edges = edges; facts = facts }) shard).sends
@@ -136,7 +136,7 @@ module _ (plan : Plan) (asked : TxnId → whole.Call) (S : Scheme) (is : IsSchem
           refused None None a = silent (commitok_taken s (with_commitok x ok) None).state a
           refused None (Some reply) a = silent (commitok_taken s (with_commitok x ok) (Some reply)).state a
 
-      message_pending : (m : Sent) → Has m w.sent → (msg : Msg) → m.msg ≡ msg → Advances plan s (after_message plan s msg).state → Result n (after_message plan s msg).state (after_message plan s msg).sends
+      message_pending : (m : Envelope) → Has m w.sent → (msg : Msg) → m.msg ≡ msg → Advances plan s (after_message plan s msg).state → Result n (after_message plan s msg).state (after_message plan s msg).sends
       message_pending m has (StartOk id group shard bound outs edges facts) e a = startok_pending m has id group shard bound outs edges facts e (find_transaction id s.pending) refl a
       message_pending m has (CommitOk id shard outs) e a = commitok_pending (record { shard = shard; outs = outs }) (find_transaction id s.pending) a
       message_pending m has (Start id proc group args inputs) e a = silent s a
@@ -195,7 +195,7 @@ module _ (plan : Plan) (asked : TxnId → whole.Call) (S : Scheme) (is : IsSchem
 
   -- ---- worlds
 
-  step_pending : (w : World) (log : Log) → IsLogged plan asked S is laws w log → IsNetworked plan asked S is laws w → AreSubmissions plan w.history w.coords → IsPending plan w → (e : Option Event) (v : Outcome) → Comes plan w e v → IsPending plan v.world
+  step_pending : (w : World) (log : Log) → IsLogged plan asked S is laws w log → IsNetworked plan asked S is laws w → AreSubmissions plan w.history w.coords → IsPending plan w → (e : Option Event) (v : Outcome) → Transition plan w e v → IsPending plan v.world
   step_pending w log l nw subs o None v h = subst (λ (v : Outcome). IsPending plan v.world) (sym h) o
   step_pending w log l nw subs o (Some (Submit n proc args)) v (s, there, h) = go (submitting plan w n proc args s v h)
     where
@@ -204,16 +204,16 @@ module _ (plan : Plan) (asked : TxnId → whole.Call) (S : Scheme) (is : IsSchem
       go (is_accepted known counted e) = subst (IsPending plan) (sym e) (submission_pending w log l nw subs o n s there proc args (Submitted (next_id s) proc args ∷ []))
   step_pending w log l nw subs o (Some (Deliver k)) v (m, some, there, h) = go m.to (o.starts m (has_at w.sent (k - 1) m there)) h
     where
-      p : IsPending plan (comes w k)
+      p : IsPending plan (mark_delivered w k)
       p = record { own = o.own; once = o.once; starts = o.starts; lists = o.lists; servers = o.servers }
 
-      go : (to : Node) → StartsOn w.coords m.msg to → IsReceived plan (comes w k) m.msg to v → IsPending plan v.world
+      go : (to : Node) → StartsOn w.coords m.msg to → IsReceived plan (mark_delivered w k) m.msg to v → IsPending plan v.world
       go (Server shard) f (s, r, at, step, e) = subst (λ (v : Outcome). IsPending plan v.world) (sym e)
-          (served_pending plan (comes w k) p shard.0 s at r
+          (served_pending plan (mark_delivered w k) p shard.0 s at r
           (message_good plan (λ t es. IsWholeAt plan w.coords t) (λ t g. AskedBy w.coords t g shard.0) s (o.servers shard.0 s at) m.msg r step (o.lists m (has_at w.sent (k - 1) m there)) (starts_here w.coords m.msg shard.0 f))
           (subst (λ (r : ServerStep). (out : Outgoing) → Has out r.sends → StartsAre (λ t. ⊥) out.msg) (sym step.is) (no_starts plan s (λ t. ⊥) step.findings m.msg)))
       go (Coord n) f (s, at, e) = subst (λ (v : Outcome). IsPending plan v.world) (sym e)
-          (message_pending (comes w k) log (comes_logged plan asked S is laws w log l k) (comes_networked plan asked S is laws w log l nw k) subs p n s at m (has_at w.sent (k - 1) m there) m.msg refl (message_advances plan s (o.once n s at) m.msg) (answer_entries (after_message plan s m.msg).answer))
+          (message_pending (mark_delivered w k) log (comes_logged plan asked S is laws w log l k) (comes_networked plan asked S is laws w log l nw k) subs p n s at m (has_at w.sent (k - 1) m there) m.msg refl (message_advances plan s (o.once n s at) m.msg) (answer_entries (after_message plan s m.msg).answer))
   step_pending w log l nw subs o (Some (Tick (Server shard))) v (s, there, e) = subst (λ (v : Outcome). IsPending plan v.world) (sym e)
       (served_pending plan w o shard.0 s there (answered s (server.tick_sends s)) (tick_good plan (λ t es. IsWholeAt plan w.coords t) (λ t g. AskedBy w.coords t g shard.0) s (o.servers shard.0 s there)) (no_starts_at_tick plan s (λ t. ⊥)))
   step_pending w log l nw subs o (Some (Tick (Coord n))) v (s, there, e) = subst (λ (v : Outcome). IsPending plan v.world) (sym e) (tick_pending w log l nw subs o n s there [])

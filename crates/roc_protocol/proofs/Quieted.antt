@@ -20,17 +20,17 @@ use Rattle.roc_depgraph.specs.declared.known.KnownList.{KnownList}
 use Rattle.roc_depgraph.specs.Deps.{list_of, is_known, IsKnown, entries_of, Precedes, IsDecided}
 use Rattle.roc_depgraph.specs.Reach.{Reaches, direct, through}
 use Rattle.roc_depgraph.proofs.Chains.{weaker_chain}
-use Rattle.roc_await.specs.declared.waits.Asked.{Asked}
+use Rattle.roc_await.specs.declared.waits.OpenFetch.{OpenFetch}
 use Rattle.roc_msg.specs.declared.msg.Msg.{Msg}
 use Rattle.roc_msg.specs.declared.msg.Msg.TheVariants.{Start, Commit, Fetch, Known}
-use Rattle.roc_msg.specs.declared.msg.Sent.{Sent}
+use Rattle.roc_msg.specs.declared.msg.Envelope.{Envelope}
 use Rattle.roc_msg.specs.Msg.{id_of}
 use Rattle.roc_plan.specs.Groups.{Plan, groups_of}
 use Rattle.roc_whole.specs.Serial.{start_store}
-use Rattle.roc_execution.specs.Scheme.{Scheme, IsSoundScheme}
+use Rattle.roc_law_log.specs.Scheme.{Scheme, IsSoundScheme}
 use Rattle.roc_server.specs.declared.started.StartedGroup.{StartedGroup}
 use Rattle.roc_server.specs.State.{is_here, ServerState}
-use Rattle.roc_protocol.specs.Asked.{HasSchemes}
+use Rattle.roc_protocol.specs.PlanAssumptions.{HasSchemes}
 use Rattle.roc_protocol.specs.World.{World}
 use Rattle.roc_protocol.specs.Run.{Stepped, IsRun}
 use Rattle.roc_protocol.specs.Quiet.{IsToldIn, PrecedesIn, IsQuiet}
@@ -84,7 +84,7 @@ entry_of known u t p =
 
 module _ (plan : Plan) (w : World) (o : HasHeard w) (finals : (n : ℕ) (s : ServerState) → slice_get w.servers n ≡ Some s → (k : KnownList) → Has k s.lists.known → IsFinalIn plan w k.of k.edges) (out : (u : TxnId) → AreDelivered w u → CommitsAreOut w u) where
   -- a message in the network of a transaction whose messages were delivered was taken
-  taken : (u : TxnId) → AreDelivered w u → (m : Sent) → Has m w.sent → (msg : Msg) (to : Node) → m.msg ≡ msg → m.to ≡ to → id_of msg ≡ Some u → IsTaken w.servers w.sent msg to
+  taken : (u : TxnId) → AreDelivered w u → (m : Envelope) → Has m w.sent → (msg : Msg) (to : Node) → m.msg ≡ msg → m.to ≡ to → id_of msg ≡ Some u → IsTaken w.servers w.sent msg to
   taken u d m h msg to is goes of =
       let p = has_place w.sent m h in
       subst (IsTaken w.servers w.sent msg) goes (subst (λ msg. IsTaken w.servers w.sent msg m.to) is (o.taken p.0 m p.1 (d.each p.0 m p.1 (ap id_of is ∙ of))))
@@ -119,7 +119,7 @@ module _ (plan : Plan) (w : World) (o : HasHeard w) (finals : (n : ℕ) (s : Ser
       before u p = record { each = λ k m at of. quiet.each k m u at of (inr (weaker_chain (Precedes s.lists.known) (PrecedesIn w.sent) (named_sent n s there) u t p)) }
 
       -- what was asked for was answered
-      answered_known : (u : TxnId) → AreDelivered w u → (a : Asked) → Has a s.lists.waiting.asked → a.id ≡ u → (b : Bool) → is_known s.lists.known u ≡ b → IsKnown s.lists.known u
+      answered_known : (u : TxnId) → AreDelivered w u → (a : OpenFetch) → Has a s.lists.waiting.asked → a.id ≡ u → (b : Bool) → is_known s.lists.known u ≡ b → IsKnown s.lists.known u
       answered_known u d a h of true e = e
       answered_known u d a h of false e =
           let f = (o.servers n s there).fetched a h (λ k. false≢true (sym e ∙ subst (IsKnown s.lists.known) of k)) in
@@ -141,7 +141,7 @@ module _ (plan : Plan) (w : World) (o : HasHeard w) (finals : (n : ℕ) (s : Ser
           elim (subst (IsSought s) x.from ((o.servers n s there).seeks x.list x.is_known x.entry x.has)) [
             | inl k ↦ k
             | inr (inl here) ↦ known_here u d n s there here
-            | inr (inr asked) ↦ (let a = any_has (λ (a : Asked). is_txn a.id u) s.lists.waiting.asked asked in answered_known u d a.0 a.1 (is_txn-true a.0.id u a.2) (is_known s.lists.known u) refl)
+            | inr (inr asked) ↦ (let a = any_has (λ (a : OpenFetch). is_txn a.id u) s.lists.waiting.asked asked in answered_known u d a.0 a.1 (is_txn-true a.0.id u a.2) (is_known s.lists.known u) refl)
           ]
 
       decided_here : is_here t s.started ≡ true → IsDecided s.lists.known t
@@ -161,7 +161,7 @@ module _ (plan : Plan) (schemes : HasSchemes plan) (laws : (S : Scheme) → IsSo
   heard = run_heard plan schemes laws stores coords steps w run
 
   -- each start goes to a server
-  start_to : (m : Sent) → Has m w.sent → (t : TxnId) (proc group : ℕ) (args inputs : List ℤ) → m.msg ≡ Start t proc group args inputs → (shard : Shard) × (m.to ≡ Server shard)
+  start_to : (m : Envelope) → Has m w.sent → (t : TxnId) (proc group : ℕ) (args inputs : List ℤ) → m.msg ≡ Start t proc group args inputs → (shard : Shard) × (m.to ≡ Server shard)
   start_to m h t proc group args inputs is = elim (cases_lt 0 (length plan.program.procedures)) [
     | inl some ↦
         (let x = serial.logged plan schemes laws stores coords steps w run some in

@@ -19,28 +19,28 @@ use Rattle.roc_depgraph.specs.declared.known.KnownList.{KnownList}
 use Rattle.roc_depgraph.specs.Deps.{list_of, is_known}
 use Rattle.roc_msg.specs.declared.msg.Msg.{Msg}
 use Rattle.roc_msg.specs.declared.msg.Msg.TheVariants.{Start, StartOk, Commit, CommitOk, Fetch, Known, Stop}
-use Rattle.roc_msg.specs.declared.msg.Sent.{Sent}
+use Rattle.roc_msg.specs.declared.msg.Envelope.{Envelope}
 use Rattle.roc_msg.specs.declared.reason.Reason.{Reason}
 use Rattle.roc_msg.specs.declared.reason.Reason.TheVariants.{NotHere}
 use Rattle.roc_plan.specs.declared.group.Input.{Input}
 use Rattle.roc_plan.specs.Groups.{Plan, procedure_of, groups_of, inputs_of, shard_of, group_place}
 use Rattle.roc_whole.specs.Serial as whole
 use Rattle.roc_whole.specs.Serial.{start_store}
-use Rattle.roc_group.specs.Group_run.{GroupCall, call}
-use Rattle.roc_serial.specs.Behaviour.{TxnGroup, is_group_number}
-use Rattle.roc_serial.specs.Runs.{needs, inputs_at}
-use Rattle.roc_execution.specs.Scheme.{Scheme}
-use Rattle.roc_execution.specs.Log.{Log}
-use Rattle.roc_execution.specs.Invariants.{LogInvariants}
+use Rattle.roc_group.specs.GroupRun.{GroupCall, call}
+use Rattle.roc_law_orders.specs.Behaviour.{TxnGroup, is_group_number}
+use Rattle.roc_law_orders.specs.Runs.{needs, inputs_at}
+use Rattle.roc_law_log.specs.Scheme.{Scheme}
+use Rattle.roc_law_log.specs.Log.{Log}
+use Rattle.roc_law_log.specs.Invariants.{LogInvariants}
 use Rattle.roc_server.specs.declared.handled.Handled.TheVariants.{Done}
 use Rattle.roc_server.specs.declared.started.StartedGroup.{StartedGroup}
 use Rattle.roc_server.specs.State.{is_group, is_here, find_group, ignored, ServerState, ServerStep}
 use Rattle.roc_server.specs.Start.{has_procedure, has_counts, differs, start_fault, start_taken, start_judged}
-use Rattle.roc_lists.specs.Carried.{list_with, is_unlike}
+use Rattle.roc_server_lists.specs.Carried.{list_with, is_unlike}
 use Rattle.roc_server.specs.Lists.{commit_fault, after_commit, fetch_taken, known_fault, after_known}
 use Rattle.roc_server.specs.Step.{Findings, Handles, after_message}
 use Rattle.roc_audit.specs.declared.entry.Entry.TheVariants.{Submitted}
-use Rattle.roc_protocol.specs.Asked.{picked, IsSchemeOf}
+use Rattle.roc_protocol.specs.PlanAssumptions.{picked, IsSchemeOf}
 use Rattle.roc_await.specs.Waits.{was_asked_for}
 use Rattle.roc_protocol.specs.Final.{lists_in}
 use Rattle.roc_protocol.specs.World.{World}
@@ -75,7 +75,7 @@ module _ (plan : Plan) (asked : TxnId → whole.Call) (S : Scheme) (is : IsSchem
 
   -- ---- a start
 
-  module _ (m : Sent) (has : Has m w.sent) (id : TxnId) (proc group : ℕ) (args inputs : List ℤ) (msg : m.msg ≡ Start id proc group args inputs) (to : m.to ≡ Server (record { 0 = n })) where
+  module _ (m : Envelope) (has : Has m w.sent) (id : TxnId) (proc group : ℕ) (args inputs : List ℤ) (msg : m.msg ≡ Start id proc group args inputs) (to : m.to ≡ Server (record { 0 = n })) where
     abbrev c : GroupCall
     c = call proc group args inputs
 
@@ -151,7 +151,7 @@ module _ (plan : Plan) (asked : TxnId → whole.Call) (S : Scheme) (is : IsSchem
           let same = one_union plan asked S is laws w log o nw k.of kept k.edges good g in
           rw e (ap not ((Decides-is_edges kept k.edges).1 same))
 
-  commit_taken-here : (m : Sent) → Has m w.sent → (id : TxnId) (edges : List Dependency) (facts : List KnownList) → m.msg ≡ Commit id edges facts → m.to ≡ Server (record { 0 = n }) → commit_fault s id edges facts ≡ None
+  commit_taken-here : (m : Envelope) → Has m w.sent → (id : TxnId) (edges : List Dependency) (facts : List KnownList) → m.msg ≡ Commit id edges facts → m.to ≡ Server (record { 0 = n }) → commit_fault s id edges facts ≡ None
   commit_taken-here m has id edges facts msg to =
       let means = subst (λ to. Means plan asked S (start_store plan.program) log (Commit id edges facts) to) to (subst (λ msg. Means plan asked S (start_store plan.program) log msg m.to) msg (o.means.messages m has)) in
       let good : (k : KnownList) → Has k (list_with id edges ∷ facts) → Good plan asked S is laws w.sent k.of k.edges = λ k h. nw.lists m has k (subst (λ msg. Has k (lists_in msg)) (sym msg) h) in
@@ -163,7 +163,7 @@ module _ (plan : Plan) (asked : TxnId → whole.Call) (S : Scheme) (is : IsSchem
       false≢true (ap not (sym ((Decides-is_edges f.edges edges).1 same)) ∙ p.1))) in
       rw (a, b, d) refl
 
-  known_taken-here : (m : Sent) → Has m w.sent → (id : TxnId) (edges : List Dependency) → m.msg ≡ Known id edges → m.to ≡ Server (record { 0 = n }) → known_fault s id edges ≡ None
+  known_taken-here : (m : Envelope) → Has m w.sent → (id : TxnId) (edges : List Dependency) → m.msg ≡ Known id edges → m.to ≡ Server (record { 0 = n }) → known_fault s id edges ≡ None
   known_taken-here m has id edges msg to =
       let f = subst (λ to. FetchedFor (IsAskedFor w.servers) (Known id edges) to) to (subst (λ msg. FetchedFor (IsAskedFor w.servers) msg m.to) msg (ha.sent m has)) in
       let a : was_asked_for id s.lists.waiting.asked ≡ true = subst (λ (v : ServerState). was_asked_for id v.lists.waiting.asked ≡ true) (same f.server f.there) f.was in
@@ -173,13 +173,13 @@ module _ (plan : Plan) (asked : TxnId → whole.Call) (S : Scheme) (is : IsSchem
       same : (v : ServerState) → slice_get w.servers n ≡ Some v → v ≡ s
       same v e = let f = there in cc
 
-  fetch_taken-here : (m : Sent) → Has m w.sent → (id : TxnId) (asker : Shard) → m.msg ≡ Fetch id asker → m.to ≡ Server (record { 0 = n }) → is_here id s.started ≡ true
+  fetch_taken-here : (m : Envelope) → Has m w.sent → (id : TxnId) (asker : Shard) → m.msg ≡ Fetch id asker → m.to ≡ Server (record { 0 = n }) → is_here id s.started ≡ true
   fetch_taken-here m has id asker msg to =
       begun_here id (subst (λ to. Means plan asked S (start_store plan.program) log (Fetch id asker) to) to (subst (λ msg. Means plan asked S (start_store plan.program) log msg m.to) msg (o.means.messages m has)))
 
   -- ---- any message
 
-  pub message_taken : (m : Sent) → Has m w.sent → m.to ≡ Server (record { 0 = n }) → (r : ServerStep) → Handles plan s m.msg r → r.answer ≡ Done
+  pub message_taken : (m : Envelope) → Has m w.sent → m.to ≡ Server (record { 0 = n }) → (r : ServerStep) → Handles plan s m.msg r → r.answer ≡ Done
   message_taken m has to r h = ap (λ (r : ServerStep). r.answer) h.is ∙ go m.msg refl
     where
       start_done : (f : Findings) (id : TxnId) (c : GroupCall) (x : Option Reason) → x ≡ None → (start_judged plan f.before f.reached s id c x).answer ≡ Done

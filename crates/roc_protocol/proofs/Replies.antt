@@ -4,7 +4,7 @@ use Rattle.std.proofs.lemmas.List.{length-map}
 use Rattle.std.proofs.lemmas.Bool.{false≢true, and_parts, and_from, eq-eqb, eqb-true, not-true}
 use Rattle.std.specs.Prelude.{filter, flat_map, zip, slice_index_or}
 use Rattle.std.specs.List.{list_any, range_with_len}
-use Rattle.roc_groups.proofs.Elements.{has_range}
+use Rattle.roc_merge_groups.proofs.Elements.{has_range}
 use Rattle.roc_sequence.specs.Lists.{Has}
 use Rattle.roc_sequence.specs.Places.{IsListed}
 use Rattle.roc_sequence.proofs.Holds.{any_has, has_any, every_has}
@@ -15,12 +15,12 @@ use Rattle.roc_base.specs.declared.node.Shard.{Shard}
 use Rattle.roc_rows.specs.Store.{Store}
 use Rattle.roc_plan.specs.Groups.{Plan, groups_of, outs_of, is_immediate_of}
 use Rattle.roc_whole.specs.Serial as whole
-use Rattle.roc_serial.specs.Behaviour.{TxnGroup, Yield}
-use Rattle.roc_serial.specs.Runs.{inputs_at, first_stage, after_groups, groups_before}
-use Rattle.roc_serial.proofs.Stages.{yielded_at}
-use Rattle.roc_execution.specs.Scheme.{Scheme}
-use Rattle.roc_execution.specs.Log.{Log, IsDecidedThroughout}
-use Rattle.roc_execution.specs.Invariants.{LogInvariants}
+use Rattle.roc_law_orders.specs.Behaviour.{TxnGroup, Yield}
+use Rattle.roc_law_orders.specs.Runs.{inputs_at, first_stage, after_groups, groups_before}
+use Rattle.roc_law_orders.proofs.Stages.{yielded_at}
+use Rattle.roc_law_log.specs.Scheme.{Scheme}
+use Rattle.roc_law_log.specs.Log.{Log, IsDecidedThroughout}
+use Rattle.roc_law_log.specs.Invariants.{LogInvariants}
 use Rattle.roc_coord.specs.declared.transaction.Transaction.{Transaction}
 use Rattle.roc_coord.specs.declared.transaction.SentStart.{SentStart}
 use Rattle.roc_coord.specs.declared.transaction.TakenStart.{TakenStart}
@@ -28,7 +28,7 @@ use Rattle.roc_coord.specs.declared.transaction.TakenCommit.{TakenCommit}
 use Rattle.roc_coord.specs.State.{was_asked, has_commitok}
 use Rattle.roc_coord.specs.Starts.{group_numbers, all_started, shards_of, shards_below}
 use Rattle.roc_coord.specs.Commits.{waits_on, groups_on, places_on, all_committed, given_by_start, given_by_commit, placed_by_startoks, placed_by_commitoks, placed_outs, out_at, reply_length, reply_of}
-use Rattle.roc_protocol.specs.Asked.{IsSchemeOf}
+use Rattle.roc_protocol.specs.PlanAssumptions.{IsSchemeOf}
 use Rattle.roc_protocol.proofs.Means.{run_of, place, Ran, stage, ToldMeans, DoneMeans, TxnMeans, waits_at, IsGiven, AnswerMeans}
 use Rattle.roc_protocol.proofs.Grows.{filter_same}
 use Rattle.roc_protocol.proofs.Coordinators.{number_below, below_number, numbers, told_all}

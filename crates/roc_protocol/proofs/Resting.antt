@@ -26,9 +26,9 @@ use Rattle.roc_audit.specs.Witness.{submitted_call, submitted_calls, IsSerialWit
 use Rattle.roc_audit.proofs.Histories.{call_of-append, call_of-submitted}
 use Rattle.roc_protocol.specs.declared.event.Event.{Event}
 use Rattle.roc_protocol.specs.declared.event.Event.TheVariants.{Submit, Deliver, Tick}
-use Rattle.roc_protocol.specs.World.{World, comes}
+use Rattle.roc_protocol.specs.World.{World, mark_delivered}
 use Rattle.roc_protocol.specs.Happens.{Outcome, IsReceived, answer_entries}
-use Rattle.roc_protocol.specs.Run.{Stepped, Comes, IsRun, goes_on}
+use Rattle.roc_protocol.specs.Run.{Stepped, Transition, IsRun, goes_on}
 use Rattle.roc_protocol.proofs.Submissions.{no_submission}
 use Rattle.roc_protocol.proofs.Worlds.{Submitting, is_refused, is_accepted, submitting}
 use Rattle.roc_protocol.proofs.Earlier.{order_goes_on}
@@ -40,7 +40,7 @@ data Leaves (w : World) (o : World) : Type 0 where
   leaves_all : o.servers ≡ w.servers → o.order ≡ w.order → Leaves w o
   submits_none : (more : List Entry) → o.history ≡ w.history ++ more → ((t : TxnId) (p : ℕ) (a : List ℤ) → ¬ Has (Submitted t p a) more) → Leaves w o
 
-leaves : (plan : Plan) (w : World) (e : Option Event) (o : Outcome) → Comes plan w e o → Leaves w o.world
+leaves : (plan : Plan) (w : World) (e : Option Event) (o : Outcome) → Transition plan w e o → Leaves w o.world
 leaves plan w None o h = subst (λ (o : Outcome). Leaves w o.world) (sym h) (leaves_all refl refl)
 leaves plan w (Some (Submit n proc args)) o (s, there, h) = go (submitting plan w n proc args s o h)
   where
@@ -49,7 +49,7 @@ leaves plan w (Some (Submit n proc args)) o (s, there, h) = go (submitting plan 
     go (is_accepted known counted e) = subst (Leaves w) (sym e) (leaves_all refl refl)
 leaves plan w (Some (Deliver k)) o (m, some, there, h) = go m.to h
   where
-    go : (to : Node) → IsReceived plan (comes w k) m.msg to o → Leaves w o.world
+    go : (to : Node) → IsReceived plan (mark_delivered w k) m.msg to o → Leaves w o.world
     go (Server shard) (s, r, at, step, e) = subst (λ (o : Outcome). Leaves w o.world) (sym e) (submits_none [] (sym (append-nil w.history)) (λ t p a h. h))
     go (Coord n) (s, at, e) = subst (λ (o : Outcome). Leaves w o.world) (sym e) (submits_none (answer_entries (after_message plan s m.msg).answer) refl (no_submission (after_message plan s m.msg).answer))
 leaves plan w (Some (Tick (Server shard))) o (s, there, e) = subst (λ (o : Outcome). Leaves w o.world) (sym e) (submits_none [] (sym (append-nil w.history)) (λ t p a h. h))
@@ -83,7 +83,7 @@ module _ (plan : Plan) (coords : ℕ) (steps : List Stepped) (w : World) (run : 
       let a = all t (s.0, s.1, old) in
       (serials steps w run).answered t a.0 a.1))
 
-  pub order_rests : AreAllAnswered w → (e : Option Event) (o : Outcome) → Comes plan w e o → o.world.order ≡ w.order
+  pub order_rests : AreAllAnswered w → (e : Option Event) (o : Outcome) → Transition plan w e o → o.world.order ≡ w.order
   order_rests all e o h = let g = order_goes_on plan w e o h in order_by all o.world (steps ++ (record { event = e; outcome = o }) ∷ []) (goes_on e o run h) g.0 g.1 (leaves plan w e o h)
 
   module _ (cells : (steps : List Stepped) (v : World) → IsRun plan coords steps v → AreAllAnswered v → (x : Cell) → IsCellSerial plan v x)
@@ -117,5 +117,5 @@ module _ (plan : Plan) (coords : ℕ) (steps : List Stepped) (w : World) (run : 
             (let c = call_of-submitted is_txn-same w.history t ((serials steps w run).submitted t (has_listed w.order t h)) in
             ap (submitted_call t) is ∙ call_of-append w.history more t c.0 c.1 ∙ sym c.1))
 
-    pub stores_rest : AreAllAnswered w → (e : Option Event) (o : Outcome) → Comes plan w e o → (n : ℕ) (s v : ServerState) → slice_get w.servers n ≡ Some s → slice_get o.world.servers n ≡ Some v → v.store ≡ s.store
+    pub stores_rest : AreAllAnswered w → (e : Option Event) (o : Outcome) → Transition plan w e o → (n : ℕ) (s v : ServerState) → slice_get w.servers n ≡ Some s → slice_get o.world.servers n ≡ Some v → v.store ≡ s.store
     stores_rest all e o h = stores_by all o.world (steps ++ (record { event = e; outcome = o }) ∷ []) (goes_on e o run h) (order_rests all e o h) (leaves plan w e o h)

@@ -13,9 +13,9 @@ use Rattle.roc_rows.specs.Store.{Store}
 use Rattle.roc_plan.specs.declared.group.Input.{Input}
 use Rattle.roc_plan.specs.Groups.{Plan, inputs_of}
 use Rattle.roc_whole.specs.Serial as whole
-use Rattle.roc_execution.specs.Scheme.{Scheme}
-use Rattle.roc_execution.specs.Log.{Log}
-use Rattle.roc_execution.specs.Invariants.{LogInvariants}
+use Rattle.roc_law_log.specs.Scheme.{Scheme}
+use Rattle.roc_law_log.specs.Log.{Log}
+use Rattle.roc_law_log.specs.Invariants.{LogInvariants}
 use Rattle.roc_coord.specs.declared.transaction.Transaction.{Transaction}
 use Rattle.roc_coord.specs.declared.transaction.SentStart.{SentStart}
 use Rattle.roc_coord.specs.declared.transaction.TakenStart.{TakenStart}
@@ -24,7 +24,7 @@ use Rattle.roc_coord.specs.State.{find_start, find_startok, was_asked}
 use Rattle.roc_coord.specs.Starts.{group_numbers, is_ready, can_start, ready_groups, shard_for, sent_start, with_starts, all_started, shards_of, shards_below}
 use Rattle.roc_coord.specs.Step.{with_commits, with_startok, with_commitok}
 use Rattle.roc_coord.specs.Submit.{unstarted}
-use Rattle.roc_protocol.specs.Asked.{IsSchemeOf}
+use Rattle.roc_protocol.specs.PlanAssumptions.{IsSchemeOf}
 use Rattle.roc_protocol.proofs.Means.{HasBegun, run_of, place, ToldMeans, StartMeans, DoneMeans, TxnMeans}
 use Rattle.roc_protocol.proofs.Coordinators.{told_all, IsTold, number_below, told_of, ready_group}
 

@@ -14,20 +14,20 @@ use Rattle.roc_base.specs.Equalities.{is_txn-true, is_txn-same}
 use Rattle.roc_rows.specs.Store.{Store}
 use Rattle.roc_plan.specs.Groups.{Plan, inputs_of}
 use Rattle.roc_whole.specs.Serial as whole
-use Rattle.roc_group.specs.Group_run.{group_run}
-use Rattle.roc_serial.specs.Behaviour.{TxnGroup, is_txn_group, Yield}
-use Rattle.roc_serial.specs.Runs.{Stage, needs, inputs_at, after_group, after_groups}
-use Rattle.roc_serial.specs.Orders.{all_groups, one_by_one}
-use Rattle.roc_serial.proofs.SameGroups.{same_group}
-use Rattle.roc_serial.proofs.Stages.{after-yielded_other, same_inputs}
-use Rattle.roc_execution.specs.Scheme.{Scheme}
-use Rattle.roc_execution.specs.Log.{Log, IsWhole}
-use Rattle.roc_execution.specs.Steps.{waits_here, waiting_here}
+use Rattle.roc_group.specs.GroupRun.{group_run}
+use Rattle.roc_law_orders.specs.Behaviour.{TxnGroup, is_txn_group, Yield}
+use Rattle.roc_law_orders.specs.Runs.{Stage, needs, inputs_at, after_group, after_groups}
+use Rattle.roc_law_orders.specs.Orders.{all_groups, one_by_one}
+use Rattle.roc_law_orders.proofs.SameGroups.{same_group}
+use Rattle.roc_law_orders.proofs.Stages.{after-yielded_other, same_inputs}
+use Rattle.roc_law_log.specs.Scheme.{Scheme}
+use Rattle.roc_law_log.specs.Log.{Log, IsWhole}
+use Rattle.roc_law_log.specs.Steps.{waits_here, waiting_here}
 use Rattle.roc_server.specs.declared.started.StartedGroup.{StartedGroup}
 use Rattle.roc_server.specs.State.{is_group, ServerState}
 use Rattle.roc_server.specs.Runs.{group_call, with_later, run_group, run_groups, buffered_here, take_all}
 use Rattle.roc_server.specs.State.{unrun}
-use Rattle.roc_protocol.specs.Asked.{picked, called, IsSchemeOf}
+use Rattle.roc_protocol.specs.PlanAssumptions.{picked, called, IsSchemeOf}
 use Rattle.roc_protocol.specs.Inner.Given.{LogLaws}
 use Rattle.roc_protocol.proofs.Means.{entry_run, Ran, stage, EntryMeans, AreGroupsHere, IsPart}
 use Rattle.roc_protocol.proofs.Local.{call_is, run_cells, run_elsewhere, run_outs}

@@ -7,10 +7,10 @@ use Rattle.roc_protocol.specs.declared.event.Seen.TheVariants as seen
 use Rattle.roc_protocol.specs.World.{World}
 use Rattle.roc_protocol.specs.Fits.{FitsWorld}
 use Rattle.roc_protocol.specs.Happens.{Outcome, undecided, Happens}
-use Rattle.roc_protocol.specs.Run.{Stepped, Comes, IsRun, begun, goes_on, IsEventOf, MayHappen}
+use Rattle.roc_protocol.specs.Run.{Stepped, Transition, IsRun, begun, goes_on, IsEventOf, MayHappen}
 use Rattle.roc_protocol.proofs.WorldsFit.{kept, first}
 
-pub comes_fits : (plan : Plan) (w : World) (e : Option Event) (o : Outcome) → FitsWorld plan w → Comes plan w e o → FitsWorld plan o.world
+pub comes_fits : (plan : Plan) (w : World) (e : Option Event) (o : Outcome) → FitsWorld plan w → Transition plan w e o → FitsWorld plan o.world
 comes_fits plan w None o fits h = subst (λ (o : Outcome). FitsWorld plan o.world) (sym h) fits
 comes_fits plan w (Some e) o fits h = kept plan w fits e o h
 

@@ -6,15 +6,15 @@ use Rattle.roc_base.specs.declared.id.TxnId.{TxnId}
 use Rattle.roc_plan.specs.Groups.{Plan}
 use Rattle.roc_whole.specs.Serial as whole
 use Rattle.roc_whole.specs.Serial.{start_store}
-use Rattle.roc_execution.specs.Scheme.{Scheme, IsSoundScheme}
-use Rattle.roc_execution.specs.Log.{Log}
+use Rattle.roc_law_log.specs.Scheme.{Scheme, IsSoundScheme}
+use Rattle.roc_law_log.specs.Log.{Log}
 use Rattle.roc_audit.specs.declared.entry.Entry.{Entry}
 use Rattle.roc_audit.specs.declared.entry.Entry.TheVariants.{Submitted}
 use Rattle.roc_audit.specs.History.{WasSubmitted}
 use Rattle.roc_audit.specs.Witness.{submitted_call, IsSerialWitness}
 use Rattle.roc_audit.proofs.Histories.{call_of-is, call_of-id, call_of-from}
 use Rattle.roc_base.specs.Equalities.{is_txn-true}
-use Rattle.roc_protocol.specs.Asked.{IsSchemeOf, HasSchemes}
+use Rattle.roc_protocol.specs.PlanAssumptions.{IsSchemeOf, HasSchemes}
 use Rattle.roc_protocol.specs.World.{World}
 use Rattle.roc_protocol.specs.Run.{Stepped, IsRun}
 use Rattle.roc_protocol.specs.Inner.Given.{LogLaws}

@@ -17,7 +17,7 @@ use Rattle.roc_rows.specs.Store.{Store}
 use Rattle.roc_depgraph.specs.declared.known.KnownList.{KnownList}
 use Rattle.roc_depgraph.specs.Deps.{list_of, is_known, IsKnown, IsDecided}
 use Rattle.roc_depgraph.proofs.Listed.{has_listed}
-use Rattle.roc_await.specs.declared.waits.Asked.{Asked}
+use Rattle.roc_await.specs.declared.waits.OpenFetch.{OpenFetch}
 use Rattle.roc_await.specs.Waits.{askers_of}
 use Rattle.roc_msg.specs.declared.msg.Msg.{Msg}
 use Rattle.roc_msg.specs.declared.msg.Msg.TheVariants.{Start, StartOk, Commit, CommitOk, Fetch, Known, Stop}
@@ -27,23 +27,23 @@ use Rattle.roc_msg.specs.declared.reason.Reason.TheVariants.{NotHere, Foreign}
 use Rattle.roc_msg.specs.Facts.{is_fact_before}
 use Rattle.roc_plan.specs.Groups.{Plan}
 use Rattle.roc_whole.specs.Serial as whole
-use Rattle.roc_group.specs.Group_run.{call}
-use Rattle.roc_serial.specs.Behaviour.{TxnGroup}
-use Rattle.roc_execution.specs.Scheme.{Scheme}
-use Rattle.roc_execution.specs.Log.{Log}
-use Rattle.roc_execution.specs.Steps.{LogSteps, no_steps, one_step_more, new_in}
-use Rattle.roc_execution.specs.Invariants.{LogInvariants, LogGrows}
+use Rattle.roc_group.specs.GroupRun.{call}
+use Rattle.roc_law_orders.specs.Behaviour.{TxnGroup}
+use Rattle.roc_law_log.specs.Scheme.{Scheme}
+use Rattle.roc_law_log.specs.Log.{Log}
+use Rattle.roc_law_log.specs.Steps.{LogSteps, no_steps, one_step_more, new_in}
+use Rattle.roc_law_log.specs.Invariants.{LogInvariants, LogGrows}
 use Rattle.roc_server.specs.declared.started.StartedGroup.{StartedGroup}
 use Rattle.roc_server.specs.State.{ignored, answered, is_group, is_here, find_group, ServerState, ServerStep}
-use Rattle.roc_lists.specs.New.{AreNew}
+use Rattle.roc_server_lists.specs.New.{AreNew}
 use Rattle.roc_server.specs.Start.{start_fault, start_taken, start_judged, startok_of, new_group, start_new}
 use Rattle.roc_server.specs.Runs.{commitok_of, outs_here}
-use Rattle.roc_lists.specs.Carried.{list_with, carried, unknown_of}
-use Rattle.roc_lists.specs.Asking.{known_to, knowns_for, fetch_from}
+use Rattle.roc_server_lists.specs.Carried.{list_with, carried, unknown_of}
+use Rattle.roc_server_lists.specs.Asking.{known_to, knowns_for, fetch_from}
 use Rattle.roc_server.specs.Lists.{missing_from, taught, commit_fault, commit_taken, after_commit, fetch_taken, after_fetch, known_fault, after_known}
 use Rattle.roc_server.specs.Step.{Findings, AreFindings, unless_ignored, after_message, Handles, tick_sends}
 use Rattle.roc_audit.specs.Order.{noted}
-use Rattle.roc_protocol.specs.Asked.{IsSchemeOf}
+use Rattle.roc_protocol.specs.PlanAssumptions.{IsSchemeOf}
 use Rattle.roc_protocol.specs.World.{World, at_server}
 use Rattle.roc_protocol.specs.Inner.Given.{LogLaws}
 use Rattle.roc_protocol.proofs.Means.{Began, Means, ListMeans, AllMean, StartIs, DoneMeans, ServerMeans, WorldMeans}
@@ -280,5 +280,5 @@ module _ (plan : Plan) (asked : TxnId → whole.Call) (S : Scheme) (start : Stor
   pub tick_explained : IsExplained (answered s (tick_sends s))
   tick_explained =
       still (answered s (tick_sends s)) mine
-      (λ out h. let q = from_has_map (fetch_from s.shard) out (filter (λ (a : Asked). not (is_known s.lists.known a.id)) s.lists.waiting.asked) h in subst (λ (out : Outgoing). Means plan asked S start c out.msg out.to) (sym q.2) (mine.fetched q.0 (from_has_filter (λ (a : Asked). not (is_known s.lists.known a.id)) q.0 s.lists.waiting.asked q.1).0))
+      (λ out h. let q = from_has_map (fetch_from s.shard) out (filter (λ (a : OpenFetch). not (is_known s.lists.known a.id)) s.lists.waiting.asked) h in subst (λ (out : Outgoing). Means plan asked S start c out.msg out.to) (sym q.2) (mine.fetched q.0 (from_has_filter (λ (a : OpenFetch). not (is_known s.lists.known a.id)) q.0 s.lists.waiting.asked q.1).0))
       refl

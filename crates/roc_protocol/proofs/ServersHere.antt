@@ -17,7 +17,7 @@ use Rattle.roc_base.specs.Edge.{Dependency}
 use Rattle.roc_base.specs.Edges.{united}
 use Rattle.roc_depgraph.specs.declared.known.KnownList.{KnownList}
 use Rattle.roc_depgraph.specs.Deps.{list_of, is_known, IsKnown}
-use Rattle.roc_await.specs.declared.waits.Asked.{Asked}
+use Rattle.roc_await.specs.declared.waits.OpenFetch.{OpenFetch}
 use Rattle.roc_await.specs.declared.waits.Asker.{Asker}
 use Rattle.roc_await.specs.Waits.{is_asked_before, is_asker_before, with_asked, with_all_asked, askers_of}
 use Rattle.roc_msg.specs.declared.msg.Msg.{Msg}
@@ -27,15 +27,15 @@ use Rattle.roc_msg.specs.declared.reason.Reason.{Reason}
 use Rattle.roc_msg.specs.declared.reason.Reason.TheVariants.{NotHere, Foreign, Differs, Late, BadProc, BadGroup, BadInputs}
 use Rattle.roc_msg.specs.Facts.{is_fact_before}
 use Rattle.roc_plan.specs.Groups.{Plan, procedure_of, groups_of, inputs_of, shard_of, group_place}
-use Rattle.roc_group.specs.Group_run.{GroupCall, call, group_uses}
+use Rattle.roc_group.specs.GroupRun.{GroupCall, call, group_uses}
 use Rattle.roc_server.specs.declared.started.StartedGroup.{StartedGroup}
 use Rattle.roc_server.specs.Fits.{IsCallOf, ServerFits}
 use Rattle.roc_server.specs.State.{ignored, answered, is_here, is_group, find_group, Lists, ServerState, ServerStep}
-use Rattle.roc_lists.specs.Told.{facts_of}
+use Rattle.roc_server_lists.specs.Piggyback.{facts_of}
 use Rattle.roc_server.specs.Start.{first_reason, has_procedure, has_counts, differs, start_fault, start_taken, start_judged, startok_of, new_group, is_predecessor, is_immediate_group, edge_to}
 use Rattle.roc_server.specs.Runs.{group_call, commitok_of}
-use Rattle.roc_lists.specs.Carried.{list_with, carried, unknown_of}
-use Rattle.roc_lists.specs.Asking.{asked_of, known_to, knowns_for, fetch_from}
+use Rattle.roc_server_lists.specs.Carried.{list_with, carried, unknown_of}
+use Rattle.roc_server_lists.specs.Asking.{asked_of, known_to, knowns_for, fetch_from}
 use Rattle.roc_server.specs.Lists.{commit_differs, lists_after, is_missing, missing_from, taught, commit_fault, after_commit, fetch_taken, after_fetch, known_fault, after_known}
 use Rattle.roc_server.specs.Step.{Findings, AreFindings, Handles, after_message, tick_sends}
 use Rattle.roc_server.specs.State.{unrun}
@@ -84,7 +84,7 @@ module _ (plan : Plan) (servers coords : ℕ) (s : ServerState) (own : s.shard.0
   answers outs sends = record { state = here; fits = of_plan; shard = refl; sends = sends }
 
   -- lists are asked for
-  fetches_here : (asks : List Asked) → AllByRecursion (λ (a : Asked). a.at.0 < servers) asks → AreOutsHere (map (fetch_from s.shard) asks)
+  fetches_here : (asks : List OpenFetch) → AllByRecursion (λ (a : OpenFetch). a.at.0 < servers) asks → AreOutsHere (map (fetch_from s.shard) asks)
   fetches_here [] h = tt
   fetches_here (a ∷ asks) h = ((h.0, own), fetches_here asks h.1)
 
@@ -132,9 +132,9 @@ module _ (plan : Plan) (servers coords : ℕ) (s : ServerState) (own : s.shard.0
       let q = any_has (λ (e : StartedGroup). is_txn e.id t) s.started h in
       subst (λ (u : TxnId). u.coord < coords) (is_txn-true q.0.id t q.2) (all_has (IsStartedHere servers coords) q.0 s.started here.started q.1).coord
 
-  all_asked : (more old : List Asked) → AllByRecursion (λ (a : Asked). a.at.0 < servers) more → AllByRecursion (λ (a : Asked). a.at.0 < servers) old → AllByRecursion (λ (a : Asked). a.at.0 < servers) (with_all_asked more old)
+  all_asked : (more old : List OpenFetch) → AllByRecursion (λ (a : OpenFetch). a.at.0 < servers) more → AllByRecursion (λ (a : OpenFetch). a.at.0 < servers) old → AllByRecursion (λ (a : OpenFetch). a.at.0 < servers) (with_all_asked more old)
   all_asked [] old h k = k
-  all_asked (a ∷ more) old h k = all_asked more (with_asked a old) h.1 (all_in_place (λ (a : Asked). a.at.0 < servers) is_asked_before a old h.0 k)
+  all_asked (a ∷ more) old h k = all_asked more (with_asked a old) h.1 (all_in_place (λ (a : OpenFetch). a.at.0 < servers) is_asked_before a old h.0 k)
 
   -- a group that has run is the one that started
   same_here : (e f : StartedGroup) → unrun e ≡ unrun f → IsStartedHere servers coords f → IsStartedHere servers coords e
@@ -158,12 +158,12 @@ module _ (plan : Plan) (servers coords : ℕ) (s : ServerState) (own : s.shard.0
     known_here : AreListsHere servers coords all_known
     known_here = all_append (λ (k : KnownList). AreSeenHere servers coords k.edges) s.lists.known news here.known good
 
-    missing_here : AllByRecursion (λ (a : Asked). a.at.0 < servers) (missing_from s all_known)
+    missing_here : AllByRecursion (λ (a : OpenFetch). a.at.0 < servers) (missing_from s all_known)
     missing_here =
         let entries = flat_map (λ (k : KnownList). k.edges) all_known in
         let seen = seen_united servers coords entries (all_flat (λ (d : Dependency). d.at.0 < servers) (λ (k : KnownList). k.edges) all_known known_here) in
-        has_all (λ (a : Asked). a.at.0 < servers) (missing_from s all_known) (λ a h. (let q = from_has_map asked_of a (filter (is_missing s all_known) (united entries)) h in
-        subst (λ (a : Asked). a.at.0 < servers) (sym q.2) (all_has (λ (d : Dependency). d.at.0 < servers) q.0 (united entries) seen (from_has_filter (is_missing s all_known) q.0 (united entries) q.1).0)))
+        has_all (λ (a : OpenFetch). a.at.0 < servers) (missing_from s all_known) (λ a h. (let q = from_has_map asked_of a (filter (is_missing s all_known) (united entries)) h in
+        subst (λ (a : OpenFetch). a.at.0 < servers) (sym q.2) (all_has (λ (d : Dependency). d.at.0 < servers) q.0 (united entries) seen (from_has_filter (is_missing s all_known) q.0 (united entries) q.1).0)))
 
     lists_are : r.state.lists ≡ lists_after s news
     lists_are = (take_keeps plan ts before_run).0
@@ -173,7 +173,7 @@ module _ (plan : Plan) (servers coords : ℕ) (s : ServerState) (own : s.shard.0
         record {
           started = has_all (IsStartedHere servers coords) r.state.started (λ e h. (let q = (take_same plan ts before_run).from e h in same_here e q.0 q.2 (all_has (IsStartedHere servers coords) q.0 s.started here.started q.1)));
           known = subst (λ (l : Lists). AreListsHere servers coords l.known) (sym lists_are) known_here;
-          asked = subst (λ (l : Lists). AllByRecursion (λ (a : Asked). a.at.0 < servers) l.waiting.asked) (sym lists_are) (all_asked (missing_from s all_known) s.lists.waiting.asked missing_here here.asked);
+          asked = subst (λ (l : Lists). AllByRecursion (λ (a : OpenFetch). a.at.0 < servers) l.waiting.asked) (sym lists_are) (all_asked (missing_from s all_known) s.lists.waiting.asked missing_here here.asked);
           askers = subst (λ (l : Lists). AllByRecursion (λ (a : Asker). a.shard.0 < servers) l.waiting.askers) (sym lists_are) (all_filter (λ (a : Asker). a.shard.0 < servers) (λ (a : Asker). not (list_any (λ (k : KnownList). is_txn k.of a.id) news)) s.lists.waiting.askers here.askers);
         }
 
@@ -261,4 +261,4 @@ module _ (plan : Plan) (servers coords : ℕ) (s : ServerState) (own : s.shard.0
       go Stop f found k = ignores Foreign
 
   pub tick_keeps : KeepsServer (answered s (tick_sends s))
-  tick_keeps = answers (tick_sends s) (fetches_here (filter (λ (a : Asked). not (is_known s.lists.known a.id)) s.lists.waiting.asked) (all_filter (λ (a : Asked). a.at.0 < servers) (λ (a : Asked). not (is_known s.lists.known a.id)) s.lists.waiting.asked here.asked))
+  tick_keeps = answers (tick_sends s) (fetches_here (filter (λ (a : OpenFetch). not (is_known s.lists.known a.id)) s.lists.waiting.asked) (all_filter (λ (a : OpenFetch). a.at.0 < servers) (λ (a : OpenFetch). not (is_known s.lists.known a.id)) s.lists.waiting.asked here.asked))

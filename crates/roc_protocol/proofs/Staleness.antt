@@ -18,19 +18,19 @@ use Rattle.roc_program.specs.Values.{value_of_name}
 use Rattle.roc_depgraph.specs.declared.known.KnownList.{KnownList}
 use Rattle.roc_msg.specs.declared.msg.Msg.{Msg}
 use Rattle.roc_msg.specs.declared.msg.Msg.TheVariants.{Start, StartOk, Commit, CommitOk, Fetch, Known, Stop}
-use Rattle.roc_msg.specs.declared.msg.Sent.{Sent}
+use Rattle.roc_msg.specs.declared.msg.Envelope.{Envelope}
 use Rattle.roc_msg.specs.declared.reason.Reason.{Reason}
 use Rattle.roc_msg.specs.declared.reason.Reason.TheVariants.{Stale, Unfit}
 use Rattle.roc_plan.specs.Groups.{Plan, groups_of, bound_of, outs_of, is_immediate_of}
 use Rattle.roc_whole.specs.Serial as whole
 use Rattle.roc_whole.specs.Serial.{start_store}
-use Rattle.roc_group.specs.Group_run.{group_run}
-use Rattle.roc_serial.specs.Behaviour.{TxnGroup, Yield}
-use Rattle.roc_serial.specs.Runs.{inputs_at, first_stage, after_groups, groups_before}
-use Rattle.roc_serial.proofs.Stages.{yielded_at}
-use Rattle.roc_execution.specs.Scheme.{Scheme}
-use Rattle.roc_execution.specs.Log.{Log}
-use Rattle.roc_execution.specs.Invariants.{LogInvariants}
+use Rattle.roc_group.specs.GroupRun.{group_run}
+use Rattle.roc_law_orders.specs.Behaviour.{TxnGroup, Yield}
+use Rattle.roc_law_orders.specs.Runs.{inputs_at, first_stage, after_groups, groups_before}
+use Rattle.roc_law_orders.proofs.Stages.{yielded_at}
+use Rattle.roc_law_log.specs.Scheme.{Scheme}
+use Rattle.roc_law_log.specs.Log.{Log}
+use Rattle.roc_law_log.specs.Invariants.{LogInvariants}
 use Rattle.roc_server.specs.declared.started.StartedGroup.{StartedGroup}
 use Rattle.roc_server.specs.State.{is_group, is_here, ServerState}
 use Rattle.roc_coord.specs.declared.handled.Handled.TheVariants.{Ignored}
@@ -40,7 +40,7 @@ use Rattle.roc_coord.specs.State.{find_transaction, find_startok, was_asked, has
 use Rattle.roc_coord.specs.Starts.{all_started, shards_of, bound_count, out_count}
 use Rattle.roc_coord.specs.Commits.{places_on}
 use Rattle.roc_coord.specs.Step.{unless_refused, is_fit_startok, with_startok, startok_taken, after_startok, is_asked, is_fit_commitok, with_commitok, reply_now, commitok_taken, after_commitok, after_message}
-use Rattle.roc_protocol.specs.Asked.{called, IsSchemeOf}
+use Rattle.roc_protocol.specs.PlanAssumptions.{called, IsSchemeOf}
 use Rattle.roc_protocol.specs.World.{World}
 use Rattle.roc_protocol.specs.Inner.Given.{LogLaws}
 use Rattle.roc_protocol.proofs.Means.{run_of, Ran, stage, Means, DoneMeans, TxnMeans, waits_at}
@@ -65,7 +65,7 @@ module _ (plan : Plan) (asked : TxnId → whole.Call) (S : Scheme) (is : IsSchem
 
   -- ---- a startok
 
-  module _ (m : Sent) (has : Has m w.sent) (to : m.to ≡ Coord n) (id : TxnId) (g : ℕ) (shard : Shard) (bound outs : List ℤ) (edges : List Dependency) (facts : List KnownList) (msg : m.msg ≡ StartOk id g shard bound outs edges facts) (x : Transaction) (pending : Has x s.pending) (same : x.id ≡ id) where
+  module _ (m : Envelope) (has : Has m w.sent) (to : m.to ≡ Coord n) (id : TxnId) (g : ℕ) (shard : Shard) (bound outs : List ℤ) (edges : List Dependency) (facts : List KnownList) (msg : m.msg ≡ StartOk id g shard bound outs edges facts) (x : Transaction) (pending : Has x s.pending) (same : x.id ≡ id) where
     means : Means plan asked S (start_store plan.program) log (StartOk id g shard bound outs edges facts) m.to
     means = subst (λ msg. Means plan asked S (start_store plan.program) log msg m.to) msg (l.means.messages m has)
 
@@ -108,7 +108,7 @@ module _ (plan : Plan) (asked : TxnId → whole.Call) (S : Scheme) (is : IsSchem
 
   -- ---- a commitok
 
-  module _ (m : Sent) (has : Has m w.sent) (to : m.to ≡ Coord n) (id : TxnId) (shard : Shard) (outs : List ℤ) (msg : m.msg ≡ CommitOk id shard outs) (x : Transaction) (pending : Has x s.pending) (same : x.id ≡ id) where
+  module _ (m : Envelope) (has : Has m w.sent) (to : m.to ≡ Coord n) (id : TxnId) (shard : Shard) (outs : List ℤ) (msg : m.msg ≡ CommitOk id shard outs) (x : Transaction) (pending : Has x s.pending) (same : x.id ≡ id) where
     done : Means plan asked S (start_store plan.program) log (CommitOk id shard outs) m.to
     done = subst (λ msg. Means plan asked S (start_store plan.program) log msg m.to) msg (l.means.messages m has)
 
@@ -155,7 +155,7 @@ module _ (plan : Plan) (asked : TxnId → whole.Call) (S : Scheme) (is : IsSchem
 
   -- ---- any message
 
-  pub message_stale : (m : Sent) → Has m w.sent → m.to ≡ Coord n → (why : Reason) → (after_message plan s m.msg).answer ≡ Ignored why → why ≡ Stale
+  pub message_stale : (m : Envelope) → Has m w.sent → m.to ≡ Coord n → (why : Reason) → (after_message plan s m.msg).answer ≡ Ignored why → why ≡ Stale
   message_stale m has to why e = go m.msg refl e
     where
       only : Ignored Stale ≡ Ignored why → why ≡ Stale

@@ -26,20 +26,20 @@ use Rattle.roc_depgraph.specs.Deps.{IsKnown, IsDecided}
 use Rattle.roc_plan.specs.Groups.{Plan, is_immediate_of}
 use Rattle.roc_whole.specs.Serial as whole
 use Rattle.roc_group.specs.Accesses.{do_conflict}
-use Rattle.roc_group.specs.Group_run.{GroupCall, call, group_run, bound_by_run}
-use Rattle.roc_serial.specs.Behaviour.{TxnGroup, is_txn_group, Meet, Yield}
-use Rattle.roc_serial.specs.Runs.{Stage, inputs_at, stage_behind, stage_before, uses_at, uses_in, after_group, after_groups, groups_before, Conflict}
-use Rattle.roc_serial.proofs.SameGroups.{same_group, is_group-same}
-use Rattle.roc_serial.proofs.Places.{before_past, before_itself}
-use Rattle.roc_execution.specs.Scheme.{Scheme}
-use Rattle.roc_execution.specs.Log.{Log}
-use Rattle.roc_execution.specs.Steps.{MayStart, with_start, IsReachedLog, LogStep, group_starts, no_steps, one_step_more}
-use Rattle.roc_execution.specs.Invariants.{LogInvariants, LogGrows}
+use Rattle.roc_group.specs.GroupRun.{GroupCall, call, group_run, bound_by_run}
+use Rattle.roc_law_orders.specs.Behaviour.{TxnGroup, is_txn_group, Meet, Yield}
+use Rattle.roc_law_orders.specs.Runs.{Stage, inputs_at, stage_behind, stage_before, uses_at, uses_in, after_group, after_groups, groups_before, Conflict}
+use Rattle.roc_law_orders.proofs.SameGroups.{same_group, is_group-same}
+use Rattle.roc_law_orders.proofs.Places.{before_past, before_itself}
+use Rattle.roc_law_log.specs.Scheme.{Scheme}
+use Rattle.roc_law_log.specs.Log.{Log}
+use Rattle.roc_law_log.specs.Steps.{MayStart, with_start, IsReachedLog, LogStep, group_starts, no_steps, one_step_more}
+use Rattle.roc_law_log.specs.Invariants.{LogInvariants, LogGrows}
 use Rattle.roc_server.specs.declared.started.StartedGroup.{StartedGroup}
 use Rattle.roc_server.specs.State.{is_group, find_group, ServerState}
 use Rattle.roc_server.specs.Start.{is_immediate_group, is_predecessor, edge_to, new_group, start_new}
 use Rattle.roc_server.specs.State.{unrun}
-use Rattle.roc_protocol.specs.Asked.{called, use_of, IsSchemeOf}
+use Rattle.roc_protocol.specs.PlanAssumptions.{called, use_of, IsSchemeOf}
 use Rattle.roc_protocol.specs.Inner.Given.{LogLaws}
 use Rattle.roc_protocol.proofs.Means.{run_of, entry_run, place, Precedes, Ran, Began, stage, EdgesMean, ListMeans, ToldMeans, StartIs, EntryMeans, ServerMeans}
 use Rattle.roc_protocol.proofs.Grows.{begun_grows, place_grows, values_grow, entry_grows, list_grows, all_grow}
@@ -57,7 +57,7 @@ shard_number (Server s) = s.0
 shard_number (Coord n) = 0
 
 module _ (plan : Plan) (asked : TxnId → whole.Call) (S : Scheme) (start : Store) (is : IsSchemeOf plan asked S) (laws : LogLaws S start) (c : Log) (reached : IsReachedLog S start c) (n : ℕ) (s : ServerState) (o : ServerMeans plan asked S start c n s) where
-  module _ (id : TxnId) (proc group : ℕ) (args inputs : List ℤ) (m : StartIs plan asked S start c id proc group args inputs (Server (record { 0 = n }))) (none : find_group id group s.started ≡ None) (out ids : List TxnId) (left : (t : TxnId) → IsListed is_txn out t → IsDecided s.lists.known t) (led : (u : TxnId) → IsListed is_txn ids u → IsKnown s.lists.known u) where
+  module _ (id : TxnId) (proc group : ℕ) (args inputs : List ℤ) (m : StartIs plan asked S start c id proc group args inputs (Server (record { 0 = n }))) (none : find_group id group s.started ≡ None) (left_out ids : List TxnId) (left : (t : TxnId) → IsListed is_txn left_out t → IsDecided s.lists.known t) (led : (u : TxnId) → IsListed is_txn ids u → IsKnown s.lists.known u) where
     abbrev r : TxnGroup
     r = run_of id group
 
@@ -68,7 +68,7 @@ module _ (plan : Plan) (asked : TxnId → whole.Call) (S : Scheme) (start : Stor
     this = call proc group args inputs
 
     abbrev entry : StartedGroup
-    entry = new_group plan out ids s id this
+    entry = new_group plan left_out ids s id this
 
     pub i : LogInvariants S start c
     i = laws.holds c reached
@@ -82,7 +82,7 @@ module _ (plan : Plan) (asked : TxnId → whole.Call) (S : Scheme) (start : Stor
         go : (e : StartedGroup) × (find_group id group s.started ≡ Some e) → ⊥
         go f = let a = f.1 in let b = none in cc
 
-    pub may : MayStart S start c r out
+    pub may : MayStart S start c r left_out
     may =
         record {
           new = new;
@@ -92,10 +92,10 @@ module _ (plan : Plan) (asked : TxnId → whole.Call) (S : Scheme) (start : Stor
         }
 
     abbrev pub d : Log
-    d = with_start S c r out
+    d = with_start S c r left_out
 
     pub step : LogStep S start c d
-    step = group_starts r out may
+    step = group_starts r left_out may
 
     pub reached_after : IsReachedLog S start d
     reached_after = one_step_more reached step
@@ -153,8 +153,8 @@ module _ (plan : Plan) (asked : TxnId → whole.Call) (S : Scheme) (start : Stor
         go true e k = (listed_one is_txn_group same_group is_group-same r q k, e)
         go false e k = absurd (omega arith)
 
-    out_new : d.past.left_out r ≡ out
-    out_new = cond-true (is_txn_group r r) out (c.past.left_out r) (is_group-same r)
+    out_new : d.past.left_out r ≡ left_out
+    out_new = cond-true (is_txn_group r r) left_out (c.past.left_out r) (is_group-same r)
 
     pub place_new : place plan asked S start d r ≡ n
     place_new = ap (S.group_shard r) (g.inputs r m.means.needs_ran) ∙ on
@@ -167,7 +167,7 @@ module _ (plan : Plan) (asked : TxnId → whole.Call) (S : Scheme) (start : Stor
     -- an entry is of a group that was met
     record IsMet (z : Dependency) : Type 0 where
       of : StartedGroup
-      has : Has of (filter (is_predecessor plan out id this entry.cells) s.started)
+      has : Has of (filter (is_predecessor plan left_out id this entry.cells) s.started)
       from : z.from ≡ of.id
       imm : z.imm ≡ I
       def : z.def ≡ not I
@@ -181,14 +181,14 @@ module _ (plan : Plan) (asked : TxnId → whole.Call) (S : Scheme) (start : Stor
     both_met a b e p q = record { of = p.of; has = p.has; from = p.from; imm = or_same a.imm b.imm I p.imm q.imm; def = or_same a.def b.def (not I) p.def q.def; at = (let v = p.at in let y = q.at in omega arith) }
 
     abbrev raw : List Dependency
-    raw = map (edge_to s.shard I) (filter (is_predecessor plan out id this entry.cells) s.started)
+    raw = map (edge_to s.shard I) (filter (is_predecessor plan left_out id this entry.cells) s.started)
 
     are_met : (z : Dependency) → Has z entry.edges → IsMet z
     are_met z h = all_has IsMet z entry.edges (AllByRecursion-united IsMet both_met raw (has_all IsMet raw one)) h
       where
         one : (x : Dependency) → Has x raw → IsMet x
         one x h =
-            let a = from_has_map (edge_to s.shard I) x (filter (is_predecessor plan out id this entry.cells) s.started) h in
+            let a = from_has_map (edge_to s.shard I) x (filter (is_predecessor plan left_out id this entry.cells) s.started) h in
             record { of = a.0; has = a.1; from = ap (λ (e : Dependency). e.from) a.2; imm = ap (λ (e : Dependency). e.imm) a.2; def = ap (λ (e : Dependency). e.def) a.2; at = ap (λ (e : Dependency). e.at.0) a.2 ∙ o.number }
 
     class_of : (e : StartedGroup) → EntryMeans plan asked S start c n (unrun e) → is_immediate_of plan e.proc e.group ≡ S.is_immediate (entry_run e)
@@ -202,10 +202,10 @@ module _ (plan : Plan) (asked : TxnId → whole.Call) (S : Scheme) (start : Stor
         record {
           sound = λ z h.
               (let q = are_met z h in
-              let b = from_has_filter (is_predecessor plan out id this entry.cells) q.of s.started q.has in
+              let b = from_has_filter (is_predecessor plan left_out id this entry.cells) q.of s.started q.has in
               let k = o.groups.entries q.of b.0 in
-              let p0 = and_parts (not (is_txn q.of.id id)) (not (is_listed is_txn out q.of.id) && rest_test q.of) b.1 in
-              let p1 = and_parts (not (is_listed is_txn out q.of.id)) (rest_test q.of) p0.1 in
+              let p0 = and_parts (not (is_txn q.of.id id)) (not (is_listed is_txn left_out q.of.id) && rest_test q.of) b.1 in
+              let p1 = and_parts (not (is_listed is_txn left_out q.of.id)) (rest_test q.of) p0.1 in
               let p2 = and_parts (same_tag (is_immediate_of plan q.of.proc q.of.group) I) (do_conflict q.of.cells entry.cells) p1.1 in (
                 record {
                   first = entry_run q.of;
@@ -214,7 +214,7 @@ module _ (plan : Plan) (asked : TxnId → whole.Call) (S : Scheme) (start : Stor
                   began = in_new;
                   before = before_new is_txn_group c.past.started (r ∷ []) (entry_run q.of) r k.told.began new;
                   conflict = conflict_of q.of k (meet_of q.of.cells entry.cells p2.1);
-                  kept = λ y. listed_false is_txn out q.of.id (not-true (is_listed is_txn out q.of.id) p1.0) (subst (IsListed is_txn out) q.from (subst (λ l. IsListed is_txn l z.from) out_new y));
+                  kept = λ y. listed_false is_txn left_out q.of.id (not-true (is_listed is_txn left_out q.of.id) p1.0) (subst (IsListed is_txn left_out) q.from (subst (λ l. IsListed is_txn l z.from) out_new y));
                 },
                 q.imm ∙ sym imm_is,
                 q.def ∙ ap not (sym imm_is),
@@ -232,13 +232,13 @@ module _ (plan : Plan) (asked : TxnId → whole.Call) (S : Scheme) (start : Stor
               let met = of_meet e.cells entry.cells (subst (λ a. Meet a (map use_of entry.cells)) cells (subst (Meet (uses_in S.behaviour start d.past.ran p.first)) (sym cells_start) p.conflict)) in
               let from : e.id ≡ u = ap (λ (q : TxnGroup). q.txn) same ∙ p.of_first in
               let apart : e.id ≢ id = λ f. p.other (sym from ∙ f) in
-              let unlisted : ¬ IsListed is_txn out e.id = λ z. p.kept (subst (λ l. IsListed is_txn l u) (sym out_new) (subst (IsListed is_txn out) from z)) in
+              let unlisted : ¬ IsListed is_txn left_out e.id = λ z. p.kept (subst (λ l. IsListed is_txn l u) (sym out_new) (subst (IsListed is_txn left_out) from z)) in
               let class : is_immediate_of plan e.proc e.group ≡ I = class_of e k ∙ (ap S.is_immediate same ∙ (laws.one_class d j p.first r p.conflict ∙ imm_is)) in
               let passes =
-              and_from (not (is_txn e.id id)) (not (is_listed is_txn out e.id) && rest_test e) (not_from_false (is_txn e.id id) (is_txn-ne e.id id apart))
-              (and_from (not (is_listed is_txn out e.id)) (rest_test e) (not_from_false (is_listed is_txn out e.id) (unlisted_test is_txn out e.id unlisted))
+              and_from (not (is_txn e.id id)) (not (is_listed is_txn left_out e.id) && rest_test e) (not_from_false (is_txn e.id id) (is_txn-ne e.id id apart))
+              (and_from (not (is_listed is_txn left_out e.id)) (rest_test e) (not_from_false (is_listed is_txn left_out e.id) (unlisted_test is_txn left_out e.id unlisted))
               (and_from (same_tag (is_immediate_of plan e.proc e.group) I) (do_conflict e.cells entry.cells) (same_tag-from (is_immediate_of plan e.proc e.group) I class) met)) in
-              let y = has-united raw (edge_to s.shard I e) (has_map (edge_to s.shard I) e (filter (is_predecessor plan out id this entry.cells) s.started) (has_filter (is_predecessor plan out id this entry.cells) e s.started found.0 passes)) in
+              let y = has-united raw (edge_to s.shard I e) (has_map (edge_to s.shard I) e (filter (is_predecessor plan left_out id this entry.cells) s.started) (has_filter (is_predecessor plan left_out id this entry.cells) e s.started found.0 passes)) in
               (y.0, y.1, y.2.from ∙ from));
         }
       where

@@ -27,15 +27,15 @@ use Rattle.roc_msg.specs.declared.reason.Reason.{Reason}
 use Rattle.roc_msg.specs.declared.reason.Reason.TheVariants.{NotHere, Foreign, Differs}
 use Rattle.roc_msg.specs.Facts.{is_fact_before}
 use Rattle.roc_plan.specs.Groups.{Plan}
-use Rattle.roc_group.specs.Group_run.{call}
+use Rattle.roc_group.specs.GroupRun.{call}
 use Rattle.roc_server.specs.declared.handled.Handled.TheVariants.{Done}
 use Rattle.roc_server.specs.declared.started.StartedGroup.{StartedGroup}
-use Rattle.roc_lists.specs.New.{AreNew}
+use Rattle.roc_server_lists.specs.New.{AreNew}
 use Rattle.roc_server.specs.State.{ignored, answered, is_here, is_group, find_group, ServerState, ServerStep}
 use Rattle.roc_server.specs.Start.{start_fault, start_taken, start_judged, startok_of, new_group}
 use Rattle.roc_server.specs.Runs.{commitok_of}
-use Rattle.roc_lists.specs.Carried.{list_with, carried, unknown_of}
-use Rattle.roc_lists.specs.Asking.{known_to}
+use Rattle.roc_server_lists.specs.Carried.{list_with, carried, unknown_of}
+use Rattle.roc_server_lists.specs.Asking.{known_to}
 use Rattle.roc_server.specs.Lists.{lists_after, taught, commit_differs, commit_fault, after_commit, fetch_taken, after_fetch, known_fault, after_known}
 use Rattle.roc_server.specs.Step.{Findings, AreFindings, unless_ignored, after_message, Handles}
 use Rattle.roc_protocol.proofs.Carried.{take_same}

@@ -13,13 +13,13 @@ use Rattle.roc_rows.specs.Store.{Store}
 use Rattle.roc_plan.specs.Groups.{Plan, outs_of}
 use Rattle.roc_whole.specs.Serial as whole
 use Rattle.roc_whole.specs.Serial.{start_store, serial_run}
-use Rattle.roc_serial.specs.Behaviour.{TxnGroup, Yield}
-use Rattle.roc_serial.specs.Runs.{first_stage, stage_behind, account_at, Account}
-use Rattle.roc_serial.specs.Orders.{one_by_one}
-use Rattle.roc_serial.proofs.Stages.{yielded_at}
-use Rattle.roc_execution.specs.Scheme.{Scheme}
-use Rattle.roc_execution.specs.Log.{Log, first_log}
-use Rattle.roc_execution.specs.Invariants.{LogInvariants}
+use Rattle.roc_law_orders.specs.Behaviour.{TxnGroup, Yield}
+use Rattle.roc_law_orders.specs.Runs.{first_stage, stage_behind, account_at, Account}
+use Rattle.roc_law_orders.specs.Orders.{one_by_one}
+use Rattle.roc_law_orders.proofs.Stages.{yielded_at}
+use Rattle.roc_law_log.specs.Scheme.{Scheme}
+use Rattle.roc_law_log.specs.Log.{Log, first_log}
+use Rattle.roc_law_log.specs.Invariants.{LogInvariants}
 use Rattle.roc_audit.specs.declared.entry.Entry.{Entry}
 use Rattle.roc_audit.specs.declared.entry.Entry.TheVariants.{Submitted}
 use Rattle.roc_audit.specs.History.{WasSubmitted}
@@ -29,10 +29,10 @@ use Rattle.roc_coord.specs.Step.{after_message}
 use Rattle.roc_coord.specs.Submit.{next_id}
 use Rattle.roc_protocol.specs.declared.event.Event.{Event}
 use Rattle.roc_protocol.specs.declared.event.Event.TheVariants.{Submit, Deliver, Tick}
-use Rattle.roc_protocol.specs.Asked.{IsSchemeOf, IsWholeReply}
-use Rattle.roc_protocol.specs.World.{World, first_world, comes}
+use Rattle.roc_protocol.specs.PlanAssumptions.{IsSchemeOf, IsWholeReply}
+use Rattle.roc_protocol.specs.World.{World, first_world, mark_delivered}
 use Rattle.roc_protocol.specs.Happens.{Outcome, IsReceived, answer_entries}
-use Rattle.roc_protocol.specs.Run.{Stepped, Comes, IsRun, begun, goes_on}
+use Rattle.roc_protocol.specs.Run.{Stepped, Transition, IsRun, begun, goes_on}
 use Rattle.roc_protocol.specs.Inner.Given.{LogLaws}
 use Rattle.roc_protocol.proofs.Means.{run_of, Ran, stage, AnswerMeans}
 use Rattle.roc_protocol.specs.Inner.Given.{SerialLaws, StoreLaws}
@@ -48,7 +48,7 @@ pub record Extends (old new : List Entry) : Type 0 where
 by_none : (h : List Entry) → Extends h h
 by_none h = record { more = []; is = sym (append-nil h) }
 
-pub step_extends : (plan : Plan) (w : World) (e : Option Event) (o : Outcome) → Comes plan w e o → Extends w.history o.world.history
+pub step_extends : (plan : Plan) (w : World) (e : Option Event) (o : Outcome) → Transition plan w e o → Extends w.history o.world.history
 step_extends plan w None o h = subst (λ (o : Outcome). Extends w.history o.world.history) (sym h) (by_none w.history)
 step_extends plan w (Some (Submit n proc args)) o (s, there, h) = go (submitting plan w n proc args s o h)
   where
@@ -57,7 +57,7 @@ step_extends plan w (Some (Submit n proc args)) o (s, there, h) = go (submitting
     go (is_accepted known counted e) = subst (λ (v : World). Extends w.history v.history) (sym e) (record { more = Submitted (next_id s) proc args ∷ []; is = refl })
 step_extends plan w (Some (Deliver k)) o (m, some, there, h) = go m.to h
   where
-    go : (to : Node) → IsReceived plan (comes w k) m.msg to o → Extends w.history o.world.history
+    go : (to : Node) → IsReceived plan (mark_delivered w k) m.msg to o → Extends w.history o.world.history
     go (Server shard) (s, r, at, step, e) = subst (λ (o : Outcome). Extends w.history o.world.history) (sym e) (by_none w.history)
     go (Coord n) (s, at, e) = subst (λ (o : Outcome). Extends w.history o.world.history) (sym e) (record { more = answer_entries (after_message plan s m.msg).answer; is = refl })
 step_extends plan w (Some (Tick (Server shard))) o (s, there, e) = subst (λ (o : Outcome). Extends w.history o.world.history) (sym e) (by_none w.history)

@@ -15,15 +15,15 @@ use Rattle.roc_base.specs.TxnId.{is_txn}
 use Rattle.roc_rows.specs.Store.{Store}
 use Rattle.roc_msg.specs.declared.msg.Msg.{Msg}
 use Rattle.roc_msg.specs.declared.msg.Msg.TheVariants.{Start, StartOk, Commit, CommitOk, Fetch, Known, Stop}
-use Rattle.roc_msg.specs.declared.msg.Sent.{Sent}
+use Rattle.roc_msg.specs.declared.msg.Envelope.{Envelope}
 use Rattle.roc_msg.specs.declared.outbox.Outgoing.{Outgoing}
 use Rattle.roc_plan.specs.Groups.{Plan, procedure_of}
 use Rattle.roc_whole.specs.Serial as whole
 use Rattle.roc_whole.specs.Serial.{start_store}
-use Rattle.roc_serial.specs.Behaviour.{TxnGroup}
-use Rattle.roc_execution.specs.Scheme.{Scheme}
-use Rattle.roc_execution.specs.Log.{Log}
-use Rattle.roc_execution.specs.Invariants.{LogInvariants, LogGrows}
+use Rattle.roc_law_orders.specs.Behaviour.{TxnGroup}
+use Rattle.roc_law_log.specs.Scheme.{Scheme}
+use Rattle.roc_law_log.specs.Log.{Log}
+use Rattle.roc_law_log.specs.Invariants.{LogInvariants, LogGrows}
 use Rattle.roc_server.specs.State.{answered, ServerState, ServerStep}
 use Rattle.roc_server.specs.Step as server
 use Rattle.roc_coord.specs.declared.handled.Handled.{Handled}
@@ -41,10 +41,10 @@ use Rattle.roc_audit.specs.Order.{noted}
 use Rattle.roc_audit.proofs.Histories.{submitted_front, before_cases, answered_by_before}
 use Rattle.roc_protocol.specs.declared.event.Event.{Event}
 use Rattle.roc_protocol.specs.declared.event.Event.TheVariants.{Submit, Deliver, Tick}
-use Rattle.roc_protocol.specs.Asked.{IsSchemeOf}
-use Rattle.roc_protocol.specs.World.{World, sent_by, comes, at_server, at_coord}
+use Rattle.roc_protocol.specs.PlanAssumptions.{IsSchemeOf}
+use Rattle.roc_protocol.specs.World.{World, sent_by, mark_delivered, at_server, at_coord}
 use Rattle.roc_protocol.specs.Happens.{Outcome, IsSubmissionOf, answer_entries, IsReceived, Ticks}
-use Rattle.roc_protocol.specs.Run.{Stepped, Comes, IsRun, begun, goes_on}
+use Rattle.roc_protocol.specs.Run.{Stepped, Transition, IsRun, begun, goes_on}
 use Rattle.roc_protocol.specs.Inner.Given.{LogLaws}
 use Rattle.roc_protocol.proofs.Means.{run_of, Began, Means, WorldMeans}
 use Rattle.roc_protocol.proofs.Changed.{get-set_cases, comes_means}
@@ -85,7 +85,7 @@ submitting plan w n proc args s o h = procedure (nat_lt proc (length plan.progra
 
 -- ---- submissions
 
-pub submissions_step : (plan : Plan) (w : World) → AreSubmissions plan w.history w.coords → (e : Option Event) (o : Outcome) → Comes plan w e o → AreSubmissions plan o.world.history o.world.coords
+pub submissions_step : (plan : Plan) (w : World) → AreSubmissions plan w.history w.coords → (e : Option Event) (o : Outcome) → Transition plan w e o → AreSubmissions plan o.world.history o.world.coords
 submissions_step plan w a None o h = subst (λ (o : Outcome). AreSubmissions plan o.world.history o.world.coords) (sym h) a
 submissions_step plan w a (Some (Submit n proc args)) o (s, there, h) = go (submitting plan w n proc args s o h)
   where
@@ -94,7 +94,7 @@ submissions_step plan w a (Some (Submit n proc args)) o (s, there, h) = go (subm
     go (is_accepted known counted e) = subst (λ (v : World). AreSubmissions plan v.history v.coords) (sym e) (submissions_more plan w.history w.coords a n s there (accepted plan s (new_transaction s proc args)).state refl refl proc args known counted)
 submissions_step plan w a (Some (Deliver k)) o (m, some, there, h) = go m.to h
   where
-    go : (to : Node) → IsReceived plan (comes w k) m.msg to o → AreSubmissions plan o.world.history o.world.coords
+    go : (to : Node) → IsReceived plan (mark_delivered w k) m.msg to o → AreSubmissions plan o.world.history o.world.coords
     go (Server shard) (s, r, at, step, e) = subst (λ (o : Outcome). AreSubmissions plan o.world.history o.world.coords) (sym e) a
     go (Coord n) (s, at, e) = subst (λ (o : Outcome). AreSubmissions plan o.world.history o.world.coords) (sym e) (submissions_message plan w.history w.coords a n s at m.msg)
 submissions_step plan w a (Some (Tick (Server shard))) o (s, there, e) = subst (λ (o : Outcome). AreSubmissions plan o.world.history o.world.coords) (sym e) a
@@ -122,7 +122,7 @@ module _ (plan : Plan) (asked : TxnId → whole.Call) (S : Scheme) (is : IsSchem
     pub means : WorldMeans plan asked S start log w
     -- what started, is pending or is to be started was submitted
     pub began : (r : TxnGroup) → Began plan asked S start log r → WasSubmitted w.history r.txn
-    pub starts : (m : Sent) → Has m w.sent → StartsAre (WasSubmitted w.history) m.msg
+    pub starts : (m : Envelope) → Has m w.sent → StartsAre (WasSubmitted w.history) m.msg
     pub pending : (n : ℕ) (c : CoordState) → slice_get w.coords n ≡ Some c → (x : Transaction) → Has x c.pending → WasSubmitted w.history x.id
     -- who was answered before another's submission stands before it
     pub in_time : (t u : TxnId) → IsAnsweredBefore w.history t u → IsListed is_txn w.order u → IsListedBefore is_txn w.order t u
@@ -142,10 +142,10 @@ module _ (plan : Plan) (asked : TxnId → whole.Call) (S : Scheme) (is : IsSchem
   starts_later h more (Known id edges) k = tt
   starts_later h more Stop k = tt
 
-  starts_after : (h : List Entry) (sent : List Sent) (from : Node) (outs : List Outgoing) → ((m : Sent) → Has m sent → StartsAre (WasSubmitted h) m.msg) → ((out : Outgoing) → Has out outs → StartsAre (WasSubmitted h) out.msg) → (m : Sent) → Has m (sent ++ map (sent_by from) outs) → StartsAre (WasSubmitted h) m.msg
+  starts_after : (h : List Entry) (sent : List Envelope) (from : Node) (outs : List Outgoing) → ((m : Envelope) → Has m sent → StartsAre (WasSubmitted h) m.msg) → ((out : Outgoing) → Has out outs → StartsAre (WasSubmitted h) out.msg) → (m : Envelope) → Has m (sent ++ map (sent_by from) outs) → StartsAre (WasSubmitted h) m.msg
   starts_after h sent from outs f g m k = elim (has_append m sent (map (sent_by from) outs) k) [
     | inl j ↦ f m j
-    | inr j ↦ (let q = from_has_map (sent_by from) m outs j in subst (λ (m : Sent). StartsAre (WasSubmitted h) m.msg) (sym q.2) (g q.0 q.1))
+    | inr j ↦ (let q = from_has_map (sent_by from) m outs j in subst (λ (m : Envelope). StartsAre (WasSubmitted h) m.msg) (sym q.2) (g q.0 q.1))
   ]
 
   -- ---- a step of a server
@@ -226,7 +226,7 @@ module _ (plan : Plan) (asked : TxnId → whole.Call) (S : Scheme) (is : IsSchem
 
     -- ---- any event
 
-    pub comes_logged : (k : ℕ) → IsLogged (comes w k) log
+    pub comes_logged : (k : ℕ) → IsLogged (mark_delivered w k) log
     comes_logged k = record { means = comes_means plan asked S start is log w k o.means; began = o.began; starts = o.starts; pending = o.pending; in_time = o.in_time }
 
     tick_logged : (node : Node) (v : Outcome) → Ticks plan w node v → (later : Log) × IsLogged v.world later
@@ -274,10 +274,10 @@ module _ (plan : Plan) (asked : TxnId → whole.Call) (S : Scheme) (is : IsSchem
         time t u l (inr (inr (inl (reply, e, was)))) = absurd (was.2)
         time t u l (inr (inr (inr b))) = absurd b
 
-  pub step_logged : (w : World) (log : Log) → AreSubmissions plan w.history w.coords → IsLogged w log → (e : Option Event) (v : Outcome) → Comes plan w e v → Agrees asked v.world.history → (later : Log) × IsLogged v.world later
+  pub step_logged : (w : World) (log : Log) → AreSubmissions plan w.history w.coords → IsLogged w log → (e : Option Event) (v : Outcome) → Transition plan w e v → Agrees asked v.world.history → (later : Log) × IsLogged v.world later
   step_logged w log a o None v h agrees = subst (λ (v : Outcome). (later : Log) × IsLogged v.world later) (sym h) (log, o)
   step_logged w log a o (Some (Submit n proc args)) v (s, there, h) agrees = submit_logged w log o a n proc args s there v (submitting plan w n proc args s v h) agrees
   step_logged w log a o (Some (Deliver k)) v (m, some, there, h) agrees =
       let has = has_at w.sent (k - 1) m there in
-      receive_logged (comes w k) log (comes_logged w log o k) m.msg m.to v (o.means.messages m has) (o.starts m has) h
+      receive_logged (mark_delivered w k) log (comes_logged w log o k) m.msg m.to v (o.means.messages m has) (o.starts m has) h
   step_logged w log a o (Some (Tick node)) v h agrees = tick_logged w log o node v h

@@ -10,7 +10,7 @@ use Rattle.roc_sequence.proofs.Members.{has_at}
 use Rattle.roc_base.specs.declared.node.Node.{Node}
 use Rattle.roc_base.specs.declared.node.Node.TheVariants.{Server, Coord}
 use Rattle.roc_base.specs.declared.node.Shard.{Shard}
-use Rattle.roc_msg.specs.declared.msg.Sent.{Sent}
+use Rattle.roc_msg.specs.declared.msg.Envelope.{Envelope}
 use Rattle.roc_msg.specs.declared.outbox.Outgoing.{Outgoing}
 use Rattle.roc_plan.specs.Groups.{Plan}
 use Rattle.roc_server.specs.First.{first_server}
@@ -27,7 +27,7 @@ use Rattle.roc_audit.specs.declared.entry.Entry.{Entry}
 use Rattle.roc_audit.specs.declared.entry.Entry.TheVariants.{Submitted}
 use Rattle.roc_protocol.specs.declared.event.Event.{Event}
 use Rattle.roc_protocol.specs.declared.event.Event.TheVariants.{Submit, Deliver, Tick}
-use Rattle.roc_protocol.specs.World.{World, first_world, sent_by, comes, at_server, at_coord}
+use Rattle.roc_protocol.specs.World.{World, first_world, sent_by, mark_delivered, at_server, at_coord}
 use Rattle.roc_protocol.specs.Fits.{NamesNodes, IsSentHere, IsServerHere, IsTransactionHere, IsCoordHere, FitsWorld}
 use Rattle.roc_protocol.specs.Happens.{Outcome, answer_entries, IsReceived, Happens}
 use Rattle.roc_protocol.proofs.Changed.{get-set_cases}
@@ -47,14 +47,14 @@ new_numbers : (a n end : ℕ) → 0 < a → a + n ≡ end + 1 → AllByRecursion
 new_numbers a zero end l e = tt
 new_numbers a (suc n) end l e = ((l, omega arith), new_numbers (a + 1) n end (omega arith) (omega arith))
 
-numbers_sent : (sent : List Sent) (numbers : List ℕ) (from : Node) (outs : List Outgoing) → AllByRecursion (λ k. (0 < k) × (k ≤ length sent)) numbers
+numbers_sent : (sent : List Envelope) (numbers : List ℕ) (from : Node) (outs : List Outgoing) → AllByRecursion (λ k. (0 < k) × (k ≤ length sent)) numbers
     → AllByRecursion (λ k. (0 < k) × (k ≤ length (sent ++ map (sent_by from) outs))) (numbers ++ range_with_len (length sent + 1) (length outs))
 numbers_sent sent numbers from outs h =
-    let more : List Sent = map (sent_by from) outs in
+    let more : List Envelope = map (sent_by from) outs in
     let long : length (sent ++ more) ≡ length sent + length outs = length-append sent more ∙ ap (λ n. length sent + n) (length-map outs (sent_by from)) in
     all_append (λ k. (0 < k) × (k ≤ length (sent ++ more))) numbers (range_with_len (length sent + 1) (length outs)) (numbers_below (length sent) (length (sent ++ more)) numbers (omega arith) h) (new_numbers (length sent + 1) (length outs) (length (sent ++ more)) (omega arith) (omega arith))
 
-sent_more : (servers coords : ℕ) (sent : List Sent) (from : Node) (outs : List Outgoing) → AllByRecursion (IsSentHere servers coords) sent → AllByRecursion (IsOutHere servers coords) outs → AllByRecursion (IsSentHere servers coords) (sent ++ map (sent_by from) outs)
+sent_more : (servers coords : ℕ) (sent : List Envelope) (from : Node) (outs : List Outgoing) → AllByRecursion (IsSentHere servers coords) sent → AllByRecursion (IsOutHere servers coords) outs → AllByRecursion (IsSentHere servers coords) (sent ++ map (sent_by from) outs)
 sent_more servers coords sent from outs h k = all_append (IsSentHere servers coords) sent (map (sent_by from) outs) h (go outs k)
   where
     go : (outs : List Outgoing) → AllByRecursion (IsOutHere servers coords) outs → AllByRecursion (IsSentHere servers coords) (map (sent_by from) outs)
@@ -67,7 +67,7 @@ module _ (plan : Plan) (w : World) (fits : FitsWorld plan w) where
   some_shard : 0 < plan.program.shards
   some_shard = subst (λ n. 0 < n) fits.shards fits.some_server
 
-  comes_fits : (k : ℕ) → FitsWorld plan (comes w k)
+  comes_fits : (k : ℕ) → FitsWorld plan (mark_delivered w k)
   comes_fits k =
       record {
         some_server = fits.some_server;
@@ -144,7 +144,7 @@ module _ (plan : Plan) (w : World) (fits : FitsWorld plan w) where
 
 -- ---- any event
 
-received_fits : (plan : Plan) (w : World) → FitsWorld plan w → (m : Sent) → NamesNodes (length w.servers) (length w.coords) m.msg → (to : Node) (o : Outcome) → IsReceived plan w m.msg to o → FitsWorld plan o.world
+received_fits : (plan : Plan) (w : World) → FitsWorld plan w → (m : Envelope) → NamesNodes (length w.servers) (length w.coords) m.msg → (to : Node) (o : Outcome) → IsReceived plan w m.msg to o → FitsWorld plan o.world
 received_fits plan w fits m names (Server shard) o (s, r, there, step, e) =
     subst (λ (o : Outcome). FitsWorld plan o.world) (sym e)
     (served_fits plan w fits shard.0 s there r (servers.message_keeps plan (length w.servers) (length w.coords) s (own_shard plan w fits shard.0 s there) (server_here plan w fits shard.0 s there) (server_fits plan w fits shard.0 s there) m.msg r step names))
@@ -164,7 +164,7 @@ kept plan w fits (Submit n proc args) o (s, there, h) = go (submitting plan w n 
         (coordinated_fits plan w fits n s there r.state r.sends (Submitted (next_id s) proc args ∷ []) (coords.submission_keeps plan (length w.servers) (length w.coords) (some_shard plan w fits) fits.shards s (coord_here plan w fits n s there).number (coord_held plan w fits n s there) proc args known counted))
 kept plan w fits (Deliver k) o (m, some, there, h) =
     let here = all_has (IsSentHere (length w.servers) (length w.coords)) m w.sent fits.sent_here (has_at w.sent (k - 1) m there) in
-    received_fits plan (comes w k) (comes_fits plan w fits k) m here.names m.to o h
+    received_fits plan (mark_delivered w k) (comes_fits plan w fits k) m here.names m.to o h
 kept plan w fits (Tick (Server shard)) o (s, there, e) =
     subst (λ (o : Outcome). FitsWorld plan o.world) (sym e)
     (served_fits plan w fits shard.0 s there (answered s (server.tick_sends s)) (servers.tick_keeps plan (length w.servers) (length w.coords) s (own_shard plan w fits shard.0 s there) (server_here plan w fits shard.0 s there) (server_fits plan w fits shard.0 s there)))
@@ -181,7 +181,7 @@ same_count plan w (Submit n proc args) o (s, there, h) = go (submitting plan w n
     go (is_accepted known counted e) = ap (λ (v : World). length v.coords) e ∙ length-set w.coords n (accepted plan s (new_transaction s proc args)).state
 same_count plan w (Deliver k) o (m, some, there, h) = go m.to h
   where
-    go : (to : Node) → IsReceived plan (comes w k) m.msg to o → length o.world.coords ≡ length w.coords
+    go : (to : Node) → IsReceived plan (mark_delivered w k) m.msg to o → length o.world.coords ≡ length w.coords
     go (Server shard) (s, r, at, step, e) = ap (λ (o : Outcome). length o.world.coords) e
     go (Coord n) (s, at, e) = ap (λ (o : Outcome). length o.world.coords) e ∙ length-set w.coords n (after_message plan s m.msg).state
 same_count plan w (Tick (Server shard)) o (s, there, e) = ap (λ (o : Outcome). length o.world.coords) e

@@ -8,7 +8,7 @@ use Rattle.roc_base.specs.Edges.{united}
 use Rattle.roc_depgraph.specs.declared.known.KnownList.{KnownList}
 use Rattle.roc_msg.specs.declared.msg.Msg.{Msg}
 use Rattle.roc_msg.specs.declared.msg.Msg.TheVariants.{Start, StartOk, Commit, CommitOk, Fetch, Known, Stop}
-use Rattle.roc_msg.specs.declared.msg.Sent.{Sent}
+use Rattle.roc_msg.specs.declared.msg.Envelope.{Envelope}
 use Rattle.roc_plan.specs.Groups.{Plan, groups_of}
 use Rattle.roc_audit.specs.declared.entry.Entry.TheVariants.{Submitted}
 use Rattle.roc_protocol.specs.World.{World}
@@ -25,7 +25,7 @@ lists_in (Known id edges) = record { of = id; edges = edges } ∷ []
 lists_in Stop = []
 
 -- a list of t is the union of what the startoks of its groups tell, so many, all of which are in the network
-pub record IsUnionIn (sent : List Sent) (groups : ℕ) (t : TxnId) (list : List Dependency) : Type 0 where
+pub record IsUnionIn (sent : List Envelope) (groups : ℕ) (t : TxnId) (list : List Dependency) : Type 0 where
   pub told : ℕ → List Dependency
   pub in_network : (g : ℕ) → g < groups → (facts : List KnownList) × IsToldIn sent t g (told g) facts
   pub is_union : list ≡ united (flat_map told (range_with_len 0 groups))

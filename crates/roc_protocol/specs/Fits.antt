@@ -7,7 +7,7 @@ use Rattle.roc_base.specs.Edge.{Dependency}
 use Rattle.roc_depgraph.specs.declared.known.KnownList.{KnownList}
 use Rattle.roc_msg.specs.declared.msg.Msg.{Msg}
 use Rattle.roc_msg.specs.declared.msg.Msg.TheVariants.{Start, StartOk, Commit, CommitOk, Fetch, Known, Stop}
-use Rattle.roc_msg.specs.declared.msg.Sent.{Sent}
+use Rattle.roc_msg.specs.declared.msg.Envelope.{Envelope}
 use Rattle.roc_plan.specs.Groups.{Plan}
 use Rattle.roc_server.specs.declared.started.StartedGroup.{StartedGroup}
 use Rattle.roc_server.specs.State.{ServerState}
@@ -42,7 +42,7 @@ module _ (servers coords : ℕ) where
   NamesNodes Stop = Unit {0}
 
   -- it goes to a node that is there
-  pub record IsSentHere (m : Sent) : Type 0 where
+  pub record IsSentHere (m : Envelope) : Type 0 where
     pub to : IsNode m.to
     pub names : NamesNodes m.msg
 

@@ -4,7 +4,7 @@ use Rattle.roc_base.specs.declared.id.TxnId.{TxnId}
 use Rattle.roc_base.specs.declared.node.Node.{Node}
 use Rattle.roc_base.specs.declared.node.Node.TheVariants.{Server, Coord}
 use Rattle.roc_msg.specs.declared.msg.Msg.{Msg}
-use Rattle.roc_msg.specs.declared.msg.Sent.{Sent}
+use Rattle.roc_msg.specs.declared.msg.Envelope.{Envelope}
 use Rattle.roc_msg.specs.declared.outbox.Outgoing.{Outgoing}
 use Rattle.roc_plan.specs.Groups.{Plan}
 use Rattle.roc_server.specs.declared.handled.Handled.{Handled as ServerHandled}
@@ -25,7 +25,7 @@ use Rattle.roc_protocol.specs.declared.event.Event.{Event}
 use Rattle.roc_protocol.specs.declared.event.Event.TheVariants.{Submit, Deliver, Tick}
 use Rattle.roc_protocol.specs.declared.event.Seen.{Seen}
 use Rattle.roc_protocol.specs.declared.event.Seen.TheVariants as seen
-use Rattle.roc_protocol.specs.World.{World, comes, at_server, at_coord}
+use Rattle.roc_protocol.specs.World.{World, mark_delivered, at_server, at_coord}
 
 -- what is seen of an event, the transactions newly decided, in the order in which they were taken, and the world after it
 pub record Outcome : Type 0 where
@@ -93,5 +93,5 @@ Ticks plan w (Coord number) o = (s : CoordState) × (slice_get w.coords number �
 -- o is what comes of an event
 abbrev pub Happens : Plan → World → Event → Outcome → Type 0
 Happens plan w (Submit number proc args) o = (s : CoordState) × (slice_get w.coords number ≡ Some s) × IsSubmissionOf w number proc args (after_submit plan s proc args) o
-Happens plan w (Deliver k) o = (m : Sent) × (0 < k) × (slice_get w.sent (k - 1) ≡ Some m) × IsReceived plan (comes w k) m.msg m.to o
+Happens plan w (Deliver k) o = (m : Envelope) × (0 < k) × (slice_get w.sent (k - 1) ≡ Some m) × IsReceived plan (mark_delivered w k) m.msg m.to o
 Happens plan w (Tick node) o = Ticks plan w node o

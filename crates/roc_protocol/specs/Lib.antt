@@ -4,5 +4,5 @@ pub mod Run
 pub mod Fits
 pub mod Quiet
 pub mod Final
-pub mod Asked
+pub mod PlanAssumptions
 pub mod Inner

@@ -7,13 +7,13 @@ use Rattle.roc_base.specs.Edge.{Dependency}
 use Rattle.roc_depgraph.specs.declared.known.KnownList.{KnownList}
 use Rattle.roc_depgraph.specs.Reach.{ReachesOrIs}
 use Rattle.roc_msg.specs.declared.msg.Msg.TheVariants.{StartOk}
-use Rattle.roc_msg.specs.declared.msg.Sent.{Sent}
+use Rattle.roc_msg.specs.declared.msg.Envelope.{Envelope}
 use Rattle.roc_msg.specs.Msg.{id_of}
 use Rattle.roc_protocol.specs.World.{World}
 
 -- a startok in the network: of this group of this transaction, with these edges and facts
-pub record IsToldIn (sent : List Sent) (t : TxnId) (group : ℕ) (edges : List Dependency) (facts : List KnownList) : Type 0 where
-  pub message : Sent
+pub record IsToldIn (sent : List Envelope) (t : TxnId) (group : ℕ) (edges : List Dependency) (facts : List KnownList) : Type 0 where
+  pub message : Envelope
   pub has : Has message sent
   pub shard : Shard
   pub bound : List ℤ
@@ -21,7 +21,7 @@ pub record IsToldIn (sent : List Sent) (t : TxnId) (group : ℕ) (edges : List D
   pub is : message.msg ≡ StartOk t group shard bound outs edges facts
 
 -- a startok of t in the network lists u
-pub record PrecedesIn (sent : List Sent) (u t : TxnId) : Type 0 where
+pub record PrecedesIn (sent : List Envelope) (u t : TxnId) : Type 0 where
   pub group : ℕ
   pub edges : List Dependency
   pub facts : List KnownList
@@ -37,5 +37,5 @@ WasDelivered w k = ¬ Has k w.undelivered
 -- every message of t, or of an ancestor of it by startoks in the network, was delivered
 pub record IsQuiet (w : World) (t : TxnId) : Type 0 where
   pub each :
-      (k : ℕ) (m : Sent) (u : TxnId) → slice_get w.sent k ≡ Some m → id_of m.msg ≡ Some u → ReachesOrIs (PrecedesIn w.sent) u t
+      (k : ℕ) (m : Envelope) (u : TxnId) → slice_get w.sent k ≡ Some m → id_of m.msg ≡ Some u → ReachesOrIs (PrecedesIn w.sent) u t
       → WasDelivered w (suc k)

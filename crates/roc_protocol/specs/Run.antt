@@ -15,14 +15,14 @@ pub record Stepped : Type 0 where
   pub outcome : Outcome
 
 -- what comes of an event, or of none
-abbrev pub Comes : Plan → World → Option Event → Outcome → Type 0
-Comes plan w (Some e) o = Happens plan w e o
-Comes plan w None o = o ≡ undecided seen.Done w
+abbrev pub Transition : Plan → World → Option Event → Outcome → Type 0
+Transition plan w (Some e) o = Happens plan w e o
+Transition plan w None o = o ≡ undecided seen.Done w
 
 -- the steps lead from the first world to w
 pub data IsRun (plan : Plan) (coords : ℕ) : List Stepped → World → Type 0 where
   begun : IsRun plan coords [] (first_world plan coords)
-  goes_on : {steps : List Stepped} {w : World} (e : Option Event) (o : Outcome) → IsRun plan coords steps w → Comes plan w e o
+  goes_on : {steps : List Stepped} {w : World} (e : Option Event) (o : Outcome) → IsRun plan coords steps w → Transition plan w e o
       → IsRun plan coords (steps ++ (record { event = e; outcome = o }) ∷ []) o.world
 
 -- the node is one of the world's

@@ -4,7 +4,7 @@ use Rattle.std.specs.List.{range_with_len}
 use Rattle.roc_base.specs.declared.id.TxnId.{TxnId}
 use Rattle.roc_base.specs.declared.node.Node.{Node}
 use Rattle.roc_base.specs.declared.node.Node.TheVariants.{Server, Coord}
-use Rattle.roc_msg.specs.declared.msg.Sent.{Sent}
+use Rattle.roc_msg.specs.declared.msg.Envelope.{Envelope}
 use Rattle.roc_msg.specs.declared.outbox.Outgoing.{Outgoing}
 use Rattle.roc_plan.specs.Groups.{Plan}
 use Rattle.roc_server.specs.State.{ServerState, ServerStep}
@@ -18,7 +18,7 @@ pub record World : Type 0 where
   pub servers : List ServerState
   pub coords : List CoordState
   -- every message ever sent; the first has number 1
-  pub sent : List Sent
+  pub sent : List Envelope
   -- the numbers of those that were never delivered, rising
   pub undelivered : List ℕ
   pub history : List Entry
@@ -38,7 +38,7 @@ first_world plan coords =
 
 -- ---- the network
 
-abbrev pub sent_by : Node → Outgoing → Sent
+abbrev pub sent_by : Node → Outgoing → Envelope
 sent_by from out = record { from = from; to = out.to; msg = out.msg }
 
 -- a node sends messages
@@ -50,8 +50,8 @@ sends w from outs =
     }
 
 -- message k comes to its receiver
-abbrev pub comes : World → ℕ → World
-comes w k = record w { undelivered = filter (λ n. not (n == k)) w.undelivered }
+abbrev pub mark_delivered : World → ℕ → World
+mark_delivered w k = record w { undelivered = filter (λ n. not (n == k)) w.undelivered }
 
 -- ---- a node's step at its node
 

@@ -14,7 +14,7 @@ ghost use Rattle.roc_component.specs.Components.{Mates};
 ghost use Rattle.roc_coord.specs.declared.transaction.Transaction.{Transaction};
 ghost use Rattle.roc_coord.specs.State.{CoordState};
 ghost use Rattle.roc_coord.specs.Submit.{most_transactions, most_pending};
-ghost use Rattle.roc_msg.specs.declared.msg.Sent.{Sent};
+ghost use Rattle.roc_msg.specs.declared.msg.Envelope.{Envelope};
 ghost use Rattle.roc_msg.specs.declared.msg.Msg.TheVariants as msg;
 ghost use Rattle.roc_msg.specs.declared.reason.Reason.{Reason};
 ghost use Rattle.roc_msg.specs.declared.reason.Reason.TheVariants as reason;
@@ -22,7 +22,7 @@ ghost use Rattle.roc_msg.specs.declared.msg.Msg.{Msg};
 ghost use Rattle.roc_server.specs.State.{find_group, ServerState, ServerStep};
 ghost use Rattle.roc_server.specs.Step.{Handles};
 ghost use Rattle.roc_server.specs.declared.started.StartedGroup.{StartedGroup};
-ghost use Rattle.roc_execution.specs.Invariants.{Continues};
+ghost use Rattle.roc_law_log.specs.Invariants.{Continues};
 ghost use Rattle.roc_protocol.specs.declared.event.Event.{Event};
 ghost use Rattle.roc_protocol.specs.declared.event.Event.TheVariants as event;
 ghost use Rattle.roc_protocol.specs.declared.event.Seen.TheVariants as seen;
@@ -34,22 +34,22 @@ ghost use Rattle.roc_audit.specs.Witness.{submitted_calls, IsSerialWitness};
 ghost use Rattle.roc_rows.specs.declared.cell.Cell.{Cell};
 ghost use Rattle.roc_rows.specs.Store.{Store, read};
 ghost use Rattle.roc_whole.specs.Serial.{serial_store, start_store};
-ghost use Rattle.roc_execution.specs.Scheme.{Scheme, IsSoundScheme};
+ghost use Rattle.roc_law_log.specs.Scheme.{Scheme, IsSoundScheme};
 ghost use Rattle.roc_protocol.specs.Inner.Given.{LogLaws, SerialLaws, StoreLaws};
-ghost use Rattle.roc_protocol.specs.Asked.{HasSchemes};
+ghost use Rattle.roc_protocol.specs.PlanAssumptions.{HasSchemes};
 ghost use Rattle.roc_protocol.specs.Final.{lists_in, IsFinalIn};
 ghost use Rattle.roc_protocol.specs.Quiet.{IsQuiet};
 ghost use Rattle.roc_protocol.specs.World.{World, first_world};
 ghost use Rattle.roc_protocol.specs.Fits.{FitsWorld};
-ghost use Rattle.roc_protocol.specs.Run.{Stepped, Comes, IsRun, IsEventOf, MayHappen};
+ghost use Rattle.roc_protocol.specs.Run.{Stepped, Transition, IsRun, IsEventOf, MayHappen};
 
 use roc_component::laws::{order_exists, order_is_one};
-use roc_execution::laws::{
+use roc_law_log::laws::{
     component_order_is_taken, conflicts_are_on_one_shard, executions_are_serial, logs_follow,
     logs_grow, logs_keep_invariants, shards_agree, stores_are_shared_out,
 };
+use roc_law_orders::laws::{groups_stand_one_by_one, last_values_are_serial};
 use roc_rows::laws::reads_after_writes;
-use roc_serial::laws::{groups_stand_one_by_one, last_values_are_serial};
 use roc_server::laws::step_is_one as server_step_is_one;
 
 // What the laws below rest on.
@@ -96,10 +96,10 @@ pub fn cells_are_serial()
 pub fn answered_worlds_rest()
     ensures order { (plan : Plan) (coords : ℕ) (steps : List Stepped) (w : World) → HasSchemes plan → IsRun plan coords steps w
         → ((t : TxnId) → WasSubmitted w.history t → (reply : List ℤ) × WasAnswered w.history t reply)
-        → (e : Option Event) (o : Outcome) → Comes plan w e o → o.world.order ≡ w.order }
+        → (e : Option Event) (o : Outcome) → Transition plan w e o → o.world.order ≡ w.order }
     ensures cells { (plan : Plan) (coords : ℕ) (steps : List Stepped) (w : World) → HasSchemes plan → IsRun plan coords steps w
         → ((t : TxnId) → WasSubmitted w.history t → (reply : List ℤ) × WasAnswered w.history t reply)
-        → (e : Option Event) (o : Outcome) → Comes plan w e o
+        → (e : Option Event) (o : Outcome) → Transition plan w e o
         → (n : ℕ) (s v : ServerState) → slice_get w.servers n ≡ Some s → slice_get o.world.servers n ≡ Some v → v.store ≡ s.store }
     ensures pending { (plan : Plan) (coords : ℕ) (steps : List Stepped) (w : World) → HasSchemes plan → IsRun plan coords steps w
         → ((t : TxnId) → WasSubmitted w.history t → (reply : List ℤ) × WasAnswered w.history t reply)
@@ -156,9 +156,9 @@ pub fn left_out_is_earlier()
         → (shard : Shard) (s : ServerState) → slice_get w.servers shard.0 ≡ Some s → (t : TxnId) → IsDecided s.lists.known t → IsListed is_txn w.order t }
     ensures starting { (plan : Plan) (coords : ℕ) (steps : List Stepped) (w : World) → HasSchemes plan → IsRun plan coords steps w
         → (shard : Shard) (s : ServerState) → slice_get w.servers shard.0 ≡ Some s
-        → (m : Sent) → Has m w.sent → m.to ≡ node.Server shard → (id : TxnId) (proc group : ℕ) (args inputs : List ℤ) → m.msg ≡ msg.Start id proc group args inputs
+        → (m : Envelope) → Has m w.sent → m.to ≡ node.Server shard → (id : TxnId) (proc group : ℕ) (args inputs : List ℤ) → m.msg ≡ msg.Start id proc group args inputs
         → find_group id group s.started ≡ None → ¬ IsListed is_txn w.order id }
-    ensures grows { (plan : Plan) (w : World) (e : Option Event) (o : Outcome) → Comes plan w e o → Continues w.order o.world.order }
+    ensures grows { (plan : Plan) (w : World) (e : Option Event) (o : Outcome) → Transition plan w e o → Continues w.order o.world.order }
 {
     machine_laws();
 }
@@ -169,9 +169,9 @@ pub fn lists_are_final()
     ensures known { (plan : Plan) (coords : ℕ) (steps : List Stepped) (w : World) → HasSchemes plan → IsRun plan coords steps w
         → (shard : Shard) (s : ServerState) → slice_get w.servers shard.0 ≡ Some s → (k : KnownList) → Has k s.lists.known → IsFinalIn plan w k.of k.edges }
     ensures carried { (plan : Plan) (coords : ℕ) (steps : List Stepped) (w : World) → HasSchemes plan → IsRun plan coords steps w
-        → (m : Sent) → Has m w.sent → (k : KnownList) → Has k (lists_in m.msg) → IsFinalIn plan w k.of k.edges }
+        → (m : Envelope) → Has m w.sent → (k : KnownList) → Has k (lists_in m.msg) → IsFinalIn plan w k.of k.edges }
     ensures one { (plan : Plan) (coords : ℕ) (steps : List Stepped) (w : World) → HasSchemes plan → IsRun plan coords steps w
-        → (m other : Sent) → Has m w.sent → Has other w.sent
+        → (m other : Envelope) → Has m w.sent → Has other w.sent
         → (t : TxnId) (g : ℕ) (shard at : Shard) (bound outs values gave : List ℤ) (edges entries : List Dependency) (facts lists : List KnownList)
         → m.msg ≡ msg.StartOk t g shard bound outs edges facts → other.msg ≡ msg.StartOk t g at values gave entries lists → m.msg ≡ other.msg }
 {
@@ -182,7 +182,7 @@ pub fn lists_are_final()
 /// transaction that has its reply.
 pub fn nothing_is_refused()
     ensures servers { (plan : Plan) (coords : ℕ) (steps : List Stepped) (w : World) → HasSchemes plan → IsRun plan coords steps w
-        → (k : ℕ) (m : Sent) (shard : Shard) (o : Outcome) → slice_get w.sent (k - 1) ≡ Some m → m.to ≡ node.Server shard
+        → (k : ℕ) (m : Envelope) (shard : Shard) (o : Outcome) → slice_get w.sent (k - 1) ≡ Some m → m.to ≡ node.Server shard
         → Happens plan w (event.Deliver k) o → o.seen ≡ seen.Done }
     ensures coordinators { (plan : Plan) (coords : ℕ) (steps : List Stepped) (w : World) → HasSchemes plan → IsRun plan coords steps w
         → (k : ℕ) (o : Outcome) (why : Reason) → Happens plan w (event.Deliver k) o → o.seen ≡ seen.Ignored why → why ≡ reason.Stale }
@@ -227,7 +227,7 @@ pub fn servers_agree()
         → (shard other : Shard) (s v : ServerState) → slice_get w.servers shard.0 ≡ Some s → slice_get w.servers other.0 ≡ Some v
         → (t u : TxnId) → IsDecided s.lists.known t → IsDecided v.lists.known t → Mates (Precedes s.lists.known) t u → Mates (Precedes v.lists.known) t u }
     ensures order { (plan : Plan) (coords : ℕ) (steps : List Stepped) (w : World) → HasSchemes plan → IsRun plan coords steps w
-        → (k : ℕ) (m : Sent) (shard : Shard) (s v : ServerState) (o : Outcome) → slice_get w.sent (k - 1) ≡ Some m → m.to ≡ node.Server shard
+        → (k : ℕ) (m : Envelope) (shard : Shard) (s v : ServerState) (o : Outcome) → slice_get w.sent (k - 1) ≡ Some m → m.to ≡ node.Server shard
         → slice_get w.servers shard.0 ≡ Some s → Happens plan w (event.Deliver k) o → slice_get o.world.servers shard.0 ≡ Some v
         → (a b : TxnId) → IsAncestor v.lists.known a b ⊎ IsAncestor v.lists.known b a
         → (IsDecided s.lists.known a × IsListed is_txn o.decided b) ⊎ (IsListed is_txn o.decided b × IsListedBefore is_txn o.decided a b)
@@ -238,7 +238,7 @@ pub fn servers_agree()
 
 /// What comes of an event in a world is one: what is seen, what is newly decided, and the world after it.
 pub fn step_is_one()
-    ensures { (plan : Plan) (w : World) (e : Option Event) (o other : Outcome) → Comes plan w e o → Comes plan w e other → o ≡ other }
+    ensures { (plan : Plan) (w : World) (e : Option Event) (o other : Outcome) → Transition plan w e o → Transition plan w e other → o ≡ other }
 {
     server_step_is_one();
 }
@@ -255,7 +255,7 @@ pub fn run_is_one()
 /// world of a run fits.
 pub fn worlds_fit()
     ensures first { (plan : Plan) (coords : ℕ) → 0 < plan.program.shards → FitsWorld plan (first_world plan coords) }
-    ensures kept { (plan : Plan) (w : World) (e : Option Event) (o : Outcome) → FitsWorld plan w → Comes plan w e o → FitsWorld plan o.world }
+    ensures kept { (plan : Plan) (w : World) (e : Option Event) (o : Outcome) → FitsWorld plan w → Transition plan w e o → FitsWorld plan o.world }
     ensures runs { (plan : Plan) (coords : ℕ) (steps : List Stepped) (w : World) → 0 < plan.program.shards → IsRun plan coords steps w → FitsWorld plan w }
 {}
 

@@ -4,8 +4,8 @@
 //! `specs/World.antt` has the world: servers, coordinators, every message ever sent, the history and the serial order.
 //! `specs/Happens.antt` has what comes of an event: one event changes one node, by that node's own step.
 //! `specs/Run.antt` has runs, `specs/Fits.antt` worlds that fit a plan, `specs/Final.antt` lists as startoks make them,
-//! `specs/Quiet.antt` transactions whose messages were all delivered, and `specs/Asked.antt` what the laws ask of a
-//! plan: schemes of the log machine (`HasSchemes`), which every accepted plan has (`roc_scheme`).
+//! `specs/Quiet.antt` transactions whose messages were all delivered, and `specs/PlanAssumptions.antt` what the laws ask of a
+//! plan: schemes of the log machine (`HasSchemes`), which every accepted plan has (`roc_law_plans`).
 //!
 //! The layers above may rely on [`laws`]. Of every run of a plan with schemes, whatever is lost, repeated or reordered:
 //! the serial order explains the history; what a start leaves out is earlier in it; lists are final; servers agree; no

@@ -2,18 +2,18 @@
 use Rattle.std.proofs.Common.{◌≡◌, ℕ, ◌<◌, List, ◌∷◌, ◌++◌, Option, sym, subst, arith, ◌⊎◌, inl, inr}
 use Rattle.roc_io.specs.Cause.{HasCause, last_count}
 use Rattle.roc_plan.specs.Groups.{Plan}
-use Rattle.roc_replay.specs.declared.asked.Asked.{Asked}
+use Rattle.roc_replay.specs.declared.asked.BoundLine.{BoundLine}
 use Rattle.roc_replay.specs.declared.ended.Ended.{Ended}
 use Rattle.roc_replay.specs.declared.ended.Ended.TheVariants.{Done, Text, SinkFault, NoMemory}
 use Rattle.roc_sched.specs.declared.fault.What.{What}
 use Rattle.roc_sched.specs.Schedule.{IsScheduleFault}
-use Rattle.roc_replay.specs.Asked.{IsScheduleOf, IsUnfit}
+use Rattle.roc_replay.specs.BoundLine.{IsScheduleOf, IsUnfit}
 use Rattle.roc_replay.specs.Ended.{IsUnsent, IsTextFault, no_schedule, unfit, unsent, IsWhole, is_sink_fault}
 use Rattle.roc_replay.specs.Inner.Ends.{IsEnd}
 use Rattle.roc_replay.specs.Played.{DeliversOnlySent}
 
-module _ (plan : Plan) (schedule : List ℕ) (lines : List Asked) (of : IsScheduleOf plan.program schedule lines) (sends : DeliversOnlySent plan lines)
-    (one_schedule : (text : List ℕ) (some others : List Asked) → IsScheduleOf plan.program text some → IsScheduleOf plan.program text others → some ≡ others) where
+module _ (plan : Plan) (schedule : List ℕ) (lines : List BoundLine) (of : IsScheduleOf plan.program schedule lines) (sends : DeliversOnlySent plan lines)
+    (one_schedule : (text : List ℕ) (some others : List BoundLine) → IsScheduleOf plan.program text some → IsScheduleOf plan.program text others → some ≡ others) where
   -- no line of it asks for a message that was not sent
   all_sent : (number : ℕ) (old new : Option (List ℕ)) → IsUnsent plan schedule number old new → ⊥
   all_sent number old new u =

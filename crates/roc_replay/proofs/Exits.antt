@@ -5,7 +5,7 @@ use Rattle.std.proofs.lemmas.Grind.{flat_map-append}
 use Rattle.std.proofs.lemmas.List.{append-nil}
 use Rattle.std.specs.Prelude.{Option, count_by, fold}
 use Rattle.roc_sequence.proofs.Fronts.{parts_at}
-use Rattle.roc_io.specs.Told.{Adds, AddsFront}
+use Rattle.roc_io.specs.Observed.{Adds, AddsFront}
 use Rattle.roc_io.proofs.Told.{Adds-trans, AddsThenFront-behind}
 use Rattle.roc_plan.specs.Groups.{Plan}
 use Rattle.roc_protocol.specs.Run.{Stepped, IsRun}
@@ -16,17 +16,17 @@ use Rattle.roc_report.specs.Line.{Row, Pending}
 use Rattle.roc_report.specs.Text.{line_text, lines_text}
 use Rattle.roc_replay.specs.declared.ended.Ended.{Ended}
 use Rattle.roc_replay.specs.declared.ended.Ended.TheVariants.{Done, Text, SinkFault, NoMemory}
-use Rattle.roc_replay.specs.declared.asked.Asked.{Asked}
+use Rattle.roc_replay.specs.declared.asked.BoundLine.{BoundLine}
 use Rattle.roc_replay.specs.declared.asked.Wanted.{Wanted}
 use Rattle.roc_replay.specs.declared.asked.Wanted.TheVariants as wanted
-use Rattle.roc_replay.specs.Asked.{IsScheduleOf, coordinators, event_in}
+use Rattle.roc_replay.specs.BoundLine.{IsScheduleOf, coordinators, event_in}
 use Rattle.roc_replay.specs.Cells.{by_cell}
 use Rattle.roc_replay.specs.Inner.Closed.{IsClosed, wants_unsent}
 use Rattle.roc_replay.specs.Ended.{IsUnsent, IsCut, at_line, at_end, IsUnfinished, behind_lines}
 use Rattle.roc_replay.specs.Inner.Ends.{IsEnd}
 use Rattle.roc_replay.specs.Played.{IsPlayedLine}
 use Rattle.roc_replay.specs.Report.{is_busy, busy_in, end_line, closing_lines, steps_lines, report}
-use Rattle.roc_replay.specs.Told.{IsExplained}
+use Rattle.roc_replay.specs.Readback.{IsExplained}
 use Rattle.roc_replay.proofs.Playing.{played_run}
 use Rattle.roc_replay.proofs.SoFar.{IsSoFar, count_by-append}
 
@@ -36,9 +36,9 @@ none_counted p f none (x ∷ xs) = ap (λ b. fold (λ n y. n + cond (p y) 1 0) (
 
 -- ---- the ends
 
-module _ (plan : Plan) (schedule : List ℕ) (lines : List Asked) (of : IsScheduleOf plan.program schedule lines) where
+module _ (plan : Plan) (schedule : List ℕ) (lines : List BoundLine) (of : IsScheduleOf plan.program schedule lines) where
   -- the next line asks for a message that was not sent
-  pub unsent_end : (i : ℕ) (line : Asked) (w : World) (busy : ℕ) (old now : Option (List ℕ)) → i < length lines → line ≡ get_or lines i line
+  pub unsent_end : (i : ℕ) (line : BoundLine) (w : World) (busy : ℕ) (old now : Option (List ℕ)) → i < length lines → line ≡ get_or lines i line
       → IsSoFar plan (take i lines) w busy old now → wants_unsent line.wanted (length w.sent) ≡ true → IsUnsent plan schedule line.number old now
   unsent_end i line w busy old now within is so asks = go line.wanted refl asks
     where
@@ -67,7 +67,7 @@ module _ (plan : Plan) (schedule : List ℕ) (lines : List Asked) (of : IsSchedu
       behind_lines (take i lines) (drop i lines) so.steps w (subst (IsScheduleOf plan.program schedule) (sym (take-append-drop i lines)) of) so.played so.taken
 
   -- the sink failed at the text of a line
-  pub failed_end : (i : ℕ) (line : Asked) (w after : World) (text : List ℕ) (busy more : ℕ) (old now then : Option (List ℕ)) → i < length lines → line ≡ get_or lines i line
+  pub failed_end : (i : ℕ) (line : BoundLine) (w after : World) (text : List ℕ) (busy more : ℕ) (old now then : Option (List ℕ)) → i < length lines → line ≡ get_or lines i line
       → IsSoFar plan (take i lines) w busy old now → IsPlayedLine plan (event_in w line.wanted) w after text more → AddsFront now then text → IsCut plan schedule old then
   failed_end i line w after text busy more old now then within is so next front =
       at_line (take i lines) line (drop (suc i) lines) so.steps w after text more

@@ -1,7 +1,7 @@
 -- The lines of steps that grow at their end
 use Rattle.std.proofs.Common.{◌≡◌, ℕ, List, [], ◌∷◌, ◌++◌, refl, sym, ap, ◌∙◌, append_assoc}
 use Rattle.std.proofs.lemmas.List.{append-nil}
-use Rattle.roc_msg.specs.declared.msg.Sent.{Sent}
+use Rattle.roc_msg.specs.declared.msg.Envelope.{Envelope}
 use Rattle.roc_plan.specs.Groups.{Plan}
 use Rattle.roc_protocol.specs.World.{World}
 use Rattle.roc_protocol.specs.Run.{Stepped, IsRun, begun, goes_on}
@@ -9,15 +9,15 @@ use Rattle.roc_report.specs.Line.{Line}
 use Rattle.roc_replay.specs.Report.{step_lines, steps_lines}
 
 -- what was sent after steps before which this was
-abbrev pub sent_after : List Sent → List Stepped → List Sent
+abbrev pub sent_after : List Envelope → List Stepped → List Envelope
 sent_after before [] = before
 sent_after before (step ∷ rest) = sent_after step.outcome.world.sent rest
 
-pub sent_after-one : (before : List Sent) (steps : List Stepped) (step : Stepped) → sent_after before (steps ++ step ∷ []) ≡ step.outcome.world.sent
+pub sent_after-one : (before : List Envelope) (steps : List Stepped) (step : Stepped) → sent_after before (steps ++ step ∷ []) ≡ step.outcome.world.sent
 sent_after-one before [] step = refl
 sent_after-one before (first ∷ rest) step = sent_after-one first.outcome.world.sent rest step
 
-pub steps_lines-one : (before : List Sent) (steps : List Stepped) (step : Stepped)
+pub steps_lines-one : (before : List Envelope) (steps : List Stepped) (step : Stepped)
     → steps_lines before (steps ++ step ∷ []) ≡ steps_lines before steps ++ step_lines (sent_after before steps) step
 steps_lines-one before [] step = append-nil (step_lines before step)
 steps_lines-one before (first ∷ rest) step =
@@ -33,4 +33,4 @@ run_sent plan coords steps w (goes_on {steps = before} e o r h) = sent_after-one
 pub run_lines : (plan : Plan) (coords : ℕ) (steps : List Stepped) (w : World) → IsRun plan coords steps w → (step : Stepped)
     → steps_lines [] (steps ++ step ∷ []) ≡ steps_lines [] steps ++ step_lines w.sent step
 run_lines plan coords steps w r step =
-    steps_lines-one [] steps step ∙ ap (λ (sent : List Sent). steps_lines [] steps ++ step_lines sent step) (run_sent plan coords steps w r)
+    steps_lines-one [] steps step ∙ ap (λ (sent : List Envelope). steps_lines [] steps ++ step_lines sent step) (run_sent plan coords steps w r)

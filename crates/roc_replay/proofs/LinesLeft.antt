@@ -1,7 +1,7 @@
 -- The text of the lines that are left in a loop, behind the text so far
 use Rattle.std.proofs.Common.{◌≡◌, ℕ, ◌+◌, ◌<◌, List, ◌∷◌, ◌++◌, length, map, drop, get_or, sym, ap, ◌∙◌, append_assoc, arith}
 use Rattle.roc_sequence.proofs.Fronts.{rest_at}
-use Rattle.roc_msg.specs.declared.msg.Sent.{Sent}
+use Rattle.roc_msg.specs.declared.msg.Envelope.{Envelope}
 use Rattle.roc_program.specs.Program.{Workload}
 use Rattle.roc_report.specs.Line.{Line, Send}
 use Rattle.roc_report.specs.Shown.{shown_message}
@@ -24,10 +24,10 @@ mapped_left {A} shows xs i x within is = ap (map shows) (rest_at xs i x within) 
 
 -- the lines of messages that are left from a place
 pub sends_left :
-    (first : ℕ) (sent : List Sent) (i : ℕ) (x : Sent) → i < length sent → x ≡ get_or sent i x
+    (first : ℕ) (sent : List Envelope) (i : ℕ) (x : Envelope) → i < length sent → x ≡ get_or sent i x
     → send_lines (first + i) (drop i sent) ≡ Send (first + i) (shown_message x) ∷ send_lines (first + (i + 1)) (drop (i + 1) sent)
 sends_left first sent i x within is =
     let next : first + i + 1 ≡ first + (i + 1) = omega arith in
     ap (send_lines (first + i)) (rest_at sent i x within)
-    ∙ ap (λ (y : Sent). Send (first + i) (shown_message y) ∷ send_lines (first + i + 1) (drop (i + 1) sent)) (sym is)
+    ∙ ap (λ (y : Envelope). Send (first + i) (shown_message y) ∷ send_lines (first + i + 1) (drop (i + 1) sent)) (sym is)
     ∙ ap (λ (n : ℕ). Send (first + i) (shown_message x) ∷ send_lines n (drop (i + 1) sent)) next

@@ -6,16 +6,16 @@ use Rattle.roc_plan.specs.Groups.{Plan}
 use Rattle.roc_protocol.specs.World.{World}
 use Rattle.roc_protocol.specs.Happens.{Outcome}
 use Rattle.roc_protocol.specs.Run as run
-use Rattle.roc_protocol.specs.Run.{Stepped, Comes, IsRun}
+use Rattle.roc_protocol.specs.Run.{Stepped, Transition, IsRun}
 use Rattle.roc_protocol.specs.declared.event.Event.{Event}
-use Rattle.roc_replay.specs.declared.asked.Asked.{Asked}
+use Rattle.roc_replay.specs.declared.asked.BoundLine.{BoundLine}
 use Rattle.roc_replay.specs.declared.asked.Wanted.{Wanted}
-use Rattle.roc_replay.specs.Asked.{coordinators, event_in}
+use Rattle.roc_replay.specs.BoundLine.{coordinators, event_in}
 use Rattle.roc_replay.specs.Played.{IsPlayed, begun, goes_on}
 
 -- ---- a run
 
-pub played_run : (plan : Plan) (lines : List Asked) (steps : List Stepped) (w : World) → IsPlayed plan lines steps w → IsRun plan coordinators steps w
+pub played_run : (plan : Plan) (lines : List BoundLine) (steps : List Stepped) (w : World) → IsPlayed plan lines steps w → IsRun plan coordinators steps w
 played_run plan lines steps w begun = run.begun
 played_run plan lines steps w (goes_on {lines = before} {steps = some} {w = old} line o p h) = run.goes_on (event_in old line.wanted) o (played_run plan before some old p) h
 
@@ -23,14 +23,14 @@ played_run plan lines steps w (goes_on {lines = before} {steps = some} {w = old}
 
 -- ---- one run
 
-abbrev pub wanteds : List Asked → List Wanted
+abbrev pub wanteds : List BoundLine → List Wanted
 wanteds lines = map (λ l. l.wanted) lines
 
-wanteds-more : (lines : List Asked) (line : Asked) → wanteds (lines ++ line ∷ []) ≡ wanteds lines ++ line.wanted ∷ []
-wanteds-more lines line = map-append (λ (l : Asked). l.wanted) lines (line ∷ [])
+wanteds-more : (lines : List BoundLine) (line : BoundLine) → wanteds (lines ++ line ∷ []) ≡ wanteds lines ++ line.wanted ∷ []
+wanteds-more lines line = map-append (λ (l : BoundLine). l.wanted) lines (line ∷ [])
 
-module _ (plan : Plan) (one : (w : World) (e : Option Event) (o other : Outcome) → Comes plan w e o → Comes plan w e other → o ≡ other) where
-  pub one_played : {lines others : List Asked} {steps same : List Stepped} {w v : World} → IsPlayed plan lines steps w → IsPlayed plan others same v → wanteds lines ≡ wanteds others → (steps ≡ same) × (w ≡ v)
+module _ (plan : Plan) (one : (w : World) (e : Option Event) (o other : Outcome) → Transition plan w e o → Transition plan w e other → o ≡ other) where
+  pub one_played : {lines others : List BoundLine} {steps same : List Stepped} {w v : World} → IsPlayed plan lines steps w → IsPlayed plan others same v → wanteds lines ≡ wanteds others → (steps ≡ same) × (w ≡ v)
   one_played begun begun e = (refl, refl)
   one_played begun (goes_on {lines = ls} l o p h) e = absurd (empty_more (wanteds ls) l.wanted (e ∙ wanteds-more ls l))
   one_played (goes_on {lines = ls} l o p h) begun e = absurd (empty_more (wanteds ls) l.wanted (sym e ∙ wanteds-more ls l))
@@ -42,8 +42,8 @@ module _ (plan : Plan) (one : (w : World) (e : Option Event) (o other : Outcome)
           → (xs ++ (record { event = event_in w l.wanted; outcome = o }) ∷ [] ≡ ys ++ (record { event = event_in v m.wanted; outcome = q }) ∷ []) × (o.world ≡ q.world)
       go front same =
           let asked : event_in w l.wanted ≡ event_in v m.wanted = λ i. event_in (front.1 i) (same i) in
-          let P : World → Option Event → Type 0 = λ u x. Comes plan u x o in
-          let moved : Comes plan v (event_in v m.wanted) o = subst (P v) asked (subst (λ (u : World). P u (event_in w l.wanted)) front.1 h) in
+          let P : World → Option Event → Type 0 = λ u x. Transition plan u x o in
+          let moved : Transition plan v (event_in v m.wanted) o = subst (P v) asked (subst (λ (u : World). P u (event_in w l.wanted)) front.1 h) in
           let out : o ≡ q = one v (event_in v m.wanted) o q moved k in
           let more : List Stepped → Option Event → Outcome → List Stepped = λ zs x y. zs ++ (record { event = x; outcome = y }) ∷ [] in
           ((λ i. more (front.0 i) (asked i) (out i)), ap (λ (y : Outcome). y.world) out)
@@ -51,12 +51,12 @@ module _ (plan : Plan) (one : (w : World) (e : Option Event) (o other : Outcome)
 -- ---- a front
 
 -- some first lines were played, and the event that the next one asks for happened
-pub record IsFrontPlayed (plan : Plan) (before : List Asked) (line : Asked) : Type 0 where
+pub record IsFrontPlayed (plan : Plan) (before : List BoundLine) (line : BoundLine) : Type 0 where
   pub steps : List Stepped
   pub world : World
   pub outcome : Outcome
   pub played : IsPlayed plan before steps world
-  pub comes : Comes plan world (event_in world line.wanted) outcome
+  pub transition : Transition plan world (event_in world line.wanted) outcome
 
 -- the last of some, and what is before it
 pub record Split {A : Type 0} (x : A) (xs : List A) : Type 0 where
@@ -68,19 +68,19 @@ split : {A : Type 0} (x : A) (xs : List A) → Split x xs
 split x [] = record { front = []; last = x; is = refl }
 split {A} x (y ∷ ys) = let r = split y ys in record { front = x ∷ r.front; last = r.last; is = ap (λ (zs : List A). x ∷ zs) r.is }
 
-pub front_played : (plan : Plan) (lines : List Asked) (steps : List Stepped) (w : World) → IsPlayed plan lines steps w
-    → (before : List Asked) (line : Asked) (behind : List Asked) → lines ≡ before ++ line ∷ behind → IsFrontPlayed plan before line
-front_played plan lines steps w begun before line behind e = let r = split line behind in absurd (empty_more (before ++ r.front) r.last (e ∙ ap (λ (ls : List Asked). before ++ ls) r.is ∙ sym (append_assoc before r.front (r.last ∷ []))))
+pub front_played : (plan : Plan) (lines : List BoundLine) (steps : List Stepped) (w : World) → IsPlayed plan lines steps w
+    → (before : List BoundLine) (line : BoundLine) (behind : List BoundLine) → lines ≡ before ++ line ∷ behind → IsFrontPlayed plan before line
+front_played plan lines steps w begun before line behind e = let r = split line behind in absurd (empty_more (before ++ r.front) r.last (e ∙ ap (λ (ls : List BoundLine). before ++ ls) r.is ∙ sym (append_assoc before r.front (r.last ∷ []))))
 front_played plan lines steps w (goes_on {lines = ls} {steps = some} {w = old} l o p h) before line [] e =
     let ends : (ls ≡ before) × (l ≡ line) = same_more ls before l line e in
     record {
       steps = some;
       world = old;
       outcome = o;
-      played = subst (λ (x : List Asked). IsPlayed plan x some old) ends.0 p;
-      comes = subst (λ (x : Asked). Comes plan old (event_in old x.wanted) o) ends.1 h;
+      played = subst (λ (x : List BoundLine). IsPlayed plan x some old) ends.0 p;
+      transition = subst (λ (x : BoundLine). Transition plan old (event_in old x.wanted) o) ends.1 h;
     }
 front_played plan lines steps w (goes_on {lines = ls} {steps = some} {w = old} l o p h) before line (x ∷ xs) e =
     let r = split x xs in
-    let ends : (ls ≡ before ++ line ∷ r.front) × (l ≡ r.last) = same_more ls (before ++ line ∷ r.front) l r.last (e ∙ ap (λ (zs : List Asked). before ++ line ∷ zs) r.is ∙ sym (append_assoc before (line ∷ r.front) (r.last ∷ []))) in
+    let ends : (ls ≡ before ++ line ∷ r.front) × (l ≡ r.last) = same_more ls (before ++ line ∷ r.front) l r.last (e ∙ ap (λ (zs : List BoundLine). before ++ line ∷ zs) r.is ∙ sym (append_assoc before (line ∷ r.front) (r.last ∷ []))) in
     front_played plan ls some old p before line r.front ends.0

@@ -12,9 +12,9 @@ use Rattle.roc_base.specs.declared.node.Node.{Node}
 use Rattle.roc_base.specs.declared.node.Node.TheVariants.{Server, Coord}
 use Rattle.roc_depgraph.specs.Reach.{ReachesOrIs}
 use Rattle.roc_depgraph.proofs.Chains.{weaker_chain}
-use Rattle.roc_groups.proofs.Elements.{from_has_range}
+use Rattle.roc_merge_groups.proofs.Elements.{from_has_range}
 use Rattle.roc_msg.specs.declared.msg.Msg.{Msg}
-use Rattle.roc_msg.specs.declared.msg.Sent.{Sent}
+use Rattle.roc_msg.specs.declared.msg.Envelope.{Envelope}
 use Rattle.roc_msg.specs.declared.outbox.Outgoing.{Outgoing}
 use Rattle.roc_msg.specs.Msg.{id_of}
 use Rattle.roc_plan.specs.Groups.{Plan}
@@ -26,16 +26,16 @@ use Rattle.roc_protocol.specs.declared.event.Event.{Event}
 use Rattle.roc_protocol.specs.declared.event.Event.TheVariants as event
 use Rattle.roc_protocol.specs.declared.event.Seen.{Seen}
 use Rattle.roc_protocol.specs.declared.event.Seen.TheVariants as seen
-use Rattle.roc_protocol.specs.World.{World, sent_by, comes}
+use Rattle.roc_protocol.specs.World.{World, sent_by, mark_delivered}
 use Rattle.roc_protocol.specs.Happens.{Outcome, Submits, IsReceived, Ticks, Happens}
-use Rattle.roc_protocol.specs.Run.{Stepped, Comes, IsRun, begun, goes_on}
+use Rattle.roc_protocol.specs.Run.{Stepped, Transition, IsRun, begun, goes_on}
 use Rattle.roc_protocol.specs.Quiet.{PrecedesIn, WasDelivered, IsQuiet}
 use Rattle.roc_world.specs.Reads.{cells_of, unanswered_of}
 use Rattle.roc_report.specs.Shown.{message_kind, edges_of, shown_message}
 use Rattle.roc_report.specs.Line.{Line, ShownMessage, Submit, Deliver, Send, Answer, Row, Pending}
 use Rattle.roc_replay.specs.Cells.{by_cell}
 use Rattle.roc_replay.specs.Report.{submission_lines, ignored_lines, first_lines, send_lines, answer_lines, step_lines, steps_lines, end_line, closing_lines, report}
-use Rattle.roc_replay.specs.Told.{entries_in, history_in, IsShownBefore, LooksQuiet}
+use Rattle.roc_replay.specs.Readback.{entries_in, history_in, IsShownBefore, LooksQuiet}
 use Rattle.roc_replay.proofs.Growing.{run_lines}
 
 -- ---- which lines show messages
@@ -85,7 +85,7 @@ module _ (Came : ℕ → Type 0) (Went : ℕ → ShownMessage → Type 0) where
   first_says (Some (event.Tick node)) what f line (inl i) = subst Says (sym i) tt
   first_says (Some (event.Tick node)) what f line (inr h) = absurd h
 
-  sends_say : (number : ℕ) (sent : List Sent) → ((n : ℕ) (message : ShownMessage) → Has (Send n message) (send_lines number sent) → Went n message) → (line : Line) → Has line (send_lines number sent) → Says line
+  sends_say : (number : ℕ) (sent : List Envelope) → ((n : ℕ) (message : ShownMessage) → Has (Send n message) (send_lines number sent) → Went n message) → (line : Line) → Has line (send_lines number sent) → Says line
   sends_say number [] f line h = absurd h
   sends_say number (m ∷ rest) f line (inl e) = subst Says (sym e) (f number (shown_message m) (inl refl))
   sends_say number (m ∷ rest) f line (inr h) = sends_say (number + 1) rest (λ n message k. f n message (inr k)) line h
@@ -101,11 +101,11 @@ module _ (Came : ℕ → Type 0) (Went : ℕ → ShownMessage → Type 0) where
   ]
 
 -- the messages that a step sends, as lines
-abbrev new_lines : List Sent → Stepped → List Line
+abbrev new_lines : List Envelope → Stepped → List Line
 new_lines before step = send_lines (length before + 1) (drop (length before) step.outcome.world.sent)
 
 -- the lines of a step show what it sends, and as delivered what it delivers
-step_says : (before : List Sent) (step : Stepped) (line : Line) → Has line (step_lines before step)
+step_says : (before : List Envelope) (step : Stepped) (line : Line) → Has line (step_lines before step)
     → Says (λ k. step.event ≡ Some (event.Deliver k)) (λ n message. Has (Send n message) (new_lines before step)) line
 step_says before step line h =
     let Came : ℕ → Type 0 = λ k. step.event ≡ Some (event.Deliver k) in
@@ -120,7 +120,7 @@ step_says before step line h =
 
 -- ---- lines of messages, by number
 
-sends-append : (number : ℕ) (sent more : List Sent) → send_lines number (sent ++ more) ≡ send_lines number sent ++ send_lines (length sent + number) more
+sends-append : (number : ℕ) (sent more : List Envelope) → send_lines number (sent ++ more) ≡ send_lines number sent ++ send_lines (length sent + number) more
 sends-append number [] more = let e : number ≡ 0 + number = omega arith in ap (λ (n : ℕ). send_lines n more) e
 sends-append number (m ∷ rest) more =
     ap (λ (ls : List Line). Send number (shown_message m) ∷ ls)
@@ -128,7 +128,7 @@ sends-append number (m ∷ rest) more =
     ∙ (let e : length rest + (number + 1) ≡ suc (length rest) + number = omega arith in ap (λ (n : ℕ). send_lines (number + 1) rest ++ send_lines n more) e))
 
 -- a message has a line with its number
-send_at : (number : ℕ) (sent : List Sent) (k : ℕ) (m : Sent) → slice_get sent k ≡ Some m → Has (Send (k + number) (shown_message m)) (send_lines number sent)
+send_at : (number : ℕ) (sent : List Envelope) (k : ℕ) (m : Envelope) → slice_get sent k ≡ Some m → Has (Send (k + number) (shown_message m)) (send_lines number sent)
 send_at number [] k m e = absurd (cc)
 send_at number (x ∷ rest) zero m e = let same : m ≡ x = cc in let place : 0 + number ≡ number = omega arith in inl (λ i. Send (place i) (shown_message (same i)))
 send_at number (x ∷ rest) (suc k) m e =
@@ -136,14 +136,14 @@ send_at number (x ∷ rest) (suc k) m e =
     inr (subst (λ (n : ℕ). Has (Send n (shown_message m)) (send_lines (number + 1) rest)) place (send_at (number + 1) rest k m e))
 
 -- and any that is sent has one
-send_of : (number : ℕ) (sent : List Sent) (m : Sent) → Has m sent → (n : ℕ) × Has (Send n (shown_message m)) (send_lines number sent)
+send_of : (number : ℕ) (sent : List Envelope) (m : Envelope) → Has m sent → (n : ℕ) × Has (Send n (shown_message m)) (send_lines number sent)
 send_of number [] m h = absurd h
-send_of number (x ∷ rest) m (inl e) = (number, inl (ap (λ (m : Sent). Send number (shown_message m)) e))
+send_of number (x ∷ rest) m (inl e) = (number, inl (ap (λ (m : Envelope). Send number (shown_message m)) e))
 send_of number (x ∷ rest) m (inr h) = let r = send_of (number + 1) rest m h in (r.0, inr r.1)
 
 -- a line of a message shows the message with its number
-at_send : (number : ℕ) (sent : List Sent) (n : ℕ) (message : ShownMessage) → Has (Send n message) (send_lines number sent)
-    → (k : ℕ) × (m : Sent) × (n ≡ k + number) × (slice_get sent k ≡ Some m) × (message ≡ shown_message m)
+at_send : (number : ℕ) (sent : List Envelope) (n : ℕ) (message : ShownMessage) → Has (Send n message) (send_lines number sent)
+    → (k : ℕ) × (m : Envelope) × (n ≡ k + number) × (slice_get sent k ≡ Some m) × (message ≡ shown_message m)
 at_send number [] n message h = absurd h
 at_send number (x ∷ rest) n message (inl e) = let same : n ≡ number = cc in (0, x, omega arith, refl, cc)
 at_send number (x ∷ rest) n message (inr h) =
@@ -155,14 +155,14 @@ at_send number (x ∷ rest) n message (inr h) =
 
 -- messages were sent after those of w, and what had been delivered there is still
 abbrev SendsMore : World → World → Type 0
-SendsMore w v = (more : List Sent) × (v.sent ≡ w.sent ++ more) × ((k : ℕ) → k ≤ length w.sent → WasDelivered w k → WasDelivered v k)
+SendsMore w v = (more : List Envelope) × (v.sent ≡ w.sent ++ more) × ((k : ℕ) → k ≤ length w.sent → WasDelivered w k → WasDelivered v k)
 
 sends_nothing : (w : World) → SendsMore w w
 sends_nothing w = ([], sym (append-nil w.sent), λ k l d. d)
 
 -- numbers that come later are greater
 sends_these : (w : World) (from : Node) (outs : List Outgoing)
-    → (more : List Sent) × (w.sent ++ map (sent_by from) outs ≡ w.sent ++ more)
+    → (more : List Envelope) × (w.sent ++ map (sent_by from) outs ≡ w.sent ++ more)
     × ((k : ℕ) → k ≤ length w.sent → WasDelivered w k → ¬ Has k (w.undelivered ++ range_with_len (length w.sent + 1) (length outs)))
 sends_these w from outs = (
   map (sent_by from) outs,
@@ -192,17 +192,17 @@ tick_sends plan w (Server shard) o (s, there, e) = subst (λ (x : Outcome). Send
 tick_sends plan w (Coord number) o (s, there, e) = subst (λ (x : Outcome). SendsMore w x.world) (sym e) (sends_these w (Coord number) _)
 
 -- a message that comes leaves fewer undelivered, and not itself
-stays_delivered : (w : World) (k j : ℕ) → WasDelivered w j → WasDelivered (comes w k) j
+stays_delivered : (w : World) (k j : ℕ) → WasDelivered w j → WasDelivered (mark_delivered w k) j
 stays_delivered w k j d h = d (from_has_filter (λ (n : ℕ). not (n == k)) j w.undelivered h).0
 
-now_delivered : (w : World) (k : ℕ) → WasDelivered (comes w k) k
+now_delivered : (w : World) (k : ℕ) → WasDelivered (mark_delivered w k) k
 now_delivered w k h = false≢true (sym (not-true (k == k) (from_has_filter (λ (n : ℕ). not (n == k)) k w.undelivered h).1) ∙ eq-eqb k k refl)
 
-comes_sends : (plan : Plan) (w : World) (e : Option Event) (o : Outcome) → Comes plan w e o → SendsMore w o.world
+comes_sends : (plan : Plan) (w : World) (e : Option Event) (o : Outcome) → Transition plan w e o → SendsMore w o.world
 comes_sends plan w None o h = subst (λ (x : Outcome). SendsMore w x.world) (sym h) (sends_nothing w)
 comes_sends plan w (Some (event.Submit coord proc args)) o (s, there, h) = submit_sends w coord proc args _ _ _ o h
 comes_sends plan w (Some (event.Deliver k)) o (m, some, there, h) =
-    let r = received_sends plan (comes w k) m.msg m.to o h in
+    let r = received_sends plan (mark_delivered w k) m.msg m.to o h in
     (r.0, r.1, λ j l d. r.2 j l (stays_delivered w k j d))
 comes_sends plan w (Some (event.Tick node)) o h = tick_sends plan w node o h
 
@@ -211,7 +211,7 @@ comes_delivered : (plan : Plan) (w : World) (k : ℕ) (o : Outcome) → Happens 
 comes_delivered plan w k o (m, some, there, h) =
     let within = slice_get_within w.sent (k - 1) m there in
     let known : k ≤ length w.sent = omega arith in
-    (known, (received_sends plan (comes w k) m.msg m.to o h).2 k known (now_delivered w k))
+    (known, (received_sends plan (mark_delivered w k) m.msg m.to o h).2 k known (now_delivered w k))
 
 -- ---- what the lines of a run show
 
@@ -221,14 +221,14 @@ record AreShown (w : World) (lines : List Line) : Type 0 where
   pub delivered : (k : ℕ) → Has (Deliver k) lines → (k ≤ length w.sent) × WasDelivered w k
 
 -- one step more
-shown_more : (plan : Plan) (w : World) (lines : List Line) (step : Stepped) → Comes plan w step.event step.outcome → AreShown w lines → AreShown step.outcome.world (lines ++ step_lines w.sent step)
+shown_more : (plan : Plan) (w : World) (lines : List Line) (step : Stepped) → Transition plan w step.event step.outcome → AreShown w lines → AreShown step.outcome.world (lines ++ step_lines w.sent step)
 shown_more plan w lines step h shown =
     let v = step.outcome.world in
     let grown = comes_sends plan w step.event step.outcome h in
     let all : send_lines 1 v.sent ≡ send_lines 1 w.sent ++ new_lines w.sent step =
     ap (send_lines 1) grown.1
     ∙ sends-append 1 w.sent grown.0
-    ∙ ap (λ (new : List Sent). send_lines 1 w.sent ++ send_lines (length w.sent + 1) new) (sym (front_rest v.sent w.sent grown.0 grown.1)) in
+    ∙ ap (λ (new : List Envelope). send_lines 1 w.sent ++ send_lines (length w.sent + 1) new) (sym (front_rest v.sent w.sent grown.0 grown.1)) in
     let longer : length v.sent ≡ length w.sent + length grown.0 = ap length grown.1 ∙ length-append w.sent grown.0 in
     record {
       sends = λ line k. elim (has_append line (send_lines 1 w.sent) (new_lines w.sent step) (subst (Has line) all k)) [
@@ -242,7 +242,7 @@ shown_more plan w lines step h shown =
       delivered = λ k l. elim (has_append (Deliver k) lines (step_lines w.sent step) l) [
         | inl j ↦ (let before = shown.delivered k j in let known = before.0 in (omega arith, grown.2 k known before.1))
         | inr j ↦
-            (let now = comes_delivered plan w k step.outcome (subst (λ (e : Option Event). Comes plan w e step.outcome) (step_says w.sent step (Deliver k) j) h) in
+            (let now = comes_delivered plan w k step.outcome (subst (λ (e : Option Event). Transition plan w e step.outcome) (step_says w.sent step (Deliver k) j) h) in
             let known = now.0 in
             (omega arith, now.1))
       ];
@@ -258,7 +258,7 @@ run_shown plan coords steps w (goes_on {steps = before} {w = old} e o r h) =
 
 -- this is shown of the message with this number
 abbrev pub IsSentAs : World → ℕ → ShownMessage → Type 0
-IsSentAs w number message = (m : Sent) × (0 < number) × (slice_get w.sent (number - 1) ≡ Some m) × (message ≡ shown_message m)
+IsSentAs w number message = (m : Envelope) × (0 < number) × (slice_get w.sent (number - 1) ≡ Some m) × (message ≡ shown_message m)
 
 answer_of : (line : Line) (t : TxnId) (reply : List ℤ) → Has (entry.Answered t reply) (entries_in line) → line ≡ Answer t reply
 answer_of (Answer id values) t reply (inl e) = cc

@@ -20,10 +20,10 @@ use Rattle.roc_sched.specs.declared.line.Line.{Line}
 use Rattle.roc_sched.specs.Each.{◌>>=◌, each}
 use Rattle.roc_sched.specs.Schedule.{IsSchedule, IsScheduleFault, item_of}
 use Rattle.roc_sched.specs.Fits.{IsActFor}
-use Rattle.roc_replay.specs.declared.asked.Asked.{Asked}
+use Rattle.roc_replay.specs.declared.asked.BoundLine.{BoundLine}
 use Rattle.roc_replay.specs.declared.asked.Wanted.{Wanted}
 use Rattle.roc_replay.specs.declared.asked.Wanted.TheVariants as wanted
-use Rattle.roc_replay.specs.Asked.{arguments_of, submission_of, wanted_by, numbered, asked_by, IsScheduleOf, IsUnfit, WantedFits}
+use Rattle.roc_replay.specs.BoundLine.{arguments_of, submission_of, wanted_by, numbered, asked_by, IsScheduleOf, IsUnfit, WantedFits}
 use Rattle.roc_replay.specs.Inner.Reading.{GivesAtLine, DoFit, IsUnfitBy}
 
 -- ---- what each line asks for
@@ -68,20 +68,20 @@ module _ (program : Workload) where
   act_fits (act.Any place) w fits h = let one : wanted.Any place ≡ w = cc in subst (WantedFits program) one fits
   act_fits (act.Tick node) w fits h = let one : wanted.Event (event.Tick node) ≡ w = cc in subst (WantedFits program) one fits
 
-  line_fits : (line : Line) (one : Asked) → IsActFor program.shards line.act → item_of (asked_by program line) ≡ Some one → WantedFits program one.wanted
+  line_fits : (line : Line) (one : BoundLine) → IsActFor program.shards line.act → item_of (asked_by program line) ≡ Some one → WantedFits program one.wanted
   line_fits line one fits h = go (wanted_by program line.act) refl h
     where
       go : (r : Result Wanted What) → wanted_by program line.act ≡ r → item_of (numbered line.number r) ≡ Some one → WantedFits program one.wanted
       go (Err fault) k h = absurd (none-some one h)
-      go (Ok w) k h = let same : record { number = line.number; wanted = w } ≡ one = same_Some _ one h in subst (λ (x : Asked). WantedFits program x.wanted) same (act_fits line.act w fits k)
+      go (Ok w) k h = let same : record { number = line.number; wanted = w } ≡ one = same_Some _ one h in subst (λ (x : BoundLine). WantedFits program x.wanted) same (act_fits line.act w fits k)
 
-  pub asked_fit : (lines : List Line) (asked : List Asked) → AllByRecursion (λ line. IsActFor program.shards line.act) lines → each (λ line. item_of (asked_by program line)) lines ≡ Some asked
+  pub asked_fit : (lines : List Line) (asked : List BoundLine) → AllByRecursion (λ line. IsActFor program.shards line.act) lines → each (λ line. item_of (asked_by program line)) lines ≡ Some asked
       → AllByRecursion (λ one. WantedFits program one.wanted) asked
   asked_fit lines asked fits e = each_made (λ line. item_of (asked_by program line)) (λ line. IsActFor program.shards line.act) (λ one. WantedFits program one.wanted) line_fits lines asked fits e
 
   -- the line that does not fit, behind those that do
   pub first_unfit : (lines : List Line) (i : ℕ) (line : Line) (fault : TextFault) → i < length lines → line ≡ get_or lines i line → DoFit program (take i lines)
-      → GivesAtLine {X = Asked} line.number (Err fault) (asked_by program line) → IsUnfitBy program lines fault
+      → GivesAtLine {X = BoundLine} line.number (Err fault) (asked_by program line) → IsUnfitBy program lines fault
   first_unfit lines i line NoMemory within is fit h = tt
   first_unfit lines i line (At number what) within is fit h = record {
     before = take i lines;
@@ -97,13 +97,13 @@ module _ (program : Workload) where
 
   module _ (unique : (shards : ℕ) (text : List ℕ) (some others : List Line) → IsSchedule shards text some → IsSchedule shards text others → some ≡ others) where
     -- a text is a schedule of one list of what is asked
-    pub one_schedule : (text : List ℕ) (some others : List Asked) → IsScheduleOf program text some → IsScheduleOf program text others → some ≡ others
+    pub one_schedule : (text : List ℕ) (some others : List BoundLine) → IsScheduleOf program text some → IsScheduleOf program text others → some ≡ others
     one_schedule text some others p q =
         same_Some some others (sym p.asks ∙ ap (λ (ls : List Line). each (λ line. item_of (asked_by program line)) ls) (unique program.shards text p.lines q.lines p.schedule q.schedule) ∙ q.asks)
 
     -- and is not to blame then
     pub not_blamed : ((shards : ℕ) (text : List ℕ) (lines : List Line) (line : ℕ) (fault : What) → IsSchedule shards text lines → IsScheduleFault shards text line fault → ⊥)
-        → (text : List ℕ) (asked : List Asked) (line : ℕ) (fault : What) → IsScheduleOf program text asked → IsScheduleFault program.shards text line fault ⊎ IsUnfit program text line fault → ⊥
+        → (text : List ℕ) (asked : List BoundLine) (line : ℕ) (fault : What) → IsScheduleOf program text asked → IsScheduleFault program.shards text line fault ⊎ IsUnfit program text line fault → ⊥
     not_blamed apart text asked line fault of (inl wrong) = apart program.shards text of.lines line fault of.schedule wrong
     not_blamed apart text asked line fault of (inr u) =
         none-some asked

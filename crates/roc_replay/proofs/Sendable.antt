@@ -16,12 +16,12 @@ use Rattle.roc_protocol.specs.declared.event.Seen.TheVariants as seen
 use Rattle.roc_protocol.specs.World.{World, first_world}
 use Rattle.roc_protocol.specs.Fits.{FitsWorld}
 use Rattle.roc_protocol.specs.Happens.{Outcome, undecided, Happens}
-use Rattle.roc_protocol.specs.Run.{Stepped, Comes, IsEventOf}
+use Rattle.roc_protocol.specs.Run.{Stepped, Transition, IsEventOf}
 use Rattle.roc_protocol.proofs.WorldsFit.{same_count}
-use Rattle.roc_replay.specs.declared.asked.Asked.{Asked}
+use Rattle.roc_replay.specs.declared.asked.BoundLine.{BoundLine}
 use Rattle.roc_replay.specs.declared.asked.Wanted.{Wanted}
 use Rattle.roc_replay.specs.declared.asked.Wanted.TheVariants as wanted
-use Rattle.roc_replay.specs.Asked.{coordinators, FitsProgram, WantedFits, chosen, event_in}
+use Rattle.roc_replay.specs.BoundLine.{coordinators, FitsProgram, WantedFits, chosen, event_in}
 use Rattle.roc_replay.specs.Played.{IsPlayed, begun, goes_on, DeliversOnlySent}
 use Rattle.roc_replay.proofs.Playing.{wanteds, front_played}
 
@@ -32,18 +32,18 @@ none_past : {A : Type 0} (xs : List A) (k : ℕ) (a : A) → 0 < k → slice_get
 none_past xs k a some there = let within = slice_get_within xs (k - 1) a there in omega arith
 
 pub played_sends :
-    (plan : Plan) → ((lines others : List Asked) (steps same : List Stepped) (w v : World) → wanteds lines ≡ wanteds others → IsPlayed plan lines steps w → IsPlayed plan others same v → (steps ≡ same) × (w ≡ v))
-    → (lines : List Asked) (steps : List Stepped) (w : World) → IsPlayed plan lines steps w → DeliversOnlySent plan lines
+    (plan : Plan) → ((lines others : List BoundLine) (steps same : List Stepped) (w v : World) → wanteds lines ≡ wanteds others → IsPlayed plan lines steps w → IsPlayed plan others same v → (steps ≡ same) × (w ≡ v))
+    → (lines : List BoundLine) (steps : List Stepped) (w : World) → IsPlayed plan lines steps w → DeliversOnlySent plan lines
 played_sends plan one_run lines steps w played = record { each = sent }
   where
-    sent : (before : List Asked) (line : Asked) (behind : List Asked) (some : List Stepped) (v : World) (message : ℕ) → lines ≡ before ++ line ∷ behind
+    sent : (before : List BoundLine) (line : BoundLine) (behind : List BoundLine) (some : List Stepped) (v : World) (message : ℕ) → lines ≡ before ++ line ∷ behind
         → IsPlayed plan before some v → line.wanted ≡ wanted.Event (Deliver message) → message ≤ length v.sent
     sent before line behind some v message is front_is asks =
         let front = front_played plan lines steps w played before line behind is in
         let same : front.world ≡ v = (one_run before before front.steps some front.world v refl front.played front_is).1 in
         let asked : event_in front.world line.wanted ≡ Some (Deliver message) = ap (event_in front.world) asks in
-        let comes : Comes plan front.world (Some (Deliver message)) front.outcome = subst (λ e. Comes plan front.world e front.outcome) asked front.comes in
-        none_past v.sent message comes.0 comes.1 (subst (λ (x : World). slice_get x.sent (message - 1) ≡ Some comes.0) same comes.2)
+        let transition : Transition plan front.world (Some (Deliver message)) front.outcome = subst (λ e. Transition plan front.world e front.outcome) asked front.transition in
+        none_past v.sent message transition.0 transition.1 (subst (λ (x : World). slice_get x.sent (message - 1) ≡ Some transition.0) same transition.2)
 
 -- ---- and is played
 
@@ -59,26 +59,26 @@ chosen_sent plan w fits place k ks is =
     all_at (λ n. (0 < n) × (n ≤ length w.sent)) (k ∷ ks) (place % length (k ∷ ks)) 0 (subst (AllByRecursion (λ n. (0 < n) × (n ≤ length w.sent))) is fits.undelivered) (mod-lt place (omega arith))
 
 module _ (outcome : (plan : Plan) (w : World) (e : Event) → FitsWorld plan w → IsEventOf plan w e → (o : Outcome) × Happens plan w e o × FitsWorld plan o.world)
-    (kept : (plan : Plan) (w : World) (e : Option Event) (o : Outcome) → FitsWorld plan w → Comes plan w e o → FitsWorld plan o.world) (plan : Plan) where
-  comes_there : (w : World) → FitsWorld plan w → length w.coords ≡ coordinators → (a : Wanted) → WantedFits plan.program a → ((message : ℕ) → a ≡ wanted.Event (Deliver message) → message ≤ length w.sent) → (o : Outcome) × Comes plan w (event_in w a) o
+    (kept : (plan : Plan) (w : World) (e : Option Event) (o : Outcome) → FitsWorld plan w → Transition plan w e o → FitsWorld plan o.world) (plan : Plan) where
+  comes_there : (w : World) → FitsWorld plan w → length w.coords ≡ coordinators → (a : Wanted) → WantedFits plan.program a → ((message : ℕ) → a ≡ wanted.Event (Deliver message) → message ≤ length w.sent) → (o : Outcome) × Transition plan w (event_in w a) o
   comes_there w fits many (wanted.Event e) fit sent = let o = outcome plan w e fits (may_happen plan w fits many e fit (λ message is. sent message (ap wanted.Event is))) in (o.0, o.1)
   comes_there w fits many (wanted.Any place) fit sent = go w.undelivered refl
     where
-      go : (ks : List ℕ) → w.undelivered ≡ ks → (o : Outcome) × Comes plan w (chosen place ks) o
+      go : (ks : List ℕ) → w.undelivered ≡ ks → (o : Outcome) × Transition plan w (chosen place ks) o
       go [] is = (undecided seen.Done w, refl)
       go (k ∷ ks) is = let o = outcome plan w (Deliver (slice_index_or (k ∷ ks) (place % length (k ∷ ks)) 0)) fits (chosen_sent plan w fits place k ks is) in (o.0, o.1)
 
-  count_kept : (w : World) (e : Option Event) (o : Outcome) → Comes plan w e o → length w.coords ≡ coordinators → length o.world.coords ≡ coordinators
+  count_kept : (w : World) (e : Option Event) (o : Outcome) → Transition plan w e o → length w.coords ≡ coordinators → length o.world.coords ≡ coordinators
   count_kept w None o h many = ap (λ (o : Outcome). length o.world.coords) h ∙ many
   count_kept w (Some e) o h many = same_count plan w e o h ∙ many
 
-  module _ (lines : List Asked) (fit : AllByRecursion (λ (line : Asked). WantedFits plan.program line.wanted) lines) (sends : DeliversOnlySent plan lines) where
+  module _ (lines : List BoundLine) (fit : AllByRecursion (λ (line : BoundLine). WantedFits plan.program line.wanted) lines) (sends : DeliversOnlySent plan lines) where
     abbrev ArePlayed : Type 0
     ArePlayed = (steps : List Stepped) × (w : World) × IsPlayed plan lines steps w
 
-    grown : (rest before : List Asked) → lines ≡ before ++ rest → AllByRecursion (λ (line : Asked). WantedFits plan.program line.wanted) rest
+    grown : (rest before : List BoundLine) → lines ≡ before ++ rest → AllByRecursion (λ (line : BoundLine). WantedFits plan.program line.wanted) rest
         → (steps : List Stepped) (w : World) → IsPlayed plan before steps w → FitsWorld plan w → length w.coords ≡ coordinators → ArePlayed
-    grown [] before is fit steps w played fits many = (steps, w, subst (λ (ls : List Asked). IsPlayed plan ls steps w) (sym (append-nil before) ∙ sym is) played)
+    grown [] before is fit steps w played fits many = (steps, w, subst (λ (ls : List BoundLine). IsPlayed plan ls steps w) (sym (append-nil before) ∙ sym is) played)
     grown (line ∷ rest) before is fit steps w played fits many =
         let o = comes_there w fits many line.wanted fit.0 (λ message asks. sends.each before line rest steps w message is played asks) in
         grown rest (before ++ line ∷ []) (is ∙ sym (append_assoc before (line ∷ []) rest)) fit.1 (steps ++ (record { event = event_in w line.wanted; outcome = o.0 }) ∷ []) o.0.world

@@ -13,7 +13,7 @@ use Rattle.roc_base.specs.declared.node.Shard.{Shard}
 use Rattle.roc_rows.specs.declared.cell.Cell.{Cell}
 use Rattle.roc_rows.specs.Cells.{cell_cmp}
 use Rattle.roc_rows.specs.Store.{Store, read, entries}
-use Rattle.roc_msg.specs.declared.msg.Sent.{Sent}
+use Rattle.roc_msg.specs.declared.msg.Envelope.{Envelope}
 use Rattle.roc_plan.specs.Groups.{Plan, shard_of}
 use Rattle.roc_server.specs.State.{ServerState}
 use Rattle.roc_coord.specs.declared.transaction.Transaction.{Transaction}
@@ -30,7 +30,7 @@ use Rattle.roc_world.specs.Reads.{cells_of, unanswered_of}
 use Rattle.roc_report.specs.Line.{Row, Pending}
 use Rattle.roc_replay.specs.Cells.{put, by_cell}
 use Rattle.roc_replay.specs.Report.{first_lines, send_lines, answer_lines, step_lines, steps_lines, end_line, closing_lines, report}
-use Rattle.roc_replay.specs.Told.{pending_of, pending_in, cell_of, cells_in}
+use Rattle.roc_replay.specs.Readback.{pending_of, pending_in, cell_of, cells_in}
 
 -- ---- members
 
@@ -77,7 +77,7 @@ to_by_cell f (e ∷ rest) (inr k) = has_put e f (by_cell rest) (inr (to_by_cell 
 none_in_both : {B C : Type 0} (f : B → List C) (xs ys : List B) → flat_map f xs ≡ [] → flat_map f ys ≡ [] → flat_map f (xs ++ ys) ≡ []
 none_in_both {B} {C} f xs ys e d = flat_map-append f xs ys ∙ ap (λ (l : List C). l ++ flat_map f ys) e ∙ d
 
-cells_in-sends : (number : ℕ) (sent : List Sent) → cells_in (send_lines number sent) ≡ []
+cells_in-sends : (number : ℕ) (sent : List Envelope) → cells_in (send_lines number sent) ≡ []
 cells_in-sends number [] = refl
 cells_in-sends number (s ∷ rest) = cells_in-sends (number + 1) rest
 
@@ -105,7 +105,7 @@ cells_in-answer seen.Busy = refl
 cells_in-answer seen.Done = refl
 cells_in-answer (seen.Ignored reason) = refl
 
-cells_in-steps : (before : List Sent) (steps : List Stepped) → cells_in (steps_lines before steps) ≡ []
+cells_in-steps : (before : List Envelope) (steps : List Stepped) → cells_in (steps_lines before steps) ≡ []
 cells_in-steps before [] = refl
 cells_in-steps before (step ∷ rest) =
     none_in_both cell_of (step_lines before step) (steps_lines step.outcome.world.sent rest)

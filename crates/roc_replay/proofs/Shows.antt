@@ -9,7 +9,7 @@ use Rattle.roc_base.specs.declared.id.TxnId.{TxnId}
 use Rattle.roc_base.specs.declared.node.Node.{Node}
 use Rattle.roc_base.specs.declared.node.Node.TheVariants.{Server, Coord}
 use Rattle.roc_msg.specs.declared.msg.Msg.{Msg}
-use Rattle.roc_msg.specs.declared.msg.Sent.{Sent}
+use Rattle.roc_msg.specs.declared.msg.Envelope.{Envelope}
 use Rattle.roc_msg.specs.declared.outbox.Outgoing.{Outgoing}
 use Rattle.roc_rows.specs.declared.cell.Cell.{Cell}
 use Rattle.roc_rows.specs.Store.{read}
@@ -30,15 +30,15 @@ use Rattle.roc_protocol.specs.declared.event.Event.{Event}
 use Rattle.roc_protocol.specs.declared.event.Event.TheVariants as event
 use Rattle.roc_protocol.specs.declared.event.Seen.{Seen}
 use Rattle.roc_protocol.specs.declared.event.Seen.TheVariants as seen
-use Rattle.roc_protocol.specs.World.{World, comes}
+use Rattle.roc_protocol.specs.World.{World, mark_delivered}
 use Rattle.roc_protocol.specs.Happens.{Outcome, Submits, IsReceived, Ticks, Happens, server_seen, coord_seen, answer_entries}
 use Rattle.roc_protocol.specs.Quiet.{IsQuiet}
-use Rattle.roc_protocol.specs.Run.{Stepped, Comes, IsRun, begun, goes_on}
+use Rattle.roc_protocol.specs.Run.{Stepped, Transition, IsRun, begun, goes_on}
 use Rattle.roc_world.specs.Reads.{cells_of, unanswered_of}
 use Rattle.roc_report.specs.Line.{Deliver, Row, Pending}
 use Rattle.roc_replay.specs.Cells.{by_cell}
 use Rattle.roc_replay.specs.Report.{ignored_lines, first_lines, send_lines, answer_lines, step_lines, steps_lines, end_line, closing_lines, report}
-use Rattle.roc_replay.specs.Told.{entries_in, history_in, orders_of, orders_in, pending_in, cells_in, IsExplained}
+use Rattle.roc_replay.specs.Readback.{entries_in, history_in, orders_of, orders_in, pending_in, cells_in, IsExplained}
 use Rattle.roc_replay.proofs.Growing.{run_lines}
 use Rattle.roc_replay.proofs.QuietLines.{shown_answered}
 
@@ -50,17 +50,17 @@ none_in_map f g none (x ∷ xs) = ap (λ (l : List _). l ++ flat_map f (map g xs
 none_in_both : {B C : Type 0} (f : B → List C) (xs ys : List B) → flat_map f xs ≡ [] → flat_map f ys ≡ [] → flat_map f (xs ++ ys) ≡ []
 none_in_both {B} {C} f xs ys e d = flat_map-append f xs ys ∙ ap (λ (l : List C). l ++ flat_map f ys) e ∙ d
 
-history_in-sends : (number : ℕ) (sent : List Sent) → history_in (send_lines number sent) ≡ []
+history_in-sends : (number : ℕ) (sent : List Envelope) → history_in (send_lines number sent) ≡ []
 history_in-sends number [] = refl
 history_in-sends number (s ∷ rest) = history_in-sends (number + 1) rest
 
-orders_in-sends : (number : ℕ) (sent : List Sent) → orders_in (send_lines number sent) ≡ []
+orders_in-sends : (number : ℕ) (sent : List Envelope) → orders_in (send_lines number sent) ≡ []
 orders_in-sends number [] = refl
 orders_in-sends number (s ∷ rest) = orders_in-sends (number + 1) rest
 
 -- ---- a step shows what it adds to the history
 
-history_in-step : (before : List Sent) (step : Stepped)
+history_in-step : (before : List Envelope) (step : Stepped)
     → history_in (step_lines before step) ≡ history_in (first_lines step.event step.outcome.seen) ++ history_in (answer_lines step.outcome.seen)
 history_in-step before step =
     let sends = send_lines (length before + 1) (drop (length before) step.outcome.world.sent) in
@@ -110,10 +110,10 @@ tick_gains plan w (Coord number) o (s, there, e) = subst (λ (x : Outcome). Gain
 happens_gains : (plan : Plan) (w : World) (e : Event) (o : Outcome) → Happens plan w e o → Gains w (Some e) o
 unfolding Gains
 happens_gains plan w (event.Submit coord proc args) o (s, there, h) = submit_gains w coord proc args _ _ _ o h
-happens_gains plan w (event.Deliver k) o (m, some, there, h) = received_gains plan (comes w k) k m.msg m.to o h
+happens_gains plan w (event.Deliver k) o (m, some, there, h) = received_gains plan (mark_delivered w k) k m.msg m.to o h
 happens_gains plan w (event.Tick node) o h = tick_gains plan w node o h
 
-comes_gains : (plan : Plan) (w : World) (e : Option Event) (o : Outcome) → Comes plan w e o → Gains w e o
+comes_gains : (plan : Plan) (w : World) (e : Option Event) (o : Outcome) → Transition plan w e o → Gains w e o
 unfolding Gains
 comes_gains plan w (Some e) o h = happens_gains plan w e o h
 comes_gains plan w None o h = subst (λ (x : Outcome). Gains w None x) (sym h) (sym (append-nil w.history))
@@ -156,7 +156,7 @@ orders_in-answer seen.Busy = refl
 orders_in-answer seen.Done = refl
 orders_in-answer (seen.Ignored reason) = refl
 
-orders_in-steps : (before : List Sent) (steps : List Stepped) → orders_in (steps_lines before steps) ≡ []
+orders_in-steps : (before : List Envelope) (steps : List Stepped) → orders_in (steps_lines before steps) ≡ []
 orders_in-steps before [] = refl
 orders_in-steps before (step ∷ rest) =
     none_in_both orders_of (step_lines before step) (steps_lines step.outcome.world.sent rest)

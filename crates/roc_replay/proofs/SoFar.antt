@@ -3,25 +3,25 @@ use Rattle.std.proofs.Common.{◌≡◌, ℕ, ◌+◌, ◌≤◌, List, [], ◌�
 use Rattle.std.proofs.lemmas.Grind.{flat_map-append}
 use Rattle.std.proofs.lemmas.List.Sums.{sum_by-append}
 use Rattle.std.specs.Prelude.{Option, count_by, drop}
-use Rattle.roc_io.specs.Told.{Adds}
+use Rattle.roc_io.specs.Observed.{Adds}
 use Rattle.roc_io.proofs.Told.{Adds-nil, Adds-trans}
 use Rattle.roc_plan.specs.Groups.{Plan}
-use Rattle.roc_msg.specs.declared.msg.Sent.{Sent}
+use Rattle.roc_msg.specs.declared.msg.Envelope.{Envelope}
 use Rattle.roc_protocol.specs.declared.event.Seen.{Seen}
 use Rattle.roc_protocol.specs.declared.event.Seen.TheVariants as seen
 use Rattle.roc_protocol.specs.World.{World, first_world}
 use Rattle.roc_protocol.specs.Fits.{FitsWorld}
 use Rattle.roc_protocol.specs.Run.{Stepped}
 use Rattle.roc_report.specs.Text.{line_text, lines_text}
-use Rattle.roc_replay.specs.declared.asked.Asked.{Asked}
-use Rattle.roc_replay.specs.Asked.{coordinators, event_in}
+use Rattle.roc_replay.specs.declared.asked.BoundLine.{BoundLine}
+use Rattle.roc_replay.specs.BoundLine.{coordinators, event_in}
 use Rattle.roc_replay.specs.Played.{IsPlayed, begun, goes_on, IsPlayedLine}
 use Rattle.roc_replay.specs.Report.{is_busy, busy_in, first_lines, send_lines, answer_lines, step_lines, steps_lines}
 use Rattle.roc_replay.proofs.Growing.{run_lines}
 use Rattle.roc_replay.proofs.Playing.{played_run}
 
 -- the first lines were played, and the sink took their text
-pub record IsSoFar (plan : Plan) (lines : List Asked) (w : World) (busy : ℕ) (old now : Option (List ℕ)) : Type 0 where
+pub record IsSoFar (plan : Plan) (lines : List BoundLine) (w : World) (busy : ℕ) (old now : Option (List ℕ)) : Type 0 where
   pub steps : List Stepped
   pub played : IsPlayed plan lines steps w
   pub fits : FitsWorld plan w
@@ -46,7 +46,7 @@ nothing_so_far plan w old is fits = record {
 pub count_by-append : {A : Type 0} (p : A → Bool) (xs ys : List A) → count_by p (xs ++ ys) ≡ count_by p xs + count_by p ys
 count_by-append p xs ys = sum_by-append _ xs ys
 
-busy_in-sends : (number : ℕ) (sent : List Sent) → busy_in (send_lines number sent) ≡ 0
+busy_in-sends : (number : ℕ) (sent : List Envelope) → busy_in (send_lines number sent) ≡ 0
 busy_in-sends number [] = refl
 busy_in-sends number (s ∷ rest) = busy_in-sends (number + 1) rest
 
@@ -58,7 +58,7 @@ busy_in-answer seen.Busy = refl
 busy_in-answer seen.Done = refl
 busy_in-answer (seen.Ignored reason) = refl
 
-busy_in-step : (before : List Sent) (step : Stepped) → busy_in (step_lines before step) ≡ busy_in (first_lines step.event step.outcome.seen)
+busy_in-step : (before : List Envelope) (step : Stepped) → busy_in (step_lines before step) ≡ busy_in (first_lines step.event step.outcome.seen)
 busy_in-step before step =
     let sends = send_lines (length before + 1) (drop (length before) step.outcome.world.sent) in
     let one = count_by-append is_busy (first_lines step.event step.outcome.seen) (sends ++ answer_lines step.outcome.seen) in
@@ -68,14 +68,14 @@ busy_in-step before step =
     omega arith
 
 -- a run with one line more
-module _ (plan : Plan) (lines : List Asked) (line : Asked) (steps : List Stepped) (w after : World) (text : List ℕ) (more : ℕ)
+module _ (plan : Plan) (lines : List BoundLine) (line : BoundLine) (steps : List Stepped) (w after : World) (text : List ℕ) (more : ℕ)
     (played : IsPlayed plan lines steps w) (next : IsPlayedLine plan (event_in w line.wanted) w after text more) where
   pub step : Stepped
   step = record { event = event_in w line.wanted; outcome = next.outcome }
 
   pub played_more : IsPlayed plan (lines ++ line ∷ []) (steps ++ step ∷ []) after
   unfolding step
-  played_more = subst (λ (x : World). IsPlayed plan (lines ++ line ∷ []) (steps ++ step ∷ []) x) next.world (goes_on line next.outcome played next.comes)
+  played_more = subst (λ (x : World). IsPlayed plan (lines ++ line ∷ []) (steps ++ step ∷ []) x) next.world (goes_on line next.outcome played next.transition)
 
   pub lines_more : steps_lines [] (steps ++ step ∷ []) ≡ steps_lines [] steps ++ step_lines w.sent step
   lines_more = run_lines plan coordinators steps w (played_run plan lines steps w played) step
@@ -94,7 +94,7 @@ module _ (plan : Plan) (lines : List Asked) (line : Asked) (steps : List Stepped
       ∙ count_by-append is_busy (steps_lines [] steps) (step_lines w.sent step)
       ∙ ap (λ (n : ℕ). busy_in (steps_lines [] steps) + n) (busy_in-step w.sent step ∙ sym next.refused)
 
-pub one_more : (plan : Plan) (lines : List Asked) (line : Asked) (w after : World) (text : List ℕ) (busy more : ℕ) (old now then : Option (List ℕ))
+pub one_more : (plan : Plan) (lines : List BoundLine) (line : BoundLine) (w after : World) (text : List ℕ) (busy more : ℕ) (old now then : Option (List ℕ))
     → IsSoFar plan lines w busy old now → IsPlayedLine plan (event_in w line.wanted) w after text more → FitsWorld plan after → length after.coords ≡ coordinators → more ≤ 1 → Adds now then text
     → IsSoFar plan (lines ++ line ∷ []) after (busy + more) old then
 one_more plan lines line w after text busy more old now then so next fits coords few adds =

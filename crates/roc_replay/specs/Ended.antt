@@ -1,6 +1,6 @@
 -- How a replay ends, and what the sink took: docs/FORMATS.md, "Report"
 use Rattle.std.specs.Prelude.{◌≡◌, ℕ, ◌<◌, Bool, true, false, List, [], ◌∷◌, ◌++◌, Option, length}
-use Rattle.roc_io.specs.Told.{Adds, AddsThenFront}
+use Rattle.roc_io.specs.Observed.{Adds, AddsThenFront}
 use Rattle.roc_plan.specs.Groups.{Plan}
 use Rattle.roc_protocol.specs.World.{World}
 use Rattle.roc_protocol.specs.Run.{Stepped}
@@ -10,14 +10,14 @@ use Rattle.roc_sched.specs.declared.fault.What.TheVariants as what
 use Rattle.roc_sched.specs.Schedule.{IsScheduleFault}
 use Rattle.roc_report.specs.Line.{End}
 use Rattle.roc_report.specs.Text.{lines_text}
-use Rattle.roc_replay.specs.declared.asked.Asked.{Asked}
+use Rattle.roc_replay.specs.declared.asked.BoundLine.{BoundLine}
 use Rattle.roc_replay.specs.declared.asked.Wanted.TheVariants as wanted
 use Rattle.roc_replay.specs.declared.ended.Ended.{Ended}
 use Rattle.roc_replay.specs.declared.ended.Ended.TheVariants.{Done, Text, SinkFault, NoMemory}
 use Rattle.roc_replay.specs.declared.ended.Summary.{Summary}
 use Rattle.roc_replay.specs.Report.{steps_lines, closing_lines, end_line, busy_in, report}
-use Rattle.roc_replay.specs.Asked.{IsScheduleOf, IsUnfit, event_in}
-use Rattle.roc_replay.specs.Told.{IsExplained}
+use Rattle.roc_replay.specs.BoundLine.{IsScheduleOf, IsUnfit, event_in}
+use Rattle.roc_replay.specs.Readback.{IsExplained}
 use Rattle.roc_replay.specs.Played.{IsPlayed, IsPlayedLine}
 
 -- ---- which end
@@ -57,7 +57,7 @@ is_sink_fault _ = false
 
 -- the sink took the report of the run of exactly this schedule, which explains itself, and the summary has the numbers of its end line
 pub record IsReplayed (plan : Plan) (schedule : List ℕ) (summary : Summary) (old new : Option (List ℕ)) : Type 0 where
-  pub lines : List Asked
+  pub lines : List BoundLine
   pub of_schedule : IsScheduleOf plan.program schedule lines
   pub steps : List Stepped
   pub world : World
@@ -69,9 +69,9 @@ pub record IsReplayed (plan : Plan) (schedule : List ℕ) (summary : Summary) (o
 
 -- the line of this number is the first that asks for a message that was not sent yet, and the sink took the lines of what was before it
 pub record IsUnsent (plan : Plan) (schedule : List ℕ) (number : ℕ) (old new : Option (List ℕ)) : Type 0 where
-  pub before : List Asked
-  pub line : Asked
-  pub behind : List Asked
+  pub before : List BoundLine
+  pub line : BoundLine
+  pub behind : List BoundLine
   pub of_schedule : IsScheduleOf plan.program schedule (before ++ line ∷ behind)
   pub numbered : line.number ≡ number
   pub message : ℕ
@@ -91,14 +91,14 @@ pub data IsTextFault (plan : Plan) (schedule : List ℕ) (number : ℕ) (fault :
 
 -- the sink failed at the text of a line of the schedule, or at the closing lines: it took all that was to be written before, and a front of this
 pub data IsCut (plan : Plan) (schedule : List ℕ) (old new : Option (List ℕ)) : Type 0 where
-  at_line : (before : List Asked) (line : Asked) (behind : List Asked) (steps : List Stepped) (w after : World) (text : List ℕ) (busy : ℕ)
+  at_line : (before : List BoundLine) (line : BoundLine) (behind : List BoundLine) (steps : List Stepped) (w after : World) (text : List ℕ) (busy : ℕ)
       → IsScheduleOf plan.program schedule (before ++ line ∷ behind) → IsPlayed plan before steps w → IsPlayedLine plan (event_in w line.wanted) w after text busy
       → AddsThenFront old new (lines_text plan.program (steps_lines [] steps)) text → IsCut plan schedule old new
-  at_end : (lines : List Asked) (steps : List Stepped) (w : World) → IsScheduleOf plan.program schedule lines → IsPlayed plan lines steps w
+  at_end : (lines : List BoundLine) (steps : List Stepped) (w : World) → IsScheduleOf plan.program schedule lines → IsPlayed plan lines steps w
       → AddsThenFront old new (lines_text plan.program (steps_lines [] steps)) (lines_text plan.program (closing_lines w)) → IsCut plan schedule old new
 
 -- memory ran out: the sink took nothing, or the whole text of some first lines of the schedule
 pub data IsUnfinished (plan : Plan) (schedule : List ℕ) (old new : Option (List ℕ)) : Type 0 where
   at_start : new ≡ old → IsUnfinished plan schedule old new
-  behind_lines : (before behind : List Asked) (steps : List Stepped) (w : World) → IsScheduleOf plan.program schedule (before ++ behind) → IsPlayed plan before steps w
+  behind_lines : (before behind : List BoundLine) (steps : List Stepped) (w : World) → IsScheduleOf plan.program schedule (before ++ behind) → IsPlayed plan before steps w
       → Adds old new (lines_text plan.program (steps_lines [] steps)) → IsUnfinished plan schedule old new

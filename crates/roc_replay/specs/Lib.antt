@@ -1,7 +1,7 @@
-pub mod Asked
+pub mod BoundLine
 pub mod Cells
 pub mod Ended
 pub mod Inner
 pub mod Played
 pub mod Report
-pub mod Told
+pub mod Readback

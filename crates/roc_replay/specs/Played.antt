@@ -3,33 +3,33 @@ use Rattle.std.specs.Prelude.{◌≡◌, ℕ, ◌≤◌, List, [], ◌∷◌, �
 use Rattle.roc_plan.specs.Groups.{Plan}
 use Rattle.roc_protocol.specs.World.{World, first_world}
 use Rattle.roc_protocol.specs.Happens.{Outcome}
-use Rattle.roc_protocol.specs.Run.{Stepped, Comes}
+use Rattle.roc_protocol.specs.Run.{Stepped, Transition}
 use Rattle.roc_protocol.specs.declared.event.Event.{Event}
 use Rattle.roc_protocol.specs.declared.event.Event.TheVariants as event
 use Rattle.roc_report.specs.Text.{lines_text}
-use Rattle.roc_replay.specs.declared.asked.Asked.{Asked}
+use Rattle.roc_replay.specs.declared.asked.BoundLine.{BoundLine}
 use Rattle.roc_replay.specs.declared.asked.Wanted.TheVariants as wanted
-use Rattle.roc_replay.specs.Asked.{coordinators, event_in}
+use Rattle.roc_replay.specs.BoundLine.{coordinators, event_in}
 use Rattle.roc_replay.specs.Report.{first_lines, step_lines, busy_in}
 
 -- the lines were played, one after another from the first world on: each has a step, of the event that it asks for in the world before it,
 -- and they lead to w
-pub data IsPlayed (plan : Plan) : List Asked → List Stepped → World → Type 0 where
+pub data IsPlayed (plan : Plan) : List BoundLine → List Stepped → World → Type 0 where
   begun : IsPlayed plan [] [] (first_world plan coordinators)
-  goes_on : {lines : List Asked} {steps : List Stepped} {w : World} (line : Asked) (o : Outcome) → IsPlayed plan lines steps w → Comes plan w (event_in w line.wanted) o
+  goes_on : {lines : List BoundLine} {steps : List Stepped} {w : World} (line : BoundLine) (o : Outcome) → IsPlayed plan lines steps w → Transition plan w (event_in w line.wanted) o
       → IsPlayed plan (lines ++ line ∷ []) (steps ++ (record { event = event_in w line.wanted; outcome = o }) ∷ []) o.world
 
 -- each message that a line asks to deliver was sent, in the world to which the lines before it lead
-pub record DeliversOnlySent (plan : Plan) (lines : List Asked) : Type 0 where
+pub record DeliversOnlySent (plan : Plan) (lines : List BoundLine) : Type 0 where
   pub each :
-      (before : List Asked) (line : Asked) (behind : List Asked) (steps : List Stepped) (w : World) (message : ℕ) → lines ≡ before ++ line ∷ behind
+      (before : List BoundLine) (line : BoundLine) (behind : List BoundLine) (steps : List Stepped) (w : World) (message : ℕ) → lines ≡ before ++ line ∷ behind
       → IsPlayed plan before steps w → line.wanted ≡ wanted.Event (event.Deliver message) → message ≤ length w.sent
 
 -- one line was played: its event, or none, led from the world before to the world after, and this is the text of its lines, so many of
 -- which say that a submission was refused as busy
 pub record IsPlayedLine (plan : Plan) (e : Option Event) (before after : World) (text : List ℕ) (busy : ℕ) : Type 0 where
   pub outcome : Outcome
-  pub comes : Comes plan before e outcome
+  pub transition : Transition plan before e outcome
   pub world : outcome.world ≡ after
   pub shows : text ≡ lines_text plan.program (step_lines before.sent (record { event = e; outcome = outcome }))
   pub refused : busy ≡ busy_in (first_lines e outcome.seen)

@@ -1,6 +1,6 @@
 -- The report of a run, as lines: docs/FORMATS.md, "Report"
 use Rattle.std.specs.Prelude.{ℕ, ℤ, ◌+◌, List, [], ◌∷◌, ◌++◌, drop, length, map, Bool, true, false, count_by, Option, Some, None}
-use Rattle.roc_msg.specs.declared.msg.Sent.{Sent}
+use Rattle.roc_msg.specs.declared.msg.Envelope.{Envelope}
 use Rattle.roc_audit.specs.declared.entry.Entry.{Entry}
 use Rattle.roc_audit.specs.declared.entry.Entry.TheVariants as entry
 use Rattle.roc_protocol.specs.declared.event.Event.{Event}
@@ -42,7 +42,7 @@ first_lines (Some (event.Deliver number)) seen = Deliver number ∷ ignored_line
 first_lines (Some (event.Tick node)) seen = Tick node ∷ []
 
 -- the messages that were sent, the first of them with this number
-abbrev pub send_lines : ℕ → List Sent → List Line
+abbrev pub send_lines : ℕ → List Envelope → List Line
 send_lines number [] = []
 send_lines number (sent ∷ rest) = Send number (shown_message sent) ∷ send_lines (number + 1) rest
 
@@ -56,13 +56,13 @@ answer_lines seen.Done = []
 answer_lines (seen.Ignored reason) = []
 
 -- the lines of a step before which these messages were sent
-abbrev pub step_lines : List Sent → Stepped → List Line
+abbrev pub step_lines : List Envelope → Stepped → List Line
 step_lines before step =
     first_lines step.event step.outcome.seen
     ++ (send_lines (length before + 1) (drop (length before) step.outcome.world.sent) ++ answer_lines step.outcome.seen)
 
 -- the lines of steps, one after another, before the first of which these messages were sent
-abbrev pub steps_lines : List Sent → List Stepped → List Line
+abbrev pub steps_lines : List Envelope → List Stepped → List Line
 steps_lines before [] = []
 steps_lines before (step ∷ rest) = step_lines before step ++ steps_lines step.outcome.world.sent rest
 

@@ -14,7 +14,7 @@ pub enum Wanted {
 
 /// What a line asks for, with the number of the line.
 #[derive(Drop)]
-pub struct Asked {
+pub struct BoundLine {
     pub number: u32,
     pub wanted: Wanted,
 }

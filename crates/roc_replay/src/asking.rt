@@ -4,10 +4,10 @@ ghost use Rattle.std.specs.List.{AllByRecursion};
 ghost use Rattle.roc_program.specs.LookUps.{procedure_named};
 ghost use Rattle.roc_sched.specs.Each.{each};
 ghost use Rattle.roc_sched.specs.Schedule.{item_of};
-ghost use Rattle.roc_replay.specs.Asked.{submission_of, wanted_by, asked_by, IsScheduleOf, WantedFits};
+ghost use Rattle.roc_replay.specs.BoundLine.{submission_of, wanted_by, asked_by, IsScheduleOf, WantedFits};
 ghost use Rattle.roc_replay.specs.Inner.Reading.{GivesAtLine, IsUnfitBy, IsBlamed};
 
-use crate::{Asked, Wanted};
+use crate::{BoundLine, Wanted};
 use roc_base::Nums;
 use roc_plan::Plan;
 use roc_sched::laws::lines_fit;
@@ -60,18 +60,18 @@ fn wanted_by(plan: &Plan, line: u32, act: &Act) -> Result<Wanted, TextFault>
 }
 
 // What a line asks for, with its number.
-fn asked_by(plan: &Plan, line: &Line) -> Result<Asked, TextFault>
+fn asked_by(plan: &Plan, line: &Line) -> Result<BoundLine, TextFault>
     ensures { GivesAtLine line.now.number result (asked_by plan.now.program line.now) }
 {
     let number = line.number;
     match wanted_by(plan, number, &line.act) {
-        Ok(wanted) => Ok(Asked { number, wanted }),
+        Ok(wanted) => Ok(BoundLine { number, wanted }),
         Err(fault) => Err(fault),
     }
 }
 
 // What lines ask for, in order.
-fn all_asked(alloc: Global, plan: &Plan, lines: &[Line]) -> Result<Sequence<Asked>, TextFault>
+fn all_asked(alloc: Global, plan: &Plan, lines: &[Line]) -> Result<Sequence<BoundLine>, TextFault>
     ensures asks { IfOk result (λ asked. each (λ line. item_of (asked_by plan.now.program line)) lines.now ≡ Some asked) }
     ensures fault { IfErr result (IsUnfitBy plan.now.program lines.now) }
 {
@@ -88,7 +88,11 @@ fn all_asked(alloc: Global, plan: &Plan, lines: &[Line]) -> Result<Sequence<Aske
 /// What the lines of a schedule of a plan ask for.
 ///
 /// Of bytes that are no schedule the first fault is named, and of a schedule the first line that does not fit the plan.
-pub fn parse_asked(alloc: Global, plan: &Plan, text: &[u8]) -> Result<Sequence<Asked>, TextFault>
+pub fn parse_asked(
+    alloc: Global,
+    plan: &Plan,
+    text: &[u8],
+) -> Result<Sequence<BoundLine>, TextFault>
     ensures found { IfOk result (λ asked. IsScheduleOf plan.now.program text.now asked) }
     ensures fits { IfOk result (λ asked. AllByRecursion (λ one. WantedFits plan.now.program one.wanted) asked) }
     ensures fault { IfErr result (IsBlamed plan.now.program text.now) }

@@ -5,22 +5,22 @@ ghost use Rattle.roc_plan.specs.Groups.{Plan};
 ghost use Rattle.roc_protocol.specs.Run.{Stepped, IsRun};
 ghost use Rattle.roc_protocol.specs.World.{World};
 ghost use Rattle.roc_sched.specs.declared.fault.What.{What};
-ghost use Rattle.roc_replay.specs.declared.asked.Asked.{Asked};
+ghost use Rattle.roc_replay.specs.declared.asked.BoundLine.{BoundLine};
 ghost use Rattle.roc_replay.specs.declared.ended.Summary.{Summary};
-ghost use Rattle.roc_replay.specs.Asked.{IsScheduleOf, coordinators};
+ghost use Rattle.roc_replay.specs.BoundLine.{IsScheduleOf, coordinators};
 ghost use Rattle.roc_replay.specs.Ended.{IsReplayed, IsTextFault};
 ghost use Rattle.roc_replay.specs.Played.{IsPlayed, DeliversOnlySent};
 ghost use Rattle.roc_replay.specs.Report.{report};
-ghost use Rattle.roc_replay.specs.Told.{IsExplained};
+ghost use Rattle.roc_replay.specs.Readback.{IsExplained};
 
+use roc_law_plans::laws::{
+    accepted_plans_have_schemes, cells_are_serial, order_is_serial, quiet_is_answered,
+};
 use roc_protocol::laws::{
     cells_are_in_their_place, events_have_outcomes, step_is_one, submissions_are_kept, worlds_fit,
 };
 use roc_rows::laws::entries_are_not_zero;
 use roc_sched::laws::{lines_are_unique, lines_fit, texts_are_right_or_wrong};
-use roc_scheme::laws::{
-    accepted_plans_have_schemes, cells_are_serial, order_is_serial, quiet_is_answered,
-};
 
 /// The report of every run of an accepted plan explains itself: its one `order` line is a serial witness of the history
 /// that its own `submit` and `answer` lines show, and it shows an answer for each submitted transaction of which, and of
@@ -38,17 +38,17 @@ pub fn report_explains_itself()
     entries_are_not_zero();
 }
 
-/// Lines that are played are a run of the world, so that what `roc_protocol` and `roc_scheme` say of every run holds of it.
+/// Lines that are played are a run of the world, so that what `roc_protocol` and `roc_law_plans` say of every run holds of it.
 pub fn played_is_a_run()
-    ensures { (plan : Plan) (lines : List Asked) (steps : List Stepped) (w : World) → IsPlayed plan lines steps w → IsRun plan coordinators steps w }
+    ensures { (plan : Plan) (lines : List BoundLine) (steps : List Stepped) (w : World) → IsPlayed plan lines steps w → IsRun plan coordinators steps w }
 {}
 
 /// Lines that ask for the same have one run: the same steps lead to the same world. So schedules with the same lines,
 /// however they are written, have one report and one summary.
 pub fn report_is_one()
-    ensures run { (plan : Plan) (lines others : List Asked) (steps same : List Stepped) (w v : World)
+    ensures run { (plan : Plan) (lines others : List BoundLine) (steps same : List Stepped) (w v : World)
         → map (λ l. l.wanted) lines ≡ map (λ l. l.wanted) others → IsPlayed plan lines steps w → IsPlayed plan others same v → (steps ≡ same) × (w ≡ v) }
-    ensures schedules { (plan : Plan) (some other : List ℕ) (lines : List Asked) → IsScheduleOf plan.program some lines → IsScheduleOf plan.program other lines
+    ensures schedules { (plan : Plan) (some other : List ℕ) (lines : List BoundLine) → IsScheduleOf plan.program some lines → IsScheduleOf plan.program other lines
         → (s t : Summary) (o n p q : Option (List ℕ)) (r : IsReplayed plan some s o n) (z : IsReplayed plan other t p q)
         → (report r.steps r.world ≡ report z.steps z.world) × (s ≡ t) }
 {
@@ -58,9 +58,9 @@ pub fn report_is_one()
 
 /// A schedule of a plan can be played exactly where it delivers only what was sent. A plan has some shard.
 pub fn sent_schedules_are_played()
-    ensures played { (plan : Plan) (schedule : List ℕ) (lines : List Asked) → 0 < plan.program.shards → IsScheduleOf plan.program schedule lines → DeliversOnlySent plan lines
+    ensures played { (plan : Plan) (schedule : List ℕ) (lines : List BoundLine) → 0 < plan.program.shards → IsScheduleOf plan.program schedule lines → DeliversOnlySent plan lines
         → (steps : List Stepped) × (w : World) × IsPlayed plan lines steps w }
-    ensures sent { (plan : Plan) (lines : List Asked) (steps : List Stepped) (w : World) → IsPlayed plan lines steps w → DeliversOnlySent plan lines }
+    ensures sent { (plan : Plan) (lines : List BoundLine) (steps : List Stepped) (w : World) → IsPlayed plan lines steps w → DeliversOnlySent plan lines }
 {
     events_have_outcomes();
     worlds_fit();
@@ -71,7 +71,7 @@ pub fn sent_schedules_are_played()
 /// Nothing is wrong with the text of a schedule that delivers only what was sent: it is one, each of its lines fits the plan, and none asks
 /// for a message that was not sent yet.
 pub fn sent_schedules_have_no_fault()
-    ensures { (plan : Plan) (schedule : List ℕ) (lines : List Asked) → IsScheduleOf plan.program schedule lines → DeliversOnlySent plan lines
+    ensures { (plan : Plan) (schedule : List ℕ) (lines : List BoundLine) → IsScheduleOf plan.program schedule lines → DeliversOnlySent plan lines
         → (number : ℕ) (fault : What) (old new : Option (List ℕ)) → IsTextFault plan schedule number fault old new → ⊥ }
 {
     lines_are_unique();

@@ -3,8 +3,8 @@
 //! the end.
 //!
 //! The contract of [`replay`] cites `specs/Ended.antt`, which has what each end says; `specs/Report.antt` has the lines
-//! of a run, on `specs/Cells.antt`; `specs/Asked.antt` what the lines of a schedule ask for, `specs/Played.antt` how
-//! they are played, and `specs/Told.antt` what lines tell of themselves (`IsExplained`).
+//! of a run, on `specs/Cells.antt`; `specs/BoundLine.antt` what the lines of a schedule ask for, `specs/Played.antt` how
+//! they are played, and `specs/Readback.antt` what lines tell of themselves (`IsExplained`).
 //!
 //! The layers above may rely on this. If `replay` answers `Done`, the sink took the text of the report of the run of
 //! exactly that schedule, and the report explains itself: its one `order` line is a serial witness of the history that
@@ -28,6 +28,6 @@ mod lines;
 mod play;
 mod schedule;
 
-pub use asked::{Asked, Wanted};
+pub use asked::{BoundLine, Wanted};
 pub use ended::{Ended, Summary};
 pub use schedule::replay;

@@ -5,7 +5,7 @@ ghost use Rattle.roc_report.specs.Text.{lines_text};
 ghost use Rattle.roc_replay.specs.Report.{first_lines, ignored_lines, send_lines, answer_lines};
 
 use roc_base::NoMemory;
-use roc_msg::Sent;
+use roc_msg::Envelope;
 use roc_program::Workload;
 use roc_report::{ReportLine, append};
 use roc_world::{Event, Seen};
@@ -18,7 +18,7 @@ pub fn event_text(
     workload: &Workload,
     event: &Event,
     seen: &Seen,
-    sent: &[Sent],
+    sent: &[Envelope],
     before: usize,
 ) -> Result<Vec<u8>, NoMemory>
     requires { before ≤ length sent.now }
@@ -103,7 +103,7 @@ fn push_sends(
     text: &mut Vec<u8>,
     workload: &Workload,
     first: u64,
-    sent: &[Sent],
+    sent: &[Envelope],
 ) -> Result<(), NoMemory>
     requires { first + length sent.now < 2 ^ 64 }
     ensures { OnOk result (text.new.items ≡ text.old.items ++ lines_text (workload.now) (send_lines first sent.now)) }

@@ -5,7 +5,7 @@ ghost use Rattle.roc_io.specs.Cause.{HasCause};
 ghost use Rattle.roc_protocol.specs.Fits.{FitsWorld};
 ghost use Rattle.roc_protocol.specs.World.{first_world};
 ghost use Rattle.roc_protocol.specs.Run.{IsEventOf};
-ghost use Rattle.roc_replay.specs.Asked.{IsScheduleOf, WantedFits, coordinators, chosen, event_in};
+ghost use Rattle.roc_replay.specs.BoundLine.{IsScheduleOf, WantedFits, coordinators, chosen, event_in};
 ghost use Rattle.roc_replay.specs.Inner.Closed.{IsClosed, asks_unsent, wants_unsent};
 ghost use Rattle.roc_replay.specs.Ended.{is_sink_fault};
 ghost use Rattle.roc_replay.specs.Inner.Ends.{IsEnd};
@@ -15,7 +15,7 @@ ghost use Rattle.roc_replay.specs.Report.{first_lines, busy_in};
 use crate::closing::last_lines;
 use crate::laws::report_explains_itself;
 use crate::lines::{event_text, nothing_text};
-use crate::{Asked, Ended, Wanted};
+use crate::{BoundLine, Ended, Wanted};
 use roc_base::NoMemory;
 use roc_io::{Sink, Written};
 use roc_plan::Plan;
@@ -29,7 +29,7 @@ const COORDINATORS: u16 = 16;
 
 /// Plays the lines of a schedule, one after another, from the first world on. The sink takes the
 /// lines of each event in one piece, and the closing lines in one piece at the end.
-pub fn play<S: Sink>(alloc: Global, plan: &Plan, lines: &[Asked], sink: &mut S) -> Ended
+pub fn play<S: Sink>(alloc: Global, plan: &Plan, lines: &[BoundLine], sink: &mut S) -> Ended
     requires fits { AllByRecursion (λ line. WantedFits plan.now.program line.wanted) lines.now }
     ensures ends { (schedule : List ℕ) → IsScheduleOf plan.now.program schedule lines.now → IsEnd plan.now schedule result (S.taken sink.old) (S.taken sink.new) }
     ensures sink { HasCause (is_sink_fault result) (S.faults sink.old) (S.faults sink.new) }
@@ -44,7 +44,7 @@ pub fn play<S: Sink>(alloc: Global, plan: &Plan, lines: &[Asked], sink: &mut S) 
 fn play_lines<S: Sink>(
     alloc: Global,
     plan: &Plan,
-    lines: &[Asked],
+    lines: &[BoundLine],
     world: &mut World,
     sink: &mut S,
 ) -> Ended

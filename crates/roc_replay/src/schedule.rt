@@ -1,14 +1,14 @@
 //! A whole replay.
 ghost use Rattle.std.specs.Prelude.{◌≡◌, ◌<◌, List};
 ghost use Rattle.roc_io.specs.Cause.{HasCause, last_count};
-ghost use Rattle.roc_io.specs.Told.{Adds};
+ghost use Rattle.roc_io.specs.Observed.{Adds};
 ghost use Rattle.roc_report.specs.Line.{Line};
 ghost use Rattle.roc_report.specs.Text.{lines_text};
-ghost use Rattle.roc_replay.specs.declared.asked.Asked.{Asked};
-ghost use Rattle.roc_replay.specs.Asked.{IsScheduleOf};
+ghost use Rattle.roc_replay.specs.declared.asked.BoundLine.{BoundLine};
+ghost use Rattle.roc_replay.specs.BoundLine.{IsScheduleOf};
 ghost use Rattle.roc_replay.specs.Ended.{IfDone, IfText, OnSinkFault, OnNoMemory, IsWhole, is_sink_fault, IsReplayed, IsTextFault, IsCut, IsUnfinished};
 ghost use Rattle.roc_replay.specs.Played.{DeliversOnlySent};
-ghost use Rattle.roc_replay.specs.Told.{IsExplained};
+ghost use Rattle.roc_replay.specs.Readback.{IsExplained};
 
 use crate::Ended;
 use crate::asking::parse_asked;
@@ -38,7 +38,7 @@ pub fn replay<S: Sink>(alloc: Global, plan: &Plan, schedule: &[u8], sink: &mut S
     // Where memory ran out, the sink took the text of the lines before, and of no line a part.
     ensures unfinished { OnNoMemory result (IsUnfinished plan.now schedule.now (S.taken sink.old) (S.taken sink.new)) }
     // A schedule of the plan that delivers only what was sent is played whole, where no failure is counted and memory suffices.
-    ensures complete { (lines : List Asked) → IsScheduleOf plan.now.program schedule.now lines → DeliversOnlySent plan.now lines
+    ensures complete { (lines : List BoundLine) → IsScheduleOf plan.now.program schedule.now lines → DeliversOnlySent plan.now lines
         → S.faults sink.new ≡ S.faults sink.old → S.faults sink.old < last_count → IsWhole result }
 {
     lines_are_unique();

@@ -13,9 +13,9 @@ use Rattle.roc_lang.specs.Syntax.{Name, Table, Procedure, Tree}
 use Rattle.roc_lang.specs.Tokens.{IsWord}
 use Rattle.roc_lang.specs.Scope.{is_among, repeated, repeats, tables_faults, procedures_faults, shards_faults, faults}
 use Rattle.roc_program.specs.LookUps.{no_procedure, table_at}
-use Rattle.roc_resolve.specs.Resolve.{texts, table, procedure, resolved}
-use Rattle.roc_resolve.proofs.Numbered.{is_new}
-use Rattle.roc_resolve.proofs.Scoped.{front_none, back_none}
+use Rattle.roc_lang_resolve.specs.Resolve.{texts, table, procedure, resolved}
+use Rattle.roc_lang_resolve.proofs.Numbered.{is_new}
+use Rattle.roc_lang_resolve.proofs.Scoped.{front_none, back_none}
 use Rattle.roc_report.specs.Names.{IsWordName, HasWords}
 use Rattle.roc_report.specs.ReportLine.{AreNames, HasNames}
 

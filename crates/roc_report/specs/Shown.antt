@@ -4,7 +4,7 @@ use Rattle.roc_base.specs.declared.id.TxnId.{TxnId}
 use Rattle.roc_base.specs.Edge.{Dependency}
 use Rattle.roc_msg.specs.declared.msg.Msg.{Msg}
 use Rattle.roc_msg.specs.declared.msg.Msg.TheVariants as msg
-use Rattle.roc_msg.specs.declared.msg.Sent.{Sent}
+use Rattle.roc_msg.specs.declared.msg.Envelope.{Envelope}
 use Rattle.roc_msg.specs.Msg.{id_of}
 use Rattle.roc_report.specs.declared.line.ReportLine.{ReportLine}
 use Rattle.roc_report.specs.declared.line.ReportLine.TheVariants.{Submit, Busy, Spent, Deliver, Nothing, Tick, Ignored, Send, Answer, Order, Row, Pending, End}
@@ -43,7 +43,7 @@ facts_of (msg.CommitOk id shard outs) = []
 facts_of (msg.Fetch id asker) = []
 facts_of msg.Stop = []
 
-abbrev pub shown_message : Sent → pure.ShownMessage
+abbrev pub shown_message : Envelope → pure.ShownMessage
 shown_message s = record { kind = message_kind s.msg; id = id_of s.msg; from = s.from; to = s.to; edges = edges_of s.msg; facts = facts_of s.msg }
 
 -- ---- lines

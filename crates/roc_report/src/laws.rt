@@ -4,7 +4,7 @@ ghost use Rattle.std.specs.List.{AllByRecursion};
 ghost use Rattle.roc_lang.specs.Syntax.{Tree};
 ghost use Rattle.roc_lang.specs.Scope.{faults};
 ghost use Rattle.roc_program.specs.Program.{Workload};
-ghost use Rattle.roc_resolve.specs.Resolve.{resolved};
+ghost use Rattle.roc_lang_resolve.specs.Resolve.{resolved};
 ghost use Rattle.roc_report.specs.Line.{Line};
 ghost use Rattle.roc_report.specs.ReportLine.{HasNames, IsReportLine};
 ghost use Rattle.roc_report.specs.Names.{HasWords};

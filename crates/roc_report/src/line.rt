@@ -1,7 +1,7 @@
 //! A line of a report, as data.
 
 use roc_base::{Node, Nums, TxnId};
-use roc_msg::{Reason, Sent};
+use roc_msg::{Envelope, Reason};
 use roc_program::PieceId;
 use roc_rows::Cell;
 use roc_scgraph::Vertex;
@@ -58,7 +58,7 @@ pub enum ReportLine<'a> {
     /// A message that was sent, with its number.
     Send {
         number: u64,
-        sent: &'a Sent,
+        sent: &'a Envelope,
     },
     /// A transaction has its reply.
     Answer {

@@ -10,7 +10,7 @@ ghost use Rattle.roc_report.specs.Text.{numbers_text, ids_text, tags_text, edges
 use crate::ReportLine;
 use roc_base::{Edge, NoMemory, Shard, TxnId};
 use roc_depgraph::KnownList;
-use roc_msg::{Msg, Sent};
+use roc_msg::{Envelope, Msg};
 use roc_program::Workload;
 use roc_rows::Cell;
 use std::alloc::{AllocError, Global};
@@ -166,7 +166,7 @@ fn facts_of(msg: &Msg) -> &[KnownList]
 }
 
 // Adds a message: its number, what it is, its id, sender and receiver, its predecessors and facts.
-fn push_sent(text: &mut String, number: u64, sent: &Sent) -> Result<(), AllocError>
+fn push_sent(text: &mut String, number: u64, sent: &Envelope) -> Result<(), AllocError>
     ensures { OnOk result (string_bytes text.new ≡ string_bytes text.old ++ codes "send " ++ decimal number ++ spaced (message_text (shown_message sent.now))) }
 {
     let (from, to) = (sent.from, sent.to);

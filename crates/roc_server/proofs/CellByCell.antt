@@ -16,14 +16,14 @@ use Rattle.roc_rows.specs.declared.cell.Cell.{Cell}
 use Rattle.roc_rows.specs.Cells.{is_cell}
 use Rattle.roc_group.specs.declared.access.Access.{Access}
 use Rattle.roc_group.specs.Accesses.{meets, do_conflict}
-use Rattle.roc_index.specs.declared.spot.Spot.{Spot}
-use Rattle.roc_index.specs.Spots.{spots_at}
+use Rattle.roc_server_index.specs.declared.group_ref.GroupRef.{GroupRef}
+use Rattle.roc_server_index.specs.GroupRefs.{group_refs_at}
 use Rattle.roc_plan.specs.Groups.{Plan, is_immediate_of}
 use Rattle.roc_server.specs.declared.started.StartedGroup.{StartedGroup}
 use Rattle.roc_server.specs.Start.{conflicts_before, edge_to, uses_cell}
-use Rattle.roc_server.specs.Inner.Indexed.{spot_of, spots_from, undecided, IsIndexOf, conflicts_with, is_met, edge_from}
+use Rattle.roc_server.specs.Inner.Indexed.{group_ref_of, group_refs_from, undecided, IsIndexOf, conflicts_with, is_met, edge_from}
 use Rattle.roc_server.proofs.Stands.{Stand, all_stand}
-use Rattle.roc_lists.proofs.Unions.{same_members}
+use Rattle.roc_server_lists.proofs.Unions.{same_members}
 
 -- a group that conflicts with a use uses its cell
 conflict_uses : (e : StartedGroup) (a : Access) → uses_cell a.cell e ≡ false → do_conflict e.cells (a ∷ []) ≡ false
@@ -43,21 +43,21 @@ conflict_uses e a h = go e.cells h
         let p = both (is_cell u.cell a.cell) (list_any (λ v. is_cell v.cell a.cell) us) k in
         ap (λ b. b || list_any (meets (a ∷ [])) us) (one (is_cell u.cell a.cell) (u.writes || a.writes) p.0) ∙ go us p.1
 
-module _ (plan : Plan) (shard : Shard) (out : List TxnId) (id : TxnId) (immediate : Bool) where
+module _ (plan : Plan) (shard : Shard) (left_out : List TxnId) (id : TxnId) (immediate : Bool) where
   abbrev pub entry : StartedGroup → Dependency
   entry = edge_to shard immediate
 
-  abbrev pub met_at : List StartedGroup → Access → List Spot → List Dependency
+  abbrev pub met_at : List StartedGroup → Access → List GroupRef → List Dependency
   met_at whole a ss = map (edge_from shard immediate) (filter (is_met plan whole id immediate a) ss)
 
   abbrev pub before : List Access → List StartedGroup → List Dependency
-  before cells es = map entry (filter (conflicts_before plan out id immediate cells) es)
+  before cells es = map entry (filter (conflicts_before plan left_out id immediate cells) es)
 
   abbrev own : StartedGroup → Bool
   own e = is_txn e.id id
 
   abbrev left : StartedGroup → Bool
-  left e = is_listed is_txn out e.id
+  left e = is_listed is_txn left_out e.id
 
   abbrev kind : StartedGroup → Bool
   kind e = same_tag (is_immediate_of plan e.proc e.group) immediate
@@ -65,23 +65,23 @@ module _ (plan : Plan) (shard : Shard) (out : List TxnId) (id : TxnId) (immediat
   -- ---- at one cell
 
   module _ (whole : List StartedGroup) (a : Access) where
-    abbrev met : Spot → Bool
+    abbrev met : GroupRef → Bool
     met = is_met plan whole id immediate a
 
     abbrev conflicts : StartedGroup → Bool
     conflicts e = do_conflict e.cells (a ∷ [])
 
-    skipped : (at : ℕ) (e : StartedGroup) (ss : List Spot) (rest : List Dependency) → met (spot_of at e) ≡ false → met_at whole a ss ≡ rest → met_at whole a (spot_of at e ∷ ss) ≡ rest
-    skipped at e ss rest m ih = ap (λ b. map (edge_from shard immediate) (cond b (spot_of at e ∷ filter met ss) (filter met ss))) m ∙ ih
+    skipped : (at : ℕ) (e : StartedGroup) (ss : List GroupRef) (rest : List Dependency) → met (group_ref_of at e) ≡ false → met_at whole a ss ≡ rest → met_at whole a (group_ref_of at e ∷ ss) ≡ rest
+    skipped at e ss rest m ih = ap (λ b. map (edge_from shard immediate) (cond b (group_ref_of at e ∷ filter met ss) (filter met ss))) m ∙ ih
 
     -- a group that uses the cell
-    used : (at : ℕ) (e : StartedGroup) (ss : List Spot) (rest : List Dependency) (l o k f : Bool) → met (spot_of at e) ≡ ((not o && k) && f) → met_at whole a ss ≡ rest
-        → met_at whole a (cond (not l) (spot_of at e ∷ ss) ss) ≡ (if not o && (not l && (k && f)) then entry e ∷ rest else rest)
+    used : (at : ℕ) (e : StartedGroup) (ss : List GroupRef) (rest : List Dependency) (l o k f : Bool) → met (group_ref_of at e) ≡ ((not o && k) && f) → met_at whole a ss ≡ rest
+        → met_at whole a (cond (not l) (group_ref_of at e ∷ ss) ss) ≡ (if not o && (not l && (k && f)) then entry e ∷ rest else rest)
     used at e ss rest true true k f m ih = ih
     used at e ss rest true false k f m ih = ih
     used at e ss rest false true k f m ih = skipped at e ss rest m ih
     used at e ss rest false false true true m ih =
-        ap (λ b. map (edge_from shard immediate) (cond b (spot_of at e ∷ filter met ss) (filter met ss))) m ∙ ap (λ ds. entry e ∷ ds) ih
+        ap (λ b. map (edge_from shard immediate) (cond b (group_ref_of at e ∷ filter met ss) (filter met ss))) m ∙ ap (λ ds. entry e ∷ ds) ih
     used at e ss rest false false true false m ih = skipped at e ss rest m ih
     used at e ss rest false false false f m ih = skipped at e ss rest m ih
 
@@ -96,21 +96,21 @@ module _ (plan : Plan) (shard : Shard) (out : List TxnId) (id : TxnId) (immediat
     pick e es true = refl
     pick e es false = refl
 
-    met_from : (at : ℕ) (es : List StartedGroup) → Stand whole at es → met_at whole a (undecided out (spots_from a.cell at es)) ≡ before (a ∷ []) es
+    met_from : (at : ℕ) (es : List StartedGroup) → Stand whole at es → met_at whole a (undecided left_out (group_refs_from a.cell at es)) ≡ before (a ∷ []) es
     met_from at [] h = refl
     met_from at (e ∷ es) h = go (uses_cell a.cell e) refl (met_from (suc at) es h.1)
       where
-        go : (u : Bool) → uses_cell a.cell e ≡ u → met_at whole a (undecided out (spots_from a.cell (suc at) es)) ≡ before (a ∷ []) es
-            → met_at whole a (undecided out (if u then spot_of at e ∷ spots_from a.cell (suc at) es else spots_from a.cell (suc at) es)) ≡ before (a ∷ []) (e ∷ es)
+        go : (u : Bool) → uses_cell a.cell e ≡ u → met_at whole a (undecided left_out (group_refs_from a.cell (suc at) es)) ≡ before (a ∷ []) es
+            → met_at whole a (undecided left_out (if u then group_ref_of at e ∷ group_refs_from a.cell (suc at) es else group_refs_from a.cell (suc at) es)) ≡ before (a ∷ []) (e ∷ es)
         go true u ih =
-            used at e (undecided out (spots_from a.cell (suc at) es)) (before (a ∷ []) es) (left e) (own e) (kind e) (conflicts e) (ap (λ o. (not (own e) && kind e) && conflicts_with a o) h.0) ih
-            ∙ sym (pick e (filter (conflicts_before plan out id immediate (a ∷ [])) es) (conflicts_before plan out id immediate (a ∷ []) e))
+            used at e (undecided left_out (group_refs_from a.cell (suc at) es)) (before (a ∷ []) es) (left e) (own e) (kind e) (conflicts e) (ap (λ o. (not (own e) && kind e) && conflicts_with a o) h.0) ih
+            ∙ sym (pick e (filter (conflicts_before plan left_out id immediate (a ∷ [])) es) (conflicts_before plan left_out id immediate (a ∷ []) e))
         go false u ih =
             ih ∙ unused e (before (a ∷ []) es) (left e) (own e) (kind e) (conflicts e) (conflict_uses e a u)
-            ∙ sym (pick e (filter (conflicts_before plan out id immediate (a ∷ [])) es) (conflicts_before plan out id immediate (a ∷ []) e))
+            ∙ sym (pick e (filter (conflicts_before plan left_out id immediate (a ∷ [])) es) (conflicts_before plan left_out id immediate (a ∷ []) e))
 
-  -- what is met at a cell's spots are the entries of the groups that come before one that makes this use alone
-  pub met_is : (index : List (Cell × List Spot)) (es : List StartedGroup) (a : Access) → IsIndexOf index out es → met_at es a (spots_at a.cell index) ≡ before (a ∷ []) es
+  -- what is met at a cell's references are the entries of the groups that come before one that makes this use alone
+  pub met_is : (index : List (Cell × List GroupRef)) (es : List StartedGroup) (a : Access) → IsIndexOf index left_out es → met_at es a (group_refs_at a.cell index) ≡ before (a ∷ []) es
   met_is index es a h = ap (met_at es a) (h a.cell) ∙ met_from es a 0 es (all_stand es)
 
   -- ---- over all cells
@@ -146,29 +146,29 @@ module _ (plan : Plan) (shard : Shard) (out : List TxnId) (id : TxnId) (immediat
   of_any : (cells : List Access) (es : List StartedGroup) (d : Dependency) → Has d (flat_map (λ a. before (a ∷ []) es) cells) → Has d (before cells es)
   of_any cells es d h =
       let a = from_has_flat_map (λ a. before (a ∷ []) es) d cells h in
-      let g = from_has_map entry d (filter (conflicts_before plan out id immediate (a.0 ∷ [])) es) a.2 in
-      let e = from_has_filter (conflicts_before plan out id immediate (a.0 ∷ [])) g.0 es g.1 in
+      let g = from_has_map entry d (filter (conflicts_before plan left_out id immediate (a.0 ∷ [])) es) a.2 in
+      let e = from_has_filter (conflicts_before plan left_out id immediate (a.0 ∷ [])) g.0 es g.1 in
       let f = last_test (own g.0) (left g.0) (kind g.0) (do_conflict g.0.cells (a.0 ∷ [])) e.1 in
       let passes = other_test (own g.0) (left g.0) (kind g.0) (do_conflict g.0.cells (a.0 ∷ [])) (do_conflict g.0.cells cells) e.1 (of_one cells g.0 a.0 a.1 f) in
-      subst (λ x. Has x (before cells es)) (sym g.2) (has_map entry g.0 (filter (conflicts_before plan out id immediate cells) es) (has_filter (conflicts_before plan out id immediate cells) g.0 es e.0 passes))
+      subst (λ x. Has x (before cells es)) (sym g.2) (has_map entry g.0 (filter (conflicts_before plan left_out id immediate cells) es) (has_filter (conflicts_before plan left_out id immediate cells) g.0 es e.0 passes))
 
   in_any : (cells : List Access) (es : List StartedGroup) (d : Dependency) → Has d (before cells es) → Has d (flat_map (λ a. before (a ∷ []) es) cells)
   in_any cells es d h =
-      let g = from_has_map entry d (filter (conflicts_before plan out id immediate cells) es) h in
-      let e = from_has_filter (conflicts_before plan out id immediate cells) g.0 es g.1 in
+      let g = from_has_map entry d (filter (conflicts_before plan left_out id immediate cells) es) h in
+      let e = from_has_filter (conflicts_before plan left_out id immediate cells) g.0 es g.1 in
       let a = one_of cells g.0 (last_test (own g.0) (left g.0) (kind g.0) (do_conflict g.0.cells cells) e.1) in
       let passes = other_test (own g.0) (left g.0) (kind g.0) (do_conflict g.0.cells cells) (do_conflict g.0.cells (a.0 ∷ [])) e.1 a.2 in
       subst (λ x. Has x (flat_map (λ a. before (a ∷ []) es) cells)) (sym g.2)
-      (has_flat_map (λ a. before (a ∷ []) es) (entry g.0) a.0 cells a.1 (has_map entry g.0 (filter (conflicts_before plan out id immediate (a.0 ∷ [])) es) (has_filter (conflicts_before plan out id immediate (a.0 ∷ [])) g.0 es e.0 passes)))
+      (has_flat_map (λ a. before (a ∷ []) es) (entry g.0) a.0 cells a.1 (has_map entry g.0 (filter (conflicts_before plan left_out id immediate (a.0 ∷ [])) es) (has_filter (conflicts_before plan left_out id immediate (a.0 ∷ [])) g.0 es e.0 passes)))
 
   -- cell by cell, with repetitions, it is the same list
   pub over_cells : (cells : List Access) (es : List StartedGroup) → united (flat_map (λ a. before (a ∷ []) es) cells) ≡ united (before cells es)
   over_cells cells es = same_members (flat_map (λ a. before (a ∷ []) es) cells) (before cells es) (λ d. (of_any cells es d, in_any cells es d))
 
-  each_met : (index : List (Cell × List Spot)) (es : List StartedGroup) (cells : List Access) → IsIndexOf index out es → flat_map (λ a. met_at es a (spots_at a.cell index)) cells ≡ flat_map (λ a. before (a ∷ []) es) cells
+  each_met : (index : List (Cell × List GroupRef)) (es : List StartedGroup) (cells : List Access) → IsIndexOf index left_out es → flat_map (λ a. met_at es a (group_refs_at a.cell index)) cells ≡ flat_map (λ a. before (a ∷ []) es) cells
   each_met index es [] h = refl
   each_met index es (a ∷ more) h = λ i. met_is index es a h i ++ each_met index es more h i
 
-  -- what is met at the cells' spots, united
-  pub all_met : (index : List (Cell × List Spot)) (es : List StartedGroup) (cells : List Access) → IsIndexOf index out es → united (flat_map (λ a. met_at es a (spots_at a.cell index)) cells) ≡ united (before cells es)
+  -- what is met at the cells' references, united
+  pub all_met : (index : List (Cell × List GroupRef)) (es : List StartedGroup) (cells : List Access) → IsIndexOf index left_out es → united (flat_map (λ a. met_at es a (group_refs_at a.cell index)) cells) ≡ united (before cells es)
   all_met index es cells h = ap united (each_met index es cells h) ∙ over_cells cells es

@@ -9,7 +9,7 @@ use Rattle.roc_await.specs.Waits.{was_asked_for}
 use Rattle.roc_depgraph.specs.declared.known.KnownList.{KnownList}
 use Rattle.roc_depgraph.specs.Deps.{is_known}
 use Rattle.roc_depgraph.proofs.Laws.{KeepsLists, known_stays}
-use Rattle.roc_lists.proofs.Skipped.{left_still, all_skipped}
+use Rattle.roc_server_lists.proofs.Skipped.{left_still, all_skipped}
 use Rattle.roc_server.specs.Lists.{is_missing}
 use Rattle.roc_server.specs.State.{is_here, ServerState}
 

@@ -1,4 +1,4 @@
--- No more spots are looked at than there are pairs of a cell and a group that uses it
+-- No more references are looked at than there are pairs of a cell and a group that uses it
 use Rattle.std.proofs.Common.{◌≡◌, ℕ, zero, suc, ◌+◌, ◌≤◌, ◌<◌, Bool, true, false, cond, not, ◌&&◌, if◌then◌else◌, List, [], ◌∷◌, ◌++◌, length, map, filter, get_or, take, refl, sym, ap, subst, ◌∙◌, length-append, append_assoc, append-nil, arith}
 use Rattle.std.proofs.lemmas.List.{take_more, take_all, map-append}
 use Rattle.std.proofs.lemmas.List.Elements.{filter-append}
@@ -9,12 +9,12 @@ use Rattle.roc_base.specs.TxnId.{is_txn}
 use Rattle.roc_base.specs.Equality.{same_tag}
 use Rattle.roc_rows.specs.declared.cell.Cell.{Cell}
 use Rattle.roc_group.specs.declared.access.Access.{Access}
-use Rattle.roc_index.specs.declared.spot.Spot.{Spot}
-use Rattle.roc_index.specs.Spots.{spots_at}
+use Rattle.roc_server_index.specs.declared.group_ref.GroupRef.{GroupRef}
+use Rattle.roc_server_index.specs.GroupRefs.{group_refs_at}
 use Rattle.roc_plan.specs.Groups.{Plan, is_immediate_of}
 use Rattle.roc_server.specs.declared.started.StartedGroup.{StartedGroup}
 use Rattle.roc_server.specs.Start.{uses_cell, is_user, users}
-use Rattle.roc_server.specs.Inner.Indexed.{spot_of, spots_from, undecided, IsIndexOf, is_looked_at}
+use Rattle.roc_server.specs.Inner.Indexed.{group_ref_of, group_refs_from, undecided, IsIndexOf, is_looked_at}
 
 -- ---- counts of what passes a test, more a loop comes along
 
@@ -41,19 +41,19 @@ module _ {A B : Type 0} (f : A → B) (p : A → Bool) (xs : List A) (k : ℕ) (
   pub failed_more : (new : List B) → p (get_or xs k d) ≡ false → new ≡ mid → new ≡ first ++ map f (filter p (take (k + 1) xs))
   failed_more new h is = is ∙ sym (append-nil mid) ∙ ap (λ b. mid ++ map f (cond b (get_or xs k d ∷ []) [])) (sym h) ∙ sym one_more
 
-module _ (plan : Plan) (out : List TxnId) (id : TxnId) (immediate : Bool) where
-  abbrev looked : Spot → Bool
+module _ (plan : Plan) (left_out : List TxnId) (id : TxnId) (immediate : Bool) where
+  abbrev looked : GroupRef → Bool
   looked = is_looked_at plan id immediate
 
   abbrev user : Cell → StartedGroup → Bool
-  user = is_user plan out immediate
+  user = is_user plan left_out immediate
 
-  -- one spot, or none, for a group that uses the cell
-  pass : (at : ℕ) (e : StartedGroup) (ss : List Spot) (es : List StartedGroup) (l o k : Bool) → looked (spot_of at e) ≡ (not o && k) → length (filter looked ss) ≤ length es
-      → length (filter looked (cond (not l) (spot_of at e ∷ ss) ss)) ≤ length (cond (not l && (k && true)) (e ∷ es) es)
+  -- one reference, or none, for a group that uses the cell
+  pass : (at : ℕ) (e : StartedGroup) (ss : List GroupRef) (es : List StartedGroup) (l o k : Bool) → looked (group_ref_of at e) ≡ (not o && k) → length (filter looked ss) ≤ length es
+      → length (filter looked (cond (not l) (group_ref_of at e ∷ ss) ss)) ≤ length (cond (not l && (k && true)) (e ∷ es) es)
   pass at e ss es true o k m ih = ih
   pass at e ss es false true k m ih =
-      let none : length (cond (looked (spot_of at e)) (spot_of at e ∷ filter looked ss) (filter looked ss)) ≡ length (filter looked ss) = ap (λ b. length (cond b (spot_of at e ∷ filter looked ss) (filter looked ss))) m in
+      let none : length (cond (looked (group_ref_of at e)) (group_ref_of at e ∷ filter looked ss) (filter looked ss)) ≡ length (filter looked ss) = ap (λ b. length (cond b (group_ref_of at e ∷ filter looked ss) (filter looked ss))) m in
       let more : length es ≤ length (cond (k && true) (e ∷ es) es) = longer (k && true) in
       omega (arith, ih, none, more)
     where
@@ -61,10 +61,10 @@ module _ (plan : Plan) (out : List TxnId) (id : TxnId) (immediate : Bool) where
       longer true = omega arith
       longer false = omega arith
   pass at e ss es false false true m ih =
-      let one : length (cond (looked (spot_of at e)) (spot_of at e ∷ filter looked ss) (filter looked ss)) ≡ suc (length (filter looked ss)) = ap (λ b. length (cond b (spot_of at e ∷ filter looked ss) (filter looked ss))) m in
+      let one : length (cond (looked (group_ref_of at e)) (group_ref_of at e ∷ filter looked ss) (filter looked ss)) ≡ suc (length (filter looked ss)) = ap (λ b. length (cond b (group_ref_of at e ∷ filter looked ss) (filter looked ss))) m in
       omega (arith, ih, one)
   pass at e ss es false false false m ih =
-      let none : length (cond (looked (spot_of at e)) (spot_of at e ∷ filter looked ss) (filter looked ss)) ≡ length (filter looked ss) = ap (λ b. length (cond b (spot_of at e ∷ filter looked ss) (filter looked ss))) m in
+      let none : length (cond (looked (group_ref_of at e)) (group_ref_of at e ∷ filter looked ss) (filter looked ss)) ≡ length (filter looked ss) = ap (λ b. length (cond b (group_ref_of at e ∷ filter looked ss) (filter looked ss))) m in
       omega (arith, ih, none)
 
   not_a_user : (e : StartedGroup) (es : List StartedGroup) (l k : Bool) → length es ≤ length (cond (not l && (k && false)) (e ∷ es) es)
@@ -72,23 +72,23 @@ module _ (plan : Plan) (out : List TxnId) (id : TxnId) (immediate : Bool) where
   not_a_user e es false true = omega arith
   not_a_user e es false false = omega arith
 
-  looked_from : (c : Cell) (at : ℕ) (es : List StartedGroup) → length (filter looked (undecided out (spots_from c at es))) ≤ length (filter (user c) es)
+  looked_from : (c : Cell) (at : ℕ) (es : List StartedGroup) → length (filter looked (undecided left_out (group_refs_from c at es))) ≤ length (filter (user c) es)
   looked_from c at [] = omega arith
   looked_from c at (e ∷ es) = go (uses_cell c e) (looked_from c (suc at) es)
     where
-      go : (u : Bool) → length (filter looked (undecided out (spots_from c (suc at) es))) ≤ length (filter (user c) es)
-          → length (filter looked (undecided out (if u then spot_of at e ∷ spots_from c (suc at) es else spots_from c (suc at) es)))
-          ≤ length (cond (not (is_listed is_txn out e.id) && (same_tag (is_immediate_of plan e.proc e.group) immediate && u)) (e ∷ filter (user c) es) (filter (user c) es))
-      go true ih = pass at e (undecided out (spots_from c (suc at) es)) (filter (user c) es) (is_listed is_txn out e.id) (is_txn e.id id) (same_tag (is_immediate_of plan e.proc e.group) immediate) refl ih
+      go : (u : Bool) → length (filter looked (undecided left_out (group_refs_from c (suc at) es))) ≤ length (filter (user c) es)
+          → length (filter looked (undecided left_out (if u then group_ref_of at e ∷ group_refs_from c (suc at) es else group_refs_from c (suc at) es)))
+          ≤ length (cond (not (is_listed is_txn left_out e.id) && (same_tag (is_immediate_of plan e.proc e.group) immediate && u)) (e ∷ filter (user c) es) (filter (user c) es))
+      go true ih = pass at e (undecided left_out (group_refs_from c (suc at) es)) (filter (user c) es) (is_listed is_txn left_out e.id) (is_txn e.id id) (same_tag (is_immediate_of plan e.proc e.group) immediate) refl ih
       go false ih =
-          let more = not_a_user e (filter (user c) es) (is_listed is_txn out e.id) (same_tag (is_immediate_of plan e.proc e.group) immediate) in
+          let more = not_a_user e (filter (user c) es) (is_listed is_txn left_out e.id) (same_tag (is_immediate_of plan e.proc e.group) immediate) in
           omega (arith, ih, more)
 
-  -- the spots of the first cells that are looked at, against all pairs
-  pub looked_within : (index : List (Cell × List Spot)) (es : List StartedGroup) → IsIndexOf index out es → (cells : List Access) → length (flat_map (λ a. filter looked (spots_at a.cell index)) cells) ≤ length (users plan out immediate cells es)
+  -- the references of the first cells that are looked at, against all pairs
+  pub looked_within : (index : List (Cell × List GroupRef)) (es : List StartedGroup) → IsIndexOf index left_out es → (cells : List Access) → length (flat_map (λ a. filter looked (group_refs_at a.cell index)) cells) ≤ length (users plan left_out immediate cells es)
   looked_within index es h [] = omega arith
   looked_within index es h (a ∷ more) =
-      let here : length (filter looked (spots_at a.cell index)) ≤ length (filter (user a.cell) es) = subst (λ ss. length (filter looked ss) ≤ length (filter (user a.cell) es)) (sym (h a.cell)) (looked_from a.cell 0 es) in
-      let left = length-append (filter looked (spots_at a.cell index)) (flat_map (λ b. filter looked (spots_at b.cell index)) more) in
-      let right = length-append (filter (user a.cell) es) (users plan out immediate more es) in
+      let here : length (filter looked (group_refs_at a.cell index)) ≤ length (filter (user a.cell) es) = subst (λ ss. length (filter looked ss) ≤ length (filter (user a.cell) es)) (sym (h a.cell)) (looked_from a.cell 0 es) in
+      let left = length-append (filter looked (group_refs_at a.cell index)) (flat_map (λ b. filter looked (group_refs_at b.cell index)) more) in
+      let right = length-append (filter (user a.cell) es) (users plan left_out immediate more es) in
       omega (arith, here, left, right, looked_within index es h more)

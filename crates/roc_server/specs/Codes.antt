@@ -10,7 +10,7 @@ use Rattle.roc_rows.specs.Store.{Store}
 use Rattle.roc_rows.specs.Codes.{coded_store}
 use Rattle.roc_group.specs.declared.access.Access.{Access}
 use Rattle.roc_server.specs.declared.started.StartedGroup.{StartedGroup}
-use Rattle.roc_await.specs.declared.waits.Asked.{Asked}
+use Rattle.roc_await.specs.declared.waits.OpenFetch.{OpenFetch}
 use Rattle.roc_await.specs.declared.waits.Asker.{Asker}
 use Rattle.roc_server.specs.State.{Lists, ServerState}
 
@@ -57,7 +57,7 @@ coded_group =
     })
     (λ _. refl)
 
-abbrev coded_asked : Coded Asked
+abbrev coded_asked : Coded OpenFetch
 coded_asked = code_by (TxnId × ℕ) (coded× coded_txn coded_ℕ) (λ a. (a.id, a.at.0)) (λ p. record { id = p.0; at = record { 0 = p.1 } }) (λ _. refl)
 
 abbrev coded_asker : Coded Asker
@@ -65,7 +65,7 @@ coded_asker = code_by (TxnId × ℕ) (coded× coded_txn coded_ℕ) (λ a. (a.id,
 
 abbrev coded_lists : Coded Lists
 coded_lists =
-    code_by (List KnownList × (List Asked × List Asker)) (coded× (coded_list coded_known) (coded× (coded_list coded_asked) (coded_list coded_asker)))
+    code_by (List KnownList × (List OpenFetch × List Asker)) (coded× (coded_list coded_known) (coded× (coded_list coded_asked) (coded_list coded_asker)))
     (λ l. (l.known, (l.waiting.asked, l.waiting.askers)))
     (λ p. record { known = p.0; waiting = record { asked = p.1.0; askers = p.1.1 } }) (λ _. refl)
 

@@ -2,7 +2,7 @@
 use Rattle.std.specs.Prelude.{◌≡◌, ◌<◌, List, length}
 use Rattle.std.specs.List.{AllByRecursion}
 use Rattle.roc_plan.specs.Groups.{Plan, procedure_of, groups_of, inputs_of}
-use Rattle.roc_group.specs.Group_run.{GroupCall}
+use Rattle.roc_group.specs.GroupRun.{GroupCall}
 use Rattle.roc_server.specs.declared.started.StartedGroup.{StartedGroup}
 use Rattle.roc_server.specs.Runs.{group_call}
 use Rattle.roc_server.specs.State.{ServerState}

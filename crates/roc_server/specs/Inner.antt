@@ -1,6 +1,6 @@
 -- What stands here is of private functions alone, or is a law that a type needs
 pub mod Indexed
-pub mod Kept
+pub mod ServerData
 pub mod Starts
 pub mod Runs
 pub mod Taught

@@ -10,13 +10,13 @@ use Rattle.roc_base.specs.Edges.{united}
 use Rattle.roc_base.specs.Equality.{is_edges}
 use Rattle.roc_depgraph.specs.declared.known.KnownList.{KnownList}
 use Rattle.roc_depgraph.specs.Deps.{list_of, is_known}
-use Rattle.roc_await.specs.declared.waits.Asked.{Asked}
+use Rattle.roc_await.specs.declared.waits.OpenFetch.{OpenFetch}
 use Rattle.roc_await.specs.Waits.{was_asked_for, with_asker}
 use Rattle.roc_msg.specs.declared.outbox.Outgoing.{Outgoing}
 use Rattle.roc_msg.specs.declared.reason.Reason.{Reason}
 use Rattle.roc_msg.specs.declared.reason.Reason.TheVariants.{NotHere, Differs}
-use Rattle.roc_lists.specs.Carried.{list_with, is_unlike, carried, unknown_of}
-use Rattle.roc_lists.specs.Asking.{known_to, knowns_for, asked_of, fetch_from, waiting_after}
+use Rattle.roc_server_lists.specs.Carried.{list_with, is_unlike, carried, unknown_of}
+use Rattle.roc_server_lists.specs.Asking.{known_to, knowns_for, asked_of, fetch_from, waiting_after}
 use Rattle.roc_plan.specs.Groups.{Plan}
 use Rattle.roc_server.specs.declared.handled.Handled.TheVariants.{Done}
 use Rattle.roc_server.specs.Runs.{take_all, all_buffered, commitok_of}
@@ -29,7 +29,7 @@ use Rattle.roc_server.specs.State.{ignored, answered, is_here, Lists, ServerStat
 abbrev pub is_missing : ServerState → List KnownList → Dependency → Bool
 is_missing s known d = not (is_known known d.from) && (not (is_here d.from s.started) && not (was_asked_for d.from s.lists.waiting.asked))
 
-abbrev pub missing_from : ServerState → List KnownList → List Asked
+abbrev pub missing_from : ServerState → List KnownList → List OpenFetch
 missing_from s known = map asked_of (filter (is_missing s known) (united (flat_map (λ k. k.edges) known)))
 
 abbrev pub lists_after : ServerState → (news : List KnownList) → Lists

@@ -8,7 +8,7 @@ use Rattle.roc_base.specs.TxnId.{is_txn}
 use Rattle.roc_msg.specs.declared.msg.Msg.TheVariants.{CommitOk}
 use Rattle.roc_msg.specs.declared.outbox.Outgoing.{Outgoing}
 use Rattle.roc_plan.specs.Groups.{Plan, groups_of, is_immediate_of}
-use Rattle.roc_group.specs.Group_run.{GroupCall, group_run}
+use Rattle.roc_group.specs.GroupRun.{GroupCall, group_run}
 use Rattle.roc_server.specs.declared.started.StartedGroup.{StartedGroup}
 use Rattle.roc_server.specs.State.{is_group, find_group, ServerState}
 

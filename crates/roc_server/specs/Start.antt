@@ -19,8 +19,8 @@ use Rattle.roc_plan.specs.declared.group.Class.TheVariants.{Immediate, Deferrabl
 use Rattle.roc_plan.specs.Groups.{Plan, procedure_of, groups_of, is_immediate_of, inputs_of, shard_of, group_place}
 use Rattle.roc_group.specs.declared.access.Access.{Access}
 use Rattle.roc_group.specs.Accesses.{do_conflict}
-use Rattle.roc_group.specs.Group_run.{GroupCall, group_run, group_uses, bound_by_run}
-use Rattle.roc_lists.specs.Told.{facts_of}
+use Rattle.roc_group.specs.GroupRun.{GroupCall, group_run, group_uses, bound_by_run}
+use Rattle.roc_server_lists.specs.Piggyback.{facts_of}
 use Rattle.roc_rows.specs.declared.cell.Cell.{Cell}
 use Rattle.roc_rows.specs.Cells.{is_cell}
 use Rattle.roc_server.specs.declared.handled.Handled.TheVariants.{Done}
@@ -58,7 +58,7 @@ start_fault plan s id c =
     ∷ (differs s id c, Differs)
     ∷ [])
 
--- ---- a group that starts now. `out` are the transactions that it leaves out
+-- ---- a group that starts now. `left_out` are the transactions that it leaves out
 
 abbrev pub is_immediate_group : Plan → GroupCall → Bool
 is_immediate_group plan c = is_immediate_of plan c.proc c.group
@@ -68,23 +68,23 @@ is_immediate Immediate = true
 is_immediate Deferrable = false
 
 -- an earlier group of another transaction that is not left out, of this class, with a cell in common that one of the two writes
-abbrev pub conflicts_before : Plan → (out : List TxnId) → TxnId → (immediate : Bool) → List Access → StartedGroup → Bool
-conflicts_before plan out id immediate cells e =
-    not (is_txn e.id id) && (not (is_listed is_txn out e.id) && (same_tag (is_immediate_of plan e.proc e.group) immediate && do_conflict e.cells cells))
+abbrev pub conflicts_before : Plan → (left_out : List TxnId) → TxnId → (immediate : Bool) → List Access → StartedGroup → Bool
+conflicts_before plan left_out id immediate cells e =
+    not (is_txn e.id id) && (not (is_listed is_txn left_out e.id) && (same_tag (is_immediate_of plan e.proc e.group) immediate && do_conflict e.cells cells))
 
-abbrev pub is_predecessor : Plan → (out : List TxnId) → TxnId → GroupCall → List Access → StartedGroup → Bool
-is_predecessor plan out id c cells e = conflicts_before plan out id (is_immediate_group plan c) cells e
+abbrev pub is_predecessor : Plan → (left_out : List TxnId) → TxnId → GroupCall → List Access → StartedGroup → Bool
+is_predecessor plan left_out id c cells e = conflicts_before plan left_out id (is_immediate_group plan c) cells e
 
 -- the entry for it: its tag is the class, its shard this one
 abbrev pub edge_to : Shard → (immediate : Bool) → StartedGroup → Dependency
 edge_to shard immediate e = record { from = e.id; imm = immediate; def = not immediate; at = shard }
 
 -- the entries for all of them, where a group of this class with these cells starts
-abbrev pub entries_for : Plan → (out : List TxnId) → ServerState → TxnId → (immediate : Bool) → List Access → List Dependency
-entries_for plan out s id immediate cells = united (map (edge_to s.shard immediate) (filter (conflicts_before plan out id immediate cells) s.started))
+abbrev pub entries_for : Plan → (left_out : List TxnId) → ServerState → TxnId → (immediate : Bool) → List Access → List Dependency
+entries_for plan left_out s id immediate cells = united (map (edge_to s.shard immediate) (filter (conflicts_before plan left_out id immediate cells) s.started))
 
-abbrev pub edges_for : Plan → (out : List TxnId) → ServerState → TxnId → GroupCall → List Dependency
-edges_for plan out s id c = entries_for plan out s id (is_immediate_group plan c) (group_uses plan c s.store)
+abbrev pub edges_for : Plan → (left_out : List TxnId) → ServerState → TxnId → GroupCall → List Dependency
+edges_for plan left_out s id c = entries_for plan left_out s id (is_immediate_group plan c) (group_uses plan c s.store)
 
 -- ---- how many started groups a start looks at
 
@@ -92,16 +92,16 @@ abbrev pub uses_cell : Cell → StartedGroup → Bool
 uses_cell c e = list_any (λ a. is_cell a.cell c) e.cells
 
 -- a group that is not left out, of this class, that uses the cell
-abbrev pub is_user : Plan → (out : List TxnId) → (immediate : Bool) → Cell → StartedGroup → Bool
-is_user plan out immediate c e = not (is_listed is_txn out e.id) && (same_tag (is_immediate_of plan e.proc e.group) immediate && uses_cell c e)
+abbrev pub is_user : Plan → (left_out : List TxnId) → (immediate : Bool) → Cell → StartedGroup → Bool
+is_user plan left_out immediate c e = not (is_listed is_txn left_out e.id) && (same_tag (is_immediate_of plan e.proc e.group) immediate && uses_cell c e)
 
 -- for each cell of the list the groups that use it: there are as many as pairs of a cell and such a group
-abbrev pub users : Plan → (out : List TxnId) → (immediate : Bool) → List Access → List StartedGroup → List StartedGroup
-users plan out immediate cells started = flat_map (λ a. filter (is_user plan out immediate a.cell) started) cells
+abbrev pub users : Plan → (left_out : List TxnId) → (immediate : Bool) → List Access → List StartedGroup → List StartedGroup
+users plan left_out immediate cells started = flat_map (λ a. filter (is_user plan left_out immediate a.cell) started) cells
 
 -- what is kept of the group. An immediate one runs now, so that its startok tells what it bound and what it adds to the reply
-abbrev pub new_group : Plan → (out reached : List TxnId) → ServerState → TxnId → GroupCall → StartedGroup
-new_group plan out reached s id c =
+abbrev pub new_group : Plan → (left_out reached : List TxnId) → ServerState → TxnId → GroupCall → StartedGroup
+new_group plan left_out reached s id c =
     record {
       id = id;
       proc = c.proc;
@@ -111,7 +111,7 @@ new_group plan out reached s id c =
       cells = group_uses plan c s.store;
       bound = if is_immediate_group plan c then bound_by_run plan c s.store else [];
       outs = if is_immediate_group plan c then (group_run plan c s.store).reply else [];
-      edges = edges_for plan out s id c;
+      edges = edges_for plan left_out s id c;
       facts = facts_of s.lists.known reached;
       later = None;
     }
@@ -133,13 +133,13 @@ start_new plan s c e =
 
 -- ---- what comes of a start: a group that is here is told again as it was told before
 
-abbrev pub start_taken : Plan → (out reached : List TxnId) → ServerState → TxnId → GroupCall → Option StartedGroup → ServerStep
-start_taken plan out reached s id c (Some e) = answered s (startok_of s.shard e ∷ [])
-start_taken plan out reached s id c None = start_new plan s c (new_group plan out reached s id c)
+abbrev pub start_taken : Plan → (left_out reached : List TxnId) → ServerState → TxnId → GroupCall → Option StartedGroup → ServerStep
+start_taken plan left_out reached s id c (Some e) = answered s (startok_of s.shard e ∷ [])
+start_taken plan left_out reached s id c None = start_new plan s c (new_group plan left_out reached s id c)
 
-abbrev pub start_judged : Plan → (out reached : List TxnId) → ServerState → TxnId → GroupCall → Option Reason → ServerStep
-start_judged plan out reached s id c (Some reason) = ignored s reason
-start_judged plan out reached s id c None = start_taken plan out reached s id c (find_group id c.group s.started)
+abbrev pub start_judged : Plan → (left_out reached : List TxnId) → ServerState → TxnId → GroupCall → Option Reason → ServerStep
+start_judged plan left_out reached s id c (Some reason) = ignored s reason
+start_judged plan left_out reached s id c None = start_taken plan left_out reached s id c (find_group id c.group s.started)
 
-abbrev pub after_start : Plan → (out reached : List TxnId) → ServerState → TxnId → GroupCall → ServerStep
-after_start plan out reached s id c = start_judged plan out reached s id c (start_fault plan s id c)
+abbrev pub after_start : Plan → (left_out reached : List TxnId) → ServerState → TxnId → GroupCall → ServerStep
+after_start plan left_out reached s id c = start_judged plan left_out reached s id c (start_fault plan s id c)

@@ -11,11 +11,11 @@ use Rattle.roc_msg.specs.declared.outbox.Outgoing.{Outgoing}
 use Rattle.roc_msg.specs.declared.reason.Reason.{Reason}
 use Rattle.roc_msg.specs.declared.reason.Reason.TheVariants.{Foreign}
 use Rattle.roc_plan.specs.Groups.{Plan}
-use Rattle.roc_group.specs.Group_run.{GroupCall}
+use Rattle.roc_group.specs.GroupRun.{GroupCall}
 use Rattle.roc_server.specs.declared.handled.Handled.{Handled}
-use Rattle.roc_lists.specs.New.{AreNew, AreDecided, AreLedTo}
+use Rattle.roc_server_lists.specs.New.{AreNew, AreDecided, AreLedTo}
 use Rattle.roc_server.specs.Start.{start_fault, edges_for, after_start}
-use Rattle.roc_lists.specs.Carried.{list_with, carried, unknown_of}
+use Rattle.roc_server_lists.specs.Carried.{list_with, carried, unknown_of}
 use Rattle.roc_server.specs.Lists.{commit_fault, after_commit, after_fetch, known_fault, after_known, fetched_again}
 use Rattle.roc_server.specs.State.{ignored, find_group, ServerState, ServerStep}
 
@@ -29,17 +29,17 @@ pub record Findings : Type 0 where
   pub decided : List TxnId
 
 -- the entries of the group that a message starts: none where it is ignored, or the group is here
-abbrev pub edges_of_new : Plan → (out : List TxnId) → ServerState → TxnId → GroupCall → List Dependency
-edges_of_new plan out s id c = if is_none (start_fault plan s id c) && is_none (find_group id c.group s.started) then edges_for plan out s id c else []
+abbrev pub edges_of_new : Plan → (left_out : List TxnId) → ServerState → TxnId → GroupCall → List Dependency
+edges_of_new plan left_out s id c = if is_none (start_fault plan s id c) && is_none (find_group id c.group s.started) then edges_for plan left_out s id c else []
 
-abbrev pub edges_told : Plan → (out : List TxnId) → ServerState → Msg → List Dependency
-edges_told plan out s (Start id proc group args inputs) = edges_of_new plan out s id (record { proc = proc; group = group; args = args; inputs = inputs })
-edges_told plan out s (StartOk id group shard bound outs edges facts) = []
-edges_told plan out s (Commit id edges facts) = []
-edges_told plan out s (CommitOk id shard outs) = []
-edges_told plan out s (Fetch id asker) = []
-edges_told plan out s (Known id edges) = []
-edges_told plan out s Stop = []
+abbrev pub edges_told : Plan → (left_out : List TxnId) → ServerState → Msg → List Dependency
+edges_told plan left_out s (Start id proc group args inputs) = edges_of_new plan left_out s id (record { proc = proc; group = group; args = args; inputs = inputs })
+edges_told plan left_out s (StartOk id group shard bound outs edges facts) = []
+edges_told plan left_out s (Commit id edges facts) = []
+edges_told plan left_out s (CommitOk id shard outs) = []
+edges_told plan left_out s (Fetch id asker) = []
+edges_told plan left_out s (Known id edges) = []
+edges_told plan left_out s Stop = []
 
 -- the lists that a message teaches: none where it is ignored
 abbrev pub unless_ignored : Option Reason → List KnownList → List KnownList

@@ -19,14 +19,14 @@ pub(crate) fn send_commitoks(
     shard: Shard,
     started: &StartedGroups,
     ids: &[TxnId],
-    out: &mut Outbox,
+    outbox: &mut Outbox,
 ) -> Result<(), NoMemory>
     requires { AreGroupsOf plan.now started.now }
-    ensures { OnOk result (out.new ≡ record out.old { messages = out.old.messages ++ map (commitok plan.now shard started.now) (filter (λ t. is_here t started.now) ids.now) }) }
+    ensures { OnOk result (outbox.new ≡ record outbox.old { messages = outbox.old.messages ++ map (commitok plan.now shard started.now) (filter (λ t. is_here t started.now) ids.now) }) }
 {
     for id in ids {
         if is_here(started, *id) {
-            send_commitok(alloc, plan, shard, started, *id, out)?;
+            send_commitok(alloc, plan, shard, started, *id, outbox)?;
         }
     }
     Ok(())
@@ -39,11 +39,11 @@ pub(crate) fn send_commitok(
     shard: Shard,
     started: &StartedGroups,
     id: TxnId,
-    out: &mut Outbox,
+    outbox: &mut Outbox,
 ) -> Result<(), NoMemory>
     requires { AreGroupsOf plan.now started.now }
-    ensures { OnOk result (out.new ≡ record out.old { messages = out.old.messages ++ commitok plan.now shard started.now id ∷ [] }) }
+    ensures { OnOk result (outbox.new ≡ record outbox.old { messages = outbox.old.messages ++ commitok plan.now shard started.now id ∷ [] }) }
 {
     let outs = outs_here(alloc, plan, id, started)?;
-    out.send(Node::Coord(id.coord), Msg::CommitOk { id, shard, outs })
+    outbox.send(Node::Coord(id.coord), Msg::CommitOk { id, shard, outs })
 }

@@ -3,20 +3,20 @@ ghost use Rattle.std.specs.Prelude.{◌≡◌, false, IfOk, OnOk};
 ghost use Rattle.roc_base.specs.declared.node.Shard.{Shard as At};
 ghost use Rattle.roc_msg.specs.Facts.{AreFacts};
 ghost use Rattle.roc_server.specs.Fits.{AreGroupsOf};
-ghost use Rattle.roc_server.specs.Inner.Kept.{state_of, IsConsistent};
+ghost use Rattle.roc_server.specs.Inner.ServerData.{state_of, IsConsistent};
 ghost use Rattle.roc_server.specs.Inner.Taught.{Commits, Knows};
 ghost use Rattle.roc_server.specs.Lists.{commit_fault, known_fault};
 
 use crate::Handled;
 use crate::commitoks::send_commitok;
 use crate::groups::is_here;
-use crate::kept::Kept;
+use crate::server_data::ServerData;
 use crate::teach::teach;
 use roc_base::{Edges, NoMemory, Shard, TxnId};
 use roc_depgraph::KnownList;
-use roc_lists::{commit_differs, is_unlike, news_of_commit, news_of_known};
 use roc_msg::{Outbox, Reason};
 use roc_plan::Plan;
+use roc_server_lists::{commit_differs, is_unlike, news_of_commit, news_of_known};
 use std::alloc::Global;
 
 // Takes a commit, or ignores it.
@@ -24,16 +24,16 @@ pub(crate) fn take_commit(
     alloc: Global,
     plan: &Plan,
     shard: Shard,
-    kept: &mut Kept,
+    kept: &mut ServerData,
     id: TxnId,
     edges: &Edges,
     facts: &[KnownList],
-    out: &mut Outbox,
+    outbox: &mut Outbox,
 ) -> Result<Handled, NoMemory>
     requires fits { AreGroupsOf plan.now kept.old.started }
     requires sound { IsConsistent kept.old }
     requires facts { AreFacts facts.now }
-    ensures step { IfOk result (Commits plan.now shard kept.old kept.new out.old out.new id edges.now facts.now) }
+    ensures step { IfOk result (Commits plan.now shard kept.old kept.new outbox.old outbox.new id edges.now facts.now) }
     ensures fits { OnOk result (AreGroupsOf plan.now kept.new.started) }
     ensures sound { OnOk result (IsConsistent kept.new) }
 {
@@ -42,9 +42,9 @@ pub(crate) fn take_commit(
     }
     let again = kept.decided.contains(id);
     let news = news_of_commit(alloc, &kept.deps, id, edges, facts)?;
-    teach(alloc, plan, shard, kept, &news, out)?;
+    teach(alloc, plan, shard, kept, &news, outbox)?;
     if again {
-        send_commitok(alloc, plan, shard, &kept.started, id, out)?;
+        send_commitok(alloc, plan, shard, &kept.started, id, outbox)?;
         return Ok(Handled::Done);
     }
     Ok(Handled::Done)
@@ -55,14 +55,14 @@ pub(crate) fn take_known(
     alloc: Global,
     plan: &Plan,
     shard: Shard,
-    kept: &mut Kept,
+    kept: &mut ServerData,
     id: TxnId,
     edges: &Edges,
-    out: &mut Outbox,
+    outbox: &mut Outbox,
 ) -> Result<Handled, NoMemory>
     requires fits { AreGroupsOf plan.now kept.old.started }
     requires sound { IsConsistent kept.old }
-    ensures step { IfOk result (Knows plan.now shard kept.old kept.new out.old out.new id edges.now) }
+    ensures step { IfOk result (Knows plan.now shard kept.old kept.new outbox.old outbox.new id edges.now) }
     ensures fits { OnOk result (AreGroupsOf plan.now kept.new.started) }
     ensures sound { OnOk result (IsConsistent kept.new) }
 {
@@ -70,12 +70,12 @@ pub(crate) fn take_known(
         return Ok(Handled::Ignored(reason));
     }
     let news = news_of_known(alloc, &kept.deps, id, edges)?;
-    teach(alloc, plan, shard, kept, &news, out)?;
+    teach(alloc, plan, shard, kept, &news, outbox)?;
     Ok(Handled::Done)
 }
 
 // Why a commit is ignored, where it is.
-fn commit_fault(kept: &Kept, id: TxnId, edges: &Edges, facts: &[KnownList]) -> Option<Reason>
+fn commit_fault(kept: &ServerData, id: TxnId, edges: &Edges, facts: &[KnownList]) -> Option<Reason>
     ensures { (shard : At) → result ≡ commit_fault (state_of shard kept.now false) id edges.now facts.now }
 {
     if !is_here(&kept.started, id) {
@@ -88,7 +88,7 @@ fn commit_fault(kept: &Kept, id: TxnId, edges: &Edges, facts: &[KnownList]) -> O
 }
 
 // Why an answer to a fetch is ignored, where it is.
-fn known_fault(kept: &Kept, id: TxnId, edges: &Edges) -> Option<Reason>
+fn known_fault(kept: &ServerData, id: TxnId, edges: &Edges) -> Option<Reason>
     ensures { (shard : At) → result ≡ known_fault (state_of shard kept.now false) id edges.now }
 {
     if !kept.waits.was_asked_for(id) {

@@ -1,27 +1,27 @@
 //! Fetches.
 ghost use Rattle.std.specs.Prelude.{◌≡◌, false, IfOk, OnOk};
-ghost use Rattle.roc_server.specs.Inner.Kept.{state_of, IsConsistent};
+ghost use Rattle.roc_server.specs.Inner.ServerData.{state_of, IsConsistent};
 ghost use Rattle.roc_server.specs.Lists.{after_fetch};
 ghost use Rattle.roc_server.specs.Step.{Shows};
 
 use crate::Handled;
 use crate::groups::is_here;
-use crate::kept::Kept;
+use crate::server_data::ServerData;
 use roc_await::Asker;
 use roc_base::{NoMemory, Shard, TxnId};
-use roc_lists::send_known;
 use roc_msg::{Outbox, Reason};
+use roc_server_lists::send_known;
 
 // Takes a fetch, or ignores it.
 pub(crate) fn take_fetch(
     shard: Shard,
-    kept: &mut Kept,
+    kept: &mut ServerData,
     id: TxnId,
     asker: Shard,
-    out: &mut Outbox,
+    outbox: &mut Outbox,
 ) -> Result<Handled, NoMemory>
     requires sound { IsConsistent kept.old }
-    ensures step { IfOk result (λ answer. Shows (after_fetch (state_of shard kept.old false) id asker) answer (state_of shard kept.new false) out.old out.new) }
+    ensures step { IfOk result (λ answer. Shows (after_fetch (state_of shard kept.old false) id asker) answer (state_of shard kept.new false) outbox.old outbox.new) }
     ensures started { OnOk result (kept.new.started ≡ kept.old.started) }
     ensures sound { OnOk result (IsConsistent kept.new) }
 {
@@ -30,7 +30,7 @@ pub(crate) fn take_fetch(
     }
     match kept.deps.list(id) {
         Some(edges) => {
-            send_known(asker, id, edges, out)?;
+            send_known(asker, id, edges, outbox)?;
             Ok(Handled::Done)
         }
         None => {

@@ -3,37 +3,37 @@ ghost use Rattle.std.specs.Prelude.{◌<◌, OnOk};
 ghost use Rattle.std.specs.List.{AllByRecursion, list_any};
 ghost use Rattle.roc_rows.specs.declared.cell.Cell.{Cell};
 ghost use Rattle.roc_rows.specs.Cells.{is_cell};
-ghost use Rattle.roc_index.specs.Spots.{spots_at};
+ghost use Rattle.roc_server_index.specs.GroupRefs.{group_refs_at};
 ghost use Rattle.roc_places.specs.Passing.{passes_at};
 ghost use Rattle.roc_server.specs.Start.{uses_cell};
-ghost use Rattle.roc_server.specs.Inner.Indexed.{spot_of, IsAddedAt, IsOutOf, IsOut, AreSpotsOf, AreOut};
+ghost use Rattle.roc_server.specs.Inner.Indexed.{group_ref_of, IsAddedAt, IsOutOf, IsOut, AreGroupRefsOf, AreOut};
 
 use crate::StartedGroup;
 use crate::started_groups::StartedGroups;
 use roc_base::{NoMemory, TxnId};
 use roc_group::Access;
-use roc_index::{Index, Spot};
+use roc_server_index::{GroupRef, Index};
 
-// Adds the spot of a group that stands at this place, behind all others, at each cell that it uses.
+// Adds the reference of a group that stands at this place, behind all others, at each cell that it uses.
 pub(crate) fn add_group(index: &mut Index, at: usize, e: &StartedGroup) -> Result<(), NoMemory>
-    requires { (c : Cell) → AllByRecursion (λ s. s.at < at) (spots_at c index.old) }
-    ensures { OnOk result (IsAddedAt (spot_of at e.now) e.now.cells index.old index.new) }
+    requires { (c : Cell) → AllByRecursion (λ s. s.at < at) (group_refs_at c index.old) }
+    ensures { OnOk result (IsAddedAt (group_ref_of at e.now) e.now.cells index.old index.new) }
 {
-    let spot = Spot {
+    let group_ref = GroupRef {
         id: e.id,
         at,
         proc: e.proc,
         group: e.group,
     };
     for access in e.cells.as_slice() {
-        index.add(access.cell, spot)?;
+        index.add(access.cell, group_ref)?;
     }
     Ok(())
 }
 
-// Takes out the spots of transactions.
+// Takes out the references of transactions.
 pub(crate) fn take_out(index: &mut Index, started: &StartedGroups, ids: &[TxnId])
-    requires { AreSpotsOf started.now index.old }
+    requires { AreGroupRefsOf started.now index.old }
     ensures { AreOut ids.now index.old index.new }
 {
     for id in ids {
@@ -41,9 +41,9 @@ pub(crate) fn take_out(index: &mut Index, started: &StartedGroups, ids: &[TxnId]
     }
 }
 
-// Takes out the spots of a transaction: they stand at the cells that its groups use.
+// Takes out the references of a transaction: they stand at the cells that its groups use.
 fn take_out_one(index: &mut Index, started: &StartedGroups, id: TxnId)
-    requires { AreSpotsOf started.now index.old }
+    requires { AreGroupRefsOf started.now index.old }
     ensures { IsOut id index.old index.new }
 {
     let groups = started.as_slice();

@@ -3,17 +3,16 @@ ghost use Rattle.std.specs.Prelude.{◌≡◌, ◌+◌, ◌≤◌, ◌<◌, ◌+
 ghost use Rattle.std.specs.List.{AllByRecursion};
 ghost use Rattle.roc_base.specs.Edges.{united};
 ghost use Rattle.roc_server.specs.Fits.{AreGroupsOf};
-ghost use Rattle.roc_server.specs.Inner.Indexed.{IsIndexOf, IsSpotWithin, is_looked_at, is_met, edge_from};
+ghost use Rattle.roc_server.specs.Inner.Indexed.{IsIndexOf, IsGroupRefWithin, is_looked_at, is_met, edge_from};
 ghost use Rattle.roc_server.specs.Start.{conflicts_before, edge_to, users};
 
 use crate::StartedGroup;
-use crate::kept::Kept;
+use crate::server_data::ServerData;
 use crate::started_now::is_immediate;
-use roc_base::{Edge, Edges, NoMemory, Shard, TxnId};
+use roc_base::{Edge, Edges, NoMemory, Shard, Steps, TxnId};
 use roc_group::{Access, conflict};
-use roc_index::Spot;
 use roc_plan::Plan;
-use roc_steps::Steps;
+use roc_server_index::GroupRef;
 use std::alloc::Global;
 use std::sync::ledger::Ledger;
 
@@ -29,7 +28,7 @@ pub(crate) struct Starting {
 pub(crate) fn entries<L: Ledger>(
     alloc: Global,
     plan: &Plan,
-    kept: &Kept,
+    kept: &ServerData,
     starting: Starting,
     cells: &[Access],
     steps: &mut Steps<L>,
@@ -43,62 +42,62 @@ pub(crate) fn entries<L: Ledger>(
     let mut met = Vec::new(alloc);
     let started = kept.started.as_slice();
     for access in cells {
-        let spots = kept.index.at(access.cell);
-        push_met(plan, started, spots, starting, access, &mut met, steps)?;
+        let group_refs = kept.index.at(access.cell);
+        push_met(plan, started, group_refs, starting, access, &mut met, steps)?;
     }
     let mut edges = Edges::new(alloc);
     edges.unite(&met)?;
     Ok(edges)
 }
 
-// Adds the entries for the groups of these spots that come before one that makes this use.
+// Adds the entries for the groups of these references that come before one that makes this use.
 fn push_met<L: Ledger>(
     plan: &Plan,
     started: &[StartedGroup],
-    spots: &[Spot],
+    group_refs: &[GroupRef],
     starting: Starting,
     access: &Access,
     met: &mut Vec<Edge>,
     steps: &mut Steps<L>,
 ) -> Result<(), NoMemory>
-    requires { AllByRecursion (IsSpotWithin plan.now started.now) spots.now }
+    requires { AllByRecursion (IsGroupRefWithin plan.now started.now) group_refs.now }
     ensures met { OnOk result (met.new.items ≡ met.old.items
-        ++ map (edge_from starting.shard starting.immediate) (filter (is_met plan.now started.now starting.id starting.immediate access.now) spots.now)) }
-    ensures steps { steps.new ≤ steps.old + length (filter (is_looked_at plan.now starting.id starting.immediate) spots.now) }
+        ++ map (edge_from starting.shard starting.immediate) (filter (is_met plan.now started.now starting.id starting.immediate access.now) group_refs.now)) }
+    ensures steps { steps.new ≤ steps.old + length (filter (is_looked_at plan.now starting.id starting.immediate) group_refs.now) }
 {
     let Starting {
         shard,
         id: _,
         immediate,
     } = starting;
-    for spot in spots {
-        if is_met(plan, started, *spot, starting, access, steps) {
-            met.push(Edge::new(spot.id, immediate, !immediate, shard))?;
+    for group_ref in group_refs {
+        if is_met(plan, started, *group_ref, starting, access, steps) {
+            met.push(Edge::new(group_ref.id, immediate, !immediate, shard))?;
         }
     }
     Ok(())
 }
 
-// Whether the group of a spot comes before one that makes this use.
+// Whether the group of a reference comes before one that makes this use.
 fn is_met<L: Ledger>(
     plan: &Plan,
     started: &[StartedGroup],
-    spot: Spot,
+    group_ref: GroupRef,
     starting: Starting,
     access: &Access,
     steps: &mut Steps<L>,
 ) -> bool
-    requires { IsSpotWithin plan.now started.now spot }
-    ensures met { result ≡ is_met plan.now started.now starting.id starting.immediate access.now spot }
-    ensures steps { steps.new ≡ steps.old + (if is_looked_at plan.now starting.id starting.immediate spot then 1 else 0) }
+    requires { IsGroupRefWithin plan.now started.now group_ref }
+    ensures met { result ≡ is_met plan.now started.now starting.id starting.immediate access.now group_ref }
+    ensures steps { steps.new ≡ steps.old + (if is_looked_at plan.now starting.id starting.immediate group_ref then 1 else 0) }
 {
-    if spot.id == starting.id {
+    if group_ref.id == starting.id {
         return false;
     }
-    if is_immediate(plan, spot.proc, spot.group) != starting.immediate {
+    if is_immediate(plan, group_ref.proc, group_ref.group) != starting.immediate {
         return false;
     }
-    let group = look(started, spot.at, steps);
+    let group = look(started, group_ref.at, steps);
     conflict(group.cells.as_slice(), &[*access])
 }
 

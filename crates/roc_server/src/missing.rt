@@ -2,16 +2,16 @@
 ghost use Rattle.std.specs.Prelude.{◌≡◌, map, filter, IfOk};
 ghost use Rattle.std.specs.List.{flat_map};
 ghost use Rattle.roc_base.specs.Edges.{united};
-ghost use Rattle.roc_lists.specs.Asking.{asked_of};
+ghost use Rattle.roc_server_lists.specs.Asking.{asked_of};
 ghost use Rattle.roc_server.specs.Lists.{is_missing};
 ghost use Rattle.roc_server.specs.State.{ServerState};
 
 use crate::groups::is_here;
 use crate::started_groups::StartedGroups;
-use roc_await::{Asked, Waits};
+use roc_await::{OpenFetch, Waits};
 use roc_base::{Edge, NoMemory};
 use roc_depgraph::{Deps, KnownList};
-use roc_lists::all_edges;
+use roc_server_lists::all_edges;
 use std::alloc::Global;
 
 // What new lists name and is missing, by id, each with the shard that is to be asked.
@@ -21,7 +21,7 @@ pub(crate) fn missing_from(
     deps: &Deps,
     started: &StartedGroups,
     waits: &Waits,
-) -> Result<Vec<Asked>, NoMemory>
+) -> Result<Vec<OpenFetch>, NoMemory>
     ensures { IfOk result (λ asks. (s : ServerState) → s.started ≡ started.now → s.lists.waiting.asked ≡ waits.now.asked
         → asks.items ≡ map asked_of (filter (is_missing s deps.now) (united (flat_map (λ k. k.edges) news.now)))) }
 {
@@ -29,7 +29,7 @@ pub(crate) fn missing_from(
     let mut asks = Vec::new(alloc);
     for edge in edges.as_slice() {
         if is_missing(deps, started, waits, *edge) {
-            asks.push(Asked {
+            asks.push(OpenFetch {
                 id: edge.from(),
                 at: edge.at(),
             })?;

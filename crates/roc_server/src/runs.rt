@@ -2,11 +2,11 @@
 ghost use Rattle.std.specs.Prelude.{◌≡◌, ◌<◌, ◌++◌, [], length, unwrap_or, Some, slice_get, IfOk, OnOk};
 ghost use Rattle.std.specs.Option.{option_to_list};
 ghost use Rattle.roc_sequence.specs.Places.{NoneTwice};
-ghost use Rattle.roc_group.specs.Group_run.{call, group_run};
+ghost use Rattle.roc_group.specs.GroupRun.{call, group_run};
 ghost use Rattle.roc_server.specs.Runs.{buffered_here, group_call, outs_here, run_groups, take_all};
 ghost use Rattle.roc_server.specs.declared.started.StartedGroup.{StartedGroup as Group};
 ghost use Rattle.roc_server.specs.Fits.{AreGroupsOf, IsCallOf};
-ghost use Rattle.roc_server.specs.Inner.Kept.{holding, is_same_group, AreSameGroups};
+ghost use Rattle.roc_server.specs.Inner.ServerData.{holding, is_same_group, AreSameGroups};
 ghost use Rattle.roc_server.specs.Inner.Runs.{buffered, RunsAt, RunsIfBuffered};
 ghost use Rattle.roc_server.specs.State.{find_group, ServerState};
 

@@ -2,11 +2,11 @@
 ghost use Rattle.std.specs.Prelude.{◌≡◌, ◌↔◌, ◌+◌, ◌≤◌, ◌++◌, List, length, true, false, IsTrue, IfOk, OnOk};
 ghost use Rattle.roc_base.specs.declared.id.TxnId.{TxnId as Id};
 ghost use Rattle.roc_depgraph.specs.Deps.{IsDecided};
-ghost use Rattle.roc_lists.specs.New.{AreDecided};
+ghost use Rattle.roc_server_lists.specs.New.{AreDecided};
 ghost use Rattle.roc_rows.specs.Store.{entries};
 ghost use Rattle.roc_server.specs.First.{first_server};
 ghost use Rattle.roc_server.specs.Fits.{AreGroupsOf, ServerFits};
-ghost use Rattle.roc_server.specs.Inner.Kept.{state_of, IsConsistent};
+ghost use Rattle.roc_server.specs.Inner.ServerData.{state_of, IsConsistent};
 ghost use Rattle.roc_server.specs.Start.{is_immediate, entries_for, users};
 ghost use Rattle.roc_server.specs.State.{ServerStep};
 ghost use Rattle.roc_server.specs.Step.{Handles, Shows, tick_sends};
@@ -15,16 +15,15 @@ use crate::Handled;
 use crate::commits::{take_commit, take_known};
 use crate::fetches::take_fetch;
 use crate::first::first_rows;
-use crate::kept::Kept;
 use crate::looks::{Starting, entries};
+use crate::server_data::ServerData;
 use crate::starts::{Request, take_start};
-use roc_base::{Edges, NoMemory, Shard, TxnId};
+use roc_base::{Edges, NoMemory, Shard, Steps, TxnId};
 use roc_group::Access;
-use roc_lists::fetch_again;
 use roc_msg::{Msg, NodeFault, Outbox, Reason};
 use roc_plan::{Class, Known, Plan};
 use roc_rows::Cell;
-use roc_steps::Steps;
+use roc_server_lists::fetch_again;
 use std::alloc::Global;
 use std::marker::Model;
 use std::sync::ledger::Ledger;
@@ -35,7 +34,7 @@ use std::sync::ledger::Ledger;
 pub struct Server {
     alloc: Global,
     shard: Shard,
-    kept: Kept,
+    kept: ServerData,
     stopped: bool,
 }
 
@@ -47,7 +46,7 @@ impl Model for Server {
 
     ghost coded = { coded_state };
 
-    ghost use Rattle.roc_server.specs.Inner.Kept.{state_of, IsConsistent};
+    ghost use Rattle.roc_server.specs.Inner.ServerData.{state_of, IsConsistent};
 
     ghost view = { λ s. state_of s.shard s.kept s.stopped };
 
@@ -65,32 +64,37 @@ impl Server {
         Ok(Server {
             alloc,
             shard,
-            kept: Kept::new(alloc, rows),
+            kept: ServerData::new(alloc, rows),
             stopped: false,
         })
     }
 
     /// Takes a message, or ignores it for the first reason that holds. What it sends and what it
-    /// newly decides is added to `out`. `NoMemory` promises nothing of the server's groups, lists
-    /// and cells, nor of `out`, but that each later call answers `Stopped`.
-    pub fn handle(&mut self, plan: &Plan, msg: &Msg, out: &mut Outbox) -> Result<Handled, NodeFault>
+    /// newly decides is added to `outbox`. `NoMemory` promises nothing of the server's groups, lists
+    /// and cells, nor of `outbox`, but that each later call answers `Stopped`.
+    pub fn handle(
+        &mut self,
+        plan: &Plan,
+        msg: &Msg,
+        outbox: &mut Outbox,
+    ) -> Result<Handled, NodeFault>
         requires fits { ServerFits plan.now self.old }
 
         // The step that the definitions fix.
-        ensures step { IfOk result (λ answer. (r : ServerStep) × Handles plan.now self.old msg.now r × Shows r answer self.new out.old out.new) }
+        ensures step { IfOk result (λ answer. (r : ServerStep) × Handles plan.now self.old msg.now r × Shows r answer self.new outbox.old outbox.new) }
         ensures fits { ServerFits plan.now self.new }
         ensures shard { self.new.shard ≡ self.old.shard }
 
         // A server that found no memory answers so from then on, and exactly then.
         ensures going { OnOk result (self.new.stopped ≡ false) }
         ensures stopped { (result ≡ Err NodeFault.Stopped) ↔ (self.old.stopped ≡ true) }
-        ensures unchanged { result ≡ Err NodeFault.Stopped → (self.new ≡ self.old) × (out.new ≡ out.old) }
+        ensures unchanged { result ≡ Err NodeFault.Stopped → (self.new ≡ self.old) × (outbox.new ≡ outbox.old) }
         ensures no_memory { result ≡ Err NodeFault.NoMemory → self.new.stopped ≡ true }
     {
         if self.stopped {
             return Err(NodeFault::Stopped);
         }
-        match take(self.alloc, plan, self.shard, &mut self.kept, msg, out) {
+        match take(self.alloc, plan, self.shard, &mut self.kept, msg, outbox) {
             Ok(handled) => Ok(handled),
             Err(NoMemory) => {
                 // A part may be done and another not, so nothing is kept.
@@ -101,20 +105,20 @@ impl Server {
         }
     }
 
-    /// Sends again what was asked for and is not known yet. It changes nothing but that `NoMemory`, which promises nothing of `out`,
+    /// Sends again what was asked for and is not known yet. It changes nothing but that `NoMemory`, which promises nothing of `outbox`,
     /// stops the server.
-    pub fn tick(&mut self, out: &mut Outbox) -> Result<(), NodeFault>
-        ensures sent { OnOk result (out.new ≡ record out.old { messages = out.old.messages ++ tick_sends self.old }) }
+    pub fn tick(&mut self, outbox: &mut Outbox) -> Result<(), NodeFault>
+        ensures sent { OnOk result (outbox.new ≡ record outbox.old { messages = outbox.old.messages ++ tick_sends self.old }) }
         ensures same { OnOk result (self.new ≡ self.old) }
         ensures going { OnOk result (self.old.stopped ≡ false) }
         ensures stopped { (result ≡ Err NodeFault.Stopped) ↔ (self.old.stopped ≡ true) }
-        ensures unchanged { result ≡ Err NodeFault.Stopped → (self.new ≡ self.old) × (out.new ≡ out.old) }
+        ensures unchanged { result ≡ Err NodeFault.Stopped → (self.new ≡ self.old) × (outbox.new ≡ outbox.old) }
         ensures no_memory { result ≡ Err NodeFault.NoMemory → self.new.stopped ≡ true }
     {
         if self.stopped {
             return Err(NodeFault::Stopped);
         }
-        match fetch_again(self.shard, &self.kept.deps, self.kept.waits.asked(), out) {
+        match fetch_again(self.shard, &self.kept.deps, self.kept.waits.asked(), outbox) {
             Ok(()) => Ok(()),
             Err(NoMemory) => {
                 self.kept.clear(self.alloc);
@@ -144,8 +148,8 @@ impl Server {
         steps: &mut Steps<L>,
     ) -> Result<Edges, NoMemory>
         requires fits { ServerFits plan.now self.now }
-        ensures entries { IfOk result (λ edges. (out : List Id) → AreDecided self.now.lists.known out → edges ≡ entries_for plan.now out self.now id (is_immediate class) cells.now) }
-        ensures steps { (out : List Id) → AreDecided self.now.lists.known out → steps.new ≤ steps.old + length (users plan.now out (is_immediate class) cells.now self.now.started) }
+        ensures entries { IfOk result (λ edges. (left_out : List Id) → AreDecided self.now.lists.known left_out → edges ≡ entries_for plan.now left_out self.now id (is_immediate class) cells.now) }
+        ensures steps { (left_out : List Id) → AreDecided self.now.lists.known left_out → steps.new ≤ steps.old + length (users plan.now left_out (is_immediate class) cells.now self.now.started) }
     {
         let starting = Starting {
             shard: self.shard,
@@ -175,13 +179,13 @@ fn take(
     alloc: Global,
     plan: &Plan,
     shard: Shard,
-    kept: &mut Kept,
+    kept: &mut ServerData,
     msg: &Msg,
-    out: &mut Outbox,
+    outbox: &mut Outbox,
 ) -> Result<Handled, NoMemory>
     requires fits { AreGroupsOf plan.now kept.old.started }
     requires sound { IsConsistent kept.old }
-    ensures step { IfOk result (λ answer. (r : ServerStep) × Handles plan.now (state_of shard kept.old false) msg.now r × Shows r answer (state_of shard kept.new false) out.old out.new) }
+    ensures step { IfOk result (λ answer. (r : ServerStep) × Handles plan.now (state_of shard kept.old false) msg.now r × Shows r answer (state_of shard kept.new false) outbox.old outbox.new) }
     ensures fits { OnOk result (AreGroupsOf plan.now kept.new.started) }
     ensures sound { OnOk result (IsConsistent kept.new) }
 {
@@ -203,13 +207,22 @@ fn take(
                 group: *group,
                 known,
             };
-            take_start(alloc, plan, shard, kept, request, out)
+            take_start(alloc, plan, shard, kept, request, outbox)
         }
         Msg::Commit { id, edges, facts } => {
-            take_commit(alloc, plan, shard, kept, *id, edges, facts.as_slice(), out)
+            take_commit(
+                alloc,
+                plan,
+                shard,
+                kept,
+                *id,
+                edges,
+                facts.as_slice(),
+                outbox,
+            )
         }
-        Msg::Fetch { id, asker } => take_fetch(shard, kept, *id, *asker, out),
-        Msg::Known { id, edges } => take_known(alloc, plan, shard, kept, *id, edges, out),
+        Msg::Fetch { id, asker } => take_fetch(shard, kept, *id, *asker, outbox),
+        Msg::Known { id, edges } => take_known(alloc, plan, shard, kept, *id, edges, outbox),
         Msg::StartOk { .. } | Msg::CommitOk { .. } | Msg::Stop => {
             Ok(Handled::Ignored(Reason::Foreign))
         }

@@ -1,25 +1,24 @@
 //! A group that starts now.
 ghost use Rattle.std.specs.Prelude.{◌≡◌, ◌<◌, [], length, map, filter, if◌then◌else◌, IfOk, OnOk};
 ghost use Rattle.roc_base.specs.Edges.{united};
-ghost use Rattle.roc_group.specs.Group_run.{call, group_run, group_uses, bound_by_run};
+ghost use Rattle.roc_group.specs.GroupRun.{call, group_run, group_uses, bound_by_run};
 ghost use Rattle.roc_plan.specs.Groups.{groups_of, is_immediate_of, procedure_of, inputs_of};
-ghost use Rattle.roc_ancestors.specs.Least.{AreRows};
+ghost use Rattle.roc_server_ancestors.specs.Least.{AreRows};
 ghost use Rattle.roc_server.specs.Fits.{IsCallOf, AreGroupsOf};
 ghost use Rattle.roc_server.specs.Inner.Indexed.{IsIndexOf};
-ghost use Rattle.roc_server.specs.Inner.Kept.{asked};
+ghost use Rattle.roc_server.specs.Inner.ServerData.{asked};
 ghost use Rattle.roc_server.specs.Inner.Starts.{IsNewGroup};
 ghost use Rattle.roc_server.specs.Start.{conflicts_before, edge_to};
 
 use crate::StartedGroup;
-use crate::kept::Kept;
 use crate::looks::{Starting, entries};
+use crate::server_data::ServerData;
 use crate::starts::Request;
-use roc_base::{Edges, NoMemory, Shard};
+use roc_base::{Edges, NoMemory, Shard, Steps};
 use roc_group::{Access, Outputs, cells, run_group};
-use roc_lists::facts_for;
 use roc_plan::{Class, Known, Plan};
 use roc_rows::Rows;
-use roc_steps::Steps;
+use roc_server_lists::facts_for;
 use std::alloc::Global;
 use std::marker::Brand;
 use std::sync::ledger::{Blank, Ledger};
@@ -63,7 +62,7 @@ fn begun(
 fn edges_for<L: Ledger>(
     alloc: Global,
     plan: &Plan,
-    kept: &Kept,
+    kept: &ServerData,
     starting: Starting,
     cells: &[Access],
     blank: Blank,
@@ -85,7 +84,7 @@ pub(crate) fn new_group(
     alloc: Global,
     plan: &Plan,
     shard: Shard,
-    kept: &mut Kept,
+    kept: &mut ServerData,
     request: Request,
 ) -> Result<StartedGroup, NoMemory>
     requires call { IsCallOf plan.now (asked request) }

@@ -1,17 +1,17 @@
 //! Starts.
 ghost use Rattle.std.specs.Prelude.{◌≡◌, ◌++◌, ◌∷◌, [], ◌<◌, length, None, false, IfOk, OnOk};
 ghost use Rattle.roc_depgraph.specs.Deps.{is_known};
-ghost use Rattle.roc_group.specs.Group_run.{call};
+ghost use Rattle.roc_group.specs.GroupRun.{call};
 ghost use Rattle.roc_plan.specs.Groups.{groups_of};
 ghost use Rattle.roc_server.specs.Fits.{IsCallOf, AreGroupsOf};
-ghost use Rattle.roc_server.specs.Inner.Kept.{state_of, asked, IsConsistent};
+ghost use Rattle.roc_server.specs.Inner.ServerData.{state_of, asked, IsConsistent};
 ghost use Rattle.roc_server.specs.Inner.Starts.{StartTaken, StartsNew};
 ghost use Rattle.roc_server.specs.Start.{has_counts, start_fault, startok_of};
 ghost use Rattle.roc_server.specs.State.{find_group};
 
 use crate::groups::{differs, find_group};
 use crate::indexed::add_group;
-use crate::kept::Kept;
+use crate::server_data::ServerData;
 use crate::started_now::new_group;
 use crate::{Handled, StartedGroup};
 use roc_base::{NoMemory, Node, Shard, TxnId};
@@ -33,13 +33,13 @@ pub(crate) fn take_start(
     alloc: Global,
     plan: &Plan,
     shard: Shard,
-    kept: &mut Kept,
+    kept: &mut ServerData,
     request: Request,
-    out: &mut Outbox,
+    outbox: &mut Outbox,
 ) -> Result<Handled, NoMemory>
     requires fits { AreGroupsOf plan.now kept.old.started }
     requires sound { IsConsistent kept.old }
-    ensures step { IfOk result (StartTaken plan.now shard kept.old kept.new out.old out.new request.id (asked request)) }
+    ensures step { IfOk result (StartTaken plan.now shard kept.old kept.new outbox.old outbox.new request.id (asked request)) }
     ensures fits { OnOk result (AreGroupsOf plan.now kept.new.started) }
     ensures sound { OnOk result (IsConsistent kept.new) }
 {
@@ -48,10 +48,10 @@ pub(crate) fn take_start(
     }
     match find_group(&kept.started, request.id, request.group) {
         Some(earlier) => {
-            send_startok(shard, earlier, out)?;
+            send_startok(shard, earlier, outbox)?;
             Ok(Handled::Done)
         }
-        None => start_new(alloc, plan, shard, kept, request, out),
+        None => start_new(alloc, plan, shard, kept, request, outbox),
     }
 }
 
@@ -60,21 +60,21 @@ fn start_new(
     alloc: Global,
     plan: &Plan,
     shard: Shard,
-    kept: &mut Kept,
+    kept: &mut ServerData,
     request: Request,
-    out: &mut Outbox,
+    outbox: &mut Outbox,
 ) -> Result<Handled, NoMemory>
     requires call { IsCallOf plan.now (asked request) }
     requires absent { find_group request.id request.group kept.old.started ≡ None }
     requires unknown { is_known kept.old.deps request.id ≡ false }
     requires fits { AreGroupsOf plan.now kept.old.started }
     requires sound { IsConsistent kept.old }
-    ensures step { IfOk result (StartsNew plan.now shard kept.old kept.new out.old out.new request.id (asked request)) }
+    ensures step { IfOk result (StartsNew plan.now shard kept.old kept.new outbox.old outbox.new request.id (asked request)) }
     ensures fits { OnOk result (AreGroupsOf plan.now kept.new.started) }
     ensures sound { OnOk result (IsConsistent kept.new) }
 {
     let started = new_group(alloc, plan, shard, kept, request)?;
-    send_startok(shard, &started, out)?;
+    send_startok(shard, &started, outbox)?;
     let at = kept.started.as_slice().len();
     add_group(&mut kept.index, at, &started)?;
     kept.started.push(started)?;
@@ -82,7 +82,7 @@ fn start_new(
 }
 
 // Why a start is ignored, where it is: the first reason that holds.
-fn start_fault(plan: &Plan, shard: Shard, kept: &Kept, request: &Request) -> Option<Reason>
+fn start_fault(plan: &Plan, shard: Shard, kept: &ServerData, request: &Request) -> Option<Reason>
     ensures reason { result ≡ start_fault plan.now (state_of shard kept.now false) request.now.id (asked request.now) }
     ensures fits { result ≡ None → IsCallOf plan.now (asked request.now) }
 {
@@ -119,8 +119,8 @@ fn has_counts(plan: &Plan, proc: u16, group: u16, known: &Known) -> bool
 }
 
 // Tells a group's coordinator that it has started, what it gave, and what comes before.
-fn send_startok(shard: Shard, e: &StartedGroup, out: &mut Outbox) -> Result<(), NoMemory>
-    ensures { OnOk result (out.new ≡ record out.old { messages = out.old.messages ++ startok_of shard e.now ∷ [] }) }
+fn send_startok(shard: Shard, e: &StartedGroup, outbox: &mut Outbox) -> Result<(), NoMemory>
+    ensures { OnOk result (outbox.new ≡ record outbox.old { messages = outbox.old.messages ++ startok_of shard e.now ∷ [] }) }
 {
     let startok = Msg::StartOk {
         id: e.id,
@@ -131,5 +131,5 @@ fn send_startok(shard: Shard, e: &StartedGroup, out: &mut Outbox) -> Result<(), 
         edges: e.edges.clone()?,
         facts: e.facts.clone()?,
     };
-    out.send(Node::Coord(e.id.coord), startok)
+    outbox.send(Node::Coord(e.id.coord), startok)
 }

@@ -5,7 +5,7 @@ use Rattle.roc_base.specs.declared.id.TxnId.{TxnId}
 use Rattle.roc_base.specs.declared.node.Node.{Node}
 use Rattle.roc_base.specs.declared.node.Node.TheVariants.{Server, Coord}
 use Rattle.roc_base.specs.declared.node.Shard.{Shard}
-use Rattle.roc_msg.specs.declared.msg.Sent.{Sent}
+use Rattle.roc_msg.specs.declared.msg.Envelope.{Envelope}
 use Rattle.roc_msg.specs.declared.outbox.Outbox.{Outbox}
 use Rattle.roc_plan.specs.Groups.{Plan}
 use Rattle.roc_server.specs.declared.handled.Handled.{Handled as ServerHandled}
@@ -21,7 +21,7 @@ use Rattle.roc_audit.specs.Order.{noted}
 use Rattle.roc_protocol.specs.declared.event.Event.TheVariants.{Submit, Deliver, Tick}
 use Rattle.roc_protocol.specs.declared.event.Seen.{Seen}
 use Rattle.roc_protocol.specs.declared.event.Seen.TheVariants as seen
-use Rattle.roc_protocol.specs.World.{World, sends, comes, at_server, at_coord}
+use Rattle.roc_protocol.specs.World.{World, sends, mark_delivered, at_server, at_coord}
 use Rattle.roc_protocol.specs.Happens.{Outcome, undecided, Submits, server_seen, coord_seen, answer_entries, served, coordinated, IsReceived}
 use Rattle.roc_world.specs.Inner.Messages.{Messages}
 use Rattle.roc_world.specs.Inner.Nodes.{ServerTakes, CoordTakes, CoordSubmits, ServerTicks}
@@ -34,7 +34,7 @@ read_there xs lent i x within same is = slice_get-get_or xs i x within ∙ ap So
 module _ (plan : Plan) (w : World) where
   -- ---- a delivery
 
-  module _ (k : ℕ) (m : Sent) (some : 0 < k) (there : slice_get w.sent (k - 1) ≡ Some m) where
+  module _ (k : ℕ) (m : Envelope) (some : 0 < k) (there : slice_get w.sent (k - 1) ≡ Some m) where
     abbrev delivered : Messages
     delivered = record { sent = w.sent; undelivered = filter (λ n. not (n == k)) w.undelivered }
 
@@ -49,10 +49,10 @@ module _ (plan : Plan) (w : World) where
         let ids : out.decided ≡ r.decided = takes.shows.decides ∙ ap (λ xs. xs ++ r.decided) undecided_yet in
         let sees : what ≡ server_seen r.answer = what_is ∙ ap server_seen (sym takes.shows.answers) in
         let others = takes.others in
-        let world_is : after ≡ at_server (comes w k) shard.0 r =
+        let world_is : after ≡ at_server (mark_delivered w k) shard.0 r =
         after_is ∙ (λ i. record (sends (record w { servers = others i; sent = (network_is i).sent; undelivered = (network_is i).undelivered }) (Server shard) (outs i)) { order = noted w.order (ids i) }) in
-        let is : record { seen = what; decided = r.decided; world = after } ≡ served (comes w k) shard.0 r = λ i. record { seen = sees i; decided = r.decided; world = world_is i } in
-        (r.decided, (m, some, there, subst (λ (node : Node). IsReceived plan (comes w k) m.msg node (record { seen = what; decided = r.decided; world = after })) (sym to) (takes.server, r, takes.there, takes.handles, is)))
+        let is : record { seen = what; decided = r.decided; world = after } ≡ served (mark_delivered w k) shard.0 r = λ i. record { seen = sees i; decided = r.decided; world = world_is i } in
+        (r.decided, (m, some, there, subst (λ (node : Node). IsReceived plan (mark_delivered w k) m.msg node (record { seen = what; decided = r.decided; world = after })) (sym to) (takes.server, r, takes.there, takes.handles, is)))
 
     pub coord_comes :
         (number : ℕ) → m.to ≡ Coord number → (answer : CoordHandled) (what : Seen) (coords : List CoordState) (noted_in : Messages) (before out : Outbox) (after : World)
@@ -65,11 +65,11 @@ module _ (plan : Plan) (w : World) where
         let told = takes.outcome.answer in
         let sees : what ≡ coord_seen r.answer = what_is ∙ ap coord_seen told in
         let others = takes.others in
-        let world_is : after ≡ at_coord (comes w k) number r.state r.sends (answer_entries r.answer) =
+        let world_is : after ≡ at_coord (mark_delivered w k) number r.state r.sends (answer_entries r.answer) =
         after_is ∙ (λ i. record (sends (record w { coords = others i; sent = (network_is i).sent; undelivered = (network_is i).undelivered }) (Coord number) (outs i)) { history = w.history ++ answer_entries (told i) }) in
         let o : Outcome = record { seen = what; decided = []; world = after } in
-        let is : o ≡ coordinated (comes w k) number r = λ i. record { seen = sees i; decided = []; world = world_is i } in
-        ([], (m, some, there, subst (λ (node : Node). IsReceived plan (comes w k) m.msg node o) (sym to) (takes.coord, takes.there, is)))
+        let is : o ≡ coordinated (mark_delivered w k) number r = λ i. record { seen = sees i; decided = []; world = world_is i } in
+        ([], (m, some, there, subst (λ (node : Node). IsReceived plan (mark_delivered w k) m.msg node o) (sym to) (takes.coord, takes.there, is)))
 
   -- ---- a tick
 

@@ -54,16 +54,16 @@ fn submit(
     requires event { IsEventOf plan.now (world_of parts.old) (event.Submit coord proc args.now) }
     ensures { IfOk result (λ seen. Leads plan.now (world_of parts.old) (event.Submit coord proc args.now) seen (world_of parts.new)) }
 {
-    let mut out = Outbox::new(alloc);
+    let mut outbox = Outbox::new(alloc);
     match submit_at(
         plan,
         &mut parts.coords,
         coord,
         proc,
         args.as_slice(),
-        &mut out,
+        &mut outbox,
     ) {
-        Ok(id) => note_submitted(parts, coord, id, proc, args, out),
+        Ok(id) => note_submitted(parts, coord, id, proc, args, outbox),
         Err(SubmitFault::Spent) => Ok(Seen::Spent),
         Err(SubmitFault::Busy) => Ok(Seen::Busy),
         // A coordinator stops where it found no memory, and no world is kept that did.
@@ -78,23 +78,23 @@ fn deliver(alloc: Global, plan: &Plan, parts: &mut Parts, number: u64) -> Result
     requires event { IsEventOf plan.now (world_of parts.old) (event.Deliver number) }
     ensures { IfOk result (λ seen. Leads plan.now (world_of parts.old) (event.Deliver number) seen (world_of parts.new)) }
 {
-    let mut out = Outbox::new(alloc);
+    let mut outbox = Outbox::new(alloc);
     let sent = &parts.network.sent()[(number - 1) as usize];
     match sent.to {
         Node::Server(shard) => {
-            match handle_at_server(plan, &mut parts.servers, shard, &sent.msg, &mut out) {
+            match handle_at_server(plan, &mut parts.servers, shard, &sent.msg, &mut outbox) {
                 Ok(handled) => {
                     parts.network.note_delivery(number);
-                    note_at_server(parts, shard, handled, out)
+                    note_at_server(parts, shard, handled, outbox)
                 }
                 Err(fault) => Err(fault),
             }
         }
         Node::Coord(coord) => {
-            match handle_at_coord(plan, &mut parts.coords, coord, &sent.msg, &mut out) {
+            match handle_at_coord(plan, &mut parts.coords, coord, &sent.msg, &mut outbox) {
                 Ok(handled) => {
                     parts.network.note_delivery(number);
-                    note_at_coord(parts, coord, handled, out)
+                    note_at_coord(parts, coord, handled, outbox)
                 }
                 Err(fault) => Err(fault),
             }
@@ -108,24 +108,24 @@ fn tick(alloc: Global, plan: &Plan, parts: &mut Parts, node: Node) -> Result<See
     requires event { IsEventOf plan.now (world_of parts.old) (event.Tick node) }
     ensures { IfOk result (λ seen. Leads plan.now (world_of parts.old) (event.Tick node) seen (world_of parts.new)) }
 {
-    let mut out = Outbox::new(alloc);
+    let mut outbox = Outbox::new(alloc);
     match node {
-        Node::Server(shard) => match tick_server(&mut parts.servers, shard, &mut out) {
-            Ok(()) => note_tick(parts, Node::Server(shard), out),
+        Node::Server(shard) => match tick_server(&mut parts.servers, shard, &mut outbox) {
+            Ok(()) => note_tick(parts, Node::Server(shard), outbox),
             Err(fault) => Err(fault),
         },
-        Node::Coord(coord) => match tick_coord(plan, &mut parts.coords, coord, &mut out) {
-            Ok(()) => note_tick(parts, Node::Coord(coord), out),
+        Node::Coord(coord) => match tick_coord(plan, &mut parts.coords, coord, &mut outbox) {
+            Ok(()) => note_tick(parts, Node::Coord(coord), outbox),
             Err(fault) => Err(fault),
         },
     }
 }
 
 // What a node sends goes into the network.
-fn send_from(parts: &mut Parts, from: Node, out: Outbox) -> Result<(), NoMemory>
-    ensures { OnOk result (world_of parts.new ≡ sends (world_of parts.old) from out.messages) }
+fn send_from(parts: &mut Parts, from: Node, outbox: Outbox) -> Result<(), NoMemory>
+    ensures { OnOk result (world_of parts.new ≡ sends (world_of parts.old) from outbox.messages) }
 {
-    parts.network.add(from, out.messages)
+    parts.network.add(from, outbox.messages)
 }
 
 // What a coordinator sends for an accepted submission goes into the network, and the submission into the history.
@@ -135,22 +135,22 @@ fn note_submitted(
     id: TxnId,
     proc: u16,
     args: &Nums,
-    out: Outbox,
+    outbox: Outbox,
 ) -> Result<Seen, NoMemory>
     ensures { IfOk result (λ what. (what ≡ seen.Submitted id)
-        × (world_of parts.new ≡ record (sends (world_of parts.old) (node.Coord coord) out.messages) { history = parts.old.history ++ entry.Submitted id proc args.now ∷ [] })) }
+        × (world_of parts.new ≡ record (sends (world_of parts.old) (node.Coord coord) outbox.messages) { history = parts.old.history ++ entry.Submitted id proc args.now ∷ [] })) }
 {
-    send_from(parts, Node::Coord(coord), out)?;
+    send_from(parts, Node::Coord(coord), outbox)?;
     let args = args.clone()?;
     parts.history.push(Entry::Submitted { id, proc, args })?;
     Ok(Seen::Submitted(id))
 }
 
 // What a node sends at a tick goes into the network.
-fn note_tick(parts: &mut Parts, from: Node, out: Outbox) -> Result<Seen, NoMemory>
-    ensures { IfOk result (λ what. (what ≡ seen.Done) × (world_of parts.new ≡ sends (world_of parts.old) from out.messages)) }
+fn note_tick(parts: &mut Parts, from: Node, outbox: Outbox) -> Result<Seen, NoMemory>
+    ensures { IfOk result (λ what. (what ≡ seen.Done) × (world_of parts.new ≡ sends (world_of parts.old) from outbox.messages)) }
 {
-    send_from(parts, from, out)?;
+    send_from(parts, from, outbox)?;
     Ok(Seen::Done)
 }
 
@@ -159,12 +159,12 @@ fn note_at_server(
     parts: &mut Parts,
     shard: Shard,
     handled: ServerHandled,
-    out: Outbox,
+    outbox: Outbox,
 ) -> Result<Seen, NoMemory>
     ensures { IfOk result (λ what. (what ≡ server_seen handled)
-        × (world_of parts.new ≡ record (sends (world_of parts.old) (node.Server shard) out.messages) { order = noted parts.old.order out.decided })) }
+        × (world_of parts.new ≡ record (sends (world_of parts.old) (node.Server shard) outbox.messages) { order = noted parts.old.order outbox.decided })) }
 {
-    let Outbox { messages, decided } = out;
+    let Outbox { messages, decided } = outbox;
     parts.network.add(Node::Server(shard), messages)?;
     parts.order.note(decided.as_slice())?;
     Ok(server_seen(handled))
@@ -175,12 +175,12 @@ fn note_at_coord(
     parts: &mut Parts,
     coord: u16,
     handled: CoordHandled,
-    out: Outbox,
+    outbox: Outbox,
 ) -> Result<Seen, NoMemory>
     ensures { IfOk result (λ what. (what ≡ coord_seen handled)
-        × (world_of parts.new ≡ record (sends (world_of parts.old) (node.Coord coord) out.messages) { history = parts.old.history ++ answer_entries handled })) }
+        × (world_of parts.new ≡ record (sends (world_of parts.old) (node.Coord coord) outbox.messages) { history = parts.old.history ++ answer_entries handled })) }
 {
-    send_from(parts, Node::Coord(coord), out)?;
+    send_from(parts, Node::Coord(coord), outbox)?;
     note_answer(&mut parts.history, &handled)?;
     Ok(coord_seen(handled))
 }

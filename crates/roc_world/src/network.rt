@@ -5,7 +5,7 @@ ghost use Rattle.roc_protocol.specs.World.{sent_by};
 ghost use Rattle.roc_world.specs.Inner.Messages.{AreNumbered};
 
 use roc_base::{NoMemory, Node};
-use roc_msg::{Outgoing, Sent};
+use roc_msg::{Envelope, Outgoing};
 use roc_sequence::Sequence;
 use std::alloc::Global;
 use std::marker::Model;
@@ -13,7 +13,7 @@ use std::marker::Model;
 /// Every message ever sent, numbered from 1, and the numbers of those that were never delivered.
 #[derive(Drop)]
 pub(crate) struct Network {
-    sent: Vec<Sent>,
+    sent: Vec<Envelope>,
     undelivered: Vec<u64>,
 }
 
@@ -40,7 +40,7 @@ impl Network {
     }
 
     /// Every message ever sent. Takes no memory.
-    pub fn sent(&self) -> &[Sent]
+    pub fn sent(&self) -> &[Envelope]
         ensures { result.now ≡ self.now.sent }
     {
         &self.sent
@@ -88,7 +88,7 @@ fn take_out(numbers: &mut Vec<u64>, count: usize, number: u64)
 
 // Adds messages and their numbers.
 fn add_all(
-    sent: &mut Vec<Sent>,
+    sent: &mut Vec<Envelope>,
     undelivered: &mut Vec<u64>,
     from: Node,
     messages: Vec<Outgoing>,
@@ -106,7 +106,7 @@ fn add_all(
 
 // Adds one message and its number, the message first, so that each number is always of one.
 fn add_one(
-    sent: &mut Vec<Sent>,
+    sent: &mut Vec<Envelope>,
     undelivered: &mut Vec<u64>,
     from: Node,
     message: Outgoing,
@@ -117,7 +117,7 @@ fn add_one(
     ensures undelivered { OnOk result (undelivered.new.items ≡ undelivered.old.items ++ (length sent.old.items + 1) ∷ []) }
 {
     let Outgoing { to, msg } = message;
-    sent.push(Sent { from, to, msg })?;
+    sent.push(Envelope { from, to, msg })?;
     undelivered.push(sent.len() as u64)?;
     Ok(())
 }

@@ -44,13 +44,13 @@ pub(crate) fn handle_at_server(
     servers: &mut Vec<Server>,
     shard: Shard,
     msg: &Msg,
-    out: &mut Outbox,
+    outbox: &mut Outbox,
 ) -> Result<ServerHandled, NoMemory>
     requires exists { shard.0 < length servers.old.items }
     requires fits { AllByRecursion (ServerFits plan.now) servers.old.items }
-    ensures { IfOk result (λ answer. ServerTakes plan.now shard.0 msg.now answer servers.old.items servers.new.items out.old out.new) }
+    ensures { IfOk result (λ answer. ServerTakes plan.now shard.0 msg.now answer servers.old.items servers.new.items outbox.old outbox.new) }
 {
-    let Ok(handled) = servers[shard.0 as usize].handle(plan, msg, out) else {
+    let Ok(handled) = servers[shard.0 as usize].handle(plan, msg, outbox) else {
         return Err(NoMemory);
     };
     Ok(handled)
@@ -62,13 +62,13 @@ pub(crate) fn handle_at_coord(
     coords: &mut Vec<Coord>,
     number: u16,
     msg: &Msg,
-    out: &mut Outbox,
+    outbox: &mut Outbox,
 ) -> Result<CoordHandled, NoMemory>
     requires exists { number < length coords.old.items }
     requires fits { AllByRecursion (CoordFits plan.now) coords.old.items }
-    ensures { IfOk result (λ answer. CoordTakes plan.now number msg.now answer coords.old.items coords.new.items out.old out.new) }
+    ensures { IfOk result (λ answer. CoordTakes plan.now number msg.now answer coords.old.items coords.new.items outbox.old outbox.new) }
 {
-    let Ok(handled) = coords[number as usize].handle(plan, msg, out) else {
+    let Ok(handled) = coords[number as usize].handle(plan, msg, outbox) else {
         return Err(NoMemory);
     };
     Ok(handled)
@@ -81,25 +81,25 @@ pub(crate) fn submit_at(
     number: u16,
     proc: u16,
     args: &[i64],
-    out: &mut Outbox,
+    outbox: &mut Outbox,
 ) -> Result<TxnId, SubmitFault>
     requires exists { number < length coords.old.items }
     requires fits { AllByRecursion (CoordFits plan.now) coords.old.items }
-    ensures { UnlessStopped result (CoordSubmits plan.now number proc args.now result coords.old.items coords.new.items out.old out.new) }
+    ensures { UnlessStopped result (CoordSubmits plan.now number proc args.now result coords.old.items coords.new.items outbox.old outbox.new) }
 {
-    coords[number as usize].submit(plan, proc, args, out)
+    coords[number as usize].submit(plan, proc, args, outbox)
 }
 
 /// Time has passed for the server of a shard.
 pub(crate) fn tick_server(
     servers: &mut Vec<Server>,
     shard: Shard,
-    out: &mut Outbox,
+    outbox: &mut Outbox,
 ) -> Result<(), NoMemory>
     requires exists { shard.0 < length servers.old.items }
-    ensures { OnOk result (ServerTicks shard.0 servers.old.items servers.new.items out.old out.new) }
+    ensures { OnOk result (ServerTicks shard.0 servers.old.items servers.new.items outbox.old outbox.new) }
 {
-    let Ok(()) = servers[shard.0 as usize].tick(out) else {
+    let Ok(()) = servers[shard.0 as usize].tick(outbox) else {
         return Err(NoMemory);
     };
     Ok(())
@@ -110,13 +110,13 @@ pub(crate) fn tick_coord(
     plan: &Plan,
     coords: &mut Vec<Coord>,
     number: u16,
-    out: &mut Outbox,
+    outbox: &mut Outbox,
 ) -> Result<(), NoMemory>
     requires exists { number < length coords.old.items }
     requires fits { AllByRecursion (CoordFits plan.now) coords.old.items }
-    ensures { OnOk result (CoordTicks plan.now number coords.old.items coords.new.items out.old out.new) }
+    ensures { OnOk result (CoordTicks plan.now number coords.old.items coords.new.items outbox.old outbox.new) }
 {
-    let Ok(()) = coords[number as usize].tick(plan, out) else {
+    let Ok(()) = coords[number as usize].tick(plan, outbox) else {
         return Err(NoMemory);
     };
     Ok(())

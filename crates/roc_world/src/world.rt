@@ -15,7 +15,7 @@ use crate::reads::{cells_of, unanswered_of};
 use crate::{Event, Seen};
 use roc_audit::{Entry, Order};
 use roc_base::{NoMemory, TxnId};
-use roc_msg::Sent;
+use roc_msg::Envelope;
 use roc_plan::Plan;
 use roc_rows::Cell;
 use roc_sequence::Sequence;
@@ -80,7 +80,7 @@ impl World {
     }
 
     /// Every message ever sent; the first has number 1. Takes no memory.
-    pub fn sent(&self) -> &[Sent]
+    pub fn sent(&self) -> &[Envelope]
         ensures { result.now ≡ self.now.sent }
     {
         self.parts.network.sent()

@@ -1,10 +1,10 @@
-//! The program: `run` of `roc_cli` over the machine's files, streams, network and processes of `roc_real`. Its words
+//! The program: `run` of `roc_cli` over the machine's files, streams, network and processes of `roc_io_real`. Its words
 //! are those of `docs/FORMATS.md`, "The program". Nothing stands here that can stand elsewhere.
 #![tactic(auto)]
 
 use roc_cli::run;
 use roc_io::Sink;
-use roc_real::{RealFiles, RealLink, RealSpawner, Stream, words_given};
+use roc_io_real::{RealFiles, RealLink, RealSpawner, Stream, words_given};
 use std::io::Stderr;
 use std::process::ExitCode;
 

@@ -1,23 +1,23 @@
 -- How the work for some words ends, before it is told
 use Rattle.std.specs.Prelude.{◌≡◌, ◌⊎◌, ℕ, List, Option, Result, Ok, Err}
-use Rattle.roc_io.specs.Told.{Adds, AddsFront}
+use Rattle.roc_io.specs.Observed.{Adds, AddsFront}
 use Rattle.roc_plan.specs.Groups.{Plan}
 use Rattle.roc_sched.specs.declared.fault.What.{What as ScheduleWhat}
 use Rattle.roc_sched.specs.FaultText.{what_text as schedule_text}
 use Rattle.roc_replay.specs.declared.ended.Summary.{Summary}
 use Rattle.roc_replay.specs.Ended.{IsReplayed, IsTextFault, IsCut, IsUnfinished}
-use Rattle.roc_files.specs.declared.fault.Fault.{Fault}
-use Rattle.roc_files.specs.declared.fault.Fault.TheVariants.{Refused, Value, NoShard, At, Rejected, Memory, Unanswered, File, Sink, Link, Child}
-use Rattle.roc_words.specs.declared.value.Part.{Part}
-use Rattle.roc_words.specs.declared.answer.WordsFault.{WordsFault}
-use Rattle.roc_words.specs.declared.answer.WordsFault.TheVariants as words_fault
-use Rattle.roc_launch.specs.Call.{RunCall, WholeCall, TakesNothing}
-use Rattle.roc_launch.specs.Nodes.{AreNodesEnded, IsChildBlamed}
-use Rattle.roc_launch.specs.Ends.{LoopEnded}
+use Rattle.roc_cli_files.specs.declared.fault.Fault.{Fault}
+use Rattle.roc_cli_files.specs.declared.fault.Fault.TheVariants.{Refused, Value, NoShard, At, Rejected, Memory, Unanswered, File, Sink, Link, Child}
+use Rattle.roc_cli_words.specs.declared.value.Part.{Part}
+use Rattle.roc_cli_words.specs.declared.answer.WordsFault.{WordsFault}
+use Rattle.roc_cli_words.specs.declared.answer.WordsFault.TheVariants as words_fault
+use Rattle.roc_cli_nodes.specs.Call.{RunCall, WholeCall, TakesNothing}
+use Rattle.roc_cli_nodes.specs.Nodes.{AreNodesEnded, IsChildBlamed}
+use Rattle.roc_cli_nodes.specs.Ends.{LoopEnded}
 use Rattle.roc_cli.specs.Done.{Replays, Prints, Checks, Generates, IsGenerated, Rejects}
 use Rattle.roc_cli.specs.Refused.{AreRefusedWords, IsRefused}
 use Rattle.roc_cli.specs.Stopped.{IsUnread, RunsOut, CutsOutput}
-use Rattle.roc_files.specs.Fault.{line_of}
+use Rattle.roc_cli_files.specs.Fault.{line_of}
 
 -- ---- one command
 

@@ -1,10 +1,10 @@
 -- Calls that nothing is wrong with, and calls for a shard that the workload lacks
 use Rattle.std.specs.Prelude.{ℕ, List, Option, Ok}
 use Rattle.roc_base.specs.declared.node.Shard.{Shard}
-use Rattle.roc_submit.specs.declared.ends.SubmitEnd.{SubmitEnd}
-use Rattle.roc_launch.specs.Call.{RunCall, WholeCall}
+use Rattle.roc_node_submit.specs.declared.ends.SubmitEnd.{SubmitEnd}
+use Rattle.roc_cli_nodes.specs.Call.{RunCall, WholeCall}
 use Rattle.roc_cli.specs.Done.{Rejects}
-use Rattle.roc_launch.specs.Nodes.{AreNodesEnded, IsChildBlamed}
+use Rattle.roc_cli_nodes.specs.Nodes.{AreNodesEnded, IsChildBlamed}
 use Rattle.roc_cli.specs.Refused.{AreRefusedWords, IsRefused}
 use Rattle.roc_cli.specs.Stopped.{CutsOutput}
 use Rattle.roc_cli.specs.Fit.{IsFit, NodesFit, MissesShard}

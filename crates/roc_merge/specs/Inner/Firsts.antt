@@ -3,10 +3,10 @@ use Rattle.std.specs.Prelude.{ℕ, Bool, ◌<◌, IsTrue, List}
 use Rattle.roc_program.specs.Program.{Workload}
 use Rattle.roc_program.specs.declared.piece_id.PieceId.{PieceId}
 use Rattle.roc_conflict.specs.Contended.{is_contended}
-use Rattle.roc_groups.specs.Groups.{piece_numbered}
-use Rattle.roc_groups.specs.Flow.{IsBetween}
-use Rattle.roc_groups.specs.Core.{AreCoLocated}
-use Rattle.roc_groups.specs.Refusals.{AreApart, IsInTheWay}
+use Rattle.roc_merge_groups.specs.Groups.{piece_numbered}
+use Rattle.roc_merge_groups.specs.Flow.{IsBetween}
+use Rattle.roc_merge_groups.specs.Core.{AreCoLocated}
+use Rattle.roc_merge_groups.specs.Refusals.{AreApart, IsInTheWay}
 use Rattle.roc_merge.specs.Inner.Tables.{IsWayBy, IsClearBy, IsApartBy, IsJoinedBy}
 
 -- p and q are not apart

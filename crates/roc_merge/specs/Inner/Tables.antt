@@ -3,9 +3,9 @@ use Rattle.std.specs.Prelude.{◌↔◌, ℕ, Bool, false, ◌<◌, IsTrue, List
 use Rattle.roc_program.specs.Program.{Workload}
 use Rattle.roc_program.specs.declared.piece_id.PieceId.{PieceId}
 use Rattle.roc_conflict.specs.Contended.{is_contended}
-use Rattle.roc_groups.specs.Groups.{piece_numbered}
-use Rattle.roc_groups.specs.Flow.{feeds, Leads}
-use Rattle.roc_groups.specs.Core.{AreCoLocated}
+use Rattle.roc_merge_groups.specs.Groups.{piece_numbered}
+use Rattle.roc_merge_groups.specs.Flow.{feeds, Leads}
+use Rattle.roc_merge_groups.specs.Core.{AreCoLocated}
 
 -- the row holds the number
 abbrev pub holds : List Bool → ℕ → Bool

@@ -7,15 +7,15 @@ use Rattle.roc_rows.specs.declared.cell.Cell.{Cell}
 use Rattle.roc_rows.specs.Store.{Store, read, write, empty}
 use Rattle.roc_depgraph.specs.Reach.{Reaches}
 use Rattle.roc_component.specs.Components.{IsComponentOrder}
-use Rattle.roc_serial.specs.Behaviour.{TxnGroup, is_txn_group, is_group_number, DoesSame}
-use Rattle.roc_serial.specs.Runs.{Stage, inputs_at, stage_behind, after_group, Conflict, account}
-use Rattle.roc_serial.specs.Orders.{one_by_one, StandOneByOne}
-use Rattle.roc_execution.specs.Scheme.{Scheme}
-use Rattle.roc_execution.specs.Log.{Log, PrecedesTxn, PrecedesTxnNow, shard_at}
-use Rattle.roc_execution.specs.Taking.{IsTakenOrder}
-use Rattle.roc_execution.specs.Edges.{AreEdges}
-use Rattle.roc_execution.specs.Steps.{LogSteps, IsReachedLog, IsWaived, new_in}
-use Rattle.roc_execution.specs.Invariants.{LogInvariants, LogGrows}
+use Rattle.roc_law_orders.specs.Behaviour.{TxnGroup, is_txn_group, is_group_number, DoesSame}
+use Rattle.roc_law_orders.specs.Runs.{Stage, inputs_at, stage_behind, after_group, Conflict, account}
+use Rattle.roc_law_orders.specs.Orders.{one_by_one, StandOneByOne}
+use Rattle.roc_law_log.specs.Scheme.{Scheme}
+use Rattle.roc_law_log.specs.Log.{Log, PrecedesTxn, PrecedesTxnNow, shard_at}
+use Rattle.roc_law_log.specs.Taking.{RespectsPrecedence}
+use Rattle.roc_law_log.specs.Edges.{AreEdges}
+use Rattle.roc_law_log.specs.Steps.{LogSteps, IsReachedLog, IsWaived, new_in}
+use Rattle.roc_law_log.specs.Invariants.{LogInvariants, LogGrows}
 
 pub record LogLaws (S : Scheme) (start : Store) : Type 0 where
   pub holds : (log : Log) → IsReachedLog S start log → LogInvariants S start log
@@ -33,7 +33,7 @@ pub record LogLaws (S : Scheme) (start : Store) : Type 0 where
       → ((u t : TxnId) → IsListed is_txn (new_in (log.decided s) all) t → PrecedesTxn S start log.past u t
       → IsListed is_txn (log.decided s) u ⊎ (IsListed is_txn (new_in (log.decided s) all) u ⊎ IsWaived S start log u))
       → IsComponentOrder (λ u t. IsTrue (edge u t)) (λ u t. IsTrue (now u t)) members all
-      → IsTakenOrder (PrecedesTxn S start log.past) (PrecedesTxnNow S start log.past) (IsWaived S start log) (new_in (log.decided s) all)
+      → RespectsPrecedence (PrecedesTxn S start log.past) (PrecedesTxnNow S start log.past) (IsWaived S start log) (new_in (log.decided s) all)
 
 -- what the log machine's laws say besides
 pub record SerialLaws (S : Scheme) (start : Store) : Type 0 where

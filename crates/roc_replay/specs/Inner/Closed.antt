@@ -1,6 +1,6 @@
 -- What comes of the closing lines, and of a line that cannot be played
 use Rattle.std.specs.Prelude.{◌≡◌, ℕ, nat_lt, Bool, false, List, Option}
-use Rattle.roc_io.specs.Told.{Adds, AddsFront}
+use Rattle.roc_io.specs.Observed.{Adds, AddsFront}
 use Rattle.roc_program.specs.Program.{Workload}
 use Rattle.roc_protocol.specs.World.{World}
 use Rattle.roc_protocol.specs.declared.event.Event.{Event}

@@ -7,7 +7,7 @@ use Rattle.roc_sched.specs.declared.fault.TextFault.TheVariants.{At, NoMemory}
 use Rattle.roc_sched.specs.declared.fault.What.{What}
 use Rattle.roc_sched.specs.declared.line.Line.{Line}
 use Rattle.roc_sched.specs.Schedule.{IsScheduleFault, fault_of}
-use Rattle.roc_replay.specs.Asked.{asked_by, IsUnfit}
+use Rattle.roc_replay.specs.BoundLine.{asked_by, IsUnfit}
 
 -- what a function returned for the line of this number is what reading gives, unless memory ran out
 abbrev pub GivesAtLine : {X : Type 0} → (number : ℕ) → Result X TextFault → Result X What → Type 0

@@ -12,65 +12,65 @@ use Rattle.roc_rows.specs.declared.cell.Cell.{Cell}
 use Rattle.roc_rows.specs.Cells.{is_cell}
 use Rattle.roc_group.specs.declared.access.Access.{Access}
 use Rattle.roc_group.specs.Accesses.{do_conflict}
-use Rattle.roc_index.specs.declared.spot.Spot.{Spot}
-use Rattle.roc_index.specs.Spots.{spots_at, without}
+use Rattle.roc_server_index.specs.declared.group_ref.GroupRef.{GroupRef}
+use Rattle.roc_server_index.specs.GroupRefs.{group_refs_at, without}
 use Rattle.roc_plan.specs.Groups.{Plan, groups_of, is_immediate_of}
 use Rattle.roc_server.specs.declared.started.StartedGroup.{StartedGroup}
 use Rattle.roc_server.specs.Start.{uses_cell}
 
-abbrev pub spot_of : ℕ → StartedGroup → Spot
-spot_of at e = record { id = e.id; at = at; proc = e.proc; group = e.group }
+abbrev pub group_ref_of : ℕ → StartedGroup → GroupRef
+group_ref_of at e = record { id = e.id; at = at; proc = e.proc; group = e.group }
 
--- the spots of those of the groups that use a cell; the first of the groups has this place
-abbrev pub spots_from : Cell → ℕ → List StartedGroup → List Spot
-spots_from c at [] = []
-spots_from c at (e ∷ es) = if uses_cell c e then spot_of at e ∷ spots_from c (suc at) es else spots_from c (suc at) es
+-- the references of those of the groups that use a cell; the first of the groups has this place
+abbrev pub group_refs_from : Cell → ℕ → List StartedGroup → List GroupRef
+group_refs_from c at [] = []
+group_refs_from c at (e ∷ es) = if uses_cell c e then group_ref_of at e ∷ group_refs_from c (suc at) es else group_refs_from c (suc at) es
 
 -- those whose transactions are not decided
-abbrev pub undecided : List TxnId → List Spot → List Spot
+abbrev pub undecided : List TxnId → List GroupRef → List GroupRef
 undecided decided ss = filter (λ s. not (is_listed is_txn decided s.id)) ss
 
--- at each cell it has exactly the spots of the undecided groups that use the cell
-abbrev pub IsIndexOf : List (Cell × List Spot) → List TxnId → List StartedGroup → Type 0
-IsIndexOf index decided started = (c : Cell) → spots_at c index ≡ undecided decided (spots_from c 0 started)
+-- at each cell it has exactly the references of the undecided groups that use the cell
+abbrev pub IsIndexOf : List (Cell × List GroupRef) → List TxnId → List StartedGroup → Type 0
+IsIndexOf index decided started = (c : Cell) → group_refs_at c index ≡ undecided decided (group_refs_from c 0 started)
 
--- s is the spot of one of these groups, which uses the cell and stands in the whole list at that place
-pub record IsSpotOf (whole es : List StartedGroup) (c : Cell) (s : Spot) : Type 0 where
+-- s is the reference of one of these groups, which uses the cell and stands in the whole list at that place
+pub record IsGroupRefOf (whole es : List StartedGroup) (c : Cell) (s : GroupRef) : Type 0 where
   pub group : StartedGroup
   pub has : Has group es
   pub stands : slice_get whole s.at ≡ Some group
-  pub is : s ≡ spot_of s.at group
+  pub is : s ≡ group_ref_of s.at group
   pub used : uses_cell c group ≡ true
 
-abbrev pub AreSpotsOf : List StartedGroup → List (Cell × List Spot) → Type 0
-AreSpotsOf started index = (c : Cell) (s : Spot) → Has s (spots_at c index) → IsSpotOf started started c s
+abbrev pub AreGroupRefsOf : List StartedGroup → List (Cell × List GroupRef) → Type 0
+AreGroupRefsOf started index = (c : Cell) (s : GroupRef) → Has s (group_refs_at c index) → IsGroupRefOf started started c s
 
 -- a group stands there, and the plan has it
-abbrev pub IsSpotWithin : Plan → List StartedGroup → Spot → Type 0
-IsSpotWithin plan started s = (s.at < length started) × (s.group < length (groups_of plan s.proc))
+abbrev pub IsGroupRefWithin : Plan → List StartedGroup → GroupRef → Type 0
+IsGroupRefWithin plan started s = (s.at < length started) × (s.group < length (groups_of plan s.proc))
 
 -- ---- changes
 
--- the spot stands behind those of each of these cells
-abbrev pub IsAddedAt : Spot → List Access → (old new : List (Cell × List Spot)) → Type 0
-IsAddedAt s cells old new = (c : Cell) → spots_at c new ≡ spots_at c old ++ (if list_any (λ a. is_cell a.cell c) cells then s ∷ [] else [])
+-- the reference stands behind those of each of these cells
+abbrev pub IsAddedAt : GroupRef → List Access → (old new : List (Cell × List GroupRef)) → Type 0
+IsAddedAt s cells old new = (c : Cell) → group_refs_at c new ≡ group_refs_at c old ++ (if list_any (λ a. is_cell a.cell c) cells then s ∷ [] else [])
 
 -- the transaction is out of the cells that pass, and no other cell has changed
-abbrev pub IsOutOf : TxnId → (Cell → Bool) → (old new : List (Cell × List Spot)) → Type 0
-IsOutOf id passes old new = (c : Cell) → spots_at c new ≡ (if passes c then without id (spots_at c old) else spots_at c old)
+abbrev pub IsOutOf : TxnId → (Cell → Bool) → (old new : List (Cell × List GroupRef)) → Type 0
+IsOutOf id passes old new = (c : Cell) → group_refs_at c new ≡ (if passes c then without id (group_refs_at c old) else group_refs_at c old)
 
 -- it is out of all cells
-abbrev pub IsOut : TxnId → (old new : List (Cell × List Spot)) → Type 0
-IsOut id old new = (c : Cell) → spots_at c new ≡ without id (spots_at c old)
+abbrev pub IsOut : TxnId → (old new : List (Cell × List GroupRef)) → Type 0
+IsOut id old new = (c : Cell) → group_refs_at c new ≡ without id (group_refs_at c old)
 
 -- all of them are
-abbrev pub AreOut : List TxnId → (old new : List (Cell × List Spot)) → Type 0
-AreOut ids old new = (c : Cell) → spots_at c new ≡ filter (λ s. not (is_listed is_txn ids s.id)) (spots_at c old)
+abbrev pub AreOut : List TxnId → (old new : List (Cell × List GroupRef)) → Type 0
+AreOut ids old new = (c : Cell) → group_refs_at c new ≡ filter (λ s. not (is_listed is_txn ids s.id)) (group_refs_at c old)
 
 -- ---- looks
 
--- the group of a spot is looked at: it is of another transaction and of this class
-abbrev pub is_looked_at : Plan → TxnId → (immediate : Bool) → Spot → Bool
+-- the group of a reference is looked at: it is of another transaction and of this class
+abbrev pub is_looked_at : Plan → TxnId → (immediate : Bool) → GroupRef → Bool
 is_looked_at plan id immediate s = not (is_txn s.id id) && same_tag (is_immediate_of plan s.proc s.group) immediate
 
 -- the group at a place conflicts with a use
@@ -78,9 +78,9 @@ abbrev pub conflicts_with : Access → Option StartedGroup → Bool
 conflicts_with a None = false
 conflicts_with a (Some e) = do_conflict e.cells (a ∷ [])
 
-abbrev pub is_met : Plan → List StartedGroup → TxnId → (immediate : Bool) → Access → Spot → Bool
+abbrev pub is_met : Plan → List StartedGroup → TxnId → (immediate : Bool) → Access → GroupRef → Bool
 is_met plan started id immediate a s = is_looked_at plan id immediate s && conflicts_with a (slice_get started s.at)
 
--- the entry for the group of a spot
-abbrev pub edge_from : Shard → (immediate : Bool) → Spot → Dependency
+-- the entry for the group of a reference
+abbrev pub edge_from : Shard → (immediate : Bool) → GroupRef → Dependency
 edge_from shard immediate s = record { from = s.id; imm = immediate; def = not immediate; at = shard }

@@ -1,7 +1,7 @@
 -- A run of one group, among those that are kept
 use Rattle.std.specs.Prelude.{◌≡◌, ℕ, not, true, false, List, Some, slice_set, filter}
 use Rattle.roc_plan.specs.Groups.{Plan, is_immediate_of}
-use Rattle.roc_group.specs.Group_run.{group_run}
+use Rattle.roc_group.specs.GroupRun.{group_run}
 use Rattle.roc_rows.specs.Store.{Store}
 use Rattle.roc_server.specs.declared.started.StartedGroup.{StartedGroup}
 use Rattle.roc_server.specs.Runs.{group_call}

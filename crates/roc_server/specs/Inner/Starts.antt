@@ -2,19 +2,19 @@
 use Rattle.std.specs.Prelude.{◌≡◌, false, if◌then◌else◌, List}
 use Rattle.roc_base.specs.declared.id.TxnId.{TxnId}
 use Rattle.roc_base.specs.declared.node.Shard.{Shard}
-use Rattle.roc_group.specs.Group_run.{GroupCall, group_run}
+use Rattle.roc_group.specs.GroupRun.{GroupCall, group_run}
 use Rattle.roc_msg.specs.declared.outbox.Outbox.{Outbox}
 use Rattle.roc_plan.specs.Groups.{Plan}
 use Rattle.roc_server.specs.declared.handled.Handled.{Handled}
-use Rattle.roc_server.specs.declared.kept.Kept.{Kept}
+use Rattle.roc_server.specs.declared.server_data.ServerData.{ServerData}
 use Rattle.roc_server.specs.declared.started.StartedGroup.{StartedGroup}
-use Rattle.roc_server.specs.Inner.Kept.{state_of}
-use Rattle.roc_lists.specs.New.{AreLedTo}
+use Rattle.roc_server.specs.Inner.ServerData.{state_of}
+use Rattle.roc_server_lists.specs.New.{AreLedTo}
 use Rattle.roc_server.specs.Start.{is_immediate_group, edges_for, new_group, start_new, after_start}
 use Rattle.roc_server.specs.Step.{Shows, edges_of_new}
 
 -- e is what is kept of a group that starts, and an immediate one ran
-pub record IsNewGroup (plan : Plan) (shard : Shard) (old new : Kept) (id : TxnId) (c : GroupCall) (e : StartedGroup) : Type 0 where
+pub record IsNewGroup (plan : Plan) (shard : Shard) (old new : ServerData) (id : TxnId) (c : GroupCall) (e : StartedGroup) : Type 0 where
   pub reached : List TxnId
   pub led : AreLedTo old.deps (edges_for plan old.decided (state_of shard old false) id c) reached
   pub is : e ≡ new_group plan old.decided reached (state_of shard old false) id c
@@ -28,13 +28,13 @@ pub record IsNewGroup (plan : Plan) (shard : Shard) (old new : Kept) (id : TxnId
   pub index : new.index ≡ old.index
 
 -- a start was taken, or ignored
-pub record StartTaken (plan : Plan) (shard : Shard) (old new : Kept) (before after : Outbox) (id : TxnId) (c : GroupCall) (answer : Handled) : Type 0 where
+pub record StartTaken (plan : Plan) (shard : Shard) (old new : ServerData) (before after : Outbox) (id : TxnId) (c : GroupCall) (answer : Handled) : Type 0 where
   pub reached : List TxnId
   pub led : AreLedTo old.deps (edges_of_new plan old.decided (state_of shard old false) id c) reached
   pub shown : Shows (after_start plan old.decided reached (state_of shard old false) id c) answer (state_of shard new false) before after
 
 -- a new group started
-pub record StartsNew (plan : Plan) (shard : Shard) (old new : Kept) (before after : Outbox) (id : TxnId) (c : GroupCall) (answer : Handled) : Type 0 where
+pub record StartsNew (plan : Plan) (shard : Shard) (old new : ServerData) (before after : Outbox) (id : TxnId) (c : GroupCall) (answer : Handled) : Type 0 where
   pub reached : List TxnId
   pub led : AreLedTo old.deps (edges_for plan old.decided (state_of shard old false) id c) reached
   pub shown : Shows (start_new plan (state_of shard old false) c (new_group plan old.decided reached (state_of shard old false) id c)) answer (state_of shard new false) before after

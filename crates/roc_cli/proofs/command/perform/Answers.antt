@@ -1,5 +1,5 @@
 use Rattle.std.proofs.Common.{inl, refl, sym, ◌∙◌}
-use Rattle.roc_launch.proofs.Named.{needing_named}
+use Rattle.roc_cli_nodes.proofs.Named.{needing_named}
 use Rattle.roc_cli.proofs.Loading.{launched}
 use Rattle.roc_cli.proofs.Faults.{words_refused}
 use Rattle.roc_cli.proofs.Counts.{none_counted, unlinked, uncounted}

@@ -1,6 +1,6 @@
 use Rattle.std.proofs.Common.{refl, subst}
-use Rattle.roc_words.specs.Answer.{AreWordsOf}
-use Rattle.roc_words.specs.Commands.{command_of}
+use Rattle.roc_cli_words.specs.Answer.{AreWordsOf}
+use Rattle.roc_cli_words.specs.Commands.{command_of}
 use Rattle.roc_cli.proofs.Faults.{print_ends, check_ends, gen_ends}
 use Rattle.roc_cli.proofs.Counts.{gen_reads, gen_blames_no_file}
 use Rattle.roc_cli.proofs.command.perform_alone.Goals as goal

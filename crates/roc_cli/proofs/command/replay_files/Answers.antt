@@ -1,7 +1,7 @@
 use Rattle.std.proofs.Common.{refl}
-use Rattle.roc_words.specs.Commands.{replay}
+use Rattle.roc_cli_words.specs.Commands.{replay}
 use Rattle.roc_cli.proofs.Faults.{plan_fails, behind}
-use Rattle.roc_files.proofs.Reading.{held_later}
+use Rattle.roc_cli_files.proofs.Reading.{held_later}
 use Rattle.roc_cli.proofs.command.replay_files.Goals as goal
 
 -- the replay

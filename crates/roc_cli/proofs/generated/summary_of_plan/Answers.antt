@@ -1,6 +1,6 @@
 use Rattle.std.proofs.Common.{None, sym, subst}
 use Rattle.roc_generate.specs.Load.{IsLoadOf}
-use Rattle.roc_generate.specs.Schedule_text.{generated_lines}
+use Rattle.roc_generate.specs.ScheduleText.{generated_lines}
 use Rattle.roc_replay.specs.Ended.{IsReplayed}
 use Rattle.roc_cli.proofs.Loads.{load_is_right, generated_run}
 use Rattle.roc_cli.proofs.generated.summary_of_plan.Goals as goal

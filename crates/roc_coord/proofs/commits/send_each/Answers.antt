@@ -11,8 +11,8 @@ use Rattle.roc_coord.proofs.commits.send_each.Goals as goal
 
 pub loop-shard-init : goal.loop-shard-init
 loop-shard-init c =
-    let with_messages : List Outgoing → Outbox = λ m. record c.args.out.now { messages = m } in
-    ap with_messages (sym (append-nil c.args.out.now.messages))
+    let with_messages : List Outgoing → Outbox = λ m. record c.args.outbox.now { messages = m } in
+    ap with_messages (sym (append-nil c.args.outbox.now.messages))
 
 pub loop-shard-preserved : goal.loop-shard-preserved
 loop-shard-preserved c =
@@ -21,8 +21,8 @@ loop-shard-preserved c =
     let shard : Shard = get_or c.args.shards.now i none in
     let with_edges : List Dependency → Outgoing = λ edges. commit_with c.args.id edges c.in_ok-clone-2.field-0 shard in
     let with_facts : List KnownList → Outgoing = λ facts. commit_with c.args.id c.args.edges.now facts shard in
-    sent_one_more (commit_with c.args.id c.args.edges.now c.args.facts.now) c.args.shards.now i shard none c.args.out.now c.loop-shard.out c.send.new.self (commit_with c.args.id c.in_ok-clone.field-0 c.in_ok-clone-2.field-0 shard)
+    sent_one_more (commit_with c.args.id c.args.edges.now c.args.facts.now) c.args.shards.now i shard none c.args.outbox.now c.loop-shard.outbox c.send.new.self (commit_with c.args.id c.in_ok-clone.field-0 c.in_ok-clone-2.field-0 shard)
     c.loop-shard-test.true refl c.loop-shard.invariant (ap with_edges c.in_ok-clone.ensures.cases ∙ ap with_facts c.in_ok-clone-2.ensures.cases) c.in_ok-send.ensures.ok
 
 pub returns : goal.returns
-returns c = sent_all (commit_with c.args.id c.args.edges.now c.args.facts.now) c.args.shards.now c.loop-shard.shard-index c.args.out.now c.loop-shard.out c.loop-shard-test.false c.loop-shard.invariant
+returns c = sent_all (commit_with c.args.id c.args.edges.now c.args.facts.now) c.args.shards.now c.loop-shard.shard-index c.args.outbox.now c.loop-shard.outbox c.loop-shard-test.false c.loop-shard.invariant

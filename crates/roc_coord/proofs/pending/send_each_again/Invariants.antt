@@ -4,4 +4,4 @@ use Rattle.roc_coord.specs.Tick.{sent_again}
 use Rattle.roc_coord.proofs.pending.send_each_again.Given as goal
 
 abbrev pub invariant-loop-x : goal.invariant-loop-x
-invariant-loop-x l = l.out ≡ record l.initial.out { messages = l.initial.out.messages ++ flat_map (sent_again l.plan) (take l.x-index l.transactions) }
+invariant-loop-x l = l.outbox ≡ record l.initial.outbox { messages = l.initial.outbox.messages ++ flat_map (sent_again l.plan) (take l.x-index l.transactions) }

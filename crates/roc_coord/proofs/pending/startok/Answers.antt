@@ -12,14 +12,14 @@ pub returns-in_default-clause-step : goal.returns-in_default-clause-step
 returns-in_default-clause-step c =
     let is_own : Transaction → Bool = λ x. is_txn x.id c.args.id in
     let place = ap (position is_own) (sym c.deref.ensures.value) ∙ sym c.place_of.ensures ∙ c.in_default.is in
-    λ s same. startok_absent c.args.plan.now c.args.transactions.now.items s same c.args.id c.args.ok c.args.shard c.args.out.now place
+    λ s same. startok_absent c.args.plan.now c.args.transactions.now.items s same c.args.id c.args.ok c.args.shard c.args.outbox.now place
 
 pub returns-in-Some-startok_refusal-clause-step : goal.returns-in-Some-startok_refusal-clause-step
 returns-in-Some-startok_refusal-clause-step c =
     let is_own : Transaction → Bool = λ x. is_txn x.id c.args.id in
     let place = ap (position is_own) (sym c.deref.ensures.value) ∙ sym c.place_of.ensures ∙ c.in-Some.is in
     λ s same.
-    startok_refused c.args.plan.now c.args.transactions.now.items s same c.args.id c.in-Some.at place c.index.result.now c.index.ensures c.args.ok c.args.shard c.args.out.now c.in-Some-startok_refusal.reason
+    startok_refused c.args.plan.now c.args.transactions.now.items s same c.args.id c.in-Some.at place c.index.result.now c.index.ensures c.args.ok c.args.shard c.args.outbox.now c.in-Some-startok_refusal.reason
     (sym c.startok_refusal.ensures.reason ∙ c.in-Some-startok_refusal.is)
 
 pub returns-in_err-take_startok-clause-ids : goal.returns-in_err-take_startok-clause-ids
@@ -34,7 +34,7 @@ returns-clause-step c =
     let one = same_element xs c.in-Some.at c.index_mut.result.now c.index.result.now ((place_found is_own xs c.in-Some.at place).within) c.index_mut.ensures.value c.index.ensures in
     let none = ap (λ x. startok_refusal c.args.plan.now x c.args.ok c.args.shard) one ∙ sym c.startok_refusal.ensures.reason ∙ c.in_default-startok_refusal.is in
     λ s same.
-    startok_done c.args.plan.now xs s same c.args.id c.in-Some.at place c.index_mut.result.now c.index_mut.ensures.value c.args.ok c.args.shard c.args.out.now c.take_startok.new.out c.take_startok.new.x c.requires.rising none
+    startok_done c.args.plan.now xs s same c.args.id c.in-Some.at place c.index_mut.result.now c.index_mut.ensures.value c.args.ok c.args.shard c.args.outbox.now c.take_startok.new.outbox c.take_startok.new.x c.requires.rising none
     c.in_ok-take_startok.ensures.kept c.take_startok.ensures.id c.in_ok-take_startok.ensures.sent
 
 pub returns-clause-ids : goal.returns-clause-ids

@@ -9,8 +9,8 @@ use Rattle.roc_coord.proofs.starts.resend_each.Goals as goal
 
 pub loop-group-init : goal.loop-group-init
 loop-group-init c =
-    let with_messages : List Outgoing → Outbox = λ m. record c.args.out.now { messages = m } in
-    ap with_messages (sym (append-nil c.args.out.now.messages))
+    let with_messages : List Outgoing → Outbox = λ m. record c.args.outbox.now { messages = m } in
+    ap with_messages (sym (append-nil c.args.outbox.now.messages))
 
 pub start_for-requires : goal.start_for-requires
 start_for-requires c = record { transaction = c.requires.transaction; group = c.requires.groups c.loop-group.group-index 0 c.loop-group-test.true }
@@ -18,8 +18,8 @@ start_for-requires c = record { transaction = c.requires.transaction; group = c.
 pub loop-group-preserved : goal.loop-group-preserved
 loop-group-preserved c =
     let i = c.loop-group.group-index in
-    sent_one_more (start_for c.args.plan.now c.args.x.now) c.args.groups.now i (get_or c.args.groups.now i 0) 0 c.args.out.now c.loop-group.out c.send.new.self (record { to = Server c.in_ok-shard.shard; msg = c.in_ok-shard.start })
+    sent_one_more (start_for c.args.plan.now c.args.x.now) c.args.groups.now i (get_or c.args.groups.now i 0) 0 c.args.outbox.now c.loop-group.outbox c.send.new.self (record { to = Server c.in_ok-shard.shard; msg = c.in_ok-shard.start })
     c.loop-group-test.true refl c.loop-group.invariant c.in_ok-shard.ensures.start c.in_ok-send.ensures.ok
 
 pub returns : goal.returns
-returns c = sent_all (start_for c.args.plan.now c.args.x.now) c.args.groups.now c.loop-group.group-index c.args.out.now c.loop-group.out c.loop-group-test.false c.loop-group.invariant
+returns c = sent_all (start_for c.args.plan.now c.args.x.now) c.args.groups.now c.loop-group.group-index c.args.outbox.now c.loop-group.outbox c.loop-group-test.false c.loop-group.invariant

@@ -6,6 +6,6 @@ use Rattle.roc_coord.proofs.starts.send_each.Given as goal
 abbrev pub invariant-loop-group : goal.invariant-loop-group
 invariant-loop-group l = record {
   kept : l.x ≡ record l.initial.x { starts = l.initial.x.starts ++ map (sent_start l.plan l.initial.x) (take l.group-index l.ready) };
-  sent : l.out ≡ record l.initial.out { messages = l.initial.out.messages ++ map (start_for l.plan l.initial.x) (take l.group-index l.ready) };
+  sent : l.outbox ≡ record l.initial.outbox { messages = l.initial.outbox.messages ++ map (start_for l.plan l.initial.x) (take l.group-index l.ready) };
   fits : IsTransactionOf l.plan l.x;
 }

@@ -16,8 +16,8 @@ returns-else-all_started-clause-sent c =
     let x = with_startok c.args.x.now c.args.ok in
     let y = c.send_starts.new.x in
     let kept = started c.args.plan.now c.args.x.now y c.args.ok c.push.new.self c.in_ok-push.ensures.ok c.in_ok-send_starts.ensures.kept in
-    let sent = starts_sent c.args.plan.now c.args.x.now c.args.ok c.push.new.self c.args.out.now c.send_starts.new.out c.in_ok-push.ensures.ok c.in_ok-send_starts.ensures.sent in
-    sent_while_some_wait c.args.plan.now x y kept c.args.out.now c.send_starts.new.out (sym c.all_started.ensures ∙ c.if-all_started.false) sent
+    let sent = starts_sent c.args.plan.now c.args.x.now c.args.ok c.push.new.self c.args.outbox.now c.send_starts.new.outbox c.in_ok-push.ensures.ok c.in_ok-send_starts.ensures.sent in
+    sent_while_some_wait c.args.plan.now x y kept c.args.outbox.now c.send_starts.new.outbox (sym c.all_started.ensures ∙ c.if-all_started.false) sent
 
 pub returns-in_ok-send_commits-clause-kept : goal.returns-in_ok-send_commits-clause-kept
 returns-in_ok-send_commits-clause-kept c =
@@ -31,5 +31,5 @@ returns-in_ok-send_commits-clause-sent c =
     let x = with_startok c.args.x.now c.args.ok in
     let y = c.send_starts.new.x in
     let kept = started c.args.plan.now c.args.x.now y c.args.ok c.push.new.self c.in_ok-push.ensures.ok c.in_ok-send_starts.ensures.kept in
-    let sent = starts_sent c.args.plan.now c.args.x.now c.args.ok c.push.new.self c.args.out.now c.send_starts.new.out c.in_ok-push.ensures.ok c.in_ok-send_starts.ensures.sent in
-    sent_where_none_wait c.args.plan.now x y kept c.args.out.now c.send_starts.new.out c.send_commits.new.out (sym c.all_started.ensures ∙ c.if-all_started.true) sent c.in_ok-send_commits.ensures.sent
+    let sent = starts_sent c.args.plan.now c.args.x.now c.args.ok c.push.new.self c.args.outbox.now c.send_starts.new.outbox c.in_ok-push.ensures.ok c.in_ok-send_starts.ensures.sent in
+    sent_where_none_wait c.args.plan.now x y kept c.args.outbox.now c.send_starts.new.outbox c.send_commits.new.outbox (sym c.all_started.ensures ∙ c.if-all_started.true) sent c.in_ok-send_commits.ensures.sent

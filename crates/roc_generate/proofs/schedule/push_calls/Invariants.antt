@@ -3,7 +3,7 @@ use Rattle.std.specs.List.{flat_map}
 use Rattle.std.specs.String.{string_bytes}
 use Rattle.roc_generate.specs.Draws.{state_after}
 use Rattle.roc_generate.specs.Drawn.{drawn_calls}
-use Rattle.roc_generate.specs.Schedule_text.{act_line}
+use Rattle.roc_generate.specs.ScheduleText.{act_line}
 use Rattle.roc_generate.proofs.schedule.push_calls.Given as goal
 
 -- what is left, from here, is everything from the start

@@ -1,7 +1,7 @@
 use Rattle.std.proofs.Common.{◌≡◌, ◌-◌, ◌++◌}
 use Rattle.std.specs.List.{flat_map, range_with_len}
 use Rattle.std.specs.String.{string_bytes}
-use Rattle.roc_generate.specs.Workload_text.{account_line}
+use Rattle.roc_generate.specs.WorkloadText.{account_line}
 use Rattle.roc_generate.proofs.workload.push_accounts.Given as goal
 
 -- what is left, from here, is everything from the start

@@ -1,5 +1,5 @@
 use Rattle.std.proofs.Common.{refl}
-use Rattle.roc_group.specs.Group_run.{group_pieces, begin}
+use Rattle.roc_group.specs.GroupRun.{group_pieces, begin}
 use Rattle.roc_group.proofs.Effects.{run_alike, pieces-others}
 use Rattle.roc_group.proofs.laws.runs_follow_from_cells.Goals as goal
 

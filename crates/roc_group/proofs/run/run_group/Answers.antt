@@ -6,7 +6,7 @@ use Rattle.roc_whole.specs.Run.{progress, behind, after_pieces}
 use Rattle.roc_whole.proofs.Replies.{after_pieces-said}
 use Rattle.roc_plan.specs.Groups.{procedure_of, group_of, pieces_at, bound_in, environment_in}
 use Rattle.roc_group.specs.Accesses.{uses_of_pieces}
-use Rattle.roc_group.specs.Group_run.{call, begin, group_run}
+use Rattle.roc_group.specs.GroupRun.{call, begin, group_run}
 use Rattle.roc_group.proofs.Ran.{uses_said, ok_then, ok_both}
 use Rattle.roc_group.proofs.Read.{read, pieces_there, keys_read, steady_read}
 use Rattle.roc_group.proofs.run.run_group.Goals as goal

@@ -2,7 +2,7 @@ use Rattle.std.proofs.Common.{◌∙◌, ◌<◌, List, ℕ, length, sym, subst}
 use Rattle.std.specs.List.{AllByRecursion, flat_map}
 use Rattle.roc_program.specs.Parts as pure
 use Rattle.roc_plan.specs.Groups.{pieces_at}
-use Rattle.roc_group.specs.Group_run.{call}
+use Rattle.roc_group.specs.GroupRun.{call}
 use Rattle.roc_group.specs.Inner.Steady.{uses_with}
 use Rattle.roc_group.proofs.Read.{procedure_there, read, pieces_there, keys_read}
 use Rattle.roc_group.proofs.Steady.{uses_deferrable}

@@ -1,7 +1,7 @@
 -- The datagrams before this one were sent, all but those that were counted as lost.
 use Rattle.std.proofs.Common.{◌≡◌, ◌-◌, ◌<◌, ◌≤◌, take}
 use Rattle.roc_io.specs.Cause.{last_count}
-use Rattle.roc_io.specs.Told.{AddsAllBut}
+use Rattle.roc_io.specs.Observed.{AddsAllBut}
 use Rattle.roc_io.proofs.link.send_all.Given as goal
 
 abbrev pub invariant-loop-datagram : goal.invariant-loop-datagram

@@ -1,7 +1,7 @@
 -- No write failed so far, and the pieces before this one were taken whole.
 use Rattle.std.proofs.Common.{◌≡◌, take}
 use Rattle.std.specs.List.{flat_map}
-use Rattle.roc_io.specs.Told.{Adds}
+use Rattle.roc_io.specs.Observed.{Adds}
 use Rattle.roc_io.proofs.sink.write_all.Given as goal
 
 abbrev pub invariant-loop-piece : goal.invariant-loop-piece

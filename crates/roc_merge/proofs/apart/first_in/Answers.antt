@@ -2,7 +2,7 @@ use Rattle.std.proofs.Common.{sym, subst, inl, inr, arith}
 use Rattle.std.proofs.lemmas.Bool.{cases_eq}
 use Rattle.roc_conflict.specs.Classes.{is_immediate}
 use Rattle.roc_merge.specs.Inner.Firsts.{IsJoined}
-use Rattle.roc_accept.proofs.Tested.{contended_there}
+use Rattle.roc_merge_accept.proofs.Tested.{contended_there}
 use Rattle.roc_merge.proofs.Firsts.{joined_by, first_pair}
 use Rattle.roc_merge.proofs.apart.first_in.Goals as goal
 

@@ -2,7 +2,7 @@ use Rattle.std.proofs.Common.{sym, subst, inl, inr, arith}
 use Rattle.std.proofs.lemmas.Bool.{cases_eq}
 use Rattle.roc_conflict.specs.Classes.{is_immediate}
 use Rattle.roc_merge.specs.Inner.Firsts.{IsClear}
-use Rattle.roc_accept.proofs.Tested.{contended_there}
+use Rattle.roc_merge_accept.proofs.Tested.{contended_there}
 use Rattle.roc_merge.proofs.Firsts.{clear_by, first_three}
 use Rattle.roc_merge.proofs.between.first_in.Goals as goal
 

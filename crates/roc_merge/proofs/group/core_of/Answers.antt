@@ -2,7 +2,7 @@ use Rattle.std.proofs.Common.{◌+◌, set}
 use Rattle.std.proofs.Common.{ℕ, ◌<◌, length, sym, subst, arith}
 use Rattle.roc_conflict.specs.Classes.{is_immediate}
 use Rattle.roc_program.specs.Pieces.{pieces_in}
-use Rattle.roc_groups.specs.Core.{InCore}
+use Rattle.roc_merge_groups.specs.Core.{InCore}
 use Rattle.roc_merge.proofs.Rows.{IsHeld, held_all, held_more}
 use Rattle.roc_merge.proofs.Flows.{core_by, core_there}
 use Rattle.roc_merge.proofs.group.core_of.Goals as goal

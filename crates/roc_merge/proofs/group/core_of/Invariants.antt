@@ -1,5 +1,5 @@
 use Rattle.roc_conflict.specs.Classes.{is_immediate}
-use Rattle.roc_groups.specs.Core.{InCore}
+use Rattle.roc_merge_groups.specs.Core.{InCore}
 use Rattle.roc_merge.proofs.Rows.{IsHeld}
 use Rattle.roc_merge.proofs.group.core_of.Given as goal
 

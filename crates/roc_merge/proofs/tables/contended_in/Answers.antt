@@ -1,9 +1,9 @@
 use Rattle.std.proofs.Common.{IsTrue, arith}
 use Rattle.roc_conflict.specs.Classes.{is_immediate}
 use Rattle.roc_conflict.specs.Contended.{is_contended}
-use Rattle.roc_groups.specs.Groups.{piece_numbered}
+use Rattle.roc_merge_groups.specs.Groups.{piece_numbered}
 use Rattle.roc_merge.proofs.Rows.{held_all}
-use Rattle.roc_accept.proofs.Tested.{contended_there}
+use Rattle.roc_merge_accept.proofs.Tested.{contended_there}
 use Rattle.roc_merge.proofs.tables.contended_in.Goals as goal
 
 pub returns : goal.returns

@@ -1,7 +1,7 @@
 use Rattle.std.proofs.Common.{IsTrue}
 use Rattle.roc_conflict.specs.Classes.{is_immediate}
 use Rattle.roc_conflict.specs.Contended.{is_contended}
-use Rattle.roc_groups.specs.Groups.{piece_numbered}
+use Rattle.roc_merge_groups.specs.Groups.{piece_numbered}
 use Rattle.roc_merge.proofs.Rows.{IsHeld}
 use Rattle.roc_merge.proofs.tables.contended_in.Given as goal
 

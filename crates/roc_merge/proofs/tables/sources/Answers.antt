@@ -1,5 +1,5 @@
 use Rattle.std.proofs.Common.{◌≡◌, true, IsTrue, ◌<◌, set, sym, subst, ◌∙◌, ◌↔◌, arith, ℕ}
-use Rattle.roc_groups.specs.Flow.{feeds, Leads}
+use Rattle.roc_merge_groups.specs.Flow.{feeds, Leads}
 use Rattle.roc_merge.specs.Inner.Tables.{holds}
 use Rattle.roc_merge.proofs.Flows.{AreSources, sources_self, sources_alone}
 use Rattle.roc_merge.proofs.tables.sources.Goals as goal

@@ -1,6 +1,6 @@
 use Rattle.std.proofs.Common.{◌∙◌, sym, arith}
-use Rattle.roc_groups.specs.Groups.{piece_numbered}
-use Rattle.roc_groups.proofs.Accepting.{some_group}
+use Rattle.roc_merge_groups.specs.Groups.{piece_numbered}
+use Rattle.roc_merge_groups.proofs.Accepting.{some_group}
 use Rattle.roc_plan.specs.Accepted.{grouping_of, is_piece_immediate}
 use Rattle.roc_plan.proofs.Classed.{class_of_piece}
 use Rattle.roc_plan.proofs.Placed.{count_again}

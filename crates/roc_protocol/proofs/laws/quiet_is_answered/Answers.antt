@@ -1,6 +1,6 @@
 use Rattle.std.proofs.Common.{inl, refl}
 use Rattle.roc_base.specs.declared.id.TxnId.{TxnId}
-use Rattle.roc_execution.specs.Scheme.{Scheme, IsSoundScheme}
+use Rattle.roc_law_log.specs.Scheme.{Scheme, IsSoundScheme}
 use Rattle.roc_protocol.specs.Inner.Given.{LogLaws}
 use Rattle.roc_whole.specs.Serial.{start_store}
 use Rattle.roc_protocol.proofs.Heard.{AreDelivered, CommitsAreOut}

@@ -3,7 +3,7 @@ use Rattle.std.proofs.Common.{◌≡◌, drop, take}
 use Rattle.roc_sched.specs.Each.{each}
 use Rattle.roc_sched.specs.Schedule.{item_of}
 use Rattle.roc_sched.proofs.Loops.{with_front}
-use Rattle.roc_replay.specs.Asked.{asked_by}
+use Rattle.roc_replay.specs.BoundLine.{asked_by}
 use Rattle.roc_replay.specs.Inner.Reading.{DoFit}
 use Rattle.roc_replay.proofs.asking.all_asked.Given as goal
 

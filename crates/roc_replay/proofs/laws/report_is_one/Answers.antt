@@ -1,5 +1,5 @@
 use Rattle.std.proofs.Common.{List, map, sym, ap, ◌∙◌}
-use Rattle.roc_replay.specs.declared.asked.Asked.{Asked}
+use Rattle.roc_replay.specs.declared.asked.BoundLine.{BoundLine}
 use Rattle.roc_replay.proofs.Schedules.{one_schedule}
 use Rattle.roc_replay.proofs.Playing.{one_played}
 use Rattle.roc_replay.proofs.OneReport.{one_report}
@@ -12,4 +12,4 @@ pub returns-clause-schedules : goal.returns-clause-schedules
 returns-clause-schedules c plan some other lines of_some of_other s t o n p q r z =
     let one = one_schedule plan.program c.lines_are_unique.ensures.schedules in
     let alike = one some r.lines lines r.of_schedule of_some ∙ sym (one other z.lines lines z.of_schedule of_other) in
-    one_report plan some other s t o n p q r z (one_played plan (c.step_is_one.ensures plan) r.played z.played (ap (λ (ls : List Asked). map (λ l. l.wanted) ls) alike))
+    one_report plan some other s t o n p q r z (one_played plan (c.step_is_one.ensures plan) r.played z.played (ap (λ (ls : List BoundLine). map (λ l. l.wanted) ls) alike))

@@ -1,4 +1,4 @@
-use Rattle.roc_replay.specs.Asked.{coordinators}
+use Rattle.roc_replay.specs.BoundLine.{coordinators}
 use Rattle.roc_replay.proofs.Sendable.{played_there, played_sends}
 use Rattle.roc_replay.proofs.Schedules.{asked_fit}
 use Rattle.roc_replay.proofs.laws.sent_schedules_are_played.Goals as goal

@@ -4,7 +4,7 @@ use Rattle.roc_program.specs.Program.{Workload}
 use Rattle.roc_protocol.specs.declared.event.Event.{Event}
 use Rattle.roc_report.specs.Line.{Nothing}
 use Rattle.roc_report.specs.Text.{lines_text}
-use Rattle.roc_replay.specs.Asked.{chosen}
+use Rattle.roc_replay.specs.BoundLine.{chosen}
 use Rattle.roc_replay.specs.Played.{IsPlayedLine}
 use Rattle.roc_replay.proofs.NothingPlayed.{nothing_played}
 use Rattle.roc_replay.proofs.play.play_any.Goals as goal

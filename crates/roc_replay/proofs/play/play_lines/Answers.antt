@@ -1,9 +1,9 @@
 -- What is so far, goes on with each line, and what it comes to at each end.
 use Rattle.std.proofs.Common.{◌≡◌, ◌+◌, List, length, take, true, refl, subst, ◌∙◌}
 use Rattle.roc_sequence.proofs.Fronts.{front_more, front_whole}
-use Rattle.roc_io.specs.Told.{Adds, AddsFront}
+use Rattle.roc_io.specs.Observed.{Adds, AddsFront}
 use Rattle.roc_program.specs.Program.{Workload}
-use Rattle.roc_replay.specs.declared.asked.Asked.{Asked}
+use Rattle.roc_replay.specs.declared.asked.BoundLine.{BoundLine}
 use Rattle.roc_replay.specs.Inner.Closed.{IsClosed, wants_unsent}
 use Rattle.roc_replay.proofs.Exits.{unsent_end, stopped_end, failed_end, closed_end}
 use Rattle.roc_replay.proofs.SoFar.{IsSoFar, nothing_so_far, one_more}
@@ -30,7 +30,7 @@ returns-in-Failed-clause-ends g c schedule of =
 pub loop-line-preserved : goal.loop-line-preserved
 loop-line-preserved g c = (
   c.in_default-write.ensures.cause ∙ c.loop-line.invariant.0,
-  subst (λ (lines : List Asked). IsSoFar c.args.plan.now lines c.play_line.new.world (c.loop-line.busy + c.in-Ok.played.busy) (g.S.Sink.taken c.args.sink.now) (g.S.Sink.taken c.write.new.self))
+  subst (λ (lines : List BoundLine). IsSoFar c.args.plan.now lines c.play_line.new.world (c.loop-line.busy + c.in-Ok.played.busy) (g.S.Sink.taken c.args.sink.now) (g.S.Sink.taken c.write.new.self))
       (front_more c.args.lines.now c.loop-line.line-index c.line-item.result c.loop-line-test.true c.line-item.is)
       (one_more c.args.plan.now (take c.loop-line.line-index c.args.lines.now) c.line-item.result c.loop-line.world c.play_line.new.world _ c.loop-line.busy c.in-Ok.played.busy _ _ _
       c.loop-line.invariant.1 c.in-Ok.ensures.played c.in-Ok.ensures.fits c.in-Ok.ensures.coords c.in-Ok.ensures.few
@@ -41,5 +41,5 @@ pub returns-clause-ends : goal.returns-clause-ends
 returns-clause-ends g c schedule of =
     let is_closed : Workload → Type 0 = λ program. IsClosed program c.loop-line.world c.loop-line.busy c.close.result (g.S.Sink.taken c.loop-line.sink) (g.S.Sink.taken c.close.new.sink) in
     closed_end c.args.plan.now schedule c.args.lines.now of (λ coords steps w run. c.report_explains_itself.ensures c.args.plan.now coords steps w c.workload.ensures.accepted run) c.loop-line.world c.loop-line.busy _ _ _
-    (subst (λ (lines : List Asked). IsSoFar c.args.plan.now lines c.loop-line.world c.loop-line.busy (g.S.Sink.taken c.args.sink.now) (g.S.Sink.taken c.loop-line.sink)) (front_whole c.args.lines.now c.loop-line.line-index c.loop-line-test.false) c.loop-line.invariant.1)
+    (subst (λ (lines : List BoundLine). IsSoFar c.args.plan.now lines c.loop-line.world c.loop-line.busy (g.S.Sink.taken c.args.sink.now) (g.S.Sink.taken c.loop-line.sink)) (front_whole c.args.lines.now c.loop-line.line-index c.loop-line-test.false) c.loop-line.invariant.1)
     c.close.result (subst is_closed c.workload.ensures.program c.close.ensures.closed)

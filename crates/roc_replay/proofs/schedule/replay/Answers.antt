@@ -1,7 +1,7 @@
 use Rattle.std.proofs.Common.{List, sym, subst}
 use Rattle.roc_sched.specs.declared.fault.TextFault.{TextFault}
-use Rattle.roc_replay.specs.declared.asked.Asked.{Asked}
-use Rattle.roc_replay.specs.Asked.{IsScheduleOf}
+use Rattle.roc_replay.specs.declared.asked.BoundLine.{BoundLine}
+use Rattle.roc_replay.specs.BoundLine.{IsScheduleOf}
 use Rattle.roc_replay.specs.Inner.Reading.{IsBlamed}
 use Rattle.roc_replay.proofs.Complete.{whole_end}
 use Rattle.roc_replay.proofs.Schedules.{one_schedule, not_blamed}
@@ -19,6 +19,6 @@ pub returns-clause-complete : goal.returns-clause-complete
 returns-clause-complete g c lines of sends same room =
     let plan = c.args.plan.now in
     let schedule = c.args.schedule.now in
-    let is_schedule_of : List Asked → Type 0 = λ asked. IsScheduleOf plan.program schedule asked in
+    let is_schedule_of : List BoundLine → Type 0 = λ asked. IsScheduleOf plan.program schedule asked in
     whole_end plan schedule lines of sends (one_schedule plan.program c.lines_are_unique.ensures.schedules) c.play.result _ _ _ _
     (c.play.ensures.ends schedule (subst is_schedule_of (sym c.as_slice.ensures) c.in-Ok.ensures.found)) c.play.ensures.sink same room

@@ -5,4 +5,4 @@ use Rattle.roc_server.proofs.commitoks.send_commitoks.Given as goal
 
 -- those so far that have a group here were answered
 abbrev pub invariant-loop-id : goal.invariant-loop-id
-invariant-loop-id l = l.out ≡ record l.initial.out { messages = l.initial.out.messages ++ map (commitok l.plan l.shard l.started) (filter (λ t. is_here t l.started) (take l.id-index l.ids)) }
+invariant-loop-id l = l.outbox ≡ record l.initial.outbox { messages = l.initial.outbox.messages ++ map (commitok l.plan l.shard l.started) (filter (λ t. is_here t l.started) (take l.id-index l.ids)) }

@@ -1,6 +1,6 @@
 use Rattle.std.proofs.Common.{true, false, sym, ◌∙◌}
-use Rattle.roc_server.specs.Inner.Kept.{state_of}
-use Rattle.roc_server.proofs.Commit_steps.{fault_is}
+use Rattle.roc_server.specs.Inner.ServerData.{state_of}
+use Rattle.roc_server.proofs.CommitSteps.{fault_is}
 use Rattle.roc_server.proofs.commits.commit_fault.Goals as goal
 
 pub returns-then-commit_differs : goal.returns-then-commit_differs

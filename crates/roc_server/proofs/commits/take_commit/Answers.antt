@@ -1,14 +1,14 @@
 use Rattle.std.proofs.Common.{List, sym, subst, ◌∙◌}
 use Rattle.roc_depgraph.specs.declared.known.KnownList.{KnownList}
 use Rattle.roc_await.specs.Learning.{AreLearnable}
-use Rattle.roc_server.proofs.Commit_steps.{commit_ignored, commit_taught, commit_repeated}
-use Rattle.roc_lists.proofs.Learnable.{carried_learnable}
-use Rattle.roc_server.proofs.Same_groups.{fits_same}
+use Rattle.roc_server.proofs.CommitSteps.{commit_ignored, commit_taught, commit_repeated}
+use Rattle.roc_server_lists.proofs.Learnable.{carried_learnable}
+use Rattle.roc_server.proofs.SameGroups.{fits_same}
 use Rattle.roc_server.proofs.commits.take_commit.Goals as goal
 
 pub returns-in-Some-clause-step : goal.returns-in-Some-clause-step
 returns-in-Some-clause-step c =
-    commit_ignored c.args.plan.now c.args.shard c.args.kept.now c.args.out.now c.args.id c.args.edges.now c.args.facts.now c.in-Some.reason (sym (c.commit_fault.ensures c.args.shard) ∙ c.in-Some.is)
+    commit_ignored c.args.plan.now c.args.shard c.args.kept.now c.args.outbox.now c.args.id c.args.edges.now c.args.facts.now c.in-Some.reason (sym (c.commit_fault.ensures c.args.shard) ∙ c.in-Some.is)
 
 pub teach-requires-clause-learnable : goal.teach-requires-clause-learnable
 teach-requires-clause-learnable c =
@@ -21,8 +21,8 @@ send_commitok-requires c =
 
 pub returns-then-again-clause-step : goal.returns-then-again-clause-step
 returns-then-again-clause-step c =
-    commit_repeated c.args.plan.now c.args.shard c.args.kept.now c.args.out.now c.args.id c.args.edges.now c.args.facts.now c.teach.new.kept c.teach.new.out c.deref.result.now (sym (c.commit_fault.ensures c.args.shard) ∙ c.in_default.is)
-    (c.deref.ensures.value ∙ c.in_ok-news.ensures) c.in_ok-teach.ensures c.send_commitok.new.out
+    commit_repeated c.args.plan.now c.args.shard c.args.kept.now c.args.outbox.now c.args.id c.args.edges.now c.args.facts.now c.teach.new.kept c.teach.new.outbox c.deref.result.now (sym (c.commit_fault.ensures c.args.shard) ∙ c.in_default.is)
+    (c.deref.ensures.value ∙ c.in_ok-news.ensures) c.in_ok-teach.ensures c.send_commitok.new.outbox
     (sym c.contains-again.ensures ∙ c.if-again.true)
     c.in_ok-send_commitok.ensures
 
@@ -31,7 +31,7 @@ returns-then-again-clause-fits c = fits_same c.args.plan.now c.args.kept.now.sta
 
 pub returns-clause-step : goal.returns-clause-step
 returns-clause-step c =
-    commit_taught c.args.plan.now c.args.shard c.args.kept.now c.args.out.now c.args.id c.args.edges.now c.args.facts.now c.teach.new.kept c.teach.new.out c.deref.result.now (sym (c.commit_fault.ensures c.args.shard) ∙ c.in_default.is)
+    commit_taught c.args.plan.now c.args.shard c.args.kept.now c.args.outbox.now c.args.id c.args.edges.now c.args.facts.now c.teach.new.kept c.teach.new.outbox c.deref.result.now (sym (c.commit_fault.ensures c.args.shard) ∙ c.in_default.is)
     (c.deref.ensures.value ∙ c.in_ok-news.ensures) c.in_ok-teach.ensures
     (sym c.contains-again.ensures ∙ c.if-again.false)
 

@@ -1,16 +1,16 @@
 use Rattle.std.proofs.Common.{sym, ◌∙◌}
-use Rattle.roc_server.proofs.Fetch_steps.{fetch_ignored, fetch_told, fetch_kept, fetch_sound}
+use Rattle.roc_server.proofs.FetchSteps.{fetch_ignored, fetch_told, fetch_kept, fetch_sound}
 use Rattle.roc_server.proofs.fetches.take_fetch.Goals as goal
 
 pub returns-then-not-is_here-clause-step : goal.returns-then-not-is_here-clause-step
-returns-then-not-is_here-clause-step c = fetch_ignored c.args.shard c.args.kept.now c.args.id c.args.asker c.args.out.now (sym c.is_here.ensures ∙ c.if-not-is_here.true)
+returns-then-not-is_here-clause-step c = fetch_ignored c.args.shard c.args.kept.now c.args.id c.args.asker c.args.outbox.now (sym c.is_here.ensures ∙ c.if-not-is_here.true)
 
 pub returns-then-not-is_here-clause-sound : goal.returns-then-not-is_here-clause-sound
 returns-then-not-is_here-clause-sound c = c.requires.sound
 
 pub returns-in_ok-send_known-in-Some-clause-step : goal.returns-in_ok-send_known-in-Some-clause-step
 returns-in_ok-send_known-in-Some-clause-step c =
-    fetch_told c.args.shard c.args.kept.now c.args.id c.args.asker (sym c.is_here.ensures ∙ c.if-not-is_here.false) c.in-Some.edges.now c.args.out.now c.send_known.new.out c.in-Some.ensures
+    fetch_told c.args.shard c.args.kept.now c.args.id c.args.asker (sym c.is_here.ensures ∙ c.if-not-is_here.false) c.in-Some.edges.now c.args.outbox.now c.send_known.new.outbox c.in-Some.ensures
     c.in_ok-send_known-in-Some.ensures
 
 pub returns-in_ok-send_known-in-Some-clause-sound : goal.returns-in_ok-send_known-in-Some-clause-sound
@@ -18,7 +18,7 @@ returns-in_ok-send_known-in-Some-clause-sound c = c.requires.sound
 
 pub returns-in_ok-keep_asker-in-None-clause-step : goal.returns-in_ok-keep_asker-in-None-clause-step
 returns-in_ok-keep_asker-in-None-clause-step c =
-    fetch_kept c.args.shard c.args.kept.now c.args.id c.args.asker (sym c.is_here.ensures ∙ c.if-not-is_here.false) c.keep_asker.new.self c.args.out.now c.in-None.ensures
+    fetch_kept c.args.shard c.args.kept.now c.args.id c.args.asker (sym c.is_here.ensures ∙ c.if-not-is_here.false) c.keep_asker.new.self c.args.outbox.now c.in-None.ensures
     c.in_ok-keep_asker-in-None.ensures.ok
 
 pub returns-in_ok-keep_asker-in-None-clause-sound : goal.returns-in_ok-keep_asker-in-None-clause-sound

@@ -4,7 +4,7 @@ use Rattle.roc_program.specs.declared.parts.Init.{Init}
 use Rattle.roc_plan.specs.Groups.{shard_of}
 use Rattle.roc_program.specs.Program as program
 use Rattle.roc_program.specs.Parts as pure
-use Rattle.roc_server.proofs.First_cells.{init_set, init_left}
+use Rattle.roc_server.proofs.FirstCells.{init_set, init_left}
 use Rattle.roc_server.proofs.first.first_rows.Goals as goal
 use Rattle.roc_server.proofs.first.first_rows.Goals.{then-is_here+in_ok-set_init, else-is_here}
 

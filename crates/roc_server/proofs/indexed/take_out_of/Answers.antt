@@ -3,7 +3,7 @@ use Rattle.std.proofs.lemmas.List.Folds.{list_any_more}
 use Rattle.std.specs.List.{list_any}
 use Rattle.roc_rows.specs.Cells.{is_cell}
 use Rattle.roc_group.specs.declared.access.Access.{Access}
-use Rattle.roc_server.proofs.Index_steps.{out_more}
+use Rattle.roc_server.proofs.IndexSteps.{out_more}
 use Rattle.roc_server.proofs.indexed.take_out_of.Goals as goal
 
 pub loop-access-preserved : goal.loop-access-preserved

@@ -1,4 +1,4 @@
-use Rattle.roc_server.proofs.One_step.{one_step}
+use Rattle.roc_server.proofs.OneStep.{one_step}
 use Rattle.roc_server.proofs.laws.step_is_one.Goals as goal
 
 pub returns : goal.returns

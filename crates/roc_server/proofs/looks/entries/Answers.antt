@@ -5,10 +5,10 @@ use Rattle.std.specs.List.{AllByRecursion, flat_map}
 use Rattle.roc_base.specs.Edge.{Dependency}
 use Rattle.roc_base.specs.Edges.{united}
 use Rattle.roc_group.specs.declared.access.Access.{Access}
-use Rattle.roc_index.specs.declared.spot.Spot.{Spot}
-use Rattle.roc_index.specs.Spots.{spots_at}
+use Rattle.roc_server_index.specs.declared.group_ref.GroupRef.{GroupRef}
+use Rattle.roc_server_index.specs.GroupRefs.{group_refs_at}
 use Rattle.roc_server.specs.declared.started.StartedGroup.{StartedGroup}
-use Rattle.roc_server.specs.Inner.Indexed.{IsSpotWithin, is_looked_at}
+use Rattle.roc_server.specs.Inner.Indexed.{IsGroupRefWithin, is_looked_at}
 use Rattle.roc_server.proofs.Stands.{indexed_within}
 use Rattle.roc_server.proofs.Pairs.{looked_within}
 use Rattle.roc_server.proofs.CellByCell.{met_at, all_met}
@@ -18,8 +18,8 @@ pub push_met-requires : goal.push_met-requires
 push_met-requires g c =
     let k = c.args.kept.now in
     let plan = c.args.plan.now in
-    subst (AllByRecursion (IsSpotWithin plan c.as_slice-started.result.now)) (sym c.at-spots.ensures)
-    (subst (λ (es : List StartedGroup). AllByRecursion (IsSpotWithin plan es) (spots_at c.access-item.result.cell k.index)) (sym c.as_slice-started.ensures)
+    subst (AllByRecursion (IsGroupRefWithin plan c.as_slice-started.result.now)) (sym c.at-group_refs.ensures)
+    (subst (λ (es : List StartedGroup). AllByRecursion (IsGroupRefWithin plan es) (group_refs_at c.access-item.result.cell k.index)) (sym c.as_slice-started.ensures)
     (indexed_within plan c.access-item.result.cell k.index k.decided k.started c.requires.fits c.requires.index))
 
 pub returns-in_err-push_met-clause-steps : goal.returns-in_err-push_met-clause-steps
@@ -27,9 +27,9 @@ returns-in_err-push_met-clause-steps g c =
     let k = c.args.kept.now in
     let cells = c.args.cells.now in
     let a = c.access-item.result in
-    let f : Access → List Spot = λ x. filter (is_looked_at c.args.plan.now c.args.starting.id c.args.starting.immediate) (spots_at x.cell k.index) in
-    let here : length (filter (is_looked_at c.args.plan.now c.args.starting.id c.args.starting.immediate) c.at-spots.result.now) ≡ length (f (get_or cells c.loop-access.access-index a)) =
-    ap (λ ss. length (filter (is_looked_at c.args.plan.now c.args.starting.id c.args.starting.immediate) ss)) c.at-spots.ensures ∙ ap (λ x. length (f x)) c.access-item.is in
+    let f : Access → List GroupRef = λ x. filter (is_looked_at c.args.plan.now c.args.starting.id c.args.starting.immediate) (group_refs_at x.cell k.index) in
+    let here : length (filter (is_looked_at c.args.plan.now c.args.starting.id c.args.starting.immediate) c.at-group_refs.result.now) ≡ length (f (get_or cells c.loop-access.access-index a)) =
+    ap (λ ss. length (filter (is_looked_at c.args.plan.now c.args.starting.id c.args.starting.immediate) ss)) c.at-group_refs.ensures ∙ ap (λ x. length (f x)) c.access-item.is in
     let more = length-flat_map-take f cells c.loop-access.access-index a c.loop-access-test.true in
     let all = looked_within c.args.plan.now k.decided c.args.starting.id c.args.starting.immediate k.index k.started c.requires.index cells in
     omega (arith, c.push_met.ensures.steps, c.loop-access.invariant.steps, here, more, all)
@@ -38,7 +38,7 @@ pub returns-in_err-unite-clause-steps : goal.returns-in_err-unite-clause-steps
 returns-in_err-unite-clause-steps g c =
     let k = c.args.kept.now in
     let cells = c.args.cells.now in
-    let f : Access → List Spot = λ x. filter (is_looked_at c.args.plan.now c.args.starting.id c.args.starting.immediate) (spots_at x.cell k.index) in
+    let f : Access → List GroupRef = λ x. filter (is_looked_at c.args.plan.now c.args.starting.id c.args.starting.immediate) (group_refs_at x.cell k.index) in
     let whole : length (flat_map f (take c.loop-access.access-index cells)) ≡ length (flat_map f cells) = ap (λ xs. length (flat_map f xs)) (take_all c.loop-access.access-index cells c.loop-access-test.false) in
     let all = looked_within c.args.plan.now k.decided c.args.starting.id c.args.starting.immediate k.index k.started c.requires.index cells in
     omega (arith, c.loop-access.invariant.steps, whole, all)
@@ -47,7 +47,7 @@ pub returns-clause-steps : goal.returns-clause-steps
 returns-clause-steps g c =
     let k = c.args.kept.now in
     let cells = c.args.cells.now in
-    let f : Access → List Spot = λ x. filter (is_looked_at c.args.plan.now c.args.starting.id c.args.starting.immediate) (spots_at x.cell k.index) in
+    let f : Access → List GroupRef = λ x. filter (is_looked_at c.args.plan.now c.args.starting.id c.args.starting.immediate) (group_refs_at x.cell k.index) in
     let whole : length (flat_map f (take c.loop-access.access-index cells)) ≡ length (flat_map f cells) = ap (λ xs. length (flat_map f xs)) (take_all c.loop-access.access-index cells c.loop-access-test.false) in
     let all = looked_within c.args.plan.now k.decided c.args.starting.id c.args.starting.immediate k.index k.started c.requires.index cells in
     omega (arith, c.loop-access.invariant.steps, whole, all)
@@ -58,7 +58,7 @@ returns-clause-entries g c =
     let p = c.args.starting in
     let plan = c.args.plan.now in
     let cells = c.args.cells.now in
-    let met : List StartedGroup → List Access → List Dependency = λ es us. flat_map (λ (a : Access). met_at plan p.shard k.decided p.id p.immediate es a (spots_at a.cell k.index)) us in
+    let met : List StartedGroup → List Access → List Dependency = λ es us. flat_map (λ (a : Access). met_at plan p.shard k.decided p.id p.immediate es a (group_refs_at a.cell k.index)) us in
     let whole : c.loop-access.met.items ≡ met k.started cells = c.loop-access.invariant.met ∙ (λ i. met (c.as_slice-started.ensures i) (take_all c.loop-access.access-index cells c.loop-access-test.false i)) in
     c.in_ok-unite.ensures.united ∙ (λ i. united (c.new-edges.ensures i ++ (c.deref.ensures.value ∙ whole) i))
     ∙ all_met plan p.shard k.decided p.id p.immediate k.index k.started cells c.requires.index

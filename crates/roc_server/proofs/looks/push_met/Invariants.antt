@@ -3,8 +3,8 @@ use Rattle.roc_server.specs.Inner.Indexed.{is_looked_at, is_met, edge_from}
 use Rattle.roc_server.proofs.looks.push_met.Given as goal
 
 -- those so far that come before, and that were looked at
-abbrev pub invariant-loop-spot : goal.invariant-loop-spot
-invariant-loop-spot g l = record {
-  met : l.met.items ≡ l.initial.met.items ++ map (edge_from l.fn.starting.shard l.fn.starting.immediate) (filter (is_met l.plan l.started l.fn.starting.id l.fn.starting.immediate l.access) (take l.spot-index l.spots));
-  steps : l.steps ≡ l.initial.steps + length (filter (is_looked_at l.plan l.fn.starting.id l.fn.starting.immediate) (take l.spot-index l.spots));
+abbrev pub invariant-loop-group_ref : goal.invariant-loop-group_ref
+invariant-loop-group_ref g l = record {
+  met : l.met.items ≡ l.initial.met.items ++ map (edge_from l.fn.starting.shard l.fn.starting.immediate) (filter (is_met l.plan l.started l.fn.starting.id l.fn.starting.immediate l.access) (take l.group_ref-index l.group_refs));
+  steps : l.steps ≡ l.initial.steps + length (filter (is_looked_at l.plan l.fn.starting.id l.fn.starting.immediate) (take l.group_ref-index l.group_refs));
 }

@@ -1,5 +1,5 @@
 use Rattle.std.proofs.Common.{◌≡◌, map, filter, take}
-use Rattle.roc_lists.specs.Asking.{asked_of}
+use Rattle.roc_server_lists.specs.Asking.{asked_of}
 use Rattle.roc_server.specs.Lists.{is_missing}
 use Rattle.roc_server.specs.State.{ServerState}
 use Rattle.roc_server.proofs.missing.missing_from.Given as goal

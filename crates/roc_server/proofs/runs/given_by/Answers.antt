@@ -1,5 +1,5 @@
 use Rattle.std.proofs.Common.{◌≡◌, IfOk, OnOk, sym, subst}
-use Rattle.roc_group.specs.Group_run.{GroupCall, group_run}
+use Rattle.roc_group.specs.GroupRun.{GroupCall, group_run}
 use Rattle.roc_server.specs.Fits.{IsCallOf}
 use Rattle.roc_server.proofs.runs.given_by.Goals as goal
 

@@ -1,5 +1,5 @@
 use Rattle.std.proofs.Common.{◌++◌, ◌∙◌, ap}
-use Rattle.roc_group.specs.Group_run.{call, group_run}
+use Rattle.roc_group.specs.GroupRun.{call, group_run}
 use Rattle.roc_server.proofs.runs.given_with.Goals as goal
 
 pub run_group-requires-clause-exists : goal.run_group-requires-clause-exists

@@ -1,4 +1,4 @@
-use Rattle.roc_group.specs.Group_run.{call}
+use Rattle.roc_group.specs.GroupRun.{call}
 use Rattle.roc_server.proofs.runs.known_to.Goals as goal
 
 pub returns : goal.returns

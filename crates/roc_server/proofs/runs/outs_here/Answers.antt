@@ -1,6 +1,6 @@
 use Rattle.std.proofs.Common.{◌++◌, sym, ap, ◌∙◌, append-nil, arith}
 use Rattle.std.specs.Option.{option_to_list}
-use Rattle.roc_server.proofs.Group_runs.{given, groups_from, given_more}
+use Rattle.roc_server.proofs.GroupRuns.{given, groups_from, given_more}
 use Rattle.roc_server.proofs.runs.outs_here.Goals as goal
 use Rattle.roc_server.proofs.runs.outs_here.Goals.{in-Some+in_ok-push_outs, in_default}
 

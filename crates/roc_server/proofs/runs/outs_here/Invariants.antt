@@ -1,6 +1,6 @@
 use Rattle.std.proofs.Common.{◌≡◌, ◌++◌, [], unwrap_or}
 use Rattle.std.specs.List.{flat_map}
-use Rattle.roc_server.proofs.Group_runs.{groups_from}
+use Rattle.roc_server.proofs.GroupRuns.{groups_from}
 use Rattle.roc_server.proofs.runs.outs_here.Given as goal
 
 -- what was given so far, and what is left

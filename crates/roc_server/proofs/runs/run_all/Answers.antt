@@ -1,7 +1,7 @@
 use Rattle.std.proofs.Common.{◌≡◌, ◌+◌, ◌<◌, suc, length, drop, ◌∷◌, get_or, ap, ◌∙◌, arith}
 use Rattle.std.proofs.Math.Seq.{drop-cons}
 use Rattle.roc_base.specs.declared.id.TxnId.{TxnId}
-use Rattle.roc_server.proofs.Group_runs.{takes_more}
+use Rattle.roc_server.proofs.GroupRuns.{takes_more}
 use Rattle.roc_server.proofs.runs.run_all.Goals as goal
 
 pub loop-id-preserved : goal.loop-id-preserved

@@ -1,5 +1,5 @@
 use Rattle.std.proofs.Common.{drop}
-use Rattle.roc_server.proofs.Group_runs.{TakesFrom}
+use Rattle.roc_server.proofs.GroupRuns.{TakesFrom}
 use Rattle.roc_server.proofs.runs.run_all.Given as goal
 
 abbrev pub invariant-loop-id : goal.invariant-loop-id

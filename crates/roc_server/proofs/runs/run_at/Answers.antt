@@ -2,7 +2,7 @@
 use Rattle.std.proofs.Common.{◌≡◌, ◌∙◌, ℕ, ℤ, List, Some, slice_set, get_or, ap, subst, sym}
 use Rattle.std.proofs.lemmas.Option.{get_or_from_slice_get}
 use Rattle.roc_sequence.proofs.Holds.{all_at}
-use Rattle.roc_group.specs.Group_run.{group_run}
+use Rattle.roc_group.specs.GroupRun.{group_run}
 use Rattle.roc_plan.specs.Groups.{Plan}
 use Rattle.roc_rows.specs.Store.{Store}
 use Rattle.roc_server.specs.declared.started.StartedGroup.{StartedGroup}

@@ -1,4 +1,4 @@
-use Rattle.roc_server.proofs.Group_runs.{RunsFrom}
+use Rattle.roc_server.proofs.GroupRuns.{RunsFrom}
 use Rattle.roc_server.proofs.runs.run_transaction.Given as goal
 
 abbrev pub invariant-loop-number : goal.invariant-loop-number

@@ -1,28 +1,28 @@
-use Rattle.roc_server.proofs.Message_steps.{start_comes, commit_comes, known_comes, fetch_comes, foreign_comes}
+use Rattle.roc_server.proofs.MessageSteps.{start_comes, commit_comes, known_comes, fetch_comes, foreign_comes}
 use Rattle.roc_server.proofs.server.take.Goals as goal
 
 pub returns-in_ok-clone-in-Start-2-clause-step : goal.returns-in_ok-clone-in-Start-2-clause-step
 returns-in_ok-clone-in-Start-2-clause-step c =
-    start_comes c.args.plan.now c.args.shard c.args.kept.now c.take_start.new.kept c.requires.sound c.args.out.now c.take_start.new.out c.take_start.result c.args.msg.now c.in-Start.id c.in-Start.proc c.in-Start.group c.in-Start.args c.in-Start.inputs
+    start_comes c.args.plan.now c.args.shard c.args.kept.now c.take_start.new.kept c.requires.sound c.args.outbox.now c.take_start.new.outbox c.take_start.result c.args.msg.now c.in-Start.id c.in-Start.proc c.in-Start.group c.in-Start.args c.in-Start.inputs
     c.in_ok-clone-in-Start.field-0 c.in_ok-clone-in-Start-2.field-0 c.in-Start.is c.in_ok-clone-in-Start.ensures.cases c.in_ok-clone-in-Start-2.ensures.cases c.take_start.ensures.step
 
 pub returns-in-Commit-clause-step : goal.returns-in-Commit-clause-step
 returns-in-Commit-clause-step c =
-    commit_comes c.args.plan.now c.args.shard c.args.kept.now c.take_commit.new.kept c.requires.sound c.args.out.now c.take_commit.new.out c.take_commit.result c.args.msg.now c.in-Commit.id c.in-Commit.edges c.in-Commit.facts c.as_slice.result.now c.in-Commit.is c.as_slice.ensures.lists c.take_commit.ensures.step
+    commit_comes c.args.plan.now c.args.shard c.args.kept.now c.take_commit.new.kept c.requires.sound c.args.outbox.now c.take_commit.new.outbox c.take_commit.result c.args.msg.now c.in-Commit.id c.in-Commit.edges c.in-Commit.facts c.as_slice.result.now c.in-Commit.is c.as_slice.ensures.lists c.take_commit.ensures.step
 
 pub returns-in-Fetch-clause-step : goal.returns-in-Fetch-clause-step
 returns-in-Fetch-clause-step c =
-    fetch_comes c.args.plan.now c.args.shard c.args.kept.now c.take_fetch.new.kept c.requires.sound c.args.out.now c.take_fetch.new.out c.take_fetch.result c.args.msg.now c.in-Fetch.id c.in-Fetch.asker c.in-Fetch.is c.take_fetch.ensures.step
+    fetch_comes c.args.plan.now c.args.shard c.args.kept.now c.take_fetch.new.kept c.requires.sound c.args.outbox.now c.take_fetch.new.outbox c.take_fetch.result c.args.msg.now c.in-Fetch.id c.in-Fetch.asker c.in-Fetch.is c.take_fetch.ensures.step
 
 pub returns-in-Known-clause-step : goal.returns-in-Known-clause-step
 returns-in-Known-clause-step c =
-    known_comes c.args.plan.now c.args.shard c.args.kept.now c.take_known.new.kept c.requires.sound c.args.out.now c.take_known.new.out c.take_known.result c.args.msg.now c.in-Known.id c.in-Known.edges c.in-Known.is c.take_known.ensures.step
+    known_comes c.args.plan.now c.args.shard c.args.kept.now c.take_known.new.kept c.requires.sound c.args.outbox.now c.take_known.new.outbox c.take_known.result c.args.msg.now c.in-Known.id c.in-Known.edges c.in-Known.is c.take_known.ensures.step
 
 pub returns-in-StartOk-clause-step : goal.returns-in-StartOk-clause-step
-returns-in-StartOk-clause-step c = foreign_comes c.args.plan.now c.args.shard c.args.kept.now c.requires.sound c.args.out.now c.args.msg.now c.in-StartOk.is
+returns-in-StartOk-clause-step c = foreign_comes c.args.plan.now c.args.shard c.args.kept.now c.requires.sound c.args.outbox.now c.args.msg.now c.in-StartOk.is
 
 pub returns-in-StartOk-2-clause-step : goal.returns-in-StartOk-2-clause-step
-returns-in-StartOk-2-clause-step c = foreign_comes c.args.plan.now c.args.shard c.args.kept.now c.requires.sound c.args.out.now c.args.msg.now c.in-StartOk.is
+returns-in-StartOk-2-clause-step c = foreign_comes c.args.plan.now c.args.shard c.args.kept.now c.requires.sound c.args.outbox.now c.args.msg.now c.in-StartOk.is
 
 pub returns-in-StartOk-3-clause-step : goal.returns-in-StartOk-3-clause-step
-returns-in-StartOk-3-clause-step c = foreign_comes c.args.plan.now c.args.shard c.args.kept.now c.requires.sound c.args.out.now c.args.msg.now c.in-StartOk.is
+returns-in-StartOk-3-clause-step c = foreign_comes c.args.plan.now c.args.shard c.args.kept.now c.requires.sound c.args.outbox.now c.args.msg.now c.in-StartOk.is

@@ -1,5 +1,5 @@
 use Rattle.std.proofs.Common.{refl}
-use Rattle.roc_server.proofs.Same_groups.{ids_kept}
+use Rattle.roc_server.proofs.SameGroups.{ids_kept}
 use Rattle.roc_server.proofs.started_groups.set_later.Goals as goal
 
 pub returns-clause-ids : goal.returns-clause-ids

@@ -5,11 +5,11 @@ use Rattle.roc_await.specs.declared.waits.Asker.{Asker}
 use Rattle.roc_await.specs.Lacks.{AreDecidedBy}
 use Rattle.roc_depgraph.specs.declared.known.KnownList.{KnownList}
 use Rattle.roc_msg.specs.declared.outbox.Outbox.{Outbox}
-use Rattle.roc_lists.specs.Asking.{knowns_for, asked_of, waiting_after}
+use Rattle.roc_server_lists.specs.Asking.{knowns_for, asked_of, waiting_after}
 use Rattle.roc_server.specs.Lists.{is_missing}
-use Rattle.roc_server.specs.Inner.Kept.{state_of}
+use Rattle.roc_server.specs.Inner.ServerData.{state_of}
 use Rattle.roc_server.proofs.LeftOut.{missing_of_news}
-use Rattle.roc_lists.proofs.Learning.{keeps_front}
+use Rattle.roc_server_lists.proofs.Learning.{keeps_front}
 use Rattle.roc_server.proofs.teach.know_more.Goals as goal
 
 pub returns : goal.returns
@@ -18,7 +18,7 @@ returns c shard =
     let news = c.args.news.now in
     let s = state_of shard old false in
     let Found : List KnownList → Type 0 = λ ks. c.in_ok-asks.asks.items ≡ map asked_of (filter (is_missing s ks) (united (flat_map (λ (k : KnownList). k.edges) news))) in
-    let Told : List Asker → Outbox = λ askers. record c.args.out.now { messages = c.args.out.now.messages ++ flat_map (knowns_for askers) news } in
+    let Told : List Asker → Outbox = λ askers. record c.args.outbox.now { messages = c.args.outbox.now.messages ++ flat_map (knowns_for askers) news } in
     record {
       rows = refl;
       started = refl;

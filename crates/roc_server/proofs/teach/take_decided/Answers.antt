@@ -1,4 +1,4 @@
-use Rattle.roc_server.proofs.Same_groups.{fits_same}
+use Rattle.roc_server.proofs.SameGroups.{fits_same}
 use Rattle.roc_server.proofs.teach.take_decided.Goals as goal
 
 pub send_commitoks-requires : goal.send_commitoks-requires

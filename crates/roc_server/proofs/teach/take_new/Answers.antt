@@ -2,7 +2,7 @@ use Rattle.std.proofs.Common.{List, Result, Ok, Err, OnOk, sym, subst}
 use Rattle.roc_sequence.specs.Places.{IsListed}
 use Rattle.roc_base.specs.declared.id.TxnId.{TxnId}
 use Rattle.roc_base.specs.TxnId.{is_txn}
-use Rattle.roc_lists.specs.New.{AreNew}
+use Rattle.roc_server_lists.specs.New.{AreNew}
 use Rattle.roc_server.proofs.teach.take_new.Goals as goal
 
 pub take_decided-requires-clause-chosen : goal.take_decided-requires-clause-chosen

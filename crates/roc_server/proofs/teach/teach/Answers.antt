@@ -1,24 +1,24 @@
 use Rattle.std.proofs.Common.{◌++◌, List, map, sym, subst, ap, ◌∙◌}
 use Rattle.std.proofs.lemmas.Result.{on_ok_weaker}
 use Rattle.roc_sequence.specs.Places.{NoneTwice}
-use Rattle.roc_await.specs.declared.waits.Asked.{Asked}
+use Rattle.roc_await.specs.declared.waits.OpenFetch.{OpenFetch}
 use Rattle.roc_msg.specs.declared.outbox.Outbox.{Outbox}
 use Rattle.roc_server.specs.declared.started.StartedGroup.{StartedGroup}
 use Rattle.roc_server.specs.Fits.{AreGroupsOf}
-use Rattle.roc_lists.specs.Asking.{fetch_from}
-use Rattle.roc_server.specs.Inner.Kept.{is_same_group}
+use Rattle.roc_server_lists.specs.Asking.{fetch_from}
+use Rattle.roc_server.specs.Inner.ServerData.{is_same_group}
 use Rattle.roc_sequence.specs.Places.{IsListed}
 use Rattle.roc_base.specs.declared.id.TxnId.{TxnId}
 use Rattle.roc_base.specs.TxnId.{is_txn}
 use Rattle.roc_depgraph.specs.declared.known.KnownList.{KnownList}
-use Rattle.roc_lists.specs.New.{AreAllNew}
-use Rattle.roc_server.specs.Inner.Indexed.{AreSpotsOf}
-use Rattle.roc_server.proofs.Index_steps.{indexed_spots}
+use Rattle.roc_server_lists.specs.New.{AreAllNew}
+use Rattle.roc_server.specs.Inner.Indexed.{AreGroupRefsOf}
+use Rattle.roc_server.proofs.IndexSteps.{indexed_group_refs}
 use Rattle.roc_server.proofs.Learning.{not_taken}
-use Rattle.roc_ancestors.specs.Least.{AreRows}
-use Rattle.roc_ancestors.proofs.Kept_rows.{rows_stay}
-use Rattle.roc_lists.proofs.Learning.{keeps_front}
-use Rattle.roc_server.proofs.Teach_steps.{teaches}
+use Rattle.roc_server_ancestors.specs.Least.{AreRows}
+use Rattle.roc_server_ancestors.proofs.KeptRows.{rows_stay}
+use Rattle.roc_server_lists.proofs.Learning.{keeps_front}
+use Rattle.roc_server.proofs.TeachSteps.{teaches}
 use Rattle.roc_server.proofs.teach.teach.Goals as goal
 
 pub take_new-requires-clause-fits : goal.take_new-requires-clause-fits
@@ -46,18 +46,18 @@ take_new-requires-clause-rows c =
     subst (λ (ks : List KnownList). AreRows ks c.know_more.new.kept.ancestors) (sym m.deps)
     (subst (AreRows (old.deps ++ c.args.news.now)) (sym m.ancestors) (rows_stay old.deps (old.deps ++ c.args.news.now) (keeps_front old.deps c.args.news.now) old.ancestors c.requires.sound.rows))
 
-pub take_new-requires-clause-spots : goal.take_new-requires-clause-spots
-take_new-requires-clause-spots c =
+pub take_new-requires-clause-group_refs : goal.take_new-requires-clause-group_refs
+take_new-requires-clause-group_refs c =
     let m = c.in_ok-asks.ensures c.args.shard in
     let sound = c.requires.sound in
-    subst (λ es. AreSpotsOf es c.know_more.new.kept.index) (sym m.started) (subst (AreSpotsOf c.args.kept.now.started) (sym m.index) (indexed_spots c.args.kept.now.index c.args.kept.now.decided c.args.kept.now.started sound.index))
+    subst (λ es. AreGroupRefsOf es c.know_more.new.kept.index) (sym m.started) (subst (AreGroupRefsOf c.args.kept.now.started) (sym m.index) (indexed_group_refs c.args.kept.now.index c.args.kept.now.decided c.args.kept.now.started sound.index))
 
 pub returns : goal.returns
 returns c =
     let t = c.in_ok-take_new.ensures in
-    let P : List Asked → Outbox = λ xs. record c.take_new.new.out { messages = c.take_new.new.out.messages ++ map (fetch_from c.args.shard) xs } in
+    let P : List OpenFetch → Outbox = λ xs. record c.take_new.new.outbox { messages = c.take_new.new.outbox.messages ++ map (fetch_from c.args.shard) xs } in
     on_ok_weaker c.send_fetches.result
     (λ sent.
-    teaches c.args.plan.now c.args.shard c.args.kept.now c.know_more.new.kept c.take_new.new.kept c.args.out.now c.know_more.new.out c.take_new.new.out c.send_fetches.new.out c.args.news.now t.0 c.in_ok-asks.ids.items c.in_ok-asks.asks.items c.requires.sound
+    teaches c.args.plan.now c.args.shard c.args.kept.now c.know_more.new.kept c.take_new.new.kept c.args.outbox.now c.know_more.new.outbox c.take_new.new.outbox c.send_fetches.new.outbox c.args.news.now t.0 c.in_ok-asks.ids.items c.in_ok-asks.asks.items c.requires.sound
     (c.in_ok-asks.ensures c.args.shard) t.1 (sent ∙ ap P c.deref-2.ensures.value))
     c.send_fetches.ensures

@@ -12,5 +12,5 @@ returns-in-Ok c =
     let after = world_of c.note_tick.new.parts in
     IfOk-weaker c.note_tick.result _ _ (λ what h.
     subst (λ (node : Node). Leads c.args.plan.now w (Tick node) what after) (sym c.in-Server.is)
-    (server_ticks c.args.plan.now w c.in-Server.shard what c.tick_server.new.servers.items c.new-out.result c.tick_server.new.out after c.new-out.ensures.messages c.in-Ok.ensures h.0 h.1))
+    (server_ticks c.args.plan.now w c.in-Server.shard what c.tick_server.new.servers.items c.new-outbox.result c.tick_server.new.outbox after c.new-outbox.ensures.messages c.in-Ok.ensures h.0 h.1))
     c.note_tick.ensures

@@ -1,7 +1,7 @@
 use Rattle.std.proofs.Common.{List, slice_get, option_map, ap, ◌∙◌}
 use Rattle.roc_depgraph.specs.declared.known.KnownList.{KnownList}
 use Rattle.roc_depgraph.specs.Deps.{list_of}
-use Rattle.roc_depgraph.proofs.Looked_up.{list_at, no_list}
+use Rattle.roc_depgraph.proofs.LookedUp.{list_at, no_list}
 use Rattle.roc_depgraph.proofs.deps.Deps.list.Goals as goal
 
 pub returns-in-Some : goal.returns-in-Some

@@ -8,7 +8,7 @@ use Rattle.roc_sequence.proofs.Holds.{all_at, all_weaker}
 use Rattle.roc_program.specs.LookUps.{no_piece}
 use Rattle.roc_program.specs.Parts as view
 use Rattle.roc_program.proofs.Rows.{row_length, read-map}
-use Rattle.roc_groups.specs.Parts.{IsPart}
+use Rattle.roc_merge_groups.specs.Parts.{IsPart}
 use Rattle.roc_plan.specs.Groups.{Group, Plan, no_group, inputs_in, procedure_of, groups_of, group_of, group_place, place_in}
 use Rattle.roc_plan.specs.Sized.{piece_at, IsSized}
 use Rattle.roc_plan.specs.Inner.Outlines.{plan, IsOutlined}

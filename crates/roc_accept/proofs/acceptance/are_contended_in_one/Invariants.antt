@@ -1,8 +1,0 @@
-use Rattle.std.proofs.Common.{ℕ, ◌<◌}
-use Rattle.roc_conflict.specs.Classes.{is_immediate}
-use Rattle.roc_groups.specs.Groups.{groups_in}
-use Rattle.roc_accept.specs.Inner.Tests.{AreContendedIn}
-use Rattle.roc_accept.proofs.acceptance.are_contended_in_one.Given as goal
-
-abbrev pub invariant-loop-proc : goal.invariant-loop-proc
-invariant-loop-proc l = (proc : ℕ) → proc < l.proc → AreContendedIn l.workload (is_immediate l.classes) proc (groups_in l.groups proc)

@@ -1,0 +1,175 @@
+//! Why the program ends without having done what it was asked: its status, and its line on standard error.
+ghost use Rattle.std.specs.Prelude.{◌≡◌, ◌<◌, Some, None};
+ghost use Rattle.roc_cli_files.specs.Fault.{IsTold};
+ghost use Rattle.roc_cli_files.specs.Says.{errors};
+
+use roc_base::Shard;
+use roc_cli_words::ValueName;
+use roc_cluster::ClusterFault;
+use roc_io::{Sink, Written, write_all};
+use roc_lang_scope::ScopeWhat;
+use std::alloc::Global;
+
+/// Why the program ends without having done what it was asked.
+#[derive(Drop)]
+pub enum Fault<'a> {
+    /// `clap` refuses the words, with this text.
+    Refused(String),
+    /// A value among the words is none.
+    Value(ValueName),
+    /// The shard that is to be served is not one of the workload.
+    NoShard,
+    /// A file is longer than it may be.
+    TooLong(&'a str),
+    /// A file is no text of its grammar, or does not fit the plan or the run: the line, and what is wrong there.
+    At {
+        file: &'a str,
+        line: u32,
+        what: &'static str,
+    },
+    /// The names of a workload are not in scope: the line, and what is wrong there.
+    Scope {
+        file: &'a str,
+        line: u32,
+        what: ScopeWhat,
+    },
+    /// A file is no cluster file of the workload.
+    Cluster {
+        file: &'a str,
+        fault: ClusterFault,
+    },
+    /// A workload is not acceptable. Standard output took the line that says why.
+    Rejected,
+    /// There is no memory.
+    Memory,
+    /// All turns were taken, and a request is unanswered or was not submitted.
+    Unanswered,
+    /// A file could not be read.
+    File(&'a str),
+    /// Standard output could not be written.
+    Sink,
+    /// The link could not be bound, or a receive failed.
+    Link,
+    /// The server of a shard, a child, could not be started or awaited, or ended with this status, which is not 0.
+    Child {
+        shard: Shard,
+        status: Option<u8>,
+    },
+}
+
+impl Fault<'_> {
+    /// Writes the fault's line, if it has one, and answers the status with which the program ends.
+    pub fn tell<E: Sink>(self, alloc: Global, err: &mut E) -> u8
+        ensures silent { result < 2 → err.new ≡ err.old }
+        ensures unsaid { result ≡ 5 → err.new ≡ err.old }
+        ensures told { IsTold self.entry result (errors E.Sink err.old err.new) }
+    {
+        match self {
+            Fault::Rejected => 1,
+            Fault::Refused(text) => {
+                err.write(text.as_bytes());
+                2
+            }
+            Fault::Value(name) => {
+                write_all(err, &[name.as_str().as_bytes(), b"\n"]);
+                2
+            }
+            Fault::NoShard => {
+                err.write(b"shard\n");
+                2
+            }
+            Fault::TooLong(file) => {
+                write_all(err, &[file.as_bytes(), b": limit\n"]);
+                3
+            }
+            Fault::At { file, line, what } => tell_line(alloc, err, file, line, what),
+            Fault::Scope { file, line, what } => tell_misuse(alloc, err, file, line, what),
+            Fault::Cluster { file, fault } => tell_cluster(alloc, err, file, fault),
+            Fault::Unanswered => 5,
+            Fault::Memory => {
+                err.write(b"memory\n");
+                4
+            }
+            Fault::File(file) => {
+                write_all(err, &[b"file ", file.as_bytes(), b"\n"]);
+                6
+            }
+            Fault::Sink => {
+                err.write(b"sink\n");
+                7
+            }
+            Fault::Link => {
+                err.write(b"link\n");
+                8
+            }
+            Fault::Child {
+                shard,
+                status: Some(status),
+            } => tell_status(alloc, err, shard, status),
+            Fault::Child {
+                shard,
+                status: None,
+            } => tell_child(alloc, err, shard),
+        }
+    }
+}
+
+// The same of a fault at a line, for whose text there may be no memory.
+fn tell_line<E: Sink>(alloc: Global, err: &mut E, file: &str, line: u32, what: &'static str) -> u8
+    ensures { IsTold (Fault.At file.entry line what.entry) result (errors E.Sink err.old err.new) }
+{
+    let Ok(text) = format!(in alloc; "{file}:{line}: {what}\n") else {
+        err.write(b"memory\n");
+        return 4;
+    };
+    err.write(text.as_bytes());
+    3
+}
+
+// The same of a fault of scope.
+fn tell_misuse<E: Sink>(alloc: Global, err: &mut E, file: &str, line: u32, what: ScopeWhat) -> u8
+    ensures { IsTold (Fault.Scope file.entry line what) result (errors E.Sink err.old err.new) }
+{
+    let Ok(text) = format!(in alloc; "{file}:{line}: {what}\n") else {
+        err.write(b"memory\n");
+        return 4;
+    };
+    err.write(text.as_bytes());
+    3
+}
+
+// The same of a cluster file.
+fn tell_cluster<E: Sink>(alloc: Global, err: &mut E, file: &str, fault: ClusterFault) -> u8
+    ensures { IsTold (Fault.Cluster file.entry fault) result (errors E.Sink err.old err.new) }
+{
+    let Ok(text) = format!(in alloc; "{file}: {fault}\n") else {
+        err.write(b"memory\n");
+        return 4;
+    };
+    err.write(text.as_bytes());
+    3
+}
+
+// The same of a child that could not be started or awaited.
+fn tell_child<E: Sink>(alloc: Global, err: &mut E, shard: Shard) -> u8
+    ensures { IsTold (Fault.Child shard None) result (errors E.Sink err.old err.new) }
+{
+    let Ok(text) = format!(in alloc; "child {}\n", shard.0) else {
+        err.write(b"memory\n");
+        return 4;
+    };
+    err.write(text.as_bytes());
+    9
+}
+
+// The same of one that ended with a status.
+fn tell_status<E: Sink>(alloc: Global, err: &mut E, shard: Shard, status: u8) -> u8
+    ensures { IsTold (Fault.Child shard (Some status)) result (errors E.Sink err.old err.new) }
+{
+    let Ok(text) = format!(in alloc; "child {} {status}\n", shard.0) else {
+        err.write(b"memory\n");
+        return 4;
+    };
+    err.write(text.as_bytes());
+    9
+}

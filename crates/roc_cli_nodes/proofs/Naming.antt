@@ -1,0 +1,83 @@
+-- Which command words ask for, and which files they name
+use Rattle.std.proofs.Common.{◌≡◌, ℕ, List, [], Option, Some, None, Result, Ok, Err, false, refl, sym, ap, ◌∙◌, ◌==◌}
+use Rattle.std.specs.Option.{option_map}
+use Rattle.std.proofs.lemmas.Bool.{eq-eqb, false≢true}
+use Rattle.std.proofs.lemmas.Option.{same_Some, none-some}
+use Rattle.roc_cli_words.specs.declared.value.ValueName.{ValueName}
+use Rattle.roc_cli_words.specs.Commands.{Command, check, print, replay, serve, submit, stop, local, gen}
+use Rattle.roc_cli_words.specs.Answer.{AreWordsOf}
+use Rattle.roc_cli_nodes.specs.Words.{IsReplay, node_files, program_of, workload_of, Name, NamesProgram, NamesWorkload, NamesNodeFiles}
+use Rattle.roc_cli_files.specs.Held.{NodeFiles}
+
+command_or : Command → Option (Result Command ValueName) → Command
+command_or c (Some (Ok d)) = d
+command_or c (Some (Err name)) = c
+command_or c None = c
+
+-- words ask for one command
+pub one_command : (words : List (List ℕ)) (c d : Command) → AreWordsOf words c → AreWordsOf words d → c ≡ d
+unfolding command_or
+one_command words c d is other = sym (ap (command_or c) is.asked) ∙ ap (command_or c) other.asked
+
+-- what tells commands apart
+abbrev pub kind : Command → ℕ
+kind (check workload) = 0
+kind (print workload) = 1
+kind (replay workload schedule) = 2
+kind (serve workload cluster shard turns counts) = 3
+kind (submit workload cluster requests coord turns) = 4
+kind (stop workload cluster) = 5
+kind (local workload cluster requests turns) = 6
+kind (gen seed shards txns part) = 7
+
+-- the words of one command are not those of another
+pub unlike : (A : Type 0) (words : List (List ℕ)) (c d : Command) → AreWordsOf words c → AreWordsOf words d → (kind c == kind d) ≡ false → A
+unlike A words c d is other differ = absurd (false≢true (sym differ ∙ eq-eqb (kind c) (kind d) (ap kind (one_command words c d is other))))
+
+-- words name one thing of a kind, or none
+pub same_name : {A : Type 0} (of : Command → Option A) (words : List (List ℕ)) (a b : A) → Name of words a → Name of words b → a ≡ b
+same_name of words a b (c, is, e) (d, other, f) = same_Some a b (sym e ∙ (ap of (one_command words c d is other) ∙ f))
+
+pub no_name : {A : Type 0} (of : Command → Option A) (words : List (List ℕ)) (c : Command) → AreWordsOf words c → of c ≡ None → (a : A) → Name of words a → ⊥
+no_name of words c is none a (d, other, f) = none-some a (sym none ∙ (ap of (one_command words c d is other) ∙ f))
+
+-- the schedule of a replay is one
+second_name : Command → List ℕ
+second_name (replay workload schedule) = schedule
+second_name _ = []
+
+pub replay_schedule : (words : List (List ℕ)) (workload schedule name other : List ℕ) → IsReplay words workload schedule → IsReplay words name other → other ≡ schedule
+unfolding second_name
+replay_schedule words workload schedule name other given is = ap second_name (one_command words (replay name other) (replay workload schedule) is given)
+
+-- ---- the workload
+
+program_is_workload : (c : Command) (name : List ℕ) → program_of c ≡ Some name → workload_of c ≡ Some name
+program_is_workload (check workload) name e = e
+program_is_workload (print workload) name e = absurd (none-some name e)
+program_is_workload (replay workload schedule) name e = e
+program_is_workload (serve workload cluster shard turns counts) name e = e
+program_is_workload (submit workload cluster requests coord turns) name e = e
+program_is_workload (stop workload cluster) name e = e
+program_is_workload (local workload cluster requests turns) name e = e
+program_is_workload (gen seed shards txns part) name e = absurd (none-some name e)
+
+pub as_workload : (words : List (List ℕ)) (name : List ℕ) → NamesProgram words name → NamesWorkload words name
+as_workload words name (c, is, e) = (c, is, program_is_workload c name e)
+
+workload_in : Option NodeFiles → Option (List ℕ)
+workload_in files = option_map (λ (f : NodeFiles). f.workload) files
+
+files_name_program : (c : Command) (files : NodeFiles) → node_files c ≡ Some files → program_of c ≡ Some files.workload
+unfolding workload_in
+files_name_program (check workload) files e = absurd (none-some files e)
+files_name_program (print workload) files e = absurd (none-some files e)
+files_name_program (replay workload schedule) files e = absurd (none-some files e)
+files_name_program (serve workload cluster shard turns counts) files e = ap workload_in e
+files_name_program (submit workload cluster requests coord turns) files e = ap workload_in e
+files_name_program (stop workload cluster) files e = ap workload_in e
+files_name_program (local workload cluster requests turns) files e = ap workload_in e
+files_name_program (gen seed shards txns part) files e = absurd (none-some files e)
+
+pub as_program : (words : List (List ℕ)) (files : NodeFiles) → NamesNodeFiles words files → NamesProgram words files.workload
+as_program words files (c, is, e) = (c, is, files_name_program c files e)

@@ -1,0 +1,129 @@
+-- Commands with nodes: what their files held, and how their loops ended: docs/FORMATS.md, "The program", and docs/PROTOCOL.md, "Running nodes"
+use Rattle.std.specs.Prelude.{◌≡◌, ◌⊎◌, ℕ, Bool, List, [], Option, Some, None, slice_get}
+use Rattle.roc_base.specs.declared.node.Shard.{Shard}
+use Rattle.roc_base.specs.declared.node.Node.TheVariants.{Server, Coord}
+use Rattle.roc_io.specs.declared.link.Addr.{Addr}
+use Rattle.roc_plan.specs.Groups.{Plan}
+use Rattle.roc_sched.specs.declared.line.Request.{Request}
+use Rattle.roc_io.specs.Observed.{AddsUnless}
+use Rattle.roc_node_local.specs.declared.stops.StopEnd.{StopEnd}
+use Rattle.roc_node_local.specs.declared.stops.StopEnd.TheVariants as stop_end
+use Rattle.roc_node_submit.specs.SubmitEnd.{any_address}
+use Rattle.roc_node_local.specs.Stops.{SendsStops, stops_unbound}
+use Rattle.roc_node_local.specs.declared.local.LocalEnd.{LocalEnd}
+use Rattle.roc_node_local.specs.declared.local.LocalEnd.TheVariants.{ChildFault}
+use Rattle.roc_node_local.specs.Local.{LocalCall, RunsLocal, BlamesChild, local_ask, local_end_of}
+use Rattle.roc_cli_words.specs.Commands.{serve, submit, stop, local}
+use Rattle.roc_cli_words.specs.Answer.{AreWordsOf}
+use Rattle.roc_node.specs.NodeEvent.{node_setting}
+use Rattle.roc_node_serve.specs.declared.ends.ServeEnd.{ServeEnd}
+use Rattle.roc_node_serve.specs.declared.ends.ServeEnd.TheVariants as serve_end
+use Rattle.roc_node_submit.specs.declared.ends.SubmitEnd.{SubmitEnd}
+use Rattle.roc_node_submit.specs.declared.ends.SubmitEnd.TheVariants as submit_end
+use Rattle.roc_node_serve.specs.ServeEnd.{Serves}
+use Rattle.roc_node_submit.specs.SubmitEnd.{BindsAndSubmits}
+use Rattle.roc_io.specs.Call.{NodeCall, LinkCall, ChildrenCall}
+use Rattle.roc_cli_nodes.specs.Call.{RunCall, WholeCall, TakesNothing}
+use Rattle.roc_cli_files.specs.Held.{HoldNodes}
+use Rattle.roc_cli_files.specs.NodeNames.{tag_of_bytes}
+
+-- a call, as the loops of nodes see it
+abbrev pub node_call : RunCall → LinkCall → NodeCall
+node_call call link = record { link = link; out = call.out }
+
+abbrev pub local_call : RunCall → LinkCall → ChildrenCall → LocalCall
+local_call call link children = record { node = node_call call link; children = children }
+
+-- a shard of the workload was served, at its address in the cluster, and that ended so
+pub record ServeEnded (call : RunCall) (link : LinkCall) (end : ServeEnd) : Type 0 where
+  pub workload : List ℕ
+  pub cluster : List ℕ
+  pub shard : ℕ
+  pub turns : ℕ
+  pub counts : Bool
+  pub given : AreWordsOf call.words (serve workload cluster shard turns counts)
+  pub bytes : List ℕ
+  pub plan : Plan
+  pub addrs : List Addr
+  pub held : HoldNodes call.files.content (record { workload = workload; cluster = cluster; requests = None; shard = Some shard }) bytes plan addrs []
+  pub own : Addr
+  pub address : slice_get addrs shard ≡ Some own
+  pub serves : Serves (node_setting plan (tag_of_bytes bytes) (Server (record { 0 = shard })) addrs) (record { 0 = shard }) own turns counts (node_call call link) end
+
+-- the requests were submitted by a coordinator, and that ended so
+pub record SubmitEnded (call : RunCall) (link : LinkCall) (end : SubmitEnd) : Type 0 where
+  pub workload : List ℕ
+  pub cluster : List ℕ
+  pub listed : List ℕ
+  pub coord : ℕ
+  pub turns : ℕ
+  pub given : AreWordsOf call.words (submit workload cluster listed coord turns)
+  pub bytes : List ℕ
+  pub plan : Plan
+  pub addrs : List Addr
+  pub requests : List Request
+  pub held : HoldNodes call.files.content (record { workload = workload; cluster = cluster; requests = Some listed; shard = None }) bytes plan addrs requests
+  pub submits : BindsAndSubmits (node_setting plan (tag_of_bytes bytes) (Coord coord) addrs) coord requests turns (node_call call link) end
+
+-- each server was sent its stops, or nothing was sent, and that ended so
+pub record StopEnded (call : RunCall) (link : LinkCall) (end : StopEnd) : Type 0 where
+  pub workload : List ℕ
+  pub cluster : List ℕ
+  pub given : AreWordsOf call.words (stop workload cluster)
+  pub bytes : List ℕ
+  pub plan : Plan
+  pub addrs : List Addr
+  pub held : HoldNodes call.files.content (record { workload = workload; cluster = cluster; requests = None; shard = None }) bytes plan addrs []
+  pub bound : AddsUnless (stops_unbound end) link.bound_old link.bound_new any_address
+  pub sends : SendsStops end (tag_of_bytes bytes) addrs link.old.lost link.new.lost link.old.sent link.new.sent
+  pub arrivals : link.new.arrivals ≡ link.old.arrivals
+  pub silent : TakesNothing call
+
+-- the end of a server, or of one that sends stops, as that of a coordinator
+abbrev pub as_submit_end : ServeEnd → SubmitEnd
+as_submit_end serve_end.Done = submit_end.Done
+as_submit_end serve_end.LinkFault = submit_end.LinkFault
+as_submit_end serve_end.SinkFault = submit_end.SinkFault
+as_submit_end serve_end.NoMemory = submit_end.NoMemory
+
+abbrev pub stop_as_submit_end : StopEnd → SubmitEnd
+stop_as_submit_end stop_end.Done = submit_end.Done
+stop_as_submit_end stop_end.LinkFault = submit_end.LinkFault
+stop_as_submit_end stop_end.NoMemory = submit_end.NoMemory
+
+-- the same, by the end of a coordinator
+abbrev pub IsServed : RunCall → LinkCall → SubmitEnd → Type 0
+IsServed call link end = (own : ServeEnd) × (as_submit_end own ≡ end) × ServeEnded call link own
+
+abbrev pub AreStopped : RunCall → LinkCall → SubmitEnd → Type 0
+AreStopped call link end = (own : StopEnd) × (stop_as_submit_end own ≡ end) × StopEnded call link own
+
+-- servers were started as children, the requests submitted, and the servers stopped and awaited, and that ended so
+pub record LocalEnded (call : RunCall) (link : LinkCall) (children : ChildrenCall) (end : LocalEnd) : Type 0 where
+  pub workload : List ℕ
+  pub cluster : List ℕ
+  pub listed : List ℕ
+  pub turns : ℕ
+  pub given : AreWordsOf call.words (local workload cluster listed turns)
+  pub bytes : List ℕ
+  pub plan : Plan
+  pub addrs : List Addr
+  pub requests : List Request
+  pub held : HoldNodes call.files.content (record { workload = workload; cluster = cluster; requests = Some listed; shard = None }) bytes plan addrs requests
+  pub runs : RunsLocal
+      (local_ask plan (tag_of_bytes bytes) addrs requests workload cluster turns)
+      (local_call call link children) end
+
+-- how a command with nodes ended, once its files were read
+abbrev pub AreNodesEnded : WholeCall → SubmitEnd → Type 0
+AreNodesEnded call end =
+    IsServed call.run call.link end ⊎ (SubmitEnded call.run call.link end ⊎ (AreStopped call.run call.link end ⊎ LocalEnded call.run call.link call.children (local_end_of end)))
+
+-- the server of a shard was to blame, which was started as a child: it could not be started or awaited, and that was counted, or ended with
+-- another status than 0
+pub record IsChildBlamed (call : WholeCall) (shard : Shard) (status : Option ℕ) : Type 0 where
+  pub ended : LocalEnded call.run call.link call.children (ChildFault shard status)
+  pub cause : BlamesChild (ChildFault shard status) call.children.faults_old call.children.faults_new
+
+abbrev pub BlamesAnyChild : WholeCall → Type 0
+BlamesAnyChild call = (shard : Shard) × (status : Option ℕ) × IsChildBlamed call shard status

@@ -1,0 +1,119 @@
+-- The words of the command line, and the files that they name: docs/FORMATS.md, "The program"
+use Rattle.std.specs.Prelude.{◌≡◌, ℕ, Bool, List, Option, Some, None, is_some}
+use Rattle.roc_cli_words.specs.declared.value.Part.{Part}
+use Rattle.roc_cli_words.specs.Commands.{Command, check, print, replay, serve, submit, stop, local, gen}
+use Rattle.roc_cli_words.specs.Answer.{AreWordsOf}
+use Rattle.roc_cli_files.specs.Held.{NodeFiles}
+
+-- ---- which command
+
+-- `replay`, and the names of a workload and a schedule
+abbrev pub IsReplay : List (List ℕ) → (workload schedule : List ℕ) → Type 0
+IsReplay words workload schedule = AreWordsOf words (replay workload schedule)
+
+-- `print`, and the name of a workload
+abbrev pub IsPrint : List (List ℕ) → (workload : List ℕ) → Type 0
+IsPrint words workload = AreWordsOf words (print workload)
+
+-- `check`, and the name of a workload
+abbrev pub IsCheck : List (List ℕ) → (workload : List ℕ) → Type 0
+IsCheck words workload = AreWordsOf words (check workload)
+
+-- `gen`, a seed, how many shards and transactions there are to be, and which part
+abbrev pub IsGen : List (List ℕ) → (seed shards txns : ℕ) → Part → Type 0
+IsGen words seed shards txns part = AreWordsOf words (gen seed shards txns part)
+
+-- the words are those of a replay
+abbrev pub AreReplayWords : List (List ℕ) → Type 0
+AreReplayWords words = (workload schedule : List ℕ) × IsReplay words workload schedule
+
+-- the words are those of a print
+abbrev pub ArePrintWords : List (List ℕ) → Type 0
+ArePrintWords words = (workload : List ℕ) × IsPrint words workload
+
+-- the words are those of a check
+abbrev pub AreCheckWords : List (List ℕ) → Type 0
+AreCheckWords words = (workload : List ℕ) × IsCheck words workload
+
+-- the words are those of generated load
+abbrev pub AreGenWords : List (List ℕ) → Type 0
+AreGenWords words = (seed shards txns : ℕ) × (part : Part) × IsGen words seed shards txns part
+
+-- the words are those of a server
+abbrev pub AreServeWords : List (List ℕ) → Type 0
+AreServeWords words = (workload cluster : List ℕ) × (shard turns : ℕ) × (counts : Bool) × AreWordsOf words (serve workload cluster shard turns counts)
+
+-- the words are those of a coordinator
+abbrev pub AreSubmitWords : List (List ℕ) → Type 0
+AreSubmitWords words = (workload cluster requests : List ℕ) × (coord turns : ℕ) × AreWordsOf words (submit workload cluster requests coord turns)
+
+-- the words ask to stop servers
+abbrev pub AreStopWords : List (List ℕ) → Type 0
+AreStopWords words = (workload cluster : List ℕ) × AreWordsOf words (stop workload cluster)
+
+-- the words are those of a coordinator that starts its servers
+abbrev pub AreLocalWords : List (List ℕ) → Type 0
+AreLocalWords words = (workload cluster requests : List ℕ) × (turns : ℕ) × AreWordsOf words (local workload cluster requests turns)
+
+-- the words are those of a command
+abbrev pub AreCommandWords : List (List ℕ) → Type 0
+AreCommandWords words = (command : Command) × AreWordsOf words command
+
+-- ---- which files
+
+-- the files of a command with nodes
+abbrev pub node_files : Command → Option NodeFiles
+node_files (serve workload cluster shard turns counts) = Some (record { workload = workload; cluster = cluster; requests = None; shard = Some shard })
+node_files (submit workload cluster requests coord turns) = Some (record { workload = workload; cluster = cluster; requests = Some requests; shard = None })
+node_files (stop workload cluster) = Some (record { workload = workload; cluster = cluster; requests = None; shard = None })
+node_files (local workload cluster requests turns) = Some (record { workload = workload; cluster = cluster; requests = Some requests; shard = None })
+node_files (check workload) = None
+node_files (print workload) = None
+node_files (replay workload schedule) = None
+node_files (gen seed shards txns part) = None
+
+-- the command is one with nodes
+abbrev pub needs_nodes : Command → Bool
+needs_nodes command = is_some (node_files command)
+
+-- the workload whose names have to be in scope
+abbrev pub program_of : Command → Option (List ℕ)
+program_of (check workload) = Some workload
+program_of (print workload) = None
+program_of (replay workload schedule) = Some workload
+program_of (serve workload cluster shard turns counts) = Some workload
+program_of (submit workload cluster requests coord turns) = Some workload
+program_of (stop workload cluster) = Some workload
+program_of (local workload cluster requests turns) = Some workload
+program_of (gen seed shards txns part) = None
+
+-- the workload
+abbrev pub workload_of : Command → Option (List ℕ)
+workload_of (print workload) = Some workload
+workload_of (check workload) = Some workload
+workload_of (replay workload schedule) = Some workload
+workload_of (serve workload cluster shard turns counts) = Some workload
+workload_of (submit workload cluster requests coord turns) = Some workload
+workload_of (stop workload cluster) = Some workload
+workload_of (local workload cluster requests turns) = Some workload
+workload_of (gen seed shards txns part) = None
+
+-- the words are those of a command of which this is what they name
+abbrev pub Name : {A : Type 0} → (Command → Option A) → List (List ℕ) → A → Type 0
+Name of words name = (command : Command) × AreWordsOf words command × (of command ≡ Some name)
+
+-- the words name a workload whose names have to be in scope
+abbrev pub NamesProgram : List (List ℕ) → (workload : List ℕ) → Type 0
+NamesProgram words workload = Name program_of words workload
+
+-- the words name a workload
+abbrev pub NamesWorkload : List (List ℕ) → (workload : List ℕ) → Type 0
+NamesWorkload words workload = Name workload_of words workload
+
+-- the words name these files of a command with nodes
+abbrev pub NamesNodeFiles : List (List ℕ) → NodeFiles → Type 0
+NamesNodeFiles words files = Name node_files words files
+
+-- the words are those of a command with nodes
+abbrev pub NamesNodes : List (List ℕ) → Type 0
+NamesNodes words = (files : NodeFiles) × NamesNodeFiles words files

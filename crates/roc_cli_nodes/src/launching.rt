@@ -1,0 +1,94 @@
+//! The commands with nodes among all.
+ghost use Rattle.std.specs.Prelude.{◌≡◌, ℕ, List, IsTrue};
+ghost use Rattle.roc_io.specs.Call.{children_call, link_call};
+ghost use Rattle.roc_io.specs.Cause.{HasCause};
+ghost use Rattle.roc_cli_words.specs.Answer.{AreWordsOf};
+ghost use Rattle.roc_cli_words.specs.Commands.{IsWithin, command_of};
+ghost use Rattle.roc_cli_files.specs.Fault.{blames_file, blames_sink, blames_link, fails_by, ReadsBut};
+ghost use Rattle.roc_cli_nodes.specs.Call.{run_call};
+ghost use Rattle.roc_cli_nodes.specs.Words.{needs_nodes};
+ghost use Rattle.roc_cli_nodes.specs.Ends.{precedes_loop, IsLaunched, CountsChildren};
+
+use crate::running::{local_files, serve_files, stop_files, submit_files};
+use roc_cli_files::Fault;
+use roc_cli_words::Ask;
+use roc_io::{Files, Link, Sink, Spawner};
+use std::alloc::Global;
+
+/// Whether the command is one with nodes, which [`launch`] runs.
+pub fn needs_nodes<'a>(asked: Ask<'a>) -> bool
+    ensures { result ≡ needs_nodes (command_of asked.entry) }
+{
+    match asked {
+        Ask::Serve { .. } | Ask::Submit { .. } | Ask::Stop { .. } | Ask::Local { .. } => true,
+        Ask::Check { .. } | Ask::Print { .. } | Ask::Replay { .. } | Ask::Gen { .. } => false,
+    }
+}
+
+/// Runs a command with nodes: reads its files in the order of the words, each judged before the next is read, and then runs its loop over the link.
+///
+/// Where the files do not hold what the command needs, the fault is that of [`nodes_of`](roc_cli_files::nodes_of), and neither the link nor a child was
+/// used. Once they were read, `Unanswered` says that all turns were taken and a request has no reply, `Link` that the link could not be bound or a receive
+/// failed, `Sink` that a line of a node could not be written, and `Child` that the server of that shard could not be started or awaited, or ended
+/// with another status than 0. `Memory` comes at any time, and no clause gives it a cause.
+pub fn launch<'a, F: Files, S: Sink, L: Link, P: Spawner>(
+    alloc: Global,
+    asked: Ask<'a>,
+    files: &mut F,
+    out: &mut S,
+    link: &mut L,
+    children: &mut P,
+) -> Result<(), Fault<'a>>
+    requires needed { IsTrue (needs_nodes (command_of asked)) }
+    requires within { IsWithin (command_of asked) }
+    // Of any words that ask for this command: the loop ended so, or the files that they name gave nothing.
+    ensures ends { (words : List (List ℕ)) → AreWordsOf words (command_of asked.entry) → IsLaunched (record {
+      run = run_call F.Files S.Sink words files.old files.new out.old out.new;
+      link = link_call L.Link link.old link.new;
+      children = children_call P.Spawner children.old children.new;
+    }) result }
+    ensures untouched { IsTrue (fails_by precedes_loop result) → (link.new ≡ link.old) × (children.new ≡ children.old) }
+    ensures childless { CountsChildren result (P.faults children.old) (P.faults children.new) }
+    ensures failed { ReadsBut (F.failed_names files.old) (F.failed_names files.new) result }
+
+    // A count of faults rises exactly at the fault that blames it.
+    ensures file_faults { HasCause (fails_by blames_file result) (F.faults files.old) (F.faults files.new) }
+    ensures sink_faults { HasCause (fails_by blames_sink result) (S.faults out.old) (S.faults out.new) }
+    ensures link_faults { HasCause (fails_by blames_link result) (L.faults link.old) (L.faults link.new) }
+
+    ensures content { (name : List ℕ) → F.content files.new name ≡ F.content files.old name }
+{
+    match asked {
+        Ask::Serve {
+            workload,
+            cluster,
+            shard,
+            turns,
+            counts,
+        } => serve_files(
+            alloc, workload, cluster, shard, turns, counts, files, out, link,
+        ),
+        Ask::Submit {
+            workload,
+            cluster,
+            requests,
+            coord,
+            turns,
+        } => submit_files(
+            alloc, workload, cluster, requests, coord, turns, files, out, link,
+        ),
+        Ask::Stop { workload, cluster } => {
+            stop_files(alloc, workload, cluster, files, out, link)
+        }
+        Ask::Local {
+            workload,
+            cluster,
+            requests,
+            turns,
+        } => local_files(
+            alloc, workload, cluster, requests, turns, files, out, link, children,
+        ),
+        Ask::Check { .. } | Ask::Print { .. } | Ask::Replay { .. } | Ask::Gen { .. } =>
+            unreachable!(),
+    }
+}

@@ -1,0 +1,8 @@
+-- One argument behind the other
+use Rattle.roc_cli_words.proofs.program.serve_command.Goals as goal
+
+pub returns : goal.returns
+returns c =
+    let first = c.with-command.ensures _ _ c.cluster_command-command.ensures c.named.ensures.rule c.named.ensures.local in
+    let second = c.with-command-2.ensures _ _ first c.named-2.ensures.rule c.named-2.ensures.local in
+    c.with.ensures _ _ second c.flag.ensures.rule c.flag.ensures.local

@@ -1,0 +1,83 @@
+-- What words that `clap` takes ask for: docs/FORMATS.md, "Words"
+use Rattle.std.specs.Prelude.{ℕ, ◌≤◌, Bool, if◌then◌else◌, List, [], Option, Some, None, Result, Ok, Err, codes, bytes_eq, option_and_then, unwrap_or}
+use Rattle.clap.specs.Words.{Row, Text, first_of, subcommand_of}
+use Rattle.roc_cli_words.specs.declared.value.ValueName.{ValueName}
+use Rattle.roc_cli_words.specs.declared.value.Part.{Part}
+use Rattle.roc_cli_words.specs.declared.command.Ask.{Ask}
+use Rattle.roc_cli_words.specs.declared.command.Ask.TheVariants as ask
+use Rattle.roc_cli_words.specs.Program.{program_app}
+use Rattle.roc_cli_words.specs.Values.{shard_in, turns_in, coord_in, seed_in, shards_in, txns_in, part_in}
+
+-- a command, with the names of its files and its values
+pub data Command : Type 0 where
+  check : (workload : Text) → Command
+  print : (workload : Text) → Command
+  replay : (workload schedule : Text) → Command
+  serve : (workload cluster : Text) → (shard turns : ℕ) → (counts : Bool) → Command
+  submit : (workload cluster requests : Text) → (coord turns : ℕ) → Command
+  stop : (workload cluster : Text) → Command
+  local : (workload cluster requests : Text) → (turns : ℕ) → Command
+  gen : (seed shards txns : ℕ) → (part : Part) → Command
+
+-- the same, as the code has it
+abbrev pub command_of : Ask → Command
+command_of (ask.Check workload) = check workload.now
+command_of (ask.Print workload) = print workload.now
+command_of (ask.Replay workload schedule) = replay workload.now schedule.now
+command_of (ask.Serve workload cluster shard turns counts) = serve workload.now cluster.now shard.0 turns counts
+command_of (ask.Submit workload cluster requests coord turns) = submit workload.now cluster.now requests.now coord turns
+command_of (ask.Stop workload cluster) = stop workload.now cluster.now
+command_of (ask.Local workload cluster requests turns) = local workload.now cluster.now requests.now turns
+command_of (ask.Gen seed shards txns part) = gen seed shards txns part
+
+-- its numbers are in their ranges
+abbrev pub IsWithin : Command → Type 0
+IsWithin (check workload) = Unit {0}
+IsWithin (print workload) = Unit {0}
+IsWithin (replay workload schedule) = Unit {0}
+IsWithin (serve workload cluster shard turns counts) = shard ≤ 63
+IsWithin (submit workload cluster requests coord turns) = coord ≤ 15
+IsWithin (stop workload cluster) = Unit {0}
+IsWithin (local workload cluster requests turns) = Unit {0}
+IsWithin (gen seed shards txns part) = (1 ≤ shards) × (shards ≤ 64) × (txns ≤ 1000)
+
+infixl 10 ◌>>=◌
+abbrev pub ◌>>=◌ : {A B : Type 0} → Result A ValueName → (A → Result B ValueName) → Result B ValueName
+(Ok x) >>= f = f x
+(Err e) >>= f = Err e
+
+-- what stands for a name; `clap` takes no words in which it is missing
+abbrev pub text_in : Text → List Row → Text
+text_in name rows = unwrap_or (first_of name rows) []
+
+abbrev pub serve_in : List Row → Result Command ValueName
+serve_in rows = shard_in (text_in (codes "shard") rows) >>= λ shard. turns_in (text_in (codes "turns") rows) >>= λ turns.
+    Ok (serve (text_in (codes "workload") rows) (text_in (codes "cluster") rows) shard turns (bytes_eq (text_in (codes "counts") rows) (codes "true")))
+
+abbrev pub submit_in : List Row → Result Command ValueName
+submit_in rows = coord_in (text_in (codes "coord") rows) >>= λ coord. turns_in (text_in (codes "turns") rows) >>= λ turns.
+    Ok (submit (text_in (codes "workload") rows) (text_in (codes "cluster") rows) (text_in (codes "requests") rows) coord turns)
+
+abbrev pub local_in : List Row → Result Command ValueName
+local_in rows = turns_in (text_in (codes "turns") rows) >>= λ turns.
+    Ok (local (text_in (codes "workload") rows) (text_in (codes "cluster") rows) (text_in (codes "requests") rows) turns)
+
+abbrev pub gen_in : List Row → Result Command ValueName
+gen_in rows = seed_in (text_in (codes "seed") rows) >>= λ seed. shards_in (text_in (codes "shards") rows) >>= λ shards.
+    txns_in (text_in (codes "txns") rows) >>= λ txns. part_in (text_in (codes "part") rows) >>= λ part. Ok (gen seed shards txns part)
+
+-- what a subcommand asks for, by its name and what was given to it: a command, or its first value that is none
+abbrev pub command_in : Text × List Row → Option (Result Command ValueName)
+command_in p = if bytes_eq p.0 (codes "check") then Some (Ok (check (text_in (codes "workload") p.1)))
+    else if bytes_eq p.0 (codes "print") then Some (Ok (print (text_in (codes "workload") p.1)))
+    else if bytes_eq p.0 (codes "replay") then Some (Ok (replay (text_in (codes "workload") p.1) (text_in (codes "schedule") p.1)))
+    else if bytes_eq p.0 (codes "serve") then Some (serve_in p.1)
+    else if bytes_eq p.0 (codes "submit") then Some (submit_in p.1)
+    else if bytes_eq p.0 (codes "stop") then Some (Ok (stop (text_in (codes "workload") p.1) (text_in (codes "cluster") p.1)))
+    else if bytes_eq p.0 (codes "local") then Some (local_in p.1)
+    else if bytes_eq p.0 (codes "gen") then Some (gen_in p.1)
+    else None
+
+-- what the words ask for, where `clap` takes them
+unfoldable pub command_by : List Text → Option (Result Command ValueName)
+command_by words = option_and_then command_in (subcommand_of program_app words)

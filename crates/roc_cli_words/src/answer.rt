@@ -1,0 +1,66 @@
+//! What `ask` answers.
+ghost use Rattle.std.specs.Prelude.{◌≡◌, map, string_bytes, IfOk};
+ghost use Rattle.clap.specs.Words.{kind_of};
+ghost use Rattle.roc_cli_words.specs.Answer.{AnswersWords, RefusesWords};
+ghost use Rattle.roc_cli_words.specs.Commands.{IsWithin, command_of};
+ghost use Rattle.roc_cli_words.specs.Inner.Parsing.{IsFaultOfKind, ParsesWords};
+
+use crate::command::{Ask, asked_by};
+use crate::program::program;
+use crate::value::ValueName;
+use clap::error::ErrorKind;
+use clap::{ArgMatches, Error};
+use std::alloc::Global;
+
+/// Why words ask for nothing.
+#[derive(Drop)]
+pub enum WordsFault {
+    /// `clap` refuses them, with this text, in lines.
+    Refused(String),
+    /// This value is no number, or none in its range; of several the first that is judged.
+    Value(ValueName),
+    /// There is no memory.
+    NoMemory,
+}
+
+fn fault_of(alloc: Global, error: &Error) -> WordsFault
+    ensures { IsFaultOfKind (kind_of error.now) result }
+{
+    if error.kind() == ErrorKind::OutOfMemory {
+        return WordsFault::NoMemory;
+    }
+    match format!(in alloc; "{error}") {
+        Ok(text) => WordsFault::Refused(text),
+        Err(_) => WordsFault::NoMemory,
+    }
+}
+
+fn parsed<'a>(alloc: Global, words: &'a [String]) -> Result<ArgMatches<'a>, WordsFault>
+    ensures { ParsesWords (map string_bytes words.entry.now) result }
+{
+    let command = match program(alloc) {
+        Ok(command) => command,
+        Err(_) => return Err(WordsFault::NoMemory),
+    };
+    match command.try_get_matches_from(words) {
+        Ok(matches) => Ok(matches),
+        Err(error) => Err(fault_of(alloc, &error)),
+    }
+}
+
+/// What the words behind the program's name ask for. The names of files are parts of the words.
+pub fn ask<'a>(alloc: Global, words: &'a [String]) -> Result<Ask<'a>, WordsFault>
+    ensures answers { AnswersWords (map string_bytes words.entry.now) result }
+    ensures refuses { RefusesWords (map string_bytes words.entry.now) result }
+    ensures within { IfOk result (λ ask. IsWithin (command_of ask)) }
+{
+    let matches = match parsed(alloc, words) {
+        Ok(matches) => matches,
+        Err(fault) => return Err(fault),
+    };
+    match asked_by(&matches) {
+        Some(Ok(ask)) => Ok(ask),
+        Some(Err(name)) => Err(WordsFault::Value(name)),
+        None => unreachable!(),
+    }
+}

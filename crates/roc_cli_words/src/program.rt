@@ -1,0 +1,153 @@
+//! The command line as `clap` is given it.
+ghost use Rattle.std.specs.Prelude.{◌≡◌, IfOk, false, codes};
+ghost use Rattle.clap.specs.Words.{App, Rule, app_of, rule_of, with_rule, with_subcommand};
+ghost use Rattle.roc_cli_words.specs.Inner.Building.{IsSoFar};
+ghost use Rattle.roc_cli_words.specs.Program.{standing_rule, named_rule, flag_rule, workload_app, replay_app, cluster_app, serve_app, submit_app, local_app, gen_app, bare_app, program_app};
+
+use clap::{Arg, ArgAction, Command};
+use std::alloc::{AllocError, Global};
+
+// A word that must stand.
+fn standing<'a>(alloc: Global, name: &'a str) -> Arg<'a>
+    ensures rule { rule_of result ≡ standing_rule name.entry.now }
+    ensures local { result.global ≡ false }
+{
+    Arg::new(alloc, name).required(true).action(ArgAction::Set)
+}
+
+// A value behind its name, that must stand.
+fn named<'a>(alloc: Global, name: &'a str) -> Arg<'a>
+    ensures rule { rule_of result ≡ named_rule name.entry.now }
+    ensures local { result.global ≡ false }
+{
+    Arg::new(alloc, name)
+        .required(true)
+        .action(ArgAction::Set)
+        .long(name)
+}
+
+// A name alone, that may stand.
+fn flag<'a>(alloc: Global, name: &'a str) -> Arg<'a>
+    ensures rule { rule_of result ≡ flag_rule name.entry.now }
+    ensures local { result.global ≡ false }
+{
+    Arg::new(alloc, name).action(ArgAction::SetTrue).long(name)
+}
+
+// A command with one more argument, where the command was made.
+fn with<'a>(
+    command: Result<Command<'a>, AllocError>,
+    arg: Arg<'a>,
+) -> Result<Command<'a>, AllocError>
+    ensures { (app : App) (rule : Rule) → IfOk command.entry (λ c. IsSoFar c app) → rule_of arg.entry ≡ rule → arg.entry.global ≡ false
+        → IfOk result (λ c. IsSoFar c (with_rule app rule)) }
+{
+    match command {
+        Ok(command) => command.arg(arg),
+        Err(error) => Err(error),
+    }
+}
+
+fn workload_command<'a>(alloc: Global, name: &'a str) -> Result<Command<'a>, AllocError>
+    ensures { IfOk result (λ c. IsSoFar c (workload_app name.entry.now)) }
+{
+    Command::new(alloc, name).arg(standing(alloc, "workload"))
+}
+
+fn replay_command<'a>(alloc: Global) -> Result<Command<'a>, AllocError>
+    ensures { IfOk result (λ c. IsSoFar c replay_app) }
+{
+    let command = workload_command(alloc, "replay");
+    with(command, standing(alloc, "schedule"))
+}
+
+fn cluster_command<'a>(alloc: Global, name: &'a str) -> Result<Command<'a>, AllocError>
+    ensures { IfOk result (λ c. IsSoFar c (cluster_app name.entry.now)) }
+{
+    let command = workload_command(alloc, name);
+    with(command, standing(alloc, "cluster"))
+}
+
+fn serve_command<'a>(alloc: Global) -> Result<Command<'a>, AllocError>
+    ensures { IfOk result (λ c. IsSoFar c serve_app) }
+{
+    let command = cluster_command(alloc, "serve");
+    let command = with(command, named(alloc, "shard"));
+    let command = with(command, named(alloc, "turns"));
+    with(command, flag(alloc, "counts"))
+}
+
+fn submit_command<'a>(alloc: Global) -> Result<Command<'a>, AllocError>
+    ensures { IfOk result (λ c. IsSoFar c submit_app) }
+{
+    let command = cluster_command(alloc, "submit");
+    let command = with(command, standing(alloc, "requests"));
+    let command = with(command, named(alloc, "coord"));
+    with(command, named(alloc, "turns"))
+}
+
+fn local_command<'a>(alloc: Global) -> Result<Command<'a>, AllocError>
+    ensures { IfOk result (λ c. IsSoFar c local_app) }
+{
+    let command = cluster_command(alloc, "local");
+    let command = with(command, standing(alloc, "requests"));
+    with(command, named(alloc, "turns"))
+}
+
+fn gen_command<'a>(alloc: Global) -> Result<Command<'a>, AllocError>
+    ensures { IfOk result (λ c. IsSoFar c gen_app) }
+{
+    let command = Command::new(alloc, "gen").arg(standing(alloc, "seed"));
+    let command = with(command, standing(alloc, "shards"));
+    let command = with(command, standing(alloc, "txns"));
+    with(command, standing(alloc, "part"))
+}
+
+fn bare_command<'a>(alloc: Global) -> Command<'a>
+    ensures { app_of result ≡ bare_app }
+{
+    Command::new(alloc, "rococo")
+        .no_binary_name(true)
+        .disable_help_flag(true)
+        .disable_help_subcommand(true)
+        .subcommand_required(true)
+}
+
+// The program with one more command, where both were made.
+fn joined<'a>(
+    program: Result<Command<'a>, AllocError>,
+    command: Result<Command<'a>, AllocError>,
+) -> Result<Command<'a>, AllocError>
+    ensures { (app other : App) → IfOk program.entry (λ p. app_of p ≡ app) → IfOk command.entry (λ c. IsSoFar c other) → IfOk result (λ p. app_of p ≡ with_subcommand app other.top) }
+{
+    match program {
+        Ok(program) => under(program, command),
+        Err(error) => Err(error),
+    }
+}
+
+fn under<'a>(
+    program: Command<'a>,
+    command: Result<Command<'a>, AllocError>,
+) -> Result<Command<'a>, AllocError>
+    ensures { (app other : App) → app_of program.entry ≡ app → IfOk command.entry (λ c. IsSoFar c other) → IfOk result (λ p. app_of p ≡ with_subcommand app other.top) }
+{
+    match command {
+        Ok(command) => program.subcommand(command),
+        Err(error) => Err(error),
+    }
+}
+
+/// All commands, none of which has help.
+pub(crate) fn program<'a>(alloc: Global) -> Result<Command<'a>, AllocError>
+    ensures { IfOk result (λ c. app_of c ≡ program_app) }
+{
+    let program = under(bare_command(alloc), workload_command(alloc, "check"));
+    let program = joined(program, workload_command(alloc, "print"));
+    let program = joined(program, replay_command(alloc));
+    let program = joined(program, serve_command(alloc));
+    let program = joined(program, submit_command(alloc));
+    let program = joined(program, cluster_command(alloc, "stop"));
+    let program = joined(program, local_command(alloc));
+    joined(program, gen_command(alloc))
+}

@@ -1,5 +1,0 @@
-use Rattle.roc_groups.proofs.Accepting.{no_cycle_exactly}
-use Rattle.roc_groups.proofs.laws.cycles_are_between_contended_groups.Goals as goal
-
-pub returns : goal.returns
-returns c = no_cycle_exactly

@@ -1,5 +1,0 @@
-use Rattle.roc_groups.proofs.Unique.{merged_once}
-use Rattle.roc_groups.proofs.laws.merged_groups_are_one.Goals as goal
-
-pub returns : goal.returns
-returns c = merged_once

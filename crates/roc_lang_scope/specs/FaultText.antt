@@ -1,0 +1,28 @@
+-- What is printed for each fault of scope.
+use Rattle.std.specs.Prelude.{ℕ, List, ◌++◌}
+use Rattle.std.specs.Fmt.{decimal}
+use lib.Chars.{codes}
+use Rattle.roc_lang.specs.Scope.{FaultKind, Shards, Twice, Unknown, LaterUsed, SamePieceKey, Unbound, Arity}
+use Rattle.roc_lang_scope.specs.declared.fault.ScopeWhat.{ScopeWhat}
+use Rattle.roc_lang_scope.specs.declared.fault.ScopeFault.{ScopeFault}
+use Rattle.roc_lang_scope.specs.declared.fault.ScopeFault.TheVariants.{At, NoMemory}
+use Rattle.roc_lang_scope.specs.Fault.{kind}
+
+-- the word of a fault, and the name behind it
+abbrev pub kind_text : FaultKind → List ℕ
+kind_text Shards = codes "shards"
+kind_text (Twice name) = codes "twice " ++ name
+kind_text (Unknown name) = codes "unknown " ++ name
+kind_text (LaterUsed name) = codes "later " ++ name
+kind_text (SamePieceKey name) = codes "key " ++ name
+kind_text (Unbound name) = codes "unbound " ++ name
+kind_text (Arity name) = codes "arity " ++ name
+
+-- the same of the code's fault
+abbrev pub what_text : ScopeWhat → List ℕ
+what_text what = kind_text (kind what)
+
+-- `line N: WORD NAME`, or that memory ran out
+abbrev pub fault_text : ScopeFault → List ℕ
+fault_text (At line what) = codes "line " ++ decimal line ++ codes ": " ++ what_text what
+fault_text NoMemory = codes "out of memory"

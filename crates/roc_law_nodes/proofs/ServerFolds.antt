@@ -1,0 +1,99 @@
+-- A server's node is the fold of its core's step over what its turns bring
+use Rattle.std.proofs.Common.{◌≡◌, ℕ, Bool, true, false, not, cond, List, [], ◌∷◌, ◌++◌, refl, sym, ap, subst, ◌∙◌, append-nil, append_assoc}
+use Rattle.std.proofs.lemmas.List.Elements.{filter-append}
+use Rattle.std.specs.Prelude.{filter}
+use Rattle.roc_base.specs.declared.node.Shard.{Shard}
+use Rattle.roc_io.specs.declared.link.Addr.{Addr}
+use Rattle.roc_msg.specs.declared.msg.Msg.{Msg}
+use Rattle.roc_msg.specs.declared.msg.Msg.TheVariants.{Start, StartOk, Commit, CommitOk, Fetch, Known, Stop}
+use Rattle.roc_msg.specs.declared.outbox.Outgoing.{Outgoing}
+use Rattle.roc_plan.specs.Groups.{Plan}
+use Rattle.roc_server.specs.State.{ServerState, ServerStep}
+use Rattle.roc_server.specs.Step.{Handles}
+use Rattle.roc_node.specs.Judgement.{judged}
+use Rattle.roc_node.specs.declared.judging.Judged.{Judged}
+use Rattle.roc_node.specs.declared.judging.Judged.TheVariants.{Delivery, Skipped}
+use Rattle.roc_node.specs.NodeEvent.{NodeEvent, took, silent, NodeSetting}
+use Rattle.roc_node_serve.specs.ServerRun.{ServerNodeState, is_stop, server_heard, TakesMessage, TakesJudged, AfterEvent, IsServerRun, begun, goes_on}
+use Rattle.roc_law_nodes.specs.Own.{OwnEvent, delivered, ticked, requested}
+use Rattle.roc_law_nodes.specs.Fold.{ServerSteps, IsServerFold, server_begun, server_goes_on}
+use Rattle.roc_law_nodes.specs.Turns.{judged_brings, turn_brings, turns_bring, is_for_core}
+use Rattle.roc_law_nodes.proofs.WorldFolds.{server_as}
+
+-- one turn more
+pub turns_more : (tag : List ℕ) (events : List NodeEvent) (event : NodeEvent) → turns_bring tag (events ++ event ∷ []) ≡ turns_bring tag events ++ turn_brings tag event
+turns_more tag [] event = append-nil (turn_brings tag event)
+turns_more tag (e ∷ es) event = ap (λ l. turn_brings tag e ++ l) (turns_more tag es event) ∙ sym (append_assoc (turn_brings tag e) (turns_bring tag es) (turn_brings tag event))
+
+abbrev for_core : List OwnEvent → List OwnEvent
+for_core own = filter is_for_core own
+
+-- what is for the core, with what one more turn brings
+core_more : (tag : List ℕ) (events : List NodeEvent) (event : NodeEvent) → for_core (turns_bring tag (events ++ event ∷ [])) ≡ for_core (turns_bring tag events) ++ for_core (turn_brings tag event)
+core_more tag events event = ap for_core (turns_more tag events event) ∙ filter-append is_for_core (turns_bring tag events) (turn_brings tag event)
+
+of_message : (msg : Msg) (b : Bool) → is_stop msg ≡ b → for_core (delivered msg ∷ []) ≡ cond b [] (delivered msg ∷ [])
+of_message msg true e = ap (λ (b : Bool). cond (not b) (delivered msg ∷ []) []) e
+of_message msg false e = ap (λ (b : Bool). cond (not b) (delivered msg ∷ []) []) e
+
+module _ (S : NodeSetting) (shard : Shard) where
+  -- what the core was given leads to this node
+  abbrev Folds : List OwnEvent → ServerNodeState → Type 0
+  Folds own node = IsServerFold S.plan shard own node.state node.messages
+
+  module _ (own : List OwnEvent) (node : ServerNodeState) (fold : Folds own node) where
+    same_still : (next : ServerNodeState) (none : List OwnEvent) → none ≡ [] → next.state ≡ node.state → next.messages ≡ node.messages → Folds (own ++ none) next
+    same_still next none e state messages = server_as S.plan fold (ap (λ l. own ++ l) e ∙ append-nil own) state messages
+
+    message_folds : (heard : ServerNodeState) (msg : Msg) (next : ServerNodeState) → heard.state ≡ node.state → heard.messages ≡ node.messages → (b : Bool) → is_stop msg ≡ b → TakesMessage S heard b msg next → Folds (own ++ for_core (delivered msg ∷ [])) next
+    message_folds heard msg next state messages true e h =
+        same_still next (for_core (delivered msg ∷ [])) (of_message msg true e) (ap (λ (n : ServerNodeState). n.state) h ∙ state) (ap (λ (n : ServerNodeState). n.messages) h ∙ messages)
+    message_folds heard msg next state messages false e (r, handles, is) =
+        server_as S.plan
+        (server_goes_on (delivered msg) r.state r.sends fold (r, subst (λ (s : ServerState). Handles S.plan s msg r) state handles, refl, refl))
+        (ap (λ l. own ++ l) (of_message msg false e))
+        (ap (λ (n : ServerNodeState). n.state) is)
+        (ap (λ (n : ServerNodeState). n.messages) is ∙ ap (λ l. l ++ r.sends) messages)
+
+    judged_folds : (from : Addr) (j : Judged) (next : ServerNodeState) → TakesJudged S node from j next → Folds (own ++ for_core (judged_brings j)) next
+    judged_folds from (Delivery header msg) next h = message_folds (server_heard node header from) msg next refl refl (is_stop msg) refl h
+    judged_folds from (Skipped skip) next h = same_still next [] refl (ap (λ (n : ServerNodeState). n.state) h) (ap (λ (n : ServerNodeState). n.messages) h)
+
+    event_folds : (event : NodeEvent) (next : ServerNodeState) → AfterEvent S node event next → Folds (own ++ for_core (turn_brings S.header.tag event)) next
+    event_folds (took packet) next h = judged_folds packet.address (judged S.header.tag packet.bytes) next h
+    event_folds silent next h =
+        server_as S.plan (server_goes_on ticked node.state _ fold (refl, refl)) refl (ap (λ (n : ServerNodeState). n.state) h) (ap (λ (n : ServerNodeState). n.messages) h)
+
+  pub run_folds : {events : List NodeEvent} {node : ServerNodeState} → IsServerRun S shard events node → IsServerFold S.plan shard (filter is_for_core (turns_bring S.header.tag events)) node.state node.messages
+  run_folds begun = server_begun
+  run_folds (goes_on {events = events} {node = node} event next r going after) =
+      server_as S.plan (event_folds (for_core (turns_bring S.header.tag events)) node (run_folds r) event next after) (core_more S.header.tag events event) refl refl
+
+-- ---- a stop changes nothing
+
+module _ (plan : Plan) (shard : Shard) where
+  stop_does_nothing : (msg : Msg) (s after : ServerState) (outs : List Outgoing) → is_stop msg ≡ true → ServerSteps plan s (delivered msg) after outs → (after ≡ s) × (outs ≡ [])
+  stop_does_nothing Stop s after outs e (r, handles, state, sends) = (state ∙ ap (λ (r : ServerStep). r.state) handles.is, sends ∙ ap (λ (r : ServerStep). r.sends) handles.is)
+  stop_does_nothing (Start id proc group args inputs) s after outs e h = absurd (cc)
+  stop_does_nothing (StartOk id group at bound values edges facts) s after outs e h = absurd (cc)
+  stop_does_nothing (Commit id edges facts) s after outs e h = absurd (cc)
+  stop_does_nothing (CommitOk id at values) s after outs e h = absurd (cc)
+  stop_does_nothing (Fetch id asker) s after outs e h = absurd (cc)
+  stop_does_nothing (Known id edges) s after outs e h = absurd (cc)
+
+  module _ (front : List OwnEvent) (s : ServerState) (messages : List Outgoing) (fold : IsServerFold plan shard front s messages) where
+    message_more : (msg : Msg) (after : ServerState) (outs : List Outgoing) → ServerSteps plan s (delivered msg) after outs → (b : Bool) → is_stop msg ≡ b → IsServerFold plan shard (front ++ for_core (delivered msg ∷ [])) after (messages ++ outs)
+    message_more msg after outs h true e =
+        let none = stop_does_nothing msg s after outs e h in
+        server_as plan fold (ap (λ l. front ++ l) (of_message msg true e) ∙ append-nil front) none.0 (ap (λ l. messages ++ l) none.1 ∙ append-nil messages)
+    message_more msg after outs h false e = server_as plan (server_goes_on (delivered msg) after outs fold h) (ap (λ l. front ++ l) (of_message msg false e)) refl refl
+
+    own_more : (own : OwnEvent) (after : ServerState) (outs : List Outgoing) → ServerSteps plan s own after outs → IsServerFold plan shard (front ++ for_core (own ∷ [])) after (messages ++ outs)
+    own_more (delivered msg) after outs h = message_more msg after outs h (is_stop msg) refl
+    own_more ticked after outs h = server_goes_on ticked after outs fold h
+    own_more (requested proc args) after outs h = absurd h
+
+  pub without_stops : {own : List OwnEvent} {s : ServerState} {messages : List Outgoing} → IsServerFold plan shard own s messages → IsServerFold plan shard (filter is_for_core own) s messages
+  without_stops server_begun = server_begun
+  without_stops (server_goes_on {events = events} {s = s} {messages = messages} own after outs fold h) =
+      server_as plan (own_more (for_core events) s messages (without_stops fold) own after outs h) (filter-append is_for_core events (own ∷ [])) refl refl

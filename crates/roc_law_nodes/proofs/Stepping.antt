@@ -1,0 +1,98 @@
+-- An event of the world is one node's step, or none
+use Rattle.std.proofs.Common.{◌≡◌, ℕ, ℤ, ◌-◌, zero, suc, List, [], ◌∷◌, ◌++◌, Option, Some, None, map, refl, sym, ap, ◌∙◌, append-nil}
+use Rattle.std.specs.Prelude.{slice_get, slice_set, if◌then◌else◌}
+use Rattle.roc_base.specs.declared.node.Shard.{Shard}
+use Rattle.roc_base.specs.declared.node.Node.{Node}
+use Rattle.roc_base.specs.declared.node.Node.TheVariants.{Server, Coord}
+use Rattle.roc_base.specs.Node.{is_node}
+use Rattle.roc_msg.specs.declared.msg.Envelope.{Envelope}
+use Rattle.roc_msg.specs.declared.outbox.Outgoing.{Outgoing}
+use Rattle.roc_plan.specs.Groups.{Plan}
+use Rattle.roc_server.specs.State.{ServerState}
+use Rattle.roc_server.specs.Step as server
+use Rattle.roc_coord.specs.declared.handled.SubmitFault.{SubmitFault}
+use Rattle.roc_coord.specs.declared.handled.SubmitFault.TheVariants as fault
+use Rattle.roc_coord.specs.State.{CoordState}
+use Rattle.roc_coord.specs.Step.{after_message}
+use Rattle.roc_coord.specs.Submit.{Submission, refusal_of, refused_or_accepted, after_submit}
+use Rattle.roc_coord.specs.Tick as coord
+use Rattle.roc_protocol.specs.declared.event.Event.{Event}
+use Rattle.roc_protocol.specs.declared.event.Event.TheVariants.{Submit, Deliver, Tick}
+use Rattle.roc_protocol.specs.World.{World, sent_by, mark_delivered}
+use Rattle.roc_protocol.specs.Happens.{Outcome, IsSubmissionOf, IsReceived}
+use Rattle.roc_protocol.specs.Run.{Transition}
+use Rattle.roc_law_nodes.specs.Own.{OwnEvent, delivered, ticked, requested, heard_by, own_step}
+use Rattle.roc_law_nodes.specs.Fold.{ServerSteps, CoordSteps}
+
+-- from w to v an event is an own event of this node, which sends these messages
+pub record IsStepAt (w v : World) (e : Option Event) (at : Node) (own : OwnEvent) (outs : List Outgoing) : Type 0 where
+  pub is : (node : Node) (more : List Envelope) → own_step node (w.sent ++ more) e ≡ (if is_node at node then Some own else None)
+  pub sends : v.sent ≡ w.sent ++ map (sent_by at) outs
+
+pub data IsStep (plan : Plan) (w v : World) (e : Option Event) : Type 0 where
+  no_step : v ≡ w → e ≡ None → IsStep plan w v e
+  server_step : (shard : Shard) (own : OwnEvent) (s after : ServerState) (outs : List Outgoing) → IsStepAt w v e (Server shard) own outs
+      → slice_get w.servers shard.0 ≡ Some s → ServerSteps plan s own after outs → v.servers ≡ slice_set w.servers shard.0 after → v.coords ≡ w.coords → IsStep plan w v e
+  coord_step : (number : ℕ) (own : OwnEvent) (c after : CoordState) (outs : List Outgoing) → IsStepAt w v e (Coord number) own outs
+      → slice_get w.coords number ≡ Some c → CoordSteps plan c own after outs → v.coords ≡ slice_set w.coords number after → v.servers ≡ w.servers → IsStep plan w v e
+
+-- what is found in front is found in the whole
+get_front : {A : Type 0} (xs ys : List A) (i : ℕ) (a : A) → slice_get xs i ≡ Some a → slice_get (xs ++ ys) i ≡ Some a
+get_front [] ys i a e = absurd (cc)
+get_front (x ∷ xs) ys zero a e = e
+get_front (x ∷ xs) ys (suc i) a e = get_front xs ys i a e
+
+-- what is there already, put there once more
+set_there : {A : Type 0} (xs : List A) (i : ℕ) (a : A) → slice_get xs i ≡ Some a → slice_set xs i a ≡ xs
+set_there [] i a e = refl
+set_there (x ∷ xs) zero a e = let same : a ≡ x = cc in ap (λ y. y ∷ xs) same
+set_there (x ∷ xs) (suc i) a e = ap (λ ys. x ∷ ys) (set_there xs i a e)
+
+-- a submission at a coordinator, refused or accepted
+record Lands (w : World) (n : ℕ) (sub : Submission) (v : World) : Type 0 where
+  pub coords : v.coords ≡ slice_set w.coords n sub.state
+  pub servers : v.servers ≡ w.servers
+  pub sent : v.sent ≡ w.sent ++ map (sent_by (Coord n)) sub.sends
+
+module _ (plan : Plan) (w : World) where
+  lands : (n proc : ℕ) (args : List ℤ) (c : CoordState) (o : Outcome) → slice_get w.coords n ≡ Some c → (refusal : Option SubmitFault)
+      → IsSubmissionOf w n proc args (refused_or_accepted plan c proc args refusal) o → Lands w n (refused_or_accepted plan c proc args refusal) o.world
+  lands n proc args c o there None h = record { coords = ap (λ (o : Outcome). o.world.coords) h; servers = ap (λ (o : Outcome). o.world.servers) h; sent = ap (λ (o : Outcome). o.world.sent) h }
+  lands n proc args c o there (Some fault.Spent) h =
+      record { coords = ap (λ (o : Outcome). o.world.coords) h ∙ sym (set_there w.coords n c there); servers = ap (λ (o : Outcome). o.world.servers) h; sent = ap (λ (o : Outcome). o.world.sent) h ∙ sym (append-nil w.sent) }
+  lands n proc args c o there (Some fault.Busy) h =
+      record { coords = ap (λ (o : Outcome). o.world.coords) h ∙ sym (set_there w.coords n c there); servers = ap (λ (o : Outcome). o.world.servers) h; sent = ap (λ (o : Outcome). o.world.sent) h ∙ sym (append-nil w.sent) }
+  lands n proc args c o there (Some fault.Stopped) h = absurd h
+  lands n proc args c o there (Some fault.NoProc) h = absurd h
+  lands n proc args c o there (Some fault.Args) h = absurd h
+  lands n proc args c o there (Some fault.NoMemory) h = absurd h
+
+  -- a message that comes
+  received : (k : ℕ) (m : Envelope) (o : Outcome) → slice_get w.sent (k - 1) ≡ Some m → (to : Node) → m.to ≡ to → IsReceived plan (mark_delivered w k) m.msg to o → IsStep plan w o.world (Some (Deliver k))
+  received k m o there (Server shard) to (s, r, at, handles, is) =
+      server_step shard (delivered m.msg) s r.state r.sends
+      (record {
+        is = λ node more. ap (heard_by node) (get_front w.sent more (k - 1) m there) ∙ ap (λ (t : Node). if is_node t node then Some (delivered m.msg) else None) to;
+        sends = ap (λ (o : Outcome). o.world.sent) is;
+      })
+      at (r, handles, refl, refl) (ap (λ (o : Outcome). o.world.servers) is) (ap (λ (o : Outcome). o.world.coords) is)
+  received k m o there (Coord n) to (c, at, is) =
+      coord_step n (delivered m.msg) c (after_message plan c m.msg).state (after_message plan c m.msg).sends
+      (record {
+        is = λ node more. ap (heard_by node) (get_front w.sent more (k - 1) m there) ∙ ap (λ (t : Node). if is_node t node then Some (delivered m.msg) else None) to;
+        sends = ap (λ (o : Outcome). o.world.sent) is;
+      })
+      at (refl, refl) (ap (λ (o : Outcome). o.world.coords) is) (ap (λ (o : Outcome). o.world.servers) is)
+
+  pub stepping : (e : Option Event) (o : Outcome) → Transition plan w e o → IsStep plan w o.world e
+  stepping None o h = no_step (ap (λ (o : Outcome). o.world) h) refl
+  stepping (Some (Submit n proc args)) o (c, there, h) =
+      let l = lands n proc args c o there (refusal_of plan c proc args) h in
+      coord_step n (requested proc args) c (after_submit plan c proc args).state (after_submit plan c proc args).sends (record { is = λ node more. refl; sends = l.sent }) there (refl, refl) l.coords l.servers
+  stepping (Some (Deliver k)) o (m, some, there, h) = received k m o there m.to refl h
+  stepping (Some (Tick (Server shard))) o (s, there, is) =
+      server_step shard ticked s s (server.tick_sends s) (record { is = λ node more. refl; sends = ap (λ (o : Outcome). o.world.sent) is }) there (refl, refl)
+      (ap (λ (o : Outcome). o.world.servers) is) (ap (λ (o : Outcome). o.world.coords) is)
+  stepping (Some (Tick (Coord n))) o (c, there, is) =
+      coord_step n ticked c c (coord.tick_sends plan c) (record { is = λ node more. refl; sends = ap (λ (o : Outcome). o.world.sent) is }) there (refl, refl)
+      (ap (λ (o : Outcome). o.world.coords) is) (ap (λ (o : Outcome). o.world.servers) is)

@@ -1,0 +1,18 @@
+use Rattle.std.proofs.Common.{ap}
+use Rattle.std.specs.Prelude.{filter}
+use Rattle.roc_law_nodes.specs.Turns.{is_for_core}
+use Rattle.roc_law_nodes.proofs.WorldFolds.{server_fold, coord_fold}
+use Rattle.roc_law_nodes.proofs.OneFold.{one_server_fold, one_coord_fold}
+use Rattle.roc_law_nodes.proofs.ServerFolds.{run_folds, without_stops}
+use Rattle.roc_law_nodes.proofs.CoordFolds.{coord_run_folds}
+use Rattle.roc_law_nodes.proofs.Spelled.{turns_of}
+use Rattle.roc_law_nodes.proofs.laws.node_runs_are_the_world.Goals as goal
+
+pub returns-clause-servers : goal.returns-clause-servers
+returns-clause-servers c S coords steps w run shard s there events n ran are =
+    one_server_fold S.plan (c.step_is_one.ensures S.plan) shard (run_folds S shard ran) (without_stops S.plan shard (server_fold S.plan coords run shard s there))
+    (ap (filter is_for_core) (turns_of c.spelled_is_read.ensures S.header.tag are))
+
+pub returns-clause-coords : goal.returns-clause-coords
+returns-clause-coords c S coords steps w run number d there requests events n ran same =
+    one_coord_fold S.plan number (coord_run_folds S number ran) (coord_fold S.plan coords run number d there) same

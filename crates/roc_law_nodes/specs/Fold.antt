@@ -1,0 +1,43 @@
+-- The fold of a node's own step over its own events: docs/PROTOCOL.md, "Running nodes"
+use Rattle.std.specs.Prelude.{◌≡◌, ℕ, List, [], ◌∷◌, ◌++◌}
+use Rattle.roc_base.specs.declared.node.Shard.{Shard}
+use Rattle.roc_msg.specs.declared.outbox.Outgoing.{Outgoing}
+use Rattle.roc_plan.specs.Groups.{Plan}
+use Rattle.roc_server.specs.First.{first_server}
+use Rattle.roc_server.specs.State.{ServerState, ServerStep}
+use Rattle.roc_server.specs.Step as server
+use Rattle.roc_coord.specs.State.{first_coord, CoordState}
+use Rattle.roc_coord.specs.Step.{after_message}
+use Rattle.roc_coord.specs.Submit.{after_submit}
+use Rattle.roc_coord.specs.Tick as coord
+use Rattle.roc_law_nodes.specs.Own.{OwnEvent, delivered, ticked, requested}
+
+-- ---- servers
+
+-- a server in this state takes an own event, is in that one then, and sends these messages: a tick changes no state, and nothing is
+-- submitted to a server
+abbrev pub ServerSteps : Plan → ServerState → OwnEvent → ServerState → List Outgoing → Type 0
+ServerSteps plan s (delivered msg) after outs = (r : ServerStep) × server.Handles plan s msg r × (after ≡ r.state) × (outs ≡ r.sends)
+ServerSteps plan s ticked after outs = (after ≡ s) × (outs ≡ server.tick_sends s)
+ServerSteps plan s (requested proc args) after outs = ⊥
+
+-- the own events, one by one, lead a shard's server from its first state to this one, and it sends these messages in all
+pub data IsServerFold (plan : Plan) (shard : Shard) : List OwnEvent → ServerState → List Outgoing → Type 0 where
+  server_begun : IsServerFold plan shard [] (first_server plan shard) []
+  server_goes_on : {events : List OwnEvent} {s : ServerState} {messages : List Outgoing} (own : OwnEvent) (after : ServerState) (outs : List Outgoing)
+      → IsServerFold plan shard events s messages → ServerSteps plan s own after outs → IsServerFold plan shard (events ++ own ∷ []) after (messages ++ outs)
+
+-- ---- coordinators
+
+-- a coordinator in this state takes an own event, is in that one then, and sends these messages: a tick changes no state, nor does a
+-- submission that is refused
+abbrev pub CoordSteps : Plan → CoordState → OwnEvent → CoordState → List Outgoing → Type 0
+CoordSteps plan s (delivered msg) after outs = (after ≡ (after_message plan s msg).state) × (outs ≡ (after_message plan s msg).sends)
+CoordSteps plan s ticked after outs = (after ≡ s) × (outs ≡ coord.tick_sends plan s)
+CoordSteps plan s (requested proc args) after outs = (after ≡ (after_submit plan s proc args).state) × (outs ≡ (after_submit plan s proc args).sends)
+
+-- the own events, one by one, lead the coordinator of this number from its first state to this one, and it sends these messages in all
+pub data IsCoordFold (plan : Plan) (number : ℕ) : List OwnEvent → CoordState → List Outgoing → Type 0 where
+  coord_begun : IsCoordFold plan number [] (first_coord number) []
+  coord_goes_on : {events : List OwnEvent} {s : CoordState} {messages : List Outgoing} (own : OwnEvent) (after : CoordState) (outs : List Outgoing)
+      → IsCoordFold plan number events s messages → CoordSteps plan s own after outs → IsCoordFold plan number (events ++ own ∷ []) after (messages ++ outs)

@@ -1,0 +1,94 @@
+//! The world's nodes and the nodes that people run are one. Each law is the contract of a function that does nothing.
+ghost use Rattle.std.specs.Prelude.{◌≡◌, ℕ, not, List, Some, filter, slice_get};
+ghost use Rattle.std.specs.List.{AllByRecursion};
+ghost use Rattle.roc_base.specs.declared.node.Shard.{Shard};
+ghost use Rattle.roc_base.specs.declared.node.Node.TheVariants as node;
+ghost use Rattle.roc_coord.specs.State.{CoordState};
+ghost use Rattle.roc_io.specs.declared.link.Addr.{Addr};
+ghost use Rattle.roc_msg.specs.declared.outbox.Outgoing.{Outgoing};
+ghost use Rattle.roc_node_submit.specs.CoordRun.{CoordNodeState, first_coord_node_state, IsCoordRun};
+ghost use Rattle.roc_node.specs.NodeEvent.{NodeEvent, NodeSetting};
+ghost use Rattle.roc_node_serve.specs.ServerRun.{ServerNodeState, IsServerRun};
+ghost use Rattle.roc_plan.specs.Groups.{Plan};
+ghost use Rattle.roc_protocol.specs.Run.{Stepped, IsRun};
+ghost use Rattle.roc_protocol.specs.World.{World};
+ghost use Rattle.roc_law_nodes.specs.Fold.{IsServerFold, IsCoordFold};
+ghost use Rattle.roc_law_nodes.specs.Own.{OwnEvent, own_events, messages_of};
+ghost use Rattle.roc_law_nodes.specs.Turns.{turns_bring, is_for_core, AreTurnsOf, HasTurn, is_request, coord_owns, AreBrought};
+ghost use Rattle.roc_sched.specs.declared.line.Request.{Request};
+ghost use Rattle.roc_server.specs.State.{ServerState};
+ghost use Rattle.roc_wire.specs.declared.header.Header.{Header};
+
+use roc_server::laws::step_is_one;
+use roc_wire::laws::spelled_is_read;
+
+/// In every run of the world, the state of each node and the messages that the world has from it, in the order in which it sent them,
+/// are those of the fold of its own step over its own events.
+pub fn world_is_folds()
+    ensures servers { (plan : Plan) (coords : ℕ) (steps : List Stepped) (w : World) → IsRun plan coords steps w
+        → (shard : Shard) (s : ServerState) → slice_get w.servers shard.0 ≡ Some s
+        → IsServerFold plan shard (own_events (node.Server shard) w.sent steps) s (messages_of (node.Server shard) w.sent) }
+    ensures coords { (plan : Plan) (coords : ℕ) (steps : List Stepped) (w : World) → IsRun plan coords steps w
+        → (number : ℕ) (c : CoordState) → slice_get w.coords number ≡ Some c
+        → IsCoordFold plan number (own_events (node.Coord number) w.sent steps) c (messages_of (node.Coord number) w.sent) }
+{}
+
+/// The fold over a list of own events is one: its state and its messages. For a server's core a stop changes nothing and sends nothing.
+pub fn fold_is_one()
+    ensures servers { (plan : Plan) (shard : Shard) (events : List OwnEvent) (s t : ServerState) (messages others : List Outgoing)
+        → IsServerFold plan shard events s messages → IsServerFold plan shard events t others → (s ≡ t) × (messages ≡ others) }
+    ensures coords { (plan : Plan) (number : ℕ) (events : List OwnEvent) (c d : CoordState) (messages others : List Outgoing)
+        → IsCoordFold plan number events c messages → IsCoordFold plan number events d others → (c ≡ d) × (messages ≡ others) }
+    ensures stops { (plan : Plan) (shard : Shard) (events : List OwnEvent) (s : ServerState) (messages : List Outgoing)
+        → IsServerFold plan shard events s messages → IsServerFold plan shard (filter is_for_core events) s messages }
+{
+    step_is_one();
+}
+
+/// Whatever datagrams and silences a server's node takes, its core's state and messages are the fold over what they bring, but for stops,
+/// which never reach the core: one delivery for each datagram with the node's tag and one tick for each silence. So turns that spell own
+/// events give the fold over those, and what is skipped between them changes nothing.
+pub fn server_run_is_fold()
+    ensures brought { (S : NodeSetting) (shard : Shard) (events : List NodeEvent) (n : ServerNodeState) → IsServerRun S shard events n
+        → IsServerFold S.plan shard (filter is_for_core (turns_bring S.header.tag events)) n.state n.messages }
+    ensures spelled { (S : NodeSetting) (shard : Shard) (events : List NodeEvent) (n : ServerNodeState) → IsServerRun S shard events n
+        → (own : List OwnEvent) → AreTurnsOf S.header.tag events own → IsServerFold S.plan shard (filter is_for_core own) n.state n.messages }
+{
+    spelled_is_read();
+}
+
+/// Whatever datagrams and silences a coordinator's node takes, its core's state and messages are the fold over its own events: before each
+/// turn its submissions, and then what the turn brings. These are what the turns bring, in order, and the requests that it has submitted,
+/// in order. So where the turns spell deliveries and ticks, its own events but for the requests are those.
+pub fn coord_run_is_fold()
+    ensures brought { (S : NodeSetting) (number : ℕ) (requests : List Request) (events : List NodeEvent) (n : CoordNodeState) → IsCoordRun S number requests events n
+        → IsCoordFold S.plan number (coord_owns S (first_coord_node_state number requests) events) n.state n.messages }
+    ensures owns { (S : NodeSetting) (number : ℕ) (requests : List Request) (events : List NodeEvent) (n : CoordNodeState) → IsCoordRun S number requests events n
+        → AreBrought S requests n.left events (coord_owns S (first_coord_node_state number requests) events) }
+    ensures spelled { (S : NodeSetting) (number : ℕ) (requests : List Request) (events : List NodeEvent) (n : CoordNodeState) → IsCoordRun S number requests events n
+        → (owns : List OwnEvent) → AreTurnsOf S.header.tag events owns → filter (λ e. not (is_request e)) (coord_owns S (first_coord_node_state number requests) events) ≡ owns }
+{
+    spelled_is_read();
+}
+
+/// Deliveries of messages that have a spelling, and ticks, are spelled by some turns.
+pub fn own_events_have_turns()
+    ensures { (header : Header) (from : Addr) (owns : List OwnEvent) → AllByRecursion (HasTurn header) owns → (events : List NodeEvent) × AreTurnsOf header.tag events owns }
+{}
+
+/// The node that runs is the world's: where the turns of a server's node spell its own events in a run of the world, it has the world's
+/// state and sent the world's messages; and so has a coordinator's node whose own events are those of a run.
+pub fn node_runs_are_the_world()
+    ensures servers { (S : NodeSetting) (coords : ℕ) (steps : List Stepped) (w : World) → IsRun S.plan coords steps w
+        → (shard : Shard) (s : ServerState) → slice_get w.servers shard.0 ≡ Some s
+        → (events : List NodeEvent) (n : ServerNodeState) → IsServerRun S shard events n → AreTurnsOf S.header.tag events (own_events (node.Server shard) w.sent steps)
+        → (n.state ≡ s) × (n.messages ≡ messages_of (node.Server shard) w.sent) }
+    ensures coords { (S : NodeSetting) (coords : ℕ) (steps : List Stepped) (w : World) → IsRun S.plan coords steps w
+        → (number : ℕ) (c : CoordState) → slice_get w.coords number ≡ Some c
+        → (requests : List Request) (events : List NodeEvent) (n : CoordNodeState) → IsCoordRun S number requests events n
+        → coord_owns S (first_coord_node_state number requests) events ≡ own_events (node.Coord number) w.sent steps
+        → (n.state ≡ c) × (n.messages ≡ messages_of (node.Coord number) w.sent) }
+{
+    step_is_one();
+    spelled_is_read();
+}

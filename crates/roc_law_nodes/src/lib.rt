@@ -1,0 +1,13 @@
+//! What people run is what the laws speak of: the world of `roc_protocol`, in which all nodes take their steps, and the
+//! nodes of `roc_node_serve` and `roc_node_submit`, each of which leads the datagrams of its link through its own core. No code
+//! stands here but [`laws`].
+//!
+//! `specs/Own.antt` has a node's own events and messages in a run of the world, `specs/Fold.antt` the fold of its
+//! core's step over own events, and `specs/Turns.antt` the own events that the turns of a running node bring, and
+//! datagrams that spell them. By [`laws`] each node's state and messages in a run of the world are such a fold, a fold
+//! is one, a running node is the fold over what its turns bring, and so if its turns spell its own events in a run, the
+//! node has the world's state and sent the world's messages (`node_runs_are_the_world`). That datagrams arrive is not
+//! claimed.
+#![tactic(auto)]
+
+pub mod laws;

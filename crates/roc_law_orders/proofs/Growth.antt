@@ -1,0 +1,59 @@
+-- What stays where more groups run behind others
+use Rattle.std.proofs.Common.{◌≡◌, ℤ, List, [], ◌∷◌, ◌++◌, refl, sym, ap, subst, inl, inr, ◌∙◌}
+use Rattle.std.specs.List.{AllByRecursion}
+use Rattle.roc_sequence.specs.Places.{IsListed, IsListedBefore, NoneTwice}
+use Rattle.roc_sequence.proofs.Holds.{all_weaker}
+use Rattle.roc_sequence.proofs.Places.{listed_by_before, listed_or_not}
+use Rattle.roc_rows.specs.Store.{Store}
+use Rattle.roc_law_orders.specs.Behaviour.{TxnGroup, is_txn_group, Behaviour}
+use Rattle.roc_law_orders.specs.Runs.{Stage, first_stage, needs, inputs_at, uses_at, after_group, after_groups, groups_before, stage_behind, stage_before, uses_in, account_at}
+use Rattle.roc_law_orders.specs.Growth.{Stays}
+use Rattle.roc_law_orders.proofs.Places.{apart, before_appended, before_past, before_absent, none_twice_before}
+use Rattle.roc_law_orders.proofs.Stages.{yielded_not, yielded_at, yielded-before, same_inputs}
+
+after_groups-append : (B : Behaviour) (s : Stage) (Q T : List TxnGroup) → after_groups B s (Q ++ T) ≡ after_groups B (after_groups B s Q) T
+after_groups-append B s [] T = refl
+after_groups-append B s (q ∷ Q) T = after_groups-append B (after_group B s q) Q T
+
+-- the inputs of a group at its place are those in the end
+pub inputs_found : (B : Behaviour) (start : Store) (Q : List TxnGroup) (r : TxnGroup) → NoneTwice is_txn_group Q
+    → (IsListed is_txn_group Q r → AllByRecursion (λ d. IsListedBefore is_txn_group Q d r) (needs B r))
+    → inputs_at B (stage_before B start Q r) r ≡ inputs_at B (stage_behind B start Q) r
+inputs_found B start Q r n h =
+    elim (listed_or_not is_txn_group Q r) [
+      | inl l ↦
+          same_inputs B (stage_before B start Q r) (stage_behind B start Q) r
+          (all_weaker (λ d. IsListedBefore is_txn_group Q d r) (λ d. (stage_before B start Q r).yielded d ≡ (stage_behind B start Q).yielded d)
+          (λ d b. yielded-before B Q (first_stage start) r d n b ∙ sym (yielded_at B Q (first_stage start) d n (listed_by_before is_txn_group Q d r b)))
+          (needs B r) (h l))
+      | inr l ↦ ap (λ F. inputs_at B (stage_behind B start F) r) (before_absent Q r l)
+    ]
+
+module _ (B : Behaviour) (start : Store) (Q T : List TxnGroup) where
+  yielded_stays : (r : TxnGroup) → NoneTwice is_txn_group (Q ++ T) → IsListed is_txn_group Q r → (stage_behind B start (Q ++ T)).yielded r ≡ (stage_behind B start Q).yielded r
+  yielded_stays r n h = ap (λ (s : Stage). s.yielded r) (after_groups-append B (first_stage start) Q T) ∙ yielded_not B T (stage_behind B start Q) r (apart Q T r n h)
+
+  inputs_stay : (r : TxnGroup) → NoneTwice is_txn_group (Q ++ T) → AllByRecursion (IsListed is_txn_group Q) (needs B r) → inputs_at B (stage_behind B start (Q ++ T)) r ≡ inputs_at B (stage_behind B start Q) r
+  inputs_stay r n h =
+      same_inputs B (stage_behind B start (Q ++ T)) (stage_behind B start Q) r
+      (all_weaker (IsListed is_txn_group Q) (λ d. (stage_behind B start (Q ++ T)).yielded d ≡ (stage_behind B start Q).yielded d) (λ d i. yielded_stays d n i) (needs B r) h)
+
+-- what a group that waits uses, by its inputs alone
+waiting_stays : (B : Behaviour) (start : Store) (Q T : List TxnGroup) (r : TxnGroup) → NoneTwice is_txn_group (Q ++ T) → ¬ IsListed is_txn_group Q r → AllByRecursion (IsListed is_txn_group Q) (needs B r)
+    → ((given : List (List ℤ)) (s t : Store) → B.uses r given s ≡ B.uses r given t)
+    → uses_in B start (Q ++ T) r ≡ uses_in B start Q r
+waiting_stays B start Q T r n k h steady =
+    ap (λ F. uses_at B (stage_behind B start F) r) (before_past Q T r k)
+    ∙ ap (λ given. B.uses r given (stage_behind B start (Q ++ groups_before r T)).store) (inputs_stay B start Q (groups_before r T) r (subst (NoneTwice is_txn_group) (before_past Q T r k) (none_twice_before (Q ++ T) r n)) h)
+    ∙ steady (inputs_at B (stage_behind B start Q) r) (stage_behind B start (Q ++ groups_before r T)).store (stage_behind B start Q).store
+    ∙ sym (ap (λ F. uses_at B (stage_behind B start F) r) (before_absent Q r k))
+
+pub stays : (B : Behaviour) (start : Store) (Q T : List TxnGroup) → NoneTwice is_txn_group (Q ++ T) → Stays B start Q T
+stays B start Q T n =
+    record {
+      account = λ r h. ap (λ F. account_at B (stage_behind B start F) r) (before_appended Q T r h);
+      yielded = λ r h. yielded_stays B start Q T r n h;
+      inputs = λ r h. inputs_stay B start Q T r n h;
+      uses = λ r h. ap (λ F. uses_at B (stage_behind B start F) r) (before_appended Q T r h);
+      waiting = λ r k h steady. waiting_stays B start Q T r n k h steady;
+    }

@@ -1,7 +1,0 @@
-use Rattle.std.proofs.Common.{◌≡◌, ◌++◌, take}
-use Rattle.std.specs.List.{flat_map}
-use Rattle.roc_lists.specs.Asking.{knowns_for}
-use Rattle.roc_lists.proofs.askers.tell_all.Given as goal
-
-abbrev pub invariant-loop-k : goal.invariant-loop-k
-invariant-loop-k l = l.out ≡ record l.initial.out { messages = l.initial.out.messages ++ flat_map (knowns_for l.askers) (take l.k-index l.news) }

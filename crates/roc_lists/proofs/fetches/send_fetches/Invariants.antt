@@ -1,6 +1,0 @@
-use Rattle.std.proofs.Common.{◌≡◌, ◌++◌, map, take}
-use Rattle.roc_lists.specs.Asking.{fetch_from}
-use Rattle.roc_lists.proofs.fetches.send_fetches.Given as goal
-
-abbrev pub invariant-loop-a : goal.invariant-loop-a
-invariant-loop-a l = l.out ≡ record l.initial.out { messages = l.initial.out.messages ++ map (fetch_from l.shard) (take l.a-index l.asks) }

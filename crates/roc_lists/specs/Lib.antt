@@ -1,4 +1,0 @@
-pub mod Carried
-pub mod Told
-pub mod Asking
-pub mod New

@@ -1,6 +1,0 @@
--- The copy has the words before this one.
-use Rattle.std.proofs.Common.{◌≡◌, map, string_bytes, take}
-use Rattle.roc_memory.proofs.spawner.children.copied.Given as goal
-
-abbrev pub invariant-loop-word : goal.invariant-loop-word
-invariant-loop-word l = map string_bytes l.copy.items ≡ map string_bytes (take l.word-index l.words)

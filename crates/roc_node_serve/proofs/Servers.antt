@@ -1,0 +1,145 @@
+-- One turn of a server's node after another.
+use Rattle.std.proofs.Common.{◌≡◌, inl, inr, ℕ, ◌+◌, ◌<◌, Bool, true, false, List, [], ◌∷◌, ◌++◌, refl, sym, ◌∙◌, ap, subst, append-nil, length-append, arith}
+use Rattle.std.specs.Prelude.{Option, option_map}
+use Rattle.roc_base.specs.declared.node.Shard.{Shard}
+use Rattle.roc_io.specs.declared.link.Addr.{Addr}
+use Rattle.roc_io.specs.Packet.{Packet}
+use Rattle.roc_msg.specs.declared.msg.Msg.{Msg}
+use Rattle.roc_msg.specs.declared.outbox.Outgoing.{Outgoing}
+use Rattle.roc_server.specs.First.{first_server}
+use Rattle.roc_msg.specs.declared.outbox.Outbox.{Outbox}
+use Rattle.roc_server.specs.declared.handled.Handled.{Handled}
+use Rattle.roc_server.specs.Step.{Handles, Shows}
+use Rattle.roc_server.specs.State.{ServerState, ServerStep}
+use Rattle.roc_node.specs.Posting.{Hearsay, none_heard, packets_for}
+use Rattle.roc_node.specs.Judgement.{judged}
+use Rattle.roc_node.specs.declared.judging.Judged.{Judged}
+use Rattle.roc_node.specs.declared.judging.Judged.TheVariants.{Delivery, Skipped}
+use Rattle.roc_io.specs.Call.{LinkView}
+use Rattle.roc_node.specs.Moves.{Moves}
+use Rattle.roc_node.proofs.Moving.{put_nothing, Moves-trans, Moves-none}
+use Rattle.roc_node.specs.declared.counts.Counts.{Counts}
+use Rattle.roc_node_serve.specs.declared.server_node.ServerNode.{ServerNode}
+use Rattle.roc_node_serve.specs.declared.server_node.TurnOutput.{TurnOutput}
+use Rattle.roc_node.specs.Counts.{no_counts}
+use Rattle.roc_node.specs.NodeEvent.{NodeEvent, took, silent, arrived, NodeSetting}
+use Rattle.roc_node_serve.specs.ServerRun.{ServerNodeState, TakesMessage, TakesJudged, AfterEvent, IsServerRun, begun, goes_on, is_stop, server_heard, with_answer}
+use Rattle.roc_node_serve.specs.Inner.ServerTurn.{node_of, bare, Leads, TakesEvent, TurnsOnce, Loses, RanSo, RunsTurns}
+use Rattle.roc_node_serve.specs.declared.server_turns.RunEnd.TheVariants as run
+use Rattle.roc_node.proofs.Arrivals.{arrived-append, lost_last}
+
+-- ---- what a node sent before does not matter to what it does
+
+-- the same, with these messages and datagrams before its own
+abbrev pub behind : List Outgoing → List Packet → ServerNodeState → ServerNodeState
+behind messages sends node = record node { messages = messages ++ node.messages; sends = sends ++ node.sends }
+
+module _ (messages : List Outgoing) (sends : List Packet) where
+  of_none : (state : ServerState) (heard : Hearsay) (counts : Counts) (stopped : Bool)
+      → behind messages sends (record { state = state; messages = []; sends = []; heard = heard; counts = counts; stopped = stopped })
+      ≡ record { state = state; messages = messages; sends = sends; heard = heard; counts = counts; stopped = stopped }
+  of_none state heard counts stopped =
+      ap (λ l. record { state = state; messages = l; sends = sends ++ []; heard = heard; counts = counts; stopped = stopped }) (append-nil messages)
+      ∙ ap (λ l. record { state = state; messages = messages; sends = l; heard = heard; counts = counts; stopped = stopped }) (append-nil sends)
+
+  message_behind : (S : NodeSetting) (server_node : ServerNode) (stops : Bool) (msg : Msg) (next : ServerNodeState)
+      → TakesMessage S (bare server_node) stops msg next → TakesMessage S (node_of server_node messages sends false) stops msg (behind messages sends next)
+  message_behind S server_node true msg next h = ap (behind messages sends) h ∙ of_none server_node.server server_node.heard _ true
+  message_behind S server_node false msg next h = (h.0, h.1, ap (behind messages sends) h.2)
+
+  judged_behind : (S : NodeSetting) (server_node : ServerNode) (from : Addr) (j : Judged) (next : ServerNodeState)
+      → TakesJudged S (bare server_node) from j next → TakesJudged S (node_of server_node messages sends false) from j (behind messages sends next)
+  judged_behind S server_node from (Delivery header msg) next h =
+      message_behind S (record server_node { heard = (server_heard (bare server_node) header from).heard }) (is_stop msg) msg next h
+  judged_behind S server_node from (Skipped skip) next h = ap (behind messages sends) h ∙ of_none server_node.server server_node.heard _ false
+
+  event_behind : (S : NodeSetting) (server_node : ServerNode) (event : NodeEvent) (next : ServerNodeState)
+      → AfterEvent S (bare server_node) event next → AfterEvent S (node_of server_node messages sends false) event (behind messages sends next)
+  event_behind S server_node (took packet) next h = judged_behind S server_node packet.address (judged S.header.tag packet.bytes) next h
+  event_behind S server_node silent next h = ap (behind messages sends) h
+
+-- ---- several turns
+
+-- no turn so far
+pub ran_none : (S : NodeSetting) (shard : Shard) (server_node : ServerNode) (a : LinkView) → server_node ≡ record { server = first_server S.plan shard; heard = none_heard; counts = no_counts } → RanSo S shard 0 false server_node a a
+ran_none S shard server_node a is = record {
+  events = [];
+  messages = [];
+  sends = [];
+  counted = refl;
+  run = subst (λ s. IsServerRun S shard [] (node_of s [] [] false)) (sym is) begun;
+  moves = Moves-none a a refl refl refl;
+}
+
+-- one more turn
+pub ran_more : (S : NodeSetting) (shard : Shard) (count : ℕ) (stopped : Bool) (old new : ServerNode) (a b c : LinkView)
+    → RanSo S shard count false old a b → TurnsOnce S stopped old new b c → RanSo S shard (count + 1) stopped new a c
+ran_more S shard count stopped old new a b c r h = record {
+  events = r.events ++ h.event ∷ [];
+  messages = r.messages ++ h.messages;
+  sends = r.sends ++ h.sends;
+  counted = let e = r.counted in length-append r.events (h.event ∷ []) ∙ ap (λ n. n + 1) e;
+  run = goes_on h.event (behind r.messages r.sends (node_of new h.messages h.sends stopped)) r.run refl (event_behind r.messages r.sends S old h.event _ h.leads);
+  moves = subst (λ l. Moves a c l (r.sends ++ h.sends)) (sym (arrived-append r.events (h.event ∷ []))) (Moves-trans a b c (arrived r.events) (arrived (h.event ∷ [])) r.sends h.sends r.moves h.moves);
+}
+
+-- ---- what one receive gives
+
+pub takes_packet : (S : NodeSetting) (old new : ServerNode) (output : TurnOutput) (from : Addr) (bytes taken : List ℕ) (before after : Option (List Packet)) → bytes ≡ taken
+    → Leads (AfterEvent S (bare old) (took (record { address = from; bytes = bytes }))) new output
+    → before ≡ option_map (λ left. record { address = from; bytes = taken } ∷ left) after → TakesEvent S old new output before after
+takes_packet S old new output from bytes taken before after same leads arrivals = record {
+  event = took (record { address = from; bytes = taken });
+  leads = subst (λ l. Leads (AfterEvent S (bare old) (took (record { address = from; bytes = l }))) new output) same leads;
+  arrivals = arrivals;
+}
+
+pub takes_silence : (S : NodeSetting) (old new : ServerNode) (output : TurnOutput) (before after : Option (List Packet)) → Leads (AfterEvent S (bare old) silent) new output → after ≡ before → TakesEvent S old new output before after
+takes_silence S old new output before after leads same = record { event = silent; leads = leads; arrivals = sym same ∙ put_nothing after }
+
+-- ---- how turns end
+
+pub over_stopped : (S : NodeSetting) (shard : Shard) (turns count : ℕ) (old new : ServerNode) (a b c : LinkView) → count < turns → RanSo S shard count false old a b → TurnsOnce S true old new b c
+    → RunsTurns (run.Over true) S shard turns new a c
+over_stopped S shard turns count old new a b c below r h =
+    let all = ran_more S shard count true old new a b c r h in
+    let counted = all.counted in
+    (all.messages, all.sends, all.events, inl refl, record { run = all.run; few = omega arith; moves = subst (λ l. Moves a c l all.sends) (sym (append-nil (arrived all.events))) all.moves })
+
+pub over_turns : (S : NodeSetting) (shard : Shard) (turns : ℕ) (server_node : ServerNode) (a b : LinkView) → RanSo S shard turns false server_node a b → RunsTurns (run.Over false) S shard turns server_node a b
+over_turns S shard turns server_node a b r =
+    let counted = r.counted in
+    (r.messages, r.sends, r.events, inr counted, record { run = r.run; few = omega arith; moves = subst (λ l. Moves a b l r.sends) (sym (append-nil (arrived r.events))) r.moves })
+
+pub wanted : (S : NodeSetting) (shard : Shard) (turns count : ℕ) (server_node now : ServerNode) (a b c : LinkView) → count < turns → RanSo S shard count false server_node a b → Loses b c
+    → RunsTurns run.NoMemory S shard turns now a c
+wanted S shard turns count server_node now a b c below r lost =
+    let counted = r.counted in
+    let few = lost.1 in
+    (node_of server_node r.messages r.sends false, r.events, lost.0, few, record { run = r.run; few = omega arith; moves = lost_last a b c (arrived r.events) lost.0 r.sends r.moves lost.2 })
+
+pub cut_off : (S : NodeSetting) (shard : Shard) (turns count : ℕ) (server_node now : ServerNode) (a b c : LinkView) → count < turns → RanSo S shard count false server_node a b → Moves b c [] []
+    → RunsTurns run.LinkFault S shard turns now a c
+cut_off S shard turns count server_node now a b c below r m =
+    let counted = r.counted in
+    (node_of server_node r.messages r.sends false, r.events, refl, omega arith, record { run = r.run; few = omega arith; moves = lost_last a b c (arrived r.events) [] r.sends r.moves m })
+
+-- ---- a step of the core
+
+abbrev made : List Outgoing → ServerState → List Packet → Hearsay → Counts → Bool → ServerNodeState
+made messages s p h c b = record { state = s; messages = messages; sends = p; heard = h; counts = c; stopped = b }
+
+same_node : (messages : List Outgoing) (s t : ServerState) (p q : List Packet) (h i : Hearsay) (c d : Counts) (b e : Bool) → s ≡ t → p ≡ q → h ≡ i → c ≡ d → b ≡ e
+    → made messages s p h c b ≡ made messages t q i d e
+same_node messages s t p q h i c d b e s1 p1 h1 c1 b1 =
+    ap (λ x. made messages x p h c b) s1 ∙ ap (λ x. made messages t x h c b) p1 ∙ ap (λ x. made messages t q x c b) h1 ∙ ap (λ x. made messages t q i x b) c1 ∙ ap (made messages t q i d) b1
+
+pub stepped : (S : NodeSetting) (old new : ServerNode) (output : TurnOutput) (msg : Msg) (answer : Handled) (out_old out_new : Outbox) → (r : ServerStep) × Handles S.plan old.server msg r × Shows r answer new.server out_old out_new
+    → out_old.messages ≡ [] → new.heard ≡ old.heard → new.counts ≡ with_answer old.counts answer → output.stopped ≡ false → output.sends.items ≡ packets_for S.header S.cluster old.heard out_new.messages
+    → Leads (TakesMessage S (bare old) false msg) new output
+stepped S old new output msg answer out_old out_new step none heard counts stopped sends =
+    let r = step.0 in let shows = step.2 in
+    let gained : out_new.messages ≡ r.sends = shows.sends ∙ ap (λ l. l ++ r.sends) none in record {
+      messages = r.sends;
+      is = (r, step.1, same_node r.sends _ _ _ _ _ _ _ _ _ _ (sym shows.keeps) (sends ∙ ap (packets_for S.header S.cluster old.heard) gained) heard (counts ∙ ap (with_answer old.counts) (sym shows.answers)) stopped);
+    }

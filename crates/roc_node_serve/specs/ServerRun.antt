@@ -1,0 +1,95 @@
+-- The run of a server's node: what its core does with what comes to it, what the node sends, and what it counts:
+-- docs/PROTOCOL.md, "Running nodes"
+use Rattle.std.specs.Prelude.{◌≡◌, Bool, true, false, List, [], ◌∷◌, ◌++◌}
+use Rattle.roc_base.specs.declared.node.Shard.{Shard}
+use Rattle.roc_io.specs.declared.link.Addr.{Addr}
+use Rattle.roc_io.specs.Cause.{one_more}
+use Rattle.roc_io.specs.Packet.{Packet}
+use Rattle.roc_msg.specs.declared.msg.Msg.{Msg}
+use Rattle.roc_msg.specs.declared.msg.Msg.TheVariants.{Start, StartOk, Commit, CommitOk, Fetch, Known, Stop}
+use Rattle.roc_msg.specs.declared.outbox.Outgoing.{Outgoing}
+use Rattle.roc_plan.specs.Groups.{Plan}
+use Rattle.roc_wire.specs.declared.header.Header.{Header}
+use Rattle.roc_server.specs.declared.handled.Handled.{Handled}
+use Rattle.roc_server.specs.declared.handled.Handled.TheVariants.{Done, Ignored}
+use Rattle.roc_server.specs.First.{first_server}
+use Rattle.roc_server.specs.State.{ServerState, ServerStep}
+use Rattle.roc_server.specs.Step.{Handles, tick_sends}
+use Rattle.roc_node.specs.Judgement.{judged}
+use Rattle.roc_node.specs.declared.judging.Judged.{Judged}
+use Rattle.roc_node.specs.declared.judging.Judged.TheVariants.{Delivery, Skipped}
+use Rattle.roc_node.specs.declared.judging.Skip.{Skip}
+use Rattle.roc_node.specs.Posting.{Hearsay, none_heard, heard_of, packets_for}
+use Rattle.roc_node.specs.declared.counts.Counts.{Counts}
+use Rattle.roc_node.specs.Counts.{no_counts, one_ignore_more, with_skip, with_taken}
+use Rattle.roc_node.specs.NodeEvent.{NodeEvent, took, silent, NodeSetting}
+
+-- a server's node so far
+pub record ServerNodeState : Type 0 where
+  -- its core
+  pub state : ServerState
+  -- all messages that the core sent, and the datagrams that went out for them
+  pub messages : List Outgoing
+  pub sends : List Packet
+  -- where it last heard each coordinator
+  pub heard : Hearsay
+  pub counts : Counts
+  -- it took a stop, and takes nothing since
+  pub stopped : Bool
+
+-- before any turn
+abbrev pub first_server_node_state : Plan → Shard → ServerNodeState
+first_server_node_state plan shard = record { state = first_server plan shard; messages = []; sends = []; heard = none_heard; counts = no_counts; stopped = false }
+
+-- its core sends messages
+abbrev pub server_sends : NodeSetting → ServerNodeState → List Outgoing → ServerNodeState
+server_sends S node outs = record node { messages = node.messages ++ outs; sends = node.sends ++ packets_for S.header S.cluster node.heard outs }
+
+-- a delivery more was taken, and this is what the core answered to it
+abbrev pub with_answer : Counts → Handled → Counts
+with_answer c Done = with_taken c
+with_answer c (Ignored reason) = record c { taken = one_more c.taken; ignores = one_ignore_more c.ignores reason }
+
+-- its core takes a step for a delivery
+abbrev pub server_took : NodeSetting → ServerNodeState → ServerStep → ServerNodeState
+server_took S node r = record (server_sends S node r.sends) { state = r.state; counts = with_answer node.counts r.answer }
+
+abbrev pub server_stopped : ServerNodeState → ServerNodeState
+server_stopped node = record node { counts = with_taken node.counts; stopped = true }
+
+abbrev pub server_skipped : ServerNodeState → Skip → ServerNodeState
+server_skipped node skip = record node { counts = with_skip node.counts skip }
+
+-- a datagram of this sender came from this address
+abbrev pub server_heard : ServerNodeState → Header → Addr → ServerNodeState
+server_heard node header from = record node { heard = heard_of node.heard header.from from }
+
+abbrev pub is_stop : Msg → Bool
+is_stop Stop = true
+is_stop (Start id proc group args inputs) = false
+is_stop (StartOk id group shard bound outs edges facts) = false
+is_stop (Commit id edges facts) = false
+is_stop (CommitOk id shard outs) = false
+is_stop (Fetch id asker) = false
+is_stop (Known id edges) = false
+
+-- a delivery: a stop is for the node, and any other message for its core, whose step it is
+abbrev pub TakesMessage : NodeSetting → ServerNodeState → (stops : Bool) → Msg → ServerNodeState → Type 0
+TakesMessage S node true msg next = next ≡ server_stopped node
+TakesMessage S node false msg next = (r : ServerStep) × Handles S.plan node.state msg r × (next ≡ server_took S node r)
+
+-- a datagram from an address; one that is skipped is counted, and changes nothing else
+abbrev pub TakesJudged : NodeSetting → ServerNodeState → Addr → Judged → ServerNodeState → Type 0
+TakesJudged S node from (Delivery header msg) next = TakesMessage S (server_heard node header from) (is_stop msg) msg next
+TakesJudged S node from (Skipped skip) next = next ≡ server_skipped node skip
+
+-- what comes of an event; silence is a tick
+abbrev pub AfterEvent : NodeSetting → ServerNodeState → NodeEvent → ServerNodeState → Type 0
+AfterEvent S node (took packet) next = TakesJudged S node packet.address (judged S.header.tag packet.bytes) next
+AfterEvent S node silent next = next ≡ server_sends S node (tick_sends node.state)
+
+-- the events, one by one, lead from the first node to this one
+pub data IsServerRun (S : NodeSetting) (shard : Shard) : List NodeEvent → ServerNodeState → Type 0 where
+  begun : IsServerRun S shard [] (first_server_node_state S.plan shard)
+  goes_on : {events : List NodeEvent} {node : ServerNodeState} (event : NodeEvent) (next : ServerNodeState)
+      → IsServerRun S shard events node → node.stopped ≡ false → AfterEvent S node event next → IsServerRun S shard (events ++ event ∷ []) next

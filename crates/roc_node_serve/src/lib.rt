@@ -1,0 +1,22 @@
+//! Running a server: the loop that leads the datagrams of a link through a server's own core, over any link and any
+//! sink.
+//!
+//! [`serve`] binds the shard's address and runs a server, to the end that [`ServeEnd`] tells. Its contract cites
+//! `specs/ServeEnd.antt`, which says for each end what the link took and gave and what the sink took. It rests on the
+//! node's run: a fold of one event after another, a datagram that came or silence (`specs/ServerRun.antt`), whose steps
+//! are those of the core.
+//!
+//! The layers above may rely on these definitions. A fault of link or sink comes only if its count rose, and no other
+//! end if a count did; the link took the node's datagrams in order, all but at most as many as its `lost` rose by. What
+//! arrived and was sent is spoken of as far as the link tells it, and what was written as far as the sink does.
+//! `specs/Inner/` is of this crate alone.
+#![tactic(auto)]
+
+mod ends;
+mod server_node;
+mod server_turns;
+mod serving;
+
+pub use ends::ServeEnd;
+pub use server_node::count_answer;
+pub use serving::serve;

@@ -1,0 +1,5 @@
+mod Closing
+mod Coords
+mod CoordNodes
+mod Submitted
+mod Told

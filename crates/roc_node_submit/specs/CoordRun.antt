@@ -1,0 +1,142 @@
+-- The run of a coordinator's node, which submits requests: docs/PROTOCOL.md, "Running nodes"
+use Rattle.std.specs.Prelude.{◌≡◌, ℕ, ℤ, Bool, false, nat_lt, ◌==◌, ◌&&◌, List, [], ◌∷◌, ◌++◌, length, Option, Some, None, Result, Ok, Err, if◌then◌else◌}
+use Rattle.roc_base.specs.declared.id.TxnId.{TxnId}
+use Rattle.roc_io.specs.Cause.{one_more}
+use Rattle.roc_io.specs.Packet.{Packet}
+use Rattle.roc_msg.specs.declared.outbox.Outgoing.{Outgoing}
+use Rattle.roc_plan.specs.Groups.{Plan}
+use Rattle.roc_program.specs.LookUps.{procedure_named}
+use Rattle.roc_report.specs.Line as line
+use Rattle.roc_sched.specs.declared.line.Request.{Request}
+use Rattle.roc_coord.specs.declared.handled.Handled.{Handled}
+use Rattle.roc_coord.specs.declared.handled.Handled.TheVariants.{Done, Answered, Ignored}
+use Rattle.roc_coord.specs.declared.handled.SubmitFault.{SubmitFault}
+use Rattle.roc_coord.specs.State.{CoordState, CoordStep, first_coord}
+use Rattle.roc_coord.specs.Step.{after_message}
+use Rattle.roc_coord.specs.Submit.{Submission, after_submit, most_pending}
+use Rattle.roc_coord.specs.Tick.{tick_sends}
+use Rattle.roc_node.specs.Judgement.{judged}
+use Rattle.roc_node.specs.declared.judging.Judged.{Judged}
+use Rattle.roc_node.specs.declared.judging.Judged.TheVariants.{Delivery, Skipped}
+use Rattle.roc_node.specs.Posting.{none_heard, packets_for}
+use Rattle.roc_node.specs.NodeEvent.{NodeEvent, took, silent, NodeSetting}
+
+-- a coordinator's node so far
+pub record CoordNodeState : Type 0 where
+  -- its core
+  pub state : CoordState
+  -- the requests that were not submitted yet
+  pub left : List Request
+  -- all messages that the core sent, and the datagrams that went out for them: a coordinator answers nobody, so it keeps no addresses
+  pub messages : List Outgoing
+  pub sends : List Packet
+  -- what it wrote: submissions and answers
+  pub lines : List line.Line
+  -- how many transactions have their reply
+  pub answered : ℕ
+
+-- before any turn
+abbrev pub first_coord_node_state : (number : ℕ) → List Request → CoordNodeState
+first_coord_node_state number requests = record { state = first_coord number; left = requests; messages = []; sends = []; lines = []; answered = 0 }
+
+-- no request is left, and none is unanswered
+abbrev pub is_answered : CoordNodeState → Bool
+is_answered node = length node.left == 0 && length node.state.pending == 0
+
+-- ---- submissions
+
+-- what comes of submissions: the core after them, the requests left behind them, what is sent, and what is written
+pub record Submissions : Type 0 where
+  pub state : CoordState
+  pub left : List Request
+  pub messages : List Outgoing
+  pub lines : List line.Line
+
+abbrev pub submit_lines : (proc : ℕ) → List ℤ → Result TxnId SubmitFault → List line.Line
+submit_lines proc args (Ok id) = line.Submit id proc args ∷ []
+submit_lines proc args (Err fault) = []
+
+abbrev pub with_submission : Submissions → (proc : ℕ) → List ℤ → Submission → Submissions
+with_submission s proc args sub = record { state = sub.state; left = s.left; messages = s.messages ++ sub.sends; lines = s.lines ++ submit_lines proc args sub.answer }
+
+-- the call of a procedure that a request names; a name of none asks for nothing
+abbrev pub submitted_call : Plan → Submissions → List ℤ → Option ℕ → Submissions
+submitted_call plan s args None = s
+submitted_call plan s args (Some proc) = with_submission s proc args (after_submit plan s.state proc args)
+
+abbrev pub submitted : Plan → Submissions → Request → Submissions
+submitted plan s request = submitted_call plan s request.args (procedure_named plan.program request.name)
+
+-- requests, one after another, while fewer than sixteen are unanswered
+unfoldable pub submitted_all : Plan → Submissions → List Request → Submissions
+submitted_all plan s [] = record s { left = [] }
+submitted_all plan s (request ∷ rest) = if nat_lt (length s.state.pending) most_pending then submitted_all plan (submitted plan s request) rest else record s { left = request ∷ rest }
+
+-- none of the requests was submitted
+abbrev pub none_submitted : CoordState → Submissions
+none_submitted state = record { state = state; left = []; messages = []; lines = [] }
+
+-- what comes of the submissions before a turn
+abbrev pub submissions_of : NodeSetting → CoordNodeState → Submissions
+submissions_of S node = submitted_all S.plan (none_submitted node.state) node.left
+
+abbrev pub with_submissions : NodeSetting → CoordNodeState → Submissions → CoordNodeState
+with_submissions S node s =
+    record node {
+      state = s.state;
+      left = s.left;
+      messages = node.messages ++ s.messages;
+      sends = node.sends ++ packets_for S.header S.cluster none_heard s.messages;
+      lines = node.lines ++ s.lines;
+    }
+
+-- a node that has made the submissions before a turn
+abbrev pub coord_submitted : NodeSetting → CoordNodeState → CoordNodeState
+coord_submitted S node = with_submissions S node (submissions_of S node)
+
+-- ---- events
+
+-- what the core makes of a datagram or of silence: a datagram that is skipped changes nothing, and silence is a tick
+abbrev pub step_of_judged : Plan → CoordState → Judged → CoordStep
+step_of_judged plan s (Delivery header msg) = after_message plan s msg
+step_of_judged plan s (Skipped skip) = record { answer = Done; state = s; sends = [] }
+
+abbrev pub step_of_event : NodeSetting → CoordState → NodeEvent → CoordStep
+step_of_event S s (took packet) = step_of_judged S.plan s (judged S.header.tag packet.bytes)
+step_of_event S s silent = record { answer = Done; state = s; sends = tick_sends S.plan s }
+
+abbrev pub reply_lines : Handled → List line.Line
+reply_lines Done = []
+reply_lines (Answered id reply) = line.Answer id reply ∷ []
+reply_lines (Ignored reason) = []
+
+abbrev pub answered_then : ℕ → Handled → ℕ
+answered_then n Done = n
+answered_then n (Answered id reply) = one_more n
+answered_then n (Ignored reason) = n
+
+abbrev pub with_step : NodeSetting → CoordNodeState → CoordStep → CoordNodeState
+with_step S node r =
+    record node {
+      state = r.state;
+      messages = node.messages ++ r.sends;
+      sends = node.sends ++ packets_for S.header S.cluster none_heard r.sends;
+      lines = node.lines ++ reply_lines r.answer;
+      answered = answered_then node.answered r.answer;
+    }
+
+-- a node, its submissions made, that takes an event
+abbrev pub coord_took : NodeSetting → CoordNodeState → NodeEvent → CoordNodeState
+coord_took S node event = with_step S node (step_of_event S node.state event)
+
+-- ---- runs
+
+-- a turn: the submissions before it, then its event
+abbrev pub coord_turn : NodeSetting → CoordNodeState → NodeEvent → CoordNodeState
+coord_turn S node event = coord_took S (coord_submitted S node) event
+
+-- the events, one by one, lead from the first node to this one; a node with all answered takes no more turns
+pub data IsCoordRun (S : NodeSetting) (number : ℕ) (requests : List Request) : List NodeEvent → CoordNodeState → Type 0 where
+  begun : IsCoordRun S number requests [] (first_coord_node_state number requests)
+  goes_on : {events : List NodeEvent} {node : CoordNodeState} (event : NodeEvent)
+      → IsCoordRun S number requests events node → is_answered node ≡ false → IsCoordRun S number requests (events ++ event ∷ []) (coord_turn S node event)

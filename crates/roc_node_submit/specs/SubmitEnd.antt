@@ -1,0 +1,110 @@
+-- How submitting ends, what the link took and the sink: docs/PROTOCOL.md, "Running nodes"
+use Rattle.std.specs.Prelude.{◌≡◌, ℕ, ◌+◌, ◌<◌, ◌≤◌, Bool, true, false, List, [], ◌∷◌, ◌++◌, length, map, if◌then◌else◌}
+use Rattle.roc_coord.specs.Ids.{ids_of}
+use Rattle.roc_io.specs.declared.link.Addr.{Addr}
+use Rattle.roc_io.specs.Packet.{Packet}
+use Rattle.roc_io.specs.Observed.{Adds, AddsThenFront}
+use Rattle.roc_program.specs.Program.{Workload}
+use Rattle.roc_report.specs.Text.{lines_text}
+use Rattle.roc_sched.specs.declared.line.Request.{Request}
+use Rattle.roc_io.specs.Call.{LinkView, NodeCall, SinkCall}
+use Rattle.roc_node.specs.Moves.{Moves}
+use Rattle.roc_node_submit.specs.declared.ends.SubmitEnd.{SubmitEnd}
+use Rattle.roc_node_submit.specs.declared.ends.SubmitEnd.TheVariants.{Done, Unanswered, LinkFault, SinkFault, NoMemory}
+use Rattle.roc_node.specs.declared.lines.NodeLine.{NodeLine}
+use Rattle.roc_node.specs.declared.lines.NodeLine.TheVariants.{Unanswered as UnansweredLine, EndSubmit}
+use Rattle.roc_node.specs.NodeEvent.{NodeEvent, arrived, NodeSetting}
+use Rattle.roc_node.specs.NodeLine.{node_lines_text}
+use Rattle.roc_node_submit.specs.CoordRun.{CoordNodeState, IsCoordRun, is_answered, submissions_of, coord_submitted, step_of_event, reply_lines}
+
+abbrev pub submit_link_failed : SubmitEnd → Bool
+submit_link_failed LinkFault = true
+submit_link_failed Done = false
+submit_link_failed Unanswered = false
+submit_link_failed SinkFault = false
+submit_link_failed NoMemory = false
+
+abbrev pub submit_sink_failed : SubmitEnd → Bool
+submit_sink_failed SinkFault = true
+submit_sink_failed Done = false
+submit_sink_failed Unanswered = false
+submit_sink_failed LinkFault = false
+submit_sink_failed NoMemory = false
+
+-- the lines at the end: the ids without a reply, rising, and the counts
+abbrev pub closing_node_lines : CoordNodeState → List NodeLine
+closing_node_lines node = map UnansweredLine (ids_of node.state.pending) ++ EndSubmit node.answered (length node.state.pending) (length node.left) ∷ []
+
+abbrev pub closing_text : CoordNodeState → List ℕ
+closing_text node = node_lines_text (closing_node_lines node)
+
+-- the text of what a node wrote in its turns
+abbrev pub written_text : Workload → CoordNodeState → List ℕ
+written_text program node = lines_text program node.lines
+
+-- what the turns of a call did to its link, which was bound before, and to its sink
+pub record TurnsCall : Type 0 where
+  pub old : LinkView
+  pub new : LinkView
+  pub out : SinkCall
+
+-- those of a call that binds its link first
+abbrev pub turns_of : NodeCall → TurnsCall
+turns_of call = record { old = call.link.old; new = call.link.new; out = call.out }
+
+-- The node, before or behind the submissions of a turn: `half` tells which
+abbrev pub coord_half : NodeSetting → CoordNodeState → (half : Bool) → CoordNodeState
+coord_half S node half = if half then coord_submitted S node else node
+
+-- which end it is, once all are answered or all turns were taken
+abbrev pub end_of : CoordNodeState → SubmitEnd
+end_of node = if is_answered node then Done else Unanswered
+
+-- all are answered, or all turns were taken
+abbrev pub AreRequestsOver : (turns : ℕ) → List NodeEvent → CoordNodeState → Type 0
+AreRequestsOver turns events node = is_answered node ≡ false → length events ≡ turns
+
+-- Turns end, and what they did until then. Each time the link has taken the datagrams of the node as far as it got, and the sink its lines.
+pub data Submits (S : NodeSetting) (number : ℕ) (requests : List Request) (turns : ℕ) (call : TurnsCall) : SubmitEnd → Type 0 where
+  -- a receive failed, behind the submissions of a turn
+  cut_off : (events : List NodeEvent) (node : CoordNodeState) → IsCoordRun S number requests events node → is_answered node ≡ false → length events < turns
+      → Moves call.old call.new (arrived events) (coord_submitted S node).sends → Adds call.out.old call.out.new (written_text S.plan.program (coord_submitted S node))
+      → Submits S number requests turns call LinkFault
+  -- Memory was wanting; it may lose the datagram that was taken off last
+  wanted : (events : List NodeEvent) (node : CoordNodeState) (half : Bool) (last : List Packet) → IsCoordRun S number requests events node
+      → length last ≤ 1 → length events + length last ≤ turns
+      → Moves call.old call.new (arrived events ++ last) (coord_half S node half).sends → Adds call.out.old call.out.new (written_text S.plan.program (coord_half S node half))
+      → Submits S number requests turns call NoMemory
+  -- the sink failed at the lines of the submissions before a turn, which then sent nothing
+  untold_submissions : (events : List NodeEvent) (node : CoordNodeState) → IsCoordRun S number requests events node → is_answered node ≡ false → length events < turns
+      → Moves call.old call.new (arrived events) node.sends
+      → AddsThenFront call.out.old call.out.new (written_text S.plan.program node) (lines_text S.plan.program (submissions_of S node).lines)
+      → Submits S number requests turns call SinkFault
+  -- the sink failed at the reply of a turn's event, which then sent nothing
+  untold_reply : (events : List NodeEvent) (node : CoordNodeState) (event : NodeEvent) → IsCoordRun S number requests events node → is_answered node ≡ false → length events < turns
+      → Moves call.old call.new (arrived (events ++ event ∷ [])) (coord_submitted S node).sends
+      → AddsThenFront call.out.old call.out.new (written_text S.plan.program (coord_submitted S node))
+      (lines_text S.plan.program (reply_lines (step_of_event S (coord_submitted S node).state event).answer))
+      → Submits S number requests turns call SinkFault
+  -- all were answered or all turns were taken, and the sink failed at the last lines
+  untold_end : (events : List NodeEvent) (node : CoordNodeState) → IsCoordRun S number requests events node → length events ≤ turns → AreRequestsOver turns events node
+      → Moves call.old call.new (arrived events) node.sends
+      → AddsThenFront call.out.old call.out.new (written_text S.plan.program node) (closing_text node)
+      → Submits S number requests turns call SinkFault
+  -- all were answered, or all turns were taken, and all lines were written
+  over : (events : List NodeEvent) (node : CoordNodeState) (end : SubmitEnd) → end ≡ end_of node → IsCoordRun S number requests events node → length events ≤ turns
+      → AreRequestsOver turns events node
+      → Moves call.old call.new (arrived events) node.sends
+      → Adds call.out.old call.out.new (written_text S.plan.program node ++ closing_text node)
+      → Submits S number requests turns call end
+
+-- any address of this machine, at any port that is free
+abbrev pub any_address : Addr
+any_address = record { host = 0 ∷ 0 ∷ 0 ∷ 0 ∷ []; port = 0 }
+
+-- the same, behind a bind
+pub data BindsAndSubmits (S : NodeSetting) (number : ℕ) (requests : List Request) (turns : ℕ) (call : NodeCall) : SubmitEnd → Type 0 where
+  -- the link was not bound, and nothing was sent, taken or written
+  unbound : call.link.bound_new ≡ call.link.bound_old → Moves call.link.old call.link.new [] [] → call.out.new ≡ call.out.old → BindsAndSubmits S number requests turns call LinkFault
+  bound : (end : SubmitEnd) → Adds call.link.bound_old call.link.bound_new (any_address ∷ []) → Submits S number requests turns (turns_of call) end
+      → BindsAndSubmits S number requests turns call end

@@ -1,0 +1,193 @@
+//! Submitting requests.
+ghost use Rattle.std.specs.Prelude.{◌≡◌, ◌≤◌, ◌++◌, false, [], length, map, OnOk};
+ghost use Rattle.roc_base.specs.declared.node.Node.TheVariants as node;
+ghost use Rattle.roc_io.specs.Call.{link_call, link_view, sink_call};
+ghost use Rattle.roc_io.specs.Cause.{HasCause};
+ghost use Rattle.roc_coord.specs.State.{first_coord};
+ghost use Rattle.roc_node.specs.NodeEvent.{node_setting};
+ghost use Rattle.roc_node.specs.NodeLine.{node_line_text, node_lines_text};
+ghost use Rattle.roc_node_submit.specs.CoordRun.{is_answered};
+ghost use Rattle.roc_node_submit.specs.Inner.CoordTurn.{coord_node_state_of, ClosesSubmit};
+ghost use Rattle.roc_node_submit.specs.SubmitEnd.{closing_text, Submits, BindsAndSubmits, submit_link_failed, submit_sink_failed};
+
+use crate::SubmitEnd;
+use crate::coord_node::CoordNode;
+use crate::coord_turns::{submit_half, take_half};
+use roc_base::{NoMemory, Node, TxnId};
+use roc_cluster::Cluster;
+use roc_coord::Coord;
+use roc_io::{Addr, Bound, Link, Sink, Written};
+use roc_node::{NodeLine, Setting, append_line};
+use roc_plan::Plan;
+use roc_sched::Request;
+use roc_wire::Header;
+use std::alloc::Global;
+
+/// What submitting does over a link that is bound: before each turn it submits requests, in order, while any is left and fewer than sixteen are
+/// unanswered; it ends when all are answered, or after so many turns, and writes who is unanswered and the counts.
+///
+/// A turn is one receive. What is due in a turn is written first and then sent.
+pub fn submit_turns<L: Link, S: Sink>(
+    alloc: Global,
+    plan: &Plan,
+    tag: [u8; 8],
+    coord: u16,
+    cluster: &Cluster,
+    requests: &[Request],
+    link: &mut L,
+    turns: u32,
+    out: &mut S,
+) -> SubmitEnd
+    requires cluster { length cluster.now ≡ plan.now.program.shards }
+    requires coord { coord ≤ 15 }
+    // A fault has its cause, and no other end comes where a count rose.
+    ensures link_cause { HasCause (submit_link_failed result) (L.faults link.old) (L.faults link.new) }
+    ensures sink_cause { HasCause (submit_sink_failed result) (S.faults out.old) (S.faults out.new) }
+    ensures bound { L.bound link.new ≡ L.bound link.old }
+    // What the node's run gives over the arrivals is what was sent and written.
+    ensures submits { Submits (node_setting plan.now tag (node.Coord coord) cluster.now) coord requests.now turns
+        (record { old = link_view L.Link link.old; new = link_view L.Link link.new; out = sink_call S.Sink out.old out.new })
+        result }
+{
+    let header = Header {
+        tag,
+        from: Node::Coord(coord),
+    };
+    let setting = Setting {
+        plan,
+        cluster,
+        header: &header,
+    };
+    let mut coord_node = open_coord_node(alloc, coord);
+    let mut buffer = Vec::new(alloc);
+    for _ in 0..turns {
+        if is_answered(&coord_node, requests) {
+            return close(alloc, &coord_node, requests, out);
+        }
+        match submit_half(alloc, setting, &mut coord_node, requests, link, out) {
+            Ok(()) => {}
+            Err(end) => return end,
+        }
+        match take_half(alloc, setting, &mut coord_node, link, &mut buffer, out) {
+            Ok(()) => {}
+            Err(end) => return end,
+        }
+    }
+    close(alloc, &coord_node, requests, out)
+}
+
+// What a coordinator keeps before any turn.
+fn open_coord_node(alloc: Global, coord: u16) -> CoordNode
+    ensures { result ≡ record { coord = first_coord coord; next = 0; answered = 0 } }
+{
+    CoordNode {
+        coord: Coord::new(alloc, coord),
+        next: 0,
+        answered: 0,
+    }
+}
+
+// Whether no request is left and none is unanswered.
+fn is_answered(coord_node: &CoordNode, requests: &[Request]) -> bool
+    requires { coord_node.now.next ≤ length requests.now }
+    ensures { result ≡ is_answered (coord_node_state_of coord_node.now requests.now [] [] []) }
+{
+    if !requests[coord_node.next..].is_empty() {
+        return false;
+    }
+    coord_node.coord.unanswered().is_empty()
+}
+
+// Adds the last lines: who is unanswered, and the counts.
+fn push_closing(
+    alloc: Global,
+    text: &mut Vec<u8>,
+    coord_node: &CoordNode,
+    requests: &[Request],
+) -> Result<(), NoMemory>
+    requires { coord_node.now.next ≤ length requests.now }
+    ensures { OnOk result (text.new.items ≡ text.old.items ++ closing_text (coord_node_state_of coord_node.now requests.now [] [] [])) }
+{
+    let unanswered = coord_node.coord.unanswered();
+    push_unanswered(alloc, text, unanswered)?;
+    let line = NodeLine::EndSubmit {
+        answered: coord_node.answered,
+        unanswered: unanswered.len() as u64,
+        unsubmitted: requests[coord_node.next..].len() as u64,
+    };
+    append_line(alloc, text, line)?;
+    Ok(())
+}
+
+fn push_unanswered(alloc: Global, text: &mut Vec<u8>, ids: &[TxnId]) -> Result<(), NoMemory>
+    ensures { OnOk result (text.new.items ≡ text.old.items ++ node_lines_text (map NodeLine.Unanswered ids.now)) }
+{
+    for id in ids {
+        push_one(alloc, text, *id)?;
+    }
+    Ok(())
+}
+
+fn push_one(alloc: Global, text: &mut Vec<u8>, id: TxnId) -> Result<(), NoMemory>
+    ensures { OnOk result (text.new.items ≡ text.old.items ++ node_line_text (NodeLine.Unanswered id)) }
+{
+    append_line(alloc, text, NodeLine::Unanswered(id))
+}
+
+// Writes the last lines.
+fn close<S: Sink>(
+    alloc: Global,
+    coord_node: &CoordNode,
+    requests: &[Request],
+    out: &mut S,
+) -> SubmitEnd
+    requires { coord_node.now.next ≤ length requests.now }
+    ensures cause { HasCause (submit_sink_failed result) (S.faults out.old) (S.faults out.new) }
+    ensures link { submit_link_failed result ≡ false }
+    ensures closes { ClosesSubmit result (coord_node_state_of coord_node.now requests.now [] [] []) (S.taken out.old) (S.taken out.new) }
+{
+    let mut text = Vec::new(alloc);
+    if push_closing(alloc, &mut text, coord_node, requests).is_err() {
+        return SubmitEnd::NoMemory;
+    }
+    match out.write(&text) {
+        Written::Failed => SubmitEnd::SinkFault,
+        Written::Ok => {
+            if is_answered(coord_node, requests) {
+                SubmitEnd::Done
+            } else {
+                SubmitEnd::Unanswered
+            }
+        }
+    }
+}
+
+/// Submits requests as a coordinator: binds any free port, and takes turns until each request is answered, or so many were taken.
+pub fn submit_all<L: Link, S: Sink>(
+    alloc: Global,
+    plan: &Plan,
+    tag: [u8; 8],
+    coord: u16,
+    cluster: &Cluster,
+    requests: &[Request],
+    link: &mut L,
+    turns: u32,
+    out: &mut S,
+) -> SubmitEnd
+    requires cluster { length cluster.now ≡ plan.now.program.shards }
+    requires coord { coord ≤ 15 }
+    ensures link_cause { HasCause (submit_link_failed result) (L.faults link.old) (L.faults link.new) }
+    ensures sink_cause { HasCause (submit_sink_failed result) (S.faults out.old) (S.faults out.new) }
+    ensures submits { BindsAndSubmits (node_setting plan.now tag (node.Coord coord) cluster.now) coord requests.now turns
+        (record { link = link_call L.Link link.old link.new; out = sink_call S.Sink out.old out.new })
+        result }
+{
+    let any = Addr {
+        host: [0, 0, 0, 0],
+        port: 0,
+    };
+    match link.bind(any) {
+        Bound::Failed => SubmitEnd::LinkFault,
+        Bound::Ok => submit_turns(alloc, plan, tag, coord, cluster, requests, link, turns, out),
+    }
+}

@@ -1,5 +1,0 @@
-use Rattle.roc_coord.specs.Fits.{CoordFits}
-use Rattle.roc_node_tests.proofs.coordinators.refuses.Given as goal
-
-abbrev pub invariant-loop-proc : goal.invariant-loop-proc
-invariant-loop-proc g l = CoordFits l.plan l.coord

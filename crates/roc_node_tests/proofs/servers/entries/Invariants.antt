@@ -1,4 +1,0 @@
-use Rattle.roc_node_tests.proofs.servers.entries.Given as goal
-
-abbrev pub ghosts-counted_entries : goal.ghosts-counted_entries
-ghosts-counted_entries a = record { name = a.blank.name; parts = a.blank.parts }

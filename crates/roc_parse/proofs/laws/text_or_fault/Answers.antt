@@ -1,5 +1,0 @@
-use Rattle.roc_parse.proofs.Unique as unique
-use Rattle.roc_parse.proofs.laws.text_or_fault.Goals as goal
-
-pub returns : goal.returns
-returns c = unique.text_or_fault

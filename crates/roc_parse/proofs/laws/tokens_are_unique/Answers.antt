@@ -1,5 +1,0 @@
-use Rattle.roc_parse.proofs.Unique.{one_spelling}
-use Rattle.roc_parse.proofs.laws.tokens_are_unique.Goals as goal
-
-pub returns : goal.returns
-returns c = one_spelling

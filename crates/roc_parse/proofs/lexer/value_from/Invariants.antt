@@ -1,6 +1,0 @@
-use Rattle.std.proofs.Common.{◌≡◌, drop}
-use Rattle.roc_parse.specs.Scanning.{value_from}
-use Rattle.roc_parse.proofs.lexer.value_from.Given as goal
-
-abbrev pub invariant-loop-byte : goal.invariant-loop-byte
-invariant-loop-byte l = value_from l.value (drop l.byte-index l.bytes) ≡ value_from l.first l.bytes

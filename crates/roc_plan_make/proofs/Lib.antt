@@ -1,0 +1,6 @@
+mod Few
+mod BuiltUp
+mod Counted
+mod Drawn
+mod Grouped
+mod Kept

@@ -1,0 +1,15 @@
+use Rattle.std.proofs.Common.{◌∙◌, length, unwrap_or, ap, arith}
+use Rattle.std.proofs.lemmas.List.Sums.{prefix_len-le-length}
+use Rattle.std.proofs.Common.{not}
+use Rattle.roc_program.specs.Names.{has_name}
+use Rattle.roc_program.proofs.Firsts.{position-or_len}
+use Rattle.roc_plan_make.proofs.replies.binder_of.Goals as goal
+
+pub returns-clause-place : goal.returns-clause-place
+returns-clause-place c =
+    c.unwrap_or.ensures ∙ ap (λ o. unwrap_or o (length c.args.bounds.now)) c.find_binder.ensures ∙ position-or_len (λ row. has_name row.items c.args.name) c.args.bounds.now
+
+pub returns-clause-few : goal.returns-clause-few
+returns-clause-few c =
+    let place = c.unwrap_or.ensures ∙ ap (λ o. unwrap_or o (length c.args.bounds.now)) c.find_binder.ensures ∙ position-or_len (λ row. has_name row.items c.args.name) c.args.bounds.now in
+    omega (arith, place, prefix_len-le-length (λ row. not (has_name row.items c.args.name)) c.args.bounds.now)

@@ -1,3 +1,0 @@
-pub mod Moving
-mod Ranges
-mod Sets

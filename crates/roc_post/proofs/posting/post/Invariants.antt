@@ -1,6 +1,0 @@
-use Rattle.std.proofs.Common.{◌≡◌, take}
-use Rattle.roc_post.specs.Posting.{packets_for}
-use Rattle.roc_post.proofs.posting.post.Given as goal
-
-abbrev pub invariant-loop-out : goal.invariant-loop-out
-invariant-loop-out l = l.packets.items ≡ packets_for l.header l.cluster l.heard (take l.out-index l.outs)

@@ -1,6 +1,0 @@
-use Rattle.std.proofs.Common.{rules}
-use Rattle.roc_post.proofs.Ranges.{nums_along}
-use Rattle.roc_post.proofs.spellable.few_nums.Goals as goal
-
-pub returns-clause-fits : goal.returns-clause-fits
-returns-clause-fits c h = (search rules, nums_along c.args.nums.now c.have_width.ensures)

@@ -1,5 +1,0 @@
-pub mod Judgement
-pub mod Spellable
-pub mod Posting
-pub mod Moves
-pub mod Inner

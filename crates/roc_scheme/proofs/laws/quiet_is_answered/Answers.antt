@@ -1,4 +1,0 @@
-use Rattle.roc_scheme.proofs.laws.quiet_is_answered.Goals as goal
-
-pub returns : goal.returns
-returns c plan coords steps w ok run = c.quiet_is_answered.ensures.answered plan coords steps w (c.accepted_plans_have_schemes.ensures plan ok) run

@@ -1,6 +1,0 @@
-use Rattle.roc_scheme.proofs.OfPlan.{of_plan}
-use Rattle.roc_scheme.proofs.laws.schemes_are_of_their_plan.Goals as goal
-
-pub returns : goal.returns
-returns c plan orders asked ok turn calls =
-    of_plan plan orders asked ok turn calls (c.groups_have_the_class_of_their_pieces.ensures.some plan ok) (λ proc g input h. (c.inputs_come_from_immediate_groups.ensures plan ok proc g input h).2)

@@ -1,0 +1,173 @@
+-- The index follows the started groups and what is decided
+use Rattle.std.proofs.Common.{◌≡◌, ℕ, ◌+◌, ◌-◌, ◌<◌, ◌==◌, Bool, true, false, cond, not, ◌&&◌, ◌||◌, if◌then◌else◌, List, [], ◌∷◌, ◌++◌, length, take, filter, get_or, Option, Some, None, slice_get, refl, sym, ap, subst, ◌∙◌, inl, inr, length-append, append-nil, arith}
+use Rattle.std.proofs.lemmas.Bool.{false≢true}
+use Rattle.std.proofs.lemmas.Bool.Decides.{nat_tests}
+use Rattle.std.proofs.lemmas.List.Elements.{filter-append}
+use Rattle.std.proofs.lemmas.List.Folds.{list_any_more}
+use Rattle.std.proofs.lemmas.Option.{slice_get_within}
+use Rattle.std.specs.List.{AllByRecursion, list_any}
+use Rattle.roc_sequence.specs.Lists.{Has}
+use Rattle.roc_sequence.specs.Places.{is_listed}
+use Rattle.roc_sequence.proofs.Holds.{all_has, has_all, has_any}
+use Rattle.roc_sequence.proofs.Members.{has_at, from_has_filter}
+use Rattle.roc_base.specs.declared.id.TxnId.{TxnId}
+use Rattle.roc_base.specs.TxnId.{is_txn}
+use Rattle.roc_base.proofs.Ids.{is_listed-any, is_txn-swap}
+use Rattle.roc_rows.specs.declared.cell.Cell.{Cell}
+use Rattle.roc_rows.specs.Cells.{is_cell}
+use Rattle.roc_group.specs.declared.access.Access.{Access}
+use Rattle.roc_server_index.specs.declared.group_ref.GroupRef.{GroupRef}
+use Rattle.roc_server_index.specs.GroupRefs.{group_refs_at, is_of_place, ends_at, with_group_ref, without, ChangesAt}
+use Rattle.roc_server.specs.declared.started.StartedGroup.{StartedGroup}
+use Rattle.roc_server.specs.Start.{uses_cell}
+use Rattle.roc_server.specs.Inner.ServerData.{AreSameGroups}
+use Rattle.roc_server.specs.Inner.Indexed.{group_ref_of, group_refs_from, undecided, IsIndexOf, IsGroupRefOf, AreGroupRefsOf, IsAddedAt, IsOutOf, IsOut, AreOut}
+use Rattle.roc_server.proofs.Stands.{indexed_is, group_refs_more, group_refs_same}
+
+abbrev Index : Type 0
+Index = List (Cell × List GroupRef)
+
+-- ---- filters in a row
+
+pub filter_both : {A : Type 0} (p q r : A → Bool) → ((x : A) → (p x && q x) ≡ r x) → (xs : List A) → filter q (filter p xs) ≡ filter r xs
+filter_both p q r h [] = refl
+filter_both p q r h (x ∷ xs) = go (p x) (q x) refl (filter_both p q r h xs) ∙ ap (λ b. cond b (x ∷ filter r xs) (filter r xs)) (h x)
+  where
+    go : (b c : Bool) → q x ≡ c → filter q (filter p xs) ≡ filter r xs → filter q (cond b (x ∷ filter p xs) (filter p xs)) ≡ cond (b && c) (x ∷ filter r xs) (filter r xs)
+    go true true e ih = ap (λ t. cond t (x ∷ filter q (filter p xs)) (filter q (filter p xs))) e ∙ ap (λ ys. x ∷ ys) ih
+    go true false e ih = ap (λ t. cond t (x ∷ filter q (filter p xs)) (filter q (filter p xs))) e ∙ ih
+    go false c e ih = ih
+
+filter_all : {A : Type 0} (p : A → Bool) (xs : List A) → ((x : A) → Has x xs → p x ≡ true) → filter p xs ≡ xs
+filter_all p [] h = refl
+filter_all p (x ∷ xs) h = ap (λ b. cond b (x ∷ filter p xs) (filter p xs)) (h x (inl refl)) ∙ ap (λ ys. x ∷ ys) (filter_all p xs (λ y k. h y (inr k)))
+
+-- ---- a group is added at its cells
+
+stands_last : (ss : List GroupRef) (s : GroupRef) → slice_get (ss ++ s ∷ []) (length ss) ≡ Some s
+stands_last [] s = refl
+stands_last (x ∷ xs) s = stands_last xs s
+
+ends_new : (s : GroupRef) (ss : List GroupRef) → ends_at s.at (ss ++ s ∷ []) ≡ true
+ends_new s ss =
+    let long = length-append ss (s ∷ []) in
+    let last : length (ss ++ s ∷ []) - 1 ≡ length ss = omega (arith, long) in
+    let own : (s.at == s.at) ≡ true = grind (arith, nat_tests) in
+    ap (λ n. is_of_place s.at (slice_get (ss ++ s ∷ []) n)) last ∙ ap (is_of_place s.at) (stands_last ss s) ∙ own
+
+ends_old : (at : ℕ) (ss : List GroupRef) → AllByRecursion (λ s. s.at < at) ss → ends_at at ss ≡ false
+ends_old at ss h = go (slice_get ss (length ss - 1)) refl
+  where
+    go : (o : Option GroupRef) → slice_get ss (length ss - 1) ≡ o → is_of_place at (slice_get ss (length ss - 1)) ≡ false
+    go None e = ap (is_of_place at) e
+    go (Some x) e =
+        let below : x.at < at = all_has (λ s. s.at < at) x ss h (has_at ss (length ss - 1) x e) in
+        let other : (x.at == at) ≡ false = grind (arith, nat_tests) in
+        ap (is_of_place at) e ∙ other
+
+with_once : (s : GroupRef) (ss : List GroupRef) (u t : Bool) → AllByRecursion (λ x. x.at < s.at) ss → (if t then with_group_ref s (ss ++ (if u then s ∷ [] else [])) else ss ++ (if u then s ∷ [] else [])) ≡ ss ++ (if u || t then s ∷ [] else [])
+with_once s ss true true h = ap (λ b. if b then ss ++ s ∷ [] else (ss ++ s ∷ []) ++ s ∷ []) (ends_new s ss)
+with_once s ss false true h = ap (with_group_ref s) (append-nil ss) ∙ ap (λ b. if b then ss else ss ++ s ∷ []) (ends_old s.at ss h)
+with_once s ss true false h = refl
+with_once s ss false false h = refl
+
+pub added_none : (s : GroupRef) (old : Index) → IsAddedAt s [] old old
+added_none s old c = sym (append-nil (group_refs_at c old))
+
+pub added_more : (s : GroupRef) (cells : List Access) (k : ℕ) (a : Access) (old mid new : Index) → ((c : Cell) → AllByRecursion (λ x. x.at < s.at) (group_refs_at c old)) → k < length cells → IsAddedAt s (take k cells) old mid
+    → ChangesAt (get_or cells k a).cell (with_group_ref s) mid new → IsAddedAt s (take (k + 1) cells) old new
+added_more s cells k a old mid new fresh within so_far step c =
+    let x : Access = get_or cells k a in
+    step c ∙ ap (λ ss. if is_cell x.cell c then with_group_ref s ss else ss) (so_far c)
+    ∙ with_once s (group_refs_at c old) (list_any (λ b. is_cell b.cell c) (take k cells)) (is_cell x.cell c) (fresh c)
+    ∙ ap (λ t. group_refs_at c old ++ (if t then s ∷ [] else [])) (sym (list_any_more (λ b. is_cell b.cell c) cells k a within))
+
+-- all places of the index are below the next one
+pub all_below : (index : Index) (decided : List TxnId) (es : List StartedGroup) → IsIndexOf index decided es → (c : Cell) → AllByRecursion (λ s. s.at < length es) (group_refs_at c index)
+all_below index decided es h c = has_all (λ s. s.at < length es) (group_refs_at c index) (λ s k. let p = indexed_is c index decided es h s k in slice_get_within es s.at p.group p.stands)
+
+-- with one more group, whose transaction is not decided
+pub index_started : (old new : Index) (decided : List TxnId) (es : List StartedGroup) (e : StartedGroup) → IsIndexOf old decided es → is_listed is_txn decided e.id ≡ false → IsAddedAt (group_ref_of (length es) e) e.cells old new → IsIndexOf new decided (es ++ e ∷ [])
+index_started old new decided es e h unknown added c =
+    added c ∙ ap (λ ss. ss ++ (if uses_cell c e then group_ref_of (length es) e ∷ [] else [])) (h c) ∙ go (uses_cell c e)
+    ∙ sym (filter-append (λ (s : GroupRef). not (is_listed is_txn decided s.id)) (group_refs_from c 0 es) (if uses_cell c e then group_ref_of (length es) e ∷ [] else []))
+    ∙ ap (undecided decided) (sym (group_refs_more c 0 es e ∙ ap (λ n. group_refs_from c 0 es ++ (if uses_cell c e then group_ref_of n e ∷ [] else [])) first))
+  where
+    first : 0 + length es ≡ length es
+    first = omega arith
+
+    go : (u : Bool) → undecided decided (group_refs_from c 0 es) ++ (if u then group_ref_of (length es) e ∷ [] else []) ≡ undecided decided (group_refs_from c 0 es) ++ undecided decided (if u then group_ref_of (length es) e ∷ [] else [])
+    go true = ap (λ b. undecided decided (group_refs_from c 0 es) ++ (if not b then group_ref_of (length es) e ∷ [] else [])) (sym unknown)
+    go false = refl
+
+-- ---- what is decided is taken out
+
+-- nothing was taken out yet
+pub out_of_none : (id : TxnId) (old : Index) → IsOutOf id (λ c. false) old old
+out_of_none id old c = refl
+
+pub indexed_group_refs : (index : Index) (decided : List TxnId) (es : List StartedGroup) → IsIndexOf index decided es → AreGroupRefsOf es index
+indexed_group_refs index decided es h c s k = indexed_is c index decided es h s k
+
+without_again : (id : TxnId) (ss : List GroupRef) → without id (without id ss) ≡ without id ss
+without_again id ss = filter_both (λ (s : GroupRef). not (is_txn s.id id)) (λ s. not (is_txn s.id id)) (λ s. not (is_txn s.id id)) (λ s. both (not (is_txn s.id id))) ss
+  where
+    both : (b : Bool) → (b && b) ≡ b
+    both true = refl
+    both false = refl
+
+out_once : (id : TxnId) (ss : List GroupRef) (u t : Bool) → (if t then without id (if u then without id ss else ss) else (if u then without id ss else ss)) ≡ (if u || t then without id ss else ss)
+out_once id ss true true = without_again id ss
+out_once id ss true false = refl
+out_once id ss false true = refl
+out_once id ss false false = refl
+
+pub out_more : (id : TxnId) (first next passes : Cell → Bool) (old mid new : Index) → ((c : Cell) → passes c ≡ (first c || next c)) → IsOutOf id first old mid → IsOutOf id next mid new → IsOutOf id passes old new
+out_more id first next passes old mid new is so_far step c =
+    step c ∙ ap (λ ss. if next c then without id ss else ss) (so_far c) ∙ out_once id (group_refs_at c old) (first c) (next c) ∙ ap (λ t. if t then without id (group_refs_at c old) else group_refs_at c old) (sym (is c))
+
+-- out of the cells of all its groups, it is out of all cells
+pub out_of_all : (id : TxnId) (es : List StartedGroup) (old new : Index) → AreGroupRefsOf es old → IsOutOf id (λ c. list_any (λ e. is_txn e.id id && uses_cell c e) es) old new → IsOut id old new
+out_of_all id es old new group_refs out c = out c ∙ go (list_any (λ e. is_txn e.id id && uses_cell c e) es) refl
+  where
+    go : (b : Bool) → list_any (λ e. is_txn e.id id && uses_cell c e) es ≡ b → (if b then without id (group_refs_at c old) else group_refs_at c old) ≡ without id (group_refs_at c old)
+    go true h = refl
+    go false h = sym (filter_all (λ (s : GroupRef). not (is_txn s.id id)) (group_refs_at c old) (λ s k. none s (group_refs c s k) (is_txn s.id id) refl))
+      where
+        none : (s : GroupRef) → IsGroupRefOf es es c s → (t : Bool) → is_txn s.id id ≡ t → not t ≡ true
+        none s p false e = refl
+        none s p true e =
+            let own : is_txn p.group.id id ≡ true = ap (λ (x : GroupRef). is_txn x.id id) (sym p.is) ∙ e in
+            absurd (false≢true (sym h ∙ has_any (λ e. is_txn e.id id && uses_cell c e) es p.group p.has (λ i. own i && p.used i)))
+
+pub out_none : (old : Index) → AreOut [] old old
+out_none old c = sym (filter_all (λ (s : GroupRef). not (is_listed is_txn [] s.id)) (group_refs_at c old) (λ s k. refl))
+
+pub still_group_refs : (ids : List TxnId) (es : List StartedGroup) (old new : Index) → AreOut ids old new → AreGroupRefsOf es old → AreGroupRefsOf es new
+still_group_refs ids es old new out group_refs c s k = group_refs c s (from_has_filter (λ (x : GroupRef). not (is_listed is_txn ids x.id)) s (group_refs_at c old) (subst (Has s) (out c) k)).0
+
+listed_also : (ids : List TxnId) (k : ℕ) (d t : TxnId) → k < length ids → is_listed is_txn (take (k + 1) ids) t ≡ (is_listed is_txn (take k ids) t || is_txn (get_or ids k d) t)
+listed_also ids k d t within =
+    is_listed-any (take (k + 1) ids) t ∙ list_any_more (λ x. is_txn x t) ids k d within ∙ ap (λ b. b || is_txn (get_or ids k d) t) (sym (is_listed-any (take k ids) t))
+
+pub are_out_more : (ids : List TxnId) (k : ℕ) (d : TxnId) (old mid new : Index) → k < length ids → AreOut (take k ids) old mid → IsOut (get_or ids k d) mid new → AreOut (take (k + 1) ids) old new
+are_out_more ids k d old mid new within so_far step c =
+    step c ∙ ap (without (get_or ids k d)) (so_far c)
+    ∙ filter_both (λ (s : GroupRef). not (is_listed is_txn (take k ids) s.id)) (λ s. not (is_txn s.id (get_or ids k d))) (λ s. not (is_listed is_txn (take (k + 1) ids) s.id))
+    (λ s. neither (is_listed is_txn (take k ids) s.id) (is_txn s.id (get_or ids k d)) ∙ ap not (sym (listed_also ids k d s.id within ∙ ap (λ b. is_listed is_txn (take k ids) s.id || b) (is_txn-swap (get_or ids k d) s.id)))) (group_refs_at c old)
+  where
+    neither : (a b : Bool) → (not a && not b) ≡ not (a || b)
+    neither true b = refl
+    neither false b = refl
+
+-- what is decided is exactly what was, and these
+pub index_decided : (old new : Index) (before ids after : List TxnId) (es fs : List StartedGroup) → IsIndexOf old before es → AreOut ids old new → AreSameGroups es fs → ((t : TxnId) → is_listed is_txn after t ≡ (is_listed is_txn before t || is_listed is_txn ids t)) → IsIndexOf new after fs
+index_decided old new before ids after es fs h out same is c =
+    out c ∙ ap (filter (λ (s : GroupRef). not (is_listed is_txn ids s.id))) (h c)
+    ∙ filter_both (λ (s : GroupRef). not (is_listed is_txn before s.id)) (λ s. not (is_listed is_txn ids s.id)) (λ s. not (is_listed is_txn after s.id))
+    (λ s. neither (is_listed is_txn before s.id) (is_listed is_txn ids s.id) ∙ ap not (sym (is s.id))) (group_refs_from c 0 es)
+    ∙ ap (undecided after) (sym (group_refs_same c es fs same))
+  where
+    neither : (a b : Bool) → (not a && not b) ≡ not (a || b)
+    neither true b = refl
+    neither false b = refl

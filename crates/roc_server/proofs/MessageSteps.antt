@@ -1,0 +1,94 @@
+-- What comes of a message, kind by kind
+use Rattle.std.proofs.Common.{◌≡◌, ℕ, ℤ, false, List, [], Result, Ok, Err, IfOk, ◌⊎◌, inl, inr, refl, sym, subst, ◌∙◌, append-nil}
+use Rattle.roc_base.specs.declared.id.TxnId.{TxnId}
+use Rattle.roc_base.specs.declared.node.Shard.{Shard}
+use Rattle.roc_base.specs.Edge.{Dependency}
+use Rattle.roc_depgraph.specs.declared.known.KnownList.{KnownList}
+use Rattle.roc_group.specs.GroupRun.{call}
+use Rattle.roc_msg.specs.declared.msg.Msg.{Msg}
+use Rattle.roc_msg.specs.declared.msg.Msg.TheVariants.{Start, StartOk, Commit, CommitOk, Fetch, Known, Stop}
+use Rattle.roc_msg.specs.declared.outbox.Outbox.{Outbox}
+use Rattle.roc_msg.specs.declared.reason.Reason.TheVariants.{Foreign}
+use Rattle.roc_plan.specs.Groups.{Plan}
+use Rattle.roc_server.specs.declared.handled.Handled.{Handled}
+use Rattle.roc_server.specs.declared.handled.Handled.TheVariants.{Ignored}
+use Rattle.roc_server.specs.declared.server_data.ServerData.{ServerData}
+use Rattle.roc_server.specs.Inner.ServerData.{state_of, IsConsistent}
+use Rattle.roc_server.specs.Inner.Starts.{StartTaken}
+use Rattle.roc_server.specs.Inner.Taught.{Commits, Knows}
+use Rattle.roc_server.specs.Lists.{after_fetch}
+use Rattle.roc_server_lists.specs.New.{AreDecided}
+use Rattle.roc_server.specs.State.{ignored, ServerState, ServerStep}
+use Rattle.roc_server.specs.Step.{Findings, AreFindings, after_message, Handles, Shows}
+use Rattle.roc_server_lists.proofs.InOrder.{nothing_new}
+use Rattle.roc_server.proofs.StartSteps.{nothing_led}
+
+-- what is answered, kept and sent is the step of a message
+abbrev pub IsStepFor : Plan → ServerState → Msg → ServerState → Outbox → Outbox → Handled → Type 0
+IsStepFor plan s msg after old new answer = (r : ServerStep) × Handles plan s msg r × Shows r answer after old new
+
+module _ (plan : Plan) (shard : Shard) (k new : ServerData) (sound : IsConsistent k) (before after : Outbox) where
+  abbrev s : ServerState
+  s = state_of shard k false
+
+  abbrev IsStep : Msg → Handled → Type 0
+  IsStep msg answer = IsStepFor plan s msg (state_of shard new false) before after answer
+
+  decided : AreDecided k.deps k.decided
+  decided = record { rising = sound.decided_rising; sound = sound.decided_only; complete = sound.decided_all }
+
+  -- of a message of a kind, by what was found
+  comes : (msg m : Msg) (f : Findings) (answer : Handled) → msg ≡ m → AreFindings plan s m f → Shows (after_message plan s f m) answer (state_of shard new false) before after → IsStep msg answer
+  comes msg m f answer is found shown =
+      let P : Msg → Type 0 = λ n. IsStep n answer in
+      subst P (sym is) (after_message plan s f m, record { findings = f; found = found; is = refl }, shown)
+
+  pub start_comes : {E : Type 0} (r : Result Handled E) (msg : Msg) (id : TxnId) (proc group : ℕ) (args inputs args2 inputs2 : List ℤ) → msg ≡ Start id proc group args inputs → args2 ≡ args → inputs2 ≡ inputs
+      → IfOk r (StartTaken plan shard k new before after id (call proc group args2 inputs2)) → IfOk r (IsStep msg)
+  start_comes (Err e) msg id proc group args inputs args2 inputs2 is same same2 h = tt
+  start_comes (Ok answer) msg id proc group args inputs args2 inputs2 is same same2 h =
+      comes msg (Start id proc group args2 inputs2) (record { before = k.decided; reached = h.reached; decided = [] }) answer (is ∙ (λ i. Start id proc group (sym same i) (sym same2 i)))
+      (record { before = decided; reached = h.led; decided = nothing_new k.deps }) h.shown
+
+  pub commit_comes : {E : Type 0} (r : Result Handled E) (msg : Msg) (id : TxnId) (edges : List Dependency) (facts facts2 : List KnownList) → msg ≡ Commit id edges facts → facts2 ≡ facts
+      → IfOk r (Commits plan shard k new before after id edges facts2) → IfOk r (IsStep msg)
+  commit_comes (Err e) msg id edges facts facts2 is same h = tt
+  commit_comes (Ok answer) msg id edges facts facts2 is same h =
+      comes msg (Commit id edges facts2) (record { before = k.decided; reached = []; decided = h.ids }) answer (is ∙ (λ i. Commit id edges (sym same i)))
+      (record { before = decided; reached = nothing_led k.deps; decided = h.new_ids }) h.shown
+
+  pub known_comes : {E : Type 0} (r : Result Handled E) (msg : Msg) (id : TxnId) (edges : List Dependency) → msg ≡ Known id edges → IfOk r (Knows plan shard k new before after id edges) → IfOk r (IsStep msg)
+  known_comes (Err e) msg id edges is h = tt
+  known_comes (Ok answer) msg id edges is h =
+      comes msg (Known id edges) (record { before = k.decided; reached = []; decided = h.ids }) answer is (record { before = decided; reached = nothing_led k.deps; decided = h.new_ids }) h.shown
+
+  pub fetch_comes : {E : Type 0} (r : Result Handled E) (msg : Msg) (id : TxnId) (asker : Shard) → msg ≡ Fetch id asker → IfOk r (λ answer. Shows (after_fetch s id asker) answer (state_of shard new false) before after) → IfOk r (IsStep msg)
+  fetch_comes (Err e) msg id asker is h = tt
+  fetch_comes (Ok answer) msg id asker is h =
+      comes msg (Fetch id asker) (record { before = k.decided; reached = []; decided = [] }) answer is (record { before = decided; reached = nothing_led k.deps; decided = nothing_new k.deps }) h
+
+module _ (plan : Plan) (shard : Shard) (k : ServerData) (sound : IsConsistent k) (out : Outbox) where
+  abbrev nothing : Findings
+  nothing = record { before = k.decided; reached = []; decided = [] }
+
+  abbrev now : ServerState
+  now = state_of shard k false
+
+  ignored_shown : Shows (ignored now Foreign) (Ignored Foreign) now out out
+  ignored_shown = record { answers = refl; keeps = refl; sends = sym (append-nil out.messages); decides = sym (append-nil out.decided) }
+
+  -- it is ignored, whatever a server does not take
+  pub foreign_comes : (msg : Msg)
+      → ((id : TxnId) × (group : ℕ) × (at : Shard) × (bound : List ℤ) × (outs : List ℤ) × (edges : List Dependency) × (facts : List KnownList) × (msg ≡ StartOk id group at bound outs edges facts))
+      ⊎ (((id : TxnId) × (at : Shard) × (outs : List ℤ) × (msg ≡ CommitOk id at outs)) ⊎ (msg ≡ Stop))
+      → IsStepFor plan now msg now out out (Ignored Foreign)
+  foreign_comes msg (inl p) = comes plan shard k k sound out out msg (StartOk p.0 p.1 p.2 p.3 p.4 p.5 p.6) nothing (Ignored Foreign) p.7 (record { before = decided plan shard k k sound out out; reached = nothing_led k.deps; decided = nothing_new k.deps }) ignored_shown
+  foreign_comes msg (inr (inl p)) = comes plan shard k k sound out out msg (CommitOk p.0 p.1 p.2) nothing (Ignored Foreign) p.3 (record { before = decided plan shard k k sound out out; reached = nothing_led k.deps; decided = nothing_new k.deps }) ignored_shown
+  foreign_comes msg (inr (inr is)) = comes plan shard k k sound out out msg Stop nothing (Ignored Foreign) is (record { before = decided plan shard k k sound out out; reached = nothing_led k.deps; decided = nothing_new k.deps }) ignored_shown
+
+-- the same between equal states
+pub comes_from : (plan : Plan) (s t after then : ServerState) (msg : Msg) (old new : Outbox) (answer : Handled) → s ≡ t → after ≡ then → IsStepFor plan s msg after old new answer → IsStepFor plan t msg then old new answer
+comes_from plan s t after then msg old new answer is is2 comes =
+    let P : ServerState → Type 0 = λ u. IsStepFor plan u msg after old new answer in
+    let Q : ServerState → Type 0 = λ u. IsStepFor plan t msg u old new answer in
+    subst Q is2 (subst P is comes)

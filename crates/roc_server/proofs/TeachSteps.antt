@@ -1,0 +1,166 @@
+-- What comes of lists that are taught
+use Rattle.std.proofs.Common.{◌≡◌, Bool, true, false, List, ◌++◌, ◌||◌, map, filter, refl, sym, ap, subst, ◌∙◌, append_assoc, inl, inr}
+use Rattle.std.specs.List.{AllByRecursion, flat_map}
+use Rattle.roc_sequence.specs.Lists.{Has}
+use Rattle.roc_sequence.proofs.Holds.{has_all}
+use Rattle.roc_sequence.proofs.Members.{has_map}
+use Rattle.roc_base.specs.Edge.{Dependency}
+use Rattle.roc_base.specs.Edges.{united}
+use Rattle.roc_await.specs.Waits.{Waiting, was_asked_for, with_all_asked}
+use Rattle.roc_await.specs.Lacks.{AreLacks}
+use Rattle.roc_await.proofs.Asking.{asked_still, asked_all}
+use Rattle.roc_server_lists.proofs.Skipped.{left_still, left_by_third, passed}
+use Rattle.roc_server.proofs.LeftOut.{missing_of}
+use Rattle.roc_sequence.specs.Places.{is_listed, IsListed}
+use Rattle.roc_sequence.proofs.Places.{listed_or_not}
+use Rattle.roc_sequence.proofs.Appended.{listed_front, listed_behind, listed_either}
+use Rattle.roc_base.specs.declared.id.TxnId.{TxnId}
+use Rattle.roc_base.specs.declared.node.Shard.{Shard}
+use Rattle.roc_base.specs.TxnId.{is_txn}
+use Rattle.roc_await.specs.declared.waits.OpenFetch.{OpenFetch}
+use Rattle.roc_depgraph.specs.declared.known.KnownList.{KnownList}
+use Rattle.roc_depgraph.specs.Deps.{is_known, IsKnown, IsDecided}
+use Rattle.roc_depgraph.proofs.Laws.{decided_stays}
+use Rattle.roc_server_lists.proofs.Added.{decided_test}
+use Rattle.roc_server_lists.proofs.Learning.{keeps_front}
+use Rattle.roc_msg.specs.declared.outbox.Outbox.{Outbox}
+use Rattle.roc_msg.specs.declared.outbox.Outgoing.{Outgoing}
+use Rattle.roc_plan.specs.Groups.{Plan}
+use Rattle.roc_server.specs.declared.handled.Handled.TheVariants.{Done}
+use Rattle.roc_server.specs.declared.server_data.ServerData.{ServerData}
+use Rattle.roc_server.specs.Runs.{commitok, commitok_of, take_all}
+use Rattle.roc_server_lists.specs.New.{AreNew}
+use Rattle.roc_server_lists.specs.Asking.{knowns_for, asked_of, fetch_from, waiting_after}
+use Rattle.roc_server.specs.Lists.{is_missing, missing_from, lists_after, taught}
+use Rattle.roc_server.specs.Inner.Indexed.{AreOut}
+use Rattle.roc_server.specs.Inner.ServerData.{state_of, holding, is_left, AreSameGroups, IsConsistent}
+use Rattle.roc_server.specs.State.{unrun}
+use Rattle.roc_server.specs.Inner.Taught.{KnowsMore, DecidedTaken, Teaches}
+use Rattle.roc_server.specs.State.{is_here, ServerState}
+use Rattle.roc_server.specs.Step.{Shows}
+use Rattle.roc_server.proofs.SameGroups.{once_same, here_same}
+use Rattle.roc_server.proofs.IndexSteps.{index_decided}
+
+module _ (plan : Plan) (shard : Shard) (old mid new : ServerData) (before first second after : Outbox) (news : List KnownList) (ids : List TxnId) (found : List TxnId) (asks : List OpenFetch) (sound : IsConsistent old) (m : KnowsMore shard old mid before first news asks found) (h : DecidedTaken plan shard mid new first second ids) (sent : after ≡ record second { messages = second.messages ++ map (fetch_from shard) asks }) where
+  abbrev s : ServerState
+  s = state_of shard old false
+
+  abbrev all : List KnownList
+  all = old.deps ++ news
+
+  chosen : AreNew (IsListed is_txn old.decided) all ids
+  chosen =
+      let P : List TxnId → Type 0 = λ d. AreNew (IsListed is_txn d) mid.deps ids in
+      let Q : List KnownList → Type 0 = λ k. AreNew (IsListed is_txn old.decided) k ids in
+      subst Q m.deps (subst P m.decided h.chosen)
+
+  new_ids : AreNew (IsDecided old.deps) all ids
+  new_ids =
+      record {
+        members = record {
+          only = λ t l. let u = chosen.members.only t l in (u.0, λ d. u.1 (sound.decided_all t d));
+          all = λ t d. chosen.members.all t (d.0, λ l. d.1 (sound.decided_only t l));
+        };
+        ordered = chosen.ordered;
+      }
+
+  abbrev knowing : ServerState
+  knowing = record s { lists = lists_after s news }
+
+  known_is : all ≡ new.deps
+  known_is = sym m.deps ∙ sym h.lists
+
+  waiting_is : waiting_after old.waits news (missing_from s all) ≡ new.waits
+  waiting_is = ap (waiting_after old.waits news) (sym m.missing) ∙ sym m.waits ∙ sym h.waits
+
+  reached : take_all plan knowing ids ≡ state_of shard new false
+  reached =
+      (λ i. take_all plan (holding knowing (sym m.rows i).store (sym m.started i)) ids)
+      ∙ h.runs knowing
+      ∙ (λ i. let t : ServerState = record { shard = shard; store = new.rows.store; started = new.started; lists = record { known = known_is i; waiting = waiting_is i }; stopped = false } in t)
+
+  groups : AreSameGroups old.started new.started
+  groups = h.groups ∙ (λ i. map unrun (m.started i))
+
+  told_here : map (commitok plan shard new.started) (filter (λ t. is_here t new.started) ids) ≡ map (commitok_of plan (take_all plan knowing ids)) (filter (λ t. is_here t old.started) ids)
+  told_here i = map (commitok_of plan (sym reached i)) (filter (λ t. here_same t old.started new.started groups i) ids)
+
+  abbrev knowns : List Outgoing
+  knowns = flat_map (knowns_for old.waits.askers) news
+
+  abbrev oks : List Outgoing
+  oks = map (commitok_of plan (take_all plan knowing ids)) (filter (λ t. is_here t old.started) ids)
+
+  abbrev fetches : List Outgoing
+  fetches = map (fetch_from shard) (missing_from s all)
+
+  sends : after.messages ≡ before.messages ++ (knowns ++ (oks ++ fetches))
+  sends =
+      ap (λ o. o.messages) sent
+      ∙ (λ i. (h.sent ∙ ap (λ xs. first.messages ++ xs) told_here) i ++ map (fetch_from shard) (m.missing i))
+      ∙ ap (λ (o : Outbox). (o.messages ++ oks) ++ fetches) m.sent
+      ∙ append_assoc (before.messages ++ knowns) oks fetches
+      ∙ append_assoc before.messages knowns (oks ++ fetches)
+
+  shown : Shows (taught plan s news ids) Done (state_of shard new false) before after
+  shown = record { answers = refl; keeps = reached; sends = sends; decides = ap (λ o. o.decided) sent ∙ h.told ∙ ap (λ (o : Outbox). o.decided ++ ids) m.sent }
+
+  stays : (t : TxnId) → IsDecided old.deps t → IsDecided all t
+  stays t d = decided_stays old.deps all (keeps_front old.deps news) t d
+
+  -- what the lists name is known, here or asked for
+  abbrev missing : Dependency → Bool
+  missing = is_missing s all
+
+  one_after : (d : Dependency) → Has d (flat_map (λ (k : KnownList). k.edges) all) → is_left new d ≡ false
+  one_after d named = go (missing d) refl
+    where
+      known_now : IsKnown all d.from → is_known new.deps d.from ≡ true
+      known_now k = subst (λ (ks : List KnownList). is_known ks d.from ≡ true) known_is k
+
+      here_now : is_here d.from old.started ≡ true → is_here d.from new.started ≡ true
+      here_now e = here_same d.from old.started new.started groups ∙ e
+
+      asked_is : with_all_asked (missing_from s all) old.waits.asked ≡ new.waits.asked
+      asked_is = ap (λ (w : Waiting). w.asked) waiting_is
+
+      asked_now : was_asked_for d.from (with_all_asked (missing_from s all) old.waits.asked) ≡ true → was_asked_for d.from new.waits.asked ≡ true
+      asked_now e = subst (λ (xs : List OpenFetch). was_asked_for d.from xs ≡ true) asked_is e
+
+      go : (b : Bool) → missing d ≡ b → is_left new d ≡ false
+      go true e =
+          let u = passed missing (λ a b f. missing_of s all a b f) (flat_map (λ (k : KnownList). k.edges) all) d named e in
+          let a : was_asked_for u.0.from (with_all_asked (missing_from s all) old.waits.asked) ≡ true = asked_all (asked_of u.0) (missing_from s all) old.waits.asked (has_map asked_of u.0 (filter missing (united (flat_map (λ (k : KnownList). k.edges) all))) u.1) in
+          left_by_third (is_known new.deps d.from) (is_here d.from new.started) (was_asked_for d.from new.waits.asked) (asked_now (subst (λ (t : TxnId). was_asked_for t (with_all_asked (missing_from s all) old.waits.asked) ≡ true) u.2 a))
+      go false e =
+          left_still (is_known all d.from) (is_here d.from old.started) (was_asked_for d.from old.waits.asked) (is_known new.deps d.from) (is_here d.from new.started) (was_asked_for d.from new.waits.asked)
+          known_now here_now (λ k. asked_now (asked_still d.from (missing_from s all) old.waits.asked k)) e
+
+  left_after : AllByRecursion (λ d. is_left new d ≡ false) (flat_map (λ (k : KnownList). k.edges) all)
+  left_after = has_all (λ d. is_left new d ≡ false) (flat_map (λ (k : KnownList). k.edges) all) one_after
+
+  sound_after : IsConsistent new
+  sound_after =
+      let Decided : (t : TxnId) → List KnownList → Type 0 = λ t k. IsDecided k t in
+      let Listed : (t : TxnId) → List TxnId → Type 0 = λ t d. IsListed is_txn (d ++ ids) t in
+      record {
+        groups_once = once_same old.started new.started groups sound.groups_once;
+        decided_rising = h.decided.rising;
+        decided_only = λ t l.
+            subst (Decided t) known_is
+            (elim (listed_either is_txn old.decided ids t (subst (Listed t) m.decided (h.decided.sound t l))) [ inl k ↦ stays t (sound.decided_only t k) | inr k ↦ (chosen.members.only t k.1).0 ]);
+        decided_all = λ t d.
+            let now = subst (Decided t) (sym known_is) d in
+            h.decided.complete t
+            (subst (Listed t) (sym m.decided)
+            (elim (listed_or_not is_txn old.decided t) [ inl k ↦ listed_front is_txn old.decided ids t k | inr n ↦ listed_behind is_txn old.decided ids t (chosen.members.all t (now, n)) ]));
+        rows = h.least;
+        lacks = subst (λ (ks : List KnownList). AreLacks ks new.lacks) (sym h.lists) (subst (AreLacks mid.deps) (sym h.lacks) m.lacks);
+        index =
+            index_decided old.index new.index old.decided ids new.decided old.started new.started sound.index (subst (λ i. AreOut ids i new.index) m.index h.index) groups
+            (subst (λ d. (t : TxnId) → is_listed is_txn new.decided t ≡ (is_listed is_txn d t || is_listed is_txn ids t)) m.decided (decided_test mid.decided ids new.decided h.decided));
+        none_left = subst (λ (ks : List KnownList). AllByRecursion (λ d. is_left new d ≡ false) (flat_map (λ list. list.edges) ks)) known_is left_after;
+      }
+
+  pub teaches : Teaches plan shard old new before after news
+  teaches = record { ids = ids; new_ids = new_ids; shown = shown; groups = groups; sound = sound_after }

@@ -1,5 +1,0 @@
-use Rattle.roc_server.proofs.Kept_first.{nothing_sound}
-use Rattle.roc_server.proofs.kept.Kept.new.Goals as goal
-
-pub returns-clause-sound : goal.returns-clause-sound
-returns-clause-sound c = nothing_sound _ c.new.ensures c.new-2.ensures c.new-4.ensures c.new-5.ensures c.new-6.ensures.none c.new-7.ensures

@@ -1,0 +1,55 @@
+-- What a server's fields hold, as the definitions see it
+use Rattle.std.specs.Prelude.{◌≡◌, ◌&&◌, not, Bool, false, List, map}
+use Rattle.std.specs.List.{AllByRecursion, flat_map}
+use Rattle.std.specs.List.Sorted.{IsStrictlySortedBy}
+use Rattle.roc_sequence.specs.Places.{IsListed, NoneTwice}
+use Rattle.roc_base.specs.declared.id.TxnId.{TxnId}
+use Rattle.roc_base.specs.declared.node.Shard.{Shard}
+use Rattle.roc_base.specs.TxnId.{is_txn, txn_cmp}
+use Rattle.roc_base.specs.Edge.{Dependency}
+use Rattle.roc_depgraph.specs.Deps.{is_known, IsDecided}
+use Rattle.roc_await.specs.Waits.{was_asked_for}
+use Rattle.roc_server_ancestors.specs.Least.{AreRows}
+use Rattle.roc_await.specs.Lacks.{AreLacks}
+use Rattle.roc_group.specs.GroupRun.{GroupCall, call}
+use Rattle.roc_rows.specs.Store.{Store}
+use Rattle.roc_server.specs.declared.server_data.ServerData.{ServerData}
+use Rattle.roc_server.specs.declared.started.StartedGroup.{StartedGroup}
+use Rattle.roc_server.specs.declared.starts.Request.{Request}
+use Rattle.roc_server.specs.State.{is_group, is_here, unrun, ServerState}
+use Rattle.roc_server.specs.Inner.Indexed.{IsIndexOf}
+
+abbrev pub state_of : Shard → ServerData → Bool → ServerState
+state_of shard k stopped = record { shard = shard; store = k.rows.store; started = k.started; lists = record { known = k.deps; waiting = k.waits }; stopped = stopped }
+
+-- the same with these cells and groups
+abbrev pub holding : ServerState → Store → List StartedGroup → ServerState
+holding s store started = record s { store = store; started = started }
+
+-- the two are the same group of one transaction
+abbrev pub is_same_group : StartedGroup → StartedGroup → Bool
+is_same_group a b = is_group a.id a.group b
+
+-- what an entry names is unknown, has no group here and was not asked for
+abbrev pub is_left : ServerData → Dependency → Bool
+is_left k d = not (is_known k.deps d.from) && (not (is_here d.from k.started) && not (was_asked_for d.from k.waits.asked))
+
+-- each group of a transaction once; as decided exactly what is decided by the known lists, rising, and the least of its ancestors; what the
+-- others lack, and where their groups are found by the cells that they use; and all that known lists name is known, here or asked for
+pub record IsConsistent (k : ServerData) : Type 0 where
+  pub groups_once : NoneTwice is_same_group k.started
+  pub decided_rising : IsStrictlySortedBy txn_cmp k.decided
+  pub decided_only : (t : TxnId) → IsListed is_txn k.decided t → IsDecided k.deps t
+  pub decided_all : (t : TxnId) → IsDecided k.deps t → IsListed is_txn k.decided t
+  pub rows : AreRows k.deps k.ancestors
+  pub lacks : AreLacks k.deps k.lacks
+  pub index : IsIndexOf k.index k.decided k.started
+  pub none_left : AllByRecursion (λ d. is_left k d ≡ false) (flat_map (λ list. list.edges) k.deps)
+
+-- the same groups, whatever they gave
+abbrev pub AreSameGroups : List StartedGroup → List StartedGroup → Type 0
+AreSameGroups old new = map unrun new ≡ map unrun old
+
+-- the call that a request asks for
+abbrev pub asked : Request → GroupCall
+asked r = call r.proc r.group r.known.args r.known.inputs

@@ -1,0 +1,59 @@
+//! What a server keeps.
+use crate::started_groups::StartedGroups;
+use roc_await::{Lacks, Waits};
+use roc_depgraph::Deps;
+use roc_rows::Rows;
+use roc_server_ancestors::Ancestors;
+use roc_server_index::Index;
+use roc_server_lists::Decided;
+use std::alloc::Global;
+
+// The cells, the groups in the order of their arrival, the known lists, the transactions that are
+// decided by them with the least of their ancestors, what the others lack, and at each cell the
+// groups of these others that use it.
+#[derive(Drop)]
+pub(crate) struct ServerData {
+    pub rows: Rows,
+    pub started: StartedGroups,
+    pub deps: Deps,
+    pub waits: Waits,
+    pub decided: Decided,
+    pub ancestors: Ancestors,
+    pub lacks: Lacks,
+    pub index: Index,
+}
+
+impl ServerData {
+    ghost use Rattle.std.specs.Prelude.{◌≡◌, []};
+    ghost use Rattle.roc_await.specs.Waits.{none_waiting};
+    ghost use Rattle.roc_server.specs.Inner.ServerData.{IsConsistent};
+
+    // Cells, and nothing else.
+    pub(crate) fn new(alloc: Global, rows: Rows) -> ServerData
+        ensures rows { result.rows ≡ rows }
+        ensures started { result.started ≡ [] }
+        ensures deps { result.deps ≡ [] }
+        ensures waits { result.waits ≡ none_waiting }
+        ensures decided { result.decided ≡ [] }
+        ensures sound { IsConsistent result }
+    {
+        ServerData {
+            rows,
+            started: StartedGroups::new(alloc),
+            deps: Deps::new(alloc),
+            waits: Waits::new(alloc),
+            decided: Decided::new(alloc),
+            ancestors: Ancestors::new(alloc),
+            lacks: Lacks::new(alloc),
+            index: Index::new(alloc),
+        }
+    }
+
+    // Keeps nothing any more.
+    pub(crate) fn clear(&mut self, alloc: Global)
+        ensures started { self.new.started ≡ [] }
+        ensures sound { IsConsistent self.new }
+    {
+        *self = ServerData::new(alloc, Rows::new(alloc));
+    }
+}

@@ -1,0 +1,6 @@
+pub mod Fronts
+pub mod Put
+pub mod Leads
+pub mod KeptRows
+pub mod TakenIn
+pub mod Told

@@ -1,0 +1,56 @@
+-- What is told is kept, and what was kept stays
+use Rattle.std.proofs.Common.{◌≡◌, ℕ, ◌+◌, ◌<◌, Bool, true, false, cond, List, [], ◌∷◌, ◌++◌, Some, length, take, get_or, refl, sym, ap, subst, ◌∙◌, inl, inr}
+use Rattle.std.proofs.lemmas.List.{take_more}
+use Rattle.std.specs.BTreeMap.{is_at}
+use Rattle.roc_sequence.specs.Lists.{Has}
+use Rattle.roc_sequence.specs.Places.{IsListed}
+use Rattle.roc_sequence.proofs.Appended.{listed_either}
+use Rattle.roc_sequence.proofs.Members.{has_more}
+use Rattle.roc_base.specs.declared.id.TxnId.{TxnId}
+use Rattle.roc_base.specs.TxnId.{is_txn, txn_cmp}
+use Rattle.roc_depgraph.specs.declared.known.KnownList.{KnownList}
+use Rattle.roc_depgraph.proofs.Listed.{is_eq-same, listed_has, has_listed, listed_one}
+use Rattle.roc_component.specs.Components.{AreComponentsOf}
+use Rattle.roc_server_ancestors.specs.Least.{row_of, HasRow, KeepsRows}
+use Rattle.roc_server_ancestors.specs.Inner.Met.{KeepAllRows}
+
+module _ (rows rows2 : List (TxnId × List TxnId)) (id : TxnId) (new : List TxnId) (at : (q : TxnId) → row_of q rows2 ≡ cond (is_at (txn_cmp id) q) (Some new) (row_of q rows)) where
+  row_here : HasRow rows2 id
+  row_here = (new, at id ∙ ap (λ (b : Bool). cond b (Some new) (row_of id rows)) (is_eq-same id))
+
+  row_stays_here : (q : TxnId) → HasRow rows q → HasRow rows2 q
+  row_stays_here q h = go (is_at (txn_cmp id) q) refl
+    where
+      go : (b : Bool) → is_at (txn_cmp id) q ≡ b → HasRow rows2 q
+      go true e = (new, at q ∙ ap (λ (b : Bool). cond b (Some new) (row_of q rows)) e)
+      go false e = (h.0, at q ∙ (ap (λ (b : Bool). cond b (Some new) (row_of q rows)) e ∙ h.1))
+
+  -- one more of these
+  pub keeps_one : (ids : List TxnId) (i : ℕ) (none : TxnId) (rows0 : List (TxnId × List TxnId)) → i < length ids → get_or ids i none ≡ id → KeepsRows (take i ids) rows0 rows → KeepsRows (take (i + 1) ids) rows0 rows2
+  keeps_one ids i none rows0 h e k =
+      record {
+        told = λ t l. elim (listed_either is_txn (take i ids) (id ∷ []) t (subst (λ v. IsListed is_txn v t) (take_more ids i none h ∙ ap (λ v. take i ids ++ v ∷ []) e) l)) [
+          | inl m ↦ row_stays_here t (k.told t m)
+          | inr m ↦ subst (HasRow rows2) (sym (listed_one id t m.1)) row_here
+        ];
+        stay = λ t r. row_stays_here t (k.stay t r);
+      }
+
+-- one more list of these
+pub keeps_list : (lists : List (List TxnId)) (i : ℕ) (none c : List TxnId) (rows0 rows rows2 : List (TxnId × List TxnId)) → i < length lists → get_or lists i none ≡ c → KeepAllRows (take i lists) rows0 rows → KeepsRows c rows rows2 → KeepAllRows (take (i + 1) lists) rows0 rows2
+keeps_list lists i none c rows0 rows rows2 h e k more =
+    record {
+      told = λ d m t l. elim (has_more d c (take i lists) (subst (Has d) (take_more lists i none h ∙ ap (λ v. take i lists ++ v ∷ []) e) m)) [
+        | inl s ↦ more.stay t (k.told d s t l)
+        | inr s ↦ more.told t (subst (λ v. IsListed is_txn v t) s l)
+      ];
+      stay = λ t r. more.stay t (k.stay t r);
+    }
+
+-- the components of a set have all its members
+pub keeps_set : (known : List KnownList) (M : List TxnId) (lists seen : List (List TxnId)) (old new : List (TxnId × List TxnId)) → AreComponentsOf known M lists → seen ≡ lists → KeepAllRows seen old new → KeepsRows M old new
+keeps_set known M lists seen old new are e k =
+    record {
+      told = λ t l. let c = are.all t (listed_has M t l) in k.told c.0 (subst (Has c.0) (sym e) c.1) t (has_listed c.0 t c.2);
+      stay = k.stay;
+    }

@@ -1,0 +1,14 @@
+use Rattle.std.proofs.Common.{subst, sym}
+use Rattle.roc_server_ancestors.specs.Led.{IsKnownAndLedTo}
+use Rattle.roc_server_ancestors.specs.Least.{AreRows}
+use Rattle.roc_server_ancestors.specs.Inner.Met.{CoversLeast}
+use Rattle.roc_server_ancestors.proofs.Fronts.{least_met}
+use Rattle.roc_server_ancestors.proofs.ancestors.Ancestors.led_to.Goals as goal
+
+pub met_from-requires : goal.met_from-requires
+met_from-requires c = subst (AreRows c.args.deps.now) (sym c.self.view_is) c.requires
+
+pub returns : goal.returns
+returns c =
+    least_met (IsKnownAndLedTo c.args.deps.now c.args.edges.now) c.deref.result.now c.in_ok-ids.ids.items
+    (subst (CoversLeast (IsKnownAndLedTo c.args.deps.now c.args.edges.now)) (sym c.deref.ensures.value) c.in_ok-met.ensures) c.in_ok-ids.ensures

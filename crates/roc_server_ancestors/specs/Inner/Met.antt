@@ -1,0 +1,37 @@
+-- What a search meets of all that it is to find
+use Rattle.std.specs.Prelude.{ℕ, ◌≤◌, ◌⊎◌, List, length, IsTrue}
+use Rattle.std.specs.List.{AllByRecursion}
+use Rattle.std.specs.List.Sorted.{IsStrictlySortedBy}
+use Rattle.roc_sequence.specs.Lists.{Has}
+use Rattle.roc_sequence.specs.Places.{IsListed}
+use Rattle.roc_base.specs.declared.id.TxnId.{TxnId}
+use Rattle.roc_base.specs.TxnId.{is_txn, txn_cmp, txn_lt}
+use Rattle.roc_depgraph.specs.declared.known.KnownList.{KnownList}
+use Rattle.roc_depgraph.specs.Deps.{Precedes, IsDecided}
+use Rattle.roc_component.specs.Components.{Mates}
+use Rattle.roc_server_ancestors.specs.Least.{most_least, HasRow}
+
+-- n of xs come before u
+pub record HasBefore (n : ℕ) (xs : List TxnId) (u : TxnId) : Type 0 where
+  pub ids : List TxnId
+  pub rising : IsStrictlySortedBy txn_cmp ids
+  pub many : n ≤ length ids
+  pub each : AllByRecursion (λ k. IsListed is_txn xs k × IsTrue (txn_lt k u)) ids
+
+-- all of which P holds is met, or as many that were met come before it as are the least
+pub record CoversLeast (P : TxnId → Type 0) (met : List TxnId) : Type 0 where
+  pub full : List TxnId
+  pub sound : (u : TxnId) → IsListed is_txn full u → P u
+  pub complete : (u : TxnId) → P u → IsListed is_txn full u
+  pub among : (u : TxnId) → IsListed is_txn met u → IsListed is_txn full u
+  pub near : (u : TxnId) → IsListed is_txn full u → IsListed is_txn met u ⊎ HasBefore most_least met u
+
+-- they are decided, and reach one another
+pub record AreDecidedMates (known : List KnownList) (ids : List TxnId) : Type 0 where
+  pub decided : (t : TxnId) → IsListed is_txn ids t → IsDecided known t
+  pub mates : (x u : TxnId) → IsListed is_txn ids x → IsListed is_txn ids u → Mates (Precedes known) x u
+
+-- something is kept of each member of these lists, and of each of which something was
+pub record KeepAllRows (lists : List (List TxnId)) (old new : List (TxnId × List TxnId)) : Type 0 where
+  pub told : (c : List TxnId) → Has c lists → (t : TxnId) → IsListed is_txn c t → HasRow new t
+  pub stay : (t : TxnId) → HasRow old t → HasRow new t

@@ -1,0 +1,64 @@
+//! The search for what entries lead to.
+ghost use Rattle.std.specs.Prelude.{◌≡◌, ◌++◌, ◌∷◌, [], List, Some, None, IfOk, OnOk};
+ghost use Rattle.roc_base.specs.declared.id.TxnId.{TxnId as Id};
+ghost use Rattle.roc_base.specs.Edge.{Dependency};
+ghost use Rattle.roc_depgraph.specs.Deps.{list_of};
+ghost use Rattle.roc_depgraph.specs.Visits.{Visits};
+ghost use Rattle.roc_server_ancestors.specs.Led.{IsKnownAndLedTo};
+ghost use Rattle.roc_server_ancestors.specs.Least.{AreRows, row_of};
+ghost use Rattle.roc_server_ancestors.specs.Inner.Met.{CoversLeast};
+
+use roc_base::{Edge, NoMemory, TxnId};
+use roc_depgraph::{Deps, visit};
+use roc_sequence::Sequence;
+use std::alloc::Global;
+use std::collections::{BTreeMap, BTreeSet};
+
+// Of what entries lead to and is known: all that is not decided, and the least of what is. It goes no further from a transaction of which a row
+// is kept.
+pub(crate) fn met_from(
+    alloc: Global,
+    rows: &BTreeMap<TxnId, Sequence<TxnId>>,
+    deps: &Deps,
+    edges: &[Edge],
+) -> Result<Vec<TxnId>, NoMemory>
+    requires { AreRows deps.now rows.now.entries }
+    ensures { IfOk result (λ met. CoversLeast (IsKnownAndLedTo deps.now edges.now) met.items) }
+{
+    let mut found = BTreeSet::new(alloc);
+    let mut todo = Vec::new(alloc);
+    let mut met = Vec::new(alloc);
+    visit(edges, &mut found, &mut todo)?;
+    'search: while let Some(next) = todo.pop() {
+        meet(rows, deps, next, &mut found, &mut todo, &mut met)?;
+    }
+    Ok(met)
+}
+
+// Meets one that was found: by its row, or by its list, which is looked through.
+fn meet(
+    rows: &BTreeMap<TxnId, Sequence<TxnId>>,
+    deps: &Deps,
+    next: TxnId,
+    found: &mut BTreeSet<TxnId>,
+    todo: &mut Vec<TxnId>,
+    met: &mut Vec<TxnId>,
+) -> Result<(), NoMemory>
+    ensures row { OnOk result ((ids : List Id) → row_of next rows.now.entries ≡ Some ids
+        → (met.new.items ≡ met.old.items ++ ids) × (found.new.keys ≡ found.old.keys) × (todo.new.items ≡ todo.old.items)) }
+    ensures list { OnOk result (row_of next rows.now.entries ≡ None → (es : List Dependency) → list_of next deps.now ≡ Some es
+        → (met.new.items ≡ met.old.items ++ next ∷ []) × Visits es found.old.keys todo.old.items found.new.keys todo.new.items) }
+    ensures nothing { OnOk result (row_of next rows.now.entries ≡ None → list_of next deps.now ≡ None
+        → (met.new.items ≡ met.old.items) × (found.new.keys ≡ found.old.keys) × (todo.new.items ≡ todo.old.items)) }
+{
+    if let Some(ids) = rows.get(&next) {
+        met.extend_from_slice(ids.as_slice())?;
+        return Ok(());
+    }
+    if let Some(list) = deps.list(next) {
+        met.push(next)?;
+        visit(list.as_slice(), found, todo)?;
+        return Ok(());
+    }
+    Ok(())
+}

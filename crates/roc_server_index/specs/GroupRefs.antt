@@ -1,0 +1,32 @@
+-- What an index has at a cell
+use Rattle.std.specs.Prelude.{◌≡◌, ℕ, Bool, false, not, ◌==◌, ◌-◌, List, [], ◌∷◌, ◌++◌, Option, Some, None, length, filter, unwrap_or, slice_get, if◌then◌else◌}
+use Rattle.std.specs.Map.{lookup}
+use Rattle.roc_base.specs.declared.id.TxnId.{TxnId}
+use Rattle.roc_base.specs.TxnId.{is_txn}
+use Rattle.roc_rows.specs.declared.cell.Cell.{Cell}
+use Rattle.roc_rows.specs.Cells.{is_cell}
+use Rattle.roc_server_index.specs.declared.group_ref.GroupRef.{GroupRef}
+
+-- the references of a cell, in the order in which they came
+abbrev pub group_refs_at : Cell → List (Cell × List GroupRef) → List GroupRef
+group_refs_at c index = unwrap_or (lookup (is_cell c) index) []
+
+-- the last of these is of that place
+abbrev pub is_of_place : ℕ → Option GroupRef → Bool
+is_of_place at None = false
+is_of_place at (Some s) = s.at == at
+
+abbrev pub ends_at : ℕ → List GroupRef → Bool
+ends_at at ss = is_of_place at (slice_get ss (length ss - 1))
+
+-- with one more, unless the last is of its place
+abbrev pub with_group_ref : GroupRef → List GroupRef → List GroupRef
+with_group_ref s ss = if ends_at s.at ss then ss else ss ++ s ∷ []
+
+-- those of other transactions
+abbrev pub without : TxnId → List GroupRef → List GroupRef
+without id ss = filter (λ s. not (is_txn s.id id)) ss
+
+-- the references of this cell change so, and those of all others stay
+abbrev pub ChangesAt : Cell → (List GroupRef → List GroupRef) → (old new : List (Cell × List GroupRef)) → Type 0
+ChangesAt cell change old new = (c : Cell) → group_refs_at c new ≡ (if is_cell cell c then change (group_refs_at c old) else group_refs_at c old)

@@ -1,0 +1,2 @@
+pub mod GroupRefs
+pub mod Inner

@@ -1,0 +1,116 @@
+//! The index.
+ghost use Rattle.std.specs.Prelude.{◌≡◌, [], IsTrue, OnOk};
+ghost use Rattle.roc_server_index.specs.GroupRefs.{group_refs_at, ends_at, with_group_ref, without, ChangesAt};
+ghost use Rattle.roc_server_index.specs.Inner.Held.{held};
+
+use crate::GroupRef;
+use roc_base::{NoMemory, TxnId};
+use roc_rows::Cell;
+use std::alloc::Global;
+use std::collections::BTreeMap;
+use std::marker::Model;
+
+/// The references of the groups that use a cell, for each cell. A cell that no group uses takes no memory.
+#[derive(Drop)]
+pub struct Index {
+    alloc: Global,
+    cells: BTreeMap<Cell, Vec<GroupRef>>,
+}
+
+impl Model for Index {
+    ghost use Rattle.std.specs.Prelude.{List};
+    ghost use Rattle.roc_rows.specs.declared.cell.Cell.{Cell};
+    ghost use Rattle.roc_server_index.specs.declared.group_ref.GroupRef.{GroupRef};
+    ghost use Rattle.roc_server_index.specs.Inner.Held.{held};
+
+    ghost Value = { List (Cell × List GroupRef) };
+
+    ghost view = { λ i. held (λ v. v.items) i.cells.entries };
+}
+
+impl Index {
+    /// No references. Takes no memory.
+    pub fn new(alloc: Global) -> Index
+        ensures { result ≡ [] }
+    {
+        Index {
+            alloc,
+            cells: BTreeMap::new(alloc),
+        }
+    }
+
+    /// The references of a cell, in the order in which they came.
+    pub fn at(&self, cell: Cell) -> &[GroupRef]
+        ensures { result.now ≡ group_refs_at cell self.now }
+    {
+        match self.cells.get(&cell) {
+            Some(group_refs) => group_refs.as_slice(),
+            None => &[],
+        }
+    }
+
+    /// Adds a reference at a cell, unless the last one there is of the same place. `NoMemory` promises nothing.
+    pub fn add(&mut self, cell: Cell, group_ref: GroupRef) -> Result<(), NoMemory>
+        ensures { OnOk result (ChangesAt cell (with_group_ref group_ref) self.old self.new) }
+    {
+        if let Some(group_refs) = self.cells.get_mut(&cell) {
+            put(group_refs, group_ref)?;
+            return Ok(());
+        }
+        let mut group_refs = Vec::new(self.alloc);
+        group_refs.push(group_ref)?;
+        self.cells.insert(cell, group_refs)?;
+        Ok(())
+    }
+
+    /// Takes the references of a transaction out of a cell. Takes no memory.
+    pub fn take_out(&mut self, cell: Cell, id: TxnId)
+        ensures { ChangesAt cell (without id) self.old self.new }
+    {
+        if empties(&mut self.cells, cell, id) {
+            let _group_refs = self.cells.remove(&cell);
+        }
+    }
+}
+
+// Takes the references of a transaction out of a cell, and tells whether the cell was emptied by it.
+fn empties(cells: &mut BTreeMap<Cell, Vec<GroupRef>>, cell: Cell, id: TxnId) -> bool
+    ensures changes { ChangesAt cell (without id) (held (λ v. v.items) cells.old.entries) (held (λ v. v.items) cells.new.entries) }
+    ensures none { IsTrue result → group_refs_at cell (held (λ v. v.items) cells.new.entries) ≡ [] }
+{
+    match cells.get_mut(&cell) {
+        Some(group_refs) => {
+            take_out_all(group_refs, id);
+            group_refs.is_empty()
+        }
+        None => false,
+    }
+}
+
+// Whether the last of the references is of this place.
+fn ends_at(group_refs: &[GroupRef], at: usize) -> bool
+    ensures { result ≡ ends_at at group_refs.now }
+{
+    match group_refs.last() {
+        Some(last) => last.at == at,
+        None => false,
+    }
+}
+
+// Adds a reference, unless the last one is of the same place.
+fn put(group_refs: &mut Vec<GroupRef>, group_ref: GroupRef) -> Result<(), NoMemory>
+    ensures { OnOk result (group_refs.new.items ≡ with_group_ref group_ref group_refs.old.items) }
+{
+    if ends_at(group_refs, group_ref.at) {
+        return Ok(());
+    }
+    group_refs.push(group_ref)?;
+    Ok(())
+}
+
+// Takes out the references of a transaction.
+fn take_out_all(group_refs: &mut Vec<GroupRef>, id: TxnId)
+    ensures { group_refs.new.items ≡ without id group_refs.old.items }
+{
+    group_refs.retain(|group_ref| group_ref.id != id);
+}

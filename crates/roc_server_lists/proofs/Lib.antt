@@ -1,0 +1,9 @@
+pub mod Added
+mod DroppedAskers
+pub mod InOrder
+pub mod Learnable
+pub mod Learning
+mod NewsOfFacts
+pub mod Skipped
+mod ToldFacts
+pub mod Unions

@@ -1,0 +1,4 @@
+pub mod Carried
+pub mod Piggyback
+pub mod Asking
+pub mod New

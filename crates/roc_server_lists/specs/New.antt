@@ -1,0 +1,37 @@
+-- What follows from known lists, as a step reads it off them: docs/PROTOCOL.md, "Lists"
+use Rattle.std.specs.Prelude.{List}
+use Rattle.roc_sequence.specs.Places.{IsListed}
+use Rattle.roc_base.specs.declared.id.TxnId.{TxnId}
+use Rattle.roc_base.specs.TxnId.{is_txn}
+use Rattle.roc_base.specs.Edge.{Dependency}
+use Rattle.roc_server_ancestors.specs.Led.{IsKnownAndLedTo}
+use Rattle.roc_component.specs.Components.{IsComponentOrderOf}
+use Rattle.roc_depgraph.specs.declared.known.KnownList.{KnownList}
+use Rattle.roc_depgraph.specs.Closure.{IsRisingListOf}
+use Rattle.roc_depgraph.specs.Deps.{IsDecided}
+
+-- ---- what is newly decided
+
+-- decided by the lists, and not before
+abbrev pub IsNew : (before : TxnId → Type 0) → (known : List KnownList) → TxnId → Type 0
+IsNew before known t = IsDecided known t × (¬ before t)
+
+-- exactly those, in any order
+pub record AreAllNew (before : TxnId → Type 0) (known : List KnownList) (ts : List TxnId) : Type 0 where
+  pub only : (t : TxnId) → IsListed is_txn ts t → IsNew before known t
+  pub all : (t : TxnId) → IsNew before known t → IsListed is_txn ts t
+
+-- exactly those, in component order
+pub record AreNew (before : TxnId → Type 0) (known : List KnownList) (ts : List TxnId) : Type 0 where
+  pub members : AreAllNew before known ts
+  pub ordered : IsComponentOrderOf known ts ts
+
+-- ---- what is decided, and what entries lead to
+
+-- all that is decided by the lists, by id rising
+abbrev pub AreDecided : List KnownList → List TxnId → Type 0
+AreDecided known ids = IsRisingListOf (IsDecided known) ids
+
+-- all that entries lead to and whose lists are known, by id rising
+abbrev pub AreLedTo : List KnownList → List Dependency → List TxnId → Type 0
+AreLedTo known edges ids = IsRisingListOf (IsKnownAndLedTo known edges) ids

@@ -1,0 +1,43 @@
+//! What is asked for, where lists are new.
+ghost use Rattle.std.specs.Prelude.{◌≡◌, IfOk, OnOk};
+ghost use Rattle.std.specs.List.{flat_map};
+ghost use Rattle.roc_base.specs.Edges.{united};
+ghost use Rattle.roc_await.specs.Waits.{with_all_asked};
+ghost use Rattle.roc_server_lists.specs.Asking.{waiting_after};
+
+use crate::askers::drop_all;
+use roc_await::{OpenFetch, Waits};
+use roc_base::{Edges, NoMemory};
+use roc_depgraph::KnownList;
+use std::alloc::Global;
+
+/// All entries of lists, those of one transaction joined.
+pub fn all_edges(alloc: Global, lists: &[KnownList]) -> Result<Edges, NoMemory>
+    ensures { IfOk result (λ edges. edges ≡ united (flat_map (λ k. k.edges) lists.now)) }
+{
+    let mut met = Vec::new(alloc);
+    for k in lists {
+        met.extend_from_slice(k.edges.as_slice())?;
+    }
+    let mut edges = Edges::new(alloc);
+    edges.unite(&met)?;
+    Ok(edges)
+}
+
+/// Those who asked for the new lists wait no longer, and what these lack was asked for. `NoMemory` leaves a part of this done.
+pub fn wait_for(waits: &mut Waits, news: &[KnownList], asks: &[OpenFetch]) -> Result<(), NoMemory>
+    ensures { OnOk result (waits.new ≡ waiting_after waits.old news.now asks.now) }
+{
+    drop_all(waits, news)?;
+    keep_asked(waits, asks)
+}
+
+// They were asked for.
+fn keep_asked(waits: &mut Waits, asks: &[OpenFetch]) -> Result<(), NoMemory>
+    ensures { OnOk result (waits.new ≡ record waits.old { asked = with_all_asked asks.now waits.old.asked }) }
+{
+    for a in asks {
+        waits.ask(*a)?;
+    }
+    Ok(())
+}

@@ -1,0 +1,61 @@
+//! Fetches, and what answers them.
+ghost use Rattle.std.specs.Prelude.{◌≡◌, ◌++◌, ◌∷◌, [], not, map, filter, OnOk};
+ghost use Rattle.roc_depgraph.specs.Deps.{is_known};
+ghost use Rattle.roc_server_lists.specs.Asking.{known_to, fetch_from};
+ghost use Rattle.roc_server_lists.specs.Carried.{list_with};
+
+use roc_await::OpenFetch;
+use roc_base::{Edges, NoMemory, Node, Shard, TxnId};
+use roc_depgraph::Deps;
+use roc_msg::{Msg, Outbox};
+
+/// Tells a list to one who asked for it. `NoMemory` promises nothing of `outbox`.
+pub fn send_known(
+    asker: Shard,
+    id: TxnId,
+    edges: &Edges,
+    outbox: &mut Outbox,
+) -> Result<(), NoMemory>
+    ensures { OnOk result (outbox.new ≡ record outbox.old { messages = outbox.old.messages ++ known_to (list_with id edges.now) (record { id = id; shard = asker }) ∷ [] }) }
+{
+    let edges = edges.clone()?;
+    outbox.send(Node::Server(asker), Msg::Known { id, edges })
+}
+
+/// Asks again for what is not known. `NoMemory` leaves `outbox` with a part of these messages.
+pub fn fetch_again(
+    shard: Shard,
+    deps: &Deps,
+    asked: &[OpenFetch],
+    outbox: &mut Outbox,
+) -> Result<(), NoMemory>
+    ensures { OnOk result (outbox.new ≡ record outbox.old { messages = outbox.old.messages ++ map (fetch_from shard) (filter (λ a. not (is_known deps.now a.id)) asked.now) }) }
+{
+    for a in asked {
+        if deps.list(a.id).is_none() {
+            send_fetch(shard, *a, outbox)?;
+        }
+    }
+    Ok(())
+}
+
+/// Asks for these lists. `NoMemory` leaves `outbox` with a part of these messages.
+pub fn send_fetches(shard: Shard, asks: &[OpenFetch], outbox: &mut Outbox) -> Result<(), NoMemory>
+    ensures { OnOk result (outbox.new ≡ record outbox.old { messages = outbox.old.messages ++ map (fetch_from shard) asks.now }) }
+{
+    for a in asks {
+        send_fetch(shard, *a, outbox)?;
+    }
+    Ok(())
+}
+
+// Asks for a list.
+fn send_fetch(shard: Shard, asked: OpenFetch, outbox: &mut Outbox) -> Result<(), NoMemory>
+    ensures { OnOk result (outbox.new ≡ record outbox.old { messages = outbox.old.messages ++ fetch_from shard asked ∷ [] }) }
+{
+    let fetch = Msg::Fetch {
+        id: asked.id,
+        asker: shard,
+    };
+    outbox.send(Node::Server(asked.at), fetch)
+}

@@ -1,0 +1,30 @@
+//! What a server does with dependency lists alone: what of lists that a message carries is new, what new ones decide,
+//! who is told of them, what is asked for, and which lists travel along with a startok (`docs/PROTOCOL.md`, "Lists" and
+//! "Fetches"). It knows no plan, no group and no cell; the steps of `roc_server` are put together from its calls.
+//!
+//! Each call gives exactly what its definition says, or finds no memory. Of lists that come: [`news_of_commit`] and
+//! [`news_of_known`] give those of transactions of which none is known, and [`commit_differs`] and [`is_unlike`] tell
+//! whether another list is known (`specs/Carried.antt`). Of new lists: [`learn_all`] learns them and gives exactly the
+//! transactions that they decide, [`newly_decided`] puts these into component order (`specs/New.antt`), and [`Decided`]
+//! keeps the decided ones, rising. Of who asks: [`tell_all`], [`send_known`], [`all_edges`], [`wait_for`],
+//! [`send_fetches`] and [`fetch_again`] tell lists, note who waits for what, and ask (`specs/Asking.antt`).
+//! [`facts_for`] gives the known lists that travel along (`specs/Piggyback.antt`).
+//!
+//! A call that finds no memory may have done a part: then nothing is promised of the lists, nor of the outbox.
+#![tactic(auto)]
+
+mod askers;
+mod asks;
+mod decided;
+mod fetches;
+mod news;
+mod told;
+mod unlike;
+
+pub use askers::tell_all;
+pub use asks::{all_edges, wait_for};
+pub use decided::{Decided, newly_decided};
+pub use fetches::{fetch_again, send_fetches, send_known};
+pub use news::{learn_all, news_of_commit, news_of_known};
+pub use told::facts_for;
+pub use unlike::{commit_differs, is_unlike};

@@ -1,0 +1,121 @@
+//! Lists that a message teaches.
+ghost use Rattle.std.specs.Prelude.{◌≡◌, ◌++◌, ◌∷◌, [], map, filter, IfOk, OnOk};
+ghost use Rattle.roc_await.specs.Lacks.{AreLacks, AreDecidedBy};
+ghost use Rattle.roc_await.specs.Learning.{AreLearnable};
+ghost use Rattle.roc_base.specs.TxnId.{txn_lt};
+ghost use Rattle.roc_server_lists.specs.Carried.{list_with, carried, unknown_of};
+
+use roc_await::Lacks;
+use roc_base::{Edges, NoMemory, TxnId};
+use roc_depgraph::{Deps, KnownList};
+use std::alloc::Global;
+
+/// The lists that a commit carries of transactions of which none is known, by id.
+pub fn news_of_commit(
+    alloc: Global,
+    deps: &Deps,
+    id: TxnId,
+    edges: &Edges,
+    facts: &[KnownList],
+) -> Result<Vec<KnownList>, NoMemory>
+    ensures { IfOk result (λ news. news.items ≡ unknown_of deps.now (carried id edges.now facts.now)) }
+{
+    let mut news = Vec::new(alloc);
+    push_before(deps, id, facts, &mut news)?;
+    push_unknown(deps, id, edges, &mut news)?;
+    push_behind(deps, id, facts, &mut news)?;
+    Ok(news)
+}
+
+/// The list that answers a fetch, where none is known of its transaction.
+pub fn news_of_known(
+    alloc: Global,
+    deps: &Deps,
+    id: TxnId,
+    edges: &Edges,
+) -> Result<Vec<KnownList>, NoMemory>
+    ensures { IfOk result (λ news. news.items ≡ unknown_of deps.now (list_with id edges.now ∷ [])) }
+{
+    let mut news = Vec::new(alloc);
+    push_unknown(deps, id, edges, &mut news)?;
+    Ok(news)
+}
+
+// A list, where none is known of its transaction.
+fn push_unknown(
+    deps: &Deps,
+    of: TxnId,
+    edges: &Edges,
+    news: &mut Vec<KnownList>,
+) -> Result<(), NoMemory>
+    ensures { OnOk result (news.new.items ≡ news.old.items ++ unknown_of deps.now (list_with of edges.now ∷ [])) }
+{
+    if deps.list(of).is_some() {
+        return Ok(());
+    }
+    let edges = edges.clone()?;
+    news.push(KnownList { of, edges })?;
+    Ok(())
+}
+
+// The unknown ones before an id.
+fn push_before(
+    deps: &Deps,
+    id: TxnId,
+    facts: &[KnownList],
+    news: &mut Vec<KnownList>,
+) -> Result<(), NoMemory>
+    ensures { OnOk result (news.new.items ≡ news.old.items ++ unknown_of deps.now (filter (λ f. txn_lt f.of id) facts.now)) }
+{
+    for fact in facts {
+        if fact.of < id {
+            push_unknown(deps, fact.of, &fact.edges, news)?;
+        }
+    }
+    Ok(())
+}
+
+// The unknown ones behind an id.
+fn push_behind(
+    deps: &Deps,
+    id: TxnId,
+    facts: &[KnownList],
+    news: &mut Vec<KnownList>,
+) -> Result<(), NoMemory>
+    ensures { OnOk result (news.new.items ≡ news.old.items ++ unknown_of deps.now (filter (λ f. txn_lt id f.of) facts.now)) }
+{
+    for fact in facts {
+        if id < fact.of {
+            push_unknown(deps, fact.of, &fact.edges, news)?;
+        }
+    }
+    Ok(())
+}
+
+/// Learns lists, where none is known of their transactions, and gives what they decide. `NoMemory` promises nothing of `deps` and
+/// `lacks`: some lists may be learnt and others not.
+pub fn learn_all(
+    alloc: Global,
+    deps: &mut Deps,
+    lacks: &mut Lacks,
+    news: &[KnownList],
+) -> Result<Vec<TxnId>, NoMemory>
+    requires learnable { AreLearnable deps.old news.now }
+    requires lacks { AreLacks deps.old lacks.old }
+    ensures learnt { OnOk result (deps.new ≡ deps.old ++ news.now) }
+    ensures lacks { OnOk result (AreLacks deps.new lacks.new) }
+    ensures decided { IfOk result (λ ids. AreDecidedBy deps.old deps.new ids.items) }
+{
+    for k in news {
+        deps.learn(k.of, &k.edges)?;
+    }
+    let ids = ids_of_news(alloc, news)?;
+    lacks.learnt(deps, &ids)
+}
+
+// Whose they are.
+fn ids_of_news(alloc: Global, news: &[KnownList]) -> Result<Vec<TxnId>, NoMemory>
+    ensures { IfOk result (λ ids. ids.items ≡ map (λ k. k.of) news.now) }
+{
+    Ok(news.iter().map(|k| k.of).collect(alloc)?)
+}

@@ -1,0 +1,60 @@
+//! Known lists that a startok tells.
+ghost use Rattle.std.specs.Prelude.{◌≡◌, IfOk};
+ghost use Rattle.std.specs.List.Sorted.{IsStrictlySortedBy};
+ghost use Rattle.roc_base.specs.TxnId.{txn_cmp};
+ghost use Rattle.roc_depgraph.specs.Deps.{entries_of};
+ghost use Rattle.roc_server_ancestors.specs.Least.{AreRows};
+ghost use Rattle.roc_server_lists.specs.Piggyback.{facts_of, AreFactsFor};
+
+use roc_base::{Edge, Edges, NoMemory, TxnId};
+use roc_depgraph::{Deps, KnownList};
+use roc_msg::{Facts, MOST_FACT_EDGES, MOST_FACTS};
+use roc_server_ancestors::Ancestors;
+use std::alloc::Global;
+
+/// The known lists of what entries lead to, by id rising, as many as travel along with a message. `NoMemory` comes where there is none for them.
+pub fn facts_for(
+    alloc: Global,
+    deps: &Deps,
+    ancestors: &Ancestors,
+    edges: &[Edge],
+) -> Result<Facts, NoMemory>
+    requires { AreRows deps.now ancestors.now }
+    ensures { IfOk result (AreFactsFor deps.now edges.now) }
+{
+    let least = ancestors.led_to(deps, edges)?;
+    facts_of(alloc, deps, &least)
+}
+
+// The known lists of these, which rise strictly, as many as travel along.
+fn facts_of(alloc: Global, deps: &Deps, ids: &[TxnId]) -> Result<Facts, NoMemory>
+    requires { IsStrictlySortedBy txn_cmp ids.now }
+    ensures { IfOk result (λ facts. facts ≡ facts_of deps.now ids.now) }
+{
+    let mut facts = Facts::new(alloc);
+    let mut room = MOST_FACTS;
+    let mut left = MOST_FACT_EDGES;
+    for id in ids {
+        if room == 0 {
+            return Ok(facts);
+        }
+        let edges = entries_of(alloc, deps, *id)?;
+        if edges.len() > left {
+            return Ok(facts);
+        }
+        room -= 1;
+        left -= edges.len();
+        facts.push(KnownList { of: *id, edges })?;
+    }
+    Ok(facts)
+}
+
+// The entries of a list; none where it is unknown.
+fn entries_of(alloc: Global, deps: &Deps, id: TxnId) -> Result<Edges, NoMemory>
+    ensures { IfOk result (λ edges. edges ≡ entries_of deps.now id) }
+{
+    match deps.list(id) {
+        Some(edges) => Ok(edges.clone()?),
+        None => Ok(Edges::new(alloc)),
+    }
+}

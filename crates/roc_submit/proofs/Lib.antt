@@ -1,5 +1,0 @@
-mod Closing
-mod Coords
-mod Desks
-mod Submitted
-mod Told

@@ -1,4 +1,0 @@
-use Rattle.roc_submit.proofs.submitting.push_one.Goals as goal
-
-pub returns : goal.returns
-returns c = c.append_line.ensures.ok

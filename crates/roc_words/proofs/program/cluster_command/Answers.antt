@@ -1,5 +1,0 @@
--- One argument behind the other
-use Rattle.roc_words.proofs.program.cluster_command.Goals as goal
-
-pub returns : goal.returns
-returns c = c.with.ensures _ _ c.workload_command-command.ensures c.standing.ensures.rule c.standing.ensures.local
