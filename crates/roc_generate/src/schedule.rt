@@ -70,7 +70,7 @@ fn push_calls(text: &mut String, draws: &mut Draws, shards: u8, txns: u16) -> Re
 }
 
 /// Adds the whole schedule.
-#[tactic(auto, unfolding(crate::specs::Schedule_text::generated_schedule, crate::specs::Drawn::drawn_acts))]
+#[tactic(auto, unfolding(crate::specs::ScheduleText::generated_schedule, crate::specs::Drawn::drawn_acts))]
 pub(crate) fn push_schedule(
     text: &mut String,
     seed: u64,

@@ -56,7 +56,7 @@ fn push_mark(text: &mut String) -> Result<(), AllocError>
 }
 
 /// Adds the whole workload.
-#[tactic(auto, unfolding(crate::specs::Workload_text::generated_workload))]
+#[tactic(auto, unfolding(crate::specs::WorkloadText::generated_workload))]
 pub(crate) fn push_workload(text: &mut String, shards: u8) -> Result<(), AllocError>
     ensures { OnOk result (string_bytes text.new ≡ string_bytes text.old ++ generated_workload shards) }
 {
