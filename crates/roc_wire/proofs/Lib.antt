@@ -1,5 +1,6 @@
 mod Bounds
 mod Exact
+mod FixedWidth
 mod Loop
 mod Members
 mod Messages

@@ -17,8 +17,8 @@ start_ok_parts before after id more whole a b c d e f h k m =
 -- ---- elements, each behind those before it
 
 -- their count is written before them
-pub begun : (before after part count : List ℕ) → after ≡ before ++ part → part ≡ count → after ≡ (before ++ count) ++ []
-begun before after part count h k = h ∙ ap (λ (l : List ℕ). before ++ l) k ∙ sym (append-nil (before ++ count))
+pub begun : (before after count : List ℕ) → after ≡ before ++ count → after ≡ (before ++ count) ++ []
+begun before after count h = h ∙ sym (append-nil (before ++ count))
 
 -- the text of the first and of one more
 next : {A : Type 0} (spell : A → List ℕ) (xs : List A) (i : ℕ) (x d : A) → i < length xs → x ≡ get_or xs i d → flat_map spell (take (i + 1) xs) ≡ flat_map spell (take i xs) ++ spell x

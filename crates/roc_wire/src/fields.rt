@@ -5,6 +5,7 @@ ghost use Rattle.roc_wire.specs.Fits.{rises};
 ghost use Rattle.roc_wire.specs.Reading.{IsRead, number_read, within_read, num_read, id_read, shard_read, rising_read, edge_read};
 
 use crate::WireFault;
+use crate::numbers::{u16_from, u32_from, u64_from};
 use roc_base::{Shard, TxnId};
 
 pub(crate) fn u8_of(bytes: &[u8]) -> Result<(u8, &[u8]), WireFault>
@@ -23,7 +24,7 @@ pub(crate) fn u16_of(bytes: &[u8]) -> Result<(u16, &[u8]), WireFault>
         return Err(WireFault::Short);
     }
     let (front, rest) = bytes.split_at(2);
-    Ok((u16::from_be_bytes([front[0], front[1]]), rest))
+    Ok((u16_from(front), rest))
 }
 
 pub(crate) fn u32_of(bytes: &[u8]) -> Result<(u32, &[u8]), WireFault>
@@ -33,8 +34,7 @@ pub(crate) fn u32_of(bytes: &[u8]) -> Result<(u32, &[u8]), WireFault>
         return Err(WireFault::Short);
     }
     let (front, rest) = bytes.split_at(4);
-    let number = u32::from_be_bytes([front[0], front[1], front[2], front[3]]);
-    Ok((number, rest))
+    Ok((u32_from(front), rest))
 }
 
 pub(crate) fn u64_of(bytes: &[u8]) -> Result<(u64, &[u8]), WireFault>
@@ -44,10 +44,7 @@ pub(crate) fn u64_of(bytes: &[u8]) -> Result<(u64, &[u8]), WireFault>
         return Err(WireFault::Short);
     }
     let (front, rest) = bytes.split_at(8);
-    let number = u64::from_be_bytes([
-        front[0], front[1], front[2], front[3], front[4], front[5], front[6], front[7],
-    ]);
-    Ok((number, rest))
+    Ok((u64_from(front), rest))
 }
 
 #[tactic(auto, unfolding(crate::specs::Reading::num_read))]

@@ -15,6 +15,7 @@ mod fields;
 mod header;
 pub mod laws;
 mod lists;
+mod numbers;
 mod reading;
 mod writing;
 

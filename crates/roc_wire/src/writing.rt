@@ -7,6 +7,7 @@ ghost use Rattle.roc_wire.specs.Spelling.{id_bytes, shard_bytes, num_bytes, nums
 ghost use Rattle.roc_wire.specs.Fits.{FitsFacts, FitsMsg, IsSpellable};
 
 use crate::Header;
+use crate::numbers::{put_i64, put_u8, put_u16, put_u32};
 use roc_base::{Edge, Edges, NoMemory, Node, Nums, Shard, TxnId};
 use roc_depgraph::KnownList;
 use roc_msg::{Facts, Msg};
@@ -19,8 +20,8 @@ pub fn encode(alloc: Global, header: &Header, msg: &Msg) -> Result<Vec<u8>, NoMe
 {
     let mut out = Vec::new(alloc);
     out.extend_from_slice(b"RCO1")?;
-    out.extend_from_slice(&1u8.to_be_bytes())?;
-    out.extend_from_slice(&msg.kind().to_be_bytes())?;
+    put_u8(&mut out, 1)?;
+    put_u8(&mut out, msg.kind())?;
     out.extend_from_slice(&header.tag)?;
     put_sender(&mut out, header.from)?;
     put_body(&mut out, msg)?;
@@ -32,12 +33,12 @@ fn put_sender(out: &mut Vec<u8>, from: Node) -> Result<(), NoMemory>
 {
     match from {
         Node::Server(Shard(number)) => {
-            out.extend_from_slice(&0u8.to_be_bytes())?;
-            out.extend_from_slice(&(number as u16).to_be_bytes())?;
+            put_u8(out, 0)?;
+            put_u16(out, number as u16)?;
         }
         Node::Coord(number) => {
-            out.extend_from_slice(&1u8.to_be_bytes())?;
-            out.extend_from_slice(&number.to_be_bytes())?;
+            put_u8(out, 1)?;
+            put_u16(out, number)?;
         }
     }
     Ok(())
@@ -136,8 +137,8 @@ fn put_asked(
     requires inputs { length inputs.now < 2 ^ 16 }
     ensures { OnOk result (out.new.items ≡ out.old.items ++ (to_be_bytes w16 proc ++ to_be_bytes w16 group ++ nums_bytes args.now ++ nums_bytes inputs.now)) }
 {
-    out.extend_from_slice(&proc.to_be_bytes())?;
-    out.extend_from_slice(&group.to_be_bytes())?;
+    put_u16(out, proc)?;
+    put_u16(out, group)?;
     put_nums(out, args.as_slice())?;
     put_nums(out, inputs.as_slice())?;
     Ok(())
@@ -155,7 +156,7 @@ fn put_given(
     requires outs { length outs.now < 2 ^ 16 }
     ensures { OnOk result (out.new.items ≡ out.old.items ++ (to_be_bytes w16 group ++ shard_bytes shard ++ nums_bytes bound.now ++ nums_bytes outs.now)) }
 {
-    out.extend_from_slice(&group.to_be_bytes())?;
+    put_u16(out, group)?;
     put_shard(out, shard)?;
     put_nums(out, bound.as_slice())?;
     put_nums(out, outs.as_slice())?;
@@ -174,15 +175,15 @@ fn put_lists(out: &mut Vec<u8>, edges: &Edges, facts: &Facts) -> Result<(), NoMe
 fn put_shard(out: &mut Vec<u8>, shard: Shard) -> Result<(), NoMemory>
     ensures { OnOk result (out.new.items ≡ out.old.items ++ shard_bytes shard) }
 {
-    out.extend_from_slice(&shard.0.to_be_bytes())?;
+    put_u8(out, shard.0)?;
     Ok(())
 }
 
 fn put_id(out: &mut Vec<u8>, id: TxnId) -> Result<(), NoMemory>
     ensures { OnOk result (out.new.items ≡ out.old.items ++ id_bytes id) }
 {
-    out.extend_from_slice(&id.coord.to_be_bytes())?;
-    out.extend_from_slice(&id.seq.to_be_bytes())?;
+    put_u16(out, id.coord)?;
+    put_u32(out, id.seq)?;
     Ok(())
 }
 
@@ -190,9 +191,9 @@ fn put_nums(out: &mut Vec<u8>, nums: &[i64]) -> Result<(), NoMemory>
     requires { length nums.now < 2 ^ 16 }
     ensures { OnOk result (out.new.items ≡ out.old.items ++ nums_bytes nums.now) }
 {
-    out.extend_from_slice(&(nums.len() as u16).to_be_bytes())?;
+    put_u16(out, nums.len() as u16)?;
     for num in nums {
-        out.extend_from_slice(&num.to_be_bytes())?;
+        put_i64(out, *num)?;
     }
     Ok(())
 }
@@ -212,8 +213,8 @@ fn put_edge(out: &mut Vec<u8>, edge: Edge) -> Result<(), NoMemory>
     ensures { OnOk result (out.new.items ≡ out.old.items ++ edge_bytes edge) }
 {
     put_id(out, edge.from())?;
-    out.extend_from_slice(&tags_number(edge).to_be_bytes())?;
-    out.extend_from_slice(&edge.at().0.to_be_bytes())?;
+    put_u8(out, tags_number(edge))?;
+    put_u8(out, edge.at().0)?;
     Ok(())
 }
 
@@ -221,7 +222,7 @@ fn put_edges(out: &mut Vec<u8>, edges: &[Edge]) -> Result<(), NoMemory>
     requires { length edges.now < 2 ^ 16 }
     ensures { OnOk result (out.new.items ≡ out.old.items ++ edges_bytes edges.now) }
 {
-    out.extend_from_slice(&(edges.len() as u16).to_be_bytes())?;
+    put_u16(out, edges.len() as u16)?;
     for edge in edges {
         put_edge(out, *edge)?;
     }
@@ -241,7 +242,7 @@ fn put_facts(out: &mut Vec<u8>, facts: &[KnownList]) -> Result<(), NoMemory>
     requires edges { All (λ fact. length fact.edges < 2 ^ 16) facts.now }
     ensures { OnOk result (out.new.items ≡ out.old.items ++ facts_bytes facts.now) }
 {
-    out.extend_from_slice(&(facts.len() as u16).to_be_bytes())?;
+    put_u16(out, facts.len() as u16)?;
     for fact in facts {
         put_fact(out, fact)?;
     }
