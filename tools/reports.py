@@ -1,4 +1,4 @@
-"""What the scripts that look at reports share: the reading of a report (docs/FORMATS.md, "Report")."""
+"""What the scripts that look at reports share: the reading of a report (docs/FORMATS.md, "Report"), and what it tells of transactions."""
 from __future__ import annotations
 
 import re
@@ -174,3 +174,52 @@ def read_report(data: bytes) -> Report:
     reader.ensure(data.endswith(b"\n") or not data, "no line feed at the end")
     reader.ensure(reader.closing == "end", "the text ends without a line `end`")
     return reader.report
+
+
+# ---- what it tells of transactions
+
+def by_number(name: str) -> tuple[int, ...]:
+    """Orders ids as the protocol does."""
+    return tuple(map(int, name.split(".")))
+
+
+def concerns(event: Event) -> list[str]:
+    """The transactions that an event is about, the first of its message or submission and then those of what it sends."""
+    own = [event.message.transaction] if event.message else [event.words.split(" ")[1]] if event.word == "submit" else []
+    return own + [message.transaction for message in event.sends]
+
+
+def transactions(report: Report) -> list[str]:
+    """Every transaction that the report names, in the order in which it does; a colour is chosen by this place."""
+    named: dict[str, None] = {}
+    for event in report.events:
+        named.update(dict.fromkeys(concerns(event)))
+        for message in event.sends:
+            named.update((edge.split("/")[0], None) for edge in message.edges)
+            named.update((fact[1:], None) for fact in message.facts)
+    named.update((name, None) for name in report.order + report.pending)
+    return list(named)
+
+
+def decisions(report: Report) -> dict[int, list[str]]:
+    """By event, the transactions that its server decides there: it sends its first commitoks of them, in the order in which it took them."""
+    seen: set[tuple[str, str]] = set()
+    found: dict[int, list[str]] = {}
+    for event in report.events:
+        for message in event.sends if event.word == "deliver" else []:
+            if message.kind == "commitok" and (event.node, message.transaction) not in seen:
+                seen.add((event.node, message.transaction))
+                found.setdefault(event.index, []).append(message.transaction)
+    return found
+
+
+def precedes(report: Report) -> dict[tuple[str, str], str]:
+    """The union of the edges of all startoks: from a predecessor to a transaction, with the tags of all and the least shard."""
+    union: dict[tuple[str, str], tuple[str, int]] = {}
+    for message in report.messages:
+        for edge in message.edges if message.kind == "startok" else []:
+            before, tags, shard = re.split("[/@]", edge)
+            key = (before, message.transaction)
+            old_tags, old_shard = union.get(key, ("", int(shard)))
+            union[key] = ("".join(tag for tag in "id" if tag in old_tags + tags), min(old_shard, int(shard)))
+    return {key: f"{tags}@{shard}" for key, (tags, shard) in sorted(union.items(), key=lambda item: tuple(map(by_number, item[0])))}
