@@ -1,0 +1,5 @@
+pub mod Walks
+pub mod Orders
+pub mod Runs
+pub mod Taught
+pub mod Found

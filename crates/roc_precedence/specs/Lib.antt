@@ -1,0 +1,4 @@
+pub mod Pairs
+pub mod Orders
+pub mod Cycles
+pub mod Inner
