@@ -1,22 +1,20 @@
 -- Components of one member, cycles, and what a search for the order answers
-use Rattle.std.proofs.Common.{◌≡◌, ◌↔◌, ◌<◌, ◌≤◌, Bool, true, false, ◌&&◌, List, [], ◌∷◌, length, Option, Some, None, IfSome, refl, sym, ap, subst, ◌∙◌, inl, inr, arith}
+use Rattle.std.proofs.Common.{◌≡◌, ◌↔◌, ◌<◌, ◌≤◌, Bool, true, false, ◌&&◌, List, [], ◌∷◌, length, Option, Some, None, IfSome, refl, sym, subst, ◌∙◌, inl, inr, arith}
 use Rattle.std.proofs.lemmas.Bool.{false≢true, leb-true, leb-false}
 use Rattle.std.specs.List.{list_any, list_all}
 use Rattle.roc_sequence.proofs.Holds.{any_has, has_any, every_has}
-use Rattle.std.specs.List.Sorted.{IsStrictlySortedBy}
 use Rattle.roc_sequence.specs.Lists.{Has}
 use Rattle.roc_sequence.specs.Places.{IsListed}
 use Rattle.roc_sequence.proofs.Places.{listed_head}
 use Rattle.roc_base.specs.declared.id.TxnId.{TxnId}
-use Rattle.roc_base.specs.TxnId.{is_txn, txn_cmp}
+use Rattle.roc_base.specs.TxnId.{is_txn}
 use Rattle.roc_base.specs.Equalities.{is_txn-same}
 use Rattle.roc_depgraph.specs.declared.known.KnownList.{KnownList}
 use Rattle.roc_depgraph.specs.Closure.{IsRisingListOf}
 use Rattle.roc_depgraph.specs.Deps.{Precedes}
-use Rattle.roc_depgraph.specs.Reach.{Reaches, direct}
 use Rattle.roc_depgraph.proofs.Chains.{joined_chain, weaker_chain}
 use Rattle.roc_depgraph.proofs.Listed.{has_listed, listed_has}
-use Rattle.roc_component.specs.Components.{among, Mates, AreComponents, AreComponentsOf, IsComponentOrderOf}
+use Rattle.roc_component.specs.Components.{among, Mates, AreComponentsOf, IsComponentOrderOf}
 use Rattle.roc_component.proofs.ListsWithin.{once_from_rising}
 use Rattle.roc_component.proofs.Relations.{chain_starts}
 use Rattle.roc_precedence.specs.declared.pair.Pair.{Pair}

@@ -1,15 +1,13 @@
 -- Least orders: chains go forwards in them, and component order is one where no two are mates
-use Rattle.std.proofs.Common.{◌≡◌, ◌↔◌, List, true, refl, sym, ap, subst, ◌∙◌, inl, inr, arith}
+use Rattle.std.proofs.Common.{◌≡◌, ◌↔◌, List, true, refl, sym, subst, ◌∙◌, inl, inr, arith}
 use Rattle.std.proofs.lemmas.Bool.{false≢true}
 use Rattle.roc_sequence.specs.Places.{IsListed, IsListedBefore}
-use Rattle.roc_sequence.proofs.Places.{listed_by_before}
 use Rattle.roc_base.specs.declared.id.TxnId.{TxnId}
 use Rattle.roc_base.specs.TxnId.{is_txn, txn_lt}
 use Rattle.roc_base.proofs.Ids.{txn_lt-itself}
 use Rattle.roc_depgraph.specs.Reach.{Reaches, direct, through}
 use Rattle.roc_component.specs.Components.{among, Mates, IsComponentOrder, IsNext}
 use Rattle.roc_component.proofs.OneOrder.{one_order}
-use Rattle.roc_component.proofs.Relations.{chain_starts}
 use Rattle.roc_precedence.specs.Cycles.{HasCycle}
 use Rattle.roc_precedence.specs.Orders.{IsLeastOrder, HaveSameChains}
 use Rattle.roc_precedence.proofs.Walks.{cycle_chain}

@@ -1,6 +1,5 @@
 -- Lists that are taught one after another
-use Rattle.std.proofs.Common.{◌≡◌, ℕ, ◌+◌, ◌<◌, ◌++◌, Bool, true, false, cond, ◌||◌, List, [], ◌∷◌, length, map, take, get_or, find, Option, Some, None, unwrap_or, refl, sym, ap, subst, ◌∙◌, ◌⊎◌, inl, inr, arith}
-use Rattle.std.proofs.lemmas.Bool.{false≢true}
+use Rattle.std.proofs.Common.{◌≡◌, ℕ, ◌+◌, ◌<◌, ◌++◌, Bool, true, false, cond, ◌||◌, List, [], ◌∷◌, length, map, take, get_or, Option, Some, None, unwrap_or, refl, sym, ap, subst, ◌∙◌, inl, inr, arith}
 use Rattle.std.proofs.lemmas.List.{take_more}
 use Rattle.std.specs.List.{list_any}
 use Rattle.std.specs.Option.{is_some}
@@ -19,7 +18,7 @@ use Rattle.roc_base.specs.Edges.{entry_at, all_of, joined_with}
 use Rattle.roc_depgraph.specs.declared.known.KnownList.{KnownList}
 use Rattle.roc_depgraph.specs.declared.learnt.Learnt.{Learnt}
 use Rattle.roc_depgraph.specs.declared.learnt.Learnt.TheVariants.{New, Repeat, Differs}
-use Rattle.roc_depgraph.specs.Deps.{list_of, Precedes, learnt}
+use Rattle.roc_depgraph.specs.Deps.{list_of, learnt}
 use Rattle.roc_depgraph.specs.Learnt.{Learns}
 use Rattle.roc_depgraph.specs.Visits.{IsNamed}
 use Rattle.roc_depgraph.proofs.Laws.{list_of-learnt, list_of-learnt_other}
