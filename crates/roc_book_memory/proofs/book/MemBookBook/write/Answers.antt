@@ -1,0 +1,6 @@
+-- A write that fails takes the first half of its piece.
+use Rattle.std.proofs.Common.{◌/◌, length}
+use Rattle.roc_book_memory.proofs.book.MemBookBook.write.Goals as goal
+
+pub returns-then-next_fails-clause-taken : goal.returns-then-next_fails-clause-taken
+returns-then-next_fails-clause-taken c = (length c.args.piece.now / 2, rw (← c.self.view_is) c.extend.ensures)
