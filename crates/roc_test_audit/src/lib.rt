@@ -1,7 +1,11 @@
-//! Tests of the least orders of pairs, and of books. It gives nothing to use.
+//! Tests of the least orders of pairs, of the test of serial witnesses, and of books. It gives nothing to use.
 #![tactic(auto)]
 
 #[cfg(test)]
 mod books;
 #[cfg(test)]
+mod histories;
+#[cfg(test)]
 mod precedence;
+#[cfg(test)]
+mod witnesses;
