@@ -159,6 +159,10 @@ mutual
 
 -- ---- statements
 
+-- a word, with the line where it stands
+pub record IsWordAt (word : List ℕ) (tokens rest : List Token) (line : ℕ) : Type 0 where
+  pub is : tokens ≡ record { kind = Word word; line = line } ∷ rest
+
 -- the bracket behind an id, with its line
 pub record IsIdEnd (tokens rest : List Token) (line : ℕ) : Type 0 where
   pub is : tokens ≡ record { kind = Mark close_bracket; line = line } ∷ rest
@@ -172,8 +176,8 @@ pub data IsAccess (limits : Limits) : (tokens rest : List Token) → Access → 
 pub data IsStatement (limits : Limits) : (tokens rest : List Token) → Statement → Type 0 where
   get : {a b c d e f : List Token} {name : Name} {from : Access}
       → IsToken (Word (codes "get")) a b → IsName b c name → IsMark equals c d → IsAccess limits d e from → IsMark semicolon e f → IsStatement limits a f (Get name from)
-  set : {a b c d e f : List Token} {to : Access} {value : Expression}
-      → IsToken (Word (codes "set")) a b → IsAccess limits b c to → IsMark equals c d → IsExpression limits.depth d e value → IsMark semicolon e f → IsStatement limits a f (Set to value)
+  set : {a b c d e f : List Token} {line : ℕ} {to : Access} {value : Expression}
+      → IsWordAt (codes "set") a b line → IsAccess limits b c to → IsMark equals c d → IsExpression limits.depth d e value → IsMark semicolon e f → IsStatement limits a f (Set line to value)
   out : {a b c d : List Token} {value : Expression}
       → IsToken (Word (codes "out")) a b → IsExpression limits.depth b c value → IsMark semicolon c d → IsStatement limits a d (Out value)
 
@@ -185,7 +189,7 @@ class_word false = codes "later"
 
 pub data IsPiece (limits : Limits) : (tokens rest : List Token) → Piece → Type 0 where
   piece : {a b c d e f g h : List Token} {p : Piece}
-      → IsToken (Word (class_word p.is_now)) a b → IsName b c p.name → IsToken (Word (codes "at")) c d → IsExpression limits.depth d e p.place
+      → IsWordAt (class_word p.is_now) a b p.class_line → IsName b c p.name → IsToken (Word (codes "at")) c d → IsExpression limits.depth d e p.place
       → IsMark open_brace e f → Each (IsStatement limits) f g p.body → IsMark close_brace g h → length p.body ≤ limits.statements → IsPiece limits a h p
 
 -- names in parentheses, or none
@@ -194,11 +198,16 @@ pub data IsArguments (limits : Limits) : (tokens rest : List Token) → List Nam
   arguments : {a b c d : List Token} {names : List Name}
       → IsMark open_parenthesis a b → Separated IsName b c names → IsMark close_parenthesis c d → length names ≤ limits.arguments → IsArguments limits a d names
 
+-- what opens the pieces of a procedure: {, or the word view and {
+pub data IsOpening : (tokens rest : List Token) → (is_view : Bool) → Type 0 where
+  plain : {a b : List Token} → IsMark open_brace a b → IsOpening a b false
+  viewed : {a b c : List Token} → IsToken (Word (codes "view")) a b → IsMark open_brace b c → IsOpening a c true
+
 -- at least one piece
 pub data IsProcedure (limits : Limits) : (tokens rest : List Token) → Procedure → Type 0 where
   procedure : {a b c d e f g : List Token} {p : Procedure}
       → IsToken (Word (codes "proc")) a b → IsName b c p.name → IsArguments limits c d p.arguments
-      → IsMark open_brace d e → Each (IsPiece limits) e f p.pieces → IsMark close_brace f g → 0 < length p.pieces → length p.pieces ≤ limits.pieces → IsProcedure limits a g p
+      → IsOpening d e p.is_view → Each (IsPiece limits) e f p.pieces → IsMark close_brace f g → 0 < length p.pieces → length p.pieces ≤ limits.pieces → IsProcedure limits a g p
 
 -- ---- texts
 

@@ -44,7 +44,7 @@ AreWords (Pick c e f) = AreWords c × AreWords e × AreWords f
 
 abbrev pub AreStatementWords : Statement → Type 0
 AreStatementWords (Get name from) = AllByRecursion AreWords from.id
-AreStatementWords (Set to value) = AllByRecursion AreWords to.id × AreWords value
+AreStatementWords (Set line to value) = AllByRecursion AreWords to.id × AreWords value
 AreStatementWords (Out value) = AreWords value
 
 pub record ArePieceWords (p : Piece) : Type 0 where

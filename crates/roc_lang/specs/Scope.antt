@@ -7,7 +7,7 @@ use Rattle.roc_lang.specs.Syntax.{Name, Expression, Number, Variable, Sum, Diffe
 
 pub data FaultKind : Type 0 where
   Shards : FaultKind
-  Twice Unknown LaterUsed SamePieceKey Unbound Arity : (name : List ℕ) → FaultKind
+  Twice Unknown LaterUsed SamePieceKey Unbound Arity Viewed : (name : List ℕ) → FaultKind
 
 pub record Fault : Type 0 where
   pub kind : FaultKind
@@ -92,17 +92,27 @@ access_faults tables bound a =
 -- a name is bound behind its statement
 abbrev pub bound_by : Statement → List Name
 bound_by (Get name from) = name ∷ []
-bound_by (Set to value) = []
+bound_by (Set line to value) = []
 bound_by (Out value) = []
 
-abbrev pub statement_faults : List Table → Bound → Statement → List Fault
-statement_faults tables bound (Get name from) = repeated (bound.known ++ bound.own ++ bound.past) name ++ access_faults tables bound from
-statement_faults tables bound (Set to value) = access_faults tables bound to ++ value_faults bound value
-statement_faults tables bound (Out value) = value_faults bound value
+-- what a view may not have, told with its piece's name at the line of the word
+abbrev pub viewed : (is_wrong : Bool) → (piece : Name) → (line : ℕ) → List Fault
+viewed is_wrong piece line = if is_wrong then record { kind = Viewed piece.text; line = line } ∷ [] else []
 
-abbrev pub statements_faults : List Table → Bound → List Statement → List Fault
-statements_faults tables bound [] = []
-statements_faults tables bound (s ∷ ss) = statement_faults tables bound s ++ statements_faults tables (record bound { own = bound.own ++ bound_by s }) ss
+-- where a piece stands: whether its procedure is a view, and the piece's name
+pub record Within : Type 0 where
+  pub is_view : Bool
+  pub piece : Name
+
+abbrev pub statement_faults : List Table → Within → Bound → Statement → List Fault
+statement_faults tables within bound (Get name from) = repeated (bound.known ++ bound.own ++ bound.past) name ++ access_faults tables bound from
+statement_faults tables within bound (Set line to value) = viewed within.is_view within.piece line ++ access_faults tables bound to ++ value_faults bound value
+statement_faults tables within bound (Out value) = value_faults bound value
+
+abbrev pub statements_faults : List Table → Within → Bound → List Statement → List Fault
+statements_faults tables within bound [] = []
+statements_faults tables within bound (s ∷ ss) =
+    statement_faults tables within bound s ++ statements_faults tables within (record bound { own = bound.own ++ bound_by s }) ss
 
 -- ---- pieces
 
@@ -111,12 +121,14 @@ abbrev pub bound_after : Bound → Piece → Bound
 bound_after bound p = let names = flat_map bound_by p.body in
     if p.is_now then record { known = bound.known ++ names; own = []; past = bound.past } else record { known = bound.known; own = []; past = bound.past ++ names }
 
-abbrev pub piece_faults : List Table → Bound → Piece → List Fault
-piece_faults tables bound p = key_faults bound p.place ++ statements_faults tables bound p.body
+abbrev pub piece_faults : List Table → (is_view : Bool) → Bound → Piece → List Fault
+piece_faults tables is_view bound p = key_faults bound p.place ++ statements_faults tables (record { is_view = is_view; piece = p.name }) bound p.body
 
-abbrev pub pieces_faults : List Table → (earlier : List Name) → Bound → List Piece → List Fault
-pieces_faults tables earlier bound [] = []
-pieces_faults tables earlier bound (p ∷ ps) = repeated earlier p.name ++ piece_faults tables bound p ++ pieces_faults tables (earlier ++ p.name ∷ []) (bound_after bound p) ps
+abbrev pub pieces_faults : List Table → (is_view : Bool) → (earlier : List Name) → Bound → List Piece → List Fault
+pieces_faults tables is_view earlier bound [] = []
+pieces_faults tables is_view earlier bound (p ∷ ps) =
+    viewed (is_view && p.is_now) p.name p.class_line ++ repeated earlier p.name ++ piece_faults tables is_view bound p
+    ++ pieces_faults tables is_view (earlier ++ p.name ∷ []) (bound_after bound p) ps
 
 -- ---- the parts of a text
 
@@ -131,7 +143,7 @@ init_faults tables i =
 abbrev pub procedures_faults : List Table → (earlier : List Name) → List Procedure → List Fault
 procedures_faults tables earlier [] = []
 procedures_faults tables earlier (p ∷ ps) =
-    repeated earlier p.name ++ repeats [] p.arguments ++ pieces_faults tables [] (record { known = p.arguments; own = []; past = [] }) p.pieces
+    repeated earlier p.name ++ repeats [] p.arguments ++ pieces_faults tables p.is_view [] (record { known = p.arguments; own = []; past = [] }) p.pieces
     ++ procedures_faults tables (earlier ++ p.name ∷ []) ps
 
 -- there is a shard, and there are not too many

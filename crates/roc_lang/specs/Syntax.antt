@@ -19,21 +19,25 @@ pub record Access : Type 0 where
   pub id_line : ℕ
   pub column : Name
 
+-- a `set` with the line of its word
 pub data Statement : Type 0 where
   Get : (name : Name) (from : Access) → Statement
-  Set : (to : Access) (value : Expression) → Statement
+  Set : (line : ℕ) (to : Access) (value : Expression) → Statement
   Out : (value : Expression) → Statement
 
--- a piece, declared `now` or `later`
+-- a piece, declared `now` or `later`, and the line of that word
 pub record Piece : Type 0 where
   pub is_now : Bool
+  pub class_line : ℕ
   pub name : Name
   pub place : Expression
   pub body : List Statement
 
+-- a procedure, a view where the word stands behind its arguments
 pub record Procedure : Type 0 where
   pub name : Name
   pub arguments : List Name
+  pub is_view : Bool
   pub pieces : List Piece
 
 -- a table, and how many integers its ids have

@@ -32,14 +32,14 @@ access_tree a = record { table = name_tree a.table; id = map expression_tree a.i
 
 abbrev pub statement_tree : Statement → syntax.Statement
 statement_tree (statements.Get name from) = syntax.Get (name_tree name) (access_tree from)
-statement_tree (statements.Set to value) = syntax.Set (access_tree to) (expression_tree value)
+statement_tree (statements.Set line to value) = syntax.Set line (access_tree to) (expression_tree value)
 statement_tree (statements.Out value) = syntax.Out (expression_tree value)
 
 abbrev pub piece_tree : Piece → syntax.Piece
-piece_tree p = record { is_now = p.is_now; name = name_tree p.name; place = expression_tree p.place; body = map statement_tree p.body.items }
+piece_tree p = record { is_now = p.is_now; class_line = p.class_line; name = name_tree p.name; place = expression_tree p.place; body = map statement_tree p.body.items }
 
 abbrev pub procedure_tree : Procedure → syntax.Procedure
-procedure_tree p = record { name = name_tree p.name; arguments = map name_tree p.arguments.items; pieces = map piece_tree p.pieces.items }
+procedure_tree p = record { name = name_tree p.name; arguments = map name_tree p.arguments.items; is_view = p.is_view; pieces = map piece_tree p.pieces.items }
 
 abbrev pub table_tree : Table → syntax.Table
 table_tree t = record { name = name_tree t.name; arity = t.arity; columns = map name_tree t.columns.items }

@@ -46,9 +46,16 @@ pub struct Access {
 #[derive(Drop)]
 pub enum Statement {
     /// Binds a name to the value of a cell.
-    Get { name: Name, from: Access },
-    /// Writes a value into a cell.
-    Set { to: Access, value: Expression },
+    Get {
+        name: Name,
+        from: Access,
+    },
+    /// Writes a value into a cell. `line` is that of the word `set`.
+    Set {
+        line: u32,
+        to: Access,
+        value: Expression,
+    },
     /// Adds a value to the reply.
     Out(Expression),
 }
@@ -58,6 +65,8 @@ pub enum Statement {
 pub struct Piece {
     /// Declared `now`, and not `later`.
     pub is_now: bool,
+    /// The line of the word `now` or `later`.
+    pub class_line: u32,
     pub name: Name,
     pub place: Expression,
     pub body: Vec<Statement>,
@@ -68,6 +77,8 @@ pub struct Piece {
 pub struct Procedure {
     pub name: Name,
     pub arguments: Vec<Name>,
+    /// Declared `view`: scope asks that its pieces are all `later`, and have no `set`.
+    pub is_view: bool,
     pub pieces: Vec<Piece>,
 }
 

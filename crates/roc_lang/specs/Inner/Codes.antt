@@ -90,41 +90,42 @@ access_code =
     (λ _. refl)
 
 abbrev Cases : Type 0
-Cases = (Name × Access) ⊎ ((Access × Expression) ⊎ Expression)
+Cases = (Name × Access) ⊎ ((ℕ × (Access × Expression)) ⊎ Expression)
 
 abbrev cases : Statement → Cases
 cases (Get name from) = inl (name, from)
-cases (Set to value) = inr (inl (to, value))
+cases (Set line to value) = inr (inl (line, (to, value)))
 cases (Out value) = inr (inr value)
 
 abbrev statement_of : Cases → Statement
 statement_of (inl p) = Get p.0 p.1
-statement_of (inr (inl p)) = Set p.0 p.1
+statement_of (inr (inl p)) = Set p.0 p.1.0 p.1.1
 statement_of (inr (inr e)) = Out e
 
 pub statement_of-cases : (s : Statement) → statement_of (cases s) ≡ s
 statement_of-cases (Get name from) = refl
-statement_of-cases (Set to value) = refl
+statement_of-cases (Set line to value) = refl
 statement_of-cases (Out value) = refl
 
 abbrev statement_code : Coded Statement
 statement_code =
-    code_by Cases (coded⊎ (coded× name_code access_code) (coded⊎ (coded× access_code expression_code) expression_code)) cases
+    code_by Cases (coded⊎ (coded× name_code access_code) (coded⊎ (coded× coded_ℕ (coded× access_code expression_code)) expression_code)) cases
     statement_of
     statement_of-cases
 
 abbrev piece_code : Coded Piece
 piece_code =
-    code_by ((Bool × Name) × (Expression × List Statement)) (coded× (coded× coded_bool name_code) (coded× expression_code (coded_list statement_code)))
-    (λ p. ((p.is_now, p.name), (p.place, p.body)))
-    (λ p. record { is_now = p.0.0; name = p.0.1; place = p.1.0; body = p.1.1 })
+    code_by (((Bool × ℕ) × Name) × (Expression × List Statement))
+    (coded× (coded× (coded× coded_bool coded_ℕ) name_code) (coded× expression_code (coded_list statement_code)))
+    (λ p. (((p.is_now, p.class_line), p.name), (p.place, p.body)))
+    (λ p. record { is_now = p.0.0.0; class_line = p.0.0.1; name = p.0.1; place = p.1.0; body = p.1.1 })
     (λ _. refl)
 
 abbrev procedure_code : Coded Procedure
 procedure_code =
-    code_by (Name × (List Name × List Piece)) (coded× name_code (coded× (coded_list name_code) (coded_list piece_code)))
-    (λ p. (p.name, (p.arguments, p.pieces)))
-    (λ p. record { name = p.0; arguments = p.1.0; pieces = p.1.1 })
+    code_by ((Name × List Name) × (Bool × List Piece)) (coded× (coded× name_code (coded_list name_code)) (coded× coded_bool (coded_list piece_code)))
+    (λ p. ((p.name, p.arguments), (p.is_view, p.pieces)))
+    (λ p. record { name = p.0.0; arguments = p.0.1; is_view = p.1.0; pieces = p.1.1 })
     (λ _. refl)
 
 abbrev table_code : Coded Table
