@@ -4,7 +4,7 @@ use Rattle.std.specs.String.{string_bytes}
 use Rattle.roc_lang.specs.Scope.{FaultKind, Fault}
 use Rattle.roc_lang.specs.Scope as scope
 use Rattle.roc_lang_scope.specs.declared.fault.ScopeWhat.{ScopeWhat}
-use Rattle.roc_lang_scope.specs.declared.fault.ScopeWhat.TheVariants.{Shards, Twice, Unknown, LaterUsed, SamePieceKey, Unbound, Arity}
+use Rattle.roc_lang_scope.specs.declared.fault.ScopeWhat.TheVariants.{Shards, Twice, Unknown, LaterUsed, SamePieceKey, Unbound, Arity, Viewed}
 use Rattle.roc_lang_scope.specs.declared.fault.ScopeFault.{ScopeFault}
 use Rattle.roc_lang_scope.specs.declared.fault.ScopeFault.TheVariants.{At, NoMemory}
 
@@ -16,6 +16,7 @@ kind (LaterUsed name) = scope.LaterUsed (string_bytes name)
 kind (SamePieceKey name) = scope.SamePieceKey (string_bytes name)
 kind (Unbound name) = scope.Unbound (string_bytes name)
 kind (Arity name) = scope.Arity (string_bytes name)
+kind (Viewed name) = scope.Viewed (string_bytes name)
 
 -- the first of the faults, in the order of the text
 abbrev pub first : List Fault → Option Fault

@@ -2,7 +2,7 @@
 use Rattle.std.specs.Prelude.{ℕ, List, ◌++◌}
 use Rattle.std.specs.Fmt.{decimal}
 use lib.Chars.{codes}
-use Rattle.roc_lang.specs.Scope.{FaultKind, Shards, Twice, Unknown, LaterUsed, SamePieceKey, Unbound, Arity}
+use Rattle.roc_lang.specs.Scope.{FaultKind, Shards, Twice, Unknown, LaterUsed, SamePieceKey, Unbound, Arity, Viewed}
 use Rattle.roc_lang_scope.specs.declared.fault.ScopeWhat.{ScopeWhat}
 use Rattle.roc_lang_scope.specs.declared.fault.ScopeFault.{ScopeFault}
 use Rattle.roc_lang_scope.specs.declared.fault.ScopeFault.TheVariants.{At, NoMemory}
@@ -17,6 +17,7 @@ kind_text (LaterUsed name) = codes "later " ++ name
 kind_text (SamePieceKey name) = codes "key " ++ name
 kind_text (Unbound name) = codes "unbound " ++ name
 kind_text (Arity name) = codes "arity " ++ name
+kind_text (Viewed name) = codes "view " ++ name
 
 -- the same of the code's fault
 abbrev pub what_text : ScopeWhat → List ℕ

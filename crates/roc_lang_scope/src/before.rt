@@ -20,6 +20,15 @@ pub(crate) struct Before<'a> {
     pub body: &'a [Statement],
 }
 
+/// The piece that a statement stands in.
+#[derive(Clone, Copy)]
+pub(crate) struct Within<'a> {
+    /// Its procedure is a view.
+    pub is_view: bool,
+    /// Its name.
+    pub piece: &'a Name,
+}
+
 /// One of the names is this.
 pub(crate) fn is_among(names: &[Name], name: &Name) -> bool
     ensures { result ≡ is_among (map name_tree names.now) (name_tree name.now) }
@@ -40,7 +49,11 @@ fn binds(statement: &Statement, name: &Name) -> bool
             name: bound,
             from: _,
         } => bound.text == name.text,
-        Statement::Set { to: _, value: _ } => false,
+        Statement::Set {
+            line: _,
+            to: _,
+            value: _,
+        } => false,
         Statement::Out(_) => false,
     }
 }

@@ -25,6 +25,8 @@ pub enum ScopeWhat {
     Unbound(String),
     /// An id of the table of this name has another number of integers than the table declares.
     Arity(String),
+    /// A view's piece of this name is declared `now`, or writes.
+    Viewed(String),
 }
 
 impl fmt::Display for ScopeWhat {
@@ -39,6 +41,7 @@ impl fmt::Display for ScopeWhat {
             ScopeWhat::SamePieceKey(name) => write!(f, "key {name}"),
             ScopeWhat::Unbound(name) => write!(f, "unbound {name}"),
             ScopeWhat::Arity(name) => write!(f, "arity {name}"),
+            ScopeWhat::Viewed(name) => write!(f, "view {name}"),
         }
     }
 }

@@ -2,7 +2,7 @@
 
 ghost use Rattle.std.specs.Prelude.{◌≡◌, List, [], Some, if◌then◌else◌, IfOk};
 ghost use Rattle.std.specs.String.{string_bytes};
-ghost use Rattle.roc_lang.specs.Scope.{Fault, Twice, fault_at};
+ghost use Rattle.roc_lang.specs.Scope.{Fault, Twice, fault_at, viewed};
 ghost use Rattle.roc_lang.specs.Tree.{name_tree};
 ghost use Rattle.roc_lang_scope.specs.Fault as fault;
 ghost use Rattle.roc_lang_scope.specs.Fault.{first, IsFirst};
@@ -21,6 +21,7 @@ pub(crate) enum Reason {
     SamePieceKey,
     Unbound,
     Arity,
+    Viewed,
 }
 
 /// A name that is declared or used where it may not be, or as it may not be.
@@ -55,6 +56,7 @@ fn what_of(alloc: Global, misuse: &Misuse) -> Result<ScopeWhat, AllocError>
         Reason::SamePieceKey => ScopeWhat::SamePieceKey(name),
         Reason::Unbound => ScopeWhat::Unbound(name),
         Reason::Arity => ScopeWhat::Arity(name),
+        Reason::Viewed => ScopeWhat::Viewed(name),
     })
 }
 
@@ -77,6 +79,21 @@ pub(crate) fn check_new(is_repeated: bool, name: &Name) -> Result<(), Misuse<'_>
 {
     if is_repeated {
         Err(at_name(Reason::Twice, name))
+    } else {
+        Ok(())
+    }
+}
+
+/// What a view may not have does not stand on this line of the piece.
+pub(crate) fn check_view(is_wrong: bool, piece: &Name, line: u32) -> Result<(), Misuse<'_>>
+    ensures { Finds result (viewed is_wrong (name_tree piece.now) line) }
+{
+    if is_wrong {
+        Err(Misuse {
+            reason: Reason::Viewed,
+            name: piece,
+            line,
+        })
     } else {
         Ok(())
     }

@@ -1,13 +1,13 @@
 //! The test of a procedure's pieces: their cells, statements and names.
 
-ghost use Rattle.std.specs.Prelude.{◌≡◌, [], ◌++◌, map, None, Some, MatchOption};
+ghost use Rattle.std.specs.Prelude.{◌≡◌, [], ◌++◌, ◌&&◌, map, None, Some, MatchOption};
 ghost use Rattle.roc_lang.specs.Tree.{name_tree, access_tree, statement_tree, piece_tree, table_tree};
-ghost use Rattle.roc_lang.specs.Scope.{is_among, repeated, table_named, column_faults, arity_faults, access_faults, statement_faults, statements_faults, piece_faults, pieces_faults};
-ghost use Rattle.roc_lang_scope.specs.Inner.Before.{bound, bound_behind, bound_first};
+ghost use Rattle.roc_lang.specs.Scope.{is_among, viewed, repeated, table_named, column_faults, arity_faults, access_faults, statement_faults, statements_faults, piece_faults, pieces_faults};
+ghost use Rattle.roc_lang_scope.specs.Inner.Before.{bound, bound_behind, bound_first, within_of};
 ghost use Rattle.roc_lang_scope.specs.Inner.Misuse.{Finds};
 
-use crate::before::{Before, check_expression, check_id, is_among, is_taken};
-use crate::misuse::{Misuse, Reason, at_name, check_new};
+use crate::before::{Before, Within, check_expression, check_id, is_among, is_taken};
+use crate::misuse::{Misuse, Reason, at_name, check_new, check_view};
 use roc_lang::{Access, Name, Piece, Statement, Table};
 
 /// The first table of a name.
@@ -71,17 +71,19 @@ fn check_access<'a>(tables: &[Table], before: &Before, access: &'a Access) -> Re
 
 fn check_statement<'a>(
     tables: &[Table],
+    within: &Within<'a>,
     before: &Before,
     statement: &'a Statement,
 ) -> Result<(), Misuse<'a>>
-    ensures { Finds result (statement_faults (map table_tree tables.now) (bound before.now) (statement_tree statement.now)) }
+    ensures { Finds result (statement_faults (map table_tree tables.now) (within_of within.now) (bound before.now) (statement_tree statement.now)) }
 {
     match statement {
         Statement::Get { name, from } => {
             check_new(is_taken(before, name), name)?;
             check_access(tables, before, from)
         }
-        Statement::Set { to, value } => {
+        Statement::Set { line, to, value } => {
+            check_view(within.is_view, within.piece, *line)?;
             check_access(tables, before, to)?;
             check_expression(before, false, value)
         }
@@ -94,9 +96,10 @@ fn check_body<'a>(
     tables: &[Table],
     arguments: &[Name],
     pieces: &[Piece],
+    within: &Within<'a>,
     body: &'a [Statement],
 ) -> Result<(), Misuse<'a>>
-    ensures { Finds result (statements_faults (map table_tree tables.now) (bound_behind (map name_tree arguments.now) (map piece_tree pieces.now) []) (map statement_tree body.now)) }
+    ensures { Finds result (statements_faults (map table_tree tables.now) (within_of within.now) (bound_behind (map name_tree arguments.now) (map piece_tree pieces.now) []) (map statement_tree body.now)) }
 {
     for (i, statement) in body.iter().enumerate() {
         let before = Before {
@@ -104,7 +107,7 @@ fn check_body<'a>(
             pieces,
             body: &body[..i],
         };
-        check_statement(tables, &before, statement)?;
+        check_statement(tables, within, &before, statement)?;
     }
     Ok(())
 }
@@ -121,16 +124,19 @@ fn is_piece(pieces: &[Piece], name: &Name) -> bool
     false
 }
 
-// The next piece.
+// The next piece, of a view or of another procedure.
 fn check_piece<'a>(
     tables: &[Table],
+    is_view: bool,
     arguments: &[Name],
     pieces: &[Piece],
     piece: &'a Piece,
 ) -> Result<(), Misuse<'a>>
-    ensures { Finds result (repeated (map (λ p. name_tree p.name) pieces.now) (name_tree piece.now.name)
-        ++ piece_faults (map table_tree tables.now) (bound_behind (map name_tree arguments.now) (map piece_tree pieces.now) []) (piece_tree piece.now)) }
+    ensures { Finds result (viewed (is_view && piece.now.is_now) (name_tree piece.now.name) piece.now.class_line
+        ++ repeated (map (λ p. name_tree p.name) pieces.now) (name_tree piece.now.name)
+        ++ piece_faults (map table_tree tables.now) is_view (bound_behind (map name_tree arguments.now) (map piece_tree pieces.now) []) (piece_tree piece.now)) }
 {
+    check_view(is_view && piece.is_now, &piece.name, piece.class_line)?;
     check_new(is_piece(pieces, &piece.name), &piece.name)?;
     let before = Before {
         arguments,
@@ -138,19 +144,24 @@ fn check_piece<'a>(
         body: &[],
     };
     check_expression(&before, true, &piece.place)?;
-    check_body(tables, arguments, pieces, &piece.body)
+    let within = Within {
+        is_view,
+        piece: &piece.name,
+    };
+    check_body(tables, arguments, pieces, &within, &piece.body)
 }
 
-/// The pieces of a procedure with these arguments.
+/// The pieces of a procedure, which may be a view, with these arguments.
 pub(crate) fn check_pieces<'a>(
     tables: &[Table],
+    is_view: bool,
     arguments: &[Name],
     pieces: &'a [Piece],
 ) -> Result<(), Misuse<'a>>
-    ensures { Finds result (pieces_faults (map table_tree tables.now) [] (bound_first (map name_tree arguments.now)) (map piece_tree pieces.now)) }
+    ensures { Finds result (pieces_faults (map table_tree tables.now) is_view [] (bound_first (map name_tree arguments.now)) (map piece_tree pieces.now)) }
 {
     for (i, piece) in pieces.iter().enumerate() {
-        check_piece(tables, arguments, &pieces[..i], piece)?;
+        check_piece(tables, is_view, arguments, &pieces[..i], piece)?;
     }
     Ok(())
 }

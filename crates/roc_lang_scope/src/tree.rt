@@ -87,7 +87,12 @@ fn check_procedures<'a>(tables: &[Table], procedures: &'a [Procedure]) -> Result
         let name = &procedure.name;
         check_new(is_procedure(&procedures[..i], name), name)?;
         check_distinct(&procedure.arguments)?;
-        check_pieces(tables, &procedure.arguments, &procedure.pieces)?;
+        check_pieces(
+            tables,
+            procedure.is_view,
+            &procedure.arguments,
+            &procedure.pieces,
+        )?;
     }
     Ok(())
 }

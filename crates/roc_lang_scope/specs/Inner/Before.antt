@@ -3,8 +3,10 @@ use Rattle.std.specs.Prelude.{List, [], ◌++◌, map, if◌then◌else◌}
 use Rattle.std.specs.List.{flat_map}
 use Rattle.roc_lang.specs.Syntax.{Name, Statement, Piece}
 use Rattle.roc_lang.specs.Tree.{name_tree, statement_tree, piece_tree}
+use Rattle.roc_lang.specs.Scope as scope
 use Rattle.roc_lang.specs.Scope.{Bound, bound_by}
 use Rattle.roc_lang_scope.specs.declared.before.Before.{Before}
+use Rattle.roc_lang_scope.specs.declared.before.Within.{Within}
 
 -- what a piece binds where it was declared now, where it was declared later
 abbrev pub now_by : Piece → List Name
@@ -30,3 +32,7 @@ bound_behind arguments pieces body = record { known = arguments ++ now_names pie
 
 abbrev pub bound : Before → Bound
 bound b = bound_behind (map name_tree b.arguments.now) (map piece_tree b.pieces.now) (map statement_tree b.body.now)
+
+-- the piece that a statement stands in
+abbrev pub within_of : Within → scope.Within
+within_of w = record { is_view = w.is_view; piece = name_tree w.piece.now }

@@ -6,7 +6,7 @@ use Rattle.roc_lang.specs.Syntax.{Tree}
 use Rattle.roc_lang.specs.Scope.{FaultKind, Fault, tables_faults, init_faults, procedures_faults}
 use Rattle.roc_lang.specs.Scope as scope
 use Rattle.roc_lang_scope.specs.declared.misuse.Reason.{Reason}
-use Rattle.roc_lang_scope.specs.declared.misuse.Reason.TheVariants.{Twice, Unknown, LaterUsed, SamePieceKey, Unbound, Arity}
+use Rattle.roc_lang_scope.specs.declared.misuse.Reason.TheVariants.{Twice, Unknown, LaterUsed, SamePieceKey, Unbound, Arity, Viewed}
 use Rattle.roc_lang_scope.specs.declared.misuse.Misuse.{Misuse}
 use Rattle.roc_lang_scope.specs.Fault.{first}
 
@@ -17,6 +17,7 @@ reason_kind LaterUsed name = scope.LaterUsed name
 reason_kind SamePieceKey name = scope.SamePieceKey name
 reason_kind Unbound name = scope.Unbound name
 reason_kind Arity name = scope.Arity name
+reason_kind Viewed name = scope.Viewed name
 
 abbrev pub misuse_fault : Misuse → Fault
 misuse_fault m = record { kind = reason_kind m.reason (string_bytes m.name.now.text); line = m.line }

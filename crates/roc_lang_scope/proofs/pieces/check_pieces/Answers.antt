@@ -18,5 +18,5 @@ returns-in_err-check_piece c =
     let earlier = map (λ (p : Piece). name_tree p.name) (take i all) in
     let bound = bound_behind (map name_tree c.args.arguments.now) (map piece_tree (take i all)) [] in
     let split = item_splits all i c.index-pieces-i.result c.loop-i-test.true c.index-pieces-i.is in
-    let rest = ap (λ (xs : List Piece). pieces_faults tables earlier bound (map piece_tree xs)) (sym split.0) ∙ c.loop-i.invariant in
-    rw (p.1, p.2) (pieces_stop (misuse_fault c.in_err-check_piece.field-0.0) tables earlier bound (piece_tree c.index-pieces-i.result) (map piece_tree (drop (i + 1) all)) _ rest c.in_err-check_piece.ensures)
+    let rest = ap (λ (xs : List Piece). pieces_faults tables c.args.is_view earlier bound (map piece_tree xs)) (sym split.0) ∙ c.loop-i.invariant in
+    rw (p.1, p.2) (pieces_stop (misuse_fault c.in_err-check_piece.field-0.0) tables c.args.is_view earlier bound (piece_tree c.index-pieces-i.result) (map piece_tree (drop (i + 1) all)) _ rest c.in_err-check_piece.ensures)
