@@ -123,9 +123,10 @@ piece_code =
 
 abbrev procedure_code : Coded Procedure
 procedure_code =
-    code_by ((Letters × ℕ) × (ℕ × List Piece)) (coded× (coded× letters_code coded_ℕ) (coded× coded_ℕ (coded_list piece_code)))
-    (λ p. ((p.name, p.arguments), (p.names, p.pieces)))
-    (λ p. record { name = p.0.0; arguments = p.0.1; names = p.1.0; pieces = p.1.1 })
+    code_by ((Letters × (Bool × ℕ)) × (ℕ × (List Letters × List Piece)))
+    (coded× (coded× letters_code (coded× coded_bool coded_ℕ)) (coded× coded_ℕ (coded× (coded_list letters_code) (coded_list piece_code))))
+    (λ p. ((p.name, (p.is_view, p.arguments)), (p.names, (p.labels, p.pieces))))
+    (λ p. record { name = p.0.0; is_view = p.0.1.0; arguments = p.0.1.1; names = p.1.0; labels = p.1.1.0; pieces = p.1.1.1 })
     (λ _. refl)
 
 abbrev table_code : Coded Table

@@ -1,7 +1,8 @@
 -- Static conflict: two pieces that may touch one cell, and at least one of them writes it. docs/LANGUAGE.md, "Conflicts"
-use Rattle.std.specs.Prelude.{Bool, false, ◌&&◌, ◌==◌}
+use Rattle.std.specs.Prelude.{Bool, false, not, ◌&&◌, ◌==◌}
 use Rattle.std.specs.List.{list_any}
 use Rattle.roc_program.specs.Program.{Access, Statement, Get, Set, Out, Piece, Workload}
+use Rattle.roc_program.specs.LookUps.{is_view_in}
 use Rattle.roc_program.specs.Pieces.{piece_of}
 use Rattle.roc_program.specs.declared.piece_id.PieceId.{PieceId}
 
@@ -23,6 +24,7 @@ collide (Out u) s = false
 abbrev pub conflict : Piece → Piece → Bool
 conflict p q = list_any (λ s. list_any (collide s) q.body) p.body
 
--- of pieces by number: one that is not there accesses nothing
+-- of pieces by number: one that is not there accesses nothing. Pieces of views are in no conflict
 abbrev pub are_in_conflict : Workload → PieceId → PieceId → Bool
-are_in_conflict program one other = conflict (piece_of program one) (piece_of program other)
+are_in_conflict program one other =
+    not (is_view_in program one.proc) && (not (is_view_in program other.proc) && conflict (piece_of program one) (piece_of program other))

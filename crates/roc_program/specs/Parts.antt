@@ -35,7 +35,14 @@ abbrev pub piece : Piece → pure.Piece
 piece p = record { name = string_bytes p.name; is_now = p.is_now; place = expression p.place; body = map statement p.body.items }
 
 abbrev pub procedure : Procedure → pure.Procedure
-procedure p = record { name = string_bytes p.name; arguments = p.arguments; names = p.names; pieces = map piece p.pieces.items }
+procedure p = record {
+  name = string_bytes p.name;
+  is_view = p.is_view;
+  arguments = p.arguments;
+  names = p.names;
+  labels = map string_bytes p.labels.items;
+  pieces = map piece p.pieces.items;
+}
 
 abbrev pub table : Table → pure.Table
 table t = record { name = string_bytes t.name; arity = t.arity; columns = map string_bytes t.columns.items }

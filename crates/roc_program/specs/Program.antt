@@ -28,9 +28,13 @@ pub record Piece : Type 0 where
 
 pub record Procedure : Type 0 where
   pub name : List ℕ
+  -- it only reads
+  pub is_view : Bool
   pub arguments : ℕ
   -- how many names it has: its arguments and its `get`s
   pub names : ℕ
+  -- what these are called, by number
+  pub labels : List (List ℕ)
   pub pieces : List Piece
 
 -- a table, and how many integers its ids have

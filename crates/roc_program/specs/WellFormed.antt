@@ -1,5 +1,5 @@
 -- What holds of each program that a workload text in grammar and scope gives: docs/LANGUAGE.md, "Limits" and "Scope"
-use Rattle.std.specs.Prelude.{◌≡◌, ℕ, ◌+◌, ◌<◌, ◌≤◌, IsTrue, List, [], ◌∷◌, ◌++◌, length, FitsSigned, if◌then◌else◌}
+use Rattle.std.specs.Prelude.{◌≡◌, ℕ, ◌+◌, ◌<◌, ◌≤◌, true, false, IsTrue, List, [], ◌∷◌, ◌++◌, length, FitsSigned, if◌then◌else◌}
 use Rattle.std.specs.List.{AllByRecursion, range_with_len}
 use Rattle.std.specs.Int.{w64}
 use Rattle.roc_lang.specs.Grammar.{standard}
@@ -57,14 +57,27 @@ abbrev pub ArePieces : List Table → (known : List ℕ) → List Piece → Type
 ArePieces tables known [] = Unit {0}
 ArePieces tables known (piece ∷ rest) = IsPiece tables known piece × ArePieces tables (known_behind known piece) rest
 
+-- it writes nothing
+abbrev pub IsRead : Statement → Type 0
+IsRead (Get number from) = Unit {0}
+IsRead (Set to value) = ⊥
+IsRead (Out value) = Unit {0}
+
+-- it hands on no value, and writes nothing
+pub record ReadsOnly (piece : Piece) : Type 0 where
+  pub later : piece.is_now ≡ false
+  pub body : AllByRecursion IsRead piece.body
+
 -- the arguments have the first numbers, and the `get`s those behind them in program order; the arguments are known to the first piece
 pub record IsProcedure (tables : List Table) (procedure : Procedure) : Type 0 where
   pub arguments : procedure.arguments ≤ standard.arguments
   pub names : procedure.names ≡ procedure.arguments + length (bindings procedure.pieces)
   pub numbers : bindings procedure.pieces ≡ range_with_len procedure.arguments (length (bindings procedure.pieces))
+  pub labels : length procedure.labels ≡ procedure.names
   pub some_piece : 0 < length procedure.pieces
   pub few_pieces : length procedure.pieces ≤ standard.pieces
   pub pieces : ArePieces tables (range_with_len 0 procedure.arguments) procedure.pieces
+  pub viewed : procedure.is_view ≡ true → AllByRecursion ReadsOnly procedure.pieces
 
 pub record IsInit (tables : List Table) (init : Init) : Type 0 where
   pub column : IsColumn tables init.table (length init.id) init.column

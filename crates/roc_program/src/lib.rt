@@ -7,7 +7,8 @@
 //!
 //! The layers above may rely on this: [`Expression::value`] is the value of `specs/Values.antt`, where `+ - *` wrap
 //! modulo 2^64; [`Expression::is_same`] tells exactly whether two expressions are one tree; pieces have the numbers of
-//! `specs/Pieces.antt`; and [`conflict`] is exactly the static conflict of `specs/Conflict.antt`. `specs/Names.antt`
+//! `specs/Pieces.antt`; and [`conflict`] is exactly the static conflict of `specs/Conflict.antt`, in which pieces of
+//! views are never: a procedure is a view ([`is_view`]) if its text says so, and then it only reads. `specs/Names.antt`
 //! has what a piece uses and binds.
 #![tactic(auto)]
 
@@ -21,6 +22,6 @@ mod workload;
 
 pub use parts::{Access, Expression, Init, Piece, Procedure, Statement, Table};
 pub use piece_id::PieceId;
-pub use pieces::{all_pieces, is_declared_now, piece_count, procedure_count};
+pub use pieces::{all_pieces, is_declared_now, is_view, piece_count, procedure_count};
 pub use static_conflict::conflict;
 pub use workload::Workload;

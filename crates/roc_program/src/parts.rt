@@ -53,10 +53,14 @@ pub struct Piece {
 #[derive(Drop)]
 pub struct Procedure {
     pub name: String,
+    /// Whether it is a view, which only reads.
+    pub is_view: bool,
     /// How many arguments it takes.
     pub arguments: u16,
     /// How many names it has: its arguments and what its `get`s bind.
     pub names: u16,
+    /// What these names are called, by number.
+    pub labels: Vec<String>,
     pub pieces: Vec<Piece>,
 }
 

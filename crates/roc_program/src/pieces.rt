@@ -1,6 +1,7 @@
 //! The pieces of a workload, by number.
 ghost use Rattle.std.specs.Prelude.{◌≡◌, ◌++◌, ◌<◌, length, map, IfOk, OnOk};
 ghost use Rattle.std.specs.List.{range_with_len};
+ghost use Rattle.roc_program.specs.LookUps.{is_view_in};
 ghost use Rattle.roc_program.specs.Parts as view;
 ghost use Rattle.roc_program.specs.Pieces.{piece_of, pieces_in, all_pieces};
 ghost use Rattle.roc_program.specs.declared.piece_id.PieceId.{PieceId};
@@ -43,6 +44,16 @@ fn push_pieces(ids: &mut Vec<PieceId>, proc: u16, count: u16) -> Result<(), Allo
         ids.push(PieceId { proc, piece })?;
     }
     Ok(())
+}
+
+/// Whether a procedure is a view; one that is not there is none. Takes no memory.
+pub fn is_view(workload: &Workload, proc: u16) -> bool
+    ensures { result ≡ is_view_in workload.now proc }
+{
+    match workload.procedures().get(usize::from(proc)) {
+        Some(procedure) => procedure.is_view,
+        None => false,
+    }
 }
 
 /// Whether a piece was declared `now`; one that is not there was not.

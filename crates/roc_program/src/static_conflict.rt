@@ -3,8 +3,9 @@ ghost use Rattle.std.specs.Prelude.{◌≡◌};
 ghost use Rattle.std.specs.List.{list_any};
 ghost use Rattle.roc_program.specs.Conflict as spec;
 ghost use Rattle.roc_program.specs.Parts as view;
+ghost use Rattle.roc_program.specs.Pieces.{piece_of};
 
-use crate::pieces::body_of;
+use crate::pieces::{body_of, is_view};
 use crate::{Access, PieceId, Statement, Workload};
 
 fn is_same_column(one: &Access, other: &Access) -> bool
@@ -37,11 +38,20 @@ fn collide_somewhere(some: &[Statement], others: &[Statement]) -> bool
     some.iter().any(|one| collides_with_any(one, others))
 }
 
+// Whether the statements of two pieces are in conflict.
+fn have_conflict(workload: &Workload, one: PieceId, other: PieceId) -> bool
+    ensures { result ≡ spec.conflict (piece_of workload.now one) (piece_of workload.now other) }
+{
+    collide_somewhere(body_of(workload, one), body_of(workload, other))
+}
+
 /// Whether two pieces conflict: both access the same table and column and at least one writes it, whatever the places and
 /// ids. A piece that writes conflicts with itself, in another instance of its procedure. A piece that is not there conflicts
-/// with none.
+/// with none, and neither does a piece of a view.
 pub fn conflict(workload: &Workload, one: PieceId, other: PieceId) -> bool
     ensures { result ≡ spec.are_in_conflict workload.now one other }
 {
-    collide_somewhere(body_of(workload, one), body_of(workload, other))
+    !is_view(workload, one.proc)
+        && !is_view(workload, other.proc)
+        && have_conflict(workload, one, other)
 }
