@@ -5,3 +5,4 @@ pub mod Least
 pub mod Marking
 pub mod Promoting
 pub mod Rows
+pub mod Views

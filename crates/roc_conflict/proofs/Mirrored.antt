@@ -1,9 +1,10 @@
 -- Conflict is symmetric
-use Rattle.std.proofs.Common.{◌≡◌, Bool, false, ◌||◌, List, [], ◌∷◌, refl, ◌∙◌, ap, arith}
+use Rattle.std.proofs.Common.{◌≡◌, Bool, false, not, ◌&&◌, ◌||◌, List, [], ◌∷◌, refl, ◌∙◌, ap, arith}
 use Rattle.std.proofs.lemmas.Bool.Decides.{nat_tests}
 use Rattle.std.specs.List.{list_any}
 use Rattle.roc_program.specs.Program.{Access, Statement, Get, Set, Out, Workload}
-use Rattle.roc_program.specs.Conflict.{is_same_column, collide, are_in_conflict}
+use Rattle.roc_program.specs.Conflict.{is_same_column, collide, conflict, are_in_conflict}
+use Rattle.roc_program.specs.LookUps.{is_view_in}
 use Rattle.roc_program.specs.Pieces.{piece_of}
 use Rattle.roc_program.specs.declared.piece_id.PieceId.{PieceId}
 
@@ -46,4 +47,9 @@ bodies_mirrored xs (y ∷ ys) =
     one_more y ys xs ∙ ap (λ b. b || list_any (λ x. list_any (collide x) ys) xs) (any_mirrored y xs) ∙ ap (λ b. list_any (collide y) xs || b) (bodies_mirrored xs ys)
 
 pub conflict_mirrored : (program : Workload) (one other : PieceId) → are_in_conflict program one other ≡ are_in_conflict program other one
-conflict_mirrored program one other = bodies_mirrored (piece_of program one).body (piece_of program other).body
+conflict_mirrored program one other =
+    swapped (not (is_view_in program one.proc)) (not (is_view_in program other.proc)) (conflict (piece_of program one) (piece_of program other)) (conflict (piece_of program other) (piece_of program one))
+    (bodies_mirrored (piece_of program one).body (piece_of program other).body)
+  where
+    swapped : (a b c d : Bool) → c ≡ d → a && (b && c) ≡ b && (a && d)
+    swapped a b c d e = grind (arith, nat_tests)

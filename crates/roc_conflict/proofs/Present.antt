@@ -10,6 +10,7 @@ use Rattle.roc_program.specs.Pieces.{piece_of}
 use Rattle.roc_program.specs.declared.piece_id.PieceId.{PieceId}
 use Rattle.roc_program.specs.Pieces.{pieces_in, HasPiece, piece_ids, all_pieces}
 use Rattle.roc_conflict.specs.Inner.Found.{is_piece, has_id}
+use Rattle.roc_program.proofs.Conflicts.{in_conflict_parts}
 use Rattle.roc_program.proofs.Ranges.{any_in_map, any_in_flat_map}
 use Rattle.roc_conflict.proofs.Members.{is_piece-same, any_from_among}
 
@@ -36,7 +37,7 @@ pub present_from_conflict : (program : Workload) (one other : PieceId) → are_i
 present_from_conflict program one other h =
     elim (present_or_none program other) [
       | inl there ↦ there
-      | inr e ↦ absurd (false≢true (sym (no_conflict (piece_of program one).body) ∙ ap (conflict (piece_of program one)) (sym e) ∙ h))
+      | inr e ↦ absurd (false≢true (sym (no_conflict (piece_of program one).body) ∙ ap (conflict (piece_of program one)) (sym e) ∙ (in_conflict_parts program one other h).meet))
     ]
 
 -- all pieces that the program has are among its pieces

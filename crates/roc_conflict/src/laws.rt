@@ -1,8 +1,10 @@
 //! Laws of conflicts and immediate pieces. Each is the contract of a function that does nothing.
-ghost use Rattle.std.specs.Prelude.{◌≡◌, ◌↔◌, Bool, IsTrue};
+ghost use Rattle.std.specs.Prelude.{◌≡◌, ◌↔◌, Bool, false, IsTrue};
 ghost use Rattle.roc_program.specs.Conflict.{are_in_conflict};
+ghost use Rattle.roc_program.specs.LookUps.{is_view_in};
 ghost use Rattle.roc_program.specs.Pieces.{piece_of};
 ghost use Rattle.roc_program.specs.Program.{Workload};
+ghost use Rattle.roc_program.specs.WellFormed.{IsProgram};
 ghost use Rattle.roc_program.specs.declared.piece_id.PieceId.{PieceId};
 ghost use Rattle.roc_conflict.specs.Contended.{has_conflict};
 ghost use Rattle.roc_conflict.specs.Immediate.{IsImmediate};
@@ -33,4 +35,12 @@ pub fn conflicts_join_equals()
 /// A piece has a conflict exactly where there is a piece that it conflicts with.
 pub fn conflicts_are_with_pieces()
     ensures { (program : Workload) (id : PieceId) → IsTrue (has_conflict program id) ↔ ((other : PieceId) × IsTrue (are_in_conflict program id other)) }
+{}
+
+/// A piece of a view is in conflict with no piece, itself included, and so it is not contended; and in a well-formed program
+/// it is not immediate.
+pub fn views_meet_nobody()
+    ensures meet { (program : Workload) (one other : PieceId) → IsTrue (is_view_in program one.proc) → are_in_conflict program one other ≡ false }
+    ensures alone { (program : Workload) (id : PieceId) → IsTrue (is_view_in program id.proc) → has_conflict program id ≡ false }
+    ensures deferrable { (program : Workload) (id : PieceId) → IsProgram program → IsTrue (is_view_in program id.proc) → ¬ IsImmediate program id }
 {}

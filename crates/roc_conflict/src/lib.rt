@@ -6,8 +6,8 @@
 //! whether a piece is immediate; a piece that is not there is not. The layers above may rely on this: [`promote`] finds
 //! exactly that set; [`is_least`] tells exactly whether classes are it; [`contended`] holds exactly if a piece is
 //! immediate and conflicts with a piece of the program, itself included (`specs/Contended.antt`). The last two take no
-//! memory. By [`laws`] the set is the least one closed under conflict, conflict is symmetric, and each conflict joins
-//! two immediate pieces or two deferrable ones.
+//! memory. By [`laws`] the set is the least one closed under conflict, conflict is symmetric, each conflict joins
+//! two immediate pieces or two deferrable ones, and pieces of views meet nobody.
 #![tactic(auto)]
 
 mod classes;

@@ -6,3 +6,5 @@ pub mod Ranges
 pub mod Keyed
 pub mod Counted
 pub mod PieceIds
+pub mod Conflicts
+pub mod Views
