@@ -5,7 +5,7 @@ use lib.Chars.{codes}
 use Rattle.roc_lang.specs.Syntax.{Name, Expression, Access, Statement, Get, Set, Out}
 use Rattle.roc_lang.specs.Tokens.{Kind, Word, Integer, Mark, Token}
 use Rattle.roc_lang.specs.Grammar as grammar
-use Rattle.roc_lang.specs.Grammar.{Limits, last, IsIdEnd, IsToken, IsMark, IsName, IsInteger, IsSigned, plain, negated, IsExpression, IsAccess, access, IsStatement, open_bracket, close_bracket, comma, semicolon, dot, equals, minus, plus, star}
+use Rattle.roc_lang.specs.Grammar.{Limits, last, IsWordAt, IsIdEnd, IsToken, IsMark, IsName, IsInteger, IsSigned, plain, negated, IsExpression, IsAccess, access, IsStatement, open_bracket, close_bracket, comma, semicolon, dot, equals, minus, plus, star}
 use Rattle.roc_lang_parse.specs.Stuck.{head_is}
 use Rattle.roc_lang_parse.specs.Parts.{has_word, has_mark, integer_at, negated_at, mark_at, signed_at}
 use Rattle.roc_lang_parse.specs.Reading.{Deep, deep_at, expression_at, id_at, access_at, get_at, set_at, out_at, statement_at, starts_statement, row_at}
@@ -14,7 +14,7 @@ use Rattle.roc_lang_parse.proofs.Choices.{Mapped, exact_mapped, Either, Chooses,
 use Rattle.roc_lang_parse.proofs.Several.{other_than, unended, Repeats, freely}
 use Rattle.roc_lang_parse.proofs.Separated.{Few, exact_few, separable, few_end, no_comma_or, separable_apart, few_end_apart}
 use Rattle.roc_lang_parse.proofs.Wider.{Deeper, fewer, higher, Further}
-use Rattle.roc_lang_parse.proofs.Terminals.{token_made, Tokens, exact_id_end, exact_word, exact_mark, exact_name, word_kind, token_begins, Plain, exact_plain, Negated, exact_negated}
+use Rattle.roc_lang_parse.proofs.Terminals.{token_made, Tokens, exact_id_end, exact_word, exact_word_at, word_token, exact_mark, exact_name, word_kind, token_begins, Plain, exact_plain, Negated, exact_negated}
 use Rattle.roc_lang_parse.proofs.Depths.{bounded_sum, deep_sum}
 use Rattle.roc_lang_parse.proofs.Atoms.{Sums, is_operator, sum_stop, stops_at}
 use Rattle.roc_lang_parse.proofs.Atom.{a, mark, a_mark, named}
@@ -149,11 +149,15 @@ exact_access l l' f =
 
 -- ---- statements
 
+-- a word where its token stands
+pub word_at_token : (t : Token) (word : List ℕ) (us : List Token) → t.kind ≡ Word word → IsWordAt word (t ∷ us) us t.line
+word_at_token t word us e = record { is = ap (λ z. let u : Token = record { kind = z; line = t.line } in u ∷ us) e }
+
 abbrev Gets : Limits → Rule Statement
 Gets l = Then (Tokens (Word (codes "get"))) (λ w. Then IsName (λ n. Then (Tokens (Mark equals)) (λ e. Then (IsAccess l) (λ f. Mapped (λ s. Get n f) (Tokens (Mark semicolon))))))
 
 abbrev Sets : Limits → Rule Statement
-Sets l = Then (Tokens (Word (codes "set"))) (λ w. Then (IsAccess l) (λ t. Then (Tokens (Mark equals)) (λ e. Then (IsExpression l.depth) (λ v. Mapped (λ s. Set t v) (Tokens (Mark semicolon))))))
+Sets l = Then (IsWordAt (codes "set")) (λ w. Then (IsAccess l) (λ t. Then (Tokens (Mark equals)) (λ e. Then (IsExpression l.depth) (λ v. Mapped (λ s. Set w t v) (Tokens (Mark semicolon))))))
 
 abbrev Outs : Limits → Rule Statement
 Outs l = Then (Tokens (Word (codes "out"))) (λ w. Then (IsExpression l.depth) (λ v. Mapped (λ s. Out v) (Tokens (Mark semicolon))))
@@ -175,8 +179,8 @@ statement_to l ts us x (inr (inr t)) = subst (λ z. IsStatement l ts us z) (sym 
 statement_from : (l : Limits) (ts us : List Token) (x : Statement) → IsStatement l ts us x → Statements l ts us x
 statement_from l ts us x (grammar.get {b = b} {c = c} {d = d} {e = e} {name = name} {from = from} w n q f s) =
     inl (record { first = tt; between = b; left = w; right = record { first = name; between = c; left = n; right = record { first = tt; between = d; left = q; right = record { first = from; between = e; left = f; right = record { from = tt; is = s; value = refl } } } } })
-statement_from l ts us x (grammar.set {b = b} {c = c} {d = d} {e = e} {to = to} {value = value} w t q v s) =
-    inr (inl (record { first = tt; between = b; left = w; right = record { first = to; between = c; left = t; right = record { first = tt; between = d; left = q; right = record { first = value; between = e; left = v; right = record { from = tt; is = s; value = refl } } } } }))
+statement_from l ts us x (grammar.set {b = b} {c = c} {d = d} {e = e} {line = line} {to = to} {value = value} w t q v s) =
+    inr (inl (record { first = line; between = b; left = w; right = record { first = to; between = c; left = t; right = record { first = tt; between = d; left = q; right = record { first = value; between = e; left = v; right = record { from = tt; is = s; value = refl } } } } }))
 statement_from l ts us x (grammar.out {b = b} {c = c} {value = value} w v s) =
     inr (inr (record { first = tt; between = b; left = w; right = record { first = value; between = c; left = v; right = record { from = tt; is = s; value = refl } } }))
 
@@ -186,15 +190,15 @@ exact_get l l' f = exact_next (exact_word (codes "get")) (λ w. exact_next exact
 
 exact_set : (l l' : Limits) → Further l l' → Exact (Sets l) (Sets l') any (set_at l) (set_at l')
 unfolding set_at
-exact_set l l' f = exact_next (exact_word (codes "set")) (λ w. exact_next (exact_access l l' f) (λ t. exact_next (exact_mark equals) (λ e.
-    exact_then (exact_expression l.depth l'.depth f.depth) (λ v. exact_mapped (λ s. Set t v) (exact_mark semicolon)) (expression_ends l.depth l'.depth f.depth) (last_follows semicolon refl (λ v s. Set t v)))))
+exact_set l l' f = exact_next (exact_word_at (codes "set")) (λ w. exact_next (exact_access l l' f) (λ t. exact_next (exact_mark equals) (λ e.
+    exact_then (exact_expression l.depth l'.depth f.depth) (λ v. exact_mapped (λ s. Set w t v) (exact_mark semicolon)) (expression_ends l.depth l'.depth f.depth) (last_follows semicolon refl (λ v s. Set w t v)))))
 
 exact_out : (l l' : Limits) → Further l l' → Exact (Outs l) (Outs l') any (out_at l) (out_at l')
 unfolding out_at
 exact_out l l' f = exact_next (exact_word (codes "out")) (λ w. exact_then (exact_expression l.depth l'.depth f.depth) (λ v. exact_mapped (λ s. Out v) (exact_mark semicolon)) (expression_ends l.depth l'.depth f.depth) (last_follows semicolon refl (λ v s. Out v)))
 
 others_begin : (l : Limits) (ts us : List Token) (x : Statement) → Either (Sets l) (Outs l) ts us x → head_is (has_word (codes "get")) ts ≡ false
-others_begin l ts us x (inl t) = token_begins (has_word (codes "get")) (Word (codes "set")) false ts t.between t.left refl
+others_begin l ts us x (inl t) = token_begins (has_word (codes "get")) (Word (codes "set")) false ts t.between (word_token t.left) refl
 others_begin l ts us x (inr t) = token_begins (has_word (codes "get")) (Word (codes "out")) false ts t.between t.left refl
 
 pub exact_statement : (l l' : Limits) → Further l l' → Exact (IsStatement l) (IsStatement l') any (statement_at l) (statement_at l')
@@ -203,7 +207,7 @@ exact_statement l l' f =
     let sets : Chooses (has_word (codes "set")) true true (Sets l) (Sets l') (Outs l) (Outs l') any (set_at l) (set_at l') (out_at l) (out_at l') = record {
       first = λ m. exact_set l l' f;
       second = exact_out l l' f;
-      starts = λ ts us x t. token_begins (has_word (codes "set")) (Word (codes "set")) true ts t.between t.left refl;
+      starts = λ ts us x t. token_begins (has_word (codes "set")) (Word (codes "set")) true ts t.between (word_token t.left) refl;
       other = λ ts us x t end. token_begins (has_word (codes "set")) (Word (codes "out")) false ts t.between t.left refl;
       may = λ ts us x t. refl;
       may_any = refl;
@@ -226,7 +230,7 @@ exact_statement l l' f =
 
 statement_starts : (l : Limits) (ts us : List Token) (x : Statement) → IsStatement l ts us x → head_is starts_statement ts ≡ true
 statement_starts l ts us x (grammar.get {b = b} w n q f s) = token_begins starts_statement (Word (codes "get")) true ts b w refl
-statement_starts l ts us x (grammar.set {b = b} w t q v s) = token_begins starts_statement (Word (codes "set")) true ts b w refl
+statement_starts l ts us x (grammar.set {b = b} w t q v s) = token_begins starts_statement (Word (codes "set")) true ts b (word_token w) refl
 statement_starts l ts us x (grammar.out {b = b} w v s) = token_begins starts_statement (Word (codes "out")) true ts b w refl
 
 pub one_expression : (k : ℕ) → 1 ≤ k → (us : List Token) → IsExpression k (a us) us named.0
@@ -255,7 +259,7 @@ which_start k e = go (has_word (codes "get") k) (has_word (codes "set") k) (has_
 
 statement_front : (l : Limits) → 1 ≤ l.depth → 1 ≤ l.ids → (t : Token) → Starts t.kind → Front (IsStatement l) any (t ∷ [])
 statement_front l h i t (is_get e) = record { more = a (mark equals (a (mark open_bracket (a (mark close_bracket (mark dot (a (mark semicolon [])))))))); value = _; is = λ rest end. grammar.get (token_made t (Word (codes "get")) _ e) (one_name _) (a_mark equals _) (one_access l h i _) (a_mark semicolon rest) }
-statement_front l h i t (is_set e) = record { more = a (mark open_bracket (a (mark close_bracket (mark dot (a (mark equals (a (mark semicolon [])))))))); value = _; is = λ rest end. grammar.set (token_made t (Word (codes "set")) _ e) (one_access l h i _) (a_mark equals _) (one_expression l.depth h _) (a_mark semicolon rest) }
+statement_front l h i t (is_set e) = record { more = a (mark open_bracket (a (mark close_bracket (mark dot (a (mark equals (a (mark semicolon [])))))))); value = _; is = λ rest end. grammar.set (word_at_token t (codes "set") _ e) (one_access l h i _) (a_mark equals _) (one_expression l.depth h _) (a_mark semicolon rest) }
 statement_front l h i t (is_out e) = record { more = a (mark semicolon []); value = _; is = λ rest end. grammar.out (token_made t (Word (codes "out")) _ e) (one_expression l.depth h _) (a_mark semicolon rest) }
 
 pub statements_repeat : (l l' : Limits) → Further l l' → Repeats (IsStatement l) (IsStatement l') starts_statement any (other_than starts_statement) (statement_at l) (statement_at l')

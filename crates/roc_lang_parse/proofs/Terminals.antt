@@ -8,9 +8,9 @@ use Rattle.std.proofs.lemmas.Option.{none-some, same_Some as some_is}
 use lib.Chars.{codes}
 use Rattle.roc_lang.specs.Syntax.{Name}
 use Rattle.roc_lang.specs.Tokens.{Kind, Word, Integer, Mark, Token}
-use Rattle.roc_lang.specs.Grammar.{IsToken, IsMark, IsName, IsInteger, IsIdEnd, close_bracket, is_reserved, class_word, plus, minus}
+use Rattle.roc_lang.specs.Grammar.{IsToken, IsMark, IsName, IsInteger, IsWordAt, IsIdEnd, close_bracket, is_reserved, class_word, plus, minus}
 use Rattle.roc_lang_parse.specs.Stuck.{head_is}
-use Rattle.roc_lang_parse.specs.Parts.{first_at, has_word, has_mark, passes, word_at, mark_at, mark_line_at, free_word, name_of, name_at, small_integer, negated, negated_at, piece_class, class_at, sign_of, sign_at}
+use Rattle.roc_lang_parse.specs.Parts.{first_at, has_word, has_mark, passes, word_at, word_line_at, mark_at, mark_line_at, free_word, name_of, name_at, small_integer, negated, negated_at, piece_class, class_at, sign_of, sign_at}
 use Rattle.roc_lang_parse.proofs.Exact.{Rule, any, Exact}
 use Rattle.roc_lang_parse.proofs.Choices.{First, exact_first, exact_same}
 
@@ -61,6 +61,26 @@ exact_mark mark =
     same_first (λ t. passes (has_mark mark t.kind)) (Tokens (Mark mark)) (record { kind = Mark mark; line = 1 }) tt (ap passes (kind_mark mark))
     (λ t us x e. token_made t (Mark mark) us (mark_kind mark t.kind (passed (has_mark mark t.kind) x e)))
     (λ ts us x i. record { token = record { kind = Mark mark; line = i.line }; is = i.is; takes = ap passes (kind_mark mark) })
+
+-- a word with its line
+abbrev line_where : Bool → ℕ → Option ℕ
+line_where b line = cond {A = Option ℕ} b (Some line) None
+
+word_at_made : (word : List ℕ) (t : Token) (us : List Token) (l : ℕ) → line_where (has_word word t.kind) t.line ≡ Some l → IsWordAt word (t ∷ us) us l
+word_at_made word t us l e = go (has_word word t.kind) refl e
+  where
+    go : (b : Bool) → has_word word t.kind ≡ b → line_where b t.line ≡ Some l → IsWordAt word (t ∷ us) us l
+    go true h i = subst (λ z. IsWordAt word (t ∷ us) us z) (some_is t.line l i) (record { is = ap (λ z. let u : Token = record { kind = z; line = t.line } in u ∷ us) (word_kind word t.kind h) })
+    go false h i = absurd (none-some l i)
+
+pub exact_word_at : (word : List ℕ) → Exact (IsWordAt word) (IsWordAt word) any (word_line_at word) (word_line_at word)
+exact_word_at word =
+    same_first (λ t. line_where (has_word word t.kind) t.line) (IsWordAt word) (record { kind = Word word; line = 1 }) 1 (ap (λ b. line_where b 1) (kind_word word)) (word_at_made word)
+    (λ ts us l i. record { token = record { kind = Word word; line = l }; is = i.is; takes = ap (λ b. line_where b l) (kind_word word) })
+
+-- a token of a word, whatever its line
+pub word_token : {word : List ℕ} {ts us : List Token} {line : ℕ} → IsWordAt word ts us line → IsToken (Word word) ts us
+word_token {line = line} i = record { line = line; is = i.is }
 
 -- the bracket behind an id, with its line
 line_kind : (kind : Kind) (line l : ℕ) → cond {A = Option ℕ} (has_mark close_bracket kind) (Some line) None ≡ Some l → (kind ≡ Mark close_bracket) × (line ≡ l)
@@ -177,8 +197,9 @@ exact_negated = same_first (λ t. negated t.kind) Negated one (neg_ℤ (pos 1)) 
 
 -- ---- now and later, + and -
 
-abbrev pub Classes : Rule Bool
-Classes ts us b = IsToken (Word (class_word b)) ts us
+-- a class with its line
+abbrev pub Classes : Rule (Bool × ℕ)
+Classes ts us c = IsWordAt (class_word c.0) ts us c.1
 
 class_parts : (kind : Kind) (b : Bool) → piece_class kind ≡ Some b → kind ≡ Word (class_word b)
 class_parts kind b e = go (has_word (codes "now") kind) (has_word (codes "later") kind) refl refl e
@@ -192,10 +213,13 @@ class_taken : (b : Bool) → piece_class (Word (class_word b)) ≡ Some b
 class_taken true = refl
 class_taken false = refl
 
+class_made : (t : Token) (us : List Token) (c : Bool × ℕ) → option_map (λ b. (b, t.line)) (piece_class t.kind) ≡ Some c → Classes (t ∷ us) us c
+class_made t us c e = map_parts (λ b. (b, t.line)) (piece_class t.kind) c e (λ b is same.
+    subst (λ z. Classes (t ∷ us) us z) (sym same) (record { is = ap (λ z. let u : Token = record { kind = z; line = t.line } in u ∷ us) (class_parts t.kind b is) }))
+
 pub exact_class : Exact Classes Classes any class_at class_at
-exact_class = same_first (λ t. piece_class t.kind) Classes (record { kind = Word (codes "now"); line = 1 }) true refl
-    (λ t us b e. token_made t (Word (class_word b)) us (class_parts t.kind b e))
-    (λ ts us b i. record { token = record { kind = Word (class_word b); line = i.line }; is = i.is; takes = class_taken b })
+exact_class = same_first (λ t. option_map (λ b. (b, t.line)) (piece_class t.kind)) Classes (record { kind = Word (codes "now"); line = 1 }) (true, 1) refl class_made
+    (λ ts us c i. record { token = record { kind = Word (class_word c.0); line = c.1 }; is = i.is; takes = ap (option_map (λ b. (b, c.1))) (class_taken c.0) })
 
 abbrev pub sign_mark : Bool → ℕ
 sign_mark b = cond b plus minus

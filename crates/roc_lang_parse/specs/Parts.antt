@@ -41,6 +41,10 @@ word_at word = first_at (λ t. passes (has_word word t.kind))
 abbrev pub mark_at : ℕ → List Token → Reading (Unit {0})
 mark_at mark = first_at (λ t. passes (has_mark mark t.kind))
 
+-- the line of a word
+abbrev pub word_line_at : List ℕ → List Token → Reading ℕ
+word_line_at word = first_at (λ t. if has_word word t.kind then Some t.line else None)
+
 -- the line of a mark
 abbrev pub mark_line_at : ℕ → List Token → Reading ℕ
 mark_line_at mark = first_at (λ t. if has_mark mark t.kind then Some t.line else None)
@@ -94,8 +98,9 @@ shards_at = first_at (λ t. option_map (λ n. (n, t.line)) (small_integer t.kind
 abbrev pub piece_class : Kind → Option Bool
 piece_class kind = if has_word (codes "now") kind then Some true else if has_word (codes "later") kind then Some false else None
 
-abbrev pub class_at : List Token → Reading Bool
-class_at = first_at (λ t. piece_class t.kind)
+-- the class of a piece and its line
+abbrev pub class_at : List Token → Reading (Bool × ℕ)
+class_at = first_at (λ t. option_map (λ is_now. (is_now, t.line)) (piece_class t.kind))
 
 -- + is true, - is false
 abbrev pub sign_of : Kind → Option Bool

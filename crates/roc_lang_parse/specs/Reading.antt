@@ -5,7 +5,7 @@ use Rattle.roc_lang.specs.Tokens.{Kind, Token}
 use Rattle.roc_lang.specs.Syntax.{Name, Expression, Number, Variable, Sum, Difference, Product, Minimum, Maximum, Less, Pick, Access, Statement, Get, Set, Out, Piece, Procedure, Table, Init, Tree}
 use Rattle.roc_lang.specs.Grammar.{Limits, open_brace, close_brace, open_parenthesis, close_parenthesis, open_bracket, close_bracket, comma, semicolon, dot, equals, plus, minus, star}
 use Rattle.roc_lang_parse.specs.Stuck.{Stuck, Reading, ◌>>=◌, refuse, exceed, head_is}
-use Rattle.roc_lang_parse.specs.Parts.{has_word, has_mark, has_integer, word_at, mark_at, mark_line_at, name_at, integer_at, bounded_at, signed_at, shards_at, class_at, sign_at, many_at}
+use Rattle.roc_lang_parse.specs.Parts.{has_word, has_mark, has_integer, word_at, word_line_at, mark_at, mark_line_at, name_at, integer_at, bounded_at, signed_at, shards_at, class_at, sign_at, many_at}
 use Rattle.roc_lang_parse.specs.Parts.{with_front, some_at, behind_comma_at, separated_at}
 
 -- ---- expressions: each with its depth, which is at most the room
@@ -177,12 +177,12 @@ get_at limits ts = do
 
 unfoldable pub set_at : Limits → List Token → Reading Statement
 set_at limits ts = do
-  a ← word_at (codes "set") ts
-  to ← access_at limits a.1
+  line ← word_line_at (codes "set") ts
+  to ← access_at limits line.1
   b ← mark_at equals to.1
   value ← expression_at limits.depth b.1
   c ← mark_at semicolon value.1
-  Ok (Set to.0 value.0, c.1)
+  Ok (Set line.0 to.0 value.0, c.1)
 
 unfoldable pub out_at : Limits → List Token → Reading Statement
 out_at limits ts = do
@@ -205,14 +205,14 @@ body_at limits = many_at starts_statement (statement_at limits) limits.statement
 
 -- ---- procedures
 
--- the class, the name and the place of a piece
-unfoldable pub head_at : (depth : ℕ) → List Token → Reading (Bool × Name × Expression)
+-- the class with its line, the name and the place of a piece
+unfoldable pub head_at : (depth : ℕ) → List Token → Reading ((Bool × ℕ) × Name × Expression)
 head_at depth ts = do
-  is_now ← class_at ts
-  name ← name_at is_now.1
+  class ← class_at ts
+  name ← name_at class.1
   a ← word_at (codes "at") name.1
   place ← expression_at depth a.1
-  Ok ((is_now.0, name.0, place.0), place.1)
+  Ok ((class.0, name.0, place.0), place.1)
 
 unfoldable pub piece_at : Limits → List Token → Reading Piece
 piece_at limits ts = do
@@ -220,7 +220,7 @@ piece_at limits ts = do
   a ← mark_at open_brace head.1
   body ← body_at limits a.1
   b ← mark_at close_brace body.1
-  Ok (record { is_now = head.0.0; name = head.0.1; place = head.0.2; body = body.0 }, b.1)
+  Ok (record { is_now = head.0.0.0; class_line = head.0.0.1; name = head.0.1; place = head.0.2; body = body.0 }, b.1)
 
 abbrev pub starts_piece : Kind → Bool
 starts_piece kind = has_word (codes "now") kind || has_word (codes "later") kind
@@ -248,15 +248,26 @@ arguments_at more ts = do
   a ← mark_at open_parenthesis ts
   names_or_none_at more a.1
 
+-- the word view and the brace that opens the pieces
+unfoldable pub viewed_at : List Token → Reading Bool
+viewed_at ts = do
+  a ← word_at (codes "view") ts
+  b ← mark_at open_brace a.1
+  Ok (true, b.1)
+
+-- the same, or the brace alone: whether the word stands there
+unfoldable pub opening_at : List Token → Reading Bool
+opening_at ts = if head_is (has_word (codes "view")) ts then viewed_at ts else (do a ← mark_at open_brace ts; Ok (false, a.1))
+
 unfoldable pub procedure_at : Limits → List Token → Reading Procedure
 procedure_at limits ts = do
   a ← word_at (codes "proc") ts
   name ← name_at a.1
   arguments ← arguments_at (limits.arguments - 1) name.1
-  b ← mark_at open_brace arguments.1
-  pieces ← some_pieces_at limits (limits.pieces - 1) b.1
-  c ← mark_at close_brace pieces.1
-  Ok (record { name = name.0; arguments = arguments.0; pieces = pieces.0 }, c.1)
+  is_view ← opening_at arguments.1
+  pieces ← some_pieces_at limits (limits.pieces - 1) is_view.1
+  b ← mark_at close_brace pieces.1
+  Ok (record { name = name.0; arguments = arguments.0; is_view = is_view.0; pieces = pieces.0 }, b.1)
 
 -- ---- texts
 

@@ -5,7 +5,7 @@ ghost use Rattle.roc_lang.specs.Grammar.{standard};
 ghost use Rattle.roc_lang.specs.Tree.{name_tree, expression_tree, piece_tree, procedure_tree};
 ghost use Rattle.roc_lang_parse.specs.Inner.Views.{ReadsAs, token_views};
 ghost use Rattle.roc_lang_parse.specs.Parts.{name_at, behind_comma_at, separated_behind, separated_at, some_at};
-ghost use Rattle.roc_lang_parse.specs.Reading.{names_closed_at, names_or_none_at, arguments_at, head_at, piece_at, pieces_behind, some_pieces_at, procedure_at, procedures_at};
+ghost use Rattle.roc_lang_parse.specs.Reading.{names_closed_at, names_or_none_at, arguments_at, head_at, piece_at, pieces_behind, some_pieces_at, opening_at, procedure_at, procedures_at};
 
 use crate::expression::expression_of;
 use crate::refusal::{Refusal, limit_fault, or_refuse};
@@ -103,21 +103,23 @@ fn arguments_of(alloc: Global, tokens: &[Token]) -> Result<(Vec<Name>, &[Token])
 #[derive(Drop)]
 struct Head {
     is_now: bool,
+    class_line: u32,
     name: Name,
     place: Expression,
 }
 
 #[tactic(auto, unfolding(crate::specs::Reading::head_at))]
 fn head_of(alloc: Global, tokens: &[Token]) -> Result<(Head, &[Token]), Refusal<'_>>
-    ensures { ReadsAs (λ x. ((x.0.is_now, name_tree x.0.name, expression_tree x.0.place), token_views x.1.now)) result (head_at standard.depth (token_views tokens.now)) }
+    ensures { ReadsAs (λ x. (((x.0.is_now, x.0.class_line), name_tree x.0.name, expression_tree x.0.place), token_views x.1.now)) result (head_at standard.depth (token_views tokens.now)) }
 {
-    let (is_now, rest) = or_refuse!(class_at(tokens));
+    let ((is_now, class_line), rest) = or_refuse!(class_at(tokens));
     let (name, rest) = or_refuse!(name_of(alloc, rest));
     let rest = or_refuse!(word(rest, "at"));
     let (place, rest) = or_refuse!(expression_of(alloc, rest));
     Ok((
         Head {
             is_now,
+            class_line,
             name,
             place,
         },
@@ -132,6 +134,7 @@ fn piece_of(alloc: Global, tokens: &[Token]) -> Result<(Piece, &[Token]), Refusa
     let (
         Head {
             is_now,
+            class_line,
             name,
             place,
         },
@@ -141,6 +144,7 @@ fn piece_of(alloc: Global, tokens: &[Token]) -> Result<(Piece, &[Token]), Refusa
     let (body, rest) = or_refuse!(body_of(alloc, rest));
     let piece = Piece {
         is_now,
+        class_line,
         name,
         place,
         body,
@@ -181,6 +185,18 @@ fn pieces_of(alloc: Global, tokens: &[Token]) -> Result<(Vec<Piece>, &[Token]), 
     pieces_behind(alloc, first, rest)
 }
 
+/// What opens the pieces, the word `view` and a brace or the brace alone: whether the word stands there.
+#[tactic(auto, unfolding(crate::specs::Reading::opening_at, crate::specs::Reading::viewed_at))]
+fn opening_of(tokens: &[Token]) -> Result<(bool, &[Token]), Refusal<'_>>
+    ensures { ReadsAs (λ x. (x.0, token_views x.1.now)) result (opening_at (token_views tokens.now)) }
+{
+    if begins_word(tokens, "view") {
+        let rest = or_refuse!(word(tokens, "view"));
+        return before_mark(true, rest, b'{');
+    }
+    before_mark(false, tokens, b'{')
+}
+
 #[tactic(auto, unfolding(crate::specs::Reading::procedure_at))]
 fn procedure_of(alloc: Global, tokens: &[Token]) -> Result<(Procedure, &[Token]), Refusal<'_>>
     ensures { ReadsAs (λ x. (procedure_tree x.0, token_views x.1.now)) result (procedure_at standard (token_views tokens.now)) }
@@ -188,11 +204,12 @@ fn procedure_of(alloc: Global, tokens: &[Token]) -> Result<(Procedure, &[Token])
     let rest = or_refuse!(word(tokens, "proc"));
     let (name, rest) = or_refuse!(name_of(alloc, rest));
     let (arguments, rest) = or_refuse!(arguments_of(alloc, rest));
-    let rest = or_refuse!(mark(rest, b'{'));
+    let (is_view, rest) = or_refuse!(opening_of(rest));
     let (pieces, rest) = or_refuse!(pieces_of(alloc, rest));
     let procedure = Procedure {
         name,
         arguments,
+        is_view,
         pieces,
     };
     before_mark(procedure, rest, b'}')

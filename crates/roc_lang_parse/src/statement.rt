@@ -11,6 +11,7 @@ use crate::expression::expression_of;
 use crate::refusal::{Refusal, limit_fault, or_refuse};
 use crate::terminal::{
     before_mark, begins_mark, begins_statement, begins_word, mark, mark_line, name_of, word,
+    word_line,
 };
 use crate::token::Token;
 use roc_lang::limits::{IDS, STATEMENTS};
@@ -97,11 +98,11 @@ fn get_of(alloc: Global, tokens: &[Token]) -> Result<(Statement, &[Token]), Refu
 fn set_of(alloc: Global, tokens: &[Token]) -> Result<(Statement, &[Token]), Refusal<'_>>
     ensures { ReadsAs (λ x. (statement_tree x.0, token_views x.1.now)) result (set_at standard (token_views tokens.now)) }
 {
-    let rest = or_refuse!(word(tokens, "set"));
+    let (line, rest) = or_refuse!(word_line(tokens, "set"));
     let (to, rest) = or_refuse!(access_of(alloc, rest));
     let rest = or_refuse!(mark(rest, b'='));
     let (value, rest) = or_refuse!(expression_of(alloc, rest));
-    before_mark(Statement::Set { to, value }, rest, b';')
+    before_mark(Statement::Set { line, to, value }, rest, b';')
 }
 
 #[tactic(auto, unfolding(crate::specs::Reading::out_at))]

@@ -6,7 +6,7 @@ ghost use Rattle.roc_lang.specs.Grammar.{is_reserved};
 ghost use Rattle.roc_lang.specs.Tree.{name_tree};
 ghost use Rattle.roc_lang_parse.specs.Stuck.{head_is};
 ghost use Rattle.roc_lang_parse.specs.Inner.Views.{ReadsAs, kind_view, token_views};
-ghost use Rattle.roc_lang_parse.specs.Parts.{has_word, has_mark, has_integer, word_at, mark_at, mark_line_at, free_word, name_at, small_integer, integer_at, bounded_at, negated, negated_at};
+ghost use Rattle.roc_lang_parse.specs.Parts.{has_word, has_mark, has_integer, word_at, word_line_at, mark_at, mark_line_at, free_word, name_at, small_integer, integer_at, bounded_at, negated, negated_at};
 ghost use Rattle.roc_lang_parse.specs.Parts.{signed_at, shards_at, piece_class, class_at, sign_of, sign_at};
 ghost use Rattle.roc_lang_parse.specs.Reading.{starts_statement, starts_piece, is_sign};
 
@@ -88,6 +88,26 @@ pub(crate) fn word<'a>(tokens: &'a [Token], word: &str) -> Result<&'a [Token], R
         Some((token, rest)) => {
             if has_word(&token.kind, word) {
                 Ok(rest)
+            } else {
+                Err(token_fault(tokens))
+            }
+        }
+        None => Err(token_fault(tokens)),
+    }
+}
+
+/// The line of a word of the grammar.
+#[tactic(auto, unfolding(crate::specs::Parts::first_at))]
+pub(crate) fn word_line<'a>(
+    tokens: &'a [Token],
+    word: &str,
+) -> Result<(u32, &'a [Token]), Refusal<'a>>
+    ensures { ReadsAs (λ x. (x.0, token_views x.1.now)) result (word_line_at word.now (token_views tokens.now)) }
+{
+    match tokens.split_first() {
+        Some((token, rest)) => {
+            if has_word(&token.kind, word) {
+                Ok((token.line, rest))
             } else {
                 Err(token_fault(tokens))
             }
@@ -341,13 +361,14 @@ fn piece_class(kind: &Kind) -> Option<bool>
     }
 }
 
+/// Whether a piece is declared `now`, and the line of that word.
 #[tactic(auto, unfolding(crate::specs::Parts::first_at))]
-pub(crate) fn class_at(tokens: &[Token]) -> Result<(bool, &[Token]), Refusal<'_>>
+pub(crate) fn class_at(tokens: &[Token]) -> Result<((bool, u32), &[Token]), Refusal<'_>>
     ensures { ReadsAs (λ x. (x.0, token_views x.1.now)) result (class_at (token_views tokens.now)) }
 {
     match tokens.split_first() {
         Some((token, rest)) => match piece_class(&token.kind) {
-            Some(is_now) => Ok((is_now, rest)),
+            Some(is_now) => Ok(((is_now, token.line), rest)),
             None => Err(token_fault(tokens)),
         },
         None => Err(token_fault(tokens)),
