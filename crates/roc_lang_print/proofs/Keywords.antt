@@ -15,6 +15,9 @@ init_word = (refl, (refl, (refl, (refl, tt))), omega arith)
 pub proc_word : IsWord (codes "proc")
 proc_word = (refl, (refl, (refl, (refl, tt))), omega arith)
 
+pub view_word : IsWord (codes "view")
+view_word = (refl, (refl, (refl, (refl, tt))), omega arith)
+
 pub now_word : IsWord (codes "now")
 now_word = (refl, (refl, (refl, tt)), omega arith)
 

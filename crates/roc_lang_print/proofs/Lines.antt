@@ -5,10 +5,10 @@ use lib.Chars.{codes}
 use Rattle.roc_lang.specs.Syntax.{Name, Expression, Access, Statement, Get, Set, Out, Piece, Procedure}
 use Rattle.roc_lang.specs.Tokens.{Word, Mark, Token, IsTokenEnd, IsTokens}
 use Rattle.roc_lang_print.proofs.Spelt.{blank, word, mark}
-use Rattle.roc_lang.specs.Grammar.{standard, class_word, IsExpression, IsAccess, access, IsStatement, get, set, out, IsPiece, piece, IsArguments, no_arguments, arguments, IsProcedure, procedure, open_brace, close_brace, open_parenthesis, close_parenthesis, open_bracket, close_bracket, semicolon, dot, equals}
-use Rattle.roc_lang_print.specs.Canonical.{names_text, expression_text, id_text, access_text, statement_text, statement_line, class_text, head_text, piece_lines, procedure_lines}
+use Rattle.roc_lang.specs.Grammar.{standard, class_word, IsExpression, IsAccess, access, IsStatement, get, set, out, IsPiece, piece, IsArguments, no_arguments, arguments, IsOpening, plain, viewed, IsProcedure, procedure, open_brace, close_brace, open_parenthesis, close_parenthesis, open_bracket, close_bracket, semicolon, dot, equals}
+use Rattle.roc_lang_print.specs.Canonical.{names_text, expression_text, id_text, access_text, statement_text, statement_line, class_text, head_text, piece_lines, opening_text, procedure_lines}
 use Rattle.roc_lang_print.specs.UpToLines.{bare_name, bare_expression, bare_access, bare_statement, bare_piece, bare_procedure}
-use Rattle.roc_lang_print.proofs.Keywords.{get_word, set_word, out_word, now_word, later_word, at_word, proc_word}
+use Rattle.roc_lang_print.proofs.Keywords.{get_word, set_word, out_word, view_word, now_word, later_word, at_word, proc_word}
 use Rattle.roc_lang_print.proofs.Spelling.{grouped_4, grouped_5, grouped_7, grouped_9, Made, at_line, token_is, name_made}
 use Rattle.roc_lang_print.proofs.Expressions.{expression_shown}
 use Rattle.roc_lang_print.proofs.Trees.{IsFitExpression, IsFitAccess, IsFitStatement, IsFitPiece, IsFitNames, IsFitProcedure}
@@ -48,16 +48,16 @@ statement_made (Get name from) h line rest others end i =
       is = get (token_is (Word (codes "get")) line n.tokens) n.is (token_is (Mark equals) line a.tokens) a.is (token_is (Mark semicolon) line others);
       same = λ k. Get (n.same k) (a.same k);
     }
-statement_made (Set to value) h line rest others end i =
+statement_made (Set at to value) h line rest others end i =
     let e = expression_shown standard.depth value h.1.fit h.1.shallow line rest (at_line (Mark semicolon) line ∷ others) end i in
     let a = access_made to h.0 line (codes " = " ++ (expression_text value ++ rest)) (at_line (Mark equals) line ∷ e.tokens) refl (blank refl (mark refl (blank refl e.spelt))) in
     let ts : List Token = at_line (Word (codes "set")) line ∷ a.tokens in
     record {
       tokens = ts;
-      tree = Set a.tree e.tree;
+      tree = Set line a.tree e.tree;
       spelt = subst (λ z. IsTokens line z ts) (sym (grouped_4 (codes "set ") (access_text to) (codes " = ") (expression_text value) rest)) (word (codes "set") refl set_word refl (blank refl a.spelt));
-      is = set (token_is (Word (codes "set")) line a.tokens) a.is (token_is (Mark equals) line e.tokens) e.is (token_is (Mark semicolon) line others);
-      same = λ k. Set (a.same k) (e.same k);
+      is = set (record { is = refl }) a.is (token_is (Mark equals) line e.tokens) e.is (token_is (Mark semicolon) line others);
+      same = λ k. Set 0 (a.same k) (e.same k);
     }
 statement_made (Out value) h line rest others end i =
     let e = expression_shown standard.depth value h.fit h.shallow line rest (at_line (Mark semicolon) line ∷ others) end i in
@@ -108,11 +108,11 @@ piece_made p h line rest others i =
     let whole = grouped_7 (codes "  ") (head_text p) (codes " {") (10 ∷ []) (flat_map statement_line p.body) (codes "  }") (10 ∷ []) rest in
     record {
       tokens = ts;
-      tree = record { is_now = p.is_now; name = name.tree; place = place.tree; body = body.tree };
+      tree = record { is_now = p.is_now; class_line = line; name = name.tree; place = place.tree; body = body.tree };
       spelt = subst (λ z. IsTokens line z ts) (sym (whole ∙ ap (λ z. codes "  " ++ z) head)) (blank refl (blank refl class));
-      is = piece (token_is (Word (class_word p.is_now)) line name.tokens) name.is (token_is (Word (codes "at")) line place.tokens) place.is (token_is (Mark open_brace) line body.tokens) body.is
+      is = piece (record { is = refl }) name.is (token_is (Word (codes "at")) line place.tokens) place.is (token_is (Mark open_brace) line body.tokens) body.is
           (token_is (Mark close_brace) last others) (subst (λ k. k ≤ standard.statements) (sym (same_length bare_statement body.tree p.body body.same)) h.few);
-      same = λ k. record { is_now = p.is_now; name = name.same k; place = place.same k; body = body.same k };
+      same = λ k. record { is_now = p.is_now; class_line = 0; name = name.same k; place = place.same k; body = body.same k };
     }
 
 -- ---- procedures
@@ -137,6 +137,28 @@ arguments_made (n ∷ ns) h line rest others end i =
       same = m.same;
     }
 
+-- what stands behind the arguments: their parenthesis, and what opens the pieces
+record OpeningMade (line : ℕ) (bytes : List ℕ) (others : List Token) (is_view : Bool) : Type 0 where
+  tokens : List Token
+  spelt : IsTokens line bytes (at_line (Mark close_parenthesis) line ∷ tokens)
+  is : IsOpening tokens others is_view
+
+opening_made : (is_view : Bool) (line : ℕ) (rest : List ℕ) (others : List Token) → IsTokens line rest others → OpeningMade line (opening_text is_view ++ rest) others is_view
+opening_made true line rest others i =
+    let brace : List Token = at_line (Mark open_brace) line ∷ others in
+    record {
+      tokens = at_line (Word (codes "view")) line ∷ brace;
+      spelt = mark refl (blank refl (word (codes "view") refl view_word refl (blank refl (mark refl i))));
+      is = viewed (token_is (Word (codes "view")) line brace) (token_is (Mark open_brace) line others);
+    }
+opening_made false line rest others i =
+    record { tokens = at_line (Mark open_brace) line ∷ others; spelt = mark refl (blank refl (mark refl i)); is = plain (token_is (Mark open_brace) line others) }
+
+-- the parenthesis ends a word
+opening_ends : (is_view : Bool) (rest : List ℕ) → IsTokenEnd (opening_text is_view ++ rest)
+opening_ends true rest = refl
+opening_ends false rest = refl
+
 abbrev pub behind_procedure : ℕ → Procedure → ℕ
 behind_procedure line p = fold behind_piece (line + 1) p.pieces + 1
 
@@ -145,17 +167,19 @@ procedure_made p h line rest others i =
     let last : ℕ = fold behind_piece (line + 1) p.pieces in
     let end : List ℕ = codes "}" ++ (10 ∷ [] ++ rest) in
     let pieces = each_made (IsPiece standard) bare_piece piece_lines behind_piece IsFitPiece piece_made p.pieces h.pieces (line + 1) end (at_line (Mark close_brace) last ∷ others) (mark refl (blank refl i)) in
-    let lines : List ℕ = codes ") {" ++ (10 ∷ [] ++ (flat_map piece_lines p.pieces ++ end)) in
-    let names = arguments_made p.arguments h.arguments line lines (at_line (Mark open_brace) line ∷ pieces.tokens) refl (mark refl (blank refl (mark refl (blank refl pieces.spelt)))) in
+    let below : List ℕ = 10 ∷ [] ++ (flat_map piece_lines p.pieces ++ end) in
+    let lines : List ℕ = opening_text p.is_view ++ below in
+    let opening = opening_made p.is_view line below pieces.tokens (blank refl pieces.spelt) in
+    let names = arguments_made p.arguments h.arguments line lines opening.tokens (opening_ends p.is_view below) opening.spelt in
     let name = name_made p.name h.name line (codes "(" ++ (names_text (codes ",") p.arguments ++ lines)) names.tokens refl names.spelt in
     let ts : List Token = at_line (Word (codes "proc")) line ∷ name.tokens in
-    let whole = grouped_9 (codes "proc ") p.name.text (codes "(") (names_text (codes ",") p.arguments) (codes ") {") (10 ∷ []) (flat_map piece_lines p.pieces) (codes "}") (10 ∷ []) rest in
+    let whole = grouped_9 (codes "proc ") p.name.text (codes "(") (names_text (codes ",") p.arguments) (opening_text p.is_view) (10 ∷ []) (flat_map piece_lines p.pieces) (codes "}") (10 ∷ []) rest in
     let as_many = same_length bare_piece pieces.tree p.pieces pieces.same in
     record {
       tokens = ts;
-      tree = record { name = name.tree; arguments = names.tree; pieces = pieces.tree };
+      tree = record { name = name.tree; arguments = names.tree; is_view = p.is_view; pieces = pieces.tree };
       spelt = subst (λ z. IsTokens line z ts) (sym whole) (word (codes "proc") refl proc_word refl (blank refl name.spelt));
-      is = procedure (token_is (Word (codes "proc")) line name.tokens) name.is names.is (token_is (Mark open_brace) line pieces.tokens) pieces.is (token_is (Mark close_brace) last others)
+      is = procedure (token_is (Word (codes "proc")) line name.tokens) name.is names.is opening.is pieces.is (token_is (Mark close_brace) last others)
           (subst (λ k. 0 < k) (sym as_many) h.some) (subst (λ k. k ≤ standard.pieces) (sym as_many) h.few);
-      same = λ k. record { name = name.same k; arguments = names.same k; pieces = pieces.same k };
+      same = λ k. record { name = name.same k; arguments = names.same k; is_view = p.is_view; pieces = pieces.same k };
     }

@@ -1,10 +1,10 @@
 -- What holds of the tree of a text that was parsed: names are words, numbers fit, lists and depths are within the limits.
-use Rattle.std.proofs.Common.{ℕ, ◌^◌, ◌<◌, ◌≤◌, List, length, arith, lit≤}
+use Rattle.std.proofs.Common.{ℕ, ◌^◌, ◌<◌, ◌≤◌, Bool, List, length, arith, lit≤}
 use Rattle.std.specs.List.{AllByRecursion}
 use Rattle.roc_lang.specs.Syntax.{Name, Expression, Access, Statement, Get, Set, Out, Piece, Procedure, Table, Init, Tree}
 use Rattle.roc_lang.specs.Tokens.{Token}
 use Rattle.roc_lang.specs.Grammar as grammar
-use Rattle.roc_lang.specs.Grammar.{standard, IsName, IsSigned, IsIdEnd, IsExpression, IsAccess, IsStatement, IsPiece, IsArguments, IsProcedure, IsArity, IsTable, IsInit, IsText, Each, Separated}
+use Rattle.roc_lang.specs.Grammar.{standard, IsName, IsSigned, IsWordAt, IsIdEnd, IsExpression, IsAccess, IsStatement, IsPiece, IsArguments, IsOpening, IsProcedure, IsArity, IsTable, IsInit, IsText, Each, Separated}
 use Rattle.roc_lang_print.proofs.Fit.{Words, behind, IsFitName, name_fit, IsFit, depth, expression_fit}
 use Rattle.roc_lang_print.proofs.Spelling.{IsFitSigned, signed_fit}
 
@@ -44,6 +44,10 @@ pub record IsFitId {A : Type 0} (Fit : A → Type 0) (id : List A) : Type 0 wher
   pub some : 0 < length id
   pub few : length id ≤ standard.ids
 
+-- a word with its line
+word_end : {word : List ℕ} {a b : List Token} {line : ℕ} → IsWordAt word a b line → Words a → Words b
+word_end {line = line} i w = behind (record { line = line; is = i.is }) w
+
 -- the bracket behind an id
 id_end : {a b : List Token} {line : ℕ} → IsIdEnd a b line → Words a → Words b
 id_end {line = line} i w = behind (record { line = line; is = i.is }) w
@@ -62,7 +66,7 @@ access_fit (grammar.access t o i c d n few) w =
 
 abbrev pub IsFitStatement : Statement → Type 0
 IsFitStatement (Get name from) = IsFitName name × IsFitAccess from
-IsFitStatement (Set to value) = IsFitAccess to × IsFitExpression value
+IsFitStatement (Set line to value) = IsFitAccess to × IsFitExpression value
 IsFitStatement (Out value) = IsFitExpression value
 
 statement_fit : {a b : List Token} {s : Statement} → IsStatement standard a b s → Words a → IsFitStatement s × Words b
@@ -71,7 +75,7 @@ statement_fit (grammar.get t n e i s) w =
     let y = access_fit i (behind e x.1) in
     ((x.0, y.0), behind s y.1)
 statement_fit (grammar.set t i e v s) w =
-    let x = access_fit i (behind t w) in
+    let x = access_fit i (word_end t w) in
     let y = whole_fit v (behind e x.1) in
     ((x.0, y.0), behind s y.1)
 statement_fit (grammar.out t v s) w = let x = whole_fit v (behind t w) in (x.0, behind s x.1)
@@ -84,7 +88,7 @@ pub record IsFitPiece (p : Piece) : Type 0 where
 
 piece_fit : {a b : List Token} {p : Piece} → IsPiece standard a b p → Words a → IsFitPiece p × Words b
 piece_fit (grammar.piece t n at e o body c few) w =
-    let x = name_fit n (behind t w) in
+    let x = name_fit n (word_end t w) in
     let y = whole_fit e (behind at x.1) in
     let z = each_fit (IsStatement standard) IsFitStatement (λ a b x i v. statement_fit i v) body (behind o y.1) in
     (record { name = x.0; place = y.0; body = z.0; few = few }, behind c z.1)
@@ -97,6 +101,11 @@ arguments_fit : {a b : List Token} {names : List Name} → IsArguments standard 
 arguments_fit (grammar.no_arguments o c) w = (record { all = tt; few = omega arith }, behind c (behind o w))
 arguments_fit (grammar.arguments o i c few) w = let x = names_fit i (behind o w) in (record { all = x.0; few = few }, behind c x.2)
 
+-- what opens the pieces
+opening_fit : {a b : List Token} {is_view : Bool} → IsOpening a b is_view → Words a → Words b
+opening_fit (grammar.plain o) w = behind o w
+opening_fit (grammar.viewed t o) w = behind o (behind t w)
+
 pub record IsFitProcedure (p : Procedure) : Type 0 where
   pub name : IsFitName p.name
   pub arguments : IsFitNames p.arguments standard.arguments
@@ -108,7 +117,7 @@ procedure_fit : {a b : List Token} {p : Procedure} → IsProcedure standard a b 
 procedure_fit (grammar.procedure t n i o pieces c some few) w =
     let x = name_fit n (behind t w) in
     let y = arguments_fit i x.1 in
-    let z = each_fit (IsPiece standard) IsFitPiece (λ a b x j v. piece_fit j v) pieces (behind o y.1) in
+    let z = each_fit (IsPiece standard) IsFitPiece (λ a b x j v. piece_fit j v) pieces (opening_fit o y.1) in
     (record { name = x.0; arguments = y.0; pieces = z.0; some = some; few = few }, behind c z.1)
 
 -- ---- tables and init lines

@@ -65,7 +65,7 @@ access_text a = a.table.text ++ codes "[" ++ id_text a.id ++ codes "]." ++ a.col
 
 abbrev pub statement_text : Statement → List ℕ
 statement_text (Get name from) = codes "get " ++ name.text ++ codes " = " ++ access_text from
-statement_text (Set to value) = codes "set " ++ access_text to ++ codes " = " ++ expression_text value
+statement_text (Set line to value) = codes "set " ++ access_text to ++ codes " = " ++ expression_text value
 statement_text (Out value) = codes "out " ++ expression_text value
 
 -- a statement's line
@@ -83,8 +83,13 @@ head_text p = class_text p.is_now ++ codes " " ++ p.name.text ++ codes " at " ++
 abbrev pub piece_lines : Piece → List ℕ
 piece_lines p = codes "  " ++ head_text p ++ codes " {" ++ 10 ∷ [] ++ flat_map statement_line p.body ++ codes "  }" ++ 10 ∷ []
 
+-- what stands behind the arguments: the word of a view, and the brace
+abbrev pub opening_text : (is_view : Bool) → List ℕ
+opening_text is_view = if is_view then codes ") view {" else codes ") {"
+
 abbrev pub procedure_lines : Procedure → List ℕ
-procedure_lines p = codes "proc " ++ p.name.text ++ codes "(" ++ names_text (codes ",") p.arguments ++ codes ") {" ++ 10 ∷ [] ++ flat_map piece_lines p.pieces ++ codes "}" ++ 10 ∷ []
+procedure_lines p =
+    codes "proc " ++ p.name.text ++ codes "(" ++ names_text (codes ",") p.arguments ++ opening_text p.is_view ++ 10 ∷ [] ++ flat_map piece_lines p.pieces ++ codes "}" ++ 10 ∷ []
 
 -- ---- the other lines
 

@@ -25,16 +25,16 @@ bare_access a = record { table = bare_name a.table; id = map bare_expression a.i
 -- a statement without lines
 abbrev pub bare_statement : Statement → Statement
 bare_statement (Get name from) = Get (bare_name name) (bare_access from)
-bare_statement (Set to value) = Set (bare_access to) (bare_expression value)
+bare_statement (Set line to value) = Set 0 (bare_access to) (bare_expression value)
 bare_statement (Out value) = Out (bare_expression value)
 
 -- a piece without lines
 abbrev pub bare_piece : Piece → Piece
-bare_piece p = record { is_now = p.is_now; name = bare_name p.name; place = bare_expression p.place; body = map bare_statement p.body }
+bare_piece p = record { is_now = p.is_now; class_line = 0; name = bare_name p.name; place = bare_expression p.place; body = map bare_statement p.body }
 
 -- a procedure without lines
 abbrev pub bare_procedure : Procedure → Procedure
-bare_procedure p = record { name = bare_name p.name; arguments = map bare_name p.arguments; pieces = map bare_piece p.pieces }
+bare_procedure p = record { name = bare_name p.name; arguments = map bare_name p.arguments; is_view = p.is_view; pieces = map bare_piece p.pieces }
 
 -- a table without lines
 abbrev pub bare_table : Table → Table
@@ -44,7 +44,7 @@ bare_table t = record { name = bare_name t.name; arity = t.arity; columns = map 
 abbrev pub bare_init : Init → Init
 bare_init i = record { table = bare_name i.table; place = i.place; id = i.id; id_line = 0; column = bare_name i.column; value = i.value }
 
--- the whole tree with each line 0: that of the number of shards, that of each name, and that of the bracket behind each id
+-- the whole tree with each line 0: that of the number of shards, of each name, of the bracket behind each id, and of each word now, later and set
 abbrev pub without_lines : Tree → Tree
 without_lines t = record {
   shards = t.shards;

@@ -5,7 +5,7 @@ ghost use Rattle.std.specs.List.{flat_map};
 ghost use Rattle.std.specs.Fmt.{signed_decimal};
 ghost use Rattle.std.specs.String.{string_bytes};
 ghost use Rattle.roc_lang.specs.Tree.{name_tree, expression_tree, access_tree, statement_tree, piece_tree, procedure_tree, table_tree, init_tree};
-ghost use Rattle.roc_lang_print.specs.Canonical.{separated_text, names_text, expression_text, id_text, access_text, statement_text, statement_line, class_text, head_text, piece_lines};
+ghost use Rattle.roc_lang_print.specs.Canonical.{separated_text, names_text, expression_text, id_text, access_text, statement_text, statement_line, class_text, head_text, piece_lines, opening_text};
 ghost use Rattle.roc_lang_print.specs.Canonical.{procedure_lines, arity_text, table_line, cell_text, init_line, shards_line};
 
 use crate::expression::push_expression;
@@ -76,7 +76,7 @@ fn push_statement(text: &mut String, statement: &Statement) -> Result<(), AllocE
             text.push_str(" = ")?;
             push_access(text, from)
         }
-        Statement::Set { to, value } => {
+        Statement::Set { line: _, to, value } => {
             text.push_str("set ")?;
             push_access(text, to)?;
             text.push_str(" = ")?;
@@ -137,6 +137,13 @@ fn push_pieces(text: &mut String, pieces: &[Piece]) -> Result<(), AllocError>
     Ok(())
 }
 
+/// What stands between the arguments of a procedure and its pieces.
+fn opening_of(procedure: &Procedure) -> &'static str
+    ensures { result.now ≡ opening_text procedure.now.is_view }
+{
+    if procedure.is_view { ") view {" } else { ") {" }
+}
+
 fn push_procedure(text: &mut String, procedure: &Procedure) -> Result<(), AllocError>
     ensures { OnOk result (string_bytes text.new ≡ string_bytes text.old ++ procedure_lines (procedure_tree procedure.now)) }
 {
@@ -144,7 +151,8 @@ fn push_procedure(text: &mut String, procedure: &Procedure) -> Result<(), AllocE
     text.push_str(&procedure.name.text)?;
     text.push_str("(")?;
     push_names(text, ",", &procedure.arguments)?;
-    text.push_str(") {\n")?;
+    text.push_str(opening_of(procedure))?;
+    text.push_str("\n")?;
     push_pieces(text, &procedure.pieces)?;
     text.push_str("}\n")
 }
