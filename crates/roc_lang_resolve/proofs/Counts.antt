@@ -11,7 +11,7 @@ use Rattle.roc_lang.specs.Limits.{IsSmallProcedure}
 body_count : (body : List Statement) → length (flat_map bound_by body) ≤ length body
 body_count [] = omega arith
 body_count (Get name from ∷ ss) = let rest : length (flat_map bound_by ss) ≤ length ss = body_count ss in omega arith
-body_count (Set to value ∷ ss) = let rest : length (flat_map bound_by ss) ≤ length ss = body_count ss in omega arith
+body_count (Set line to value ∷ ss) = let rest : length (flat_map bound_by ss) ≤ length ss = body_count ss in omega arith
 body_count (Out value ∷ ss) = let rest : length (flat_map bound_by ss) ≤ length ss = body_count ss in omega arith
 
 pieces_count : (ps : List Piece) → AllByRecursion (λ p. length p.body ≤ standard.statements) ps → length (flat_map (λ p. flat_map bound_by p.body) ps) ≤ 64 * length ps

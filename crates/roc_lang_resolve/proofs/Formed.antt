@@ -5,7 +5,7 @@ use Rattle.std.proofs.lemmas.Bool.{leb-true}
 use Rattle.std.specs.List.{AllByRecursion, flat_map, range_with_len}
 use Rattle.roc_lang.specs.Grammar.{standard}
 use Rattle.roc_lang.specs.Limits.{IsSmallTable, IsSmallProcedure, ArePieceWords, AreInitWords, IsWithinLimits}
-use Rattle.roc_lang.specs.Scope.{Shards, Fault, Bound, bound_by, bound_after, repeated, repeats, key_faults, statements_faults, piece_faults, pieces_faults, procedures_faults, shards_faults, tables_faults, table_named, table_faults, column_faults, arity_faults, init_faults, faults}
+use Rattle.roc_lang.specs.Scope.{Shards, Fault, Bound, Within, bound_by, bound_after, repeated, repeats, key_faults, statements_faults, pieces_faults, procedures_faults, shards_faults, tables_faults, table_named, table_faults, column_faults, arity_faults, init_faults, faults}
 use Rattle.roc_lang.specs.Syntax.{Name, Table, Init, Piece, Procedure, Tree}
 use Rattle.roc_lang.specs.declared.limits.TheConstants.{SHARDS}
 use Rattle.roc_program.specs.Names.{bindings_of, bindings}
@@ -13,7 +13,8 @@ use Rattle.roc_program.specs.WellFormed.{IsTable, IsPiece, known_behind, ArePiec
 use Rattle.roc_lang_resolve.specs.Resolve as resolve
 use Rattle.roc_lang_resolve.specs.Resolve.{texts, names_of, resolved}
 use Rattle.roc_lang_resolve.proofs.Numbered.{body_bindings, names_bound, pieces_bindings, pieces_numbers}
-use Rattle.roc_lang_resolve.proofs.Scoped.{front_none, back_none, each_none, number_of, Knows, knows_none, knows_these, knows_both, knows_first, key_over, has_column, body_over}
+use Rattle.roc_lang_resolve.proofs.Scoped.{front_none, back_none, each_none, number_of, Knows, knows_none, knows_these, knows_both, knows_first, key_over, has_column, body_over, first_none}
+use Rattle.roc_lang_resolve.proofs.Viewed.{view_reads}
 
 -- ---- pieces
 
@@ -45,32 +46,29 @@ after_none bound p = go p.is_now
     go true = refl
     go false = refl
 
-one_formed : (tables : List Table) (all : List Name) (bound : Bound) (known : List ℕ) (p : Piece) → bound.own ≡ [] → Knows all bound.known known → length p.body ≤ standard.statements → ArePieceWords p → piece_faults tables bound p ≡ []
-    → IsPiece (map resolve.table tables) known (resolve.piece tables (texts all) p)
-one_formed tables all bound known p own knows few words none =
-    let key = front_none (key_faults bound p.place) (statements_faults tables bound p.body) none in
-    let body = back_none (key_faults bound p.place) (statements_faults tables bound p.body) none in
+one_formed : (tables : List Table) (within : Within) (all : List Name) (bound : Bound) (known : List ℕ) (p : Piece) → bound.own ≡ [] → Knows all bound.known known → length p.body ≤ standard.statements → ArePieceWords p
+    → key_faults bound p.place ≡ [] → statements_faults tables within bound p.body ≡ [] → IsPiece (map resolve.table tables) known (resolve.piece tables (texts all) p)
+one_formed tables within all bound known p own knows few words key body =
     let P : List Name → Type 0 = λ names. Knows all names [] in
     record {
       statements = omega (arith, length-map p.body (resolve.statement tables (texts all)));
       place = key_over all bound known p.place knows words.place key;
-      body = body_over tables all bound known [] p.body knows (subst P (sym own) (knows_none all)) words.body body;
+      body = body_over tables within all bound known [] p.body knows (subst P (sym own) (knows_none all)) words.body body;
     }
 
-pieces_formed : (tables : List Table) (all earlier : List Name) (bound : Bound) (known : List ℕ) (ps : List Piece) → bound.own ≡ [] → Knows all bound.known known
-    → AllByRecursion (λ piece. length piece.body ≤ standard.statements) ps → AllByRecursion ArePieceWords ps → pieces_faults tables earlier bound ps ≡ []
+pieces_formed : (tables : List Table) (is_view : Bool) (all earlier : List Name) (bound : Bound) (known : List ℕ) (ps : List Piece) → bound.own ≡ [] → Knows all bound.known known
+    → AllByRecursion (λ piece. length piece.body ≤ standard.statements) ps → AllByRecursion ArePieceWords ps → pieces_faults tables is_view earlier bound ps ≡ []
     → ArePieces (map resolve.table tables) known (map (resolve.piece tables (texts all)) ps)
-pieces_formed tables all earlier bound known [] own knows few words none = tt
-pieces_formed tables all earlier bound known (p ∷ ps) own knows few words none =
-    let front = front_none (repeated earlier p.name ++ piece_faults tables bound p) (pieces_faults tables (earlier ++ p.name ∷ []) (bound_after bound p) ps) none in
-    let rest = back_none (repeated earlier p.name ++ piece_faults tables bound p) (pieces_faults tables (earlier ++ p.name ∷ []) (bound_after bound p) ps) none in (
-      one_formed tables all bound known p own knows few.0 words.0 (back_none (repeated earlier p.name) (piece_faults tables bound p) front),
-      pieces_formed tables all (earlier ++ p.name ∷ []) (bound_after bound p) (known_behind known (resolve.piece tables (texts all) p)) ps (after_none bound p) (knows_behind tables all bound known p knows) few.1 words.1 rest,
+pieces_formed tables is_view all earlier bound known [] own knows few words none = tt
+pieces_formed tables is_view all earlier bound known (p ∷ ps) own knows few words none =
+    let clear = first_none tables is_view earlier bound p ps none in (
+      one_formed tables (record { is_view = is_view; piece = p.name }) all bound known p own knows few.0 words.0 clear.place clear.body,
+      pieces_formed tables is_view all (earlier ++ p.name ∷ []) (bound_after bound p) (known_behind known (resolve.piece tables (texts all) p)) ps (after_none bound p) (knows_behind tables all bound known p knows) few.1 words.1 clear.others,
     )
 
 -- ---- procedures
 
-procedure_formed : (tables : List Table) (p : Procedure) → IsSmallProcedure p → AllByRecursion ArePieceWords p.pieces → pieces_faults tables [] (first_bound p.arguments) p.pieces ≡ []
+procedure_formed : (tables : List Table) (p : Procedure) → IsSmallProcedure p → AllByRecursion ArePieceWords p.pieces → pieces_faults tables p.is_view [] (first_bound p.arguments) p.pieces ≡ []
     → IsProcedure (map resolve.table tables) (resolve.procedure tables p)
 procedure_formed tables p small words none =
     let bound = names_bound p.pieces in
@@ -82,11 +80,13 @@ procedure_formed tables p small words none =
       arguments = small.arguments;
       names = omega (arith, count, length-map all (λ n. n.text), length-append p.arguments bound);
       numbers =
-          as_numbers ∙ pieces_numbers tables all [] (first_bound p.arguments) p.arguments p.pieces refl (λ name h k. h) refl none
+          as_numbers ∙ pieces_numbers tables p.is_view all [] (first_bound p.arguments) p.arguments p.pieces refl (λ name h k. h) refl none
           ∙ ap (λ n. range_with_len (length p.arguments) n) (sym count);
+      labels = refl;
       some_piece = omega (arith, small.some_piece, length-map p.pieces (resolve.piece tables (texts all)));
       few_pieces = omega (arith, small.pieces, length-map p.pieces (resolve.piece tables (texts all)));
-      pieces = pieces_formed tables all [] (first_bound p.arguments) (range_with_len 0 (length p.arguments)) p.pieces refl (knows_first all p.arguments bound refl) small.statements words none;
+      pieces = pieces_formed tables p.is_view all [] (first_bound p.arguments) (range_with_len 0 (length p.arguments)) p.pieces refl (knows_first all p.arguments bound refl) small.statements words none;
+      viewed = view_reads tables (texts all) [] (first_bound p.arguments) p.pieces p.is_view none;
     }
 
 -- ---- trees
@@ -95,9 +95,9 @@ each_procedure : (tables : List Table) (earlier : List Name) (ps : List Procedur
     → AllByRecursion (IsProcedure (map resolve.table tables)) (map (resolve.procedure tables) ps)
 each_procedure tables earlier [] small words none = tt
 each_procedure tables earlier (p ∷ ps) small words none =
-    let front = front_none (repeated earlier p.name ++ repeats [] p.arguments ++ pieces_faults tables [] (first_bound p.arguments) p.pieces) (procedures_faults tables (earlier ++ p.name ∷ []) ps) none in
-    let rest = back_none (repeated earlier p.name ++ repeats [] p.arguments ++ pieces_faults tables [] (first_bound p.arguments) p.pieces) (procedures_faults tables (earlier ++ p.name ∷ []) ps) none in (
-      procedure_formed tables p small.0 words.0 (back_none (repeated earlier p.name ++ repeats [] p.arguments) (pieces_faults tables [] (first_bound p.arguments) p.pieces) front),
+    let front = front_none (repeated earlier p.name ++ repeats [] p.arguments ++ pieces_faults tables p.is_view [] (first_bound p.arguments) p.pieces) (procedures_faults tables (earlier ++ p.name ∷ []) ps) none in
+    let rest = back_none (repeated earlier p.name ++ repeats [] p.arguments ++ pieces_faults tables p.is_view [] (first_bound p.arguments) p.pieces) (procedures_faults tables (earlier ++ p.name ∷ []) ps) none in (
+      procedure_formed tables p small.0 words.0 (back_none (repeated earlier p.name ++ repeats [] p.arguments) (pieces_faults tables p.is_view [] (first_bound p.arguments) p.pieces) front),
       each_procedure tables (earlier ++ p.name ∷ []) ps small.1 words.1 rest,
     )
 

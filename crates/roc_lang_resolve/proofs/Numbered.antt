@@ -8,11 +8,11 @@ use Rattle.std.proofs.lemmas.Bool.{or_from, or_parts}
 use Rattle.roc_lang_scope.proofs.Names.{among-append}
 use Rattle.roc_lang.specs.Syntax as syntax
 use Rattle.roc_lang.specs.Syntax.{Name, Table, Statement, Piece}
-use Rattle.roc_lang.specs.Scope.{Twice, Bound, fault_at, is_among, bound_by, bound_after, repeated, key_faults, access_faults, statement_faults, statements_faults, piece_faults, pieces_faults}
+use Rattle.roc_lang.specs.Scope.{Twice, Bound, Within, fault_at, is_among, bound_by, bound_after, repeated, access_faults, statement_faults, statements_faults, pieces_faults}
 use Rattle.roc_program.specs.Names.{binding, bindings}
 use Rattle.roc_lang_resolve.specs.Resolve as resolve
 use Rattle.roc_lang_resolve.specs.Resolve.{texts, number_in}
-use Rattle.roc_lang_resolve.proofs.Scoped.{front_none, back_none, number_of}
+use Rattle.roc_lang_resolve.proofs.Scoped.{front_none, back_none, number_of, first_none}
 
 -- ---- what the resolved pieces bind
 
@@ -22,7 +22,7 @@ joined e f = cc
 pub body_bindings : (tables : List Table) (all : List Name) (body : List Statement) → filter_map binding (map (resolve.statement tables (texts all)) body) ≡ map (number_of all) (flat_map bound_by body)
 body_bindings tables all [] = refl
 body_bindings tables all (syntax.Get name from ∷ rest) = ap (λ ns. number_of all name ∷ ns) (body_bindings tables all rest)
-body_bindings tables all (syntax.Set to value ∷ rest) = body_bindings tables all rest
+body_bindings tables all (syntax.Set line to value ∷ rest) = body_bindings tables all rest
 body_bindings tables all (syntax.Out value ∷ rest) = body_bindings tables all rest
 
 abbrev pub names_bound : List Piece → List Name
@@ -91,15 +91,15 @@ regrouped : (k o b f : List Name) → (k ++ o) ++ (b ++ f) ≡ (k ++ (o ++ b)) +
 regrouped k o b f = simp append_assoc
 
 -- the names of a piece without faults
-body_numbers : (tables : List Table) (all : List Name) (bound : Bound) (before later : List Name) (body : List Statement)
-    → HasNoOther bound before → all ≡ (before ++ bound.own) ++ (flat_map bound_by body ++ later) → statements_faults tables bound body ≡ []
+body_numbers : (tables : List Table) (within : Within) (all : List Name) (bound : Bound) (before later : List Name) (body : List Statement)
+    → HasNoOther bound before → all ≡ (before ++ bound.own) ++ (flat_map bound_by body ++ later) → statements_faults tables within bound body ≡ []
     → map (number_of all) (flat_map bound_by body) ≡ range_with_len (length (before ++ bound.own)) (length (flat_map bound_by body))
-body_numbers tables all bound before later [] so is none = refl
-body_numbers tables all bound before later (s ∷ rest) so is none =
+body_numbers tables within all bound before later [] so is none = refl
+body_numbers tables within all bound before later (s ∷ rest) so is none =
     with_first s
     (is ∙ ap (λ xs. (before ++ bound.own) ++ xs) (append_assoc (bound_by s) (flat_map bound_by rest) later))
-    (front_none (statement_faults tables bound s) (statements_faults tables (after s) rest) none)
-    (λ e. body_numbers tables all (after s) before later rest so e (back_none (statement_faults tables bound s) (statements_faults tables (after s) rest) none))
+    (front_none (statement_faults tables within bound s) (statements_faults tables within (after s) rest) none)
+    (λ e. body_numbers tables within all (after s) before later rest so e (back_none (statement_faults tables within bound s) (statements_faults tables within (after s) rest) none))
   where
     after : Statement → Bound
     after s = record bound { own = bound.own ++ bound_by s }
@@ -109,7 +109,7 @@ body_numbers tables all bound before later (s ∷ rest) so is none =
 
     with_first : (s : Statement)
         → all ≡ (before ++ bound.own) ++ (bound_by s ++ (flat_map bound_by rest ++ later))
-        → statement_faults tables bound s ≡ []
+        → statement_faults tables within bound s ≡ []
         → (all ≡ (before ++ (bound.own ++ bound_by s)) ++ (flat_map bound_by rest ++ later) → Numbers (length (before ++ (bound.own ++ bound_by s))) (flat_map bound_by rest))
         → Numbers (length (before ++ bound.own)) (bound_by s ++ flat_map bound_by rest)
     with_first (syntax.Get name from) is none go =
@@ -121,7 +121,7 @@ body_numbers tables all bound before later (s ∷ rest) so is none =
         let P : ℕ → Type 0 = λ n. Numbers n (flat_map bound_by rest) in
         let behind : Numbers (length (before ++ bound.own) + 1) (flat_map bound_by rest) = subst P count (go (is ∙ regrouped before bound.own (name ∷ []) tail)) in
         ap (λ n. n ∷ map (number_of all) (flat_map bound_by rest)) here ∙ ap (λ ns. length (before ++ bound.own) ∷ ns) behind
-    with_first (syntax.Set to value) is none go = unchanged go is
+    with_first (syntax.Set line to value) is none go = unchanged go is
       where
         unchanged : (all ≡ (before ++ (bound.own ++ [])) ++ (flat_map bound_by rest ++ later) → Numbers (length (before ++ (bound.own ++ []))) (flat_map bound_by rest))
             → all ≡ (before ++ bound.own) ++ (flat_map bound_by rest ++ later)
@@ -169,20 +169,18 @@ after_none bound p = go p.is_now
     go false = refl
 
 -- the names that pieces without faults bind
-pub pieces_numbers : (tables : List Table) (all earlier : List Name) (bound : Bound) (before : List Name) (ps : List Piece)
-    → bound.own ≡ [] → HasNoOther bound before → all ≡ before ++ names_bound ps → pieces_faults tables earlier bound ps ≡ []
+pub pieces_numbers : (tables : List Table) (is_view : Bool) (all earlier : List Name) (bound : Bound) (before : List Name) (ps : List Piece)
+    → bound.own ≡ [] → HasNoOther bound before → all ≡ before ++ names_bound ps → pieces_faults tables is_view earlier bound ps ≡ []
     → map (number_of all) (names_bound ps) ≡ range_with_len (length before) (length (names_bound ps))
-pieces_numbers tables all earlier bound before [] own so is none = refl
-pieces_numbers tables all earlier bound before (p ∷ ps) own so is none =
+pieces_numbers tables is_view all earlier bound before [] own so is none = refl
+pieces_numbers tables is_view all earlier bound before (p ∷ ps) own so is none =
     let here = flat_map bound_by p.body in
-    let front = front_none (repeated earlier p.name ++ piece_faults tables bound p) (pieces_faults tables (earlier ++ p.name ∷ []) (bound_after bound p) ps) none in
-    let rest = back_none (repeated earlier p.name ++ piece_faults tables bound p) (pieces_faults tables (earlier ++ p.name ∷ []) (bound_after bound p) ps) none in
-    let body = back_none (key_faults bound p.place) (statements_faults tables bound p.body) (back_none (repeated earlier p.name) (piece_faults tables bound p) front) in
+    let clear = first_none tables is_view earlier bound p ps none in
     let start : before ++ bound.own ≡ before = ap (λ names. before ++ names) own ∙ append-nil before in
     let P : List Name → Type 0 = λ names. map (number_of all) here ≡ range_with_len (length names) (length here) in
     let first : map (number_of all) here ≡ range_with_len (length before) (length here) =
-    subst P start (body_numbers tables all bound before (names_bound ps) p.body so (is ∙ ap (λ names. names ++ (here ++ names_bound ps)) (sym start)) body) in
-    let behind = pieces_numbers tables all (earlier ++ p.name ∷ []) (bound_after bound p) (before ++ here) ps (after_none bound p) (next_other bound before p so) (is ∙ sym (append_assoc before here (names_bound ps))) rest in
+    subst P start (body_numbers tables (record { is_view = is_view; piece = p.name }) all bound before (names_bound ps) p.body so (is ∙ ap (λ names. names ++ (here ++ names_bound ps)) (sym start)) clear.body) in
+    let behind = pieces_numbers tables is_view all (earlier ++ p.name ∷ []) (bound_after bound p) (before ++ here) ps (after_none bound p) (next_other bound before p so) (is ∙ sym (append_assoc before here (names_bound ps))) clear.others in
     map-append (number_of all) here (names_bound ps)
     ∙ joined first (behind ∙ ap (λ n. range_with_len n (length (names_bound ps))) (length-append before here))
     ∙ range-append (length before) (length here) (length (names_bound ps))

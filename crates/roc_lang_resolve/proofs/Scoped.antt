@@ -1,5 +1,5 @@
 -- Names that are in scope are known to the program
-use Rattle.std.proofs.Common.{◌≡◌, ◌∙◌, ℕ, suc, ◌+◌, ◌<◌, Bool, true, false, not, ◌||◌, ◌==◌, List, [], ◌∷◌, ◌++◌, length, map, cond, get_or, Some, refl, sym, ap, subst, inl, inr, arith, append-nil}
+use Rattle.std.proofs.Common.{◌≡◌, ◌∙◌, ℕ, suc, ◌+◌, ◌<◌, Bool, true, false, not, ◌||◌, ◌==◌, List, [], ◌∷◌, ◌++◌, length, map, ◌&&◌, cond, get_or, Some, refl, sym, ap, subst, inl, inr, arith, append-nil}
 use Rattle.std.proofs.lemmas.Bool.{eqb-true, eq-eqb, or_cases, or_left, or_right}
 use Rattle.std.proofs.lemmas.List.{length-map}
 use Rattle.std.proofs.lemmas.List.Folds.{list_any-append, list_any_at}
@@ -9,8 +9,8 @@ use Rattle.std.specs.List.{AllByRecursion, flat_map, range_with_len}
 use Rattle.std.specs.Str.{bytes_eq}
 use Rattle.roc_lang_scope.proofs.Names.{among-append}
 use Rattle.roc_lang.specs.Syntax as syntax
-use Rattle.roc_lang.specs.Syntax.{Name, Table, Access, Statement}
-use Rattle.roc_lang.specs.Scope.{Fault, Unknown, LaterUsed, SamePieceKey, Unbound, Arity, Bound, fault_at, is_among, use_faults, names_of, key_faults, value_faults, table_named, table_faults, column_faults, arity_faults, access_faults, bound_by, statement_faults, statements_faults, repeated}
+use Rattle.roc_lang.specs.Syntax.{Name, Table, Access, Statement, Piece}
+use Rattle.roc_lang.specs.Scope.{Fault, Unknown, LaterUsed, SamePieceKey, Unbound, Arity, Bound, Within, viewed, bound_after, piece_faults, pieces_faults, fault_at, is_among, use_faults, names_of, key_faults, value_faults, table_named, table_faults, column_faults, arity_faults, access_faults, bound_by, statement_faults, statements_faults, repeated}
 use Rattle.roc_lang.specs.Limits.{AreWords, AreStatementWords}
 use Rattle.roc_program.specs.Names.{has_name}
 use Rattle.roc_program.specs.WellFormed.{IsOver, IsColumn, IsKnownAccess, IsBody}
@@ -235,14 +235,14 @@ access_over tables all bound known a knows words none =
 -- ---- statements
 
 -- the statements of a piece without faults
-pub body_over : (tables : List Table) (all : List Name) (bound : Bound) (known own : List ℕ) (body : List Statement)
-    → Knows all bound.known known → Knows all bound.own own → AllByRecursion AreStatementWords body → statements_faults tables bound body ≡ []
+pub body_over : (tables : List Table) (within : Within) (all : List Name) (bound : Bound) (known own : List ℕ) (body : List Statement)
+    → Knows all bound.known known → Knows all bound.own own → AllByRecursion AreStatementWords body → statements_faults tables within bound body ≡ []
     → IsBody (map resolve.table tables) known own (map (resolve.statement tables (texts all)) body)
-body_over tables all bound known own [] knows owns words none = tt
-body_over tables all bound known own (s ∷ rest) knows owns words none =
+body_over tables within all bound known own [] knows owns words none = tt
+body_over tables within all bound known own (s ∷ rest) knows owns words none =
     with_first s words.0
-    (front_none (statement_faults tables bound s) (statements_faults tables (after s) rest) none)
-    (λ more owns. body_over tables all (after s) known more rest knows owns words.1 (back_none (statement_faults tables bound s) (statements_faults tables (after s) rest) none))
+    (front_none (statement_faults tables within bound s) (statements_faults tables within (after s) rest) none)
+    (λ more owns. body_over tables within all (after s) known more rest knows owns words.1 (back_none (statement_faults tables within bound s) (statements_faults tables within (after s) rest) none))
   where
     after : Statement → Bound
     after s = record bound { own = bound.own ++ bound_by s }
@@ -253,16 +253,45 @@ body_over tables all bound known own (s ∷ rest) knows owns words none =
     same_own : Knows all (bound.own ++ []) own
     same_own = let P : List Name → Type 0 = λ names. Knows all names own in subst P (sym (append-nil bound.own)) owns
 
-    with_first : (s : Statement) → AreStatementWords s → statement_faults tables bound s ≡ []
+    with_first : (s : Statement) → AreStatementWords s → statement_faults tables within bound s ≡ []
         → ((more : List ℕ) → Knows all (bound.own ++ bound_by s) more → Rest more)
         → IsBody (map resolve.table tables) known own (map (resolve.statement tables (texts all)) (s ∷ rest))
     with_first (syntax.Get name from) words none go = (
       access_over tables all bound known from knows words (back_none (repeated (bound.known ++ bound.own ++ bound.past) name) (access_faults tables bound from) none),
       go (own ++ number_of all name ∷ []) (knows_both all bound.own (name ∷ []) own (number_of all name ∷ []) owns (knows_these all (name ∷ []))),
     )
-    with_first (syntax.Set to value) words none go = (
-      access_over tables all bound known to knows words.0 (front_none (access_faults tables bound to) (value_faults bound value) none),
-      value_over all bound known own value knows owns words.1 (back_none (access_faults tables bound to) (value_faults bound value) none),
-      go own same_own,
-    )
+    with_first (syntax.Set line to value) words none go =
+        let view : List Fault = viewed within.is_view within.piece line in
+        let cell : List Fault = access_faults tables bound to in (
+          access_over tables all bound known to knows words.0 (back_none view cell (front_none (view ++ cell) (value_faults bound value) none)),
+          value_over all bound known own value knows owns words.1 (back_none (view ++ cell) (value_faults bound value) none),
+          go own same_own,
+        )
     with_first (syntax.Out value) words none go = (value_over all bound known own value knows owns words none, go own same_own)
+
+-- ---- pieces
+
+-- what has no fault where pieces have none: each part of the first piece, and the pieces behind it
+pub record FirstNone (tables : List Table) (is_view : Bool) (earlier : List Name) (bound : Bound) (p : Piece) (ps : List Piece) : Type 0 where
+  pub view : viewed (is_view && p.is_now) p.name p.class_line ≡ []
+  pub place : key_faults bound p.place ≡ []
+  pub body : statements_faults tables (record { is_view = is_view; piece = p.name }) bound p.body ≡ []
+  pub others : pieces_faults tables is_view (earlier ++ p.name ∷ []) (bound_after bound p) ps ≡ []
+
+pub first_none : (tables : List Table) (is_view : Bool) (earlier : List Name) (bound : Bound) (p : Piece) (ps : List Piece)
+    → pieces_faults tables is_view earlier bound (p ∷ ps) ≡ [] → FirstNone tables is_view earlier bound p ps
+first_none tables is_view earlier bound p ps none =
+    let view : List Fault = viewed (is_view && p.is_now) p.name p.class_line in
+    let again : List Fault = repeated earlier p.name in
+    let here : List Fault = piece_faults tables is_view bound p in
+    let others : List Fault = pieces_faults tables is_view (earlier ++ p.name ∷ []) (bound_after bound p) ps in
+    let key : List Fault = key_faults bound p.place in
+    let body : List Fault = statements_faults tables (record { is_view = is_view; piece = p.name }) bound p.body in
+    let front = front_none (view ++ again ++ here) others none in
+    let inside = back_none (view ++ again) here front in
+    record {
+      view = front_none view again (front_none (view ++ again) here front);
+      place = front_none key body inside;
+      body = back_none key body inside;
+      others = back_none (view ++ again ++ here) others none;
+    }

@@ -46,7 +46,7 @@ access tables names a =
 
 abbrev pub statement : List syntax.Table → (names : List (List ℕ)) → syntax.Statement → Statement
 statement tables names (syntax.Get name from) = Get (number_in names name.text) (access tables names from)
-statement tables names (syntax.Set to value) = Set (access tables names to) (expression names value)
+statement tables names (syntax.Set line to value) = Set (access tables names to) (expression names value)
 statement tables names (syntax.Out value) = Out (expression names value)
 
 abbrev pub piece : List syntax.Table → (names : List (List ℕ)) → syntax.Piece → Piece
@@ -57,8 +57,10 @@ abbrev pub procedure : List syntax.Table → syntax.Procedure → Procedure
 procedure tables p =
     record {
       name = p.name.text;
+      is_view = p.is_view;
       arguments = length p.arguments;
       names = length (names_of p);
+      labels = names_of p;
       pieces = map (piece tables (names_of p)) p.pieces;
     }
 

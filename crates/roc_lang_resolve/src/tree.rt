@@ -131,7 +131,7 @@ fn statement(
             let number = number_in(names, name.text.as_str());
             Ok(Statement::Get(number as u16, access(alloc, tables, names, from)?))
         }
-        roc_lang::Statement::Set { to, value } => {
+        roc_lang::Statement::Set { line: _, to, value } => {
             let to = access(alloc, tables, names, to)?;
             Ok(Statement::Set(to, expression(alloc, names, value)?))
         }
@@ -197,6 +197,17 @@ fn pieces(
     Ok(resolved)
 }
 
+// Names, each as a text of its own.
+fn labels(alloc: Global, names: &[&str]) -> Result<Vec<String>, NoMemory>
+    ensures { IfOk result (λ r. map string_bytes r.items ≡ map (λ n. n.now) names.now) }
+{
+    let mut labels = Vec::new(alloc);
+    for name in names {
+        labels.push(String::from_str(alloc, name)?)?;
+    }
+    Ok(labels)
+}
+
 fn procedure(
     alloc: Global,
     tables: &[roc_lang::Table],
@@ -210,8 +221,10 @@ fn procedure(
     let names = names_of(alloc, source)?;
     Ok(Procedure {
         name: String::from_str(alloc, source.name.text.as_str())?,
+        is_view: source.is_view,
         arguments: source.arguments.len() as u16,
         names: names.len() as u16,
+        labels: labels(alloc, &names)?,
         pieces: pieces(alloc, tables, &names, &source.pieces)?,
     })
 }
