@@ -6,10 +6,11 @@ use Rattle.roc_sequence.specs.Lists.{Has}
 use Rattle.roc_sequence.proofs.Holds.{any_has, has_any}
 use Rattle.roc_sequence.proofs.Members.{has_flat_map, from_has_flat_map}
 use Rattle.roc_program.specs.Program.{Workload, Procedure, Piece, Statement}
-use Rattle.roc_program.specs.LookUps.{no_piece, no_procedure}
+use Rattle.roc_program.specs.LookUps.{no_piece, no_procedure, is_view_in}
 use Rattle.roc_program.specs.Pieces.{pieces_in, piece_of, HasPiece}
 use Rattle.roc_program.specs.Conflict.{collide, conflict, are_in_conflict}
 use Rattle.roc_program.specs.declared.piece_id.PieceId.{PieceId}
+use Rattle.roc_program.proofs.Conflicts.{in_conflict_parts, in_conflict_from}
 use Rattle.roc_merge_groups.specs.Groups.{piece_numbered, groups_in, group_at}
 use Rattle.roc_merge_groups.specs.Accepted.{fused, with_groups, over_groups}
 use Rattle.roc_merge_groups.proofs.Elements.{row_of_has}
@@ -22,6 +23,13 @@ pieces_over [] (g ∷ gs) proc e = absurd (omega arith)
 pieces_over (p ∷ ps) [] proc e = absurd (omega arith)
 pieces_over (p ∷ ps) (g ∷ gs) zero e = refl
 pieces_over (p ∷ ps) (g ∷ gs) (suc proc) e = pieces_over ps gs proc (omega arith)
+
+viewed_over : (ps : List Procedure) (groups : List (List (List ℕ))) (proc : ℕ) → (get_or (with_groups ps groups) proc no_procedure).is_view ≡ (get_or ps proc no_procedure).is_view
+viewed_over [] groups proc = refl
+viewed_over (p ∷ ps) [] zero = refl
+viewed_over (p ∷ ps) [] (suc proc) = viewed_over ps [] proc
+viewed_over (p ∷ ps) (g ∷ gs) zero = refl
+viewed_over (p ∷ ps) (g ∷ gs) (suc proc) = viewed_over ps gs proc
 
 procedures_over : (ps : List Procedure) (groups : List (List (List ℕ))) → length (with_groups ps groups) ≡ length ps
 procedures_over [] groups = refl
@@ -57,6 +65,10 @@ module _ (program : Workload) (groups : List (List (List ℕ))) (even : length g
   in_over : (proc : ℕ) → pieces_in (over_groups program groups) proc ≡ map (fused (get_or program.procedures proc no_procedure)) (groups_in groups proc)
   in_over proc = pieces_over program.procedures groups proc even
 
+  -- its views are the program's
+  view_over : (proc : ℕ) → is_view_in (over_groups program groups) proc ≡ is_view_in program proc
+  view_over proc = viewed_over program.procedures groups proc
+
   body_over : (id : PieceId) → (piece_of (over_groups program groups) id).body ≡ flat_map (λ x. (piece_of program (piece_numbered id.proc x)).body) (members groups id)
   body_over id =
       ap (λ (ps : List Piece). (get_or ps id.piece no_piece).body) (in_over id.proc) ∙ fused_body (get_or program.procedures id.proc no_procedure) (groups_in groups id.proc) id.piece
@@ -84,17 +96,32 @@ module _ (program : Workload) (groups : List (List (List ℕ))) (even : length g
   meets_from a b h =
       let f : ℕ → List Statement = λ x. (piece_of program (piece_numbered a.proc x)).body in
       let g : ℕ → List Statement = λ y. (piece_of program (piece_numbered b.proc y)).body in
-      let r = conflict_from (piece_of (over_groups program groups) a) (piece_of (over_groups program groups) b) h in
+      let parts = in_conflict_parts (over_groups program groups) a b h in
+      let r = conflict_from (piece_of (over_groups program groups) a) (piece_of (over_groups program groups) b) parts.meet in
       let one = from_has_flat_map f r.0 (members groups a) (subst (λ xs. Has r.0 xs) (body_over a) r.2) in
-      let two = from_has_flat_map g r.1 (members groups b) (subst (λ xs. Has r.1 xs) (body_over b) r.3) in
-      (one.0, two.0, one.1, two.1, conflict_to (piece_of program (piece_numbered a.proc one.0)) (piece_of program (piece_numbered b.proc two.0)) r.0 r.1 one.2 two.2 r.4)
+      let two = from_has_flat_map g r.1 (members groups b) (subst (λ xs. Has r.1 xs) (body_over b) r.3) in (
+        one.0,
+        two.0,
+        one.1,
+        two.1,
+        in_conflict_from program (piece_numbered a.proc one.0) (piece_numbered b.proc two.0) (record {
+          first = sym (view_over a.proc) ∙ parts.first;
+          second = sym (view_over b.proc) ∙ parts.second;
+          meet = conflict_to (piece_of program (piece_numbered a.proc one.0)) (piece_of program (piece_numbered b.proc two.0)) r.0 r.1 one.2 two.2 r.4;
+        }),
+      )
 
   pub meets_to : (a b : PieceId) (x y : ℕ) → Has x (members groups a) → Has y (members groups b) → are_in_conflict program (piece_numbered a.proc x) (piece_numbered b.proc y) ≡ true
       → are_in_conflict (over_groups program groups) a b ≡ true
   meets_to a b x y h k e =
       let f : ℕ → List Statement = λ x. (piece_of program (piece_numbered a.proc x)).body in
       let g : ℕ → List Statement = λ y. (piece_of program (piece_numbered b.proc y)).body in
-      let r = conflict_from (piece_of program (piece_numbered a.proc x)) (piece_of program (piece_numbered b.proc y)) e in
-      conflict_to (piece_of (over_groups program groups) a) (piece_of (over_groups program groups) b) r.0 r.1
-      (subst (λ xs. Has r.0 xs) (sym (body_over a)) (has_flat_map f r.0 x (members groups a) h r.2))
-      (subst (λ xs. Has r.1 xs) (sym (body_over b)) (has_flat_map g r.1 y (members groups b) k r.3)) r.4
+      let parts = in_conflict_parts program (piece_numbered a.proc x) (piece_numbered b.proc y) e in
+      let r = conflict_from (piece_of program (piece_numbered a.proc x)) (piece_of program (piece_numbered b.proc y)) parts.meet in
+      in_conflict_from (over_groups program groups) a b (record {
+        first = view_over a.proc ∙ parts.first;
+        second = view_over b.proc ∙ parts.second;
+        meet = conflict_to (piece_of (over_groups program groups) a) (piece_of (over_groups program groups) b) r.0 r.1
+            (subst (λ xs. Has r.0 xs) (sym (body_over a)) (has_flat_map f r.0 x (members groups a) h r.2))
+            (subst (λ xs. Has r.1 xs) (sym (body_over b)) (has_flat_map g r.1 y (members groups b) k r.3)) r.4;
+      })
