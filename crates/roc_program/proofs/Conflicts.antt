@@ -1,10 +1,11 @@
 -- What it takes for two pieces to be in conflict: neither is of a view, and statements of theirs collide
-use Rattle.std.proofs.Common.{◌≡◌, Bool, true, false, not, ◌&&◌, refl, sym}
+use Rattle.std.proofs.Common.{◌≡◌, Bool, true, false, not, ◌&&◌, cond, List, [], ◌∷◌, refl, sym}
 use Rattle.std.proofs.lemmas.Bool.{and_parts, and_from, false≢true}
-use Rattle.roc_program.specs.Program.{Workload}
+use Rattle.std.specs.List.{list_any}
+use Rattle.roc_program.specs.Program.{Workload, Statement}
 use Rattle.roc_program.specs.LookUps.{is_view_in}
 use Rattle.roc_program.specs.Pieces.{piece_of}
-use Rattle.roc_program.specs.Conflict.{conflict, are_in_conflict}
+use Rattle.roc_program.specs.Conflict.{collide, conflict, are_in_conflict, exposed}
 use Rattle.roc_program.specs.declared.piece_id.PieceId.{PieceId}
 
 not_so : (b : Bool) → not b ≡ true → b ≡ false
@@ -14,6 +15,20 @@ not_so true e = absurd (false≢true e)
 so : (b : Bool) → b ≡ false → not b ≡ true
 so false e = refl
 so true e = absurd (false≢true (sym e))
+
+none_with_none : (ss : List Statement) → list_any (λ s. list_any (collide s) []) ss ≡ false
+none_with_none [] = refl
+none_with_none (s ∷ ss) = none_with_none ss
+
+-- exactly if exposed statements collide
+pub in_conflict_exposed : (program : Workload) (one other : PieceId) → are_in_conflict program one other ≡ list_any (λ s. list_any (collide s) (exposed program other)) (exposed program one)
+in_conflict_exposed program one other = go (is_view_in program one.proc) (is_view_in program other.proc)
+  where
+    go : (a b : Bool) → not a && (not b && conflict (piece_of program one) (piece_of program other))
+        ≡ list_any (λ s. list_any (collide s) (cond b [] (piece_of program other).body)) (cond a [] (piece_of program one).body)
+    go true b = refl
+    go false true = sym (none_with_none (piece_of program one).body)
+    go false false = refl
 
 pub record AreInConflict (program : Workload) (one other : PieceId) : Type 0 where
   pub first : is_view_in program one.proc ≡ false

@@ -1,5 +1,5 @@
 -- Static conflict: two pieces that may touch one cell, and at least one of them writes it. docs/LANGUAGE.md, "Conflicts"
-use Rattle.std.specs.Prelude.{Bool, false, not, ◌&&◌, ◌==◌}
+use Rattle.std.specs.Prelude.{Bool, false, not, ◌&&◌, ◌==◌, List, [], if◌then◌else◌}
 use Rattle.std.specs.List.{list_any}
 use Rattle.roc_program.specs.Program.{Access, Statement, Get, Set, Out, Piece, Workload}
 use Rattle.roc_program.specs.LookUps.{is_view_in}
@@ -28,3 +28,7 @@ conflict p q = list_any (λ s. list_any (collide s) q.body) p.body
 abbrev pub are_in_conflict : Workload → PieceId → PieceId → Bool
 are_in_conflict program one other =
     not (is_view_in program one.proc) && (not (is_view_in program other.proc) && conflict (piece_of program one) (piece_of program other))
+
+-- the statements that may collide with those of others: none of a piece of a view
+abbrev pub exposed : Workload → PieceId → List Statement
+exposed program id = if is_view_in program id.proc then [] else (piece_of program id).body

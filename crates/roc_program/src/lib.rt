@@ -23,5 +23,5 @@ mod workload;
 pub use parts::{Access, Expression, Init, Piece, Procedure, Statement, Table};
 pub use piece_id::PieceId;
 pub use pieces::{all_pieces, is_declared_now, is_view, piece_count, procedure_count};
-pub use static_conflict::conflict;
+pub use static_conflict::{conflict, exposed};
 pub use workload::Workload;

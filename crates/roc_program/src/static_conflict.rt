@@ -1,9 +1,8 @@
 //! Static conflict between pieces: transaction chopping (TODS 1995), by table and column alone.
-ghost use Rattle.std.specs.Prelude.{◌≡◌};
+ghost use Rattle.std.specs.Prelude.{◌≡◌, map};
 ghost use Rattle.std.specs.List.{list_any};
 ghost use Rattle.roc_program.specs.Conflict as spec;
 ghost use Rattle.roc_program.specs.Parts as view;
-ghost use Rattle.roc_program.specs.Pieces.{piece_of};
 
 use crate::pieces::{body_of, is_view};
 use crate::{Access, PieceId, Statement, Workload};
@@ -38,11 +37,16 @@ fn collide_somewhere(some: &[Statement], others: &[Statement]) -> bool
     some.iter().any(|one| collides_with_any(one, others))
 }
 
-// Whether the statements of two pieces are in conflict.
-fn have_conflict(workload: &Workload, one: PieceId, other: PieceId) -> bool
-    ensures { result ≡ spec.conflict (piece_of workload.now one) (piece_of workload.now other) }
+/// The statements of a piece that may collide with those of others: none where it is of a view, or is not there. Takes no
+/// memory.
+pub fn exposed(workload: &Workload, id: PieceId) -> &[Statement]
+    ensures { map view.statement result.now ≡ spec.exposed workload.now id }
 {
-    collide_somewhere(body_of(workload, one), body_of(workload, other))
+    if is_view(workload, id.proc) {
+        &[]
+    } else {
+        body_of(workload, id)
+    }
 }
 
 /// Whether two pieces conflict: both access the same table and column and at least one writes it, whatever the places and
@@ -51,7 +55,5 @@ fn have_conflict(workload: &Workload, one: PieceId, other: PieceId) -> bool
 pub fn conflict(workload: &Workload, one: PieceId, other: PieceId) -> bool
     ensures { result ≡ spec.are_in_conflict workload.now one other }
 {
-    !is_view(workload, one.proc)
-        && !is_view(workload, other.proc)
-        && have_conflict(workload, one, other)
+    collide_somewhere(exposed(workload, one), exposed(workload, other))
 }

@@ -1,15 +1,16 @@
 -- Conflicts, by the columns of each piece
-use Rattle.std.proofs.Common.{◌≡◌, ℕ, ◌+◌, ◌*◌, ◌<◌, Bool, false, ◌&&◌, ◌||◌, ◌==◌, List, [], ◌∷◌, ◌++◌, length, map, get_or, refl, sym, ap, subst, ◌∙◌, ◌%◌, inl, inr, arith}
+use Rattle.std.proofs.Common.{◌≡◌, ℕ, ◌+◌, ◌*◌, ◌<◌, Bool, true, false, cond, ◌&&◌, ◌||◌, ◌==◌, List, [], ◌∷◌, ◌++◌, length, map, get_or, refl, sym, ap, subst, ◌∙◌, ◌%◌, inl, inr, arith}
 use Rattle.std.proofs.lemmas.List.FromFn.{get_or-map-range_with_len, length-map-range_with_len}
 use Rattle.std.specs.List.{AllByRecursion, list_any, range_with_len}
 use Rattle.roc_program.specs.Program.{Access, Expression, Statement, Get, Set, Out, Table, Piece, Workload}
-use Rattle.roc_program.specs.LookUps.{no_piece, no_procedure, no_table}
+use Rattle.roc_program.specs.LookUps.{no_piece, no_procedure, no_table, is_view_in}
 use Rattle.roc_program.specs.Pieces.{piece_of, pieces_in}
-use Rattle.roc_program.specs.Conflict.{is_same_column, collide, are_in_conflict}
+use Rattle.roc_program.specs.Conflict.{is_same_column, collide, are_in_conflict, exposed}
 use Rattle.roc_program.specs.WellFormed.{IsTable, IsColumn, IsBody, ArePieces, IsProcedure, IsProgram, known_behind}
 use Rattle.roc_program.specs.Parts as view
 use Rattle.roc_program.specs.declared.parts.Statement as code
 use Rattle.roc_program.specs.declared.piece_id.PieceId.{PieceId}
+use Rattle.roc_program.proofs.Conflicts.{in_conflict_exposed}
 use Rattle.roc_program.proofs.Ranges.{map_pushed}
 use Rattle.roc_conflict.proofs.Present.{present_or_none}
 use Rattle.roc_sequence.proofs.Holds.{all_at, any_seen}
@@ -59,6 +60,13 @@ in_piece program formed id =
           all_at (λ p. AllByRecursion (InTables program.tables) p.body) (pieces_in program id.proc) id.piece no_piece (in_pieces program.tables formed.tables (range_with_len 0 _) (pieces_in program id.proc) one.pieces) there.piece)
     ]
 
+in_exposed : (program : Workload) → IsProgram program → (id : PieceId) → AllByRecursion (InTables program.tables) (exposed program id)
+in_exposed program formed id = go (is_view_in program id.proc)
+  where
+    go : (b : Bool) → AllByRecursion (InTables program.tables) (cond b [] (piece_of program id).body)
+    go true = tt
+    go false = in_piece program formed id
+
 -- ---- a mark tells a collision
 
 at_column : (a b : Access) → a.column < 16 → is_at (column_of a) b ≡ is_same_column a b
@@ -82,7 +90,7 @@ none_collide value (t ∷ ts) = none_collide value ts
 
 module _ (program : Workload) (id : PieceId) where
   abbrev body : List Statement
-  body = (piece_of program id).body
+  body = exposed program id
 
   mark_at : (test : ℕ → Statement → Bool) (a : Access) → a.table < length program.tables → a.column < 16 → get_or (marks test body (16 * length program.tables)) (column_of a) false ≡ list_any (test (column_of a)) body
   mark_at test a table column = get_or-map-range_with_len (λ n. list_any (test n) body) 0 (16 * length program.tables) (column_of a) (column_of a) false (omega arith) (omega arith)
@@ -97,11 +105,12 @@ module _ (program : Workload) (id : PieceId) where
   each_collides (s ∷ ss) h =
       ap (λ b. b || list_any (collides (gathered_columns program id)) ss) (collides_is s h.0) ∙ ap (λ b. list_any (collide s) body || b) (each_collides ss h.1)
 
-  pub conflict_is : IsProgram program → (one : PieceId) (statements : List code.Statement) (columns : Columns) (r : Bool) → columns ≡ gathered_columns program id → map view.statement statements ≡ (piece_of program one).body
+  pub conflict_is : IsProgram program → (one : PieceId) (statements : List code.Statement) (columns : Columns) (r : Bool) → columns ≡ gathered_columns program id → map view.statement statements ≡ exposed program one
       → r ≡ list_any (λ s. collides columns (view.statement s)) statements → r ≡ are_in_conflict program one id
   conflict_is formed one statements columns r known is h =
       h ∙ sym (any_seen (collides columns) view.statement statements) ∙ ap (list_any (collides columns)) is
-      ∙ ap (λ (c : Columns). list_any (collides c) (piece_of program one).body) known ∙ each_collides (piece_of program one).body (in_piece program formed one)
+      ∙ ap (λ (c : Columns). list_any (collides c) (exposed program one)) known ∙ each_collides (exposed program one) (in_exposed program formed one)
+      ∙ sym (in_conflict_exposed program one id)
 
 -- ---- those of all pieces
 

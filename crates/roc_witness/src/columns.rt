@@ -1,14 +1,12 @@
-//! Which columns a piece reads and writes, gathered once.
+//! Which columns a piece reads and writes, gathered once. A piece of a view counts as one without statements.
 ghost use Rattle.std.specs.Prelude.{◌≡◌, ◌+◌, ◌*◌, false, length, map, slice_index_or, IfOk};
 ghost use Rattle.std.specs.List.{list_any};
 ghost use Rattle.roc_program.specs.Parts as view;
-ghost use Rattle.roc_program.specs.Pieces.{piece_of};
 ghost use Rattle.roc_program.specs.Conflict.{are_in_conflict};
-ghost use Rattle.roc_program.specs.WellFormed.{IsProgram};
 ghost use Rattle.roc_witness.specs.Inner.Columns as spec;
 
 use roc_base::NoMemory;
-use roc_program::{Access, PieceId, Statement, Workload};
+use roc_program::{Access, PieceId, Statement, Workload, exposed};
 use roc_sequence::Sequence;
 use std::alloc::Global;
 
@@ -32,7 +30,7 @@ impl Columns {
     ) -> Result<Columns, NoMemory>
         ensures { IfOk result (λ c. c ≡ spec.gathered_columns workload.now piece) }
     {
-        let body = body_of(workload, piece);
+        let body = exposed(workload, piece);
         let count = numbers(workload);
         Ok(Columns {
             piece,
@@ -46,7 +44,8 @@ impl Columns {
         requires { self.now ≡ spec.gathered_columns workload.now self.now.piece }
         ensures { result ≡ are_in_conflict workload.now one self.now.piece }
     {
-        self.collide_with_any(body_of(workload, one))
+        let _ = workload.procedures();
+        self.collide_with_any(exposed(workload, one))
     }
 
     fn collide_with_any(&self, body: &[Statement]) -> bool
@@ -72,20 +71,6 @@ fn numbers(workload: &Workload) -> u16
     ensures { result ≡ 16 * length workload.now.tables }
 {
     COLUMNS * workload.tables().len() as u16
-}
-
-// The statements of a piece; one that is not there has none.
-fn body_of(workload: &Workload, id: PieceId) -> &[Statement]
-    ensures value { map view.statement result.now ≡ (piece_of workload.now id).body }
-    ensures well_formed { IsProgram workload.now }
-{
-    match workload.procedures().get(usize::from(id.proc)) {
-        Some(procedure) => match procedure.pieces.get(usize::from(id.piece)) {
-            Some(piece) => piece.body.as_slice(),
-            None => &[],
-        },
-        None => &[],
-    }
 }
 
 fn column_of(table: u8, column: u8) -> usize

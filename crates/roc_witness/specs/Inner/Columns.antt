@@ -2,7 +2,7 @@
 use Rattle.std.specs.Prelude.{◌≡◌, ℕ, ◌+◌, ◌*◌, ◌/◌, ◌%◌, Bool, false, ◌&&◌, ◌==◌, List, length, map, slice_index_or}
 use Rattle.std.specs.List.{list_any, range_with_len}
 use Rattle.roc_program.specs.Program.{Access, Statement, Get, Set, Out, Workload}
-use Rattle.roc_program.specs.Pieces.{piece_of}
+use Rattle.roc_program.specs.Conflict.{exposed}
 use Rattle.roc_program.specs.declared.piece_id.PieceId.{PieceId}
 use Rattle.roc_witness.specs.declared.columns.Columns.{Columns}
 use Rattle.roc_witness.specs.Inner.Table.{numbered_piece}
@@ -28,10 +28,10 @@ writes n (Out value) = false
 abbrev pub marks : (ℕ → Statement → Bool) → List Statement → ℕ → List Bool
 marks test body count = map (λ n. list_any (test n) body) (range_with_len 0 count)
 
--- of each column whether a piece accesses it, and whether it writes it
+-- of each column whether what a piece exposes accesses it, and whether it writes it
 abbrev pub gathered_columns : Workload → PieceId → Columns
 gathered_columns program id =
-    let body = (piece_of program id).body in
+    let body = exposed program id in
     let count = 16 * length program.tables in
     record { piece = id; touched = marks touches body count; written = marks writes body count }
 
