@@ -13,7 +13,7 @@ use Rattle.roc_lang.specs.Scope.{Fault, faults, shards_faults, tables_faults, in
 use Rattle.roc_lang_parse.specs.Fault.{IsWorkloadText}
 use Rattle.roc_lang_parse.specs.Stuck.{Reading, head_is}
 use Rattle.roc_lang_parse.specs.Parts.{has_word, first_at, bounded_at, signed_at, many_at, some_at, behind_comma_at}
-use Rattle.roc_lang_parse.specs.Reading.{number_at, variable_at, enclosed_at, pair_at, function_at, pick_at, atom_with, factor_at, loop_at, term_with, signed_term_at, sum_with, rooms, expression_at, access_at, get_at, set_at, out_at, statement_at, head_at, piece_at, names_closed_at, names_or_none_at, arguments_at, procedure_at, said_arity_at, arity_at, table_at, row_at, init_at, front_at, end_at, tables_at, inits_at, procedures_at, text_at, whole_at}
+use Rattle.roc_lang_parse.specs.Reading.{number_at, variable_at, enclosed_at, pair_at, function_at, pick_at, atom_with, factor_at, loop_at, term_with, signed_term_at, sum_with, rooms, expression_at, access_at, get_at, set_at, out_at, statement_at, head_at, piece_at, names_closed_at, names_or_none_at, arguments_at, viewed_at, opening_at, procedure_at, said_arity_at, arity_at, table_at, row_at, init_at, front_at, end_at, tables_at, inits_at, procedures_at, text_at, whole_at}
 use Rattle.roc_lang_parse.proofs.Answers.{read_is}
 use Rattle.roc_generate.specs.WorkloadText.{account_line, pay_lines, mark_lines, generated_workload}
 use Rattle.roc_lang_parse.specs.Scanning.{word_run, line_run, value_from, value_of, word_next, integer_next, comment_next, scanned_step}
@@ -35,7 +35,7 @@ many_none starts item (suc room) ts ends = rw ends refl
 -- ---- procedures
 
 procedures_read : (line : ℕ) → procedures_at standard (procedure_tokens line) ≡ Ok (procedures_tree line, [])
-unfolding procedure_tokens pay_tokens mark_tokens scanned_step word_next integer_next comment_next word_run line_run value_of value_from first_at many_at some_at behind_comma_at number_at variable_at enclosed_at pair_at function_at pick_at atom_with factor_at loop_at term_with signed_term_at sum_with rooms expression_at access_at get_at set_at out_at statement_at head_at piece_at names_closed_at names_or_none_at arguments_at procedure_at
+unfolding procedure_tokens pay_tokens mark_tokens scanned_step word_next integer_next comment_next word_run line_run value_of value_from first_at many_at some_at behind_comma_at number_at variable_at enclosed_at pair_at function_at pick_at atom_with factor_at loop_at term_with signed_term_at sum_with rooms expression_at access_at get_at set_at out_at statement_at head_at piece_at names_closed_at names_or_none_at arguments_at viewed_at opening_at procedure_at
 procedures_read line = refl
 
 procedures_begin : (line : ℕ) → (head_is (has_word (codes "init")) (procedure_tokens line) ≡ false) × (head_is (has_word (codes "table")) (procedure_tokens line) ≡ false)

@@ -24,9 +24,10 @@ take_piece l0 =
     let l3 = l2 + 1 in
     record {
       is_now = false;
+      class_line = l0;
       name = named l0 (codes "take");
       place = value l0 (codes "f");
-      body = Get (named l1 (codes "b")) (balance l1) ∷ Set (balance l2) (Difference (value l2 (codes "b")) (value l2 (codes "n"))) ∷ Out (value l3 (codes "b")) ∷ [];
+      body = Get (named l1 (codes "b")) (balance l1) ∷ Set l2 (balance l2) (Difference (value l2 (codes "b")) (value l2 (codes "n"))) ∷ Out (value l3 (codes "b")) ∷ [];
     }
 
 abbrev pub give_piece : (line : ℕ) → Piece
@@ -36,23 +37,25 @@ give_piece l0 =
     let l3 = l2 + 1 in
     record {
       is_now = false;
+      class_line = l0;
       name = named l0 (codes "give");
       place = value l0 (codes "t");
-      body = Get (named l1 (codes "d")) (balance l1) ∷ Set (balance l2) (Sum (value l2 (codes "d")) (value l2 (codes "n"))) ∷ Out (value l3 (codes "d")) ∷ [];
+      body = Get (named l1 (codes "d")) (balance l1) ∷ Set l2 (balance l2) (Sum (value l2 (codes "d")) (value l2 (codes "n"))) ∷ Out (value l3 (codes "d")) ∷ [];
     }
 
 abbrev pub pay_tree : (line : ℕ) → Procedure
 pay_tree l0 = record {
   name = named l0 (codes "pay");
   arguments = named l0 (codes "f") ∷ named l0 (codes "t") ∷ named l0 (codes "n") ∷ [];
+  is_view = false;
   pieces = take_piece (l0 + 1) ∷ give_piece (l0 + 1 + 1 + 1 + 1 + 1 + 1) ∷ [];
 }
 
 abbrev pub read_piece : (line : ℕ) → Piece
-read_piece l0 = record { is_now = true; name = named l0 (codes "r"); place = value l0 (codes "p"); body = Get (named (l0 + 1) (codes "u")) (count (l0 + 1)) ∷ [] }
+read_piece l0 = record { is_now = true; class_line = l0; name = named l0 (codes "r"); place = value l0 (codes "p"); body = Get (named (l0 + 1) (codes "u")) (count (l0 + 1)) ∷ [] }
 
 abbrev pub write_piece : (line : ℕ) → Piece
-write_piece l0 = record { is_now = true; name = named l0 (codes "w"); place = value l0 (codes "p"); body = Set (count (l0 + 1)) (Sum (value (l0 + 1) (codes "u")) (Number (pos 1))) ∷ [] }
+write_piece l0 = record { is_now = true; class_line = l0; name = named l0 (codes "w"); place = value l0 (codes "p"); body = Set (l0 + 1) (count (l0 + 1)) (Sum (value (l0 + 1) (codes "u")) (Number (pos 1))) ∷ [] }
 
 abbrev pub late_piece : (line : ℕ) → Piece
 late_piece l0 =
@@ -61,15 +64,17 @@ late_piece l0 =
     let l3 = l2 + 1 in
     record {
       is_now = false;
+      class_line = l0;
       name = named l0 (codes "l");
       place = value l0 (codes "q");
-      body = Get (named l1 (codes "b")) (balance l1) ∷ Set (balance l2) (Sum (value l2 (codes "b")) (value l2 (codes "u"))) ∷ Out (value l3 (codes "b")) ∷ [];
+      body = Get (named l1 (codes "b")) (balance l1) ∷ Set l2 (balance l2) (Sum (value l2 (codes "b")) (value l2 (codes "u"))) ∷ Out (value l3 (codes "b")) ∷ [];
     }
 
 abbrev pub mark_tree : (line : ℕ) → Procedure
 mark_tree l0 = record {
   name = named l0 (codes "mark");
   arguments = named l0 (codes "p") ∷ named l0 (codes "q") ∷ [];
+  is_view = false;
   pieces = read_piece (l0 + 1) ∷ write_piece (l0 + 1 + 1 + 1 + 1) ∷ late_piece (l0 + 1 + 1 + 1 + 1 + 1 + 1 + 1) ∷ [];
 }
 
