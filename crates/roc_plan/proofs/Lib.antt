@@ -8,3 +8,4 @@ pub mod Sources
 pub mod Ordered
 pub mod Turned
 pub mod Meetings
+pub mod Views

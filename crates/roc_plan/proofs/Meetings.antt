@@ -19,14 +19,14 @@ use Rattle.roc_plan.proofs.Placed.{group_again}
 use Rattle.roc_plan.proofs.Classed.{same_number, class_of_piece}
 
 -- two pieces of the groups are in conflict
-record IsMeeting (plan : Plan) (p g q h : ℕ) : Type 0 where
-  x : ℕ
-  y : ℕ
-  one : Has x (group_of plan p g).pieces
-  other : Has y (group_of plan q h).pieces
-  conflict : are_in_conflict plan.program (piece_numbered p x) (piece_numbered q y) ≡ true
+pub record IsMeeting (plan : Plan) (p g q h : ℕ) : Type 0 where
+  pub x : ℕ
+  pub y : ℕ
+  pub one : Has x (group_of plan p g).pieces
+  pub other : Has y (group_of plan q h).pieces
+  pub conflict : are_in_conflict plan.program (piece_numbered p x) (piece_numbered q y) ≡ true
 
-meeting : (plan : Plan) (p g q h : ℕ) → may_meet plan p g q h ≡ true → IsMeeting plan p g q h
+pub meeting : (plan : Plan) (p g q h : ℕ) → may_meet plan p g q h ≡ true → IsMeeting plan p g q h
 meeting plan p g q h m =
     let x = any_has (λ x. list_any (λ y. are_in_conflict plan.program (piece_numbered p x) (piece_numbered q y)) (group_of plan q h).pieces) (group_of plan p g).pieces m in
     let y = any_has (λ y. are_in_conflict plan.program (piece_numbered p x.0) (piece_numbered q y)) (group_of plan q h).pieces x.2 in

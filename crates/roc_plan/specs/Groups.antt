@@ -3,7 +3,7 @@ use Rattle.std.specs.Prelude.{ℕ, ℤ, pos, Bool, false, not, ◌&&◌, ◌==�
 use Rattle.std.specs.List.{flat_map, list_any, position_or_len, range_with_len}
 use Rattle.std.specs.Int.{int_rem_euclid}
 use Rattle.roc_program.specs.Program.{Workload, Procedure, Piece}
-use Rattle.roc_program.specs.LookUps.{no_piece, no_procedure}
+use Rattle.roc_program.specs.LookUps.{no_piece, no_procedure, is_view_in, is_transaction_in}
 use Rattle.roc_program.specs.Names.{piece_uses, bindings, outputs, has_name}
 use Rattle.roc_program.specs.Values.{Environment, with_arguments, value}
 use Rattle.roc_plan.specs.declared.group.Class.{Class}
@@ -71,6 +71,14 @@ place_in procedure group arguments inputs =
 
 abbrev pub procedure_of : Plan → ℕ → Procedure
 procedure_of plan proc = slice_index_or plan.program.procedures proc no_procedure
+
+-- the procedure only reads; one that is not there is no view
+abbrev pub is_view_of : Plan → ℕ → Bool
+is_view_of plan proc = is_view_in plan.program proc
+
+-- there is such a procedure, and it may write
+abbrev pub is_transaction : Plan → ℕ → Bool
+is_transaction plan proc = is_transaction_in plan.program proc
 
 abbrev pub groups_of : Plan → ℕ → List Group
 groups_of plan proc = slice_index_or plan.groups proc []

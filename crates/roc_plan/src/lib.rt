@@ -9,7 +9,7 @@
 //! what a group takes comes from other groups of its procedure, which are immediate and bind it; the groups of a
 //! procedure can run one after another, each behind those that it takes values from (`specs/Turns.antt`); groups that
 //! may meet are of one class; of one procedure at most one group is immediate and may meet any, and two groups, one of
-//! them immediate, never meet.
+//! them immediate, never meet; and each piece of a view is a group by itself, which takes nothing and meets nobody.
 #![tactic(auto)]
 
 mod group;

@@ -3,14 +3,14 @@ ghost use Rattle.std.specs.Prelude.{◌≡◌, ◌<◌, length, map, position, s
 ghost use Rattle.std.specs.Str.{bytes_eq};
 ghost use Rattle.std.specs.String.{string_bytes};
 ghost use Rattle.roc_program.specs.LookUps.{procedure_named};
-ghost use Rattle.roc_plan.specs.Groups.{procedure_of, groups_of, group_of, group_class, bound_of, inputs_in, inputs_of, outs_of, group_place, shard_of};
+ghost use Rattle.roc_plan.specs.Groups.{procedure_of, is_view_of, is_transaction, groups_of, group_of, group_class, bound_of, inputs_in, inputs_of, outs_of, group_place, shard_of};
 ghost use Rattle.roc_plan.specs.Accepted.{IsAccepted};
 ghost use Rattle.roc_plan.specs.Outlines.{outlined_plan, row_of, AreOutlines};
 
 use crate::place::names_with;
 use crate::{Class, Input, Known, Outline};
 use roc_base::Shard;
-use roc_program::{Procedure, Workload};
+use roc_program::{Procedure, Workload, is_view};
 use std::marker::Model;
 
 /// A workload with its pieces in groups.
@@ -76,6 +76,21 @@ impl Plan {
         ensures { result ≡ (procedure_of self.now proc).arguments }
     {
         self.workload.procedures()[proc as usize].arguments
+    }
+
+    /// Whether a procedure is a view, which only reads.
+    pub fn is_view(&self, proc: u16) -> bool
+        requires { proc < length self.now.program.procedures }
+        ensures { result ≡ is_view_of self.now proc }
+    {
+        is_view(&self.workload, proc)
+    }
+
+    /// Whether there is a procedure of this number that may write: one that is no view.
+    pub fn is_transaction(&self, proc: u16) -> bool
+        ensures { result ≡ is_transaction self.now proc }
+    {
+        usize::from(proc) < self.workload.procedures().len() && !is_view(&self.workload, proc)
     }
 
     /// How many groups a procedure has.
