@@ -2,3 +2,4 @@ pub mod CellLaws
 pub mod Stored
 pub mod Listed
 pub mod Stores
+pub mod Counts

@@ -2,3 +2,4 @@
 pub mod Cells
 pub mod Writes
 pub mod Kept
+pub mod Counted

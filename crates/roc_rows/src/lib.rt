@@ -6,11 +6,17 @@
 //! that cell and what was there before in every other, and two stores that read alike are equal ([`laws`]). `nonzero`
 //! lists exactly the cells that are not 0, rising. A set cannot fail while `spare` is positive, and takes at most one
 //! of it.
+//!
+//! Beside them stand `Versions`: how often each cell was written, up to 2^64 - 1 (`specs/Versions.antt`). `get` is
+//! `version`, `count` is `counted`, a count raises the version of its cell by one and of no other ([`laws`]), and with
+//! `spare` it is as with sets.
 #![tactic(auto)]
 
 mod cell;
 pub mod laws;
 mod rows;
+mod versions;
 
 pub use cell::Cell;
 pub use rows::Rows;
+pub use versions::Versions;
