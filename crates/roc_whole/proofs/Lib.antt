@@ -2,3 +2,4 @@ pub mod Names
 pub mod Replies
 pub mod SerialRuns
 pub mod Replied
+pub mod Reading

@@ -4,8 +4,8 @@
 //!
 //! The layers above may rely on this: [`run_whole`] changes the cells and adds to the reply exactly as the whole run
 //! does, [`run_piece`] does one piece's part of it from any values of names, and [`start_rows`] has what all cells hold
-//! before anything runs; if memory is wanting, a part of a run may be done. By [`laws`] replies are added to, and
-//! serial runs compose.
+//! before anything runs; if memory is wanting, a part of a run may be done. By [`laws`] replies are added to, serial
+//! runs compose, and whole runs of views leave the store.
 #![tactic(auto)]
 
 pub mod laws;
