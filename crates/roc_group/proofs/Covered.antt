@@ -13,9 +13,10 @@ use Rattle.roc_program.specs.Program.{Access as Column, Statement, Get, Set, Out
 use Rattle.roc_program.specs.LookUps.{no_piece}
 use Rattle.roc_program.specs.Conflict.{collide, conflict, are_in_conflict}
 use Rattle.roc_program.specs.Values.{Environment, value}
+use Rattle.roc_program.proofs.Conflicts.{in_conflict_from}
 use Rattle.roc_whole.specs.Run.{Progress, after_statement, after_piece}
 use Rattle.roc_merge_groups.specs.Groups.{piece_numbered}
-use Rattle.roc_plan.specs.Groups.{Plan, procedure_of, group_of}
+use Rattle.roc_plan.specs.Groups.{Plan, procedure_of, is_view_of, group_of}
 use Rattle.roc_plan.specs.Turns.{may_meet}
 use Rattle.roc_group.specs.declared.access.Access.{Access}
 use Rattle.roc_group.specs.Accesses.{uses_of_body, uses_of_piece, uses_of_pieces, meets, do_conflict}
@@ -96,8 +97,8 @@ meet_in_conflict x y s u a b in_x in_y from_s from_u same writes =
     there_too v e = subst (λ c. may_write v c ≡ true) (sym (is_cell-true a.cell b.cell same)) e
 
 -- what groups do is within what their pieces may do
-pub meet_covered : (plan : Plan) (b c : GroupCall) (s t : Store) → do_conflict (group_uses plan b s) (group_uses plan c t) ≡ true → may_meet plan b.proc b.group c.proc c.group ≡ true
-meet_covered plan b c s t h =
+pub meet_covered : (plan : Plan) (b c : GroupCall) (s t : Store) → is_view_of plan b.proc ≡ false → is_view_of plan c.proc ≡ false → do_conflict (group_uses plan b s) (group_uses plan c t) ≡ true → may_meet plan b.proc b.group c.proc c.group ≡ true
+meet_covered plan b c s t no_view no_other_view h =
     let one = any_has (meets (group_uses plan c t)) (group_uses plan b s) h in
     let other = any_has (λ u. is_cell one.0.cell u.cell && (one.0.writes || u.writes)) (group_uses plan c t) one.2 in
     let parts = and_parts (is_cell one.0.cell other.0.cell) (one.0.writes || other.0.writes) other.2 in
@@ -108,7 +109,11 @@ meet_covered plan b c s t h =
     let meeting : conflict x.0 y.0 ≡ true = meet_in_conflict x.0 y.0 x.2 y.2 one.0 other.0 x.3 y.3 x.4 y.4 parts.0 parts.1 in
     has_any (λ k. list_any (λ l. are_in_conflict plan.program (piece_numbered b.proc k) (piece_numbered c.proc l)) (group_of plan c.proc c.group).pieces) (group_of plan b.proc b.group).pieces i.0 i.1
     (has_any (λ l. are_in_conflict plan.program (piece_numbered b.proc i.0) (piece_numbered c.proc l)) (group_of plan c.proc c.group).pieces j.0 j.1
-    (subst (λ q. conflict (get_or (procedure_of plan b.proc).pieces i.0 no_piece) q ≡ true) j.2 (subst (λ q. conflict q y.0 ≡ true) i.2 meeting)))
+    (in_conflict_from plan.program (piece_numbered b.proc i.0) (piece_numbered c.proc j.0) (record {
+      first = no_view;
+      second = no_other_view;
+      meet = subst (λ q. conflict (get_or (procedure_of plan b.proc).pieces i.0 no_piece) q ≡ true) j.2 (subst (λ q. conflict q y.0 ≡ true) i.2 meeting);
+    })))
   where
     and_parts : (a b : Bool) → (a && b) ≡ true → (a ≡ true) × (b ≡ true)
     and_parts true b e = (refl, e)

@@ -6,6 +6,7 @@ pub mod Starts
 pub mod GroupStarts
 pub mod Grouped
 pub mod Covered
+pub mod Views
 pub mod Placed
 pub mod Steady
 pub mod Ran

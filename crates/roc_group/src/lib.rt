@@ -8,8 +8,9 @@
 //! lists of uses have a cell in common that one of them writes, without memory.
 //!
 //! By [`laws`], of accepted plans: what a deferrable group uses follows from what it is given, and the cells of each
-//! group are at its place. Of all plans: groups whose cells conflict may meet by static conflict; and what a group does
-//! follows from the cells that it reads, and it changes none but those that it uses as writes.
+//! group are at its place, and groups of views only read. Of all plans: groups whose cells conflict, and that are of no
+//! view, may meet by static conflict; and what a group does follows from the cells that it reads, and it changes none but
+//! those that it uses as writes.
 #![tactic(auto)]
 
 mod access;
