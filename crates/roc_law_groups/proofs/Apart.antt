@@ -1,30 +1,28 @@
 -- Pieces of groups in turn pass none that touches what they touch
-use Rattle.std.proofs.Common.{◌≡◌, ◌≢◌, ℕ, zero, suc, ◌<◌, ◌≤◌, ◌+◌, Bool, true, false, cond, not, ◌&&◌, ◌==◌, List, [], ◌∷◌, ◌++◌, length, map, filter, get_or, refl, sym, ap, subst, ◌∙◌, ◌⊎◌, inl, inr, arith}
-use Rattle.std.specs.Bool.{nat_lt}
-use Rattle.std.specs.List.{AllByRecursion, list_any, flat_map, range_with_len}
-use Rattle.std.proofs.lemmas.Bool.{false≢true, eq-eqb, eqb-true, ltb-true, cases_eq}
+use Rattle.std.proofs.Common.{◌≡◌, ℕ, zero, suc, ◌<◌, ◌≤◌, ◌+◌, Bool, true, false, cond, not, ◌==◌, List, length, map, refl, sym, ap, subst, ◌∙◌, inl, inr, arith}
+use Rattle.std.specs.List.{flat_map, range_with_len}
+use Rattle.std.proofs.lemmas.Bool.{false≢true, eq-eqb, eqb-true, cases_eq}
 use Rattle.roc_sequence.specs.Lists.{Has}
-use Rattle.roc_sequence.specs.Places.{place_of, IsListed, IsListedBefore, NoneTwice}
-use Rattle.roc_sequence.specs.Rising.{IsRising}
-use Rattle.roc_sequence.proofs.Holds.{all_has, all_at, any_has, has_any}
-use Rattle.roc_sequence.proofs.Members.{has_map, has_filter, has_left, has_right, has_flat_map, from_has_flat_map}
+use Rattle.roc_sequence.specs.Places.{place_of, IsListedBefore}
+use Rattle.roc_sequence.proofs.Holds.{all_has, any_has, has_any}
+use Rattle.roc_sequence.proofs.Members.{has_map, has_flat_map, from_has_flat_map}
 use Rattle.roc_sequence.proofs.Filtered.{before_filter, from_before_filter}
 use Rattle.roc_rows.specs.declared.cell.Cell.{Cell}
-use Rattle.roc_program.specs.Program.{Piece, Procedure}
-use Rattle.roc_program.specs.Conflict.{conflict, are_in_conflict}
+use Rattle.roc_program.specs.Program.{Procedure}
+use Rattle.roc_program.specs.Conflict.{are_in_conflict}
 use Rattle.roc_program.specs.Names.{piece_uses, bindings_of, bindings, has_name}
-use Rattle.roc_merge_groups.specs.Groups.{piece_numbered, first_piece}
-use Rattle.roc_merge_groups.specs.Flow.{feeds}
-use Rattle.roc_merge_groups.proofs.Elements.{rising_across, numbers_one_way}
-use Rattle.roc_merge_groups.proofs.Forward.{forward, name_has, has_named}
+use Rattle.roc_program.proofs.Conflicts.{in_conflict_from}
+use Rattle.roc_program.proofs.Views.{view_reads}
+use Rattle.roc_merge_groups.specs.Groups.{piece_numbered}
+use Rattle.roc_merge_groups.proofs.Forward.{forward, name_has}
 use Rattle.roc_merge_groups.proofs.Accepting.{pieces_apart}
 use Rattle.roc_conflict.proofs.Mirrored.{conflict_mirrored}
 use Rattle.roc_plan.specs.declared.group.Input.{Input}
-use Rattle.roc_plan.specs.Groups.{Plan, Group, groups_of, is_immediate_of, inputs_in, inputs_of, bound_in, source_in}
+use Rattle.roc_plan.specs.Groups.{Plan, is_view_of, groups_of, is_immediate_of, inputs_in, inputs_of, bound_in, source_in}
 use Rattle.roc_plan.specs.Accepted.{IsAccepted, grouping_of, is_piece_immediate}
 use Rattle.roc_plan.specs.Turns.{AreInTurn}
-use Rattle.roc_group.proofs.Touches.{binds_in, known_in, touches, writes, not_true}
-use Rattle.roc_law_groups.proofs.Commuting.{AreIndependent}
+use Rattle.roc_group.proofs.Touches.{binds_in, touches, writes, not_true}
+use Rattle.roc_group.proofs.Views.{reads_write_nothing}
 use Rattle.roc_law_groups.proofs.Sorting.{MayStand}
 use Rattle.roc_group.proofs.Starts.{bound_named, used_or_bound}
 use Rattle.roc_group.proofs.GroupStarts.{at, pieces_bound, binder, somewhere, is_taken}
@@ -119,12 +117,25 @@ module _ (plan : Plan) (proc : ℕ) (ok : IsAccepted plan) (there : proc < lengt
         go false e false f =
             let l : y < x = first_pieces plan proc ok there g h y x in_g in_h e f (by_number g h b e f) in absurd (omega (arith, l, less))
 
+    -- pieces of one procedure that write and touch one column are in conflict: it is no view, since it writes
+    in_conflict_of : (k l : ℕ) (c : Cell) → writes (at (pr plan proc ok there) k) c ≡ true → touches (at (pr plan proc ok there) l) c ≡ true
+        → are_in_conflict plan.program (piece_numbered proc k) (piece_numbered proc l) ≡ true
+    in_conflict_of k l c w t = go (is_view_of plan proc) refl
+      where
+        go : (v : Bool) → is_view_of plan proc ≡ v → are_in_conflict plan.program (piece_numbered proc k) (piece_numbered proc l) ≡ true
+        go true e = absurd (false≢true (sym (reads_write_nothing (at (pr plan proc ok there) k) c (view_reads plan.program (piece_numbered proc k) ok.well_formed e)) ∙ w))
+        go false e = in_conflict_from plan.program (piece_numbered proc k) (piece_numbered proc l) (record {
+          first = e;
+          second = e;
+          meet = conflict_of (at (pr plan proc ok there) k) (at (pr plan proc ok there) l) c w t;
+        })
+
     pub may_follow : MayFollow (at (pr plan proc ok there)) y x
     may_follow = (
       not_true (x == y) (λ e. same_piece (eqb-true x y e)),
       λ less. record {
-        columns = λ c t. not_true (writes (at (pr plan proc ok there) x) c) (λ w. false≢true (sym (no_meeting less) ∙ conflict_mirrored plan.program (piece_numbered proc y) (piece_numbered proc x) ∙ conflict_of (at (pr plan proc ok there) x) (at (pr plan proc ok there) y) c w t));
-        other_columns = λ c t. not_true (writes (at (pr plan proc ok there) y) c) (λ w. false≢true (sym (no_meeting less) ∙ conflict_of (at (pr plan proc ok there) y) (at (pr plan proc ok there) x) c w t));
+        columns = λ c t. not_true (writes (at (pr plan proc ok there) x) c) (λ w. false≢true (sym (no_meeting less) ∙ conflict_mirrored plan.program (piece_numbered proc y) (piece_numbered proc x) ∙ in_conflict_of x y c w t));
+        other_columns = λ c t. not_true (writes (at (pr plan proc ok there) y) c) (λ w. false≢true (sym (no_meeting less) ∙ in_conflict_of y x c w t));
         names = λ n k. not_true (binds_in (at (pr plan proc ok there) x) n) (λ e. elim (used_or_bound (at (pr plan proc ok there) y) n k) [ inl u ↦ no_use n u e | inr f ↦ same_piece (binder (pr plan proc ok there) (has_names plan proc ok there) x y n e f) ]);
         other_names = λ n k. not_true (binds_in (at (pr plan proc ok there) y) n) (λ e. elim (used_or_bound (at (pr plan proc ok there) x) n k) [
           | inl u ↦ backward n u e less

@@ -1,6 +1,5 @@
 -- Two pieces that touch nothing of one another may run in either order
-use Rattle.std.proofs.Common.{◌≡◌, ℕ, ◌<◌, ℤ, pos, Bool, true, false, List, [], length, get_or, refl, sym, ap, ◌∙◌, arith}
-use Rattle.std.proofs.lemmas.Bool.{false≢true}
+use Rattle.std.proofs.Common.{◌≡◌, ℕ, pos, Bool, true, false, [], length, refl, sym, ◌∙◌}
 use Rattle.roc_rows.specs.declared.cell.Cell.{Cell}
 use Rattle.roc_rows.specs.Store.{read}
 use Rattle.roc_rows.proofs.Stored.{same_store}

@@ -1,27 +1,25 @@
 -- A group's run, where all pieces before it have run, is that of its pieces there
-use Rattle.std.proofs.Common.{◌≡◌, ℕ, ◌<◌, ℤ, pos, Bool, true, false, ◌||◌, ◌==◌, if◌then◌else◌, List, [], ◌∷◌, ◌++◌, length, map, get_or, refl, sym, ap, subst, ◌∙◌, ◌⊎◌, inl, inr, arith, append_assoc, append-nil}
-use Rattle.std.specs.List.{AllByRecursion, list_any, flat_map, position_or_len}
-use Rattle.std.proofs.lemmas.Bool.{false≢true, eq-eqb, eqb-true, or_parts}
-use Rattle.std.proofs.lemmas.List.{get_or-map, length-map, map-append}
+use Rattle.std.proofs.Common.{◌≡◌, ℕ, ℤ, pos, Bool, true, false, ◌||◌, ◌==◌, if◌then◌else◌, List, [], ◌∷◌, ◌++◌, length, map, get_or, refl, sym, ap, subst, ◌∙◌, inl, inr, append-nil}
+use Rattle.std.specs.List.{AllByRecursion, flat_map}
+use Rattle.std.proofs.lemmas.Bool.{eq-eqb, eqb-true, or_parts}
+use Rattle.std.proofs.lemmas.List.{get_or-map, map-append}
 use Rattle.std.proofs.lemmas.List.Concat.{flat_map-append}
 use Rattle.std.proofs.lemmas.List.Folds.{list_any-append}
 use Rattle.roc_merge_groups.proofs.Forward.{name_has, has_named}
 use Rattle.roc_sequence.specs.Lists.{Has}
-use Rattle.roc_sequence.proofs.Holds.{all_has, has_all, has_any, none_has}
-use Rattle.roc_sequence.proofs.Members.{has_left, has_right, has_append, has_map, has_flat_map, from_has_flat_map}
-use Rattle.roc_rows.specs.Store.{Store}
+use Rattle.roc_sequence.proofs.Holds.{all_has}
+use Rattle.roc_sequence.proofs.Members.{has_append, has_map, has_flat_map}
 use Rattle.roc_rows.proofs.Stored.{same_store}
-use Rattle.roc_program.specs.Program.{Piece, Procedure}
-use Rattle.roc_program.specs.LookUps.{no_piece}
+use Rattle.roc_program.specs.Program.{Piece}
 use Rattle.roc_program.specs.Values.{Environment, value_of_name, with_arguments}
 use Rattle.roc_program.specs.Names.{bindings, has_name}
-use Rattle.roc_whole.specs.Run.{Progress, progress, after_piece, after_pieces}
+use Rattle.roc_whole.specs.Run.{Progress, progress, after_pieces}
 use Rattle.roc_plan.specs.declared.group.Input.{Input}
-use Rattle.roc_plan.specs.Groups.{Plan, Group, no_group, procedure_of, groups_of, group_of, bound_in, bound_of, inputs_in, inputs_of, source_in, with_values}
+use Rattle.roc_plan.specs.Groups.{Plan, procedure_of, groups_of, group_of, bound_of, inputs_in, inputs_of, source_in, with_values}
 use Rattle.roc_group.specs.GroupRun.{GroupCall, group_run, bound_by_run}
-use Rattle.roc_law_groups.specs.GroupsRun.{Given, TurnStage, bound_by, taken, call_of, after_turn, after_turns}
+use Rattle.roc_law_groups.specs.GroupsRun.{Given, TurnStage, bound_by, taken, call_of, after_turn}
 use Rattle.roc_group.proofs.Alike.{Alike}
-use Rattle.roc_law_groups.proofs.Moving.{run_all, spoken, said_by, run_in_words, run_all-append, run_all-quiet}
+use Rattle.roc_law_groups.proofs.Moving.{run_all, spoken, run_in_words, run_all-quiet}
 use Rattle.roc_group.proofs.Touches.{binds_in, known_in, any_implied, bound_known, not_true, binds_any, knows_any}
 use Rattle.roc_group.proofs.Starts.{at_position, position_within}
 use Rattle.roc_law_groups.proofs.Stages.{run_long, run_value, DoAlike, do_alike}

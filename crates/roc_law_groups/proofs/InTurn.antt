@@ -1,25 +1,22 @@
 -- The groups of a procedure in turn, one after another, and where they end
-use Rattle.std.proofs.Common.{◌≡◌, ℕ, zero, suc, ◌<◌, ◌≤◌, ◌+◌, ℤ, pos, Bool, true, false, cond, ◌==◌, List, [], ◌∷◌, ◌++◌, length, map, get_or, refl, sym, ap, subst, ◌∙◌, ◌⊎◌, inl, inr, arith, append_assoc, append-nil}
-use Rattle.std.specs.Bool.{nat_lt}
+use Rattle.std.proofs.Common.{◌≡◌, ℕ, suc, ◌<◌, ℤ, pos, Bool, true, false, cond, ◌==◌, List, [], ◌∷◌, ◌++◌, length, map, get_or, refl, sym, ap, subst, ◌∙◌, inl, inr, arith, append_assoc, append-nil}
 use Rattle.std.specs.List.{AllByRecursion, flat_map, range_with_len}
 use Rattle.std.proofs.lemmas.Bool.{false≢true, eq-eqb, eqb-true}
 use Rattle.std.proofs.lemmas.List.Concat.{flat_map-append}
 use Rattle.roc_sequence.specs.Lists.{Has}
 use Rattle.roc_sequence.specs.Places.{place_of, IsListedBefore, NoneTwice, IsListed}
-use Rattle.roc_sequence.specs.Rising.{IsRising}
-use Rattle.roc_sequence.proofs.Holds.{all_has, has_all, all_weaker, all_append}
+use Rattle.roc_sequence.proofs.Holds.{all_has, all_weaker, all_append}
 use Rattle.roc_sequence.proofs.Ranges.{range_below}
 use Rattle.roc_sequence.proofs.Members.{from_has_flat_map}
 use Rattle.roc_rows.specs.Store.{Store}
-use Rattle.roc_program.specs.Program.{Piece, Procedure}
+use Rattle.roc_program.specs.Program.{Piece}
 use Rattle.roc_program.specs.Values.{with_arguments}
 use Rattle.roc_whole.specs.Run.{Progress, progress, after_pieces, whole_run}
 use Rattle.roc_merge_groups.proofs.Elements.{range_rising, has_range}
 use Rattle.roc_plan.specs.Groups.{Plan, procedure_of, group_of, inputs_of, outs_of}
 use Rattle.roc_plan.specs.Accepted.{IsAccepted}
 use Rattle.roc_plan.specs.Turns.{AreInTurn}
-use Rattle.roc_group.specs.GroupRun.{group_run}
-use Rattle.roc_law_groups.specs.GroupsRun.{Given, TurnStage, call_of, after_turn, after_turns, DoAs}
+use Rattle.roc_law_groups.specs.GroupsRun.{Given, TurnStage, after_turn, after_turns, DoAs}
 use Rattle.roc_law_groups.proofs.Moving.{run_all, spoken, said_by, run_in_words, run_all-append, same_end, same_said, IsReordered}
 use Rattle.roc_law_groups.proofs.Sorting.{reordered}
 use Rattle.roc_group.proofs.GroupStarts.{at}

@@ -1,5 +1,5 @@
 -- Pieces in another order: each that moves before others is independent of these
-use Rattle.std.proofs.Common.{◌≡◌, ℕ, ℤ, Bool, true, false, ◌==◌, if◌then◌else◌, List, [], ◌∷◌, ◌++◌, map, refl, sym, ap, subst, ◌∙◌, append_assoc}
+use Rattle.std.proofs.Common.{◌≡◌, ℕ, ℤ, Bool, true, false, ◌==◌, if◌then◌else◌, List, [], ◌∷◌, ◌++◌, map, refl, sym, ap, ◌∙◌}
 use Rattle.std.specs.List.{AllByRecursion}
 use Rattle.std.proofs.lemmas.Bool.{false≢true, eqb-true, eq-eqb}
 use Rattle.roc_rows.specs.Store.{Store}
@@ -7,7 +7,7 @@ use Rattle.roc_program.specs.Program.{Piece}
 use Rattle.roc_whole.specs.Run.{Progress, progress, behind, after_piece, after_pieces}
 use Rattle.roc_whole.proofs.Replies.{after_pieces-said}
 use Rattle.roc_group.proofs.Touches.{not_true}
-use Rattle.roc_law_groups.proofs.Commuting.{AreIndependent, quiet, then_piece, commute, says_alike, says_alike_first}
+use Rattle.roc_law_groups.proofs.Commuting.{AreIndependent, then_piece, commute, says_alike, says_alike_first}
 
 module _ (at : ℕ → Piece) where
   -- pieces by number, one after another

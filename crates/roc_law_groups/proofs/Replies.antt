@@ -1,14 +1,12 @@
 -- What the pieces say, piece by piece, and its places in the reply
-use Rattle.std.proofs.Common.{◌≡◌, ℕ, zero, suc, ◌+◌, ◌<◌, ◌≤◌, ℤ, pos, Bool, true, false, ◌==◌, if◌then◌else◌, List, [], ◌∷◌, ◌++◌, length, map, get_or, take, refl, sym, ap, subst, ◌∙◌, arith, append_assoc, append-nil, ◌⊎◌, inl, inr}
-use Rattle.std.specs.List.{AllByRecursion, flat_map, filter_map, range_with_len}
-use Rattle.std.proofs.lemmas.Bool.{false≢true, eq-eqb, eqb-true}
-use Rattle.std.proofs.lemmas.List.{map-append}
+use Rattle.std.proofs.Common.{◌≡◌, ℕ, zero, suc, ◌+◌, ℤ, pos, ◌==◌, if◌then◌else◌, List, [], ◌∷◌, ◌++◌, length, map, get_or, refl, sym, ap, subst, ◌∙◌, arith, append-nil, inl, inr}
+use Rattle.std.specs.List.{flat_map, filter_map, range_with_len}
+use Rattle.std.proofs.lemmas.Bool.{eq-eqb, eqb-true}
 use Rattle.roc_sequence.specs.Lists.{Has}
-use Rattle.roc_program.specs.Program.{Piece, Procedure}
-use Rattle.roc_program.specs.LookUps.{no_piece}
+use Rattle.roc_program.specs.Program.{Piece}
 use Rattle.roc_program.specs.Values.{value}
 use Rattle.roc_program.specs.Names.{output, outputs}
-use Rattle.roc_whole.specs.Run.{Progress, progress, after_piece}
+use Rattle.roc_whole.specs.Run.{Progress, after_piece}
 use Rattle.roc_whole.proofs.Replied.{body_long}
 use Rattle.roc_group.proofs.Touches.{not_true}
 use Rattle.roc_law_groups.proofs.Commuting.{then_piece}

@@ -1,12 +1,12 @@
 -- When a list of pieces is another order of pieces in program order
-use Rattle.std.proofs.Common.{◌≡◌, ℕ, ◌<◌, Bool, true, false, ◌==◌, List, [], ◌∷◌, ◌++◌, refl, sym, ap, subst, ◌∙◌, ◌⊎◌, inl, inr, arith}
+use Rattle.std.proofs.Common.{◌≡◌, ℕ, ◌<◌, true, false, ◌==◌, List, [], ◌∷◌, ◌++◌, refl, sym, ap, subst, ◌∙◌, ◌⊎◌, inl, inr}
 use Rattle.std.proofs.lemmas.Bool.{false≢true, eq-eqb, ltb-true}
 use Rattle.std.specs.Bool.{nat_lt}
 use Rattle.std.specs.List.{AllByRecursion}
 use Rattle.roc_sequence.specs.Lists.{Has}
 use Rattle.roc_sequence.specs.Rising.{IsRising}
 use Rattle.roc_sequence.proofs.Holds.{all_has, has_all}
-use Rattle.roc_sequence.proofs.Members.{has_left, has_right, has_append}
+use Rattle.roc_sequence.proofs.Members.{has_left, has_right}
 use Rattle.roc_program.specs.Program.{Piece}
 use Rattle.roc_merge_groups.proofs.Elements.{rising_across, numbers_one_way}
 use Rattle.roc_law_groups.proofs.Commuting.{AreIndependent}

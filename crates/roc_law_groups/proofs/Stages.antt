@@ -1,19 +1,14 @@
 -- Groups in turn: where they stand is where all their pieces so far would stand
-use Rattle.std.proofs.Common.{◌≡◌, ◌≢◌, ℕ, ◌<◌, ℤ, pos, Bool, true, false, not, ◌&&◌, ◌||◌, ◌==◌, if◌then◌else◌, List, [], ◌∷◌, ◌++◌, length, map, filter, get_or, replicate, refl, sym, ap, subst, ◌∙◌, ◌⊎◌, inl, inr, arith, append_assoc, append-nil}
-use Rattle.std.specs.List.{AllByRecursion, list_any, flat_map, position_or_len}
+use Rattle.std.proofs.Common.{◌≡◌, ℕ, Bool, true, false, ◌||◌, List, [], ◌∷◌, ◌++◌, length, refl, sym, ◌∙◌}
 use Rattle.std.proofs.lemmas.Bool.{false≢true, or_left, or_right}
-use Rattle.roc_sequence.specs.Lists.{Has}
-use Rattle.roc_sequence.proofs.Members.{has_left, has_right, has_append}
 use Rattle.roc_rows.specs.declared.cell.Cell.{Cell}
-use Rattle.roc_rows.specs.Store.{Store}
 use Rattle.roc_program.specs.Program.{Piece}
-use Rattle.roc_program.specs.Values.{Environment, value_of_name}
-use Rattle.roc_program.specs.Names.{bindings, has_name}
-use Rattle.roc_whole.specs.Run.{Progress, progress, after_piece, after_pieces}
-use Rattle.roc_group.proofs.Touches.{touches, binds_in, known_in, binds_any, knows_any}
+use Rattle.roc_program.specs.Values.{value_of_name}
+use Rattle.roc_whole.specs.Run.{Progress, after_piece}
+use Rattle.roc_group.proofs.Touches.{binds_in, known_in, binds_any, knows_any}
 use Rattle.roc_group.proofs.Alike.{Alike, alike_piece}
 use Rattle.roc_law_groups.proofs.Commuting.{then_piece, stays_value, stays_long}
-use Rattle.roc_law_groups.proofs.Moving.{run_all, spoken, run_in_words}
+use Rattle.roc_law_groups.proofs.Moving.{run_all, spoken}
 
 module _ (at : ℕ → Piece) where
   pub run_long : (p : Progress) (ks : List ℕ) → length (run_all at p ks).environment ≡ length p.environment

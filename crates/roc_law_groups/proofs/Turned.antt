@@ -1,28 +1,18 @@
 -- Pieces of groups in turn are the procedure's pieces in another order, in which none passes one that touches what it touches
-use Rattle.std.proofs.Common.{◌≡◌, ◌≢◌, ℕ, zero, suc, ◌<◌, ◌≤◌, ◌+◌, Bool, true, false, cond, not, ◌&&◌, ◌||◌, ◌==◌, List, [], ◌∷◌, ◌++◌, length, map, filter, get_or, refl, sym, ap, subst, ◌∙◌, ◌⊎◌, inl, inr, arith, append_assoc}
+use Rattle.std.proofs.Common.{◌≡◌, ℕ, suc, ◌<◌, Bool, true, false, cond, ◌==◌, List, [], ◌∷◌, ◌++◌, length, refl, sym, subst, ◌∙◌, ◌⊎◌, inl, inr, arith}
 use Rattle.std.specs.Bool.{nat_lt}
-use Rattle.std.specs.List.{AllByRecursion, list_any, flat_map, range_with_len, position_or_len}
-use Rattle.std.proofs.lemmas.Bool.{false≢true, eq-eqb, eqb-true, ltb-true, lt-ltb, cases_eq, cases_lt}
-use Rattle.std.proofs.lemmas.List.{length-map, get_or-map, get_or_past}
+use Rattle.std.specs.List.{AllByRecursion, list_any, flat_map}
+use Rattle.std.proofs.lemmas.Bool.{false≢true, eq-eqb, eqb-true, ltb-true}
 use Rattle.roc_plan.proofs.Ordered.{is_number}
 use Rattle.roc_sequence.specs.Lists.{Has}
 use Rattle.roc_sequence.specs.Places.{place_of, IsListed, IsListedBefore, NoneTwice}
 use Rattle.roc_sequence.specs.Rising.{IsRising}
-use Rattle.roc_sequence.proofs.Holds.{all_has, has_all, all_at, any_has, has_any}
-use Rattle.roc_sequence.proofs.Members.{has_left, has_right, has_append, has_map, from_has_map, has_flat_map, from_has_flat_map}
-use Rattle.roc_sequence.proofs.Filtered.{before_filter, from_before_filter}
+use Rattle.roc_sequence.proofs.Holds.{all_has, has_all, any_has, has_any}
+use Rattle.roc_sequence.proofs.Members.{from_has_flat_map}
 use Rattle.roc_rows.specs.declared.cell.Cell.{Cell}
-use Rattle.roc_program.specs.Program.{Workload, Procedure, Piece, Statement, Get, Set, Out}
-use Rattle.roc_program.specs.LookUps.{no_piece, no_procedure}
-use Rattle.roc_program.specs.Conflict.{is_same_column, collide, conflict, are_in_conflict}
-use Rattle.roc_program.specs.Names.{piece_uses, bindings_of, bindings, has_name}
-use Rattle.roc_program.specs.WellFormed.{IsProgram, IsProcedure}
-use Rattle.roc_merge_groups.specs.Groups.{groups_in, first_piece}
-use Rattle.roc_merge_groups.specs.Flow.{feeds}
-use Rattle.roc_merge_groups.specs.Grouping.{AreTogether, IsGrouping}
-use Rattle.roc_merge_groups.specs.Accepted.{IsAcceptedIn, IsAcceptedGrouping}
-use Rattle.roc_merge_groups.proofs.Elements.{place_of_has, has_at_place, rising_across, numbers_one_way}
-use Rattle.roc_group.proofs.Touches.{is_of, accesses, may_write, binds_in, known_in, touches, writes, not_true}
+use Rattle.roc_program.specs.Program.{Piece}
+use Rattle.roc_program.specs.Conflict.{collide, conflict}
+use Rattle.roc_group.proofs.Touches.{accesses, may_write, touches, writes, not_true}
 use Rattle.roc_group.proofs.Covered.{collides}
 use Rattle.roc_law_groups.proofs.Commuting.{AreIndependent}
 use Rattle.roc_law_groups.proofs.Sorting.{MayStand}

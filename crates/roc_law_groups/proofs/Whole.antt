@@ -1,37 +1,23 @@
 -- Groups in turn leave the cells of the whole run, and give its reply
-use Rattle.std.proofs.Common.{◌≡◌, ◌≢◌, ◌-◌, ℕ, zero, suc, ◌<◌, ◌≤◌, ◌+◌, ℤ, pos, Bool, true, false, cond, ◌==◌, if◌then◌else◌, List, [], ◌∷◌, ◌++◌, length, map, get_or, take, refl, sym, ap, subst, ◌∙◌, inl, inr, arith, append_assoc, append-nil}
+use Rattle.std.proofs.Common.{◌≡◌, ◌-◌, ℕ, zero, suc, ◌<◌, ◌≤◌, ◌+◌, ℤ, pos, Bool, true, false, ◌==◌, if◌then◌else◌, List, [], ◌∷◌, ◌++◌, length, map, get_or, take, refl, sym, ap, ◌∙◌, inl, inr, arith}
 use Rattle.std.specs.Bool.{nat_lt}
-use Rattle.std.specs.List.{AllByRecursion, flat_map, filter_map, range_with_len}
+use Rattle.std.specs.List.{flat_map, filter_map, range_with_len}
 use Rattle.std.proofs.lemmas.Bool.{false≢true, eq-eqb, eqb-true, cases_eq}
-use Rattle.std.proofs.lemmas.List.{length-append, map-append, take_more, take_all}
+use Rattle.std.proofs.lemmas.List.{length-append, map-append, take_more}
 use Rattle.std.proofs.lemmas.List.Concat.{flat_map-append}
 use Rattle.roc_sequence.specs.Lists.{Has}
-use Rattle.roc_sequence.specs.Places.{place_of, IsListedBefore, NoneTwice, IsListed}
 use Rattle.roc_sequence.specs.Rising.{IsRising}
-use Rattle.roc_sequence.proofs.Holds.{all_has, has_all}
-use Rattle.roc_sequence.proofs.Members.{has_left, has_right, has_append, has_flat_map, from_has_flat_map}
-use Rattle.roc_sequence.proofs.Ranges.{range_below}
-use Rattle.roc_rows.specs.Store.{Store}
+use Rattle.roc_sequence.proofs.Holds.{all_has}
 use Rattle.roc_program.specs.Program.{Expression, Piece, Procedure}
 use Rattle.roc_program.specs.LookUps.{no_piece}
 use Rattle.roc_program.specs.Names.{output, outputs}
-use Rattle.roc_program.specs.Values.{with_arguments}
-use Rattle.roc_whole.specs.Run.{Progress, progress, after_piece, after_pieces, whole_run}
-use Rattle.roc_merge_groups.proofs.Elements.{range_rising, numbers_one_way}
-use Rattle.roc_plan.specs.Groups.{Plan, procedure_of, pieces_at, inputs_of, outs_of, places_in}
-use Rattle.roc_plan.specs.Accepted.{IsAccepted}
-use Rattle.roc_plan.specs.Turns.{AreInTurn}
-use Rattle.roc_group.specs.GroupRun.{group_run}
-use Rattle.roc_law_groups.specs.GroupsRun.{Given, TurnStage, call_of, after_turn, after_turns, DoAs}
+use Rattle.roc_whole.specs.Run.{Progress, after_piece}
+use Rattle.roc_merge_groups.proofs.Elements.{numbers_one_way}
+use Rattle.roc_plan.specs.Groups.{pieces_at, places_in}
 use Rattle.roc_law_groups.proofs.Commuting.{then_piece}
-use Rattle.roc_law_groups.proofs.Moving.{run_all, spoken, said_by, run_in_words, run_all-append, same_end, same_said, IsReordered}
-use Rattle.roc_law_groups.proofs.Sorting.{reordered}
+use Rattle.roc_law_groups.proofs.Moving.{spoken, said_by}
 use Rattle.roc_group.proofs.GroupStarts.{at}
-use Rattle.roc_law_groups.proofs.GroupRuns.{pieces_in_turn, IsAt, next_stage, outs_are}
-use Rattle.roc_law_groups.proofs.Turned.{has_listed, listed_has}
-use Rattle.roc_law_groups.proofs.Replies.{spoken_among, same_said_each, slice, slice_skip, slice_front, piece_long, Distinct}
-use Rattle.roc_group.proofs.Grouped.{has_names, bound_there, one_group, group_rising}
-use Rattle.roc_law_groups.proofs.Apart.{stand, all_pieces_in, only_pieces_in}
+use Rattle.roc_law_groups.proofs.Replies.{slice, slice_skip, slice_front, piece_long, Distinct}
 
 -- ---- pieces by number
 
