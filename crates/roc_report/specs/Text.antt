@@ -9,7 +9,7 @@ use Rattle.roc_base.specs.Node.{node_text}
 use Rattle.roc_base.specs.Edge.{Dependency}
 use Rattle.roc_msg.specs.Reason.{reason_text}
 use Rattle.roc_program.specs.Program.{Workload}
-use Rattle.roc_program.specs.LookUps.{procedure_name, table_name, column_name}
+use Rattle.roc_program.specs.LookUps.{procedure_name, is_view_in, table_name, column_name}
 use Rattle.roc_program.specs.Pieces.{piece_of}
 use Rattle.roc_program.specs.declared.piece_id.PieceId.{PieceId}
 use Rattle.roc_rows.specs.declared.cell.Cell.{Cell}
@@ -71,6 +71,10 @@ cell_text program c = table_name program c.table ++ codes "[" ++ signed_decimal 
 abbrev pub piece_text : Workload → PieceId → List ℕ
 piece_text program id = procedure_name program id.proc ++ codes "." ++ (piece_of program id).name
 
+-- what stands behind the name of a view
+abbrev pub view_text : Workload → (proc : ℕ) → List ℕ
+view_text program proc = if is_view_in program proc then codes " view" else codes ""
+
 -- the class of a group
 abbrev pub class_text : Bool → List ℕ
 class_text is_immediate = if is_immediate then codes "immediate" else codes "deferrable"
@@ -108,7 +112,7 @@ words_of program (Pending id) = codes "pending " ++ txn_text id
 words_of program (End answered pending messages) =
     codes "end " ++ decimal answered ++ codes " answered " ++ decimal pending ++ codes " pending " ++ decimal messages ++ codes " messages"
 words_of program (Shards count) = codes "shards " ++ decimal count
-words_of program (Proc proc) = codes "proc " ++ procedure_name program proc
+words_of program (Proc proc) = codes "proc " ++ procedure_name program proc ++ view_text program proc
 words_of program (Piece id standing) = codes "piece " ++ (piece_of program id).name ++ spaced (standing_text standing)
 words_of program (Group proc number is_immediate pieces) = codes "group " ++ decimal number ++ spaced (class_text is_immediate) ++ names_text program proc pieces
 words_of program (Conflict first second) = codes "conflict " ++ piece_text program first ++ spaced (piece_text program second)

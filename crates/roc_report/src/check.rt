@@ -4,12 +4,12 @@ ghost use Rattle.std.specs.String.{string_bytes};
 ghost use Rattle.roc_program.specs.Pieces.{piece_of};
 ghost use Rattle.roc_report.specs.Line as line;
 ghost use Rattle.roc_report.specs.Shown.{shown_check};
-ghost use Rattle.roc_report.specs.Text.{class_text, names_text, instance_text, piece_text, spaced, vertex_text, cycle_text, words_of, line_text};
+ghost use Rattle.roc_report.specs.Text.{view_text, class_text, names_text, instance_text, piece_text, spaced, vertex_text, cycle_text, words_of, line_text};
 
 use crate::CheckLine;
 use crate::text::procedure_name;
 use roc_base::NoMemory;
-use roc_program::{PieceId, Workload};
+use roc_program::{PieceId, Workload, is_view};
 use roc_scgraph::{Instance, Vertex};
 use std::alloc::{AllocError, Global};
 
@@ -37,7 +37,7 @@ fn push_words(text: &mut String, workload: &Workload, line: &CheckLine) -> Resul
 {
     match line {
         CheckLine::Shards(count) => write!(text, "shards {count}"),
-        CheckLine::Proc(proc) => write!(text, "proc {}", procedure_name(workload, *proc)),
+        CheckLine::Proc(proc) => push_procedure(text, workload, *proc),
         CheckLine::Piece { id, standing } => {
             write!(text, "piece {} {standing}", piece_name(workload, *id))
         }
@@ -52,6 +52,25 @@ fn push_words(text: &mut String, workload: &Workload, line: &CheckLine) -> Resul
         CheckLine::Apart { p, q, cycle } => push_apart(text, workload, *p, *q, cycle),
         CheckLine::Blocked { p, q, x, cycle } => push_blocked(text, workload, *p, *q, *x, cycle),
     }
+}
+
+// Adds a procedure: its name, and whether it is a view.
+fn push_procedure(text: &mut String, workload: &Workload, proc: u16) -> Result<(), AllocError>
+    ensures { OnOk result (string_bytes text.new ≡ string_bytes text.old ++ words_of workload.now (line.Proc proc)) }
+{
+    write!(
+        text,
+        "proc {}{}",
+        procedure_name(workload, proc),
+        view_word(workload, proc)
+    )
+}
+
+// What stands behind the name of a view.
+fn view_word(workload: &Workload, proc: u16) -> &'static str
+    ensures { result.now ≡ view_text workload.now proc }
+{
+    if is_view(workload, proc) { " view" } else { "" }
 }
 
 // Adds a group: its number, its class, and the names of its pieces.

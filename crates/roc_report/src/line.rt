@@ -17,6 +17,8 @@ pub enum Standing {
     Promoted,
     /// Declared `later`, and left so.
     Deferrable,
+    /// Of a view, which stands outside of conflicts.
+    View,
 }
 
 impl fmt::Display for Standing {
@@ -30,6 +32,7 @@ impl fmt::Display for Standing {
             Standing::Immediate => "immediate",
             Standing::Promoted => "promoted",
             Standing::Deferrable => "deferrable",
+            Standing::View => "view",
         })
     }
 }
