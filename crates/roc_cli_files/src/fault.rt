@@ -1,9 +1,9 @@
 //! Why the program ends without having done what it was asked: its status, and its line on standard error.
-ghost use Rattle.std.specs.Prelude.{◌≡◌, ◌<◌, Some, None};
-ghost use Rattle.roc_cli_files.specs.Fault.{IsTold};
+ghost use Rattle.std.specs.Prelude.{◌≡◌, ◌<◌, Some, None, IfOk, string_bytes};
+ghost use Rattle.roc_cli_files.specs.Fault.{IsTold, line_of};
 ghost use Rattle.roc_cli_files.specs.Says.{errors};
 
-use roc_base::Shard;
+use roc_base::{NoMemory, Shard};
 use roc_cli_words::ValueName;
 use roc_cluster::ClusterFault;
 use roc_io::{Sink, Written, write_all};
@@ -142,12 +142,20 @@ fn tell_misuse<E: Sink>(alloc: Global, err: &mut E, file: &str, line: u32, what:
 fn tell_cluster<E: Sink>(alloc: Global, err: &mut E, file: &str, fault: ClusterFault) -> u8
     ensures { IsTold (Fault.Cluster file.entry fault) result (errors E.Sink err.old err.new) }
 {
-    let Ok(text) = format!(in alloc; "{file}: {fault}\n") else {
+    let Ok(text) = cluster_line(alloc, file, fault) else {
         err.write(b"memory\n");
         return 4;
     };
     err.write(text.as_bytes());
     3
+}
+
+// The line of a file that is no cluster file.
+fn cluster_line(alloc: Global, file: &str, fault: ClusterFault) -> Result<String, NoMemory>
+    ensures { IfOk result (λ text. string_bytes text ≡ line_of (Fault.Cluster file.entry fault)) }
+{
+    let text = fault.text(alloc)?;
+    Ok(format!(in alloc; "{file}: {text}\n")?)
 }
 
 // The same of a child that could not be started or awaited.

@@ -1,13 +1,13 @@
 //! Why bytes are no cluster file.
 
-ghost use Rattle.std.specs.Prelude.{◌≡◌, Some};
+ghost use Rattle.std.specs.Prelude.{◌≡◌, Some, IfOk, string_bytes};
 ghost use Rattle.roc_cluster.specs.FaultText.{fault_text, name_text};
 ghost use Rattle.roc_cluster.specs.declared.fault.ClusterFault.TheVariants.{NoMemory};
 
-use roc_base::Shard;
-use std::alloc::{AllocError, AllocFailed};
-use std::error::Error;
+use roc_base::{NoMemory, Shard};
+use std::alloc::{AllocError, AllocFailed, Global};
 use std::fmt;
+use thiserror::Error;
 
 /// A field of a cluster file.
 #[derive(Clone, Copy, Debug, PartialEq, Eq)]
@@ -48,34 +48,40 @@ impl fmt::Display for FieldName {
 }
 
 /// The first fault of a cluster file.
-#[derive(Clone, Copy, Debug, PartialEq, Eq)]
+#[derive(Clone, Copy, Debug, PartialEq, Eq, Error)]
 pub enum ClusterFault {
     /// The bytes are no UTF-8 text that is a TOML document.
+    #[error("toml")]
     Toml,
     /// A field is missing or not as it has to be, or one is there that may not be.
+    #[error("field {0}")]
     Field(FieldName),
     /// A second entry of this shard.
+    #[error("twice {0}", .0.0)]
     Twice(Shard),
     /// The least shard without an entry.
+    #[error("gap {0}", .0.0)]
     Gap(Shard),
+    /// No memory was left for the cluster.
+    #[error("out of memory")]
     NoMemory,
 }
 
-impl fmt::Display for ClusterFault {
-    ghost output = { λ fault. Some (fault_text fault) };
-
-    fn fmt<W: fmt::Write>(&self, f: &mut fmt::Formatter<W>) -> fmt::Result {
-        match self {
-            ClusterFault::Toml => write!(f, "toml"),
-            ClusterFault::Field(name) => write!(f, "field {name}"),
-            ClusterFault::Twice(Shard(number)) => write!(f, "twice {number}"),
-            ClusterFault::Gap(Shard(number)) => write!(f, "gap {number}"),
-            ClusterFault::NoMemory => write!(f, "out of memory"),
-        }
+impl ClusterFault {
+    /// What is printed for it: its word, and the field or the number behind it. `NoMemory` comes where there is none for the text.
+    pub fn text(&self, alloc: Global) -> Result<String, NoMemory>
+        ensures { IfOk result (λ text. string_bytes text ≡ fault_text self.now) }
+    {
+        let text = match self {
+            ClusterFault::Toml => format!(in alloc; "toml")?,
+            ClusterFault::Field(name) => format!(in alloc; "field {name}")?,
+            ClusterFault::Twice(Shard(number)) => format!(in alloc; "twice {number}")?,
+            ClusterFault::Gap(Shard(number)) => format!(in alloc; "gap {number}")?,
+            ClusterFault::NoMemory => format!(in alloc; "out of memory")?,
+        };
+        Ok(text)
     }
 }
-
-impl Error for ClusterFault {}
 
 impl From<AllocError> for ClusterFault {
     ghost from_gives = { λ _ fault. fault ≡ NoMemory };

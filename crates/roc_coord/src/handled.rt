@@ -2,6 +2,7 @@
 
 use roc_base::{Nums, TxnId};
 use roc_msg::Reason;
+use thiserror::Error;
 
 /// What became of a message.
 #[derive(Drop)]
@@ -15,18 +16,24 @@ pub enum Handled {
 }
 
 /// Why a submission is refused. Of several causes the first in this order is named.
-#[derive(Clone, Copy, Debug, PartialEq, Eq)]
+#[derive(Clone, Copy, Debug, PartialEq, Eq, Error)]
 pub enum SubmitFault {
     /// This coordinator found no memory before.
+    #[error("stopped")]
     Stopped,
     /// The plan has no such procedure.
+    #[error("no procedure")]
     NoProc,
     /// Another count of arguments than the procedure takes.
+    #[error("arguments")]
     Args,
     /// The coordinator has submitted as many transactions as it may.
+    #[error("spent")]
     Spent,
     /// As many transactions are unanswered as may be.
+    #[error("busy")]
     Busy,
     /// No memory. Nothing is promised of the coordinator, which stops.
+    #[error("out of memory")]
     NoMemory,
 }

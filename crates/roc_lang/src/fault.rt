@@ -1,12 +1,12 @@
 //! Why a text has no tree.
 
 ghost use Rattle.std.specs.Prelude.{◌≡◌, Some};
-ghost use Rattle.roc_lang.specs.FaultText.{error_text, what_text};
+ghost use Rattle.roc_lang.specs.FaultText.{what_text};
 ghost use Rattle.roc_lang.specs.declared.fault.LangError.TheVariants.{NoMemory};
 
 use std::alloc::{AllocError, AllocFailed};
-use std::error::Error;
 use std::fmt;
+use thiserror::Error;
 
 /// What is wrong at a place of a text.
 #[derive(Clone, Copy, Debug, PartialEq, Eq)]
@@ -44,26 +44,15 @@ impl fmt::Display for What {
 }
 
 /// Why a text has no tree.
-#[derive(Debug, Drop)]
+#[derive(Debug, Drop, Error)]
 pub enum LangError {
     /// The first fault of a text, with its line, counted from 1.
+    #[error("line {line}: {what}")]
     At { line: u32, what: What },
     /// No memory was left for the tree.
+    #[error("out of memory")]
     NoMemory,
 }
-
-impl fmt::Display for LangError {
-    ghost output = { λ error. Some (error_text error) };
-
-    fn fmt<W: fmt::Write>(&self, f: &mut fmt::Formatter<W>) -> fmt::Result {
-        match self {
-            LangError::At { line, what } => write!(f, "line {line}: {what}"),
-            LangError::NoMemory => write!(f, "out of memory"),
-        }
-    }
-}
-
-impl Error for LangError {}
 
 impl From<AllocError> for LangError {
     ghost from_gives = { λ _ e. e ≡ NoMemory };

@@ -1,11 +1,8 @@
 -- What is printed for each fault of scope.
 use Rattle.std.specs.Prelude.{ℕ, List, ◌++◌}
-use Rattle.std.specs.Fmt.{decimal}
 use lib.Chars.{codes}
 use Rattle.roc_lang.specs.Scope.{FaultKind, Shards, Twice, Unknown, LaterUsed, SamePieceKey, Unbound, Arity, Viewed}
 use Rattle.roc_lang_scope.specs.declared.fault.ScopeWhat.{ScopeWhat}
-use Rattle.roc_lang_scope.specs.declared.fault.ScopeFault.{ScopeFault}
-use Rattle.roc_lang_scope.specs.declared.fault.ScopeFault.TheVariants.{At, NoMemory}
 use Rattle.roc_lang_scope.specs.Fault.{kind}
 
 -- the word of a fault, and the name behind it
@@ -22,8 +19,3 @@ kind_text (Viewed name) = codes "view " ++ name
 -- the same of the code's fault
 abbrev pub what_text : ScopeWhat → List ℕ
 what_text what = kind_text (kind what)
-
--- `line N: WORD NAME`, or that memory ran out
-abbrev pub fault_text : ScopeFault → List ℕ
-fault_text (At line what) = codes "line " ++ decimal line ++ codes ": " ++ what_text what
-fault_text NoMemory = codes "out of memory"

@@ -1,12 +1,12 @@
 //! Why a workload's tree is not in scope.
 
 ghost use Rattle.std.specs.Prelude.{◌≡◌, Some};
-ghost use Rattle.roc_lang_scope.specs.FaultText.{fault_text, what_text};
+ghost use Rattle.roc_lang_scope.specs.FaultText.{what_text};
 ghost use Rattle.roc_lang_scope.specs.declared.fault.ScopeFault.TheVariants.{NoMemory as no_memory};
 
 use roc_base::NoMemory;
-use std::error::Error;
 use std::fmt;
+use thiserror::Error;
 
 /// What is wrong with a name, or with the number of shards.
 #[derive(Debug, Drop)]
@@ -47,26 +47,15 @@ impl fmt::Display for ScopeWhat {
 }
 
 /// Why a tree is refused.
-#[derive(Debug, Drop)]
+#[derive(Debug, Drop, Error)]
 pub enum ScopeFault {
     /// The first fault of a text, with its line, counted from 1.
+    #[error("line {line}: {what}")]
     At { line: u32, what: ScopeWhat },
     /// No memory was left: for the name in a fault, or for what is made of a tree in scope.
+    #[error("out of memory")]
     NoMemory,
 }
-
-impl fmt::Display for ScopeFault {
-    ghost output = { λ fault. Some (fault_text fault) };
-
-    fn fmt<W: fmt::Write>(&self, f: &mut fmt::Formatter<W>) -> fmt::Result {
-        match self {
-            ScopeFault::At { line, what } => write!(f, "line {line}: {what}"),
-            ScopeFault::NoMemory => write!(f, "out of memory"),
-        }
-    }
-}
-
-impl Error for ScopeFault {}
 
 impl From<NoMemory> for ScopeFault {
     ghost from_gives = { λ _ fault. fault ≡ no_memory };

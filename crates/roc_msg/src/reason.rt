@@ -5,6 +5,7 @@ ghost use Rattle.roc_msg.specs.declared.reason.NodeFault.TheVariants.{NoMemory a
 use roc_base::NoMemory;
 use std::alloc::AllocError;
 use std::fmt;
+use thiserror::Error;
 
 /// Why a message was ignored. An ignored message changes nothing and sends nothing. Of several
 /// reasons the first in this order is named.
@@ -54,11 +55,13 @@ impl fmt::Display for Reason {
 }
 
 /// Why a node gives no answer.
-#[derive(Clone, Copy, PartialEq, Eq)]
+#[derive(Clone, Copy, Debug, PartialEq, Eq, Error)]
 pub enum NodeFault {
     /// No memory. Nothing is promised of the node, which stops.
+    #[error("out of memory")]
     NoMemory,
     /// This node found no memory before.
+    #[error("stopped")]
     Stopped,
 }
 

@@ -94,7 +94,7 @@ fn push_skip(text: &mut String, skip: Skip, count: u64) -> Result<(), AllocError
     ensures { OnOk result (string_bytes text.new ≡ string_bytes text.old ++ node_line_words (NodeLine.Skipped skip count)) }
 {
     match skip {
-        Skip::Fault(fault) => write!(text, "skipped {fault} {count}"),
+        Skip::Fault(fault) => write!(text, "skipped {} {count}", fault.as_str()),
         Skip::Tag => write!(text, "skipped tag {count}"),
     }
 }

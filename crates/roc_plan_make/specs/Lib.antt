@@ -1,2 +1,1 @@
-pub mod FaultText
 pub mod Inner

@@ -1,15 +1,15 @@
 //! Why a text is no schedule and no request file.
 
 ghost use Rattle.std.specs.Prelude.{◌≡◌, Some};
-ghost use Rattle.roc_sched.specs.FaultText.{fault_text, what_text};
+ghost use Rattle.roc_sched.specs.FaultText.{what_text};
 ghost use Rattle.roc_sched.specs.Inner.Reading.{with_line_number};
 ghost use Rattle.roc_sched.specs.declared.fault.LineFault.TheVariants as line;
 ghost use Rattle.roc_sched.specs.declared.fault.TextFault.TheVariants.{NoMemory};
 
 use roc_base::NoMemory;
 use std::alloc::{AllocError, AllocFailed};
-use std::error::Error;
 use std::fmt;
+use thiserror::Error;
 
 /// What is wrong at a line. Of several faults of one line the first of `Limit`, `Word` and `Node`
 /// is named.
@@ -90,25 +90,15 @@ impl From<AllocError> for LineFault {
 }
 
 /// Why there are no lines.
-#[derive(Debug, Drop)]
+#[derive(Debug, Drop, Error)]
 pub enum TextFault {
     /// The first fault of a text, with its line, counted from 1.
+    #[error("line {line}: {what}")]
     At { line: u32, what: What },
+    /// No memory was left for the lines.
+    #[error("out of memory")]
     NoMemory,
 }
-
-impl fmt::Display for TextFault {
-    ghost output = { λ fault. Some (fault_text fault) };
-
-    fn fmt<W: fmt::Write>(&self, f: &mut fmt::Formatter<W>) -> fmt::Result {
-        match self {
-            TextFault::At { line, what } => write!(f, "line {line}: {what}"),
-            TextFault::NoMemory => write!(f, "out of memory"),
-        }
-    }
-}
-
-impl Error for TextFault {}
 
 impl From<NoMemory> for TextFault {
     ghost from_gives = { λ _ e. e ≡ NoMemory };
