@@ -8,3 +8,4 @@ pub mod Counted
 pub mod PieceIds
 pub mod Conflicts
 pub mod Views
+pub mod Transactions

@@ -31,6 +31,10 @@ is_view_in program proc = (slice_index_or program.procedures proc no_procedure).
 abbrev pub is_transaction_in : Workload → ℕ → Bool
 is_transaction_in program proc = nat_lt proc (length program.procedures) && not (is_view_in program proc)
 
+-- the number of the first procedure of this name that may write
+abbrev pub transaction_named : Workload → List ℕ → Option ℕ
+transaction_named program name = position (λ procedure. bytes_eq procedure.name name && not procedure.is_view) program.procedures
+
 abbrev pub table_name : Workload → ℕ → List ℕ
 table_name program table = (table_at program.tables table).name
 
