@@ -1,8 +1,8 @@
 //! Plans: a workload with its pieces in groups, and what is read of them.
-ghost use Rattle.std.specs.Prelude.{◌≡◌, ◌<◌, length, map, position, slice_get};
+ghost use Rattle.std.specs.Prelude.{◌≡◌, ◌<◌, ◌&&◌, not, IsTrue, length, map, position, slice_get};
 ghost use Rattle.std.specs.Str.{bytes_eq};
 ghost use Rattle.std.specs.String.{string_bytes};
-ghost use Rattle.roc_program.specs.LookUps.{procedure_named};
+ghost use Rattle.roc_program.specs.LookUps.{procedure_named, transaction_named};
 ghost use Rattle.roc_plan.specs.Groups.{procedure_of, is_view_of, is_transaction, groups_of, group_of, group_class, bound_of, inputs_in, inputs_of, outs_of, group_place, shard_of};
 ghost use Rattle.roc_plan.specs.Accepted.{IsAccepted};
 ghost use Rattle.roc_plan.specs.Outlines.{outlined_plan, row_of, AreOutlines};
@@ -70,6 +70,16 @@ impl Plan {
         }
     }
 
+    /// The number of the procedure of a name that is no view. Takes no memory.
+    pub fn transaction_named(&self, name: &[u8]) -> Option<u16>
+        ensures { result ≡ transaction_named self.now.program name.now }
+    {
+        match transaction_place(self.workload.procedures(), name) {
+            Some(number) => Some(number as u16),
+            None => None,
+        }
+    }
+
     /// How many arguments a procedure takes.
     pub fn args(&self, proc: u16) -> u16
         requires { proc < length self.now.program.procedures }
@@ -86,11 +96,12 @@ impl Plan {
         is_view(&self.workload, proc)
     }
 
-    /// Whether there is a procedure of this number that may write: one that is no view.
+    /// Whether there is a procedure of this number that may write: one that is no view. Takes no memory.
     pub fn is_transaction(&self, proc: u16) -> bool
-        ensures { result ≡ is_transaction self.now proc }
+        ensures is { result ≡ is_transaction self.now proc }
+        ensures there { IsTrue result → proc < length self.now.program.procedures }
     {
-        usize::from(proc) < self.workload.procedures().len() && !is_view(&self.workload, proc)
+        proc < self.procedures() && !is_view(&self.workload, proc)
     }
 
     /// How many groups a procedure has.
@@ -192,4 +203,15 @@ fn place_named(procedures: &[Procedure], name: &[u8]) -> Option<usize>
         (string_bytes procedure.name) name.now) procedures.now }
 {
     procedures.iter().position(|p| p.name.as_bytes() == name)
+}
+
+// The place of the first procedure of a name that is no view.
+fn transaction_place(procedures: &[Procedure], name: &[u8]) -> Option<usize>
+    ensures { result
+        ≡ position (λ procedure. bytes_eq
+        (string_bytes procedure.name) name.now && not procedure.is_view) procedures.now }
+{
+    procedures
+        .iter()
+        .position(|p| p.name.as_bytes() == name && !p.is_view)
 }
