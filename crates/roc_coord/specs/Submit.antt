@@ -1,9 +1,9 @@
 -- A submission: docs/PROTOCOL.md, "Coordinator"
-use Rattle.std.specs.Prelude.{◌≡◌, ℕ, ℤ, not, ◌+◌, ◌==◌, nat_le, nat_lt, List, [], ◌∷◌, ◌++◌, Option, Some, None, Result, Ok, Err, length, if◌then◌else◌}
+use Rattle.std.specs.Prelude.{◌≡◌, ℕ, ℤ, not, ◌+◌, ◌==◌, nat_le, List, [], ◌∷◌, ◌++◌, Option, Some, None, Result, Ok, Err, length, if◌then◌else◌}
 use Rattle.roc_base.specs.declared.id.TxnId.{TxnId}
 use Rattle.roc_msg.specs.declared.outbox.Outbox.{Outbox}
 use Rattle.roc_msg.specs.declared.outbox.Outgoing.{Outgoing}
-use Rattle.roc_plan.specs.Groups.{Plan, procedure_of}
+use Rattle.roc_plan.specs.Groups.{Plan, procedure_of, is_transaction}
 use Rattle.roc_coord.specs.declared.handled.SubmitFault.{SubmitFault}
 use Rattle.roc_coord.specs.declared.handled.SubmitFault.TheVariants.{Stopped, NoProc, Args, Spent, Busy, NoMemory}
 use Rattle.roc_coord.specs.declared.transaction.Transaction.{Transaction}
@@ -48,7 +48,7 @@ accepted plan s x =
 -- why a submission is refused: the first reason that holds
 abbrev pub refusal_of : Plan → CoordState → ℕ → List ℤ → Option SubmitFault
 refusal_of plan s proc args =
-    if not (nat_lt proc (length plan.program.procedures)) then Some NoProc
+    if not (is_transaction plan proc) then Some NoProc
     else if not (length args == (procedure_of plan proc).arguments) then Some Args
     else if nat_le most_transactions s.next then Some Spent
     else if nat_le most_pending (length s.pending) then Some Busy

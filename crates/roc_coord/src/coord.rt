@@ -165,7 +165,7 @@ impl Coord {
     fn refusal(&self, plan: &Plan, proc: u16, args: &[i64]) -> Option<SubmitFault>
         ensures { result ≡ refusal_of plan.now self.now proc args.now }
     {
-        if proc >= plan.procedures() {
+        if !plan.is_transaction(proc) {
             Some(SubmitFault::NoProc)
         } else if args.len() != usize::from(plan.args(proc)) {
             Some(SubmitFault::Args)

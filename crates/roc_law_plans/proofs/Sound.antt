@@ -10,8 +10,9 @@ use Rattle.roc_rows.proofs.CellLaws.{is_cell-same, is_cell-true}
 use Rattle.roc_rows.specs.Store.{Store, read}
 use Rattle.roc_whole.specs.Serial as whole
 use Rattle.roc_program.specs.Values.{value_of_name}
+use Rattle.roc_program.proofs.Transactions.{transaction_parts}
 use Rattle.roc_plan.specs.declared.group.Input.{Input}
-use Rattle.roc_plan.specs.Groups.{Plan, bound_of, inputs_of, is_immediate_of, shard_of, group_place}
+use Rattle.roc_plan.specs.Groups.{Plan, bound_of, inputs_of, is_immediate_of, shard_of, group_place, is_view_of}
 use Rattle.roc_plan.specs.Accepted.{IsAccepted}
 use Rattle.roc_plan.specs.Turns.{may_meet}
 use Rattle.roc_group.specs.declared.access.Access.{Access}
@@ -91,7 +92,7 @@ used_conflict x (a ∷ earlier) later u w =
 pub record Laws : Type 0 where
   pub same : (plan : Plan) (c : GroupCall) (s t : Store) → AgreeOnReads s t (group_uses plan c s) → RunAlike (begin plan c s) (begin plan c t) (group_pieces plan c)
   pub others : (plan : Plan) (c : GroupCall) (s : Store) (x : Cell) → do_write (group_uses plan c s) x ≡ false → read (group_run plan c s).store x ≡ read s x
-  pub static : (plan : Plan) (b c : GroupCall) (s t : Store) → do_conflict (group_uses plan b s) (group_uses plan c t) ≡ true → may_meet plan b.proc b.group c.proc c.group ≡ true
+  pub static : (plan : Plan) (b c : GroupCall) (s t : Store) → is_view_of plan b.proc ≡ false → is_view_of plan c.proc ≡ false → do_conflict (group_uses plan b s) (group_uses plan c t) ≡ true → may_meet plan b.proc b.group c.proc c.group ≡ true
   pub at_place :
       (plan : Plan) (c : GroupCall) (s : Store) → IsAccepted plan → c.proc < length plan.program.procedures
       → AllByRecursion (λ a. a.cell.place ≡ group_place plan c.proc c.group c.args c.inputs) (group_uses plan c s)
@@ -122,13 +123,13 @@ module _ (laws : Laws) (plan : Plan) (orders : ℕ → List ℕ) (asked : TxnId 
 
   -- groups that meet may meet
   met :
-      (q r : TxnGroup) (i j : List (List ℤ)) (s t : Store)
+      AreCalls plan asked → (q r : TxnGroup) (i j : List (List ℤ)) (s t : Store)
       → Meet (map use_of (group_uses plan (called plan asked q i) s)) (map use_of (group_uses plan (called plan asked r j) t))
       → may_meet plan (asked q.txn).procedure q.group (asked r.txn).procedure r.group ≡ true
-  met q r i j s t m =
+  met calls q r i j s t m =
       let b = called plan asked q i in
       let c = called plan asked r j in
-      laws.static plan b c s t (of_meet (group_uses plan b s) (group_uses plan c t) m)
+      laws.static plan b c s t (transaction_parts plan.program b.proc (calls q.txn)).writes (transaction_parts plan.program c.proc (calls r.txn)).writes (of_meet (group_uses plan b s) (group_uses plan c t) m)
 
   contended :
       IsAccepted plan → (p q r u : TxnGroup) → p.txn ≡ q.txn
@@ -154,11 +155,11 @@ module _ (laws : Laws) (plan : Plan) (orders : ℕ → List ℕ) (asked : TxnId 
               local = local;
               declared = declared;
             };
-        one_class = λ q r i j s t m. laws.one_class plan is (asked q.txn).procedure q.group (asked r.txn).procedure r.group (met q r i j s t m);
-        one_contended = λ p q e ip iq r u i j k l a b c d m n. contended is p q r u e ip iq (met p r i j a b m) (met q u k l c d n);
-        steady = λ r n given s t. ap (map use_of) (laws.follow plan (called plan asked r given) s t is (calls r.txn) n);
+        one_class = λ q r i j s t m. laws.one_class plan is (asked q.txn).procedure q.group (asked r.txn).procedure r.group (met calls q r i j s t m);
+        one_contended = λ p q e ip iq r u i j k l a b c d m n. contended is p q r u e ip iq (met calls p r i j a b m) (met calls q u k l c d n);
+        steady = λ r n given s t. ap (map use_of) (laws.follow plan (called plan asked r given) s t is (transaction_parts plan.program (asked r.txn).procedure (calls r.txn)).there n);
         placed =
             λ r given s x u.
             let c = called plan asked r given in
-            ap (shard_of plan) (used_place (group_place plan c.proc c.group c.args c.inputs) x (group_uses plan c s) (laws.at_place plan c s is (calls r.txn)) u);
+            ap (shard_of plan) (used_place (group_place plan c.proc c.group c.args c.inputs) x (group_uses plan c s) (laws.at_place plan c s is (transaction_parts plan.program (asked r.txn).procedure (calls r.txn)).there) u);
       }

@@ -1,8 +1,8 @@
 -- An accepted plan as a scheme of the log machine: docs/PROOF.md, "From the log machine to the headline"
-use Rattle.std.specs.Prelude.{ℕ, ◌<◌, List, length, map}
+use Rattle.std.specs.Prelude.{◌≡◌, ℕ, true, List, map}
 use Rattle.roc_base.specs.declared.id.TxnId.{TxnId}
 use Rattle.roc_whole.specs.Serial as whole
-use Rattle.roc_plan.specs.Groups.{Plan, inputs_of, is_immediate_of, shard_of, group_place}
+use Rattle.roc_plan.specs.Groups.{Plan, inputs_of, is_immediate_of, shard_of, group_place, is_transaction}
 use Rattle.roc_plan.specs.Turns.{AreInTurn}
 use Rattle.roc_group.specs.GroupRun.{group_run, group_uses, bound_by_run}
 use Rattle.roc_law_log.specs.Scheme.{Scheme}
@@ -29,6 +29,6 @@ scheme_of plan orders asked =
 abbrev pub AreOrders : Plan → (ℕ → List ℕ) → Type 0
 AreOrders plan orders = (proc : ℕ) → AreInTurn plan proc (orders proc)
 
--- each transaction calls a procedure of the plan
+-- each transaction calls a procedure of the plan that is no view
 abbrev pub AreCalls : Plan → (TxnId → whole.Call) → Type 0
-AreCalls plan asked = (t : TxnId) → (asked t).procedure < length plan.program.procedures
+AreCalls plan asked = (t : TxnId) → is_transaction plan (asked t).procedure ≡ true

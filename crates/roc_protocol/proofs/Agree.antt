@@ -2,7 +2,7 @@
 use Rattle.std.proofs.Common.{◌≡◌, ℕ, ◌<◌, List, [], Some, length, sym, subst, ◌∙◌, inl, inr}
 use Rattle.std.specs.Prelude.{slice_get, IsTrue}
 use Rattle.std.specs.List.{list_any}
-use Rattle.std.proofs.lemmas.Bool.{cases_lt, false≢true}
+use Rattle.std.proofs.lemmas.Bool.{false≢true}
 use Rattle.roc_base.specs.declared.id.TxnId.{TxnId}
 use Rattle.roc_base.specs.TxnId.{is_txn}
 use Rattle.roc_depgraph.specs.Deps.{IsKnown, entries_of, Precedes, IsAncestor, IsDecided}
@@ -23,10 +23,11 @@ use Rattle.roc_protocol.proofs.Networks.{Good, one_union}
 use Rattle.roc_protocol.proofs.Idle.{run_idle}
 use Rattle.roc_protocol.proofs.Finals.{networked}
 use Rattle.roc_protocol.proofs.Serial as serial
+use Rattle.roc_protocol.proofs.Transactions.{transaction_or_none, HasTransaction}
 
 module _ (plan : Plan) (schemes : HasSchemes plan) (laws : (S : Scheme) → IsSoundScheme S → LogLaws S (start_store plan.program)) (stores : StoreLaws) (coords : ℕ) (steps : List Stepped) (w : World) (run : IsRun plan coords steps w) where
   -- a list that two servers know is one
-  known_one : 0 < length plan.program.procedures → (n m : ℕ) (s v : ServerState) → slice_get w.servers n ≡ Some s → slice_get w.servers m ≡ Some v → (t : TxnId) → IsKnown s.lists.known t → IsKnown v.lists.known t → entries_of s.lists.known t ≡ entries_of v.lists.known t
+  known_one : HasTransaction plan → (n m : ℕ) (s v : ServerState) → slice_get w.servers n ≡ Some s → slice_get w.servers m ≡ Some v → (t : TxnId) → IsKnown s.lists.known t → IsKnown v.lists.known t → entries_of s.lists.known t ≡ entries_of v.lists.known t
   known_one some n m s v there at t h k =
       let x = serial.logged plan schemes laws stores coords steps w run some in
       let S = serial.S plan schemes laws stores coords steps w run some in
@@ -41,14 +42,14 @@ module _ (plan : Plan) (schemes : HasSchemes plan) (laws : (S : Scheme) → IsSo
       a.3 ∙ (one_union plan asked S is l w x.0 x.1 nw t a.0.edges b.0.edges p q ∙ sym b.3)
 
   pub ancestors_agree : (n m : ℕ) (s v : ServerState) → slice_get w.servers n ≡ Some s → slice_get w.servers m ≡ Some v → (u t : TxnId) → IsDecided s.lists.known t → IsDecided v.lists.known t → IsAncestor s.lists.known u t → IsAncestor v.lists.known u t
-  ancestors_agree n m s v there at u t d e p = elim (cases_lt 0 (length plan.program.procedures)) [
+  ancestors_agree n m s v there at u t d e p = elim (transaction_or_none plan) [
     | inl some ↦ other_chain (Precedes s.lists.known) (Precedes v.lists.known) (λ t. IsDecided s.lists.known t × IsDecided v.lists.known t)
         (λ u t l k. (ancestor_decided s.lists.known u t l.0 (direct k), ancestor_decided v.lists.known u t l.1 (direct (over some u t l k))))
         (over some) u t (d, e) p
     | inr none ↦ absurd (let k : IsDecided [] t = subst (λ l. IsDecided l t) ((run_idle plan none coords steps w run).known n s there) d in false≢true k.own)
   ]
     where
-      over : 0 < length plan.program.procedures → (u t : TxnId) → IsDecided s.lists.known t × IsDecided v.lists.known t → Precedes s.lists.known u t → Precedes v.lists.known u t
+      over : HasTransaction plan → (u t : TxnId) → IsDecided s.lists.known t × IsDecided v.lists.known t → Precedes s.lists.known u t → Precedes v.lists.known u t
       over some u t l k = subst (λ es. IsTrue (list_any (λ d. is_txn d.from u) es)) (known_one some n m s v there at t l.0.own l.1.own) k
 
   pub components_agree : (n m : ℕ) (s v : ServerState) → slice_get w.servers n ≡ Some s → slice_get w.servers m ≡ Some v → (t u : TxnId) → IsDecided s.lists.known t → IsDecided v.lists.known t → Mates (Precedes s.lists.known) t u → Mates (Precedes v.lists.known) t u

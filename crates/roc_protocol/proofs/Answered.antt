@@ -1,6 +1,5 @@
 -- Who is pending, and who was answered
 use Rattle.std.proofs.Common.{◌≡◌, ℕ, ℤ, ◌<◌, List, Some, length, sym, subst, ◌∙◌, ◌⊎◌, inl, inr, arith}
-use Rattle.std.proofs.lemmas.Bool.{cases_lt}
 use Rattle.std.specs.Prelude.{slice_get}
 use Rattle.roc_sequence.specs.Lists.{Has}
 use Rattle.roc_sequence.specs.Places.{IsListed}
@@ -28,6 +27,7 @@ use Rattle.roc_protocol.proofs.Submissions.{AreSubmissions}
 use Rattle.roc_protocol.proofs.Idle.{run_idle}
 use Rattle.roc_protocol.proofs.Worlds.{IsLogged}
 use Rattle.roc_protocol.proofs.Serial as serial
+use Rattle.roc_protocol.proofs.Transactions.{transaction_or_none}
 
 -- t is pending at this coordinator, or was answered
 abbrev pub IsPendingOrAnswered : World → CoordState → TxnId → Type 0
@@ -52,7 +52,7 @@ module _ (plan : Plan) (asked : TxnId → whole.Call) (S : Scheme) (is : IsSchem
 
 module _ (plan : Plan) (schemes : HasSchemes plan) (laws : (S : Scheme) → IsSoundScheme S → LogLaws S (start_store plan.program)) (stores : StoreLaws) (coords : ℕ) (steps : List Stepped) (w : World) (run : IsRun plan coords steps w) where
   pub numbers_kept : (n q : ℕ) (c : CoordState) → slice_get w.coords n ≡ Some c → q < c.next → WasSubmitted w.history (record { coord = n; seq = q }) × IsPendingOrAnswered w c (record { coord = n; seq = q })
-  numbers_kept n q c there below = elim (cases_lt 0 (length plan.program.procedures)) [
+  numbers_kept n q c there below = elim (transaction_or_none plan) [
     | inl some ↦
         (let S = serial.S plan schemes laws stores coords steps w run some in
         let l = serial.logged plan schemes laws stores coords steps w run some in
@@ -62,13 +62,13 @@ module _ (plan : Plan) (schemes : HasSchemes plan) (laws : (S : Scheme) → IsSo
   ]
 
   pub submitted_kept : (t : TxnId) → WasSubmitted w.history t → (c : CoordState) × (slice_get w.coords t.coord ≡ Some c) × IsPendingOrAnswered w c t
-  submitted_kept t (p, a, h) = elim (cases_lt 0 (length plan.program.procedures)) [
+  submitted_kept t (p, a, h) = elim (transaction_or_none plan) [
     | inl some ↦ (let k = (serial.submissions plan schemes laws stores coords steps w run some).numbered t p a h in (k.coord, k.there, (numbers_kept t.coord t.seq k.coord k.there k.below).1))
     | inr none ↦ absurd (subst (Has (Submitted t p a)) (run_idle plan none coords steps w run).history h)
   ]
 
   pub answered_decided : (t : TxnId) (reply : List ℤ) → WasAnswered w.history t reply → (n : ℕ) (s : ServerState) → slice_get w.servers n ≡ Some s → (e : StartedGroup) → Has e s.started → e.id ≡ t → IsDecided s.lists.known t
-  answered_decided t reply h n s there e has same = elim (cases_lt 0 (length plan.program.procedures)) [
+  answered_decided t reply h n s there e has same = elim (transaction_or_none plan) [
     | inl some ↦
         (let S = serial.S plan schemes laws stores coords steps w run some in
         let l = serial.logged plan schemes laws stores coords steps w run some in

@@ -1,6 +1,6 @@
 -- Where all are answered, the servers hold what the serial order leaves
 use Rattle.std.proofs.Common.{◌≡◌, ◌≢◌, ℕ, ℤ, pos, zero, suc, ◌+◌, ◌<◌, Bool, true, false, List, Option, Some, None, length, map, refl, sym, ap, subst, ◌∙◌, inl, inr, arith}
-use Rattle.std.proofs.lemmas.Bool.{cases_lt, cases_eq}
+use Rattle.std.proofs.lemmas.Bool.{cases_eq}
 use Rattle.std.specs.Prelude.{slice_get, slice_set}
 use Rattle.std.specs.List.{range_with_len}
 use Rattle.roc_sequence.specs.Places.{IsListed}
@@ -38,6 +38,7 @@ use Rattle.roc_protocol.proofs.Idle.{IsIdle, run_idle}
 use Rattle.roc_protocol.proofs.Worlds.{Submitting, is_refused, is_accepted, submitting, IsLogged, ordered_submitted}
 use Rattle.roc_protocol.proofs.Witness.{calls_are}
 use Rattle.roc_protocol.proofs.Serial as serial
+use Rattle.roc_protocol.proofs.Transactions.{transaction_or_none}
 
 -- each that was submitted was answered
 abbrev pub AreAllAnswered : World → Type 0
@@ -91,14 +92,14 @@ idle_cells plan stores w i x s there =
 pub cells_serial :
     (plan : Plan) → HasSchemes plan → ((S : Scheme) → IsSoundScheme S → LogLaws S (start_store plan.program)) → ((S : Scheme) → IsSoundScheme S → SerialLaws S (start_store plan.program)) → StoreLaws
     → (coords : ℕ) (steps : List Stepped) (w : World) → IsRun plan coords steps w → AreAllAnswered w → (x : Cell) → IsCellSerial plan w x
-cells_serial plan schemes laws serials stores coords steps w run all x = elim (cases_lt 0 (length plan.program.procedures)) [
+cells_serial plan schemes laws serials stores coords steps w run all x = elim (transaction_or_none plan) [
   | inl some ↦
       (let asked = serial.asked plan schemes laws stores coords steps w run some in
       let S = serial.S plan schemes laws stores coords steps w run some in
       let sound = serial.sound plan schemes laws stores coords steps w run some in
       let l = serial.logged plan schemes laws stores coords steps w run some in
       cells_by_log plan asked S (serial.is plan schemes laws stores coords steps w run some) (laws S sound) (serials S sound) w l.0 l.1 all
-      (serial.calls plan w (serial.submissions plan schemes laws stores coords steps w run some))
+      (serial.calls plan some.0 w (serial.submissions plan schemes laws stores coords steps w run some))
       (schemes.stores asked (serial.known plan schemes laws stores coords steps w run some) l.0.order) x)
   | inr none ↦ idle_cells plan stores w (run_idle plan none coords steps w run) x
 ]
@@ -108,7 +109,7 @@ pub cells_apart :
     (plan : Plan) → HasSchemes plan → ((S : Scheme) → IsSoundScheme S → LogLaws S (start_store plan.program)) → (stores : StoreLaws)
     → (coords : ℕ) (steps : List Stepped) (w : World) → IsRun plan coords steps w
     → (n : ℕ) (s : ServerState) → slice_get w.servers n ≡ Some s → (x : Cell) → shard_of plan x.place ≢ n → read s.store x ≡ pos 0
-cells_apart plan schemes laws stores coords steps w run n s there x apart = elim (cases_lt 0 (length plan.program.procedures)) [
+cells_apart plan schemes laws stores coords steps w run n s there x apart = elim (transaction_or_none plan) [
   | inl some ↦
       (let is = serial.is plan schemes laws stores coords steps w run some in
       let l = serial.logged plan schemes laws stores coords steps w run some in

@@ -18,7 +18,8 @@ use Rattle.roc_msg.specs.declared.msg.Msg.TheVariants.{Start, StartOk, Commit, C
 use Rattle.roc_msg.specs.declared.outbox.Outgoing.{Outgoing}
 use Rattle.roc_msg.specs.declared.reason.Reason.{Reason}
 use Rattle.roc_msg.specs.declared.reason.Reason.TheVariants.{Stale, Unfit}
-use Rattle.roc_plan.specs.Groups.{Plan, procedure_of, groups_of, shard_of, group_place}
+use Rattle.roc_program.proofs.Transactions.{transaction_parts}
+use Rattle.roc_plan.specs.Groups.{Plan, procedure_of, groups_of, shard_of, group_place, is_transaction}
 use Rattle.roc_coord.specs.declared.transaction.SentStart.{SentStart}
 use Rattle.roc_coord.specs.declared.transaction.TakenStart.{TakenStart}
 use Rattle.roc_coord.specs.declared.transaction.TakenCommit.{TakenCommit}
@@ -212,11 +213,11 @@ module _ (plan : Plan) (servers coords : ℕ) (some : 0 < plan.program.shards) (
         again x k true = commits_here x k (filter (λ (shard : Shard). not (has_commitok shard x.commitoks)) x.asked) (all_filter (λ (shard : Shard). shard.0 < servers) (λ (shard : Shard). not (has_commitok shard x.commitoks)) x.asked k.here.asked)
         again x k false = starts_here x k (filter (awaits_startok x) (group_numbers plan x.proc))
 
-    pub submission_keeps : (proc : ℕ) (args : List ℤ) → proc < length plan.program.procedures → length args ≡ (procedure_of plan proc).arguments
+    pub submission_keeps : (proc : ℕ) (args : List ℤ) → is_transaction plan proc ≡ true → length args ≡ (procedure_of plan proc).arguments
         → KeepsCoord (accepted plan s (new_transaction s proc args)).state (accepted plan s (new_transaction s proc args)).sends
     submission_keeps proc args known counted =
         let x = new_transaction s proc args in
-        let k : IsHeld x = record { here = record { coord = numbered; starts = tt; startoks = tt; asked = tt }; of = record { procedure = known; args = counted; starts = tt; startoks = tt } } in
+        let k : IsHeld x = record { here = record { coord = numbered; starts = tt; startoks = tt; asked = tt }; of = record { procedure = (transaction_parts plan.program proc known).there; args = counted; starts = tt; startoks = tt } } in
         record {
           number = numbered;
           pending = λ z h. elim (has_append z s.pending (with_starts plan x ∷ []) h) [ inl j ↦ held z j | inr j ↦ subst IsHeld (sym (has_one z (with_starts plan x) j)) (started_held x k) ];

@@ -1,6 +1,6 @@
 -- What a start leaves out is earlier in the order
 use Rattle.std.proofs.Common.{◌≡◌, ℕ, ℤ, List, [], ◌∷◌, ◌++◌, Option, Some, None, length, sym, ap, subst, ◌∙◌, inl, inr, append-nil, append_assoc}
-use Rattle.std.proofs.lemmas.Bool.{cases_lt, false≢true}
+use Rattle.std.proofs.lemmas.Bool.{false≢true}
 use Rattle.std.specs.Prelude.{slice_get, if◌then◌else◌}
 use Rattle.roc_sequence.specs.Lists.{Has}
 use Rattle.roc_sequence.specs.Places.{IsListed, is_listed}
@@ -30,6 +30,7 @@ use Rattle.roc_protocol.proofs.Starting.{shard_number}
 use Rattle.roc_protocol.proofs.Idle.{run_idle}
 use Rattle.roc_protocol.proofs.Worlds.{Submitting, is_refused, is_accepted, submitting}
 use Rattle.roc_protocol.proofs.Serial.{S, asked, logged, sound}
+use Rattle.roc_protocol.proofs.Transactions.{transaction_or_none}
 
 -- ---- the order grows at its end
 
@@ -62,7 +63,7 @@ order_goes_on plan w (Some (Tick (Coord n))) o (s, there, e) = subst (λ (o : Ou
 
 module _ (plan : Plan) (schemes : HasSchemes plan) (laws : (S : Scheme) → IsSoundScheme S → LogLaws S (start_store plan.program)) (stores : StoreLaws) (coords : ℕ) (steps : List Stepped) (w : World) (run : IsRun plan coords steps w) where
   pub decided_ordered : (n : ℕ) (s : ServerState) → slice_get w.servers n ≡ Some s → (t : TxnId) → IsDecided s.lists.known t → IsListed is_txn w.order t
-  decided_ordered n s there t d = elim (cases_lt 0 (length plan.program.procedures)) [
+  decided_ordered n s there t d = elim (transaction_or_none plan) [
     | inl some ↦
         (let x = logged plan schemes laws stores coords steps w run some in
         let i = (laws (S plan schemes laws stores coords steps w run some) (sound plan schemes laws stores coords steps w run some)).holds x.0 x.1.means.reached in
@@ -75,7 +76,7 @@ module _ (plan : Plan) (schemes : HasSchemes plan) (laws : (S : Scheme) → IsSo
 
   pub starting_unordered : (n : ℕ) (s : ServerState) → slice_get w.servers n ≡ Some s → (m : Envelope) → Has m w.sent → m.to ≡ Server (record { 0 = n }) → (id : TxnId) (proc group : ℕ) (args inputs : List ℤ) → m.msg ≡ Start id proc group args inputs
       → find_group id group s.started ≡ None → ¬ IsListed is_txn w.order id
-  starting_unordered n s there m has to id proc group args inputs msg none h = elim (cases_lt 0 (length plan.program.procedures)) [
+  starting_unordered n s there m has to id proc group args inputs msg none h = elim (transaction_or_none plan) [
     | inl some ↦
         (let x = logged plan schemes laws stores coords steps w run some in
         let T = S plan schemes laws stores coords steps w run some in

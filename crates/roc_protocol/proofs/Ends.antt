@@ -1,7 +1,6 @@
 -- What is seen of a submission, by its coordinator's state; and of a message that comes to a server
 use Rattle.std.proofs.Common.{sym, if◌then◌else◌, ◌≡◌, ℕ, ℤ, ◌-◌, ◌<◌, ◌≤◌, Bool, true, false, not, ◌==◌, List, Some, None, length, refl, ap, subst, ◌∙◌, arith, inl, inr}
 use Rattle.std.proofs.lemmas.Bool.Decides.{nat_tests}
-use Rattle.std.proofs.lemmas.Bool.{cases_lt}
 use Rattle.std.specs.Prelude.{nat_lt, nat_le, slice_get}
 use Rattle.roc_sequence.specs.Lists.{Has}
 use Rattle.roc_sequence.proofs.Members.{has_at}
@@ -9,7 +8,7 @@ use Rattle.roc_base.specs.declared.node.Shard.{Shard}
 use Rattle.roc_base.specs.declared.node.Node.{Node}
 use Rattle.roc_base.specs.declared.node.Node.TheVariants.{Server, Coord}
 use Rattle.roc_msg.specs.declared.msg.Envelope.{Envelope}
-use Rattle.roc_plan.specs.Groups.{Plan, procedure_of}
+use Rattle.roc_plan.specs.Groups.{Plan, procedure_of, is_transaction}
 use Rattle.roc_whole.specs.Serial.{start_store}
 use Rattle.roc_law_log.specs.Scheme.{Scheme, IsSoundScheme}
 use Rattle.roc_coord.specs.declared.handled.SubmitFault.TheVariants as fault
@@ -34,6 +33,7 @@ use Rattle.roc_protocol.proofs.Refusals.{message_taken}
 use Rattle.roc_protocol.proofs.Idle.{run_idle}
 use Rattle.roc_protocol.proofs.Finals.{networked}
 use Rattle.roc_protocol.proofs.Serial as serial
+use Rattle.roc_protocol.proofs.Transactions.{transaction_or_none, HasTransaction}
 
 -- ---- a submission
 
@@ -45,7 +45,7 @@ pub data Ends (c : CoordState) (o : Outcome) : Type 0 where
 
 pub submission_ends : (plan : Plan) (w : World) (coord proc : ℕ) (args : List ℤ) (d c : CoordState) (o : Outcome) → slice_get w.coords coord ≡ Some d → slice_get w.coords coord ≡ Some c
     → IsSubmissionOf w coord proc args (after_submit plan d proc args) o → Ends c o
-submission_ends plan w coord proc args d c o e f s = let same : d ≡ c = cc in subst (λ (x : CoordState). Ends x o) same (procedure (nat_lt proc (length plan.program.procedures)) s)
+submission_ends plan w coord proc args d c o e f s = let same : d ≡ c = cc in subst (λ (x : CoordState). Ends x o) same (procedure (is_transaction plan proc) s)
   where
     Of : Submission → Type 0
     Of r = IsSubmissionOf w coord proc args r o
@@ -70,12 +70,12 @@ submission_ends plan w coord proc args d c o e f s = let same : d ≡ c = cc in 
 
 module _ (plan : Plan) (schemes : HasSchemes plan) (laws : (S : Scheme) → IsSoundScheme S → LogLaws S (start_store plan.program)) (stores : StoreLaws) (coords : ℕ) (steps : List Stepped) (w : World) (run : IsRun plan coords steps w) where
   pub server_takes : (k : ℕ) (m : Envelope) (shard : Shard) (o : Outcome) → slice_get w.sent (k - 1) ≡ Some m → m.to ≡ Server shard → Happens plan w (Deliver k) o → o.seen ≡ seen.Done
-  server_takes k m shard o there to (b, first, at, h) = elim (cases_lt 0 (length plan.program.procedures)) [
+  server_takes k m shard o there to (b, first, at, h) = elim (transaction_or_none plan) [
     | inl some ↦ taken_by some b at (let same : b ≡ m = cc in ap (λ (m : Envelope). m.to) same ∙ to) h
     | inr none ↦ absurd (subst (Has m) (run_idle plan none coords steps w run).sent (has_at w.sent (k - 1) m there))
   ]
     where
-      taken_by : 0 < length plan.program.procedures → (b : Envelope) → slice_get w.sent (k - 1) ≡ Some b → b.to ≡ Server shard → IsReceived plan (mark_delivered w k) b.msg b.to o → o.seen ≡ seen.Done
+      taken_by : HasTransaction plan → (b : Envelope) → slice_get w.sent (k - 1) ≡ Some b → b.to ≡ Server shard → IsReceived plan (mark_delivered w k) b.msg b.to o → o.seen ≡ seen.Done
       taken_by some b at to h = go b.to refl to h
         where
           go : (t : Node) → b.to ≡ t → t ≡ Server shard → IsReceived plan (mark_delivered w k) b.msg t o → o.seen ≡ seen.Done
@@ -85,14 +85,14 @@ module _ (plan : Plan) (schemes : HasSchemes plan) (laws : (S : Scheme) → IsSo
               let subs = serial.submissions plan schemes laws stores coords steps w run some in
               let S = serial.S plan schemes laws stores coords steps w run some in
               let done = message_taken plan (serial.asked plan schemes laws stores coords steps w run some) S (serial.is plan schemes laws stores coords steps w run some) (laws S (serial.sound plan schemes laws stores coords steps w run some))
-              w x.0 x.1 (networked plan schemes laws stores coords steps w run some) (run_asked plan coords steps w run) subs (serial.agrees plan w subs) (serial.known plan schemes laws stores coords steps w run some)
+              w x.0 x.1 (networked plan schemes laws stores coords steps w run some) (run_asked plan coords steps w run) subs (serial.agrees plan some.0 w subs) (serial.known plan schemes laws stores coords steps w run some)
               s.0 v found b (has_at w.sent (k - 1) b at) is r step in
               ap (λ (x : Outcome). x.seen) is_o ∙ ap server_seen done
 
   -- ---- a delivery to a coordinator
 
   pub coordinator_ignores : (k : ℕ) (o : Outcome) (why : Reason) → Happens plan w (Deliver k) o → o.seen ≡ seen.Ignored why → why ≡ Stale
-  coordinator_ignores k o why (b, first, at, h) ignored = elim (cases_lt 0 (length plan.program.procedures)) [
+  coordinator_ignores k o why (b, first, at, h) ignored = elim (transaction_or_none plan) [
     | inl some ↦ by_node some b.to refl h
     | inr none ↦ absurd (subst (Has b) (run_idle plan none coords steps w run).sent (has_at w.sent (k - 1) b at))
   ]
@@ -102,7 +102,7 @@ module _ (plan : Plan) (schemes : HasSchemes plan) (laws : (S : Scheme) → IsSo
       was_ignored (coord_answer.Answered id reply) e = absurd (cc)
       was_ignored (coord_answer.Ignored reason) e = let same : reason ≡ why = cc in ap coord_answer.Ignored same
 
-      by_node : 0 < length plan.program.procedures → (t : Node) → b.to ≡ t → IsReceived plan (mark_delivered w k) b.msg t o → why ≡ Stale
+      by_node : HasTransaction plan → (t : Node) → b.to ≡ t → IsReceived plan (mark_delivered w k) b.msg t o → why ≡ Stale
       by_node some (Server s) to x = absurd (let done = server_takes k b s o at to (b, first, at, subst (λ t. IsReceived plan (mark_delivered w k) b.msg t o) (sym to) x) in cc)
       by_node some (Coord n) to (s, found, e) =
           let x = serial.logged plan schemes laws stores coords steps w run some in
@@ -111,5 +111,5 @@ module _ (plan : Plan) (schemes : HasSchemes plan) (laws : (S : Scheme) → IsSo
           let asked = serial.asked plan schemes laws stores coords steps w run some in
           let is = serial.is plan schemes laws stores coords steps w run some in
           let l = laws S (serial.sound plan schemes laws stores coords steps w run some) in
-          message_stale plan asked S is l w x.0 x.1 (networked plan schemes laws stores coords steps w run some) (run_pending plan asked S is l stores coords steps w run (serial.agrees plan w subs)) n s found b (has_at w.sent (k - 1) b at) to why
+          message_stale plan asked S is l w x.0 x.1 (networked plan schemes laws stores coords steps w run some) (run_pending plan asked S is l stores coords steps w run (serial.agrees plan some.0 w subs)) n s found b (has_at w.sent (k - 1) b at) to why
           (was_ignored (after_message plan s b.msg).answer (sym (ap (λ (o : Outcome). o.seen) e) ∙ ignored))

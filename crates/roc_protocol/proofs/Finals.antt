@@ -1,6 +1,5 @@
 -- Lists are final in every world
 use Rattle.std.proofs.Common.{◌≡◌, ℕ, ℤ, ◌-◌, ◌<◌, List, [], ◌∷◌, ◌++◌, Option, Some, None, length, map, refl, sym, subst, inl, inr}
-use Rattle.std.proofs.lemmas.Bool.{cases_lt}
 use Rattle.std.specs.Prelude.{slice_get}
 use Rattle.roc_sequence.specs.Lists.{Has}
 use Rattle.roc_sequence.proofs.Members.{has_append, has_right, has_at, from_has_map}
@@ -48,6 +47,7 @@ use Rattle.roc_protocol.proofs.Worlds.{comes_logged, Submitting, is_refused, is_
 use Rattle.roc_protocol.proofs.Witness.{step_extends, run_logged}
 use Rattle.roc_protocol.proofs.Serial.{S, asked, logged, sound, agrees, submissions}
 use Rattle.roc_protocol.proofs.Serial as serial
+use Rattle.roc_protocol.proofs.Transactions.{transaction_or_none, HasTransaction}
 
 module _ (plan : Plan) (asked : TxnId → whole.Call) (S : Scheme) (is : IsSchemeOf plan asked S) (laws : LogLaws S (start_store plan.program)) where
   module _ (w : World) (log : Log) (o : IsLogged plan asked S is laws w log) (nw : IsNetworked plan asked S is laws w) where
@@ -156,7 +156,7 @@ module _ (plan : Plan) (asked : TxnId → whole.Call) (S : Scheme) (is : IsSchem
 -- ---- the laws
 
 module _ (plan : Plan) (schemes : HasSchemes plan) (laws : (S : Scheme) → IsSoundScheme S → LogLaws S (start_store plan.program)) (stores : StoreLaws) (coords : ℕ) (steps : List Stepped) (w : World) (run : IsRun plan coords steps w) where
-  module _ (some : 0 < length plan.program.procedures) where
+  module _ (some : HasTransaction plan) where
     abbrev T : Scheme
     T = S plan schemes laws stores coords steps w run some
 
@@ -177,24 +177,24 @@ module _ (plan : Plan) (schemes : HasSchemes plan) (laws : (S : Scheme) → IsSo
           proc = was.0;
           args = was.1;
           submitted = was.2;
-          union = subst (λ p. IsUnionIn w.sent (length (groups_of plan p)) t es) (sym ((agrees plan w (submissions plan schemes laws stores coords steps w run some)).proc t was.0 was.1 was.2)) u;
+          union = subst (λ p. IsUnionIn w.sent (length (groups_of plan p)) t es) (sym ((agrees plan some.0 w (submissions plan schemes laws stores coords steps w run some)).proc t was.0 was.1 was.2)) u;
         }
 
   pub known_final : (n : ℕ) (s : ServerState) → slice_get w.servers n ≡ Some s → (k : KnownList) → Has k s.lists.known → IsFinalIn plan w k.of k.edges
-  known_final n s there k h = elim (cases_lt 0 (length plan.program.procedures)) [
+  known_final n s there k h = elim (transaction_or_none plan) [
     | inl some ↦ final_of some k.of k.edges (((networked some).servers n s there).known k h)
     | inr none ↦ absurd (subst (Has k) ((run_idle plan none coords steps w run).known n s there) h)
   ]
 
   pub sent_final : (m : Envelope) → Has m w.sent → (k : KnownList) → Has k (lists_in m.msg) → IsFinalIn plan w k.of k.edges
-  sent_final m h k j = elim (cases_lt 0 (length plan.program.procedures)) [
+  sent_final m h k j = elim (transaction_or_none plan) [
     | inl some ↦ final_of some k.of k.edges ((networked some).lists m h k j)
     | inr none ↦ absurd (subst (Has m) (run_idle plan none coords steps w run).sent h)
   ]
 
   pub startoks_one : (m other : Envelope) → Has m w.sent → Has other w.sent → (t : TxnId) (g : ℕ) (shard at : Shard) (bound outs values gave : List ℤ) (es ds : List Dependency) (fs hs : List KnownList)
       → m.msg ≡ StartOk t g shard bound outs es fs → other.msg ≡ StartOk t g at values gave ds hs → m.msg ≡ other.msg
-  startoks_one m other h k t g shard at bound outs values gave es ds fs hs e f = elim (cases_lt 0 (length plan.program.procedures)) [
+  startoks_one m other h k t g shard at bound outs values gave es ds fs hs e f = elim (transaction_or_none plan) [
     | inl some ↦
         (let x = logged plan schemes laws stores coords steps w run some in
         one_startok plan (calls some) (T some) (serial.is plan schemes laws stores coords steps w run some) (laws (T some) (sound plan schemes laws stores coords steps w run some)) w x.0 x.1 (networked some) m other h k t g shard at bound outs values gave es ds fs hs e f)

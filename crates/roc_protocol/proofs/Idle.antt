@@ -1,4 +1,4 @@
--- Where the plan has no procedure, nothing happens
+-- Where the plan has no transaction, nothing happens
 use Rattle.std.proofs.Common.{◌≡◌, ℕ, ◌+◌, ◌-◌, ◌≤◌, List, [], Option, Some, None, length, map, refl, sym, ap, subst, ◌∙◌, arith, inl, inr}
 use Rattle.std.specs.Prelude.{slice_get, filter, flat_map, not}
 use Rattle.std.proofs.Common.{append-nil}
@@ -20,6 +20,7 @@ use Rattle.roc_protocol.specs.Run.{Stepped, Transition, IsRun, begun, goes_on}
 use Rattle.roc_protocol.proofs.Changed.{get-set_cases}
 use Rattle.roc_protocol.proofs.Firsts.{found_at}
 use Rattle.roc_protocol.proofs.Worlds.{Submitting, is_refused, is_accepted, submitting}
+use Rattle.roc_protocol.proofs.Transactions.{NoTransaction}
 
 pub record IsIdle (plan : Plan) (w : World) : Type 0 where
   pub sent : w.sent ≡ []
@@ -31,14 +32,14 @@ pub record IsIdle (plan : Plan) (w : World) : Type 0 where
   pub stores : (n : ℕ) (s : ServerState) → slice_get w.servers n ≡ Some s → s.store ≡ (first_server plan (record { 0 = n })).store
   pub nexts : (n : ℕ) (c : CoordState) → slice_get w.coords n ≡ Some c → c.next ≡ 0
 
-module _ (plan : Plan) (none : length plan.program.procedures ≤ 0) where
+module _ (plan : Plan) (none : NoTransaction plan) where
   step_idle : (w : World) → IsIdle plan w → (e : Option Event) (o : Outcome) → Transition plan w e o → IsIdle plan o.world
   step_idle w i None o h = subst (λ (o : Outcome). IsIdle plan o.world) (sym h) i
   step_idle w i (Some (Submit n proc args)) o (s, there, h) = go (submitting plan w n proc args s o h)
     where
       go : Submitting plan w n proc args s o → IsIdle plan o.world
       go (is_refused e) = subst (IsIdle plan) (sym e) i
-      go (is_accepted known counted e) = absurd (omega arith)
+      go (is_accepted known counted e) = absurd (false≢true (sym (none proc) ∙ known))
   step_idle w i (Some (Deliver k)) o (m, some, there, h) = absurd (nothing (k - 1) m (subst (λ l. slice_get l (k - 1) ≡ Some m) i.sent there))
     where
       nothing : (at : ℕ) (m : Envelope) → slice_get [] at ≡ Some m → ⊥

@@ -1,6 +1,6 @@
 -- A transaction whose messages are delivered and heard is asked to commit, and answered
 use Rattle.std.proofs.Common.{◌≡◌, ◌≢◌, ℕ, ℤ, zero, suc, ◌<◌, ◌==◌, true, List, [], ◌∷◌, Some, length, refl, sym, ap, subst, ◌∙◌, inl, inr, arith, is_some}
-use Rattle.std.proofs.lemmas.Bool.{false≢true, eqb-true, cases_lt}
+use Rattle.std.proofs.lemmas.Bool.{false≢true, eqb-true}
 use Rattle.std.specs.Prelude.{slice_get}
 use Rattle.roc_merge_groups.proofs.Elements.{has_range}
 use Rattle.roc_sequence.specs.Lists.{Has}
@@ -47,6 +47,7 @@ use Rattle.roc_protocol.proofs.Outstanding.{IsOutstanding}
 use Rattle.roc_protocol.proofs.Undelivered.{number_of}
 use Rattle.roc_protocol.proofs.Ongoing.{IsOngoing, whole_out}
 use Rattle.roc_protocol.proofs.OngoingRuns.{AreTaken, run_ongoing}
+use Rattle.roc_protocol.proofs.Transactions.{transaction_or_none, HasTransaction}
 
 module _ (plan : Plan) (asked : TxnId → whole.Call) (S : Scheme) (is : IsSchemeOf plan asked S) (laws : LogLaws S (start_store plan.program)) (sound : IsSoundScheme S) (w : World) (log : Log) (l : IsLogged plan asked S is laws w log) (g : IsOngoing plan w) (a : AreTaken w) where
   i : LogInvariants S (start_store plan.program) log
@@ -156,7 +157,7 @@ module _ (plan : Plan) (asked : TxnId → whole.Call) (S : Scheme) (is : IsSchem
 -- ---- every run
 
 module _ (plan : Plan) (schemes : HasSchemes plan) (laws : (S : Scheme) → IsSoundScheme S → LogLaws S (start_store plan.program)) (stores : StoreLaws) (coords : ℕ) (steps : List Stepped) (w : World) (run : IsRun plan coords steps w) where
-  module _ (some : 0 < length plan.program.procedures) where
+  module _ (some : HasTransaction plan) where
     abbrev T : Scheme
     T = serial.S plan schemes laws stores coords steps w run some
 
@@ -170,14 +171,14 @@ module _ (plan : Plan) (schemes : HasSchemes plan) (laws : (S : Scheme) → IsSo
     is = serial.is plan schemes laws stores coords steps w run some
 
     pending : IsPending plan w
-    pending = run_pending plan calls T is (laws T sound) stores coords steps w run (serial.agrees plan w (serial.submissions plan schemes laws stores coords steps w run some))
+    pending = run_pending plan calls T is (laws T sound) stores coords steps w run (serial.agrees plan some.0 w (serial.submissions plan schemes laws stores coords steps w run some))
 
     ongoing : IsOngoing plan w × AreTaken w
-    ongoing = run_ongoing plan calls T is (laws T sound) stores coords steps w run (serial.agrees plan w (serial.submissions plan schemes laws stores coords steps w run some))
+    ongoing = run_ongoing plan calls T is (laws T sound) stores coords steps w run (serial.agrees plan some.0 w (serial.submissions plan schemes laws stores coords steps w run some))
 
   -- where each delivered start of t has its startok, and all of its messages are delivered, its shards were asked to commit
   pub commits_are_out : (t : TxnId) → StartsHeard w t → AreDelivered w t → CommitsAreOut w t
-  commits_are_out t heard delivered = elim (cases_lt 0 (length plan.program.procedures)) [
+  commits_are_out t heard delivered = elim (transaction_or_none plan) [
     | inl some ↦
         (let x = serial.logged plan schemes laws stores coords steps w run some in
         all_out plan (calls some) (T some) (is some) (laws (T some) (sound some)) (sound some) w x.0 x.1 (ongoing some).0 (ongoing some).1 (pending some) t heard delivered)
@@ -186,7 +187,7 @@ module _ (plan : Plan) (schemes : HasSchemes plan) (laws : (S : Scheme) → IsSo
 
   -- and where each delivered commit has its commitok too, it is answered
   pub heard_is_answered : (t : TxnId) (proc : ℕ) (args : List ℤ) → Has (Submitted t proc args) w.history → StartsHeard w t → CommitsHeard w t → AreDelivered w t → (reply : List ℤ) × Has (Answered t reply) w.history
-  heard_is_answered t proc args h heard said delivered = elim (cases_lt 0 (length plan.program.procedures)) [
+  heard_is_answered t proc args h heard said delivered = elim (transaction_or_none plan) [
     | inl some ↦
         (let x = serial.logged plan schemes laws stores coords steps w run some in
         all_answered plan (calls some) (T some) (is some) (laws (T some) (sound some)) (sound some) w x.0 x.1 (ongoing some).0 (ongoing some).1 t proc args h heard said delivered)
@@ -195,19 +196,19 @@ module _ (plan : Plan) (schemes : HasSchemes plan) (laws : (S : Scheme) → IsSo
 
   -- who is answered is pending nowhere
   pub answered_gone : (t : TxnId) (reply : List ℤ) → Has (Answered t reply) w.history → (n : ℕ) (c : CoordState) → slice_get w.coords n ≡ Some c → (x : Transaction) → Has x c.pending → x.id ≢ t
-  answered_gone t reply h n c there x has same = elim (cases_lt 0 (length plan.program.procedures)) [
+  answered_gone t reply h n c there x has same = elim (transaction_or_none plan) [
     | inl some ↦ (ongoing some).0.gone t reply h c x (subst (λ m. slice_get w.coords m ≡ Some c) (sym ((pending some).own n c there x has) ∙ ap (λ (t : TxnId). t.coord) same) there) has same
     | inr none ↦ absurd (subst (Has (Answered t reply)) (run_idle plan none coords steps w run).history h)
   ]
 
   -- where all are answered, nothing is pending
   pub all_gone : ((t : TxnId) → WasSubmitted w.history t → (reply : List ℤ) × Has (Answered t reply) w.history) → (n : ℕ) (c : CoordState) → slice_get w.coords n ≡ Some c → c.pending ≡ []
-  all_gone all n c there = elim (cases_lt 0 (length plan.program.procedures)) [
+  all_gone all n c there = elim (transaction_or_none plan) [
     | inl some ↦ go some c.pending refl
     | inr none ↦ (run_idle plan none coords steps w run).coords n c there
   ]
     where
-      go : 0 < length plan.program.procedures → (xs : List Transaction) → c.pending ≡ xs → c.pending ≡ []
+      go : HasTransaction plan → (xs : List Transaction) → c.pending ≡ xs → c.pending ≡ []
       go some [] e = e
       go some (x ∷ xs) e =
           let has : Has x c.pending = subst (Has x) (sym e) (inl refl) in

@@ -1,6 +1,6 @@
 -- Each server takes transactions in the serial order
 use Rattle.std.proofs.Common.{◌≡◌, ℕ, ◌-◌, ◌<◌, Bool, true, false, List, [], ◌∷◌, ◌++◌, Some, length, refl, sym, ap, subst, ◌∙◌, ◌⊎◌, inl, inr, arith, is_some, unwrap_or}
-use Rattle.std.proofs.lemmas.Bool.{cases_lt, false≢true}
+use Rattle.std.proofs.lemmas.Bool.{false≢true}
 use Rattle.std.specs.Prelude.{slice_get, slice_set, Option, None}
 use Rattle.roc_sequence.specs.Lists.{Has}
 use Rattle.roc_sequence.specs.Places.{IsListed, IsListedBefore, NoneTwice}
@@ -40,6 +40,7 @@ use Rattle.roc_protocol.proofs.Facts.{known_has}
 use Rattle.roc_protocol.proofs.Served.{message_explained}
 use Rattle.roc_protocol.proofs.Idle.{run_idle}
 use Rattle.roc_protocol.proofs.Serial as serial
+use Rattle.roc_protocol.proofs.Transactions.{transaction_or_none, HasTransaction}
 
 unknown_none : (known : List KnownList) (t : TxnId) → is_known known t ≡ false → entries_of known t ≡ []
 unknown_none known t h = go (list_of t known) h
@@ -79,7 +80,7 @@ in_list xs ys a b once (inr p) =
 
 module _ (plan : Plan) (schemes : HasSchemes plan) (laws : (S : Scheme) → IsSoundScheme S → LogLaws S (start_store plan.program)) (serials : (S : Scheme) → IsSoundScheme S → SerialLaws S (start_store plan.program)) (stores : StoreLaws) (coords : ℕ) (steps : List Stepped) (w : World) (run : IsRun plan coords steps w) where
   module _ (k : ℕ) (shard : Shard) (s v : ServerState) (o : Outcome) (here : slice_get w.servers shard.0 ≡ Some s) (after : slice_get o.world.servers shard.0 ≡ Some v) (a b : TxnId) (related : IsAncestor v.lists.known a b ⊎ IsAncestor v.lists.known b a) (taken : (IsDecided s.lists.known a × IsListed is_txn o.decided b) ⊎ (IsListed is_txn o.decided b × IsListedBefore is_txn o.decided a b)) where
-    at_event : 0 < length plan.program.procedures → (m : Envelope) → slice_get w.sent (k - 1) ≡ Some m → (t : Node) → m.to ≡ t → t ≡ Server shard → IsReceived plan (mark_delivered w k) m.msg t o → IsListedBefore is_txn o.world.order a b
+    at_event : HasTransaction plan → (m : Envelope) → slice_get w.sent (k - 1) ≡ Some m → (t : Node) → m.to ≡ t → t ≡ Server shard → IsReceived plan (mark_delivered w k) m.msg t o → IsListedBefore is_txn o.world.order a b
     at_event some m at (Coord n) to is x = absurd (cc)
     at_event some m at (Server at_shard) to is (u, r, there, step, e) =
         let x = serial.logged plan schemes laws stores coords steps w run some in
@@ -115,7 +116,7 @@ module _ (plan : Plan) (schemes : HasSchemes plan) (laws : (S : Scheme) → IsSo
         number (Coord n) = 0
 
     pub taken_in_order : (m : Envelope) → slice_get w.sent (k - 1) ≡ Some m → m.to ≡ Server shard → Happens plan w (Deliver k) o → IsListedBefore is_txn o.world.order a b
-    taken_in_order m at to (q, first, found, x) = elim (cases_lt 0 (length plan.program.procedures)) [
+    taken_in_order m at to (q, first, found, x) = elim (transaction_or_none plan) [
       | inl some ↦ (let same : q ≡ m = cc in at_event some q found q.to refl (ap (λ (m : Envelope). m.to) same ∙ to) x)
       | inr none ↦ absurd (subst (Has m) (run_idle plan none coords steps w run).sent (has_at w.sent (k - 1) m at))
     ]

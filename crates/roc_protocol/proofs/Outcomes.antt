@@ -10,7 +10,7 @@ use Rattle.roc_base.specs.declared.node.Node.{Node}
 use Rattle.roc_base.specs.declared.node.Node.TheVariants.{Server, Coord}
 use Rattle.roc_component.specs.Components.{HaveSameMembers, IsComponentOrderOf}
 use Rattle.roc_msg.specs.declared.msg.Msg.{Msg}
-use Rattle.roc_plan.specs.Groups.{Plan, procedure_of}
+use Rattle.roc_plan.specs.Groups.{Plan, procedure_of, is_transaction}
 use Rattle.roc_server.specs.State.{answered}
 use Rattle.roc_server.specs.Step as server
 use Rattle.roc_coord.specs.declared.handled.SubmitFault.TheVariants as fault
@@ -42,8 +42,8 @@ there (x ∷ xs) (suc n) l = there xs n (omega arith)
 abbrev IsThere : World → (n proc : ℕ) → List ℤ → Submission → Type 0
 IsThere w n proc args r = (o : Outcome) × IsSubmissionOf w n proc args r o
 
-submission : (plan : Plan) (w : World) (n proc : ℕ) (args : List ℤ) (s : CoordState) → proc < length plan.program.procedures → length args ≡ (procedure_of plan proc).arguments → (o : Outcome) × IsSubmissionOf w n proc args (after_submit plan s proc args) o
-submission plan w n proc args s known counted = procedure (nat_lt proc (length plan.program.procedures)) refl
+submission : (plan : Plan) (w : World) (n proc : ℕ) (args : List ℤ) (s : CoordState) → is_transaction plan proc ≡ true → length args ≡ (procedure_of plan proc).arguments → (o : Outcome) × IsSubmissionOf w n proc args (after_submit plan s proc args) o
+submission plan w n proc args s known counted = procedure (is_transaction plan proc) refl
   where
     free : (b : Bool) → IsThere w n proc args (refused_or_accepted plan s proc args (if b then Some fault.Busy else None))
     free true = (undecided seen.Busy w, refl)
@@ -58,14 +58,14 @@ submission plan w n proc args s known counted = procedure (nat_lt proc (length p
     arguments true e = unspent (nat_le most_transactions s.next)
     arguments false e = absurd (false≢true (sym e ∙ eq-eqb (length args) (procedure_of plan proc).arguments counted))
 
-    procedure : (b : Bool) → nat_lt proc (length plan.program.procedures) ≡ b
+    procedure : (b : Bool) → is_transaction plan proc ≡ b
         → (o : Outcome) × IsSubmissionOf w n proc args (refused_or_accepted plan s proc args (if not b then Some fault.NoProc else if not (length args == (procedure_of plan proc).arguments) then Some fault.Args else if nat_le most_transactions s.next then Some fault.Spent else if nat_le most_pending (length s.pending) then Some fault.Busy else None)) o
     procedure true e = arguments (length args == (procedure_of plan proc).arguments) refl
-    procedure false e = absurd (grind (arith, nat_tests))
+    procedure false e = absurd (false≢true (sym e ∙ known))
 
 -- and what is submitted fits
-submitted : (plan : Plan) (w : World) (n proc : ℕ) (args : List ℤ) (s : CoordState) (o : Outcome) → IsSubmissionOf w n proc args (after_submit plan s proc args) o → (proc < length plan.program.procedures) × (length args ≡ (procedure_of plan proc).arguments)
-submitted plan w n proc args s o h = procedure (nat_lt proc (length plan.program.procedures)) refl h
+submitted : (plan : Plan) (w : World) (n proc : ℕ) (args : List ℤ) (s : CoordState) (o : Outcome) → IsSubmissionOf w n proc args (after_submit plan s proc args) o → (is_transaction plan proc ≡ true) × (length args ≡ (procedure_of plan proc).arguments)
+submitted plan w n proc args s o h = procedure (is_transaction plan proc) refl h
   where
     arguments : (b : Bool) → (length args == (procedure_of plan proc).arguments) ≡ b
         → IsSubmissionOf w n proc args (refused_or_accepted plan s proc args (if not b then Some fault.Args else if nat_le most_transactions s.next then Some fault.Spent else if nat_le most_pending (length s.pending) then Some fault.Busy else None)) o
@@ -73,10 +73,10 @@ submitted plan w n proc args s o h = procedure (nat_lt proc (length plan.program
     arguments true e r = eqb-true (length args) (procedure_of plan proc).arguments e
     arguments false e r = elim r [ ]
 
-    procedure : (b : Bool) → nat_lt proc (length plan.program.procedures) ≡ b
+    procedure : (b : Bool) → is_transaction plan proc ≡ b
         → IsSubmissionOf w n proc args (refused_or_accepted plan s proc args (if not b then Some fault.NoProc else if not (length args == (procedure_of plan proc).arguments) then Some fault.Args else if nat_le most_transactions s.next then Some fault.Spent else if nat_le most_pending (length s.pending) then Some fault.Busy else None)) o
-        → (proc < length plan.program.procedures) × (length args ≡ (procedure_of plan proc).arguments)
-    procedure true e r = (grind (arith, nat_tests), arguments (length args == (procedure_of plan proc).arguments) refl r)
+        → (is_transaction plan proc ≡ true) × (length args ≡ (procedure_of plan proc).arguments)
+    procedure true e r = (e, arguments (length args == (procedure_of plan proc).arguments) refl r)
     procedure false e r = elim r [ ]
 
 -- ---- any event

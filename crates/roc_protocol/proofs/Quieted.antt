@@ -1,6 +1,6 @@
 -- A quiet transaction is decided wherever it has a group, and its commits are answered
 use Rattle.std.proofs.Common.{◌≡◌, ℕ, ℤ, suc, ◌<◌, Bool, true, false, List, [], ◌∷◌, Option, Some, None, length, refl, sym, ap, subst, ◌∙◌, inl, inr, arith, is_some, unwrap_or}
-use Rattle.std.proofs.lemmas.Bool.{cases_lt, false≢true}
+use Rattle.std.proofs.lemmas.Bool.{false≢true}
 use Rattle.std.specs.Prelude.{slice_get, flat_map}
 use Rattle.std.specs.List.{range_with_len}
 use Rattle.roc_sequence.specs.Lists.{Has}
@@ -45,6 +45,7 @@ use Rattle.roc_protocol.proofs.Heard.{AreDelivered, StartsHeard, CommitsAreOut, 
 use Rattle.roc_protocol.proofs.Hears.{IsSought}
 use Rattle.roc_protocol.proofs.Delivered.{At, HasCommit, HasList, IsTaken}
 use Rattle.roc_protocol.proofs.Hearing.{HasHeard, run_heard}
+use Rattle.roc_protocol.proofs.Transactions.{transaction_or_none}
 
 -- ---- lists
 
@@ -162,7 +163,7 @@ module _ (plan : Plan) (schemes : HasSchemes plan) (laws : (S : Scheme) → IsSo
 
   -- each start goes to a server
   start_to : (m : Envelope) → Has m w.sent → (t : TxnId) (proc group : ℕ) (args inputs : List ℤ) → m.msg ≡ Start t proc group args inputs → (shard : Shard) × (m.to ≡ Server shard)
-  start_to m h t proc group args inputs is = elim (cases_lt 0 (length plan.program.procedures)) [
+  start_to m h t proc group args inputs is = elim (transaction_or_none plan) [
     | inl some ↦
         (let x = serial.logged plan schemes laws stores coords steps w run some in
         let k = subst (λ msg. Means plan (serial.asked plan schemes laws stores coords steps w run some) (serial.S plan schemes laws stores coords steps w run some) (start_store plan.program) x.0 msg m.to) is (x.1.means.messages m h) in

@@ -23,7 +23,7 @@ use Rattle.roc_msg.specs.declared.msg.Envelope.{Envelope}
 use Rattle.roc_msg.specs.declared.reason.Reason.{Reason}
 use Rattle.roc_msg.specs.declared.reason.Reason.TheVariants.{NotHere}
 use Rattle.roc_plan.specs.declared.group.Input.{Input}
-use Rattle.roc_plan.specs.Groups.{Plan, procedure_of, groups_of, inputs_of, shard_of, group_place}
+use Rattle.roc_plan.specs.Groups.{Plan, procedure_of, groups_of, inputs_of, shard_of, group_place, is_transaction}
 use Rattle.roc_whole.specs.Serial as whole
 use Rattle.roc_whole.specs.Serial.{start_store}
 use Rattle.roc_group.specs.GroupRun.{GroupCall, call}
@@ -59,7 +59,7 @@ length-picked [] given e = refl
 length-picked (i ∷ is) [] e = absurd (omega arith)
 length-picked (i ∷ is) (v ∷ given) e = let r = length-picked is given (omega arith) in omega arith
 
-module _ (plan : Plan) (asked : TxnId → whole.Call) (S : Scheme) (is : IsSchemeOf plan asked S) (laws : LogLaws S (start_store plan.program)) (w : World) (log : Log) (o : IsLogged plan asked S is laws w log) (nw : IsNetworked plan asked S is laws w) (ha : HasAsked w) (subs : AreSubmissions plan w.history w.coords) (agrees : Agrees asked w.history) (known : (t : TxnId) → (asked t).procedure < length plan.program.procedures) (n : ℕ) (s : ServerState) (there : slice_get w.servers n ≡ Some s) where
+module _ (plan : Plan) (asked : TxnId → whole.Call) (S : Scheme) (is : IsSchemeOf plan asked S) (laws : LogLaws S (start_store plan.program)) (w : World) (log : Log) (o : IsLogged plan asked S is laws w log) (nw : IsNetworked plan asked S is laws w) (ha : HasAsked w) (subs : AreSubmissions plan w.history w.coords) (agrees : Agrees asked w.history) (known : (t : TxnId) → is_transaction plan (asked t).procedure ≡ true) (n : ℕ) (s : ServerState) (there : slice_get w.servers n ≡ Some s) where
   i : LogInvariants S (start_store plan.program) log
   i = laws.holds log o.means.reached
 
@@ -89,7 +89,7 @@ module _ (plan : Plan) (asked : TxnId → whole.Call) (S : Scheme) (is : IsSchem
     on = ap shard_number (sym k.to ∙ to)
 
     procedure : has_procedure plan proc ≡ true
-    procedure = let l = known id in let e = k.proc in grind (arith, nat_tests)
+    procedure = subst (λ p. is_transaction plan p ≡ true) (sym k.proc) (known id)
 
     group_there : nat_lt group (length (groups_of plan proc)) ≡ true
     group_there = let l = (is.groups id group).0 k.means.listed in let l2 : group < length (groups_of plan proc) = subst (λ p. group < length (groups_of plan p)) (sym k.proc) l in grind (arith, nat_tests)

@@ -1,9 +1,8 @@
 -- The order of every run is a serial witness of its history
 use Rattle.std.proofs.Common.{◌≡◌, ℕ, ℤ, ◌<◌, List, [], Option, Some, None, length, refl, sym, ap, subst, ◌∙◌, inl, inr, arith, unwrap_or}
-use Rattle.std.proofs.lemmas.Bool.{cases_lt}
 use Rattle.roc_sequence.specs.Lists.{Has}
 use Rattle.roc_base.specs.declared.id.TxnId.{TxnId}
-use Rattle.roc_plan.specs.Groups.{Plan}
+use Rattle.roc_plan.specs.Groups.{Plan, is_transaction}
 use Rattle.roc_whole.specs.Serial as whole
 use Rattle.roc_whole.specs.Serial.{start_store}
 use Rattle.roc_law_log.specs.Scheme.{Scheme, IsSoundScheme}
@@ -23,52 +22,53 @@ use Rattle.roc_protocol.proofs.Submissions.{AreSubmissions}
 use Rattle.roc_protocol.proofs.Idle.{IsIdle, run_idle}
 use Rattle.roc_protocol.proofs.Worlds.{run_submissions, Agrees, IsLogged}
 use Rattle.roc_protocol.proofs.Witness.{run_logged, witness}
+use Rattle.roc_protocol.proofs.Transactions.{transaction_or_none, HasTransaction}
 
--- what transactions call, by a history
-pub call_in : List Entry → TxnId → whole.Call
-call_in h t = unwrap_or (submitted_call t h) (record { id = t; procedure = 0; arguments = [] })
+-- what transactions call, by a history; those that were not submitted, this procedure
+pub call_in : (other : ℕ) → List Entry → TxnId → whole.Call
+call_in other h t = unwrap_or (submitted_call t h) (record { id = t; procedure = other; arguments = [] })
 
-module _ (plan : Plan) (w : World) (a : AreSubmissions plan w.history w.coords) where
+module _ (plan : Plan) (other : ℕ) (w : World) (a : AreSubmissions plan w.history w.coords) where
   call_is : (t : TxnId) (p : ℕ) (x : List ℤ) → Has (Submitted t p x) w.history → submitted_call t w.history ≡ Some (record { id = t; procedure = p; arguments = x })
   call_is t p x h = call_of-is w.history t p x (λ q b k. a.one t q p b x k h) h
 
-  pub agrees : Agrees (call_in w.history) w.history
+  pub agrees : Agrees (call_in other w.history) w.history
   unfolding call_in
   agrees = record {
-    proc = λ t p x h. ap (λ (o : Option whole.Call). (unwrap_or o (record { id = t; procedure = 0; arguments = [] })).procedure) (sym (call_is t p x h));
-    args = λ t p x h. ap (λ (o : Option whole.Call). (unwrap_or o (record { id = t; procedure = 0; arguments = [] })).arguments) (sym (call_is t p x h));
+    proc = λ t p x h. ap (λ (o : Option whole.Call). (unwrap_or o (record { id = t; procedure = other; arguments = [] })).procedure) (sym (call_is t p x h));
+    args = λ t p x h. ap (λ (o : Option whole.Call). (unwrap_or o (record { id = t; procedure = other; arguments = [] })).arguments) (sym (call_is t p x h));
   }
 
-  pub calls : (t : TxnId) → WasSubmitted w.history t → submitted_call t w.history ≡ Some (call_in w.history t)
+  pub calls : (t : TxnId) → WasSubmitted w.history t → submitted_call t w.history ≡ Some (call_in other w.history t)
   unfolding call_in
-  calls t (p, x, h) = call_is t p x h ∙ ap (λ (o : Option whole.Call). Some (unwrap_or o (record { id = t; procedure = 0; arguments = [] }))) (sym (call_is t p x h))
+  calls t (p, x, h) = call_is t p x h ∙ ap (λ (o : Option whole.Call). Some (unwrap_or o (record { id = t; procedure = other; arguments = [] }))) (sym (call_is t p x h))
 
-  pub ids : (t : TxnId) → (call_in w.history t).id ≡ t
+  pub ids : (t : TxnId) → (call_in other w.history t).id ≡ t
   unfolding call_in
   ids t = go (submitted_call t w.history) refl
     where
-      go : (o : Option whole.Call) → submitted_call t w.history ≡ o → (unwrap_or o (record { id = t; procedure = 0; arguments = [] })).id ≡ t
+      go : (o : Option whole.Call) → submitted_call t w.history ≡ o → (unwrap_or o (record { id = t; procedure = other; arguments = [] })).id ≡ t
       go None e = refl
       go (Some c) e = call_of-id w.history t c e
 
-  pub procedures : 0 < length plan.program.procedures → (t : TxnId) → (call_in w.history t).procedure < length plan.program.procedures
+  pub procedures : is_transaction plan other ≡ true → (t : TxnId) → is_transaction plan (call_in other w.history t).procedure ≡ true
   unfolding call_in
-  procedures some t = go (submitted_call t w.history) refl
+  procedures known t = go (submitted_call t w.history) refl
     where
-      go : (o : Option whole.Call) → submitted_call t w.history ≡ o → (unwrap_or o (record { id = t; procedure = 0; arguments = [] })).procedure < length plan.program.procedures
-      go None e = some
+      go : (o : Option whole.Call) → submitted_call t w.history ≡ o → is_transaction plan (unwrap_or o (record { id = t; procedure = other; arguments = [] })).procedure ≡ true
+      go None e = known
       go (Some c) e = a.procedure t c.procedure c.arguments (call_of-from is_txn-true w.history t c e)
 
 -- a world of a run, explained by a log
-module _ (plan : Plan) (schemes : HasSchemes plan) (laws : (S : Scheme) → IsSoundScheme S → LogLaws S (start_store plan.program)) (stores : StoreLaws) (coords : ℕ) (steps : List Stepped) (w : World) (run : IsRun plan coords steps w) (some : 0 < length plan.program.procedures) where
+module _ (plan : Plan) (schemes : HasSchemes plan) (laws : (S : Scheme) → IsSoundScheme S → LogLaws S (start_store plan.program)) (stores : StoreLaws) (coords : ℕ) (steps : List Stepped) (w : World) (run : IsRun plan coords steps w) (some : HasTransaction plan) where
   abbrev pub asked : TxnId → whole.Call
-  asked = call_in w.history
+  asked = call_in some.0 w.history
 
   pub submissions : AreSubmissions plan w.history w.coords
   submissions = run_submissions plan coords steps w run
 
-  pub known : (t : TxnId) → (asked t).procedure < length plan.program.procedures
-  known = procedures plan w submissions some
+  pub known : (t : TxnId) → is_transaction plan (asked t).procedure ≡ true
+  known = procedures plan some.0 w submissions some.1
 
   abbrev pub S : Scheme
   S = schemes.scheme asked
@@ -80,13 +80,13 @@ module _ (plan : Plan) (schemes : HasSchemes plan) (laws : (S : Scheme) → IsSo
   sound = schemes.sound asked known
 
   pub logged : (log : Log) × IsLogged plan asked S is (laws S sound) w log
-  logged = run_logged plan asked S is (laws S sound) stores coords steps w run (agrees plan w submissions)
+  logged = run_logged plan asked S is (laws S sound) stores coords steps w run (agrees plan some.0 w submissions)
 
   pub serial : ((S : Scheme) → IsSoundScheme S → SerialLaws S (start_store plan.program)) → IsSerialWitness plan.program w.history w.order
   serial serials =
       let i = (laws S sound).holds logged.0 logged.1.means.reached in
-      witness plan asked S is (laws S sound) (serials S sound) w logged.0 logged.1 (calls plan w submissions)
-      (λ t h. schemes.replies asked known logged.0.order i.order.once (λ u k. ids plan w submissions u) t h)
+      witness plan asked S is (laws S sound) (serials S sound) w logged.0 logged.1 (calls plan some.0 w submissions)
+      (λ t h. schemes.replies asked known logged.0.order i.order.once (λ u k. ids plan some.0 w submissions u) t h)
 
 idle_serial : (plan : Plan) (w : World) → IsIdle plan w → IsSerialWitness plan.program w.history w.order
 idle_serial plan w i =
@@ -97,7 +97,7 @@ idle_serial plan w i =
 pub order_serial :
     (plan : Plan) → HasSchemes plan → ((S : Scheme) → IsSoundScheme S → LogLaws S (start_store plan.program)) → ((S : Scheme) → IsSoundScheme S → SerialLaws S (start_store plan.program)) → StoreLaws
     → (coords : ℕ) (steps : List Stepped) (w : World) → IsRun plan coords steps w → IsSerialWitness plan.program w.history w.order
-order_serial plan schemes laws serials stores coords steps w run = elim (cases_lt 0 (length plan.program.procedures)) [
+order_serial plan schemes laws serials stores coords steps w run = elim (transaction_or_none plan) [
   | inl some ↦ serial plan schemes laws stores coords steps w run some serials
   | inr none ↦ idle_serial plan w (run_idle plan none coords steps w run)
 ]

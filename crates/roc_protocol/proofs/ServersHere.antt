@@ -26,6 +26,7 @@ use Rattle.roc_msg.specs.declared.outbox.Outgoing.{Outgoing}
 use Rattle.roc_msg.specs.declared.reason.Reason.{Reason}
 use Rattle.roc_msg.specs.declared.reason.Reason.TheVariants.{NotHere, Foreign, Differs, Late, BadProc, BadGroup, BadInputs}
 use Rattle.roc_msg.specs.Facts.{is_fact_before}
+use Rattle.roc_program.proofs.Transactions.{transaction_parts}
 use Rattle.roc_plan.specs.Groups.{Plan, procedure_of, groups_of, inputs_of, shard_of, group_place}
 use Rattle.roc_group.specs.GroupRun.{GroupCall, call, group_uses}
 use Rattle.roc_server.specs.declared.started.StartedGroup.{StartedGroup}
@@ -57,7 +58,8 @@ called plan s id c fault =
     passed true true true rest f h k l =
         let p = and_parts (length c.args == (procedure_of plan c.proc).arguments) (length c.inputs == length (inputs_of plan c.proc c.group)) l in
         record {
-          procedure = grind (arith, nat_tests);
+          procedure = (transaction_parts plan.program c.proc h).there;
+          transaction = (transaction_parts plan.program c.proc h).writes;
           group = grind (arith, nat_tests);
           args = eqb-true (length c.args) (procedure_of plan c.proc).arguments p.0;
           inputs = eqb-true (length c.inputs) (length (inputs_of plan c.proc c.group)) p.1;

@@ -8,7 +8,7 @@ use Rattle.roc_base.specs.declared.id.TxnId.{TxnId}
 use Rattle.roc_msg.specs.declared.msg.Msg.{Msg}
 use Rattle.roc_msg.specs.declared.msg.Msg.TheVariants.{Start, StartOk, Commit, CommitOk, Fetch, Known, Stop}
 use Rattle.roc_msg.specs.declared.reason.Reason.{Reason}
-use Rattle.roc_plan.specs.Groups.{Plan, procedure_of}
+use Rattle.roc_plan.specs.Groups.{Plan, procedure_of, is_transaction}
 use Rattle.roc_coord.specs.declared.handled.Handled.{Handled}
 use Rattle.roc_coord.specs.declared.handled.Handled.TheVariants as answer
 use Rattle.roc_coord.specs.declared.transaction.Transaction.{Transaction}
@@ -28,7 +28,7 @@ pub record IsNumbered (coords : List CoordState) (t : TxnId) : Type 0 where
 
 pub record AreSubmissions (plan : Plan) (h : List Entry) (coords : List CoordState) : Type 0 where
   pub numbers : (n : ℕ) (c : CoordState) → slice_get coords n ≡ Some c → c.number ≡ n
-  pub procedure : (t : TxnId) (p : ℕ) (a : List ℤ) → Has (Submitted t p a) h → p < length plan.program.procedures
+  pub procedure : (t : TxnId) (p : ℕ) (a : List ℤ) → Has (Submitted t p a) h → is_transaction plan p ≡ true
   pub arguments : (t : TxnId) (p : ℕ) (a : List ℤ) → Has (Submitted t p a) h → length a ≡ (procedure_of plan p).arguments
   pub numbered : (t : TxnId) (p : ℕ) (a : List ℤ) → Has (Submitted t p a) h → IsNumbered coords t
   -- an id is used once
@@ -120,11 +120,11 @@ module _ (plan : Plan) (h : List Entry) (coords : List CoordState) (a : AreSubmi
       let b : s.next < s.next = subst (λ (c : CoordState). s.next < c.next) same q.below in
       absurd (omega arith)
 
-  pub submissions_more : (after : CoordState) → after.number ≡ s.number → after.next ≡ s.next + 1 → (proc : ℕ) (args : List ℤ) → proc < length plan.program.procedures → length args ≡ (procedure_of plan proc).arguments → AreSubmissions plan (h ++ Submitted (next_id s) proc args ∷ []) (slice_set coords n after)
+  pub submissions_more : (after : CoordState) → after.number ≡ s.number → after.next ≡ s.next + 1 → (proc : ℕ) (args : List ℤ) → is_transaction plan proc ≡ true → length args ≡ (procedure_of plan proc).arguments → AreSubmissions plan (h ++ Submitted (next_id s) proc args ∷ []) (slice_set coords n after)
   submissions_more after number next proc args known counted =
       record {
         numbers = numbers_after after number (omega arith);
-        procedure = λ t p x k. elim (cases t p x k) [ inl j ↦ a.procedure t p x j | inr j ↦ subst (λ p. p < length plan.program.procedures) (sym j.1) known ];
+        procedure = λ t p x k. elim (cases t p x k) [ inl j ↦ a.procedure t p x j | inr j ↦ subst (λ p. is_transaction plan p ≡ true) (sym j.1) known ];
         arguments = λ t p x k. elim (cases t p x k) [ inl j ↦ a.arguments t p x j | inr j ↦ ap length j.2 ∙ (counted ∙ ap (λ p. (procedure_of plan p).arguments) (sym j.1)) ];
         numbered = λ t p x k. elim (cases t p x k) [
           | inl j ↦ numbered_after after number (omega arith) t (a.numbered t p x j)

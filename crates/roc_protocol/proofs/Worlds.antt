@@ -17,7 +17,7 @@ use Rattle.roc_msg.specs.declared.msg.Msg.{Msg}
 use Rattle.roc_msg.specs.declared.msg.Msg.TheVariants.{Start, StartOk, Commit, CommitOk, Fetch, Known, Stop}
 use Rattle.roc_msg.specs.declared.msg.Envelope.{Envelope}
 use Rattle.roc_msg.specs.declared.outbox.Outgoing.{Outgoing}
-use Rattle.roc_plan.specs.Groups.{Plan, procedure_of}
+use Rattle.roc_plan.specs.Groups.{Plan, procedure_of, is_transaction}
 use Rattle.roc_whole.specs.Serial as whole
 use Rattle.roc_whole.specs.Serial.{start_store}
 use Rattle.roc_law_orders.specs.Behaviour.{TxnGroup}
@@ -59,28 +59,28 @@ use Rattle.roc_protocol.proofs.Firsts.{first_submissions}
 -- a submission is refused, or accepted
 pub data Submitting (plan : Plan) (w : World) (n proc : ℕ) (args : List ℤ) (s : CoordState) (o : Outcome) : Type 0 where
   is_refused : o.world ≡ w → Submitting plan w n proc args s o
-  is_accepted : proc < length plan.program.procedures → length args ≡ (procedure_of plan proc).arguments → o.world ≡ at_coord w n (accepted plan s (new_transaction s proc args)).state (accepted plan s (new_transaction s proc args)).sends (Submitted (next_id s) proc args ∷ []) → Submitting plan w n proc args s o
+  is_accepted : is_transaction plan proc ≡ true → length args ≡ (procedure_of plan proc).arguments → o.world ≡ at_coord w n (accepted plan s (new_transaction s proc args)).state (accepted plan s (new_transaction s proc args)).sends (Submitted (next_id s) proc args ∷ []) → Submitting plan w n proc args s o
 
 pub submitting : (plan : Plan) (w : World) (n proc : ℕ) (args : List ℤ) (s : CoordState) (o : Outcome) → IsSubmissionOf w n proc args (after_submit plan s proc args) o → Submitting plan w n proc args s o
-submitting plan w n proc args s o h = procedure (nat_lt proc (length plan.program.procedures)) refl h
+submitting plan w n proc args s o h = procedure (is_transaction plan proc) refl h
   where
-    free : (b : Bool) → proc < length plan.program.procedures → length args ≡ (procedure_of plan proc).arguments → IsSubmissionOf w n proc args (refused_or_accepted plan s proc args (if b then Some fault.Busy else None)) o → Submitting plan w n proc args s o
+    free : (b : Bool) → is_transaction plan proc ≡ true → length args ≡ (procedure_of plan proc).arguments → IsSubmissionOf w n proc args (refused_or_accepted plan s proc args (if b then Some fault.Busy else None)) o → Submitting plan w n proc args s o
     free true known counted r = is_refused (ap (λ (o : Outcome). o.world) r)
     free false known counted r = is_accepted known counted (ap (λ (o : Outcome). o.world) r)
 
-    unspent : (b : Bool) → proc < length plan.program.procedures → length args ≡ (procedure_of plan proc).arguments
+    unspent : (b : Bool) → is_transaction plan proc ≡ true → length args ≡ (procedure_of plan proc).arguments
         → IsSubmissionOf w n proc args (refused_or_accepted plan s proc args (if b then Some fault.Spent else if nat_le most_pending (length s.pending) then Some fault.Busy else None)) o → Submitting plan w n proc args s o
     unspent true known counted r = is_refused (ap (λ (o : Outcome). o.world) r)
     unspent false known counted r = free (nat_le most_pending (length s.pending)) known counted r
 
-    arguments : (b : Bool) → (length args == (procedure_of plan proc).arguments) ≡ b → proc < length plan.program.procedures
+    arguments : (b : Bool) → (length args == (procedure_of plan proc).arguments) ≡ b → is_transaction plan proc ≡ true
         → IsSubmissionOf w n proc args (refused_or_accepted plan s proc args (if not b then Some fault.Args else if nat_le most_transactions s.next then Some fault.Spent else if nat_le most_pending (length s.pending) then Some fault.Busy else None)) o → Submitting plan w n proc args s o
     arguments true e known r = unspent (nat_le most_transactions s.next) known (eqb-true (length args) (procedure_of plan proc).arguments e) r
     arguments false e known r = elim r [ ]
 
-    procedure : (b : Bool) → nat_lt proc (length plan.program.procedures) ≡ b
+    procedure : (b : Bool) → is_transaction plan proc ≡ b
         → IsSubmissionOf w n proc args (refused_or_accepted plan s proc args (if not b then Some fault.NoProc else if not (length args == (procedure_of plan proc).arguments) then Some fault.Args else if nat_le most_transactions s.next then Some fault.Spent else if nat_le most_pending (length s.pending) then Some fault.Busy else None)) o → Submitting plan w n proc args s o
-    procedure true e r = arguments (length args == (procedure_of plan proc).arguments) refl (grind (arith, nat_tests)) r
+    procedure true e r = arguments (length args == (procedure_of plan proc).arguments) refl e r
     procedure false e r = elim r [ ]
 
 -- ---- submissions

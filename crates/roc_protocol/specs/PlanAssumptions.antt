@@ -8,7 +8,7 @@ use Rattle.roc_base.specs.TxnId.{is_txn}
 use Rattle.roc_rows.specs.declared.cell.Cell.{Cell}
 use Rattle.roc_rows.specs.Store.{Store}
 use Rattle.roc_plan.specs.declared.group.Input.{Input}
-use Rattle.roc_plan.specs.Groups.{Plan, groups_of, inputs_of, outs_of, is_immediate_of, shard_of, group_place}
+use Rattle.roc_plan.specs.Groups.{Plan, groups_of, inputs_of, outs_of, is_immediate_of, shard_of, group_place, is_transaction}
 use Rattle.roc_whole.specs.Serial as whole
 use Rattle.roc_group.specs.declared.access.Access.{Access}
 use Rattle.roc_group.specs.GroupRun.{GroupCall, call, group_run, group_uses, bound_by_run}
@@ -79,14 +79,14 @@ pub record IsWholeReply (plan : Plan) (asked : TxnId → whole.Call) (S : Scheme
 -- whatever transactions call, there is such a scheme, as the log machine asks for it, in which transactions one by one are whole procedures
 pub record HasSchemes (plan : Plan) : Type 0 where
   pub scheme : (TxnId → whole.Call) → Scheme
-  pub of : (asked : TxnId → whole.Call) → ((t : TxnId) → (asked t).procedure < length plan.program.procedures) → IsSchemeOf plan asked (scheme asked)
-  pub sound : (asked : TxnId → whole.Call) → ((t : TxnId) → (asked t).procedure < length plan.program.procedures) → IsSoundScheme (scheme asked)
+  pub of : (asked : TxnId → whole.Call) → ((t : TxnId) → is_transaction plan (asked t).procedure ≡ true) → IsSchemeOf plan asked (scheme asked)
+  pub sound : (asked : TxnId → whole.Call) → ((t : TxnId) → is_transaction plan (asked t).procedure ≡ true) → IsSoundScheme (scheme asked)
   pub replies :
-      (asked : TxnId → whole.Call) → ((t : TxnId) → (asked t).procedure < length plan.program.procedures)
+      (asked : TxnId → whole.Call) → ((t : TxnId) → is_transaction plan (asked t).procedure ≡ true)
       → (order : List TxnId) → NoneTwice is_txn order → ((t : TxnId) → IsListed is_txn order t → (asked t).id ≡ t)
       → (t : TxnId) → IsListed is_txn order t → (reply : List ℤ) × IsWholeReply plan asked (scheme asked) order t reply
   pub stores :
-      (asked : TxnId → whole.Call) → ((t : TxnId) → (asked t).procedure < length plan.program.procedures)
+      (asked : TxnId → whole.Call) → ((t : TxnId) → is_transaction plan (asked t).procedure ≡ true)
       → (order : List TxnId)
       → (stage_behind (scheme asked).behaviour (whole.start_store plan.program) (one_by_one (scheme asked).behaviour order)).store
       ≡ whole.serial_store plan.program (whole.start_store plan.program) (map asked order)

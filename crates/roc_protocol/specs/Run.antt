@@ -1,8 +1,8 @@
 -- Runs of the world: docs/PROTOCOL.md, "World"
-use Rattle.std.specs.Prelude.{◌≡◌, ℕ, ◌<◌, ◌≤◌, List, [], ◌∷◌, ◌++◌, Option, Some, None, length, map}
+use Rattle.std.specs.Prelude.{◌≡◌, ℕ, ◌<◌, ◌≤◌, true, List, [], ◌∷◌, ◌++◌, Option, Some, None, length, map}
 use Rattle.roc_base.specs.declared.node.Node.{Node}
 use Rattle.roc_base.specs.declared.node.Node.TheVariants.{Server, Coord}
-use Rattle.roc_plan.specs.Groups.{Plan, procedure_of}
+use Rattle.roc_plan.specs.Groups.{Plan, procedure_of, is_transaction}
 use Rattle.roc_protocol.specs.declared.event.Event.{Event}
 use Rattle.roc_protocol.specs.declared.event.Event.TheVariants.{Submit, Deliver, Tick}
 use Rattle.roc_protocol.specs.declared.event.Seen.TheVariants as seen
@@ -30,10 +30,10 @@ abbrev pub IsNodeOf : World → Node → Type 0
 IsNodeOf w (Server shard) = shard.0 < length w.servers
 IsNodeOf w (Coord number) = number < length w.coords
 
--- the event may happen in w: the coordinator and the procedure exist and the count of arguments fits; or the message was sent; or the
+-- the event may happen in w: the coordinator exists, and the procedure, which is no view, and the count of arguments fits; or the message was sent; or the
 -- node is there
 abbrev pub IsEventOf : Plan → World → Event → Type 0
-IsEventOf plan w (Submit number proc args) = (number < length w.coords) × (proc < length plan.program.procedures) × (length args ≡ (procedure_of plan proc).arguments)
+IsEventOf plan w (Submit number proc args) = (number < length w.coords) × (is_transaction plan proc ≡ true) × (length args ≡ (procedure_of plan proc).arguments)
 IsEventOf plan w (Deliver k) = (0 < k) × (k ≤ length w.sent)
 IsEventOf plan w (Tick node) = IsNodeOf w node
 

@@ -1,15 +1,16 @@
 -- What a server holds is of a plan: its groups are the plan's, with the plan's counts
-use Rattle.std.specs.Prelude.{◌≡◌, ◌<◌, List, length}
+use Rattle.std.specs.Prelude.{◌≡◌, ◌<◌, false, List, length}
 use Rattle.std.specs.List.{AllByRecursion}
-use Rattle.roc_plan.specs.Groups.{Plan, procedure_of, groups_of, inputs_of}
+use Rattle.roc_plan.specs.Groups.{Plan, procedure_of, groups_of, inputs_of, is_view_of}
 use Rattle.roc_group.specs.GroupRun.{GroupCall}
 use Rattle.roc_server.specs.declared.started.StartedGroup.{StartedGroup}
 use Rattle.roc_server.specs.Runs.{group_call}
 use Rattle.roc_server.specs.State.{ServerState}
 
--- the plan has the group of the call, and takes as many arguments and inputs
+-- the plan has the group of the call, of a procedure that is no view, and takes as many arguments and inputs
 pub record IsCallOf (plan : Plan) (c : GroupCall) : Type 0 where
   pub procedure : c.proc < length plan.program.procedures
+  pub transaction : is_view_of plan c.proc ≡ false
   pub group : c.group < length (groups_of plan c.proc)
   pub args : length c.args ≡ (procedure_of plan c.proc).arguments
   pub inputs : length c.inputs ≡ length (inputs_of plan c.proc c.group)

@@ -16,7 +16,7 @@ use Rattle.roc_msg.specs.declared.reason.Reason.{Reason}
 use Rattle.roc_msg.specs.declared.reason.Reason.TheVariants.{BadProc, BadGroup, BadInputs, NotHere, Late, Differs}
 use Rattle.roc_plan.specs.declared.group.Class.{Class}
 use Rattle.roc_plan.specs.declared.group.Class.TheVariants.{Immediate, Deferrable}
-use Rattle.roc_plan.specs.Groups.{Plan, procedure_of, groups_of, is_immediate_of, inputs_of, shard_of, group_place}
+use Rattle.roc_plan.specs.Groups.{Plan, procedure_of, groups_of, is_immediate_of, inputs_of, shard_of, group_place, is_transaction}
 use Rattle.roc_group.specs.declared.access.Access.{Access}
 use Rattle.roc_group.specs.Accesses.{do_conflict}
 use Rattle.roc_group.specs.GroupRun.{GroupCall, group_run, group_uses, bound_by_run}
@@ -34,9 +34,9 @@ abbrev pub first_reason : List (Bool × Reason) → Option Reason
 first_reason [] = None
 first_reason (c ∷ cs) = if c.0 then Some c.1 else first_reason cs
 
--- the plan has the procedure
+-- the plan has the procedure, and it may write: a view has no groups that start
 abbrev pub has_procedure : Plan → ℕ → Bool
-has_procedure plan proc = nat_lt proc (length plan.program.procedures)
+has_procedure plan proc = is_transaction plan proc
 
 -- as many arguments and inputs as the plan has
 abbrev pub has_counts : Plan → GroupCall → Bool

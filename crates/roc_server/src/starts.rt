@@ -87,7 +87,7 @@ fn start_fault(plan: &Plan, shard: Shard, kept: &ServerData, request: &Request) 
     ensures fits { result ≡ None → IsCallOf plan.now (asked request.now) }
 {
     let (id, proc, group) = (request.id, request.proc, request.group);
-    if proc >= plan.procedures() {
+    if !plan.is_transaction(proc) {
         return Some(Reason::BadProc);
     }
     if group >= plan.groups(proc) {
