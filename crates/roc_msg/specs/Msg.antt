@@ -2,7 +2,7 @@
 use Rattle.std.specs.Prelude.{ℕ, Option, Some, None}
 use Rattle.roc_base.specs.declared.id.TxnId.{TxnId}
 use Rattle.roc_msg.specs.declared.msg.Msg.{Msg}
-use Rattle.roc_msg.specs.declared.msg.Msg.TheVariants.{Start, StartOk, Commit, CommitOk, Fetch, Known, Stop}
+use Rattle.roc_msg.specs.declared.msg.Msg.TheVariants.{Start, StartOk, Commit, CommitOk, Fetch, Known, Stop, Ended, Settled, Read, ReadOk, Drained, Switched}
 
 -- the transaction that a message is of
 abbrev pub id_of : Msg → Option TxnId
@@ -12,6 +12,12 @@ id_of (Commit id edges facts) = Some id
 id_of (CommitOk id shard outs) = Some id
 id_of (Fetch id asker) = Some id
 id_of (Known id edges) = Some id
+id_of (Settled id below) = Some id
+id_of (Read id round proc group args) = Some id
+id_of (ReadOk id round group shard versions outs) = Some id
+id_of (Ended coord below) = None
+id_of (Drained upto) = None
+id_of (Switched upto shard) = None
 id_of Stop = None
 
 -- the number of a message's kind
@@ -23,3 +29,9 @@ kind_of (CommitOk id shard outs) = 4
 kind_of (Fetch id asker) = 5
 kind_of (Known id edges) = 6
 kind_of Stop = 7
+kind_of (Ended coord below) = 8
+kind_of (Settled id below) = 9
+kind_of (Read id round proc group args) = 10
+kind_of (ReadOk id round group shard versions outs) = 11
+kind_of (Drained upto) = 12
+kind_of (Switched upto shard) = 13

@@ -1,6 +1,6 @@
 //! A message, and a message on its way.
 
-use crate::Facts;
+use crate::{CellVersions, Facts};
 use roc_base::{Edges, NoMemory, Node, Nums, Shard, TxnId};
 
 /// What nodes tell one another, as in the start and commit rounds of ROCOCO (OSDI 2014).
@@ -55,13 +55,56 @@ pub enum Msg {
     },
     /// The server is to end.
     Stop,
+    /// A coordinator tells that it has answered all its transactions with a sequence below this one.
+    Ended {
+        coord: u16,
+        below: u32,
+    },
+    /// The transaction is answered, and so are all of its coordinator below this sequence.
+    Settled {
+        id: TxnId,
+        below: u32,
+    },
+    /// A coordinator asks the shard of a group's place to read for a read-only transaction.
+    Read {
+        id: TxnId,
+        /// Which of the transaction's rounds it is.
+        round: u32,
+        proc: u16,
+        group: u16,
+        /// The procedure's arguments.
+        args: Nums,
+    },
+    /// What a group of a read-only transaction has read in a round.
+    ReadOk {
+        id: TxnId,
+        round: u32,
+        group: u16,
+        shard: Shard,
+        /// The versions of the cells that it reads, in the order in which it reads them.
+        versions: CellVersions,
+        /// What it adds to the reply.
+        outs: Nums,
+    },
+    /// A coordinator has answered all its transactions before this one, and is to go on with a
+    /// grown workload.
+    Drained {
+        upto: TxnId,
+    },
+    /// The shard has gone on to the grown workload, and tells a coordinator what that had told as
+    /// drained.
+    Switched {
+        upto: TxnId,
+        shard: Shard,
+    },
 }
 
 impl Msg {
     ghost use Rattle.std.specs.Prelude.{◌≡◌, IfOk};
     ghost use Rattle.roc_msg.specs.Msg.{id_of, kind_of};
 
-    /// The transaction that the message is of: none for a stop alone. Takes no memory.
+    /// The transaction that the message is of: none for a stop, and for what speaks of all that a
+    /// coordinator has submitted before a mark. Takes no memory.
     pub fn id(&self) -> Option<TxnId>
         ensures { result ≡ id_of self.now }
     {
@@ -71,13 +114,16 @@ impl Msg {
             | Msg::Commit { id, .. }
             | Msg::CommitOk { id, .. }
             | Msg::Fetch { id, .. }
-            | Msg::Known { id, .. } => Some(*id),
-            Msg::Stop => None,
+            | Msg::Known { id, .. }
+            | Msg::Settled { id, .. }
+            | Msg::Read { id, .. }
+            | Msg::ReadOk { id, .. } => Some(*id),
+            Msg::Stop | Msg::Ended { .. } | Msg::Drained { .. } | Msg::Switched { .. } => None,
         }
     }
 
-    /// The number of its kind, in the order of the kinds: 1 for a start, 7 for a stop. Takes no
-    /// memory.
+    /// The number of its kind, in the order of the kinds: 1 for a start, 13 for a switch. Takes
+    /// no memory.
     pub fn kind(&self) -> u8
         ensures { result ≡ kind_of self.now }
     {
@@ -89,6 +135,12 @@ impl Msg {
             Msg::Fetch { .. } => 5,
             Msg::Known { .. } => 6,
             Msg::Stop => 7,
+            Msg::Ended { .. } => 8,
+            Msg::Settled { .. } => 9,
+            Msg::Read { .. } => 10,
+            Msg::ReadOk { .. } => 11,
+            Msg::Drained { .. } => 12,
+            Msg::Switched { .. } => 13,
         }
     }
 
@@ -146,6 +198,47 @@ impl Msg {
                 edges: edges.clone()?,
             },
             Msg::Stop => Msg::Stop,
+            Msg::Ended { coord, below } => Msg::Ended {
+                coord: *coord,
+                below: *below,
+            },
+            Msg::Settled { id, below } => Msg::Settled {
+                id: *id,
+                below: *below,
+            },
+            Msg::Read {
+                id,
+                round,
+                proc,
+                group,
+                args,
+            } => Msg::Read {
+                id: *id,
+                round: *round,
+                proc: *proc,
+                group: *group,
+                args: args.clone()?,
+            },
+            Msg::ReadOk {
+                id,
+                round,
+                group,
+                shard,
+                versions,
+                outs,
+            } => Msg::ReadOk {
+                id: *id,
+                round: *round,
+                group: *group,
+                shard: *shard,
+                versions: versions.clone()?,
+                outs: outs.clone()?,
+            },
+            Msg::Drained { upto } => Msg::Drained { upto: *upto },
+            Msg::Switched { upto, shard } => Msg::Switched {
+                upto: *upto,
+                shard: *shard,
+            },
         })
     }
 }
