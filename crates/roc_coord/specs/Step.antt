@@ -5,7 +5,7 @@ use Rattle.roc_base.specs.declared.id.TxnId.{TxnId}
 use Rattle.roc_base.specs.declared.node.Shard.{Shard}
 use Rattle.roc_base.specs.TxnId.{is_txn}
 use Rattle.roc_msg.specs.declared.msg.Msg.{Msg}
-use Rattle.roc_msg.specs.declared.msg.Msg.TheVariants.{Start, StartOk, Commit, CommitOk, Fetch, Known, Stop}
+use Rattle.roc_msg.specs.declared.msg.Msg.TheVariants.{StartOk, CommitOk}
 use Rattle.roc_msg.specs.declared.outbox.Outbox.{Outbox}
 use Rattle.roc_msg.specs.declared.outbox.Outgoing.{Outgoing}
 use Rattle.roc_msg.specs.declared.reason.Reason.{Reason}
@@ -106,13 +106,9 @@ after_commitok plan s (Some x) ok =
 
 -- ---- any message
 
--- what comes of a message
+-- what comes of a message. A kind that no coordinator takes is foreign
 abbrev pub after_message : Plan → CoordState → Msg → CoordStep
 after_message plan s (StartOk id group shard bound outs edges facts) =
     after_startok plan s (find_transaction id s.pending) (record { group = group; bound = bound; outs = outs; edges = edges; facts = facts }) shard
 after_message plan s (CommitOk id shard outs) = after_commitok plan s (find_transaction id s.pending) (record { shard = shard; outs = outs })
-after_message plan s (Start id proc group args inputs) = ignored s Foreign
-after_message plan s (Commit id edges facts) = ignored s Foreign
-after_message plan s (Fetch id asker) = ignored s Foreign
-after_message plan s (Known id edges) = ignored s Foreign
-after_message plan s Stop = ignored s Foreign
+after_message plan s msg = ignored s Foreign

@@ -234,11 +234,7 @@ impl Coord {
                 };
                 self.pending.commitok(self.alloc, plan, *id, ok)
             }
-            Msg::Start { .. }
-            | Msg::Commit { .. }
-            | Msg::Fetch { .. }
-            | Msg::Known { .. }
-            | Msg::Stop => Ok(Handled::Ignored(Reason::Foreign)),
+            _ => Ok(Handled::Ignored(Reason::Foreign)),
         }
     }
 }

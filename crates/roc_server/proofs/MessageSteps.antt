@@ -1,12 +1,12 @@
 -- What comes of a message, kind by kind
-use Rattle.std.proofs.Common.{◌≡◌, ℕ, ℤ, false, List, [], Result, Ok, Err, IfOk, ◌⊎◌, inl, inr, refl, sym, subst, ◌∙◌, append-nil}
+use Rattle.std.proofs.Common.{◌≡◌, ℕ, ℤ, false, List, [], Result, Ok, Err, IfOk, refl, sym, subst, ◌∙◌, append-nil}
 use Rattle.roc_base.specs.declared.id.TxnId.{TxnId}
 use Rattle.roc_base.specs.declared.node.Shard.{Shard}
 use Rattle.roc_base.specs.Edge.{Dependency}
 use Rattle.roc_depgraph.specs.declared.known.KnownList.{KnownList}
 use Rattle.roc_group.specs.GroupRun.{call}
 use Rattle.roc_msg.specs.declared.msg.Msg.{Msg}
-use Rattle.roc_msg.specs.declared.msg.Msg.TheVariants.{Start, StartOk, Commit, CommitOk, Fetch, Known, Stop}
+use Rattle.roc_msg.specs.declared.msg.Msg.TheVariants.{Start, Commit, Fetch, Known}
 use Rattle.roc_msg.specs.declared.outbox.Outbox.{Outbox}
 use Rattle.roc_msg.specs.declared.reason.Reason.TheVariants.{Foreign}
 use Rattle.roc_plan.specs.Groups.{Plan}
@@ -79,12 +79,16 @@ module _ (plan : Plan) (shard : Shard) (k : ServerData) (sound : IsConsistent k)
 
   -- it is ignored, whatever a server does not take
   pub foreign_comes : (msg : Msg)
-      → ((id : TxnId) × (group : ℕ) × (at : Shard) × (bound : List ℤ) × (outs : List ℤ) × (edges : List Dependency) × (facts : List KnownList) × (msg ≡ StartOk id group at bound outs edges facts))
-      ⊎ (((id : TxnId) × (at : Shard) × (outs : List ℤ) × (msg ≡ CommitOk id at outs)) ⊎ (msg ≡ Stop))
+      → ((id : TxnId) (proc group : ℕ) (args inputs : List ℤ) → msg ≡ Start id proc group args inputs → ⊥)
+      → ((id : TxnId) (edges : List Dependency) (facts : List KnownList) → msg ≡ Commit id edges facts → ⊥)
+      → ((id : TxnId) (asker : Shard) → msg ≡ Fetch id asker → ⊥)
+      → ((id : TxnId) (edges : List Dependency) → msg ≡ Known id edges → ⊥)
       → IsStepFor plan now msg now out out (Ignored Foreign)
-  foreign_comes msg (inl p) = comes plan shard k k sound out out msg (StartOk p.0 p.1 p.2 p.3 p.4 p.5 p.6) nothing (Ignored Foreign) p.7 (record { before = decided plan shard k k sound out out; reached = nothing_led k.deps; decided = nothing_new k.deps }) ignored_shown
-  foreign_comes msg (inr (inl p)) = comes plan shard k k sound out out msg (CommitOk p.0 p.1 p.2) nothing (Ignored Foreign) p.3 (record { before = decided plan shard k k sound out out; reached = nothing_led k.deps; decided = nothing_new k.deps }) ignored_shown
-  foreign_comes msg (inr (inr is)) = comes plan shard k k sound out out msg Stop nothing (Ignored Foreign) is (record { before = decided plan shard k k sound out out; reached = nothing_led k.deps; decided = nothing_new k.deps }) ignored_shown
+  foreign_comes (Start id proc group args inputs) a b c d = absurd (a id proc group args inputs refl)
+  foreign_comes (Commit id edges facts) a b c d = absurd (b id edges facts refl)
+  foreign_comes (Fetch id asker) a b c d = absurd (c id asker refl)
+  foreign_comes (Known id edges) a b c d = absurd (d id edges refl)
+  foreign_comes msg a b c d = comes plan shard k k sound out out msg msg nothing (Ignored Foreign) refl (record { before = decided plan shard k k sound out out; reached = nothing_led k.deps; decided = nothing_new k.deps }) ignored_shown
 
 -- the same between equal states
 pub comes_from : (plan : Plan) (s t after then : ServerState) (msg : Msg) (old new : Outbox) (answer : Handled) → s ≡ t → after ≡ then → IsStepFor plan s msg after old new answer → IsStepFor plan t msg then old new answer

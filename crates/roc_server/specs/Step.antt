@@ -5,7 +5,7 @@ use Rattle.roc_base.specs.Edge.{Dependency}
 use Rattle.roc_depgraph.specs.declared.known.KnownList.{KnownList}
 use Rattle.roc_depgraph.specs.Deps.{IsDecided}
 use Rattle.roc_msg.specs.declared.msg.Msg.{Msg}
-use Rattle.roc_msg.specs.declared.msg.Msg.TheVariants.{Start, StartOk, Commit, CommitOk, Fetch, Known, Stop}
+use Rattle.roc_msg.specs.declared.msg.Msg.TheVariants.{Start, Commit, Fetch, Known}
 use Rattle.roc_msg.specs.declared.outbox.Outbox.{Outbox}
 use Rattle.roc_msg.specs.declared.outbox.Outgoing.{Outgoing}
 use Rattle.roc_msg.specs.declared.reason.Reason.{Reason}
@@ -34,12 +34,7 @@ edges_of_new plan left_out s id c = if is_none (start_fault plan s id c) && is_n
 
 abbrev pub edges_told : Plan → (left_out : List TxnId) → ServerState → Msg → List Dependency
 edges_told plan left_out s (Start id proc group args inputs) = edges_of_new plan left_out s id (record { proc = proc; group = group; args = args; inputs = inputs })
-edges_told plan left_out s (StartOk id group shard bound outs edges facts) = []
-edges_told plan left_out s (Commit id edges facts) = []
-edges_told plan left_out s (CommitOk id shard outs) = []
-edges_told plan left_out s (Fetch id asker) = []
-edges_told plan left_out s (Known id edges) = []
-edges_told plan left_out s Stop = []
+edges_told plan left_out s msg = []
 
 -- the lists that a message teaches: none where it is ignored
 abbrev pub unless_ignored : Option Reason → List KnownList → List KnownList
@@ -49,11 +44,7 @@ unless_ignored None lists = lists
 abbrev pub lists_taught : ServerState → Msg → List KnownList
 lists_taught s (Commit id edges facts) = unless_ignored (commit_fault s id edges facts) (unknown_of s.lists.known (carried id edges facts))
 lists_taught s (Known id edges) = unless_ignored (known_fault s id edges) (unknown_of s.lists.known (list_with id edges ∷ []))
-lists_taught s (Start id proc group args inputs) = []
-lists_taught s (StartOk id group shard bound outs edges facts) = []
-lists_taught s (CommitOk id shard outs) = []
-lists_taught s (Fetch id asker) = []
-lists_taught s Stop = []
+lists_taught s msg = []
 
 -- these are the findings: there is exactly one of them
 pub record AreFindings (plan : Plan) (s : ServerState) (msg : Msg) (f : Findings) : Type 0 where
@@ -63,15 +54,14 @@ pub record AreFindings (plan : Plan) (s : ServerState) (msg : Msg) (f : Findings
 
 -- ---- the step
 
--- what comes of a message, with what was found. A group that starts leaves out exactly what is decided here
+-- what comes of a message, with what was found. A group that starts leaves out exactly what is decided here. A kind that no server takes
+-- is foreign
 abbrev pub after_message : Plan → ServerState → Findings → Msg → ServerStep
 after_message plan s f (Start id proc group args inputs) = after_start plan f.before f.reached s id (record { proc = proc; group = group; args = args; inputs = inputs })
 after_message plan s f (Commit id edges facts) = after_commit plan f.before f.decided s id edges facts (commit_fault s id edges facts)
 after_message plan s f (Fetch id asker) = after_fetch s id asker
 after_message plan s f (Known id edges) = after_known plan f.decided s id edges (known_fault s id edges)
-after_message plan s f (StartOk id group shard bound outs edges facts) = ignored s Foreign
-after_message plan s f (CommitOk id shard outs) = ignored s Foreign
-after_message plan s f Stop = ignored s Foreign
+after_message plan s f msg = ignored s Foreign
 
 -- r is what comes of a message
 pub record Handles (plan : Plan) (s : ServerState) (msg : Msg) (r : ServerStep) : Type 0 where

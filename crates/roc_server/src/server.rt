@@ -223,8 +223,6 @@ fn take(
         }
         Msg::Fetch { id, asker } => take_fetch(shard, kept, *id, *asker, outbox),
         Msg::Known { id, edges } => take_known(alloc, plan, shard, kept, *id, edges, outbox),
-        Msg::StartOk { .. } | Msg::CommitOk { .. } | Msg::Stop => {
-            Ok(Handled::Ignored(Reason::Foreign))
-        }
+        _ => Ok(Handled::Ignored(Reason::Foreign)),
     }
 }

@@ -1,4 +1,4 @@
-use Rattle.roc_server.proofs.MessageSteps.{start_comes, commit_comes, known_comes, fetch_comes, foreign_comes}
+use Rattle.roc_server.proofs.MessageSteps.{foreign_comes, start_comes, commit_comes, known_comes, fetch_comes}
 use Rattle.roc_server.proofs.server.take.Goals as goal
 
 pub returns-in_ok-clone-in-Start-2-clause-step : goal.returns-in_ok-clone-in-Start-2-clause-step
@@ -18,11 +18,5 @@ pub returns-in-Known-clause-step : goal.returns-in-Known-clause-step
 returns-in-Known-clause-step c =
     known_comes c.args.plan.now c.args.shard c.args.kept.now c.take_known.new.kept c.requires.sound c.args.outbox.now c.take_known.new.outbox c.take_known.result c.args.msg.now c.in-Known.id c.in-Known.edges c.in-Known.is c.take_known.ensures.step
 
-pub returns-in-StartOk-clause-step : goal.returns-in-StartOk-clause-step
-returns-in-StartOk-clause-step c = foreign_comes c.args.plan.now c.args.shard c.args.kept.now c.requires.sound c.args.outbox.now c.args.msg.now c.in-StartOk.is
-
-pub returns-in-StartOk-2-clause-step : goal.returns-in-StartOk-2-clause-step
-returns-in-StartOk-2-clause-step c = foreign_comes c.args.plan.now c.args.shard c.args.kept.now c.requires.sound c.args.outbox.now c.args.msg.now c.in-StartOk.is
-
-pub returns-in-StartOk-3-clause-step : goal.returns-in-StartOk-3-clause-step
-returns-in-StartOk-3-clause-step c = foreign_comes c.args.plan.now c.args.shard c.args.kept.now c.requires.sound c.args.outbox.now c.args.msg.now c.in-StartOk.is
+pub returns-in_default-clause-step : goal.returns-in_default-clause-step
+returns-in_default-clause-step c = foreign_comes c.args.plan.now c.args.shard c.args.kept.now c.requires.sound c.args.outbox.now c.args.msg.now c.in_default.not-Start c.in_default.not-Commit c.in_default.not-Fetch c.in_default.not-Known
