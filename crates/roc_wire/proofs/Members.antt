@@ -1,16 +1,17 @@
 -- Numbers, ids, edges and facts are read exactly as they are spelled
 use Rattle.std.proofs.Common.{rules, ◌≡◌, ℕ, zero, suc, ◌^◌, ◌<◌, ◌≤◌, ℤ, Bool, true, false, IsTrue, ◌++◌, Option, None, refl, sym, ap, ◌∙◌, append_assoc, arith, not}
-use Rattle.std.specs.Prelude.{FitsSigned, ◌||◌, ◌==◌}
+use Rattle.std.specs.Prelude.{FitsSigned, ◌||◌, ◌==◌, nat_lt}
 use Rattle.std.specs.Int.{w8, w16, w32, w64, to_be_bytes, cast_signed, cast_unsigned}
+use Rattle.std.proofs.lemmas.Bool.{lt-ltb, ltb-true}
 use Rattle.std.proofs.lemmas.Int.{to_z-of_z, of_z-to_z}
 use Rattle.roc_base.specs.declared.id.TxnId.{TxnId}
 use Rattle.roc_base.specs.declared.node.Shard.{Shard}
 use Rattle.roc_msg.specs.Facts.{most_facts, most_fact_edges}
-use Rattle.roc_wire.specs.declared.fault.WireFault.TheVariants.{Order}
-use Rattle.roc_wire.specs.Spelling.{id_bytes, shard_bytes, num_bytes, nums_bytes, tags_of, edge_bytes, edges_bytes, fact_bytes, facts_bytes}
-use Rattle.roc_wire.specs.Fits.{FitsId, FitsShard, FitsNums, rises, FitsEdge, last_from, FitsEdges, Room, FitsFact, room_behind, FitsFacts, last_coordinator, last_shard}
-use Rattle.roc_wire.specs.Reading.{then_read, number_read, within_read, num_read, nums_read, id_of_parts, id_read, shard_of_parts, shard_read, rising_read, edge_of_parts, edge_read, edges_read, fact_of_parts, fact_read, facts_read}
-use Rattle.roc_wire.proofs.Exact.{IsField, then_field, made_field, judged_field, counted_field, number_field, within_field, wide8, wide16, wide32, wide64}
+use Rattle.roc_wire.specs.declared.fault.WireFault.TheVariants.{Count, Order}
+use Rattle.roc_wire.specs.Spelling.{id_bytes, shard_bytes, num_bytes, nums_bytes, versions_bytes, tags_of, edge_bytes, edges_bytes, fact_bytes, facts_bytes}
+use Rattle.roc_wire.specs.Fits.{FitsId, FitsShard, FitsNums, FitsVersions, rises, FitsEdge, last_from, FitsEdges, Room, FitsFact, room_behind, FitsFacts, last_coordinator, last_shard, most_versions}
+use Rattle.roc_wire.specs.Reading.{then_read, number_read, within_read, above_read, num_read, nums_read, versions_read, id_of_parts, id_read, shard_of_parts, shard_read, rising_read, edge_of_parts, edge_read, edges_read, fact_of_parts, fact_read, facts_read}
+use Rattle.roc_wire.proofs.Exact.{IsField, then_field, made_field, judged_field, as_field, counted_field, number_field, within_field, wide8, wide16, wide32, wide64}
 
 -- ---- numbers
 
@@ -30,6 +31,16 @@ num_field s = made_field (number_read w64) (to_be_bytes w64) (λ n. n < 2 ^ 64) 
 pub nums_field : (most : ℕ) → most < 2 ^ 16 → IsField (nums_read most) nums_bytes (FitsNums most)
 unfolding nums_read
 nums_field most few = counted_field most num_read (λ s n. s) num_bytes (λ (s : Unit {0}) n. FitsSigned w64 n) (λ s. Unit {0}) (λ s a p h. tt) few (λ s p. num_field s) tt tt
+
+pub versions_field : IsField versions_read versions_bytes FitsVersions
+unfolding versions_read
+versions_field = counted_field most_versions (λ (s : Unit {0}). number_read w64) (λ s n. s) (to_be_bytes w64) (λ (s : Unit {0}) n. n < 2 ^ 64) (λ s. Unit {0}) (λ s a p h. tt) (omega arith) (λ s p. number_field w64 (2 ^ 64) wide64) tt tt
+
+pub above_field : (low : ℕ) → IsField (above_read w32 low) (to_be_bytes w32) (λ n. (low < n) × (n < 2 ^ 32))
+unfolding above_read
+above_field low = as_field _ _ _ _ (judged_field (number_read w32) (to_be_bytes w32) (λ n. n < 2 ^ 32) (λ n. nat_lt low n) Count (number_field w32 (2 ^ 32) wide32))
+    (λ n h. (ltb-true low n h.1, h.0))
+    (λ n h. (h.1, lt-ltb low n h.0))
 
 -- ---- ids and shards
 

@@ -14,6 +14,13 @@ pub start_ok_parts : (before after id more whole a b c d e f : List ℕ) → aft
 start_ok_parts before after id more whole a b c d e f h k m =
     m ∙ ap (λ (l : List ℕ). l ++ (e ++ f)) (k ∙ ap (λ (l : List ℕ). l ++ (a ++ b ++ c ++ d)) h) ∙ simp append_assoc
 
+-- three parts, and two or three behind them
+pub read_parts : (before after more whole a b c d e : List ℕ) → after ≡ before ++ (a ++ b ++ c) → more ≡ after ++ d → whole ≡ more ++ e → whole ≡ before ++ (a ++ b ++ c ++ d ++ e)
+read_parts before after more whole a b c d e h k m = m ∙ ap (λ (l : List ℕ). l ++ e) (k ∙ ap (λ (l : List ℕ). l ++ d) h) ∙ simp append_assoc
+
+pub read_ok_parts : (before after whole a b c d e f : List ℕ) → after ≡ before ++ (a ++ b ++ c) → whole ≡ after ++ (d ++ e ++ f) → whole ≡ before ++ (a ++ b ++ c ++ d ++ e ++ f)
+read_ok_parts before after whole a b c d e f h k = k ∙ ap (λ (l : List ℕ). l ++ (d ++ e ++ f)) h ∙ simp append_assoc
+
 -- ---- elements, each behind those before it
 
 -- their count is written before them

@@ -8,7 +8,7 @@ use Rattle.std.proofs.lemmas.Slice.Eq.{bytes_eq-Decides}
 use Rattle.roc_base.specs.declared.node.Node.{Node}
 use Rattle.roc_base.specs.declared.node.Node.TheVariants.{Server, Coord}
 use Rattle.roc_msg.specs.declared.msg.Msg.{Msg}
-use Rattle.roc_msg.specs.declared.msg.Msg.TheVariants.{Start, StartOk, Commit, CommitOk, Fetch, Known, Stop}
+use Rattle.roc_msg.specs.declared.msg.Msg.TheVariants.{Stop}
 use Rattle.roc_msg.specs.Msg.{kind_of}
 use Rattle.roc_wire.specs.declared.fault.WireFault.{WireFault}
 use Rattle.roc_wire.specs.declared.fault.WireFault.TheVariants.{Magic, Version, Kind, Rest}
@@ -33,9 +33,9 @@ version_field = as_field _ _ _ _
     (λ n h. eqb-true _ _ h.1)
     (λ n h. rw h (omega arith, refl))
 
-kind_field : IsField kind_read (to_be_bytes w8) (λ n. (1 ≤ n) × (n ≤ 7))
+kind_field : IsField kind_read (to_be_bytes w8) (λ n. (1 ≤ n) × (n ≤ 13))
 unfolding kind_read
-kind_field = ranged_field w8 (2 ^ 8) 1 7 Kind wide8 (omega arith)
+kind_field = ranged_field w8 (2 ^ 8) 1 13 Kind wide8 (omega arith)
 
 -- ---- who sends
 
@@ -72,7 +72,7 @@ abbrev Parts : Type 0
 Parts = List ℕ × (ℕ × (ℕ × (List ℕ × (Node × Msg))))
 
 abbrev FitParts : Parts → Type 0
-FitParts p = (p.0 ≡ magic) × ((p.1.0 ≡ version) × (((1 ≤ p.1.1.0) × (p.1.1.0 ≤ 7)) × ((length p.1.1.1.0 ≡ 8) × (FitsNode p.1.1.1.1.0 × IsOf p.1.1.0 p.1.1.1.1.1))))
+FitParts p = (p.0 ≡ magic) × ((p.1.0 ≡ version) × (((1 ≤ p.1.1.0) × (p.1.1.0 ≤ 13)) × ((length p.1.1.1.0 ≡ 8) × (FitsNode p.1.1.1.1.0 × IsOf p.1.1.0 p.1.1.1.1.1))))
 
 abbrev sender_bytes : Node → List ℕ
 sender_bytes from = to_be_bytes w8 (sender_role from) ++ to_be_bytes w16 (sender_number from)
@@ -85,9 +85,9 @@ unfolding whole_read
 whole_field = made_field
     (then_read magic_read (λ text. then_read version_read (λ number. then_read kind_read (λ kind. then_read (bytes_read 8) (λ tag. then_read node_read (λ from. body_read kind))))))
     parts_bytes FitParts whole_of_parts (λ x. spelling x.0 x.1) (λ x. IsSpellable x.0 x.1)
-    (then_field magic_read (λ text. text) (λ text. text ≡ magic) _ (λ x p. to_be_bytes w8 p.0 ++ (to_be_bytes w8 p.1.0 ++ (p.1.1.0 ++ (sender_bytes p.1.1.1.0 ++ body p.1.1.1.1)))) (λ x p. (p.0 ≡ version) × (((1 ≤ p.1.0) × (p.1.0 ≤ 7)) × ((length p.1.1.0 ≡ 8) × (FitsNode p.1.1.1.0 × IsOf p.1.0 p.1.1.1.1)))) magic_field (λ x h.
-    then_field version_read (to_be_bytes w8) (λ n. n ≡ version) _ (λ x p. to_be_bytes w8 p.0 ++ (p.1.0 ++ (sender_bytes p.1.1.0 ++ body p.1.1.1))) (λ x p. ((1 ≤ p.0) × (p.0 ≤ 7)) × ((length p.1.0 ≡ 8) × (FitsNode p.1.1.0 × IsOf p.0 p.1.1.1))) version_field (λ x h.
-    then_field kind_read (to_be_bytes w8) (λ n. (1 ≤ n) × (n ≤ 7)) _ (λ kind p. p.0 ++ (sender_bytes p.1.0 ++ body p.1.1)) (λ kind p. (length p.0 ≡ 8) × (FitsNode p.1.0 × IsOf kind p.1.1)) kind_field (λ kind fits.
+    (then_field magic_read (λ text. text) (λ text. text ≡ magic) _ (λ x p. to_be_bytes w8 p.0 ++ (to_be_bytes w8 p.1.0 ++ (p.1.1.0 ++ (sender_bytes p.1.1.1.0 ++ body p.1.1.1.1)))) (λ x p. (p.0 ≡ version) × (((1 ≤ p.1.0) × (p.1.0 ≤ 13)) × ((length p.1.1.0 ≡ 8) × (FitsNode p.1.1.1.0 × IsOf p.1.0 p.1.1.1.1)))) magic_field (λ x h.
+    then_field version_read (to_be_bytes w8) (λ n. n ≡ version) _ (λ x p. to_be_bytes w8 p.0 ++ (p.1.0 ++ (sender_bytes p.1.1.0 ++ body p.1.1.1))) (λ x p. ((1 ≤ p.0) × (p.0 ≤ 13)) × ((length p.1.0 ≡ 8) × (FitsNode p.1.1.0 × IsOf p.0 p.1.1.1))) version_field (λ x h.
+    then_field kind_read (to_be_bytes w8) (λ n. (1 ≤ n) × (n ≤ 13)) _ (λ kind p. p.0 ++ (sender_bytes p.1.0 ++ body p.1.1)) (λ kind p. (length p.0 ≡ 8) × (FitsNode p.1.0 × IsOf kind p.1.1)) kind_field (λ kind fits.
     then_field (bytes_read 8) (λ text. text) (λ text. length text ≡ 8) _ (λ x p. sender_bytes p.0 ++ body p.1) (λ x p. FitsNode p.0 × IsOf kind p.1) (bytes_field 8) (λ x h.
     then_field node_read sender_bytes FitsNode _ (λ x. body) (λ x. IsOf kind) node_field (λ x h. body_field kind fits))))))
     (λ p h. ((((h.1.1.1.0, h.1.1.1.1.0)), h.1.1.1.1.1.1), whole_is p.0 p.1.0 p.1.1.0 p.1.1.1.0 p.1.1.1.1.0 p.1.1.1.1.1 h.0 h.1.0 h.1.1.1.1.1.0))
@@ -101,14 +101,9 @@ whole_field = made_field
         ap (λ l. parts_bytes (l, (number, (kind, (tag, (from, msg)))))) t ∙ ap (λ n. parts_bytes (magic, (n, (kind, (tag, (from, msg)))))) v ∙ ap (λ n. parts_bytes (magic, (version, (n, (tag, (from, msg)))))) (sym k)
         ∙ parts magic (to_be_bytes w8 version) (to_be_bytes w8 (kind_of msg)) tag (to_be_bytes w8 (sender_role from)) (to_be_bytes w16 (sender_number from)) (body msg)
 
-    kinds : (msg : Msg) → (1 ≤ kind_of msg) × (kind_of msg ≤ 7)
-    kinds (Start id proc group args inputs) = (omega arith, omega arith)
-    kinds (StartOk id group shard bound outs edges facts) = (omega arith, omega arith)
-    kinds (Commit id edges facts) = (omega arith, omega arith)
-    kinds (CommitOk id shard outs) = (omega arith, omega arith)
-    kinds (Fetch id asker) = (omega arith, omega arith)
-    kinds (Known id edges) = (omega arith, omega arith)
+    kinds : (msg : Msg) → (1 ≤ kind_of msg) × (kind_of msg ≤ 13)
     kinds Stop = (omega arith, omega arith)
+    kinds msg = (omega arith, omega arith)
 
 -- what is read is spelled so, each byte of it
 pub found : (bytes : List ℕ) (x : Header × Msg) → IsBytes bytes → datagram bytes ≡ Ok x → IsSpellable x.0 x.1 × (bytes ≡ spelling x.0 x.1)

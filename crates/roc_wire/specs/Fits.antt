@@ -9,7 +9,7 @@ use Rattle.roc_base.specs.TxnId.{txn_lt}
 use Rattle.roc_base.specs.Edge.{Dependency, HasTag}
 use Rattle.roc_depgraph.specs.declared.known.KnownList.{KnownList}
 use Rattle.roc_msg.specs.declared.msg.Msg.{Msg}
-use Rattle.roc_msg.specs.declared.msg.Msg.TheVariants.{Start, StartOk, Commit, CommitOk, Fetch, Known, Stop}
+use Rattle.roc_msg.specs.declared.msg.Msg.TheVariants.{Start, StartOk, Commit, CommitOk, Fetch, Known, Stop, Ended, Settled, Read, ReadOk, Drained, Switched}
 use Rattle.roc_msg.specs.Facts.{most_facts, most_fact_edges}
 use Rattle.roc_wire.specs.declared.header.Header.{Header}
 
@@ -24,6 +24,9 @@ most_args = 8
 
 abbrev pub most_nums : ℕ
 most_nums = 1024
+
+abbrev pub most_versions : ℕ
+most_versions = 64
 
 abbrev pub most_edges : ℕ
 most_edges = 4096
@@ -41,6 +44,9 @@ AllAlong P next s (x ∷ xs) = P s x × AllAlong P next (next s x) xs
 
 abbrev pub FitsNums : ℕ → List ℤ → Type 0
 FitsNums most nums = (length nums ≤ most) × AllAlong (λ (s : Unit {0}) n. FitsSigned w64 n) (λ s n. s) tt nums
+
+abbrev pub FitsVersions : List ℕ → Type 0
+FitsVersions versions = (length versions ≤ most_versions) × AllAlong (λ (s : Unit {0}) n. n < 2 ^ 64) (λ s n. s) tt versions
 
 -- there is none before it, or it comes behind it
 abbrev pub rises : Option TxnId → TxnId → Bool
@@ -70,6 +76,7 @@ room_behind room fact = (Some fact.of, room.1 - length fact.edges)
 abbrev pub FitsFacts : List KnownList → Type 0
 FitsFacts facts = (length facts ≤ most_facts) × AllAlong FitsFact room_behind (None, most_fact_edges) facts
 
+-- the mark of what is settled is past the id that it settles
 abbrev pub FitsMsg : Msg → Type 0
 FitsMsg (Start id proc group args inputs) = FitsId id × (proc < 2 ^ 16) × (group < 2 ^ 16) × FitsNums most_args args × FitsNums most_nums inputs
 FitsMsg (StartOk id group shard bound outs edges facts) =
@@ -80,6 +87,13 @@ FitsMsg (CommitOk id shard outs) = FitsId id × FitsShard shard × FitsNums most
 FitsMsg (Fetch id asker) = FitsId id × FitsShard asker
 FitsMsg (Known id edges) = FitsId id × FitsEdges most_edges edges
 FitsMsg Stop = Unit {0}
+FitsMsg (Ended coord below) = (coord ≤ last_coordinator) × (below < 2 ^ 32)
+FitsMsg (Settled id below) = FitsId id × (id.seq < below) × (below < 2 ^ 32)
+FitsMsg (Read id round proc group args) = FitsId id × (round < 2 ^ 32) × (proc < 2 ^ 16) × (group < 2 ^ 16) × FitsNums most_args args
+FitsMsg (ReadOk id round group shard versions outs) =
+    FitsId id × (round < 2 ^ 32) × (group < 2 ^ 16) × FitsShard shard × FitsVersions versions × FitsNums most_nums outs
+FitsMsg (Drained upto) = FitsId upto
+FitsMsg (Switched upto shard) = FitsId upto × FitsShard shard
 
 abbrev pub FitsNode : Node → Type 0
 FitsNode (Server shard) = FitsShard shard

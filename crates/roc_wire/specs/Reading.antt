@@ -9,13 +9,13 @@ use Rattle.roc_base.specs.declared.node.Node.TheVariants.{Server, Coord}
 use Rattle.roc_base.specs.Edge.{Dependency}
 use Rattle.roc_depgraph.specs.declared.known.KnownList.{KnownList}
 use Rattle.roc_msg.specs.declared.msg.Msg.{Msg}
-use Rattle.roc_msg.specs.declared.msg.Msg.TheVariants.{Start, StartOk, Commit, CommitOk, Fetch, Known, Stop}
+use Rattle.roc_msg.specs.declared.msg.Msg.TheVariants.{Start, StartOk, Commit, CommitOk, Fetch, Known, Stop, Ended, Settled, Read, ReadOk, Drained, Switched}
 use Rattle.roc_msg.specs.Facts.{most_facts, most_fact_edges}
 use Rattle.roc_wire.specs.declared.header.Header.{Header}
 use Rattle.roc_wire.specs.declared.fault.WireFault.{WireFault}
 use Rattle.roc_wire.specs.declared.fault.WireFault.TheVariants.{Short, Magic, Version, Kind, Count, Order, Rest, NoMemory}
 use Rattle.roc_wire.specs.Spelling.{magic, version}
-use Rattle.roc_wire.specs.Fits.{last_coordinator, last_shard, most_args, most_nums, most_edges, rises, last_from, Room, room_behind}
+use Rattle.roc_wire.specs.Fits.{last_coordinator, last_shard, most_args, most_nums, most_versions, most_edges, rises, last_from, Room, room_behind}
 
 infixl 10 ◌>>=◌
 abbrev pub ◌>>=◌ : {A B : Type 0} → Result A WireFault → (A → Result B WireFault) → Result B WireFault
@@ -61,6 +61,10 @@ number_read w bytes = if nat_lt (length bytes) (byte_len w) then Err Short else 
 unfoldable pub within_read : Width → ℕ → ℕ → Field ℕ
 within_read w low high bytes = judged_read (λ n. nat_le low n && nat_le n high) Count (number_read w) bytes
 
+-- a number past another
+unfoldable pub above_read : Width → ℕ → Field ℕ
+above_read w low bytes = judged_read (λ n. nat_lt low n) Count (number_read w) bytes
+
 -- how many there are, at most so many, and each
 abbrev pub counted_read : {A S : Type 0} → ℕ → (S → Field A) → (S → A → S) → S → Field (List A)
 counted_read most read next s bytes = made_read (λ p. p.1) (then_read (within_read w16 0 most) (λ count. several_read read next count s)) bytes
@@ -71,6 +75,9 @@ num_read s bytes = made_read (cast_signed w64) (number_read w64) bytes
 
 unfoldable pub nums_read : ℕ → Field (List ℤ)
 nums_read most bytes = counted_read most num_read (λ s n. s) tt bytes
+
+unfoldable pub versions_read : Field (List ℕ)
+versions_read bytes = counted_read most_versions (λ (s : Unit {0}). number_read w64) (λ s n. s) tt bytes
 
 -- ---- ids, shards, edges, facts
 
@@ -154,7 +161,48 @@ known_read bytes = made_read known_of_parts (then_read id_read (λ id. edges_rea
 abbrev pub stop_read : Field Msg
 stop_read bytes = Ok (Stop, bytes)
 
--- the body of a kind from 1 to 7
+abbrev pub ended_of_parts : ℕ × ℕ → Msg
+ended_of_parts p = Ended p.0 p.1
+
+unfoldable pub ended_read : Field Msg
+ended_read bytes = made_read ended_of_parts (then_read (within_read w16 0 last_coordinator) (λ coord. number_read w32)) bytes
+
+abbrev pub settled_of_parts : TxnId × ℕ → Msg
+settled_of_parts p = Settled p.0 p.1
+
+unfoldable pub settled_read : Field Msg
+settled_read bytes = made_read settled_of_parts (then_read id_read (λ id. above_read w32 id.seq)) bytes
+
+abbrev pub read_of_parts : TxnId × (ℕ × (ℕ × (ℕ × List ℤ))) → Msg
+read_of_parts p = Read p.0 p.1.0 p.1.1.0 p.1.1.1.0 p.1.1.1.1
+
+unfoldable pub read_read : Field Msg
+read_read bytes =
+    made_read read_of_parts
+    (then_read id_read (λ id. then_read (number_read w32) (λ round. then_read (number_read w16) (λ proc. then_read (number_read w16) (λ group. nums_read most_args))))) bytes
+
+abbrev pub read_ok_of_parts : TxnId × (ℕ × (ℕ × (Shard × (List ℕ × List ℤ)))) → Msg
+read_ok_of_parts p = ReadOk p.0 p.1.0 p.1.1.0 p.1.1.1.0 p.1.1.1.1.0 p.1.1.1.1.1
+
+unfoldable pub read_ok_read : Field Msg
+read_ok_read bytes =
+    made_read read_ok_of_parts
+    (then_read id_read (λ id. then_read (number_read w32) (λ round. then_read (number_read w16) (λ group. then_read shard_read
+    (λ shard. then_read versions_read (λ versions. nums_read most_nums)))))) bytes
+
+abbrev pub drained_of_parts : TxnId → Msg
+drained_of_parts upto = Drained upto
+
+unfoldable pub drained_read : Field Msg
+drained_read bytes = made_read drained_of_parts id_read bytes
+
+abbrev pub switched_of_parts : TxnId × Shard → Msg
+switched_of_parts p = Switched p.0 p.1
+
+unfoldable pub switched_read : Field Msg
+switched_read bytes = made_read switched_of_parts (then_read id_read (λ upto. shard_read)) bytes
+
+-- the body of a kind from 1 to 13
 unfoldable pub body_read : ℕ → Field Msg
 body_read kind bytes =
     if kind == 1 then start_read bytes else
@@ -162,7 +210,13 @@ body_read kind bytes =
     if kind == 3 then commit_read bytes else
     if kind == 4 then commit_ok_read bytes else
     if kind == 5 then fetch_read bytes else
-    if kind == 6 then known_read bytes else stop_read bytes
+    if kind == 6 then known_read bytes else
+    if kind == 7 then stop_read bytes else
+    if kind == 8 then ended_read bytes else
+    if kind == 9 then settled_read bytes else
+    if kind == 10 then read_read bytes else
+    if kind == 11 then read_ok_read bytes else
+    if kind == 12 then drained_read bytes else switched_read bytes
 
 -- ---- the header, and the whole
 
@@ -173,7 +227,7 @@ unfoldable pub version_read : Field ℕ
 version_read bytes = judged_read (λ n. n == version) Version (number_read w8) bytes
 
 unfoldable pub kind_read : Field ℕ
-kind_read bytes = judged_read (λ n. nat_le 1 n && nat_le n 7) Kind (number_read w8) bytes
+kind_read bytes = judged_read (λ n. nat_le 1 n && nat_le n 13) Kind (number_read w8) bytes
 
 -- the last number that a sender in a role has
 abbrev pub last_sender : ℕ → ℕ

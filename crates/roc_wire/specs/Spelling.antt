@@ -9,7 +9,7 @@ use Rattle.roc_base.specs.declared.node.Node.TheVariants.{Server, Coord}
 use Rattle.roc_base.specs.Edge.{Dependency}
 use Rattle.roc_depgraph.specs.declared.known.KnownList.{KnownList}
 use Rattle.roc_msg.specs.declared.msg.Msg.{Msg}
-use Rattle.roc_msg.specs.declared.msg.Msg.TheVariants.{Start, StartOk, Commit, CommitOk, Fetch, Known, Stop}
+use Rattle.roc_msg.specs.declared.msg.Msg.TheVariants.{Start, StartOk, Commit, CommitOk, Fetch, Known, Stop, Ended, Settled, Read, ReadOk, Drained, Switched}
 use Rattle.roc_msg.specs.Msg.{kind_of}
 use Rattle.roc_wire.specs.declared.header.Header.{Header}
 
@@ -18,7 +18,7 @@ abbrev pub magic : List ℕ
 magic = 82 ∷ 67 ∷ 79 ∷ 49 ∷ []
 
 abbrev pub version : ℕ
-version = 1
+version = 2
 
 abbrev pub id_bytes : TxnId → List ℕ
 id_bytes id = to_be_bytes w16 id.coord ++ to_be_bytes w32 id.seq
@@ -36,6 +36,9 @@ num_bytes n = to_be_bytes w64 (cast_unsigned w64 n)
 
 abbrev pub nums_bytes : List ℤ → List ℕ
 nums_bytes nums = counted_bytes num_bytes nums
+
+abbrev pub versions_bytes : List ℕ → List ℕ
+versions_bytes versions = counted_bytes (to_be_bytes w64) versions
 
 -- 1 for immediate groups, 2 for deferrable ones, 3 for both
 abbrev pub tags_of : Dependency → ℕ
@@ -62,6 +65,12 @@ body (CommitOk id shard outs) = id_bytes id ++ shard_bytes shard ++ nums_bytes o
 body (Fetch id asker) = id_bytes id ++ shard_bytes asker
 body (Known id edges) = id_bytes id ++ edges_bytes edges
 body Stop = []
+body (Ended coord below) = to_be_bytes w16 coord ++ to_be_bytes w32 below
+body (Settled id below) = id_bytes id ++ to_be_bytes w32 below
+body (Read id round proc group args) = id_bytes id ++ to_be_bytes w32 round ++ to_be_bytes w16 proc ++ to_be_bytes w16 group ++ nums_bytes args
+body (ReadOk id round group shard versions outs) = id_bytes id ++ to_be_bytes w32 round ++ to_be_bytes w16 group ++ shard_bytes shard ++ versions_bytes versions ++ nums_bytes outs
+body (Drained upto) = id_bytes upto
+body (Switched upto shard) = id_bytes upto ++ shard_bytes shard
 
 -- 0 for a server, 1 for a coordinator
 abbrev pub sender_role : Node → ℕ

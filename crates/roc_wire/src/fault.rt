@@ -16,7 +16,7 @@ pub enum WireFault {
     /// They do not begin with `RCO1`.
     #[error("magic")]
     Magic,
-    /// Another version than 1.
+    /// Another version than 2.
     #[error("version")]
     Version,
     /// A kind that no message has.

@@ -2,7 +2,7 @@
 ghost use Rattle.std.specs.Prelude.{◌≡◌, ◌≤◌, ◌||◌, IfOk, IsTrue};
 ghost use Rattle.std.specs.Int.{w8, w16, w32, w64};
 ghost use Rattle.roc_wire.specs.Fits.{rises};
-ghost use Rattle.roc_wire.specs.Reading.{IsRead, number_read, within_read, num_read, id_read, shard_read, rising_read, edge_read};
+ghost use Rattle.roc_wire.specs.Reading.{IsRead, number_read, within_read, above_read, num_read, id_read, shard_read, rising_read, edge_read};
 
 use crate::WireFault;
 use crate::numbers::{u16_from, u32_from, u64_from};
@@ -74,6 +74,18 @@ pub(crate) fn u16_within(bytes: &[u8], low: u16, high: u16) -> Result<(u16, &[u8
 {
     let (number, rest) = u16_of(bytes)?;
     if low <= number && number <= high {
+        Ok((number, rest))
+    } else {
+        Err(WireFault::Count)
+    }
+}
+
+#[tactic(auto, unfolding(crate::specs::Reading::above_read))]
+pub(crate) fn u32_above(bytes: &[u8], low: u32) -> Result<(u32, &[u8]), WireFault>
+    ensures { IsRead (λ x. (x.0, x.1.now)) result (above_read w32 low bytes.now) }
+{
+    let (number, rest) = u32_of(bytes)?;
+    if low < number {
         Ok((number, rest))
     } else {
         Err(WireFault::Count)

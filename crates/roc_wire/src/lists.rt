@@ -1,16 +1,17 @@
 //! Reading the lists of a datagram.
 ghost use Rattle.std.specs.Prelude.{◌≡◌, None, IfOk};
+ghost use Rattle.std.specs.Int.{w64};
 ghost use Rattle.roc_base.specs.Edges.{comes_before};
 ghost use Rattle.roc_msg.specs.Facts.{most_fact_edges};
 ghost use Rattle.roc_sequence.specs.Rising.{IsRising};
 ghost use Rattle.roc_wire.specs.Fits.{FitsFact, last_from, room_behind};
-ghost use Rattle.roc_wire.specs.Reading.{IsRead, several_read, num_read, nums_read, edge_read, edges_read, fact_read, facts_read};
+ghost use Rattle.roc_wire.specs.Reading.{IsRead, number_read, several_read, num_read, nums_read, versions_read, edge_read, edges_read, fact_read, facts_read};
 
 use crate::WireFault;
-use crate::fields::{edge_of, num_of, rising_of, u16_within};
+use crate::fields::{edge_of, num_of, rising_of, u16_within, u64_of};
 use roc_base::{Edge, Edges, NoMemory, Nums, TxnId};
 use roc_depgraph::KnownList;
-use roc_msg::Facts;
+use roc_msg::{CellVersions, Facts};
 use std::alloc::Global;
 
 #[tactic(auto, unfolding(crate::specs::Reading::nums_read))]
@@ -33,6 +34,32 @@ fn several_nums(alloc: Global, count: u16, bytes: &[u8]) -> Result<(Nums, &[u8])
         rest = after;
     }
     Ok((nums, rest))
+}
+
+#[tactic(auto, unfolding(crate::specs::Reading::versions_read))]
+pub(crate) fn versions_of(alloc: Global, bytes: &[u8]) -> Result<(CellVersions, &[u8]), WireFault>
+    ensures { IsRead (λ x. (x.0, x.1.now)) result (versions_read bytes.now) }
+{
+    let (count, rest) = u16_within(bytes, 0, 64)?;
+    let (versions, rest) = several_versions(alloc, count, rest)?;
+    Ok((versions, rest))
+}
+
+fn several_versions(
+    alloc: Global,
+    count: u16,
+    bytes: &[u8],
+) -> Result<(CellVersions, &[u8]), WireFault>
+    ensures { IsRead (λ x. (x.0, x.1.now)) result (several_read (λ (s : Unit {0}). number_read w64) (λ s n. s) count tt bytes.now) }
+{
+    let mut versions = CellVersions::new(alloc);
+    let mut rest = bytes;
+    for _ in 0..count {
+        let (version, after) = u64_of(rest)?;
+        versions.push(version)?;
+        rest = after;
+    }
+    Ok((versions, rest))
 }
 
 #[tactic(auto, unfolding(crate::specs::Reading::edges_read))]

@@ -55,6 +55,15 @@ pub(crate) fn put_u32(out: &mut Vec<u8>, number: u32) -> Result<(), NoMemory>
     Ok(())
 }
 
+pub(crate) fn put_u64(out: &mut Vec<u8>, number: u64) -> Result<(), NoMemory>
+    ensures { OnOk result (out.new.items ≡ out.old.items ++ to_be_bytes w64 number) }
+{
+    let mut bytes = [0; 8];
+    BigEndian::write_u64(&mut bytes, number);
+    out.extend_from_slice(&bytes)?;
+    Ok(())
+}
+
 pub(crate) fn put_i64(out: &mut Vec<u8>, number: i64) -> Result<(), NoMemory>
     ensures { OnOk result (out.new.items ≡ out.old.items ++ num_bytes number) }
 {

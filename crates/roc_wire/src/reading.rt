@@ -1,14 +1,14 @@
 //! Reading a datagram.
 ghost use Rattle.std.specs.Prelude.{◌≡◌, Ok, take, IfOk};
-ghost use Rattle.roc_wire.specs.Reading.{IsRead, bytes_read, start_read, start_ok_read, commit_read, commit_ok_read, fetch_read, known_read, body_read, magic_read, version_read, kind_read};
+ghost use Rattle.roc_wire.specs.Reading.{IsRead, bytes_read, start_read, start_ok_read, commit_read, commit_ok_read, fetch_read, known_read, ended_read, settled_read, read_read, read_ok_read, drained_read, switched_read, body_read, magic_read, version_read, kind_read};
 ghost use Rattle.roc_wire.specs.Reading.{node_read, whole_read, datagram, pair};
 ghost use Rattle.roc_wire.specs.Fits.{IsSpellable};
 ghost use Rattle.roc_wire.specs.Spelling.{spelling};
 ghost use Rattle.roc_wire.specs.declared.header.Header.{Header as HeaderValue};
 ghost use Rattle.roc_msg.specs.declared.msg.Msg.{Msg as MsgValue};
 
-use crate::fields::{id_of, shard_of, u8_of, u8_within, u16_of, u16_within};
-use crate::lists::{edges_of, facts_of, nums_of};
+use crate::fields::{id_of, shard_of, u8_of, u8_within, u16_of, u16_within, u32_above, u32_of};
+use crate::lists::{edges_of, facts_of, nums_of, versions_of};
 use crate::{Header, WireFault};
 use roc_base::{Node, Shard};
 use roc_msg::Msg;
@@ -94,6 +94,81 @@ fn known_of(alloc: Global, bytes: &[u8]) -> Result<(Msg, &[u8]), WireFault>
     Ok((Msg::Known { id, edges }, rest))
 }
 
+#[tactic(auto, unfolding(crate::specs::Reading::ended_read))]
+fn ended_of(bytes: &[u8]) -> Result<(Msg, &[u8]), WireFault>
+    ensures { IsRead (λ x. (x.0, x.1.now)) result (ended_read bytes.now) }
+{
+    let (coord, rest) = u16_within(bytes, 0, 15)?;
+    let (below, rest) = u32_of(rest)?;
+    Ok((Msg::Ended { coord, below }, rest))
+}
+
+#[tactic(auto, unfolding(crate::specs::Reading::settled_read))]
+fn settled_of(bytes: &[u8]) -> Result<(Msg, &[u8]), WireFault>
+    ensures { IsRead (λ x. (x.0, x.1.now)) result (settled_read bytes.now) }
+{
+    let (id, rest) = id_of(bytes)?;
+    let (below, rest) = u32_above(rest, id.seq)?;
+    Ok((Msg::Settled { id, below }, rest))
+}
+
+#[tactic(auto, unfolding(crate::specs::Reading::read_read))]
+fn read_of(alloc: Global, bytes: &[u8]) -> Result<(Msg, &[u8]), WireFault>
+    ensures { IsRead (λ x. (x.0, x.1.now)) result (read_read bytes.now) }
+{
+    let (id, rest) = id_of(bytes)?;
+    let (round, rest) = u32_of(rest)?;
+    let (proc, rest) = u16_of(rest)?;
+    let (group, rest) = u16_of(rest)?;
+    let (args, rest) = nums_of(alloc, 8, rest)?;
+    let msg = Msg::Read {
+        id,
+        round,
+        proc,
+        group,
+        args,
+    };
+    Ok((msg, rest))
+}
+
+#[tactic(auto, unfolding(crate::specs::Reading::read_ok_read))]
+fn read_ok_of(alloc: Global, bytes: &[u8]) -> Result<(Msg, &[u8]), WireFault>
+    ensures { IsRead (λ x. (x.0, x.1.now)) result (read_ok_read bytes.now) }
+{
+    let (id, rest) = id_of(bytes)?;
+    let (round, rest) = u32_of(rest)?;
+    let (group, rest) = u16_of(rest)?;
+    let (shard, rest) = shard_of(rest)?;
+    let (versions, rest) = versions_of(alloc, rest)?;
+    let (outs, rest) = nums_of(alloc, 1024, rest)?;
+    let msg = Msg::ReadOk {
+        id,
+        round,
+        group,
+        shard,
+        versions,
+        outs,
+    };
+    Ok((msg, rest))
+}
+
+#[tactic(auto, unfolding(crate::specs::Reading::drained_read))]
+fn drained_of(bytes: &[u8]) -> Result<(Msg, &[u8]), WireFault>
+    ensures { IsRead (λ x. (x.0, x.1.now)) result (drained_read bytes.now) }
+{
+    let (upto, rest) = id_of(bytes)?;
+    Ok((Msg::Drained { upto }, rest))
+}
+
+#[tactic(auto, unfolding(crate::specs::Reading::switched_read))]
+fn switched_of(bytes: &[u8]) -> Result<(Msg, &[u8]), WireFault>
+    ensures { IsRead (λ x. (x.0, x.1.now)) result (switched_read bytes.now) }
+{
+    let (upto, rest) = id_of(bytes)?;
+    let (shard, rest) = shard_of(rest)?;
+    Ok((Msg::Switched { upto, shard }, rest))
+}
+
 #[tactic(auto, unfolding(crate::specs::Reading::body_read))]
 fn body_of(alloc: Global, kind: u8, bytes: &[u8]) -> Result<(Msg, &[u8]), WireFault>
     ensures { IsRead (λ x. (x.0, x.1.now)) result (body_read kind bytes.now) }
@@ -116,7 +191,25 @@ fn body_of(alloc: Global, kind: u8, bytes: &[u8]) -> Result<(Msg, &[u8]), WireFa
     if kind == 6 {
         return known_of(alloc, bytes);
     }
-    Ok((Msg::Stop, bytes))
+    if kind == 7 {
+        return Ok((Msg::Stop, bytes));
+    }
+    if kind == 8 {
+        return ended_of(bytes);
+    }
+    if kind == 9 {
+        return settled_of(bytes);
+    }
+    if kind == 10 {
+        return read_of(alloc, bytes);
+    }
+    if kind == 11 {
+        return read_ok_of(alloc, bytes);
+    }
+    if kind == 12 {
+        return drained_of(bytes);
+    }
+    switched_of(bytes)
 }
 
 #[tactic(auto, unfolding(crate::specs::Reading::magic_read))]
@@ -139,7 +232,7 @@ fn version_of(bytes: &[u8]) -> Result<(u8, &[u8]), WireFault>
     ensures { IsRead (λ x. (x.0, x.1.now)) result (version_read bytes.now) }
 {
     let (version, rest) = u8_of(bytes)?;
-    if version == 1 {
+    if version == 2 {
         Ok((version, rest))
     } else {
         Err(WireFault::Version)
@@ -151,7 +244,7 @@ fn kind_of(bytes: &[u8]) -> Result<(u8, &[u8]), WireFault>
     ensures { IsRead (λ x. (x.0, x.1.now)) result (kind_read bytes.now) }
 {
     let (kind, rest) = u8_of(bytes)?;
-    if 1 <= kind && kind <= 7 {
+    if 1 <= kind && kind <= 13 {
         Ok((kind, rest))
     } else {
         Err(WireFault::Kind)

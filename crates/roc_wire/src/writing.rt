@@ -1,16 +1,16 @@
 //! Writing a datagram.
 ghost use Rattle.std.specs.Prelude.{◌≡◌, ◌≤◌, ◌<◌, ◌^◌, ◌++◌, length, IfOk, OnOk};
 ghost use Rattle.std.specs.List.{flat_map, All};
-ghost use Rattle.std.specs.Int.{w8, w16, to_be_bytes};
+ghost use Rattle.std.specs.Int.{w8, w16, w32, w64, to_be_bytes};
 ghost use Rattle.roc_msg.specs.Msg.{kind_of};
-ghost use Rattle.roc_wire.specs.Spelling.{id_bytes, shard_bytes, num_bytes, nums_bytes, tags_of, edge_bytes, edges_bytes, fact_bytes, facts_bytes, body, sender_role, sender_number, spelling};
+ghost use Rattle.roc_wire.specs.Spelling.{id_bytes, shard_bytes, num_bytes, nums_bytes, versions_bytes, tags_of, edge_bytes, edges_bytes, fact_bytes, facts_bytes, body, sender_role, sender_number, spelling};
 ghost use Rattle.roc_wire.specs.Fits.{FitsFacts, FitsMsg, IsSpellable};
 
 use crate::Header;
-use crate::numbers::{put_i64, put_u8, put_u16, put_u32};
+use crate::numbers::{put_i64, put_u8, put_u16, put_u32, put_u64};
 use roc_base::{Edge, Edges, NoMemory, Node, Nums, Shard, TxnId};
 use roc_depgraph::KnownList;
-use roc_msg::{Facts, Msg};
+use roc_msg::{CellVersions, Facts, Msg};
 use std::alloc::Global;
 
 /// The one spelling of a header and a message that have one.
@@ -20,7 +20,7 @@ pub fn encode(alloc: Global, header: &Header, msg: &Msg) -> Result<Vec<u8>, NoMe
 {
     let mut out = Vec::new(alloc);
     out.extend_from_slice(b"RCO1")?;
-    put_u8(&mut out, 1)?;
+    put_u8(&mut out, 2)?;
     put_u8(&mut out, msg.kind())?;
     out.extend_from_slice(&header.tag)?;
     put_sender(&mut out, header.from)?;
@@ -74,9 +74,31 @@ fn put_body(out: &mut Vec<u8>, msg: &Msg) -> Result<(), NoMemory>
             put_lists(out, edges, facts)?;
         }
         Msg::CommitOk { id, shard, outs } => put_commit_ok(out, *id, *shard, outs)?,
-        Msg::Fetch { id, asker } => put_fetch(out, *id, *asker)?,
+        Msg::Fetch { id, asker } => put_at(out, *id, *asker)?,
         Msg::Known { id, edges } => put_known(out, *id, edges)?,
         Msg::Stop => {}
+        Msg::Ended { coord, below } => put_ended(out, *coord, *below)?,
+        Msg::Settled { id, below } => put_settled(out, *id, *below)?,
+        Msg::Read {
+            id,
+            round,
+            proc,
+            group,
+            args,
+        } => put_read(out, *id, *round, *proc, *group, args)?,
+        Msg::ReadOk {
+            id,
+            round,
+            group,
+            shard,
+            versions,
+            outs,
+        } => {
+            put_of_round(out, *id, *round, *group)?;
+            put_found(out, *shard, versions, outs)?;
+        }
+        Msg::Drained { upto } => put_id(out, *upto)?,
+        Msg::Switched { upto, shard } => put_at(out, *upto, *shard)?,
     }
     Ok(())
 }
@@ -108,11 +130,71 @@ fn put_commit_ok(out: &mut Vec<u8>, id: TxnId, shard: Shard, outs: &Nums) -> Res
     Ok(())
 }
 
-fn put_fetch(out: &mut Vec<u8>, id: TxnId, asker: Shard) -> Result<(), NoMemory>
-    ensures { OnOk result (out.new.items ≡ out.old.items ++ (id_bytes id ++ shard_bytes asker)) }
+fn put_at(out: &mut Vec<u8>, id: TxnId, shard: Shard) -> Result<(), NoMemory>
+    ensures { OnOk result (out.new.items ≡ out.old.items ++ (id_bytes id ++ shard_bytes shard)) }
 {
     put_id(out, id)?;
-    put_shard(out, asker)?;
+    put_shard(out, shard)?;
+    Ok(())
+}
+
+fn put_ended(out: &mut Vec<u8>, coord: u16, below: u32) -> Result<(), NoMemory>
+    ensures { OnOk result (out.new.items ≡ out.old.items ++ (to_be_bytes w16 coord ++ to_be_bytes w32 below)) }
+{
+    put_u16(out, coord)?;
+    put_u32(out, below)?;
+    Ok(())
+}
+
+fn put_settled(out: &mut Vec<u8>, id: TxnId, below: u32) -> Result<(), NoMemory>
+    ensures { OnOk result (out.new.items ≡ out.old.items ++ (id_bytes id ++ to_be_bytes w32 below)) }
+{
+    put_id(out, id)?;
+    put_u32(out, below)?;
+    Ok(())
+}
+
+fn put_read(
+    out: &mut Vec<u8>,
+    id: TxnId,
+    round: u32,
+    proc: u16,
+    group: u16,
+    args: &Nums,
+) -> Result<(), NoMemory>
+    requires { length args.now < 2 ^ 16 }
+    ensures { OnOk result (out.new.items ≡ out.old.items ++ (id_bytes id ++ to_be_bytes w32 round ++ to_be_bytes w16 proc ++ to_be_bytes w16 group ++ nums_bytes args.now)) }
+{
+    put_of_round(out, id, round, proc)?;
+    put_u16(out, group)?;
+    put_nums(out, args.as_slice())?;
+    Ok(())
+}
+
+// A transaction, one of its rounds, and the number of its procedure or of one of its groups.
+fn put_of_round(out: &mut Vec<u8>, id: TxnId, round: u32, number: u16) -> Result<(), NoMemory>
+    ensures { OnOk result (out.new.items ≡ out.old.items ++ (id_bytes id ++ to_be_bytes w32 round ++ to_be_bytes w16 number)) }
+{
+    put_id(out, id)?;
+    put_u32(out, round)?;
+    put_u16(out, number)?;
+    Ok(())
+}
+
+// What a group has read.
+fn put_found(
+    out: &mut Vec<u8>,
+    shard: Shard,
+    versions: &CellVersions,
+    outs: &Nums,
+) -> Result<(), NoMemory>
+    requires versions { length versions.now < 2 ^ 16 }
+    requires outs { length outs.now < 2 ^ 16 }
+    ensures { OnOk result (out.new.items ≡ out.old.items ++ (shard_bytes shard ++ versions_bytes versions.now ++ nums_bytes outs.now)) }
+{
+    put_shard(out, shard)?;
+    put_versions(out, versions.as_slice())?;
+    put_nums(out, outs.as_slice())?;
     Ok(())
 }
 
@@ -194,6 +276,17 @@ fn put_nums(out: &mut Vec<u8>, nums: &[i64]) -> Result<(), NoMemory>
     put_u16(out, nums.len() as u16)?;
     for num in nums {
         put_i64(out, *num)?;
+    }
+    Ok(())
+}
+
+fn put_versions(out: &mut Vec<u8>, versions: &[u64]) -> Result<(), NoMemory>
+    requires { length versions.now < 2 ^ 16 }
+    ensures { OnOk result (out.new.items ≡ out.old.items ++ versions_bytes versions.now) }
+{
+    put_u16(out, versions.len() as u16)?;
+    for version in versions {
+        put_u64(out, *version)?;
     }
     Ok(())
 }

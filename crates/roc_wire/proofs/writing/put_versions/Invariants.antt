@@ -1,0 +1,7 @@
+use Rattle.std.proofs.Common.{◌≡◌, ◌++◌, take, length}
+use Rattle.std.specs.Int.{w16, w64, to_be_bytes}
+use Rattle.std.specs.List.{flat_map}
+use Rattle.roc_wire.proofs.writing.put_versions.Given as goal
+
+abbrev pub invariant-loop-version : goal.invariant-loop-version
+invariant-loop-version l = l.out.items ≡ l.fn.out.items ++ to_be_bytes w16 (length l.versions) ++ flat_map (to_be_bytes w64) (take l.version-index l.versions)
