@@ -2,3 +2,4 @@ pub mod Apart
 pub mod Distinct
 pub mod Parts
 pub mod Lines
+pub mod Named

@@ -18,7 +18,7 @@ use Rattle.roc_lang.specs.Tokens.{is_word_byte, IsWord}
 use Rattle.roc_msg.specs.declared.reason.Reason.{Reason}
 use Rattle.roc_msg.specs.declared.reason.Reason.TheVariants.{Foreign, BadProc, BadGroup, BadInputs, NotHere, Late, Differs, Stale, Unfit}
 use Rattle.roc_msg.specs.Reason.{reason_text}
-use Rattle.roc_report.specs.Line.{MessageKind, Start, StartOk, Commit, CommitOk, Fetch, Known, Stop, ShownMessage}
+use Rattle.roc_report.specs.Line.{MessageKind, Start, StartOk, Commit, CommitOk, Fetch, Known, Stop, Ended, Settled, Read, ReadOk, Drained, Switched, ShownMessage}
 use Rattle.roc_report.specs.ReportLine.{IsSmallId, IsSmallNode, IsSmallEdge, IsSmallMessage, AreSmallIntegers}
 use Rattle.roc_report.specs.Text.{spaced, numbers_text, ids_text, tags_text, edge_text, edges_text, facts_text, message_kind_text, message_text, key_text}
 use Rattle.roc_report.proofs.Apart.{Stops, AreAll, AreApart, runs_apart, numbers_apart, begins_apart, integers_apart, lists_apart}
@@ -236,16 +236,29 @@ kind_letters CommitOk = (refl, (refl, (refl, (refl, (refl, (refl, (refl, (refl, 
 kind_letters Fetch = (refl, (refl, (refl, (refl, (refl, tt)))))
 kind_letters Known = (refl, (refl, (refl, (refl, (refl, tt)))))
 kind_letters Stop = (refl, (refl, (refl, (refl, tt))))
+kind_letters Ended = (refl, (refl, (refl, (refl, (refl, tt)))))
+kind_letters Settled = (refl, (refl, (refl, (refl, (refl, (refl, (refl, tt)))))))
+kind_letters Read = (refl, (refl, (refl, (refl, tt))))
+kind_letters ReadOk = (refl, (refl, (refl, (refl, (refl, (refl, tt))))))
+kind_letters Drained = (refl, (refl, (refl, (refl, (refl, (refl, (refl, tt)))))))
+kind_letters Switched = (refl, (refl, (refl, (refl, (refl, (refl, (refl, (refl, tt))))))))
 
--- first letter and length tell the kinds apart
+-- first letter, length and second letter tell the kinds apart
+kind_behind_s : List ℕ → MessageKind
+kind_behind_s [] = Stop
+kind_behind_s (b ∷ bs) =
+    if b == 101 then Settled else (if b == 119 then Switched else (if length bs == 3 then Start else (if length bs == 5 then StartOk else Stop)))
+
 kind_of_word : List ℕ → MessageKind
 kind_of_word [] = Stop
 kind_of_word (b ∷ bs) =
-    if b == 115 then (if length bs == 4 then Start else (if length bs == 6 then StartOk else Stop))
-    else (if b == 99 then (if length bs == 5 then Commit else CommitOk) else (if b == 102 then Fetch else Known))
+    if b == 115 then kind_behind_s bs
+    else (if b == 99 then (if length bs == 5 then Commit else CommitOk)
+    else (if b == 114 then (if length bs == 3 then Read else ReadOk)
+    else (if b == 102 then Fetch else (if b == 107 then Known else (if b == 101 then Ended else Drained)))))
 
 kind_told : (k : MessageKind) → kind_of_word (message_kind_text k) ≡ k
-unfolding kind_of_word
+unfolding kind_of_word kind_behind_s
 kind_told Start = refl
 kind_told StartOk = refl
 kind_told Commit = refl
@@ -253,6 +266,12 @@ kind_told CommitOk = refl
 kind_told Fetch = refl
 kind_told Known = refl
 kind_told Stop = refl
+kind_told Ended = refl
+kind_told Settled = refl
+kind_told Read = refl
+kind_told ReadOk = refl
+kind_told Drained = refl
+kind_told Switched = refl
 
 kinds_apart : (k l : MessageKind) (r s : List ℕ) → Letters r → Letters s → message_kind_text k ++ r ≡ message_kind_text l ++ s → (k ≡ l) × (r ≡ s)
 kinds_apart k l r s stop end e =
@@ -292,17 +311,17 @@ abbrev lists_of : ShownMessage → List ℕ → List ℕ
 lists_of m r = edges_text m.edges ++ (facts_text m.facts ++ r)
 
 message_parts : (m : ShownMessage) (r : List ℕ) → message_text m ++ r
-    ≡ message_kind_text m.kind ++ (ids_text (option_to_list m.id) ++ (32 ∷ (node_text m.from ++ (32 ∷ (node_text m.to ++ lists_of m r)))))
+    ≡ message_kind_text m.kind ++ (ids_text (option_to_list m.named) ++ (32 ∷ (node_text m.from ++ (32 ∷ (node_text m.to ++ lists_of m r)))))
 message_parts m r = simp (append_assoc, cons_append)
 
 pub messages_apart : (m n : ShownMessage) (r s : List ℕ) → IsSmallMessage m → IsSmallMessage n → IsEnd r → IsEnd s → message_text m ++ r ≡ message_text n ++ s → (m ≡ n) × (r ≡ s)
 messages_apart m n r s small also end stop e =
-    let kind = kinds_apart m.kind n.kind _ _ (id_letters m.id _) (id_letters n.id _) (sym (message_parts m r) ∙ e ∙ message_parts n s) in
-    let id = id_texts_apart m.id n.id m.from n.from _ _ small.id also.id kind.1 in
+    let kind = kinds_apart m.kind n.kind _ _ (id_letters m.named _) (id_letters n.named _) (sym (message_parts m r) ∙ e ∙ message_parts n s) in
+    let id = id_texts_apart m.named n.named m.from n.from _ _ small.named also.named kind.1 in
     let from = nodes_apart m.from n.from (32 ∷ (node_text m.to ++ lists_of m r)) (32 ∷ (node_text n.to ++ lists_of n s)) small.from also.from refl refl id.1 in
     let m_end = facts_end m.facts r end in
     let n_end = facts_end n.facts s stop in
     let to = nodes_apart m.to n.to (lists_of m r) (lists_of n s) small.to also.to (edges_stop m.edges _ m_end) (edges_stop n.edges _ n_end) (tail_of from.1) in
     let edges = edge_lists_apart m.edges n.edges (facts_text m.facts ++ r) (facts_text n.facts ++ s) small.edges also.edges m_end n_end to.1 in
     let facts = facts_apart m.facts n.facts r s small.facts also.facts end stop edges.1 in
-    ((λ i. record { kind = kind.0 i; id = id.0 i; from = from.0 i; to = to.0 i; edges = edges.0 i; facts = facts.0 i }), facts.1)
+    ((λ i. record { kind = kind.0 i; named = id.0 i; from = from.0 i; to = to.0 i; edges = edges.0 i; facts = facts.0 i }), facts.1)

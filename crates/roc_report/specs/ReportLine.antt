@@ -44,7 +44,7 @@ abbrev pub IsSmallEdge : Dependency → Type 0
 IsSmallEdge d = IsSmallId d.from × IsSmall d.at.0
 
 pub record IsSmallMessage (m : ShownMessage) : Type 0 where
-  pub id : IfSome m.id IsSmallId
+  pub named : IfSome m.named IsSmallId
   pub from : IsSmallNode m.from
   pub to : IsSmallNode m.to
   pub edges : AllByRecursion IsSmallEdge m.edges

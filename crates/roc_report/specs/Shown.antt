@@ -1,5 +1,5 @@
 -- The line that a line of the code shows, without what it borrows from
-use Rattle.std.specs.Prelude.{List, [], map}
+use Rattle.std.specs.Prelude.{List, [], map, Option, Some}
 use Rattle.roc_base.specs.declared.id.TxnId.{TxnId}
 use Rattle.roc_base.specs.Edge.{Dependency}
 use Rattle.roc_msg.specs.declared.msg.Msg.{Msg}
@@ -22,29 +22,35 @@ message_kind (msg.CommitOk id shard outs) = pure.CommitOk
 message_kind (msg.Fetch id asker) = pure.Fetch
 message_kind (msg.Known id edges) = pure.Known
 message_kind msg.Stop = pure.Stop
+message_kind (msg.Ended coord below) = pure.Ended
+message_kind (msg.Settled id below) = pure.Settled
+message_kind (msg.Read id round proc group args) = pure.Read
+message_kind (msg.ReadOk id round group shard versions outs) = pure.ReadOk
+message_kind (msg.Drained upto) = pure.Drained
+message_kind (msg.Switched upto shard) = pure.Switched
+
+-- what stands in the id's place: the transaction that a message is of, or the mark that it tells
+abbrev pub named_by : Msg → Option TxnId
+named_by (msg.Ended coord below) = Some (record { coord = coord; seq = below })
+named_by (msg.Drained upto) = Some upto
+named_by (msg.Switched upto shard) = Some upto
+named_by m = id_of m
 
 -- the edges that a message tells of its own transaction
 abbrev pub edges_of : Msg → List Dependency
 edges_of (msg.StartOk id group shard bound outs edges facts) = edges
 edges_of (msg.Commit id edges facts) = edges
 edges_of (msg.Known id edges) = edges
-edges_of (msg.Start id proc group args inputs) = []
-edges_of (msg.CommitOk id shard outs) = []
-edges_of (msg.Fetch id asker) = []
-edges_of msg.Stop = []
+edges_of m = []
 
 -- the transactions whose lists travel along
 abbrev pub facts_of : Msg → List TxnId
 facts_of (msg.StartOk id group shard bound outs edges facts) = map (λ fact. fact.of) facts
 facts_of (msg.Commit id edges facts) = map (λ fact. fact.of) facts
-facts_of (msg.Known id edges) = []
-facts_of (msg.Start id proc group args inputs) = []
-facts_of (msg.CommitOk id shard outs) = []
-facts_of (msg.Fetch id asker) = []
-facts_of msg.Stop = []
+facts_of m = []
 
 abbrev pub shown_message : Envelope → pure.ShownMessage
-shown_message s = record { kind = message_kind s.msg; id = id_of s.msg; from = s.from; to = s.to; edges = edges_of s.msg; facts = facts_of s.msg }
+shown_message s = record { kind = message_kind s.msg; named = named_by s.msg; from = s.from; to = s.to; edges = edges_of s.msg; facts = facts_of s.msg }
 
 -- ---- lines
 

@@ -17,7 +17,7 @@ use Rattle.roc_scgraph.specs.declared.vertex.Vertex.{Vertex}
 use Rattle.roc_scgraph.specs.declared.vertex.Instance.{Instance}
 use Rattle.roc_scgraph.specs.declared.vertex.Instance.TheVariants.{First, Second}
 use Rattle.roc_scgraph.specs.Graph.{piece_id}
-use Rattle.roc_report.specs.Line.{MessageKind, Start, StartOk, Commit, CommitOk, Fetch, Known, Stop, ShownMessage, Line, Submit, Busy, Spent, Deliver, Nothing, Tick, Ignored, Send, Answer}
+use Rattle.roc_report.specs.Line.{MessageKind, Start, StartOk, Commit, CommitOk, Fetch, Known, Stop, Ended, Settled, Read, ReadOk, Drained, Switched, ShownMessage, Line, Submit, Busy, Spent, Deliver, Nothing, Tick, Ignored, Send, Answer}
 use Rattle.roc_report.specs.Line.{Order, Row, Pending, End, Shards, Proc, Piece, Group, Conflict, Accepted, Apart, Blocked}
 use Rattle.roc_report.specs.Standing.{standing_text}
 
@@ -54,10 +54,16 @@ message_kind_text CommitOk = codes "commitok"
 message_kind_text Fetch = codes "fetch"
 message_kind_text Known = codes "known"
 message_kind_text Stop = codes "stop"
+message_kind_text Ended = codes "ended"
+message_kind_text Settled = codes "settled"
+message_kind_text Read = codes "read"
+message_kind_text ReadOk = codes "readok"
+message_kind_text Drained = codes "drained"
+message_kind_text Switched = codes "switched"
 
--- KIND C.S FROM TO EDGES FACTS
+-- KIND C.S FROM TO EDGES FACTS, with a mark as C.BELOW
 abbrev pub message_text : ShownMessage → List ℕ
-message_text m = message_kind_text m.kind ++ ids_text (option_to_list m.id) ++ spaced (node_text m.from) ++ spaced (node_text m.to) ++ edges_text m.edges ++ facts_text m.facts
+message_text m = message_kind_text m.kind ++ ids_text (option_to_list m.named) ++ spaced (node_text m.from) ++ spaced (node_text m.to) ++ edges_text m.edges ++ facts_text m.facts
 
 -- the integers of an id, a comma before each
 abbrev pub key_text : List ℤ → List ℕ

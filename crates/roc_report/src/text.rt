@@ -4,7 +4,7 @@ ghost use Rattle.std.specs.Fmt.{decimal};
 ghost use Rattle.std.specs.String.{string_bytes};
 ghost use Rattle.roc_program.specs.LookUps.{procedure_name, table_name, column_name};
 ghost use Rattle.roc_report.specs.Line.{Row};
-ghost use Rattle.roc_report.specs.Shown.{message_kind, edges_of, facts_of, shown_message, shown};
+ghost use Rattle.roc_report.specs.Shown.{message_kind, named_by, edges_of, facts_of, shown_message, shown};
 ghost use Rattle.roc_report.specs.Text.{numbers_text, ids_text, tags_text, edges_text, facts_text, message_kind_text, spaced, message_text, key_text, cell_text, words_of, line_text};
 
 use crate::ReportLine;
@@ -136,6 +136,35 @@ fn message_kind_text(msg: &Msg) -> &'static str
         Msg::Fetch { .. } => "fetch",
         Msg::Known { .. } => "known",
         Msg::Stop => "stop",
+        Msg::Ended { .. } => "ended",
+        Msg::Settled { .. } => "settled",
+        Msg::Read { .. } => "read",
+        Msg::ReadOk { .. } => "readok",
+        Msg::Drained { .. } => "drained",
+        Msg::Switched { .. } => "switched",
+    }
+}
+
+// What stands in the id's place: the transaction that a message is of, or the mark that it tells.
+fn named_by(msg: &Msg) -> Option<TxnId>
+    ensures { result ≡ named_by msg.now }
+{
+    match msg {
+        Msg::Ended { coord, below } => Some(TxnId {
+            coord: *coord,
+            seq: *below,
+        }),
+        Msg::Drained { upto } | Msg::Switched { upto, .. } => Some(*upto),
+        Msg::Start { .. }
+        | Msg::StartOk { .. }
+        | Msg::Commit { .. }
+        | Msg::CommitOk { .. }
+        | Msg::Fetch { .. }
+        | Msg::Known { .. }
+        | Msg::Stop
+        | Msg::Settled { .. }
+        | Msg::Read { .. }
+        | Msg::ReadOk { .. } => msg.id(),
     }
 }
 
@@ -147,7 +176,16 @@ fn edges_of(msg: &Msg) -> &[Edge]
         Msg::StartOk { edges, .. } | Msg::Commit { edges, .. } | Msg::Known { edges, .. } => {
             edges.as_slice()
         }
-        Msg::Start { .. } | Msg::CommitOk { .. } | Msg::Fetch { .. } | Msg::Stop => &[],
+        Msg::Start { .. }
+        | Msg::CommitOk { .. }
+        | Msg::Fetch { .. }
+        | Msg::Stop
+        | Msg::Ended { .. }
+        | Msg::Settled { .. }
+        | Msg::Read { .. }
+        | Msg::ReadOk { .. }
+        | Msg::Drained { .. }
+        | Msg::Switched { .. } => &[],
     }
 }
 
@@ -161,17 +199,23 @@ fn facts_of(msg: &Msg) -> &[KnownList]
         | Msg::CommitOk { .. }
         | Msg::Fetch { .. }
         | Msg::Known { .. }
-        | Msg::Stop => &[],
+        | Msg::Stop
+        | Msg::Ended { .. }
+        | Msg::Settled { .. }
+        | Msg::Read { .. }
+        | Msg::ReadOk { .. }
+        | Msg::Drained { .. }
+        | Msg::Switched { .. } => &[],
     }
 }
 
-// Adds a message: its number, what it is, its id, sender and receiver, its predecessors and facts.
+// Adds a message: its number, what it is, its id or mark, sender and receiver, its predecessors and facts.
 fn push_sent(text: &mut String, number: u64, sent: &Envelope) -> Result<(), AllocError>
     ensures { OnOk result (string_bytes text.new ≡ string_bytes text.old ++ codes "send " ++ decimal number ++ spaced (message_text (shown_message sent.now))) }
 {
     let (from, to) = (sent.from, sent.to);
     write!(text, "send {number} {}", message_kind_text(&sent.msg))?;
-    if let Some(id) = sent.msg.id() {
+    if let Some(id) = named_by(&sent.msg) {
         write!(text, " {id}")?;
     }
     write!(text, " {from} {to}")?;
