@@ -7,7 +7,7 @@ use Rattle.roc_base.specs.declared.node.Node.{Node}
 use Rattle.roc_base.specs.declared.node.Node.TheVariants.{Server, Coord}
 use Rattle.roc_base.specs.Edge.{Dependency}
 use Rattle.roc_msg.specs.declared.msg.Msg.{Msg}
-use Rattle.roc_msg.specs.declared.msg.Msg.TheVariants.{Start, StartOk, Commit, CommitOk, Fetch, Known, Stop}
+use Rattle.roc_msg.specs.declared.msg.Msg.TheVariants.{StartOk}
 use Rattle.roc_msg.specs.declared.outbox.Outgoing.{Outgoing}
 use Rattle.roc_plan.specs.Groups.{Plan}
 use Rattle.roc_server.specs.First.{first_server}
@@ -47,12 +47,7 @@ module _ (plan : Plan) (s : CoordState) where
 
   any_tells : (msg : Msg) → Tells plan any_list any_ok any_call (λ t ok h k j. tt) s (λ x h. any_gathered x) (λ x g all. tt) msg
   any_tells (StartOk id group shard bound outs edges facts) = tt
-  any_tells (Start id proc group args inputs) = tt
-  any_tells (Commit id edges facts) = tt
-  any_tells (CommitOk id shard outs) = tt
-  any_tells (Fetch id asker) = tt
-  any_tells (Known id edges) = tt
-  any_tells Stop = tt
+  any_tells msg = tt
 
   pub message_round : (msg : Msg) (out : Outgoing) → Has out (after_message plan s msg).sends → IsRound out.msg
   message_round msg out h = ((message_gathered plan any_list any_ok any_call (λ t ok h k j. tt) s (λ x h. any_gathered x) (λ x g all. tt) msg (any_tells msg)).sends out h).1

@@ -16,7 +16,7 @@ use Rattle.roc_depgraph.specs.Deps.{list_of, is_known, IsKnown}
 use Rattle.roc_await.specs.declared.waits.OpenFetch.{OpenFetch}
 use Rattle.roc_await.specs.Waits.{askers_of}
 use Rattle.roc_msg.specs.declared.msg.Msg.{Msg}
-use Rattle.roc_msg.specs.declared.msg.Msg.TheVariants.{Start, StartOk, Commit, CommitOk, Fetch, Known, Stop}
+use Rattle.roc_msg.specs.declared.msg.Msg.TheVariants.{Start, StartOk, Commit, CommitOk, Fetch, Known}
 use Rattle.roc_msg.specs.declared.outbox.Outgoing.{Outgoing}
 use Rattle.roc_msg.specs.declared.reason.Reason.{Reason}
 use Rattle.roc_msg.specs.declared.reason.Reason.TheVariants.{NotHere, Foreign, Differs}
@@ -110,12 +110,8 @@ take_same plan (t ∷ ts) st =
 -- what a startok tells is what is kept of its group
 abbrev pub IsToldBy : Shard → List StartedGroup → Msg → Type 0
 IsToldBy shard started (StartOk id group at bound outs edges facts) = (at ≡ shard) × (e : StartedGroup) × (find_group id group started ≡ Some e) × (e.bound ≡ bound) × (e.outs ≡ outs) × (e.edges ≡ edges) × (e.facts ≡ facts)
-IsToldBy shard started (Start id proc group args inputs) = Unit {0}
-IsToldBy shard started (Commit id edges facts) = Unit {0}
 IsToldBy shard started (CommitOk id at outs) = (at ≡ shard) × (is_here id started ≡ true)
-IsToldBy shard started (Fetch id asker) = Unit {0}
-IsToldBy shard started (Known id edges) = Unit {0}
-IsToldBy shard started Stop = Unit {0}
+IsToldBy shard started msg = Unit {0}
 
 -- all of these lists are good
 abbrev pub AllGood : (TxnId → List Dependency → Type 0) → List KnownList → Type 0
@@ -124,12 +120,7 @@ AllGood Good lists = (k : KnownList) → Has k lists → Good k.of k.edges
 -- what is to start is here
 abbrev pub StartsHere : (TxnId → ℕ → Type 0) → Msg → Type 0
 StartsHere Here (Start id proc group args inputs) = Here id group
-StartsHere Here (StartOk id group at bound outs edges facts) = Unit {0}
-StartsHere Here (Commit id edges facts) = Unit {0}
-StartsHere Here (CommitOk id at outs) = Unit {0}
-StartsHere Here (Fetch id asker) = Unit {0}
-StartsHere Here (Known id edges) = Unit {0}
-StartsHere Here Stop = Unit {0}
+StartsHere Here msg = Unit {0}
 
 pub record HoldsGood (Good : TxnId → List Dependency → Type 0) (Here : TxnId → ℕ → Type 0) (v : ServerState) : Type 0 where
   pub groups : (e : StartedGroup) → Has e v.started → Here e.id e.group
@@ -320,9 +311,7 @@ module _ (plan : Plan) (Good : TxnId → List Dependency → Type 0) (Here : Txn
         go (Commit id edges facts) f found g k = commit_good f.before f.decided id edges facts g (commit_fault s id edges facts) refl
         go (Fetch id asker) f found g k = fetch_good id asker
         go (Known id edges) f found g k = known_good f.decided id edges (g (list_with id edges) (inl refl)) (known_fault s id edges)
-        go (StartOk id group shard bound outs edges facts) f found g k = ignores Foreign
-        go (CommitOk id shard outs) f found g k = ignores Foreign
-        go Stop f found g k = ignores Foreign
+        go msg f found g k = ignores Foreign
 
     pub tick_good : KeepsGood (answered s (tick_sends s))
     tick_good =

@@ -16,7 +16,7 @@ use Rattle.roc_base.specs.Equalities.{is_txn-true}
 use Rattle.roc_rows.specs.Store.{Store}
 use Rattle.roc_depgraph.proofs.Listed.{listed_one, in_one}
 use Rattle.roc_msg.specs.declared.msg.Msg.{Msg}
-use Rattle.roc_msg.specs.declared.msg.Msg.TheVariants.{Start, StartOk, Commit, CommitOk, Fetch, Known, Stop}
+use Rattle.roc_msg.specs.declared.msg.Msg.TheVariants.{StartOk, CommitOk}
 use Rattle.roc_msg.specs.declared.outbox.Outgoing.{Outgoing}
 use Rattle.roc_msg.specs.declared.reason.Reason.TheVariants.{Stale, Unfit}
 use Rattle.roc_plan.specs.Groups.{Plan}
@@ -300,11 +300,7 @@ module _ (plan : Plan) (asked : TxnId → whole.Call) (S : Scheme) (start : Stor
   pub message_coordinated : (msg : Msg) (to : Node) → Means plan asked S start c msg to → IsCoordinated (after_message plan s msg).state (after_message plan s msg).sends (answer_entries (after_message plan s msg).answer)
   message_coordinated (StartOk id group shard bound outs edges facts) to m = startok_explained (record { group = group; bound = bound; outs = outs; edges = edges; facts = facts }) shard id m.0 m.1 (find_transaction id s.pending) refl
   message_coordinated (CommitOk id shard outs) to m = commitok_explained (record { shard = shard; outs = outs }) id m.0 (find_transaction id s.pending) refl
-  message_coordinated (Start id proc group args inputs) to m = ignores
-  message_coordinated (Commit id edges facts) to m = ignores
-  message_coordinated (Fetch id asker) to m = ignores
-  message_coordinated (Known id edges) to m = ignores
-  message_coordinated Stop to m = ignores
+  message_coordinated msg to m = ignores
 
   pub tick_coordinated : IsCoordinated s (tick_sends plan s) []
   tick_coordinated =

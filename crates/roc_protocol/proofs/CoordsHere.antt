@@ -14,7 +14,7 @@ use Rattle.roc_base.specs.TxnId.{is_txn}
 use Rattle.roc_base.specs.Edge.{Dependency}
 use Rattle.roc_depgraph.specs.declared.known.KnownList.{KnownList}
 use Rattle.roc_msg.specs.declared.msg.Msg.{Msg}
-use Rattle.roc_msg.specs.declared.msg.Msg.TheVariants.{Start, StartOk, Commit, CommitOk, Fetch, Known, Stop}
+use Rattle.roc_msg.specs.declared.msg.Msg.TheVariants.{StartOk, Commit, CommitOk}
 use Rattle.roc_msg.specs.declared.outbox.Outgoing.{Outgoing}
 use Rattle.roc_msg.specs.declared.reason.Reason.{Reason}
 use Rattle.roc_msg.specs.declared.reason.Reason.TheVariants.{Stale, Unfit}
@@ -200,11 +200,7 @@ module _ (plan : Plan) (servers coords : ℕ) (some : 0 < plan.program.shards) (
     pub message_keeps : (msg : Msg) → NamesNodes servers coords msg → After (after_message plan s msg)
     message_keeps (StartOk id group shard bound outs edges facts) k = startok_keeps (record { group = group; bound = bound; outs = outs; edges = edges; facts = facts }) shard id k.0 k.1 (find_transaction id s.pending) refl
     message_keeps (CommitOk id shard outs) k = commitok_keeps (record { shard = shard; outs = outs }) id (find_transaction id s.pending) refl
-    message_keeps (Start id proc group args inputs) k = same [] tt
-    message_keeps (Commit id edges facts) k = same [] tt
-    message_keeps (Fetch id asker) k = same [] tt
-    message_keeps (Known id edges) k = same [] tt
-    message_keeps Stop k = same [] tt
+    message_keeps msg k = same [] tt
 
     pub tick_keeps : KeepsCoord s (tick_sends plan s)
     tick_keeps = same (tick_sends plan s) (all_flat (IsOutHere servers coords) (sent_again plan) s.pending (has_all (λ x. AreOutsHere (sent_again plan x)) s.pending (λ x h. again x (held x h) (all_started plan x))))

@@ -18,7 +18,7 @@ use Rattle.roc_depgraph.specs.Deps.{IsKnown, IsDecided}
 use Rattle.roc_await.specs.declared.waits.OpenFetch.{OpenFetch}
 use Rattle.roc_await.specs.declared.waits.Asker.{Asker}
 use Rattle.roc_msg.specs.declared.msg.Msg.{Msg}
-use Rattle.roc_msg.specs.declared.msg.Msg.TheVariants.{Start, StartOk, Commit, CommitOk, Fetch, Known, Stop}
+use Rattle.roc_msg.specs.declared.msg.Msg.TheVariants.{Start, StartOk, Commit, CommitOk, Fetch, Known}
 use Rattle.roc_msg.specs.declared.msg.Envelope.{Envelope}
 use Rattle.roc_msg.specs.declared.outbox.Outgoing.{Outgoing}
 use Rattle.roc_plan.specs.Groups.{Plan}
@@ -79,9 +79,7 @@ IsTaken servers sent (Fetch id asker) (Server shard) = IsAnsweredIn sent id aske
 IsTaken servers sent (Fetch id asker) (Coord number) = Unit {0}
 IsTaken servers sent (Known id edges) (Server shard) = At servers shard.0 (HasList id)
 IsTaken servers sent (Known id edges) (Coord number) = Unit {0}
-IsTaken servers sent (StartOk id group shard bound outs edges facts) to = Unit {0}
-IsTaken servers sent (CommitOk id shard outs) to = Unit {0}
-IsTaken servers sent Stop to = Unit {0}
+IsTaken servers sent msg to = Unit {0}
 
 -- what a server started, it was asked to; what it asked for, it sent a fetch for, until the list is known; and it seeks what lists name
 pub record Awaits (sent : List Envelope) (n : ℕ) (s : ServerState) : Type 0 where
@@ -125,9 +123,7 @@ module _ (sent more : List Envelope) where
   taken_more servers (Fetch id asker) (Coord number) k = tt
   taken_more servers (Known id edges) (Server shard) k = k
   taken_more servers (Known id edges) (Coord number) k = tt
-  taken_more servers (StartOk id group shard bound outs edges facts) to k = tt
-  taken_more servers (CommitOk id shard outs) to k = tt
-  taken_more servers Stop to k = tt
+  taken_more servers msg to k = tt
 
 get-more : (sent more : List Envelope) (k : ℕ) (m : Envelope) → slice_get (sent ++ more) k ≡ Some m → (slice_get sent k ≡ Some m) ⊎ (length sent ≤ k)
 get-more [] more k m e = inr (omega arith)
@@ -209,9 +205,7 @@ module _ (plan : Plan) (servers : List ServerState) (sent : List Envelope) (n : 
     | inr q ↦ q
   ]
   taken_later (Known id edges) (Coord m) k = tt
-  taken_later (StartOk id group shard bound outs edges facts) to k = tt
-  taken_later (CommitOk id shard outs) to k = tt
-  taken_later Stop to k = tt
+  taken_later msg to k = tt
 
   -- the message that is taken now leaves this
   pub taken_now : (msg : Msg) (shard : Shard) → n ≡ shard.0 → Takes plan s msg r → IsTaken after (sent ++ more) msg (Server shard)
@@ -232,9 +226,7 @@ module _ (plan : Plan) (servers : List ServerState) (sent : List Envelope) (n : 
   taken_now (Fetch id asker) shard same (inl k) = inl (answered_now id asker k)
   taken_now (Fetch id asker) shard same (inr k) = inr (at_here shard.0 (HasAsker id asker) same k)
   taken_now (Known id edges) shard same k = at_here shard.0 (HasList id) same k
-  taken_now (StartOk id group at bound outs edges facts) shard same k = tt
-  taken_now (CommitOk id at outs) shard same k = tt
-  taken_now Stop shard same k = tt
+  taken_now msg shard same k = tt
 
   -- and the server has sent what it waits for
   pub awaits_after : Awaits sent n s → Awaits (sent ++ more) n r.state

@@ -22,7 +22,7 @@ use Rattle.roc_await.specs.declared.waits.Asker.{Asker}
 use Rattle.roc_await.specs.Waits.{is_asked_before, is_asker_before, was_asked_for, with_asked, with_all_asked, askers_of}
 use Rattle.roc_await.proofs.Asking.{asked_still, asked_all}
 use Rattle.roc_msg.specs.declared.msg.Msg.{Msg}
-use Rattle.roc_msg.specs.declared.msg.Msg.TheVariants.{Start, StartOk, Commit, CommitOk, Fetch, Known, Stop}
+use Rattle.roc_msg.specs.declared.msg.Msg.TheVariants.{Start, Commit, Fetch, Known}
 use Rattle.roc_msg.specs.declared.msg.Envelope.{Envelope}
 use Rattle.roc_msg.specs.declared.outbox.Outgoing.{Outgoing}
 use Rattle.roc_msg.specs.declared.reason.Reason.{Reason}
@@ -50,11 +50,7 @@ abbrev pub FetchedFor : (For : TxnId → ℕ → Type 0) → Msg → Node → Ty
 FetchedFor For (Fetch id asker) to = For id asker.0
 FetchedFor For (Known id edges) (Server shard) = For id shard.0
 FetchedFor For (Known id edges) (Coord number) = Unit {0}
-FetchedFor For (Start id proc group args inputs) to = Unit {0}
-FetchedFor For (StartOk id group shard bound outs edges facts) to = Unit {0}
-FetchedFor For (Commit id edges facts) to = Unit {0}
-FetchedFor For (CommitOk id shard outs) to = Unit {0}
-FetchedFor For Stop to = Unit {0}
+FetchedFor For msg to = Unit {0}
 
 -- the one is asked for here, or the other was asked for by that shard
 abbrev pub IsFor : (For : TxnId → ℕ → Type 0) → ServerState → TxnId → ℕ → Type 0
@@ -159,9 +155,7 @@ module _ (plan : Plan) (For : TxnId → ℕ → Type 0) (s : ServerState) (waits
       go (Commit id edges facts) k = commit_fetches h.findings.before h.findings.decided id edges facts (commit_fault s id edges facts)
       go (Fetch id asker) k = fetch_fetches id asker k
       go (Known id edges) k = known_fetches h.findings.decided id edges (known_fault s id edges)
-      go (StartOk id group shard bound outs edges facts) k = ignores Foreign
-      go (CommitOk id shard outs) k = ignores Foreign
-      go Stop k = ignores Foreign
+      go msg k = ignores Foreign
 
   pub tick_fetches : KeepsFetches (answered s (tick_sends s))
   tick_fetches =
@@ -192,11 +186,7 @@ fetched_later : (P Q : TxnId → ℕ → Type 0) → ((t : TxnId) (n : ℕ) → 
 fetched_later P Q f (Fetch id asker) to k = f id asker.0 k
 fetched_later P Q f (Known id edges) (Server shard) k = f id shard.0 k
 fetched_later P Q f (Known id edges) (Coord number) k = tt
-fetched_later P Q f (Start id proc group args inputs) to k = tt
-fetched_later P Q f (StartOk id group shard bound outs edges facts) to k = tt
-fetched_later P Q f (Commit id edges facts) to k = tt
-fetched_later P Q f (CommitOk id shard outs) to k = tt
-fetched_later P Q f Stop to k = tt
+fetched_later P Q f msg to k = tt
 
 module _ (plan : Plan) (w : World) (o : HasAsked w) where
   pub served_asked : (n : ℕ) (s : ServerState) (there : slice_get w.servers n ≡ Some s) (r : ServerStep) → KeepsFetches plan (IsAskedFor w.servers) s (o.askers n s there) r → HasAsked (at_server w n r)
@@ -238,12 +228,7 @@ module _ (plan : Plan) (w : World) (o : HasAsked w) where
       of_round : (msg : Msg) (to : Node) → IsRound msg → FetchedFor (IsAskedFor w.servers) msg to
       of_round (Start id proc group args inputs) to k = tt
       of_round (Commit id edges facts) to k = tt
-      of_round (StartOk id group shard bound outs edges facts) to k = tt
-      of_round (CommitOk id shard outs) to k = absurd k
-      of_round (Fetch id asker) to k = absurd k
-      of_round (Known id edges) (Server shard) k = absurd k
-      of_round (Known id edges) (Coord number) k = tt
-      of_round Stop to k = tt
+      of_round msg to k = absurd k
 
   pub comes_asked : (k : ℕ) → HasAsked (mark_delivered w k)
   comes_asked k = record { numbers = o.numbers; sent = o.sent; askers = o.askers }

@@ -10,7 +10,7 @@ use Rattle.roc_base.specs.declared.node.Shard.{Shard}
 use Rattle.roc_base.specs.Edge.{Dependency}
 use Rattle.roc_depgraph.specs.declared.known.KnownList.{KnownList}
 use Rattle.roc_msg.specs.declared.msg.Msg.{Msg}
-use Rattle.roc_msg.specs.declared.msg.Msg.TheVariants.{Start, StartOk, Commit, CommitOk, Fetch, Known, Stop}
+use Rattle.roc_msg.specs.declared.msg.Msg.TheVariants.{Start, StartOk, Commit}
 use Rattle.roc_msg.specs.declared.msg.Envelope.{Envelope}
 use Rattle.roc_msg.specs.declared.outbox.Outgoing.{Outgoing}
 use Rattle.roc_plan.specs.Groups.{Plan, groups_of}
@@ -61,21 +61,12 @@ module _ (plan : Plan) (asked : TxnId → whole.Call) (S : Scheme) (is : IsSchem
 
     anywhere : (msg : Msg) → StartsHere (Anywhere plan asked S is laws) msg
     anywhere (StartOk id group shard bound outs edges facts) = tt
-    anywhere (Start id proc group args inputs) = tt
-    anywhere (Commit id edges facts) = tt
-    anywhere (CommitOk id shard outs) = tt
-    anywhere (Fetch id asker) = tt
-    anywhere (Known id edges) = tt
-    anywhere Stop = tt
+    anywhere msg = tt
 
     no_startok : (msg : Msg) → IsRound msg → IsToldHere w.servers msg
-    no_startok (StartOk id group shard bound outs edges facts) k = absurd k
     no_startok (Start id proc group args inputs) k = tt
     no_startok (Commit id edges facts) k = tt
-    no_startok (CommitOk id shard outs) k = absurd k
-    no_startok (Fetch id asker) k = tt
-    no_startok (Known id edges) k = tt
-    no_startok Stop k = tt
+    no_startok msg k = absurd k
 
     coordinated_networked : (n : ℕ) (s : CoordState) (there : slice_get w.coords n ≡ Some s) (after : CoordState) (outs : List Outgoing) (tells : List Entry) → Keeps n s there after outs → IsNetworked plan asked S is laws (at_coord w n after outs tells)
     coordinated_networked n s there after outs tells k =
@@ -106,12 +97,7 @@ module _ (plan : Plan) (asked : TxnId → whole.Call) (S : Scheme) (is : IsSchem
     tells : (m : Envelope) → Has m w.sent → (msg : Msg) → m.msg ≡ msg → ((k : KnownList) → Has k (lists_in msg) → Good plan asked S is laws w.sent k.of k.edges) → (n : ℕ) (s : CoordState) (there : slice_get w.coords n ≡ Some s)
         → Tells plan Goods (Told plan asked S is laws w.sent) (Calls plan asked S is laws) (told_facts plan asked S is laws w.sent) s (λ x h. nw.taken n s there x h) (gathered_good plan asked S is laws w log o nw) msg
     tells m h (StartOk id group shard bound outs edges facts) e good n s there = (record { message = m; has = h; shard = shard; bound = bound; outs = outs; is = e }, good)
-    tells m h (Start id proc group args inputs) e good n s there = tt
-    tells m h (Commit id edges facts) e good n s there = tt
-    tells m h (CommitOk id shard outs) e good n s there = tt
-    tells m h (Fetch id asker) e good n s there = tt
-    tells m h (Known id edges) e good n s there = tt
-    tells m h Stop e good n s there = tt
+    tells m h msg e good n s there = tt
 
     receive_networked : (m : Envelope) → Has m w.sent → (to : Node) (v : Outcome) → IsReceived plan w m.msg to v → IsNetworked plan asked S is laws v.world
     receive_networked m h (Server shard) v (s, r, there, step, e) = subst (λ (v : Outcome). IsNetworked plan asked S is laws v.world) (sym e)

@@ -11,7 +11,7 @@ use Rattle.roc_base.specs.Equalities.{is_txn-true}
 use Rattle.roc_base.specs.Edge.{Dependency}
 use Rattle.roc_depgraph.specs.declared.known.KnownList.{KnownList}
 use Rattle.roc_msg.specs.declared.msg.Msg.{Msg}
-use Rattle.roc_msg.specs.declared.msg.Msg.TheVariants.{Start, StartOk, Commit, CommitOk, Fetch, Known, Stop}
+use Rattle.roc_msg.specs.declared.msg.Msg.TheVariants.{Start, StartOk, Commit, CommitOk}
 use Rattle.roc_msg.specs.declared.outbox.Outgoing.{Outgoing}
 use Rattle.roc_msg.specs.declared.reason.Reason.{Reason}
 use Rattle.roc_plan.specs.Groups.{Plan}
@@ -29,13 +29,9 @@ use Rattle.roc_protocol.proofs.Facts.{has_fitting}
 
 -- a coordinator sends starts and commits alone
 abbrev pub IsRound : Msg → Type 0
-IsRound (StartOk id group shard bound outs edges facts) = ⊥
 IsRound (Start id proc group args inputs) = Unit {0}
 IsRound (Commit id edges facts) = Unit {0}
-IsRound (CommitOk id shard outs) = ⊥
-IsRound (Fetch id asker) = ⊥
-IsRound (Known id edges) = ⊥
-IsRound Stop = Unit {0}
+IsRound msg = ⊥
 
 module _ (plan : Plan) (Good : TxnId → List Dependency → Type 0) (Told : TxnId → TakenStart → Type 0) (Calls : TxnId → ℕ → Type 0) (facts_good : (t : TxnId) (ok : TakenStart) → Told t ok → (k : KnownList) → Has k ok.facts → Good k.of k.edges) where
   -- what is known of a transaction: each startok was told, and it is of this procedure
@@ -139,21 +135,12 @@ module _ (plan : Plan) (Good : TxnId → List Dependency → Type 0) (Told : Txn
     -- what a startok that comes tells
     abbrev pub Tells : Msg → Type 0
     Tells (StartOk id group shard bound outs edges facts) = Told id (record { group = group; bound = bound; outs = outs; edges = edges; facts = facts })
-    Tells (Start id proc group args inputs) = Unit {0}
-    Tells (Commit id edges facts) = Unit {0}
-    Tells (CommitOk id shard outs) = Unit {0}
-    Tells (Fetch id asker) = Unit {0}
-    Tells (Known id edges) = Unit {0}
-    Tells Stop = Unit {0}
+    Tells msg = Unit {0}
 
     pub message_gathered : (msg : Msg) → Tells msg → After (after_message plan s msg)
     message_gathered (StartOk id group shard bound outs edges facts) t = startok_gathered (record { group = group; bound = bound; outs = outs; edges = edges; facts = facts }) shard id t (find_transaction id s.pending) refl
     message_gathered (CommitOk id shard outs) t = commitok_gathered (record { shard = shard; outs = outs }) id (find_transaction id s.pending) refl
-    message_gathered (Start id proc group args inputs) t = ignores
-    message_gathered (Commit id edges facts) t = ignores
-    message_gathered (Fetch id asker) t = ignores
-    message_gathered (Known id edges) t = ignores
-    message_gathered Stop t = ignores
+    message_gathered msg t = ignores
 
     pub tick_gathered : KeepsGathered s (tick_sends plan s)
     tick_gathered = same (tick_sends plan s) (λ out h. let q = from_has_flat_map (sent_again plan) out s.pending h in again q.0 (old q.0 q.1) out (all_started plan q.0) refl q.2)

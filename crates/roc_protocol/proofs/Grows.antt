@@ -18,7 +18,7 @@ use Rattle.roc_base.specs.Edge.{Dependency}
 use Rattle.roc_rows.specs.Store.{Store}
 use Rattle.roc_depgraph.specs.declared.known.KnownList.{KnownList}
 use Rattle.roc_msg.specs.declared.msg.Msg.{Msg}
-use Rattle.roc_msg.specs.declared.msg.Msg.TheVariants.{Start, StartOk, Commit, CommitOk, Fetch, Known, Stop}
+use Rattle.roc_msg.specs.declared.msg.Msg.TheVariants.{Start, StartOk, Commit, CommitOk, Fetch, Known}
 use Rattle.roc_plan.specs.Groups.{Plan, groups_of, inputs_of, outs_of}
 use Rattle.roc_whole.specs.Serial as whole
 use Rattle.roc_law_orders.specs.Behaviour.{TxnGroup, is_txn_group, is_group_number}
@@ -158,7 +158,7 @@ module _ (plan : Plan) (asked : TxnId → whole.Call) (S : Scheme) (start : Stor
   means_grow (CommitOk id shard outs) to o = (done_grows id shard.0 outs o.0, o.1)
   means_grow (Fetch id asker) to o = begun_at_grows id to o
   means_grow (Known id edges) to o = (list_grows id edges o.0, o.1)
-  means_grow Stop to o = o
+  means_grow msg to o = o
 
   pub entry_grows : (s : ℕ) (e : StartedGroup) → EntryMeans plan asked S start c s e → EntryMeans plan asked S start d s e
   entry_grows s e o =

@@ -9,7 +9,7 @@ use Rattle.roc_base.specs.declared.node.Node.{Node}
 use Rattle.roc_base.specs.declared.node.Node.TheVariants.{Server, Coord}
 use Rattle.roc_base.specs.declared.node.Shard.{Shard}
 use Rattle.roc_msg.specs.declared.msg.Msg.{Msg}
-use Rattle.roc_msg.specs.declared.msg.Msg.TheVariants.{Start, StartOk, Commit, CommitOk, Fetch, Known, Stop}
+use Rattle.roc_msg.specs.declared.msg.Msg.TheVariants.{Start}
 use Rattle.roc_msg.specs.declared.msg.Envelope.{Envelope}
 use Rattle.roc_msg.specs.declared.outbox.Outgoing.{Outgoing}
 use Rattle.roc_plan.specs.Groups.{Plan}
@@ -54,12 +54,7 @@ pub record HasHeard (w : World) : Type 0 where
 -- the start that comes is in the network
 starts_here : (sent : List Envelope) (m : Envelope) → Has m sent → (n : ℕ) → m.to ≡ Server (record { 0 = n }) → (msg : Msg) → m.msg ≡ msg → StartsHere (IsStartedIn sent n) msg
 starts_here sent m h n to (Start id proc group args inputs) e = (proc, args, inputs, m, h, to, e)
-starts_here sent m h n to (StartOk id group at bound outs edges facts) e = tt
-starts_here sent m h n to (Commit id edges facts) e = tt
-starts_here sent m h n to (CommitOk id at outs) e = tt
-starts_here sent m h n to (Fetch id asker) e = tt
-starts_here sent m h n to (Known id edges) e = tt
-starts_here sent m h n to Stop e = tt
+starts_here sent m h n to msg e = tt
 
 module _ (plan : Plan) (w : World) (servers : (n : ℕ) (s : ServerState) → slice_get w.servers n ≡ Some s → Awaits w.sent n s) where
   -- ---- a step of a server
@@ -102,12 +97,7 @@ came_before w k at other d h = d (has_filter (λ n. not (n == k)) (suc at) w.und
 -- a message that comes to a coordinator leaves nothing that is asked for here
 coord_takes : (servers : List ServerState) (sent : List Envelope) (msg : Msg) (n : ℕ) → IsTaken servers sent msg (Coord n)
 coord_takes servers sent (Start id proc group args inputs) n = tt
-coord_takes servers sent (StartOk id group at bound outs edges facts) n = tt
-coord_takes servers sent (Commit id edges facts) n = tt
-coord_takes servers sent (CommitOk id at outs) n = tt
-coord_takes servers sent (Fetch id asker) n = tt
-coord_takes servers sent (Known id edges) n = tt
-coord_takes servers sent Stop n = tt
+coord_takes servers sent msg n = tt
 
 -- what is seen as done was taken
 was_done : (a : Handled) → server_seen a ≡ seen.Done → a ≡ Done

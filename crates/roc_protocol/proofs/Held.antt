@@ -10,7 +10,7 @@ use Rattle.roc_base.specs.declared.node.Shard.{Shard}
 use Rattle.roc_base.specs.TxnId.{is_txn}
 use Rattle.roc_base.proofs.Ids.{is_txn-eq}
 use Rattle.roc_msg.specs.declared.msg.Msg.{Msg}
-use Rattle.roc_msg.specs.declared.msg.Msg.TheVariants.{Start, StartOk, Commit, CommitOk, Fetch, Known, Stop}
+use Rattle.roc_msg.specs.declared.msg.Msg.TheVariants.{StartOk, CommitOk}
 use Rattle.roc_msg.specs.declared.reason.Reason.{Reason}
 use Rattle.roc_plan.specs.Groups.{Plan}
 use Rattle.roc_coord.specs.declared.transaction.Transaction.{Transaction}
@@ -136,11 +136,7 @@ module _ (plan : Plan) (s : CoordState) (once : (y z : Transaction) → Has y s.
           refused None (Some reply) =
               let old = λ (z : Transaction) (h : Has z (without_transaction s x.id).pending). (from_has_filter (λ (z : Transaction). not (is_txn z.id x.id)) z s.pending h).0 in
               record { from = λ y h. inl (y, old y h, record { id = refl; asked = λ g s k. k; whole = λ a b. (a, b) }); once = λ y z h k e. once y z (old y h) (old z k) e }
-  message_advances (Start id proc group args inputs) = stays plan s once
-  message_advances (Commit id edges facts) = stays plan s once
-  message_advances (Fetch id asker) = stays plan s once
-  message_advances (Known id edges) = stays plan s once
-  message_advances Stop = stays plan s once
+  message_advances msg = stays plan s once
 
   pub submission_advances : (proc : ℕ) (args : List ℤ) → ((x : Transaction) → Has x s.pending → x.id ≢ next_id s) → Advances plan s (accepted plan s (new_transaction s proc args)).state
   submission_advances proc args fresh =

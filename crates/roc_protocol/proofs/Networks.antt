@@ -18,7 +18,7 @@ use Rattle.roc_base.specs.Edges.{united}
 use Rattle.roc_depgraph.specs.declared.known.KnownList.{KnownList}
 use Rattle.roc_rows.specs.Store.{Store}
 use Rattle.roc_msg.specs.declared.msg.Msg.{Msg}
-use Rattle.roc_msg.specs.declared.msg.Msg.TheVariants.{Start, StartOk, Commit, CommitOk, Fetch, Known, Stop}
+use Rattle.roc_msg.specs.declared.msg.Msg.TheVariants.{StartOk, CommitOk}
 use Rattle.roc_msg.specs.declared.msg.Envelope.{Envelope}
 use Rattle.roc_msg.specs.declared.outbox.Outgoing.{Outgoing}
 use Rattle.roc_plan.specs.Groups.{Plan, groups_of}
@@ -56,12 +56,8 @@ union_more sent more n t es u = record { told = u.told; in_network = λ g l. (le
 -- the server of a shard keeps what a startok told
 abbrev pub IsToldHere : List ServerState → Msg → Type 0
 IsToldHere servers (StartOk id group at bound outs edges facts) = (s : ServerState) × (slice_get servers at.0 ≡ Some s) × IsToldBy at s.started (StartOk id group at bound outs edges facts)
-IsToldHere servers (Start id proc group args inputs) = Unit {0}
-IsToldHere servers (Commit id edges facts) = Unit {0}
 IsToldHere servers (CommitOk id at outs) = (s : ServerState) × (slice_get servers at.0 ≡ Some s) × (is_here id s.started ≡ true)
-IsToldHere servers (Fetch id asker) = Unit {0}
-IsToldHere servers (Known id edges) = Unit {0}
-IsToldHere servers Stop = Unit {0}
+IsToldHere servers msg = Unit {0}
 
 module _ (plan : Plan) (asked : TxnId → whole.Call) (S : Scheme) (is : IsSchemeOf plan asked S) (laws : LogLaws S (start_store plan.program)) where
   abbrev start : Store
@@ -130,12 +126,7 @@ module _ (plan : Plan) (asked : TxnId → whole.Call) (S : Scheme) (is : IsSchem
       where
         edges_in : Msg → List Dependency
         edges_in (StartOk id group at bound outs edges facts) = edges
-        edges_in (Start id proc group args inputs) = []
-        edges_in (Commit id edges facts) = []
-        edges_in (CommitOk id at outs) = []
-        edges_in (Fetch id asker) = []
-        edges_in (Known id edges) = []
-        edges_in Stop = []
+        edges_in msg = []
 
     -- so the union is one
     pub one_union : (t : TxnId) (es ds : List Dependency) → Good w.sent t es → Good w.sent t ds → es ≡ ds
@@ -228,12 +219,8 @@ module _ (plan : Plan) (asked : TxnId → whole.Call) (S : Scheme) (is : IsSchem
 
         new : (msg : Msg) → IsToldBy s.shard r.state.started msg → IsToldHere (slice_set w.servers n r.state) msg
         new (StartOk id group at bound outs edges facts) k = (r.state, subst (λ m. slice_get (slice_set w.servers n r.state) m ≡ Some r.state) (sym (ap (λ (s : Shard). s.0) k.0 ∙ number)) (get-set_here w.servers n s r.state there), (refl, k.1, k.2, k.3, k.4, k.5, k.6))
-        new (Start id proc group args inputs) k = tt
-        new (Commit id edges facts) k = tt
         new (CommitOk id at outs) k = (r.state, subst (λ m. slice_get (slice_set w.servers n r.state) m ≡ Some r.state) (sym (ap (λ (s : Shard). s.0) k.0 ∙ number)) (get-set_here w.servers n s r.state there), k.1)
-        new (Fetch id asker) k = tt
-        new (Known id edges) k = tt
-        new Stop k = tt
+        new msg k = tt
 
         still : (msg : Msg) → IsToldHere w.servers msg → IsToldHere (slice_set w.servers n r.state) msg
         still (StartOk id group at bound outs edges facts) (v, e, k) = elim (cases_eq n at.0) [
@@ -243,14 +230,10 @@ module _ (plan : Plan) (asked : TxnId → whole.Call) (S : Scheme) (is : IsSchem
               (r.state, subst (λ m. slice_get (slice_set w.servers n r.state) m ≡ Some r.state) same (get-set_here w.servers n s r.state there), (refl, f.0, f.1, ap (λ (e : StartedGroup). e.bound) f.2 ∙ k.3, ap (λ (e : StartedGroup). e.outs) f.2 ∙ k.4, ap (λ (e : StartedGroup). e.edges) f.2 ∙ k.5, ap (λ (e : StartedGroup). e.facts) f.2 ∙ k.6)))
           | inr other ↦ (v, get-set_other w.servers n at.0 r.state other ∙ e, k)
         ]
-        still (Start id proc group args inputs) k = tt
-        still (Commit id edges facts) k = tt
         still (CommitOk id at outs) (v, e, k) = elim (cases_eq n at.0) [
           | inl same ↦
               (let mine : v ≡ s = (let a = subst (λ m. slice_get w.servers m ≡ Some v) (sym same) e in let b = there in cc) in
               (r.state, subst (λ m. slice_get (slice_set w.servers n r.state) m ≡ Some r.state) same (get-set_here w.servers n s r.state there), g.here id (subst (λ (v : ServerState). is_here id v.started ≡ true) mine k)))
           | inr other ↦ (v, get-set_other w.servers n at.0 r.state other ∙ e, k)
         ]
-        still (Fetch id asker) k = tt
-        still (Known id edges) k = tt
-        still Stop k = tt
+        still msg k = tt

@@ -13,7 +13,7 @@ use Rattle.roc_depgraph.specs.Deps.{list_of, is_known}
 use Rattle.roc_await.specs.declared.waits.OpenFetch.{OpenFetch}
 use Rattle.roc_await.specs.Waits.{askers_of}
 use Rattle.roc_msg.specs.declared.msg.Msg.{Msg}
-use Rattle.roc_msg.specs.declared.msg.Msg.TheVariants.{Start, StartOk, Commit, CommitOk, Fetch, Known, Stop}
+use Rattle.roc_msg.specs.declared.msg.Msg.TheVariants.{Start, Commit, Fetch, Known}
 use Rattle.roc_msg.specs.declared.outbox.Outgoing.{Outgoing}
 use Rattle.roc_msg.specs.declared.reason.Reason.{Reason}
 use Rattle.roc_msg.specs.declared.reason.Reason.TheVariants.{NotHere}
@@ -88,9 +88,7 @@ module _ (plan : Plan) (s : ServerState) (Of : TxnId → Type 0) where
   no_starts f (Commit id edges facts) out h = commit_none f.before f.decided id edges facts (commit_fault s id edges facts) out h
   no_starts f (Fetch id asker) out h = fetch_none id asker out h
   no_starts f (Known id edges) out h = known_none f.decided id edges (known_fault s id edges) out h
-  no_starts f (StartOk id group shard bound outs edges facts) out h = absurd h
-  no_starts f (CommitOk id shard outs) out h = absurd h
-  no_starts f Stop out h = absurd h
+  no_starts f msg out h = absurd h
 
   pub no_starts_at_tick : SendsNone (answered s (tick_sends s))
   no_starts_at_tick out h = let q = from_has_map (fetch_from s.shard) out (filter (λ (a : OpenFetch). not (is_known s.lists.known a.id)) s.lists.waiting.asked) h in subst (λ (out : Outgoing). StartsAre Of out.msg) (sym q.2) tt

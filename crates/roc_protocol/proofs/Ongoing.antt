@@ -11,7 +11,7 @@ use Rattle.roc_base.specs.declared.node.Node.{Node}
 use Rattle.roc_base.specs.declared.node.Node.TheVariants.{Server, Coord}
 use Rattle.roc_base.specs.TxnId.{is_txn}
 use Rattle.roc_msg.specs.declared.msg.Msg.{Msg}
-use Rattle.roc_msg.specs.declared.msg.Msg.TheVariants.{Start, StartOk, Commit, CommitOk, Fetch, Known, Stop}
+use Rattle.roc_msg.specs.declared.msg.Msg.TheVariants.{Start, StartOk, CommitOk}
 use Rattle.roc_msg.specs.declared.msg.Envelope.{Envelope}
 use Rattle.roc_msg.specs.declared.outbox.Outgoing.{Outgoing}
 use Rattle.roc_plan.specs.Groups.{Plan}
@@ -114,20 +114,12 @@ module _ (plan : Plan) (asked : TxnId → whole.Call) (S : Scheme) (is : IsSchem
   abbrev TakenSubmitted : Msg → Type 0
   TakenSubmitted (StartOk id group shard bound outs edges facts) = WasSubmitted w.history id
   TakenSubmitted (CommitOk id shard outs) = WasSubmitted w.history id
-  TakenSubmitted (Start id proc group args inputs) = Unit {0}
-  TakenSubmitted (Commit id edges facts) = Unit {0}
-  TakenSubmitted (Fetch id asker) = Unit {0}
-  TakenSubmitted (Known id edges) = Unit {0}
-  TakenSubmitted Stop = Unit {0}
+  TakenSubmitted msg = Unit {0}
 
   taken_submitted : (msg : Msg) (to : Node) → Means plan asked S (start_store plan.program) log msg to → TakenSubmitted msg
   taken_submitted (StartOk id group shard bound outs edges facts) to m = l.began (run_of id group) m.0.began
   taken_submitted (CommitOk id shard outs) to m = ordered_submitted plan asked S is laws w log l id (subst (λ l. IsListed is_txn l id) (sym l.means.order) (i.in_order shard.0 id m.0.decided))
-  taken_submitted (Start id proc group args inputs) to m = tt
-  taken_submitted (Commit id edges facts) to m = tt
-  taken_submitted (Fetch id asker) to m = tt
-  taken_submitted (Known id edges) to m = tt
-  taken_submitted Stop to m = tt
+  taken_submitted msg to m = tt
 
   -- ---- a step of a coordinator
 
@@ -142,11 +134,7 @@ module _ (plan : Plan) (asked : TxnId → whole.Call) (S : Scheme) (is : IsSchem
     taken_later : (msg : Msg) → TakenSubmitted msg → IsTakenBy s.pending msg → IsTakenBy after.pending msg
     taken_later (StartOk id group shard bound outs edges facts) was k = λ y h e. let q = old_one y h (subst (WasSubmitted w.history) (sym e) was) in q.2.startoks group (k q.0 q.1 (sym q.2.id ∙ e))
     taken_later (CommitOk id shard outs) was k = λ y h e. let q = old_one y h (subst (WasSubmitted w.history) (sym e) was) in q.2.commitoks shard (k q.0 q.1 (sym q.2.id ∙ e))
-    taken_later (Start id proc group args inputs) was k = tt
-    taken_later (Commit id edges facts) was k = tt
-    taken_later (Fetch id asker) was k = tt
-    taken_later (Known id edges) was k = tt
-    taken_later Stop was k = tt
+    taken_later msg was k = tt
 
     -- a message that was taken stays taken
     pub still_taken : (m : Envelope) → Has m w.sent → (number : ℕ) (c : CoordState) → ((d : CoordState) → slice_get w.coords number ≡ Some d → IsTakenBy d.pending m.msg) → slice_get coords number ≡ Some c → IsTakenBy c.pending m.msg

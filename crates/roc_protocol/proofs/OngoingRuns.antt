@@ -9,7 +9,7 @@ use Rattle.roc_base.specs.declared.node.Node.{Node}
 use Rattle.roc_base.specs.declared.node.Node.TheVariants.{Server, Coord}
 use Rattle.roc_base.specs.declared.node.Shard.{Shard}
 use Rattle.roc_msg.specs.declared.msg.Msg.{Msg}
-use Rattle.roc_msg.specs.declared.msg.Msg.TheVariants.{Start, StartOk, Commit, CommitOk, Fetch, Known, Stop}
+use Rattle.roc_msg.specs.declared.msg.Msg.TheVariants.{Start, StartOk}
 use Rattle.roc_msg.specs.declared.msg.Envelope.{Envelope}
 use Rattle.roc_msg.specs.declared.outbox.Outgoing.{Outgoing}
 use Rattle.roc_plan.specs.Groups.{Plan, groups_of}
@@ -103,11 +103,7 @@ module _ (plan : Plan) (asked : TxnId → whole.Call) (S : Scheme) (is : IsSchem
           (subst (λ t. group < length (groups_of plan (asked t).procedure)) (sym e) below)),
     )
     of_group n s there (Start id proc group args inputs) m = tt
-    of_group n s there (Commit id edges facts) m = tt
-    of_group n s there (CommitOk id shard outs) m = tt
-    of_group n s there (Fetch id asker) m = tt
-    of_group n s there (Known id edges) m = tt
-    of_group n s there Stop m = tt
+    of_group n s there msg m = tt
 
     module _ (n : ℕ) (s : CoordState) (there : slice_get w.coords n ≡ Some s) where
       is_whole : (x : Transaction) → Has x s.pending → (a : Shard) → Has a x.asked → all_started plan x ≡ true

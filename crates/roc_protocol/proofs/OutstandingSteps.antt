@@ -13,7 +13,7 @@ use Rattle.roc_base.specs.TxnId.{is_txn}
 use Rattle.roc_base.specs.Equalities.{is_txn-true}
 use Rattle.roc_base.proofs.Ids.{is_txn-eq}
 use Rattle.roc_msg.specs.declared.msg.Msg.{Msg}
-use Rattle.roc_msg.specs.declared.msg.Msg.TheVariants.{Start, StartOk, Commit, CommitOk, Fetch, Known, Stop}
+use Rattle.roc_msg.specs.declared.msg.Msg.TheVariants.{StartOk, CommitOk}
 use Rattle.roc_msg.specs.declared.msg.Envelope.{Envelope}
 use Rattle.roc_msg.specs.declared.outbox.Outgoing.{Outgoing}
 use Rattle.roc_msg.specs.declared.reason.Reason.TheVariants.{Stale, Unfit}
@@ -45,12 +45,7 @@ pub record Proceeds (plan : Plan) (sent : List Envelope) (from : Node) (s after 
 -- a startok is of a group of its procedure, from one of few shards
 abbrev pub IsOfGroup : Plan → List Transaction → Msg → Type 0
 IsOfGroup plan pending (StartOk id group shard bound outs edges facts) = (shard.0 < 64) × ((x : Transaction) → Has x pending → x.id ≡ id → Has group (group_numbers plan x.proc))
-IsOfGroup plan pending (Start id proc group args inputs) = Unit {0}
-IsOfGroup plan pending (Commit id edges facts) = Unit {0}
-IsOfGroup plan pending (CommitOk id shard outs) = Unit {0}
-IsOfGroup plan pending (Fetch id asker) = Unit {0}
-IsOfGroup plan pending (Known id edges) = Unit {0}
-IsOfGroup plan pending Stop = Unit {0}
+IsOfGroup plan pending msg = Unit {0}
 
 module _ (plan : Plan) (sent : List Envelope) (from : Node) (s : CoordState) (once : (y z : Transaction) → Has y s.pending → Has z s.pending → y.id ≡ z.id → y ≡ z)
     (old : (x : Transaction) → Has x s.pending → IsOutstanding plan sent x) (whole : (x : Transaction) → Has x s.pending → (a : Shard) → Has a x.asked → all_started plan x ≡ true) where
@@ -173,11 +168,7 @@ module _ (plan : Plan) (sent : List Envelope) (from : Node) (s : CoordState) (on
   pub message_goes_on : (msg : Msg) → IsOfGroup plan s.pending msg → Goes (after_message plan s msg).state (after_message plan s msg).sends (answer_entries (after_message plan s msg).answer)
   message_goes_on (StartOk id group shard bound outs edges facts) f = startok_goes_on (record { group = group; bound = bound; outs = outs; edges = edges; facts = facts }) shard id f.0 f.1 (find_transaction id s.pending) refl
   message_goes_on (CommitOk id shard outs) f = commitok_goes_on (record { shard = shard; outs = outs }) id (find_transaction id s.pending) refl
-  message_goes_on (Start id proc group args inputs) f = same []
-  message_goes_on (Commit id edges facts) f = same []
-  message_goes_on (Fetch id asker) f = same []
-  message_goes_on (Known id edges) f = same []
-  message_goes_on Stop f = same []
+  message_goes_on msg f = same []
 
   -- a submission that is accepted
   pub submission_goes_on : (proc : ℕ) (args : List ℤ) (g : ℕ) → Has g (group_numbers plan proc) → (tells : List Entry) → ((t : TxnId) (reply : List ℤ) → ¬ Has (entry.Answered t reply) tells)

@@ -9,7 +9,7 @@ use Rattle.roc_base.specs.declared.node.Node.TheVariants.{Server, Coord}
 use Rattle.roc_base.specs.Edge.{Dependency}
 use Rattle.roc_depgraph.specs.declared.known.KnownList.{KnownList}
 use Rattle.roc_msg.specs.declared.msg.Msg.{Msg}
-use Rattle.roc_msg.specs.declared.msg.Msg.TheVariants.{Start, StartOk, Commit, CommitOk, Fetch, Known, Stop}
+use Rattle.roc_msg.specs.declared.msg.Msg.TheVariants.{Start, StartOk, Commit, Known}
 use Rattle.roc_msg.specs.declared.msg.Envelope.{Envelope}
 use Rattle.roc_msg.specs.declared.outbox.Outgoing.{Outgoing}
 use Rattle.roc_plan.specs.Groups.{Plan}
@@ -47,12 +47,7 @@ IsWholeAt plan coords t = (c : CoordState) (x : Transaction) → slice_get coord
 abbrev pub StartsOn : List CoordState → Msg → Node → Type 0
 StartsOn coords (Start id proc group args inputs) (Server shard) = AskedBy coords id group shard.0
 StartsOn coords (Start id proc group args inputs) (Coord n) = Unit {0}
-StartsOn coords (StartOk id group at bound outs edges facts) to = Unit {0}
-StartsOn coords (Commit id edges facts) to = Unit {0}
-StartsOn coords (CommitOk id at outs) to = Unit {0}
-StartsOn coords (Fetch id asker) to = Unit {0}
-StartsOn coords (Known id edges) to = Unit {0}
-StartsOn coords Stop to = Unit {0}
+StartsOn coords msg to = Unit {0}
 
 pub record IsPending (plan : Plan) (w : World) : Type 0 where
   pub own : (n : ℕ) (c : CoordState) → slice_get w.coords n ≡ Some c → (x : Transaction) → Has x c.pending → x.id.coord ≡ n
@@ -65,21 +60,11 @@ pub record IsPending (plan : Plan) (w : World) : Type 0 where
 
 pub starts_here : (coords : List CoordState) (msg : Msg) (n : ℕ) → StartsOn coords msg (Server (record { 0 = n })) → StartsHere (λ t g. AskedBy coords t g n) msg
 starts_here coords (Start id proc group args inputs) n k = k
-starts_here coords (StartOk id group at bound outs edges facts) n k = tt
-starts_here coords (Commit id edges facts) n k = tt
-starts_here coords (CommitOk id at outs) n k = tt
-starts_here coords (Fetch id asker) n k = tt
-starts_here coords (Known id edges) n k = tt
-starts_here coords Stop n k = tt
+starts_here coords msg n k = tt
 
 no_start_on : (coords : List CoordState) (msg : Msg) (to : Node) → StartsAre (λ t. ⊥) msg → StartsOn coords msg to
 no_start_on coords (Start id proc group args inputs) to k = absurd k
-no_start_on coords (StartOk id group at bound outs edges facts) to k = tt
-no_start_on coords (Commit id edges facts) to k = tt
-no_start_on coords (CommitOk id at outs) to k = tt
-no_start_on coords (Fetch id asker) to k = tt
-no_start_on coords (Known id edges) to k = tt
-no_start_on coords Stop to k = tt
+no_start_on coords msg to k = tt
 
 pub served_pending : (plan : Plan) (w : World) → IsPending plan w → (n : ℕ) (s : ServerState) (there : slice_get w.servers n ≡ Some s) (r : ServerStep)
     → KeepsGood plan (λ t es. IsWholeAt plan w.coords t) (λ t g. AskedBy w.coords t g n) s r → ((out : Outgoing) → Has out r.sends → StartsAre (λ t. ⊥) out.msg) → IsPending plan (at_server w n r)
@@ -132,20 +117,12 @@ module _ (plan : Plan) (asked : TxnId → whole.Call) (S : Scheme) (is : IsSchem
   carried_submitted (StartOk id group at bound outs edges facts) to m k h = list_submitted k.of k.edges (m.0.facts k h)
   carried_submitted (Commit id edges facts) to m k h = list_submitted k.of k.edges (m.0 k h)
   carried_submitted (Known id edges) to m k h = subst (λ (k : KnownList). WasSubmitted w.history k.of) (sym (has_one k (record { of = id; edges = edges }) h)) (list_submitted id edges m.0)
-  carried_submitted (Start id proc group args inputs) to m k h = absurd h
-  carried_submitted (CommitOk id at outs) to m k h = absurd h
-  carried_submitted (Fetch id asker) to m k h = absurd h
-  carried_submitted Stop to m k h = absurd h
+  carried_submitted msg to m k h = absurd h
 
   starts_later : (msg : Msg) (to : Node) → StartsAre (WasSubmitted w.history) msg → StartsOn w.coords msg to → StartsOn coords msg to
   starts_later (Start id proc group args inputs) (Server shard) f k = asked_later id group shard.0 f k
   starts_later (Start id proc group args inputs) (Coord n) f k = tt
-  starts_later (StartOk id group at bound outs edges facts) to f k = tt
-  starts_later (Commit id edges facts) to f k = tt
-  starts_later (CommitOk id at outs) to f k = tt
-  starts_later (Fetch id asker) to f k = tt
-  starts_later (Known id edges) to f k = tt
-  starts_later Stop to f k = tt
+  starts_later msg to f k = tt
 
   pub lists_later : (m : Envelope) → Has m w.sent → (k : KnownList) → Has k (lists_in m.msg) → IsWholeAt plan coords k.of
   lists_later m h k j = whole_later k.of (carried_submitted m.msg m.to (l.means.messages m h) k j) (o.lists m h k j)

@@ -15,7 +15,7 @@ use Rattle.roc_base.proofs.Ids.{is_txn-eq}
 use Rattle.roc_base.specs.Edge.{Dependency}
 use Rattle.roc_depgraph.specs.declared.known.KnownList.{KnownList}
 use Rattle.roc_msg.specs.declared.msg.Msg.{Msg}
-use Rattle.roc_msg.specs.declared.msg.Msg.TheVariants.{Start, StartOk, Commit, CommitOk, Fetch, Known, Stop}
+use Rattle.roc_msg.specs.declared.msg.Msg.TheVariants.{StartOk, CommitOk}
 use Rattle.roc_msg.specs.declared.msg.Envelope.{Envelope}
 use Rattle.roc_msg.specs.declared.outbox.Outgoing.{Outgoing}
 use Rattle.roc_msg.specs.declared.reason.Reason.{Reason}
@@ -139,11 +139,7 @@ module _ (plan : Plan) (asked : TxnId → whole.Call) (S : Scheme) (is : IsSchem
       message_pending : (m : Envelope) → Has m w.sent → (msg : Msg) → m.msg ≡ msg → Advances plan s (after_message plan s msg).state → Result n (after_message plan s msg).state (after_message plan s msg).sends
       message_pending m has (StartOk id group shard bound outs edges facts) e a = startok_pending m has id group shard bound outs edges facts e (find_transaction id s.pending) refl a
       message_pending m has (CommitOk id shard outs) e a = commitok_pending (record { shard = shard; outs = outs }) (find_transaction id s.pending) a
-      message_pending m has (Start id proc group args inputs) e a = silent s a
-      message_pending m has (Commit id edges facts) e a = silent s a
-      message_pending m has (Fetch id asker) e a = silent s a
-      message_pending m has (Known id edges) e a = silent s a
-      message_pending m has Stop e a = silent s a
+      message_pending m has msg e a = silent s a
 
       -- ---- a tick
 

@@ -20,7 +20,7 @@ use Rattle.roc_depgraph.proofs.Listed.{has_listed}
 use Rattle.roc_await.specs.declared.waits.OpenFetch.{OpenFetch}
 use Rattle.roc_await.specs.Waits.{askers_of}
 use Rattle.roc_msg.specs.declared.msg.Msg.{Msg}
-use Rattle.roc_msg.specs.declared.msg.Msg.TheVariants.{Start, StartOk, Commit, CommitOk, Fetch, Known, Stop}
+use Rattle.roc_msg.specs.declared.msg.Msg.TheVariants.{Start, Commit, Fetch, Known}
 use Rattle.roc_msg.specs.declared.outbox.Outgoing.{Outgoing}
 use Rattle.roc_msg.specs.declared.reason.Reason.{Reason}
 use Rattle.roc_msg.specs.declared.reason.Reason.TheVariants.{NotHere, Foreign}
@@ -66,12 +66,7 @@ list_has (k ∷ known) id edges h = go (is_txn k.of id) refl h (list_has known i
 -- of what a start is
 abbrev pub StartsAre : (TxnId → Type 0) → Msg → Type 0
 StartsAre Of (Start id proc group args inputs) = Of id
-StartsAre Of (StartOk id group shard bound outs edges facts) = Unit {0}
-StartsAre Of (Commit id edges facts) = Unit {0}
-StartsAre Of (CommitOk id shard outs) = Unit {0}
-StartsAre Of (Fetch id asker) = Unit {0}
-StartsAre Of (Known id edges) = Unit {0}
-StartsAre Of Stop = Unit {0}
+StartsAre Of msg = Unit {0}
 
 module _ (plan : Plan) (asked : TxnId → whole.Call) (S : Scheme) (start : Store) (is : IsSchemeOf plan asked S) (laws : LogLaws S start) (c : Log) (w : World) (o : WorldMeans plan asked S start c w) (n : ℕ) (s : ServerState) (there : slice_get w.servers n ≡ Some s) (Fresh : TxnId → Type 0) where
   -- some steps of the log explain the world after a step of the server
@@ -273,9 +268,7 @@ module _ (plan : Plan) (asked : TxnId → whole.Call) (S : Scheme) (start : Stor
       go (Commit id edges facts) f found m k = commit_explained f id edges facts found m.0
       go (Fetch id asker) f found m k = fetch_explained id asker
       go (Known id edges) f found m k = known_explained f id edges found m.0
-      go (StartOk id group shard bound outs edges facts) f found m k = ignores Foreign
-      go (CommitOk id shard outs) f found m k = ignores Foreign
-      go Stop f found m k = ignores Foreign
+      go msg f found m k = ignores Foreign
 
   pub tick_explained : IsExplained (answered s (tick_sends s))
   tick_explained =

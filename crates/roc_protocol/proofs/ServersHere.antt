@@ -21,7 +21,7 @@ use Rattle.roc_await.specs.declared.waits.OpenFetch.{OpenFetch}
 use Rattle.roc_await.specs.declared.waits.Asker.{Asker}
 use Rattle.roc_await.specs.Waits.{is_asked_before, is_asker_before, with_asked, with_all_asked, askers_of}
 use Rattle.roc_msg.specs.declared.msg.Msg.{Msg}
-use Rattle.roc_msg.specs.declared.msg.Msg.TheVariants.{Start, StartOk, Commit, CommitOk, Fetch, Known, Stop}
+use Rattle.roc_msg.specs.declared.msg.Msg.TheVariants.{Start, Commit, Fetch, Known}
 use Rattle.roc_msg.specs.declared.outbox.Outgoing.{Outgoing}
 use Rattle.roc_msg.specs.declared.reason.Reason.{Reason}
 use Rattle.roc_msg.specs.declared.reason.Reason.TheVariants.{NotHere, Foreign, Differs, Late, BadProc, BadGroup, BadInputs}
@@ -258,9 +258,7 @@ module _ (plan : Plan) (servers coords : ℕ) (s : ServerState) (own : s.shard.0
       go (Commit id edges facts) f found k = commit_keeps f.before f.decided id edges facts k.0 k.1 (commit_fault s id edges facts) refl
       go (Fetch id asker) f found k = fetch_keeps id asker k
       go (Known id edges) f found k = known_keeps f.decided id edges k (known_fault s id edges)
-      go (StartOk id group shard bound outs edges facts) f found k = ignores Foreign
-      go (CommitOk id shard outs) f found k = ignores Foreign
-      go Stop f found k = ignores Foreign
+      go msg f found k = ignores Foreign
 
   pub tick_keeps : KeepsServer (answered s (tick_sends s))
   tick_keeps = answers (tick_sends s) (fetches_here (filter (λ (a : OpenFetch). not (is_known s.lists.known a.id)) s.lists.waiting.asked) (all_filter (λ (a : OpenFetch). a.at.0 < servers) (λ (a : OpenFetch). not (is_known s.lists.known a.id)) s.lists.waiting.asked here.asked))

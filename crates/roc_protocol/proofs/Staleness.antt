@@ -17,7 +17,7 @@ use Rattle.roc_base.specs.Edge.{Dependency}
 use Rattle.roc_program.specs.Values.{value_of_name}
 use Rattle.roc_depgraph.specs.declared.known.KnownList.{KnownList}
 use Rattle.roc_msg.specs.declared.msg.Msg.{Msg}
-use Rattle.roc_msg.specs.declared.msg.Msg.TheVariants.{Start, StartOk, Commit, CommitOk, Fetch, Known, Stop}
+use Rattle.roc_msg.specs.declared.msg.Msg.TheVariants.{Start, StartOk, Commit, CommitOk, Known}
 use Rattle.roc_msg.specs.declared.msg.Envelope.{Envelope}
 use Rattle.roc_msg.specs.declared.reason.Reason.{Reason}
 use Rattle.roc_msg.specs.declared.reason.Reason.TheVariants.{Stale, Unfit}
@@ -197,6 +197,5 @@ module _ (plan : Plan) (asked : TxnId → whole.Call) (S : Scheme) (is : IsSchem
       go (CommitOk id shard outs) f e = commitok id shard outs f (find_transaction id s.pending) refl e
       go (Start id proc group args inputs) f e = let k = (server_alone (Start id proc group args inputs) f).to in absurd (cc)
       go (Commit id edges facts) f e = absurd ((server_alone (Commit id edges facts) f).1)
-      go (Fetch id asker) f e = absurd (server_alone (Fetch id asker) f)
       go (Known id edges) f e = absurd ((server_alone (Known id edges) f).1)
-      go Stop f e = absurd (server_alone Stop f)
+      go msg f e = absurd (server_alone msg f)

@@ -6,7 +6,7 @@ use Rattle.roc_sequence.specs.Lists.{Has}
 use Rattle.roc_sequence.proofs.Members.{has_append, has_one}
 use Rattle.roc_base.specs.declared.id.TxnId.{TxnId}
 use Rattle.roc_msg.specs.declared.msg.Msg.{Msg}
-use Rattle.roc_msg.specs.declared.msg.Msg.TheVariants.{Start, StartOk, Commit, CommitOk, Fetch, Known, Stop}
+use Rattle.roc_msg.specs.declared.msg.Msg.TheVariants.{StartOk, CommitOk}
 use Rattle.roc_msg.specs.declared.reason.Reason.{Reason}
 use Rattle.roc_plan.specs.Groups.{Plan, procedure_of, is_transaction}
 use Rattle.roc_coord.specs.declared.handled.Handled.{Handled}
@@ -60,11 +60,7 @@ keeps_number plan s (CommitOk id shard outs) = go (find_transaction id s.pending
         refused (Some why) reply = record { number = refl; next = refl }
         refused None (Some reply) = record { number = refl; next = refl }
         refused None None = record { number = refl; next = refl }
-keeps_number plan s (Start id proc group args inputs) = record { number = refl; next = refl }
-keeps_number plan s (Commit id edges facts) = record { number = refl; next = refl }
-keeps_number plan s (Fetch id asker) = record { number = refl; next = refl }
-keeps_number plan s (Known id edges) = record { number = refl; next = refl }
-keeps_number plan s Stop = record { number = refl; next = refl }
+keeps_number plan s msg = record { number = refl; next = refl }
 
 pub no_submission : (a : Handled) (t : TxnId) (p : ℕ) (args : List ℤ) → ¬ Has (Submitted t p args) (answer_entries a)
 no_submission (answer.Answered id reply) t p args (inl e) = absurd (cc)

@@ -12,7 +12,7 @@ use Rattle.roc_base.specs.TxnId.{is_txn}
 use Rattle.roc_base.specs.Equalities.{is_txn-true}
 use Rattle.roc_base.proofs.Ids.{is_txn-eq}
 use Rattle.roc_msg.specs.declared.msg.Msg.{Msg}
-use Rattle.roc_msg.specs.declared.msg.Msg.TheVariants.{Start, StartOk, Commit, CommitOk, Fetch, Known, Stop}
+use Rattle.roc_msg.specs.declared.msg.Msg.TheVariants.{StartOk, CommitOk}
 use Rattle.roc_msg.specs.declared.reason.Reason.{Reason}
 use Rattle.roc_msg.specs.declared.reason.Reason.TheVariants.{Stale, Unfit}
 use Rattle.roc_plan.specs.Groups.{Plan}
@@ -70,11 +70,7 @@ commitok_more x ok =
 abbrev pub IsTakenBy : List Transaction → Msg → Type 0
 IsTakenBy pending (StartOk id group shard bound outs edges facts) = (x : Transaction) → Has x pending → x.id ≡ id → is_some (find_startok group x.startoks) ≡ true
 IsTakenBy pending (CommitOk id shard outs) = (x : Transaction) → Has x pending → x.id ≡ id → has_commitok shard x.commitoks ≡ true
-IsTakenBy pending (Start id proc group args inputs) = Unit {0}
-IsTakenBy pending (Commit id edges facts) = Unit {0}
-IsTakenBy pending (Fetch id asker) = Unit {0}
-IsTakenBy pending (Known id edges) = Unit {0}
-IsTakenBy pending Stop = Unit {0}
+IsTakenBy pending msg = Unit {0}
 
 abbrev HasStartok : ℕ → Transaction → Type 0
 HasStartok g x = is_some (find_startok g x.startoks) ≡ true
@@ -160,8 +156,4 @@ module _ (plan : Plan) (s : CoordState) (once : (y z : Transaction) → Has y s.
   pub message_taken : (msg : Msg) → OnlyStale msg → IsTakenBy (after_message plan s msg).state.pending msg
   message_taken (StartOk id group shard bound outs edges facts) only = startok_here id (record { group = group; bound = bound; outs = outs; edges = edges; facts = facts }) shard (find_transaction id s.pending) refl only
   message_taken (CommitOk id shard outs) only = commitok_here id (record { shard = shard; outs = outs }) (find_transaction id s.pending) refl only
-  message_taken (Start id proc group args inputs) only = tt
-  message_taken (Commit id edges facts) only = tt
-  message_taken (Fetch id asker) only = tt
-  message_taken (Known id edges) only = tt
-  message_taken Stop only = tt
+  message_taken msg only = tt

@@ -21,7 +21,7 @@ use Rattle.roc_depgraph.proofs.Laws.{known_stays}
 use Rattle.roc_await.specs.declared.waits.Asker.{Asker}
 use Rattle.roc_await.specs.Waits.{is_asker_before, with_asker}
 use Rattle.roc_msg.specs.declared.msg.Msg.{Msg}
-use Rattle.roc_msg.specs.declared.msg.Msg.TheVariants.{Start, StartOk, Commit, CommitOk, Fetch, Known, Stop}
+use Rattle.roc_msg.specs.declared.msg.Msg.TheVariants.{Start, Commit, Fetch, Known}
 use Rattle.roc_msg.specs.declared.outbox.Outgoing.{Outgoing}
 use Rattle.roc_msg.specs.declared.reason.Reason.{Reason}
 use Rattle.roc_msg.specs.declared.reason.Reason.TheVariants.{NotHere, Foreign, Differs}
@@ -75,9 +75,7 @@ module _ (plan : Plan) (s : ServerState) where
   Takes (Commit id edges facts) r = (is_here id r.state.started ≡ true) × IsKnown r.state.lists.known id × (IsDecided r.state.lists.known id → Has (commitok_of plan r.state id) r.sends)
   Takes (Fetch id asker) r = IsAnswered r.sends (record { id = id; shard = asker }) ⊎ ((is_here id r.state.started ≡ true) × Has (record { id = id; shard = asker }) r.state.lists.waiting.askers × (¬ IsKnown r.state.lists.known id))
   Takes (Known id edges) r = IsKnown r.state.lists.known id
-  Takes (StartOk id group shard bound outs edges facts) r = Unit {0}
-  Takes (CommitOk id shard outs) r = Unit {0}
-  Takes Stop r = Unit {0}
+  Takes msg r = Unit {0}
 
   abbrev Result : Msg → ServerStep → Type 0
   Result msg r = Hears plan s r × (r.answer ≡ Done → Takes msg r)
@@ -194,6 +192,4 @@ module _ (plan : Plan) (s : ServerState) where
       go (Commit id edges facts) f found = commit_result f id edges facts found (commit_fault s id edges facts) refl found.decided
       go (Fetch id asker) f found = fetch_result id asker
       go (Known id edges) f found = known_result f id edges found (known_fault s id edges) found.decided
-      go (StartOk id group shard bound outs edges facts) f found = ignores (StartOk id group shard bound outs edges facts) Foreign
-      go (CommitOk id shard outs) f found = ignores (CommitOk id shard outs) Foreign
-      go Stop f found = ignores Stop Foreign
+      go msg f found = ignores msg Foreign

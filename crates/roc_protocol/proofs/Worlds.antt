@@ -14,7 +14,7 @@ use Rattle.roc_base.specs.declared.node.Node.TheVariants.{Server, Coord}
 use Rattle.roc_base.specs.TxnId.{is_txn}
 use Rattle.roc_rows.specs.Store.{Store}
 use Rattle.roc_msg.specs.declared.msg.Msg.{Msg}
-use Rattle.roc_msg.specs.declared.msg.Msg.TheVariants.{Start, StartOk, Commit, CommitOk, Fetch, Known, Stop}
+use Rattle.roc_msg.specs.declared.msg.Msg.TheVariants.{Start}
 use Rattle.roc_msg.specs.declared.msg.Envelope.{Envelope}
 use Rattle.roc_msg.specs.declared.outbox.Outgoing.{Outgoing}
 use Rattle.roc_plan.specs.Groups.{Plan, procedure_of, is_transaction}
@@ -135,12 +135,7 @@ module _ (plan : Plan) (asked : TxnId → whole.Call) (S : Scheme) (is : IsSchem
 
   starts_later : (h more : List Entry) (m : Msg) → StartsAre (WasSubmitted h) m → StartsAre (WasSubmitted (h ++ more)) m
   starts_later h more (Start id proc group args inputs) k = submitted_front h more id k
-  starts_later h more (StartOk id group shard bound outs edges facts) k = tt
-  starts_later h more (Commit id edges facts) k = tt
-  starts_later h more (CommitOk id shard outs) k = tt
-  starts_later h more (Fetch id asker) k = tt
-  starts_later h more (Known id edges) k = tt
-  starts_later h more Stop k = tt
+  starts_later h more msg k = tt
 
   starts_after : (h : List Entry) (sent : List Envelope) (from : Node) (outs : List Outgoing) → ((m : Envelope) → Has m sent → StartsAre (WasSubmitted h) m.msg) → ((out : Outgoing) → Has out outs → StartsAre (WasSubmitted h) out.msg) → (m : Envelope) → Has m (sent ++ map (sent_by from) outs) → StartsAre (WasSubmitted h) m.msg
   starts_after h sent from outs f g m k = elim (has_append m sent (map (sent_by from) outs) k) [

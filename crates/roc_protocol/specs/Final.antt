@@ -7,7 +7,7 @@ use Rattle.roc_base.specs.Edge.{Dependency}
 use Rattle.roc_base.specs.Edges.{united}
 use Rattle.roc_depgraph.specs.declared.known.KnownList.{KnownList}
 use Rattle.roc_msg.specs.declared.msg.Msg.{Msg}
-use Rattle.roc_msg.specs.declared.msg.Msg.TheVariants.{Start, StartOk, Commit, CommitOk, Fetch, Known, Stop}
+use Rattle.roc_msg.specs.declared.msg.Msg.TheVariants.{StartOk, Commit, Known}
 use Rattle.roc_msg.specs.declared.msg.Envelope.{Envelope}
 use Rattle.roc_plan.specs.Groups.{Plan, groups_of}
 use Rattle.roc_audit.specs.declared.entry.Entry.TheVariants.{Submitted}
@@ -16,13 +16,10 @@ use Rattle.roc_protocol.specs.Quiet.{IsToldIn}
 
 -- the lists that a message carries, each with its transaction
 abbrev pub lists_in : Msg → List KnownList
-lists_in (Start id proc group args inputs) = []
 lists_in (StartOk id group shard bound outs edges facts) = facts
 lists_in (Commit id edges facts) = record { of = id; edges = edges } ∷ facts
-lists_in (CommitOk id shard outs) = []
-lists_in (Fetch id asker) = []
 lists_in (Known id edges) = record { of = id; edges = edges } ∷ []
-lists_in Stop = []
+lists_in msg = []
 
 -- a list of t is the union of what the startoks of its groups tell, so many, all of which are in the network
 pub record IsUnionIn (sent : List Envelope) (groups : ℕ) (t : TxnId) (list : List Dependency) : Type 0 where
