@@ -11,15 +11,19 @@ const TAG: [u8; 8] = [1, 2, 3, 4, 5, 6, 7, 8];
 
 /// Coordinator 0 starts group 0 of procedure 0 with the argument 5.
 pub(crate) const START: &[u8] =
-    b"RCO1\x01\x01\x01\x02\x03\x04\x05\x06\x07\x08\x01\x00\x00\x00\x00\x00\x00\x00\x00\x00\x00\x00\x00\x00\x01\x00\x00\x00\x00\x00\x00\x00\x05\x00\x00";
+    b"RCO1\x02\x01\x01\x02\x03\x04\x05\x06\x07\x08\x01\x00\x00\x00\x00\x00\x00\x00\x00\x00\x00\x00\x00\x00\x01\x00\x00\x00\x00\x00\x00\x00\x05\x00\x00";
 
 /// Shard 1 asks for the list of transaction 0.0.
 pub(crate) const FETCH: &[u8] =
-    b"RCO1\x01\x05\x01\x02\x03\x04\x05\x06\x07\x08\x00\x00\x01\x00\x00\x00\x00\x00\x00\x01";
+    b"RCO1\x02\x05\x01\x02\x03\x04\x05\x06\x07\x08\x00\x00\x01\x00\x00\x00\x00\x00\x00\x01";
 
 /// A known with two entries of one transaction.
 pub(crate) const TWICE: &[u8] =
-    b"RCO1\x01\x06\x01\x02\x03\x04\x05\x06\x07\x08\x00\x00\x01\x00\x00\x00\x00\x00\x00\x00\x02\x00\x01\x00\x00\x00\x00\x02\x01\x00\x01\x00\x00\x00\x00\x02\x01";
+    b"RCO1\x02\x06\x01\x02\x03\x04\x05\x06\x07\x08\x00\x00\x01\x00\x00\x00\x00\x00\x00\x00\x02\x00\x01\x00\x00\x00\x00\x02\x01\x00\x01\x00\x00\x00\x00\x02\x01";
+
+/// Coordinator 0 has answered all its transactions below 1.
+pub(crate) const ENDED: &[u8] =
+    b"RCO1\x02\x08\x01\x02\x03\x04\x05\x06\x07\x08\x01\x00\x00\x00\x00\x00\x00\x00\x01";
 
 pub(crate) fn written_again(alloc: Global, bytes: &[u8]) -> Result<Vec<u8>, WireFault>
     ensures { IfOk result (λ again. again.items ≡ bytes.now) }
@@ -51,6 +55,16 @@ fn a_fetch_is_read(rt: HostRuntime) {
     }
 }
 
+#[test]
+fn an_end_is_read(rt: HostRuntime) {
+    match decode(rt.alloc(), ENDED) {
+        Ok((header, Msg::Ended { coord, below })) => {
+            assert!(rt; header.from == Node::Coord(0) && coord == 0 && below == 1);
+        }
+        _ => panic!(rt; "no end"),
+    }
+}
+
 fn is_refused(rt: &impl Abort, alloc: Global, cases: &[(&[u8], WireFault)]) {
     for (bytes, wanted) in cases {
         match decode(alloc, bytes) {
@@ -66,8 +80,8 @@ fn headers_have_their_first_fault(rt: HostRuntime) {
         (b"", WireFault::Short),
         (b"RCO", WireFault::Short),
         (b"RCO2", WireFault::Magic),
-        (b"RCO1\x02", WireFault::Version),
-        (b"RCO1\x01\x08", WireFault::Kind),
+        (b"RCO1\x01", WireFault::Version),
+        (b"RCO1\x02\x0e", WireFault::Kind),
     ];
     is_refused(&rt, rt.alloc(), &cases);
 }

@@ -16,7 +16,7 @@ enum Members {
 // A list of a datagram: the kind, the body in front of the list and behind it, and the most members.
 type List = (u8, &'static [u8], Members, u16, &'static [u8]);
 
-const LISTS: [List; 12] = [
+const LISTS: [List; 15] = [
     (1, &[0; 10], Members::Nums, 8, &[0; 2]),
     (1, &[0; 12], Members::Nums, 1024, &[]),
     (2, &[0; 9], Members::Nums, 1024, &[0; 6]),
@@ -41,6 +41,9 @@ const LISTS: [List; 12] = [
     ),
     (4, &[0; 7], Members::Nums, 1024, &[]),
     (6, &[0; 6], Members::Edges, 4096, &[]),
+    (10, &[0; 14], Members::Nums, 8, &[]),
+    (11, &[0; 13], Members::Nums, 64, &[0; 2]),
+    (11, &[0; 15], Members::Nums, 1024, &[]),
 ];
 
 fn push_member(bytes: &mut Vec<u8>, members: Members, place: u16) -> Result<(), AllocError> {
@@ -65,7 +68,7 @@ fn datagram_of(
     body: &[u8],
 ) -> Result<Vec<u8>, AllocError> {
     let mut bytes = Vec::new(alloc);
-    bytes.extend_from_slice(b"RCO1\x01")?;
+    bytes.extend_from_slice(b"RCO1\x02")?;
     bytes.push(kind)?;
     bytes.extend_from_slice(b"\x01\x02\x03\x04\x05\x06\x07\x08")?;
     bytes.extend_from_slice(&sender)?;
@@ -111,9 +114,9 @@ fn lists_are_taken_up_to_their_limits(rt: HostRuntime) -> Result<(), Fail> {
 // The kind, the sender's role and number, the body, and the first fault.
 type Field = (u8, [u8; 3], &'static [u8], Option<WireFault>);
 
-const FIELDS: [Field; 20] = [
+const FIELDS: [Field; 31] = [
     (0, [1, 0, 0], b"", Some(WireFault::Kind)),
-    (8, [1, 0, 0], b"", Some(WireFault::Kind)),
+    (14, [1, 0, 0], b"", Some(WireFault::Kind)),
     (7, [0, 0, 63], b"", None),
     (7, [0, 0, 64], b"", Some(WireFault::Count)),
     (7, [1, 0, 15], b"", None),
@@ -167,6 +170,32 @@ const FIELDS: [Field; 20] = [
         b"\0\0\0\0\0\0\0\0\0\x02\0\0\0\0\0\x01\0\0\0\0\0\0\0\x01",
         Some(WireFault::Order),
     ),
+    (8, [1, 0, 0], b"\0\x0f\0\0\0\0", None),
+    (8, [1, 0, 0], b"\0\x10\0", Some(WireFault::Count)),
+    (8, [1, 0, 0], b"\0\0\0\0\0", Some(WireFault::Short)),
+    (9, [0, 0, 1], b"\0\0\0\0\0\x01\0\0\0\x02", None),
+    (
+        9,
+        [0, 0, 1],
+        b"\0\0\0\0\0\x01\0\0\0\x01",
+        Some(WireFault::Count),
+    ),
+    (
+        9,
+        [0, 0, 1],
+        b"\0\0\xff\xff\xff\xff\xff\xff\xff\xff",
+        Some(WireFault::Count),
+    ),
+    (
+        11,
+        [0, 0, 1],
+        b"\0\0\0\0\0\0\0\0\0\x01\0\0\x40",
+        Some(WireFault::Count),
+    ),
+    (12, [1, 0, 0], b"\0\x0f\xff\xff\xff\xff", None),
+    (12, [1, 0, 0], b"\0\0\0\0\0\0\0", Some(WireFault::Rest)),
+    (13, [0, 0, 1], b"\0\0\0\0\0\x01\x3f", None),
+    (13, [0, 0, 1], b"\0\0\0\0\0\x01\x40", Some(WireFault::Count)),
 ];
 
 fn are_judged(rt: &impl Abort, alloc: Global, fields: &[Field]) -> Result<(), Fail> {
