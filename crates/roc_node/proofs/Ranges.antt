@@ -1,5 +1,5 @@
 -- What is in range has a spelling
-use Rattle.std.proofs.Common.{◌≡◌, ℕ, ◌+◌, ◌-◌, ◌<◌, ℤ, Bool, true, false, ◌&&◌, IsTrue, FitsSigned, List, [], ◌∷◌, length, get_or, drop, Option, Some, None, refl, sym, ◌∙◌, ap, subst}
+use Rattle.std.proofs.Common.{◌≡◌, ℕ, suc, ◌+◌, ◌-◌, ◌<◌, ◌^◌, ℤ, Bool, true, false, ◌&&◌, IsTrue, FitsSigned, List, [], ◌∷◌, length, get_or, drop, Option, Some, None, refl, sym, ◌∙◌, ap, subst}
 use Rattle.std.specs.List.{list_all, AllByRecursion}
 use Rattle.std.specs.Int.{w64}
 use Rattle.roc_sequence.specs.Rising.{IsRising}
@@ -17,6 +17,10 @@ use Rattle.roc_node.specs.Inner.InRange.{InRange, AreInRange}
 pub nums_along : (nums : List ℤ) → AllByRecursion (FitsSigned w64) nums → AllAlong (λ (s : Unit {0}) n. FitsSigned w64 n) (λ s n. s) tt nums
 nums_along [] h = tt
 nums_along (n ∷ nums) h = (h.0, nums_along nums h.1)
+
+pub versions_along : (versions : List ℕ) → ((i : ℕ) → get_or versions i 0 < 2 ^ 64) → AllAlong (λ (s : Unit {0}) n. n < 2 ^ 64) (λ s n. s) tt versions
+versions_along [] h = tt
+versions_along (n ∷ versions) h = (h 0, versions_along versions (λ i. h (suc i)))
 
 -- the first of a list comes behind what was last
 abbrev FirstEdge : Option TxnId → List Dependency → Type 0

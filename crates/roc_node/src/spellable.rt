@@ -1,15 +1,15 @@
 //! Which messages have a spelling.
-ghost use Rattle.std.specs.Prelude.{◌≡◌, ◌≤◌, ◌&&◌, length, FitsSigned, IsTrue};
+ghost use Rattle.std.specs.Prelude.{◌≡◌, ◌≤◌, ◌<◌, ◌^◌, ◌&&◌, nat_le, nat_lt, length, FitsSigned, IsTrue};
 ghost use Rattle.std.specs.Int.{w64};
 ghost use Rattle.std.specs.List.{list_all, AllByRecursion};
-ghost use Rattle.roc_wire.specs.Fits.{FitsId, FitsShard, FitsNums, FitsEdges, FitsFacts, FitsMsg, most_nums, most_edges};
+ghost use Rattle.roc_wire.specs.Fits.{FitsId, FitsShard, FitsNums, FitsVersions, FitsEdges, FitsFacts, FitsMsg, last_coordinator, most_nums, most_edges};
 ghost use Rattle.roc_msg.specs.Facts.{most_fact_edges};
 ghost use Rattle.roc_node.specs.Inner.InRange.{InRange, AreInRange};
-ghost use Rattle.roc_node.specs.Spellable.{id_in_range, shard_in_range, few_nums, edge_in_range, edges_in_range, lists_in_range, facts_in_range, has_spelling};
+ghost use Rattle.roc_node.specs.Spellable.{id_in_range, shard_in_range, few_nums, few_versions, edge_in_range, edges_in_range, lists_in_range, facts_in_range, has_spelling};
 
 use roc_base::{Edge, Edges, Nums, Shard, TxnId};
 use roc_depgraph::KnownList;
-use roc_msg::{Facts, Msg};
+use roc_msg::{CellVersions, Facts, Msg};
 
 /// The last coordinator and the last shard that a datagram can name.
 const LAST_COORDINATOR: u16 = 15;
@@ -19,6 +19,8 @@ const LAST_SHARD: u8 = 63;
 const MOST_ARGS: usize = 8;
 
 const MOST_NUMS: usize = 1024;
+
+const MOST_VERSIONS: usize = 64;
 
 const MOST_EDGES: usize = 4096;
 
@@ -60,6 +62,25 @@ pub fn has_spelling(msg: &Msg) -> bool
         Msg::Fetch { id, asker } => is_at_in_range(*id, *asker),
         Msg::Known { id, edges } => id_in_range(*id) && edges_in_range(edges, MOST_EDGES),
         Msg::Stop => true,
+        Msg::Ended { coord, below } => ended_in_range(*coord, *below),
+        Msg::Settled { id, below } => settled_in_range(*id, *below),
+        Msg::Read {
+            id,
+            round,
+            proc,
+            group,
+            args,
+        } => read_in_range(*id, *round, *proc, *group, args),
+        Msg::ReadOk {
+            id,
+            round,
+            group,
+            shard,
+            versions,
+            outs,
+        } => readok_in_range(*id, *round, *group, *shard, versions, outs),
+        Msg::Drained { upto } => id_in_range(*upto),
+        Msg::Switched { upto, shard } => is_at_in_range(*upto, *shard),
     }
 }
 
@@ -89,6 +110,51 @@ fn startok_in_range(
         return false;
     }
     are_lists_in_range(edges, facts)
+}
+
+fn ended_in_range(coord: u16, below: u32) -> bool
+    ensures is { result ≡ nat_le coord last_coordinator }
+    ensures fits { IsTrue result → (coord ≤ last_coordinator) × (below < 2 ^ 32) }
+{
+    let _read = below;
+    coord <= LAST_COORDINATOR
+}
+
+fn settled_in_range(id: TxnId, below: u32) -> bool
+    ensures is { result ≡ (id_in_range id && nat_lt id.seq below) }
+    ensures fits { IsTrue result → FitsId id × (id.seq < below) × (below < 2 ^ 32) }
+{
+    if !id_in_range(id) {
+        return false;
+    }
+    id.seq < below
+}
+
+fn read_in_range(id: TxnId, round: u32, proc: u16, group: u16, args: &Nums) -> bool
+    ensures is { result ≡ has_spelling (Msg.Read id round proc group args.now) }
+    ensures fits { IsTrue result → FitsMsg (Msg.Read id round proc group args.now) }
+{
+    if !id_in_range(id) {
+        return false;
+    }
+    few_nums(args.as_slice(), MOST_ARGS)
+}
+
+fn readok_in_range(
+    id: TxnId,
+    round: u32,
+    group: u16,
+    shard: Shard,
+    versions: &CellVersions,
+    outs: &Nums,
+) -> bool
+    ensures is { result ≡ has_spelling (Msg.ReadOk id round group shard versions.now outs.now) }
+    ensures fits { IsTrue result → FitsMsg (Msg.ReadOk id round group shard versions.now outs.now) }
+{
+    if !is_at_in_range(id, shard) {
+        return false;
+    }
+    are_found_in_range(versions, outs)
 }
 
 fn id_in_range(id: TxnId) -> bool
@@ -129,6 +195,23 @@ fn has_width(num: i64)
     ensures { FitsSigned w64 num }
 {
     let _read = num;
+}
+
+fn few_versions(versions: &[u64]) -> bool
+    ensures is { result ≡ few_versions versions.now }
+    ensures fits { IsTrue result → FitsVersions versions.now }
+{
+    versions.len() <= MOST_VERSIONS
+}
+
+fn are_found_in_range(versions: &CellVersions, outs: &Nums) -> bool
+    ensures is { result ≡ (few_versions versions.now && few_nums most_nums outs.now) }
+    ensures fits { IsTrue result → FitsVersions versions.now × FitsNums most_nums outs.now }
+{
+    if !few_versions(versions.as_slice()) {
+        return false;
+    }
+    few_nums(outs.as_slice(), MOST_NUMS)
 }
 
 fn are_few(some: &Nums, others: &Nums, most: usize) -> bool
