@@ -6,5 +6,5 @@ pub mod Decided
 pub mod Laws
 pub mod RisingLists
 pub mod Searched
-pub mod LookedUp
 pub mod RisingIds
+pub mod Entries

@@ -3,3 +3,4 @@ pub mod Deps
 pub mod Learnt
 pub mod Closure
 pub mod Visits
+pub mod Inner

@@ -1,16 +1,16 @@
 //! The known lists, and what follows from them.
-ghost use Rattle.std.specs.Prelude.{◌≡◌, ◌↔◌, ◌==◌, [], length, None, not, IsTrue, IfOk, OnOk, OnErr, filter, option_map, slice_get};
+ghost use Rattle.std.specs.Prelude.{◌≡◌, [], None, not, IfOk, OnOk, OnErr, filter};
 ghost use Rattle.std.specs.Option.{option_copied};
-ghost use Rattle.roc_base.specs.declared.id.TxnId.{TxnId};
+ghost use Rattle.roc_base.specs.TxnId.{is_txn};
 ghost use Rattle.roc_depgraph.specs.Closure.{IsClosure, IsRisingListOf};
-ghost use Rattle.roc_depgraph.specs.Deps.{list_of, is_known, Precedes, IsDecided};
+ghost use Rattle.roc_depgraph.specs.Deps.{list_of, is_known, IsKnown, Precedes};
 ghost use Rattle.roc_depgraph.specs.Learnt.{Learns};
 ghost use Rattle.roc_depgraph.specs.Reach.{ReachesOrIs};
 ghost use Rattle.roc_depgraph.specs.Visits.{Visits};
 
-use crate::{Closure, KnownList, Learnt};
+use crate::{Closure, Learnt};
+use indexmap::IndexMap;
 use roc_base::{Edge, Edges, NoMemory, TxnId};
-use roc_places::Places;
 use std::alloc::Global;
 use std::collections::BTreeSet;
 use std::marker::Model;
@@ -19,19 +19,17 @@ use std::marker::Model;
 #[derive(Drop)]
 pub struct Deps {
     alloc: Global,
-    lists: Vec<KnownList>,
-    places: Places,
+    lists: IndexMap<TxnId, Edges>,
 }
 
 impl Model for Deps {
-    ghost use Rattle.std.specs.Prelude.{◌≡◌, List, map};
+    ghost use Rattle.std.specs.Prelude.{List};
     ghost use Rattle.roc_depgraph.specs.declared.known.KnownList.{KnownList};
+    ghost use Rattle.roc_depgraph.specs.Inner.Entries.{known_by};
 
     ghost Value = { List KnownList };
 
-    ghost view = { λ d. d.lists.items };
-
-    ghost invariant = { λ d. d.places ≡ map (λ k. k.of) d.lists.items };
+    ghost view = { λ d. known_by d.lists.entries };
 }
 
 impl Deps {
@@ -41,40 +39,15 @@ impl Deps {
     {
         Deps {
             alloc,
-            lists: Vec::new(alloc),
-            places: Places::new(alloc),
+            lists: IndexMap::new(alloc),
         }
-    }
-
-    /// How many lists are known.
-    pub fn len(&self) -> usize
-        ensures { result ≡ length self.now }
-    {
-        self.lists.len()
-    }
-
-    /// Whether none is known.
-    pub fn is_empty(&self) -> bool
-        ensures { result ≡ (length self.now == 0) }
-    {
-        self.lists.is_empty()
-    }
-
-    /// The known lists, in the order in which they were learnt.
-    pub fn as_slice(&self) -> &[KnownList]
-        ensures { result.now ≡ self.now }
-    {
-        self.lists.as_slice()
     }
 
     /// The list that is known of a transaction, where one is. Takes no memory.
     pub fn list(&self, id: TxnId) -> Option<&Edges>
         ensures { option_copied result ≡ list_of id self.now }
     {
-        match self.places.first(id) {
-            Some(at) => edges_at(self.lists.as_slice(), at),
-            None => None,
-        }
+        self.lists.get(&id)
     }
 
     /// Learns a list, where none is known of its transaction. `NoMemory` comes only then, and
@@ -90,10 +63,16 @@ impl Deps {
             return Ok(Learnt::Differs);
         }
         let edges = edges.clone()?;
-        self.lists.reserve(1)?;
-        self.places.push(id)?;
-        self.lists.push(KnownList { of: id, edges }).unwrap();
+        self.lists.insert(id, edges)?;
         Ok(Learnt::New)
+    }
+
+    /// Takes back a list. The others stay, in their order. Takes no memory.
+    pub fn undo(&mut self, id: TxnId)
+        requires { IsKnown self.old id }
+        ensures { self.new ≡ filter (λ k. not (is_txn k.of id)) self.old }
+    {
+        self.lists.shift_remove(&id);
     }
 
     /// The transaction and its ancestors, where all their lists are known; else what is missing.
@@ -107,17 +86,6 @@ impl Deps {
             Ok(Closure::Whole(reached))
         } else {
             Ok(Closure::Missing(missing))
-        }
-    }
-
-    /// Whether the lists of the transaction and of all its ancestors are known. `NoMemory` comes as
-    /// from [`Deps::closure`].
-    pub fn is_decided(&self, id: TxnId) -> Result<bool, NoMemory>
-        ensures { IfOk result (λ decided. IsTrue decided ↔ IsDecided self.now id) }
-    {
-        match self.closure(id)? {
-            Closure::Whole(_) => Ok(true),
-            Closure::Missing(_) => Ok(false),
         }
     }
 
@@ -149,13 +117,6 @@ impl Deps {
         }
         Ok(missing)
     }
-}
-
-// The list that stands at a place.
-fn edges_at(lists: &[KnownList], at: usize) -> Option<&Edges>
-    ensures { option_copied result ≡ option_map (λ k. k.edges) (slice_get lists.now at) }
-{
-    lists.get(at).map(|known| &known.edges)
 }
 
 /// Puts the ids of entries among those that were found, and the new ones on the list of what is

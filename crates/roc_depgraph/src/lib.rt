@@ -3,9 +3,10 @@
 //! least relation of `specs/Reach.antt`.
 //!
 //! The layers above may rely on this: a list once known never changes, and [`Deps::learn`] tells an unlike list apart
-//! from an equal one (`specs/Learnt.antt`); [`Deps::closure`] answers `Whole` exactly if a transaction is decided, with
-//! it and all its ancestors, and else exactly what is reached and unknown (`specs/Closure.antt`). A [`KnownList`] is
-//! also what travels along with messages. [`is_among_rising`] is membership in a list that rises.
+//! from an equal one (`specs/Learnt.antt`); [`Deps::undo`] takes a list back, without memory; [`Deps::closure`] answers
+//! `Whole` exactly if a transaction is decided, with it and all its ancestors, and else exactly what is reached and
+//! unknown (`specs/Closure.antt`). A [`KnownList`] is also what travels along with messages. [`is_among_rising`] is
+//! membership in a list that rises.
 #![tactic(auto)]
 
 mod among;

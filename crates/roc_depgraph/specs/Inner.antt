@@ -1,0 +1,2 @@
+-- What stands here is of private parts alone
+pub mod Entries
