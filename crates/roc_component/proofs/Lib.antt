@@ -24,3 +24,6 @@ pub mod Ordered
 pub mod SearchSteps
 pub mod QueueSteps
 pub mod OrderOf
+pub mod PartsOf
+pub mod OneTaken
+pub mod RisingParts

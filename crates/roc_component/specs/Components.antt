@@ -1,11 +1,13 @@
 -- The order in which transactions that precede one another are taken: docs/PROTOCOL.md, "Component order"
-use Rattle.std.specs.Prelude.{◌≡◌, ◌↔◌, List, [], ◌∷◌, IsTrue, ◌⊎◌}
+use Rattle.std.specs.Prelude.{◌≡◌, ◌≢◌, ◌↔◌, List, [], ◌∷◌, IsTrue, ◌⊎◌}
+use Rattle.std.specs.List.{flat_map}
 use Rattle.std.specs.List.Sorted.{IsStrictlySortedBy}
 use Rattle.roc_sequence.specs.Lists.{Has}
 use Rattle.roc_sequence.specs.Places.{IsListed, IsListedBefore, NoneTwice}
 use Rattle.roc_base.specs.declared.id.TxnId.{TxnId}
 use Rattle.roc_base.specs.TxnId.{is_txn, txn_cmp, txn_lt}
 use Rattle.roc_depgraph.specs.declared.known.KnownList.{KnownList}
+use Rattle.roc_depgraph.specs.Closure.{IsRisingListOf}
 use Rattle.roc_depgraph.specs.Deps.{Precedes, PrecedesNow}
 use Rattle.roc_depgraph.specs.Reach.{Reaches}
 
@@ -90,3 +92,22 @@ HaveSameMembers M N = (t : TxnId) → IsListed is_txn M t ↔ IsListed is_txn N 
 -- the members of M in lists: each list is a strongly connected component of M
 abbrev pub AreComponentsOf : List KnownList → (M : List TxnId) → List (List TxnId) → Type 0
 AreComponentsOf known M lists = AreComponents (among M (Precedes known)) M lists
+
+-- the components of M as they are taken, each in its order inside: one after another they are the component order
+pub record AreTaken (known : List KnownList) (M : List TxnId) (lists : List (List TxnId)) : Type 0 where
+  pub order : IsComponentOrderOf known M (flat_map (λ c. c) lists)
+  pub some : (c : List TxnId) → Has c lists → c ≢ []
+  pub mates : (c : List TxnId) → Has c lists → (t u : TxnId) → Has t c → Mates (among M (Precedes known)) t u ↔ Has u c
+
+-- each of the lists rises, and has the members of the one at its place
+abbrev pub AreRisingOf : (lists rising : List (List TxnId)) → Type 0
+AreRisingOf [] [] = Unit {0}
+AreRisingOf [] (d ∷ ds) = ⊥
+AreRisingOf (c ∷ cs) [] = ⊥
+AreRisingOf (c ∷ cs) (d ∷ ds) = IsRisingListOf (IsListed is_txn c) d × AreRisingOf cs ds
+
+-- the components of M as they are taken, each rising
+pub record AreTakenRising (known : List KnownList) (M : List TxnId) (lists : List (List TxnId)) : Type 0 where
+  pub taken : List (List TxnId)
+  pub are_taken : AreTaken known M taken
+  pub rising : AreRisingOf taken lists

@@ -1,13 +1,14 @@
 //! Component order.
-ghost use Rattle.std.specs.Prelude.{◌≡◌, IfOk};
-ghost use Rattle.roc_component.specs.Components.{IsComponentOrderOf};
+ghost use Rattle.std.specs.Prelude.{IfOk};
+ghost use Rattle.roc_component.specs.Components.{AreTaken, IsComponentOrderOf};
 
-use crate::queue::take_all;
+use crate::queue::{AllTaken, take_all};
 use crate::search::components;
 use crate::turn::turns;
 use crate::within::{lists_within, rising};
 use roc_base::{NoMemory, TxnId};
 use roc_depgraph::Deps;
+use roc_sequence::Sequence;
 use std::alloc::Global;
 
 /// The ids of a set in component order (ROCOCO, OSDI 2014: strongly connected components, executed
@@ -16,6 +17,27 @@ use std::alloc::Global;
 /// looking up the lists of the ids and of reading them a few times.
 pub fn order(alloc: Global, deps: &Deps, ids: &[TxnId]) -> Result<Vec<TxnId>, NoMemory>
     ensures { IfOk result (λ order. IsComponentOrderOf deps.now ids.now order.items) }
+{
+    let AllTaken { order, parts: _ } = take_set(alloc, deps, ids)?;
+    Ok(order)
+}
+
+/// The strongly connected components of a set in the order in which they are taken, each in its order inside: one
+/// after another they are the answer of [`order`], and what holds of it holds here.
+pub fn taken_components(
+    alloc: Global,
+    deps: &Deps,
+    ids: &[TxnId],
+) -> Result<Vec<Sequence<TxnId>>, NoMemory>
+    ensures { IfOk result (λ lists. AreTaken deps.now ids.now lists.items) }
+{
+    let AllTaken { order: _, parts } = take_set(alloc, deps, ids)?;
+    Ok(parts)
+}
+
+fn take_set(alloc: Global, deps: &Deps, ids: &[TxnId]) -> Result<AllTaken, NoMemory>
+    ensures order { IfOk result (λ all. IsComponentOrderOf deps.now ids.now all.order.items) }
+    ensures parts { IfOk result (λ all. AreTaken deps.now ids.now all.parts.items) }
 {
     let set = rising(alloc, ids)?;
     let lists = lists_within(alloc, deps, &set)?;

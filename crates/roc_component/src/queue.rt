@@ -2,7 +2,7 @@
 ghost use Rattle.std.specs.Prelude.{◌≡◌, ◌++◌, ◌∷◌, [], IfOk, OnOk, Some, Option, List};
 ghost use Rattle.roc_base.specs.declared.id.TxnId.{TxnId as Id};
 ghost use Rattle.roc_component.specs.Inner.Queue.{IsOpenAt, IsQueueOf, IsTakenOut, left_of};
-ghost use Rattle.roc_component.specs.Inner.Turns.{AreAllTaken, AreTurns};
+ghost use Rattle.roc_component.specs.Inner.Turns.{AreAllTaken, ArePartsOf, AreTurns};
 ghost use Rattle.roc_component.specs.declared.queue.Waiting.{Waiting as Held};
 ghost use Rattle.roc_component.specs.declared.turn.Turn.{Turn as Taking};
 
@@ -29,13 +29,23 @@ struct Queue {
     waiting: BTreeMap<TxnId, Sequence<Waiting>>,
 }
 
+/// The ids of turns as they were taken.
+#[derive(Drop)]
+pub(crate) struct AllTaken {
+    // One after another.
+    pub order: Vec<TxnId>,
+    // Turn by turn.
+    pub parts: Vec<Sequence<TxnId>>,
+}
+
 // The ids of turns: at each time the turn with the least key is taken of those that are due, or
 // else of all that are left.
-pub(crate) fn take_all(alloc: Global, turns: Vec<Turn>) -> Result<Vec<TxnId>, NoMemory>
+pub(crate) fn take_all(alloc: Global, turns: Vec<Turn>) -> Result<AllTaken, NoMemory>
     requires { AreTurns turns.items }
-    ensures { IfOk result (λ order. AreAllTaken turns.items order.items) }
+    ensures { IfOk result (λ all. AreAllTaken turns.items all.order.items × ArePartsOf turns.items all.order.items all.parts.items) }
 {
     let mut taken = Taken::new(alloc);
+    let mut parts = Vec::new(alloc);
     let mut left = BTreeMap::new(alloc);
     let mut queue = Queue {
         ready: BTreeSet::new(alloc),
@@ -45,9 +55,10 @@ pub(crate) fn take_all(alloc: Global, turns: Vec<Turn>) -> Result<Vec<TxnId>, No
     'take: while let Some(ids) = queue.next(&mut left) {
         taken.extend(ids.as_slice())?;
         queue.release(alloc, ids.as_slice(), &left, &taken)?;
+        parts.push(ids)?;
     }
     let order = taken.into_vec();
-    Ok(order)
+    Ok(AllTaken { order, parts })
 }
 
 impl Queue {

@@ -8,7 +8,7 @@ ghost use Rattle.roc_component.specs.Inner.Turns.{AreComponentTurns, IsInside, t
 ghost use Rattle.roc_depgraph.specs.Deps.{Precedes};
 
 use crate::before::{immediate_among, leading_to};
-use crate::queue::take_all;
+use crate::queue::{AllTaken, take_all};
 use roc_base::{NoMemory, TxnId};
 use roc_depgraph::Deps;
 use roc_sequence::Sequence;
@@ -63,7 +63,8 @@ fn inside(alloc: Global, lists: &Deps, ids: &[TxnId]) -> Result<Vec<TxnId>, NoMe
     ensures { IfOk result (λ order. IsInside lists.now ids.now order.items) }
 {
     let turns = member_turns(alloc, lists, ids)?;
-    take_all(alloc, turns)
+    let AllTaken { order, parts: _ } = take_all(alloc, turns)?;
+    Ok(order)
 }
 
 fn member_turns(alloc: Global, lists: &Deps, ids: &[TxnId]) -> Result<Vec<Turn>, NoMemory>

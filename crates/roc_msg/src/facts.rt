@@ -1,5 +1,5 @@
 //! Known lists that travel along.
-ghost use Rattle.std.specs.Prelude.{◌≡◌, ◌++◌, ◌∷◌, ◌==◌, [], length, IsTrue, IfOk, OnOk, OnErr};
+ghost use Rattle.std.specs.Prelude.{◌≡◌, ◌++◌, ◌∷◌, [], length, IsTrue, IfOk, OnOk, OnErr};
 ghost use Rattle.roc_msg.specs.Facts.{AreFacts, is_behind_facts};
 
 use roc_base::{NoMemory, TxnId};
@@ -50,13 +50,6 @@ impl Facts {
         ensures { result ≡ length self.now }
     {
         self.lists.len()
-    }
-
-    /// Whether there are none.
-    pub fn is_empty(&self) -> bool
-        ensures { result ≡ (length self.now == 0) }
-    {
-        self.lists.is_empty()
     }
 
     /// The lists, rising strictly by id.

@@ -10,7 +10,7 @@ ghost use Rattle.roc_precedence.specs.Pairs.{IsPaired};
 use crate::Pair;
 use crate::lists::lists_of;
 use roc_base::{NoMemory, TxnId};
-use roc_component::{component_lists, order, rising};
+use roc_component::{components, order, rising};
 use roc_depgraph::Deps;
 use roc_sequence::Sequence;
 use std::alloc::Global;
@@ -39,7 +39,7 @@ fn order_of(alloc: Global, set: &[TxnId], lists: &Deps) -> Result<Option<Vec<Txn
     if one_precedes_itself(lists, set) {
         return Ok(None);
     }
-    let components = component_lists(alloc, lists, set)?;
+    let components = components(alloc, lists, set)?;
     if !are_single(&components) {
         return Ok(None);
     }

@@ -13,7 +13,7 @@ ghost use Rattle.roc_server_ancestors.specs.Inner.Met.{AreDecidedMates, KeepAllR
 
 use crate::search::met_from;
 use roc_base::{Edge, NoMemory, TxnId};
-use roc_component::component_lists;
+use roc_component::components;
 use roc_depgraph::Deps;
 use roc_sequence::Sequence;
 use std::alloc::Global;
@@ -67,7 +67,7 @@ impl Ancestors {
         ensures rows { OnOk result (AreRows deps.now self.new) }
         ensures kept { OnOk result (KeepsRows ids.now self.old self.new) }
     {
-        let lists = component_lists(self.alloc, deps, ids)?;
+        let lists = components(self.alloc, deps, ids)?;
         keep_all(self.alloc, &mut self.rows, deps, &lists)?;
         Ok(())
     }

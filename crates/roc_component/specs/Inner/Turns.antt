@@ -1,5 +1,6 @@
 -- What is taken one after another
 use Rattle.std.specs.Prelude.{◌≡◌, List, [], ◌∷◌, ◌++◌, IsTrue, map, ◌⊎◌}
+use Rattle.std.specs.List.{flat_map}
 use Rattle.roc_sequence.specs.Lists.{Has}
 use Rattle.roc_sequence.specs.Places.{IsListed}
 use Rattle.roc_base.specs.declared.id.TxnId.{TxnId}
@@ -40,6 +41,11 @@ pub data AreTurnsTaken (turns : List Turn) : List TxnId → Type 0 where
 -- until all were taken
 abbrev pub AreAllTaken : (turns : List Turn) → List TxnId → Type 0
 AreAllTaken turns order = AreTurnsTaken turns order × ((t : Turn) → Has t turns → IsListed is_txn order t.key)
+
+-- what was taken, in parts, each of one turn
+pub record ArePartsOf (turns : List Turn) (order : List TxnId) (parts : List (List TxnId)) : Type 0 where
+  pub whole : order ≡ flat_map (λ p. p) parts
+  pub from : (p : List TxnId) → Has p parts → (t : Turn) × Has t turns × (p ≡ t.ids)
 
 -- ---- the turns of members of a component, and of components
 

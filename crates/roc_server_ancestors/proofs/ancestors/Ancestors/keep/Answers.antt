@@ -12,9 +12,9 @@ keep_all-requires-clause-rows c = subst (AreRows c.args.deps.now) (sym c.self.vi
 pub keep_all-requires-clause-mates : goal.keep_all-requires-clause-mates
 keep_all-requires-clause-mates c =
     subst (AllByRecursion (AreDecidedMates c.args.deps.now)) (sym c.deref.ensures.value)
-    (decided_mates c.args.deps.now c.args.ids.now c.in_ok-lists.lists.items c.requires.decided c.in_ok-lists.ensures)
+    (decided_mates c.args.deps.now c.args.ids.now c.in_ok-lists.lists.items c.requires.decided c.in_ok-lists.ensures.components)
 
 pub returns-clause-kept : goal.returns-clause-kept
 returns-clause-kept c =
-    keeps_set c.args.deps.now c.args.ids.now c.in_ok-lists.lists.items c.deref.result.now c.args.self.now c.keep_all.new.rows.entries c.in_ok-lists.ensures c.deref.ensures.value
+    keeps_set c.args.deps.now c.args.ids.now c.in_ok-lists.lists.items c.deref.result.now c.args.self.now c.keep_all.new.rows.entries c.in_ok-lists.ensures.components c.deref.ensures.value
     (subst (λ v. KeepAllRows c.deref.result.now v c.keep_all.new.rows.entries) c.self.view_is c.in_ok-keep_all.ensures.kept)

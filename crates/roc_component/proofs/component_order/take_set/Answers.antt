@@ -1,0 +1,20 @@
+use Rattle.std.proofs.lemmas.Result.{IfOk-weaker}
+use Rattle.roc_component.proofs.OrderOf.{starts_inside, order_is, parts_are}
+use Rattle.roc_component.proofs.component_order.take_set.Goals as goal
+
+pub components-requires : goal.components-requires
+components-requires c = starts_inside c.args.deps.now c.args.ids.now c.in_ok-set.set.items c.deref.result.now c.in_ok-lists.lists c.in_ok-set.ensures c.deref.ensures.value c.in_ok-lists.ensures c.deref-2.result.now c.deref-2.ensures.value
+
+pub returns-clause-order : goal.returns-clause-order
+returns-clause-order c =
+    IfOk-weaker c.take_all.result _ _ (λ all taken.
+    order_is c.args.deps.now c.args.ids.now c.in_ok-set.set.items c.deref.result.now c.in_ok-lists.lists c.in_ok-set.ensures c.deref.ensures.value c.in_ok-lists.ensures
+    c.deref-2.result.now c.in_ok-components.components.items c.deref-4.result.now c.in_ok-turns.turns.items all.order.items
+    c.deref-2.ensures.value c.in_ok-components.ensures c.deref-4.ensures.value c.in_ok-turns.ensures taken.0) c.take_all.ensures
+
+pub returns-clause-parts : goal.returns-clause-parts
+returns-clause-parts c =
+    IfOk-weaker c.take_all.result _ _ (λ all taken.
+    parts_are c.args.deps.now c.args.ids.now c.in_ok-set.set.items c.deref.result.now c.in_ok-lists.lists c.in_ok-set.ensures c.deref.ensures.value c.in_ok-lists.ensures
+    c.deref-2.result.now c.in_ok-components.components.items c.deref-4.result.now c.in_ok-turns.turns.items all.order.items all.parts.items
+    c.deref-2.ensures.value c.in_ok-components.ensures c.deref-4.ensures.value c.in_ok-turns.ensures taken.0 taken.1) c.take_all.ensures
