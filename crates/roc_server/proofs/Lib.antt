@@ -14,3 +14,5 @@ mod Stands
 mod CellByCell
 mod Pairs
 mod IndexSteps
+mod Placed
+mod KeyedGroups

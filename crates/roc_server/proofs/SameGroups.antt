@@ -1,5 +1,5 @@
 -- Groups that differ in nothing but what they gave
-use Rattle.std.proofs.Common.{◌≡◌, ℕ, zero, suc, Bool, true, false, cond, List, [], ◌∷◌, map, Some, slice_get, slice_set, slice_index_or, refl, sym, ap, subst, ◌∙◌, arith, ◌||◌}
+use Rattle.std.proofs.Common.{◌≡◌, ℕ, zero, suc, Bool, true, false, cond, List, [], ◌∷◌, map, Some, slice_get, slice_set, refl, sym, ap, subst, ◌∙◌, arith, ◌||◌}
 use Rattle.std.proofs.lemmas.List.{length-map}
 use Rattle.std.proofs.lemmas.Bool.Decides.{nat_tests}
 use Rattle.std.specs.Option.{option_map}
@@ -26,12 +26,6 @@ set_same [] at e after got same = cc
 set_same (x ∷ xs) zero e after got same =
     let is : x ≡ e = cc in λ i. (same ∙ ap unrun (sym is)) i ∷ map unrun xs
 set_same (x ∷ xs) (suc k) e after got same = ap (λ ys. unrun x ∷ ys) (set_same xs k e after got same)
-
--- where one is set that is of the same transaction
-pub ids_kept : (xs : List StartedGroup) (at : ℕ) (e after : StartedGroup) → e ≡ slice_index_or xs at e → after.id ≡ e.id → map (λ (g : StartedGroup). g.id) (slice_set xs at after) ≡ map (λ (g : StartedGroup). g.id) xs
-ids_kept [] at e after is same = refl
-ids_kept (x ∷ xs) zero e after is same = λ i. (same ∙ ap (λ (g : StartedGroup). g.id) is) i ∷ map (λ (g : StartedGroup). g.id) xs
-ids_kept (x ∷ xs) (suc k) e after is same = ap (λ ids. x.id ∷ ids) (ids_kept xs k e after is same)
 
 pub fits_same : (plan : Plan) (old new : List StartedGroup) → AreSameGroups old new → AreGroupsOf plan old → AreGroupsOf plan new
 fits_same plan [] [] same fits = tt

@@ -4,3 +4,4 @@ pub mod ServerData
 pub mod Starts
 pub mod Runs
 pub mod Taught
+pub mod Keyed

@@ -1,14 +1,15 @@
 //! What the index has of a group.
-ghost use Rattle.std.specs.Prelude.{◌<◌, OnOk};
+ghost use Rattle.std.specs.Prelude.{◌<◌, false, OnOk};
 ghost use Rattle.std.specs.List.{AllByRecursion, list_any};
+ghost use Rattle.std.specs.Option.{option_copied, option_map_or};
 ghost use Rattle.roc_rows.specs.declared.cell.Cell.{Cell};
 ghost use Rattle.roc_rows.specs.Cells.{is_cell};
 ghost use Rattle.roc_server_index.specs.GroupRefs.{group_refs_at};
-ghost use Rattle.roc_places.specs.Passing.{passes_at};
 ghost use Rattle.roc_server.specs.Start.{uses_cell};
 ghost use Rattle.roc_server.specs.Inner.Indexed.{group_ref_of, IsAddedAt, IsOutOf, IsOut, AreGroupRefsOf, AreOut};
 
 use crate::StartedGroup;
+use crate::groups::group_at;
 use crate::started_groups::StartedGroups;
 use roc_base::{NoMemory, TxnId};
 use roc_group::Access;
@@ -46,17 +47,17 @@ fn take_out_one(index: &mut Index, started: &StartedGroups, id: TxnId)
     requires { AreGroupRefsOf started.now index.old }
     ensures { IsOut id index.old index.new }
 {
-    let groups = started.as_slice();
-    for at in started.all(id) {
-        take_out_at(index, groups, *at, id);
+    for number in 0..started.numbers() {
+        let group = group_at(started, started.place(id, number));
+        take_out_group(index, group, id);
     }
 }
 
-// Takes out those at the cells that the group at a place uses.
-fn take_out_at(index: &mut Index, groups: &[StartedGroup], at: usize, id: TxnId)
-    ensures { IsOutOf id (λ c. passes_at (uses_cell c) groups.now at) index.old index.new }
+// Takes out those at the cells that a group uses, where there is one.
+fn take_out_group(index: &mut Index, group: Option<&StartedGroup>, id: TxnId)
+    ensures { IsOutOf id (λ c. option_map_or (uses_cell c) (option_copied group.entry) false) index.old index.new }
 {
-    if let Some(e) = groups.get(at) {
+    if let Some(e) = group {
         take_out_of(index, e.cells.as_slice(), id);
     }
 }

@@ -20,6 +20,7 @@ mod commitoks;
 mod commits;
 mod fetches;
 mod first;
+mod group_key;
 mod groups;
 mod handled;
 mod indexed;

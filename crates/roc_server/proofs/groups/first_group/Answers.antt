@@ -1,7 +1,7 @@
 use Rattle.std.proofs.Common.{slice_get, ap, ◌∙◌}
 use Rattle.std.specs.Option.{option_and_then}
 use Rattle.roc_base.specs.TxnId.{is_txn}
-use Rattle.roc_places.proofs.Standing.{found_by_place}
+use Rattle.roc_server.proofs.Placed.{found_by_place}
 use Rattle.roc_server.proofs.groups.first_group.Goals as goal
 
 pub returns : goal.returns

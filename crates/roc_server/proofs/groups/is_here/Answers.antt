@@ -1,6 +1,6 @@
 use Rattle.std.proofs.Common.{is_some, ap, ◌∙◌}
 use Rattle.roc_base.specs.TxnId.{is_txn}
-use Rattle.roc_places.proofs.Standing.{any_placed}
+use Rattle.roc_server.proofs.Placed.{any_placed}
 use Rattle.roc_server.proofs.groups.is_here.Goals as goal
 
 pub returns : goal.returns

@@ -1,6 +1,20 @@
-use Rattle.std.proofs.Common.{refl}
-use Rattle.roc_server.proofs.SameGroups.{ids_kept}
+use Rattle.std.proofs.Common.{◌≡◌, ◌∙◌, map, Some, slice_set, sym, ap, refl}
+use Rattle.indexmap.proofs.CallerLemmas.{keys-with_value_at}
+use Rattle.indexmap.specs.IndexMap.{values}
+use Rattle.roc_server.specs.declared.started.StartedGroup.{StartedGroup}
+use Rattle.roc_server.specs.Inner.Keyed.{key_of}
+use Rattle.roc_server.proofs.KeyedGroups.{keys-set, values-set}
 use Rattle.roc_server.proofs.started_groups.set_later.Goals as goal
 
-pub returns-clause-ids : goal.returns-clause-ids
-returns-clause-ids c = ids_kept c.args.groups.now.items c.args.at c.index_mut-group.result.now _ c.index_mut-group.ensures.value refl
+pub returns-clause-later : goal.returns-clause-later
+returns-clause-later c = λ e got.
+    let same : Some c.index_mut-group.result.now ≡ Some e = sym c.index_mut-group.ensures.value ∙ got in
+    let is : c.index_mut-group.result.now ≡ e = cc in
+    values-set c.args.groups.now.entries c.args.at _ ∙ ap (λ (g : StartedGroup). slice_set (values c.args.groups.now) c.args.at (record g { later = Some c.args.given })) is
+
+pub returns-clause-keys : goal.returns-clause-keys
+returns-clause-keys c = keys-with_value_at c.args.groups.now c.args.at _
+
+pub returns-clause-keyed : goal.returns-clause-keyed
+returns-clause-keyed c =
+    ap (map key_of) (values-set c.args.groups.now.entries c.args.at _) ∙ keys-set (values c.args.groups.now) c.args.at c.index_mut-group.result.now _ c.index_mut-group.ensures.value refl
