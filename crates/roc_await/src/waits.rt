@@ -91,13 +91,11 @@ impl Waits {
         Ok(())
     }
 
-    /// Those who asked for the list of a transaction wait no longer. `NoMemory` leaves all as it was.
-    pub fn drop_askers(&mut self, id: TxnId) -> Result<(), NoMemory>
-        ensures ok { OnOk result (self.new ≡ record self.old { askers = without_askers_of id self.old.askers }) }
-        ensures err { OnErr result (self.new ≡ self.old) }
+    /// Those who asked for the list of a transaction wait no longer. Takes no memory.
+    pub fn drop_askers(&mut self, id: TxnId)
+        ensures { self.new ≡ record self.old { askers = without_askers_of id self.old.askers } }
     {
-        self.askers = without_askers_of(self.alloc, id, &self.askers)?;
-        Ok(())
+        take_out_askers(&mut self.askers, id);
     }
 }
 
@@ -188,9 +186,9 @@ fn is_before(a: &Asker, b: &Asker) -> bool
     a.id < b.id || (a.id == b.id && a.shard < b.shard)
 }
 
-// Those who asked for other lists.
-fn without_askers_of(alloc: Global, id: TxnId, all: &[Asker]) -> Result<Vec<Asker>, NoMemory>
-    ensures { IfOk result (λ v. v.items ≡ without_askers_of id all.now) }
+// Those who asked for other lists stay.
+fn take_out_askers(askers: &mut Vec<Asker>, id: TxnId)
+    ensures { askers.new.items ≡ without_askers_of id askers.old.items }
 {
-    Ok(all.iter().copied().filter(|a| a.id != id).collect(alloc)?)
+    askers.retain(|a| a.id != id);
 }

@@ -33,11 +33,10 @@ fn tell(askers: &[Asker], k: &KnownList, outbox: &mut Outbox) -> Result<(), NoMe
 }
 
 // Those who asked for the lists wait no longer.
-pub(crate) fn drop_all(waits: &mut Waits, news: &[KnownList]) -> Result<(), NoMemory>
-    ensures { OnOk result (waits.new ≡ record waits.old { askers = filter (λ a. not (list_any (λ k. is_txn k.of a.id) news.now)) waits.old.askers }) }
+pub(crate) fn drop_all(waits: &mut Waits, news: &[KnownList])
+    ensures { waits.new ≡ record waits.old { askers = filter (λ a. not (list_any (λ k. is_txn k.of a.id) news.now)) waits.old.askers } }
 {
     for k in news {
-        waits.drop_askers(k.of)?;
+        waits.drop_askers(k.of);
     }
-    Ok(())
 }

@@ -28,7 +28,7 @@ pub fn all_edges(alloc: Global, lists: &[KnownList]) -> Result<Edges, NoMemory>
 pub fn wait_for(waits: &mut Waits, news: &[KnownList], asks: &[OpenFetch]) -> Result<(), NoMemory>
     ensures { OnOk result (waits.new ≡ waiting_after waits.old news.now asks.now) }
 {
-    drop_all(waits, news)?;
+    drop_all(waits, news);
     keep_asked(waits, asks)
 }
 

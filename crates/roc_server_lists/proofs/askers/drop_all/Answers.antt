@@ -16,4 +16,4 @@ loop-k-preserved c =
     let more : take (i + 1) news ≡ take i news ++ c.k-item.result ∷ [] = take_more news i c.k-item.result within ∙ ap (λ x. take i news ++ x ∷ []) (sym c.k-item.is) in
     let P : List Asker → Waiting = λ xs. record c.args.waits.now { askers = xs } in
     let Q : Waiting → Waiting = λ w. record w { askers = without_askers_of c.k-item.result.of w.askers } in
-    c.in_ok-drop_askers.ensures.ok ∙ ap Q c.loop-k.invariant ∙ ap P (others_more (take i news) (take (i + 1) news) c.k-item.result c.args.waits.now.askers more)
+    c.drop_askers.ensures ∙ ap Q c.loop-k.invariant ∙ ap P (others_more (take i news) (take (i + 1) news) c.k-item.result c.args.waits.now.askers more)
