@@ -1,13 +1,12 @@
 -- What comes of an answer, for each way that its handling ends. `xs` are the transactions before it
 use Rattle.std.proofs.Common.{◌≡◌, ℕ, ℤ, ◌<◌, cond, not, List, ◌++◌, length, get_or, set, map, Option, Some, None, refl, sym, ap, subst, ◌∙◌}
-use Rattle.std.proofs.lemmas.List.{append-nil}
 use Rattle.std.specs.List.{filter, position, remove}
 use Rattle.roc_base.specs.declared.id.TxnId.{TxnId}
 use Rattle.roc_base.specs.declared.node.Shard.{Shard}
 use Rattle.roc_base.specs.TxnId.{is_txn, txn_lt}
 use Rattle.roc_base.specs.Equalities.{is_txn-true}
-use Rattle.roc_msg.specs.declared.outbox.Outbox.{Outbox}
-use Rattle.roc_msg.specs.declared.outbox.Outgoing.{Outgoing}
+use Rattle.roc_msg.specs.Outbox.{Collected, HasSent}
+use Rattle.roc_msg.proofs.Sent.{sent_none}
 use Rattle.roc_msg.specs.declared.reason.Reason.{Reason}
 use Rattle.roc_msg.specs.declared.reason.Reason.TheVariants.{Stale}
 use Rattle.roc_plan.specs.Groups.{Plan}
@@ -25,15 +24,13 @@ use Rattle.roc_coord.proofs.Among.{place_found, replaced, removed, remove-set}
 
 module _ (plan : Plan) (xs : List Transaction) (s : CoordState) (same : s.pending ≡ xs) where
   -- an ignored message leaves the transactions, and sends nothing
-  ignored_outcome : (step : CoordStep) (reason : Reason) (out : Outbox) → step ≡ ignored s reason → IsOutcome step (Ignored reason) (record s { pending = xs }) out out
+  ignored_outcome : (step : CoordStep) (reason : Reason) (out : Collected) → step ≡ ignored s reason → IsOutcome step (Ignored reason) (record s { pending = xs }) out out
   ignored_outcome step reason out e =
       let with_list : List Transaction → CoordState = λ pending. record s { pending = pending } in
-      let with_sends : List Outgoing → Outbox = λ sends. record out { messages = sends } in
-      let after : CoordStep → Outbox = λ t. record out { messages = out.messages ++ t.sends } in
       record {
         answer = sym (ap (λ (t : CoordStep). t.answer) e);
         state = ap with_list (sym same) ∙ sym (ap (λ (t : CoordStep). t.state) e);
-        sent = ap with_sends (sym (append-nil out.messages)) ∙ sym (ap after e);
+        sent = subst (HasSent out out) (sym (ap (λ (t : CoordStep). t.sends) e)) (sent_none out);
       }
 
   -- the transaction at a place is now another one of its id
@@ -45,10 +42,10 @@ module _ (plan : Plan) (xs : List Transaction) (s : CoordState) (same : s.pendin
 
   module _ (id : TxnId) where
     -- of no transaction here
-    pub startok_absent : (ok : TakenStart) (shard : Shard) (out : Outbox) → position (λ x. is_txn x.id id) xs ≡ None → IsOutcome (after_startok plan s (find_transaction id xs) ok shard) (Ignored Stale) (record s { pending = xs }) out out
+    pub startok_absent : (ok : TakenStart) (shard : Shard) (out : Collected) → position (λ x. is_txn x.id id) xs ≡ None → IsOutcome (after_startok plan s (find_transaction id xs) ok shard) (Ignored Stale) (record s { pending = xs }) out out
     startok_absent ok shard out h = ignored_outcome (after_startok plan s (find_transaction id xs) ok shard) Stale out (ap (λ o. after_startok plan s o ok shard) (not_found (λ x. is_txn x.id id) xs h))
 
-    pub commitok_absent : (ok : TakenCommit) (out : Outbox) → position (λ x. is_txn x.id id) xs ≡ None → IsOutcome (after_commitok plan s (find_transaction id xs) ok) (Ignored Stale) (record s { pending = xs }) out out
+    pub commitok_absent : (ok : TakenCommit) (out : Collected) → position (λ x. is_txn x.id id) xs ≡ None → IsOutcome (after_commitok plan s (find_transaction id xs) ok) (Ignored Stale) (record s { pending = xs }) out out
     commitok_absent ok out h = ignored_outcome (after_commitok plan s (find_transaction id xs) ok) Stale out (ap (λ o. after_commitok plan s o ok) (not_found (λ x. is_txn x.id id) xs h))
 
     module _ (at : ℕ) (place : position (λ x. is_txn x.id id) xs ≡ Some at) (x : Transaction) (is : x ≡ get_or xs at x) where
@@ -62,13 +59,13 @@ module _ (plan : Plan) (xs : List Transaction) (s : CoordState) (same : s.pendin
       within = (place_found (λ v. is_txn v.id id) xs at place).within
 
       -- a StartOk that there is a reason to ignore, and one that is taken
-      pub startok_refused : (ok : TakenStart) (shard : Shard) (out : Outbox) (reason : Reason) → startok_refusal plan x ok shard ≡ Some reason → IsOutcome (after_startok plan s (find_transaction id xs) ok shard) (Ignored reason) (record s { pending = xs }) out out
+      pub startok_refused : (ok : TakenStart) (shard : Shard) (out : Collected) (reason : Reason) → startok_refusal plan x ok shard ≡ Some reason → IsOutcome (after_startok plan s (find_transaction id xs) ok shard) (Ignored reason) (record s { pending = xs }) out out
       startok_refused ok shard out reason h =
           ignored_outcome (after_startok plan s (find_transaction id xs) ok shard) reason out
           (ap (λ o. after_startok plan s o ok shard) found ∙ ap (λ o. unless_refused s o (startok_taken plan s (with_startok x ok))) h)
 
-      pub startok_done : (ok : TakenStart) (shard : Shard) (before after : Outbox) (y : Transaction) → IsRising txn_lt (ids_of xs) → startok_refusal plan x ok shard ≡ None → y ≡ with_commits plan (with_starts plan (with_startok x ok)) → y.id ≡ x.id
-          → after ≡ record before { messages = before.messages ++ sends_after plan (with_startok x ok) }
+      pub startok_done : (ok : TakenStart) (shard : Shard) (before after : Collected) (y : Transaction) → IsRising txn_lt (ids_of xs) → startok_refusal plan x ok shard ≡ None → y ≡ with_commits plan (with_starts plan (with_startok x ok)) → y.id ≡ x.id
+          → HasSent before after (sends_after plan (with_startok x ok))
           → IsOutcome (after_startok plan s (find_transaction id xs) ok shard) Done (record s { pending = set xs at y }) before after
       startok_done ok shard before after y rising h e f g =
           let taken : CoordStep = startok_taken plan s (with_startok x ok) in
@@ -77,12 +74,12 @@ module _ (plan : Plan) (xs : List Transaction) (s : CoordState) (same : s.pendin
           record { answer = refl; state = put_back at x y (with_commits plan (with_starts plan (with_startok x ok))) rising within is f e; sent = g }
           in subst (λ t. IsOutcome t Done (record s { pending = set xs at y }) before after) (sym step) outcome
 
-      pub commitok_refused : (ok : TakenCommit) (out : Outbox) (reason : Reason) → commitok_refusal plan x ok ≡ Some reason → IsOutcome (after_commitok plan s (find_transaction id xs) ok) (Ignored reason) (record s { pending = xs }) out out
+      pub commitok_refused : (ok : TakenCommit) (out : Collected) (reason : Reason) → commitok_refusal plan x ok ≡ Some reason → IsOutcome (after_commitok plan s (find_transaction id xs) ok) (Ignored reason) (record s { pending = xs }) out out
       commitok_refused ok out reason h =
           ignored_outcome (after_commitok plan s (find_transaction id xs) ok) reason out
           (ap (λ o. after_commitok plan s o ok) found ∙ ap (λ o. unless_refused s o (commitok_taken s (with_commitok x ok) (reply_now plan (with_commitok x ok)))) h)
 
-      pub commitok_done : (ok : TakenCommit) (out : Outbox) → IsRising txn_lt (ids_of xs) → commitok_refusal plan x ok ≡ None → reply_now plan (with_commitok x ok) ≡ None
+      pub commitok_done : (ok : TakenCommit) (out : Collected) → IsRising txn_lt (ids_of xs) → commitok_refusal plan x ok ≡ None → reply_now plan (with_commitok x ok) ≡ None
           → IsOutcome (after_commitok plan s (find_transaction id xs) ok) Done (record s { pending = set xs at (with_commitok x ok) }) out out
       commitok_done ok out rising h k =
           let y = with_commitok x ok in
@@ -90,12 +87,11 @@ module _ (plan : Plan) (xs : List Transaction) (s : CoordState) (same : s.pendin
           let step : after_commitok plan s (find_transaction id xs) ok ≡ taken None =
           ap (λ o. after_commitok plan s o ok) found ∙ ap (λ o. unless_refused s o (taken (reply_now plan y))) h ∙ ap taken k
           in
-          let with_sends : List Outgoing → Outbox = λ sends. record out { messages = sends } in
           let outcome : IsOutcome (taken None) Done (record s { pending = set xs at y }) out out =
-          record { answer = refl; state = put_back at x y y rising within is refl refl; sent = ap with_sends (sym (append-nil out.messages)) }
+          record { answer = refl; state = put_back at x y y rising within is refl refl; sent = sent_none out }
           in subst (λ t. IsOutcome t Done (record s { pending = set xs at y }) out out) (sym step) outcome
 
-      pub commitok_answered : (ok : TakenCommit) (out : Outbox) (reply : List ℤ) → IsRising txn_lt (ids_of xs) → commitok_refusal plan x ok ≡ None → reply_now plan (with_commitok x ok) ≡ Some reply
+      pub commitok_answered : (ok : TakenCommit) (out : Collected) (reply : List ℤ) → IsRising txn_lt (ids_of xs) → commitok_refusal plan x ok ≡ None → reply_now plan (with_commitok x ok) ≡ Some reply
           → IsOutcome (after_commitok plan s (find_transaction id xs) ok) (Answered id reply) (record s { pending = remove (set xs at (with_commitok x ok)) at }) out out
       commitok_answered ok out reply rising h k =
           let y = with_commitok x ok in
@@ -103,7 +99,6 @@ module _ (plan : Plan) (xs : List Transaction) (s : CoordState) (same : s.pendin
           let step : after_commitok plan s (find_transaction id xs) ok ≡ taken (Some reply) =
           ap (λ o. after_commitok plan s o ok) found ∙ ap (λ o. unless_refused s o (taken (reply_now plan y))) h ∙ ap taken k
           in
-          let with_sends : List Outgoing → Outbox = λ sends. record out { messages = sends } in
           let with_list : List Transaction → CoordState = λ pending. record s { pending = pending } in
           let without : List Transaction → CoordState = λ pending. record s { pending = filter (λ v. not (is_txn v.id id)) pending } in
           let at_id = ap (λ (v : Transaction). v.id) (sym is) ∙ own_id in
@@ -111,6 +106,6 @@ module _ (plan : Plan) (xs : List Transaction) (s : CoordState) (same : s.pendin
           record {
             answer = ap (λ v. Answered v reply) (sym own_id);
             state = ap with_list (remove-set xs at y ∙ removed xs at x id rising within at_id) ∙ ap without (sym same) ∙ ap (without_transaction s) (sym own_id);
-            sent = ap with_sends (sym (append-nil out.messages));
+            sent = sent_none out;
           }
           in subst (λ t. IsOutcome t (Answered id reply) (record s { pending = remove (set xs at y) at }) out out) (sym step) outcome

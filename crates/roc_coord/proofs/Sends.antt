@@ -1,11 +1,12 @@
 -- One more element of a list whose elements are sent one after another
-use Rattle.std.proofs.Common.{◌≡◌, ℕ, ◌+◌, ◌<◌, ◌≤◌, List, [], ◌∷◌, ◌++◌, length, get_or, take, map, zip, ap, ◌∙◌, sym, append_assoc, append-nil, min, arith, Bool, true, false, cond}
+use Rattle.std.proofs.Common.{◌≡◌, ℕ, ◌+◌, ◌<◌, ◌≤◌, List, [], ◌∷◌, ◌++◌, length, get_or, take, map, zip, ap, subst, ◌∙◌, sym, append_assoc, append-nil, min, arith, Bool, true, false, cond}
 use Rattle.std.proofs.lemmas.List.{map_more, take_more, take_all}
 use Rattle.std.proofs.lemmas.List.Elements.{filter_more}
 use Rattle.std.specs.List.{filter}
 use Rattle.std.proofs.lemmas.Slice.Zip.{length-zip, get_or-zip}
 use Rattle.roc_msg.specs.declared.outbox.Outgoing.{Outgoing}
-use Rattle.roc_msg.specs.declared.outbox.Outbox.{Outbox}
+use Rattle.roc_msg.specs.Outbox.{Collected, HasSent}
+use Rattle.roc_msg.proofs.Sent.{sent_then}
 
 -- what was gathered of the elements so far, and of one more
 pub gathered_more : {X Y : Type 0} (f : X → Y) (xs : List X) (i : ℕ) (x d : X) (before : List Y) → i < length xs → x ≡ get_or xs i d → (before ++ map f (take i xs)) ++ f x ∷ [] ≡ before ++ map f (take (i + 1) xs)
@@ -25,18 +26,16 @@ pub zipped_all : {X Y : Type 0} (xs : List X) (ys : List Y) (i : ℕ) → i ≡ 
 zipped_all xs ys i e = take_all i (zip xs ys) (omega (arith, length-zip xs ys))
 
 -- an outbox has gained one more message
-pub sent_one_more : {X : Type 0} (f : X → Outgoing) (xs : List X) (i : ℕ) (x d : X) (first before after : Outbox) (sent : Outgoing) → i < length xs → x ≡ get_or xs i d
-    → before ≡ record first { messages = first.messages ++ map f (take i xs) } → sent ≡ f x → after ≡ record before { messages = before.messages ++ sent ∷ [] }
-    → after ≡ record first { messages = first.messages ++ map f (take (i + 1) xs) }
+pub sent_one_more : {X : Type 0} (f : X → Outgoing) (xs : List X) (i : ℕ) (x d : X) (first before after : Collected) (sent : Outgoing) → i < length xs → x ≡ get_or xs i d
+    → HasSent first before (map f (take i xs)) → sent ≡ f x → HasSent before after (sent ∷ [])
+    → HasSent first after (map f (take (i + 1) xs))
 sent_one_more f xs i x d first before after sent h is e s a =
-    let add : Outbox → Outbox = λ o. record o { messages = o.messages ++ sent ∷ [] } in
-    let with_messages : List Outgoing → Outbox = λ m. record first { messages = m } in
-    let with_sent : Outgoing → List Outgoing = λ v. (first.messages ++ map f (take i xs)) ++ v ∷ [] in
-    a ∙ ap add e ∙ ap with_messages (ap with_sent s ∙ gathered_more f xs i x d first.messages h is)
+    let both = sent_then first before after (map f (take i xs)) (sent ∷ []) e a in
+    subst (HasSent first after) (ap (λ v. map f (take i xs) ++ v ∷ []) s ∙ gathered_more f xs i x d [] h is) both
 
 -- all were sent
-pub sent_all : {X : Type 0} (f : X → Outgoing) (xs : List X) (i : ℕ) (first after : Outbox) → length xs ≤ i → after ≡ record first { messages = first.messages ++ map f (take i xs) } → after ≡ record first { messages = first.messages ++ map f xs }
-sent_all f xs i first after h e = e ∙ ap (λ ys. record first { messages = first.messages ++ map f ys }) (take_all i xs h)
+pub sent_all : {X : Type 0} (f : X → Outgoing) (xs : List X) (i : ℕ) (first after : Collected) → length xs ≤ i → HasSent first after (map f (take i xs)) → HasSent first after (map f xs)
+sent_all f xs i first after h e = subst (λ ys. HasSent first after (map f ys)) (take_all i xs h) e
 
 -- a test passes one more element, or does not
 module _ {X : Type 0} (p : X → Bool) (xs : List X) (i : ℕ) (d : X) (ys zs : List X) (within : i < length xs) (so_far : ys ≡ filter p (take i xs)) where

@@ -3,13 +3,13 @@ use Rattle.std.proofs.Common.{◌≡◌, ℕ, ◌+◌, ◌<◌, List, [], ◌∷
 use Rattle.std.specs.List.{AllByRecursion}
 use Rattle.roc_base.specs.declared.node.Shard.{Shard}
 use Rattle.roc_msg.specs.declared.outbox.Outgoing.{Outgoing}
-use Rattle.roc_msg.specs.declared.outbox.Outbox.{Outbox}
+use Rattle.roc_msg.specs.Outbox.{Collected, HasSent}
 use Rattle.roc_plan.specs.Groups.{Plan, groups_of}
 use Rattle.roc_coord.specs.declared.transaction.SentStart.{SentStart}
 use Rattle.roc_coord.specs.declared.transaction.Transaction.{Transaction}
 use Rattle.roc_coord.specs.Fits.{IsTransactionOf}
 use Rattle.roc_coord.specs.Starts.{shard_for, start_for, sent_start}
-use Rattle.roc_coord.proofs.Sends.{gathered_more}
+use Rattle.roc_coord.proofs.Sends.{gathered_more, sent_one_more}
 use Rattle.roc_sequence.proofs.Holds.{all_append}
 
 module _ (plan : Plan) (x y : Transaction) (ready : List ℕ) (i g : ℕ) (within : i < length ready) (at : g ≡ get_or ready i 0) (kept : y ≡ record x { starts = x.starts ++ map (sent_start plan x) (take i ready) }) where
@@ -27,14 +27,11 @@ module _ (plan : Plan) (x y : Transaction) (ready : List ℕ) (i g : ℕ) (withi
           ap with_starts (f ∙ ap with_start e ∙ gathered_more (sent_start plan x) ready i g 0 x.starts within at)
 
   -- the outbox has one more start
-  pub sent_more : (first before after : Outbox) (sent : Outgoing) → before ≡ record first { messages = first.messages ++ map (start_for plan x) (take i ready) } → sent ≡ start_for plan y g → after ≡ record before { messages = before.messages ++ sent ∷ [] } → after ≡ record first { messages = first.messages ++ map (start_for plan x) (take (i + 1) ready) }
+  pub sent_more : (first before after : Collected) (sent : Outgoing) → HasSent first before (map (start_for plan x) (take i ready)) → sent ≡ start_for plan y g → HasSent before after (sent ∷ []) → HasSent first after (map (start_for plan x) (take (i + 1) ready))
   sent_more first before after sent e f h =
       let start_at : Transaction → Outgoing = λ v. start_for plan v g in
       let is_start : sent ≡ start_for plan x g = f ∙ ap start_at kept in
-      let add : Outbox → Outbox = λ o. record o { messages = o.messages ++ sent ∷ [] } in
-      let with_messages : List Outgoing → Outbox = λ m. record first { messages = m } in
-      let with_sent : Outgoing → List Outgoing = λ s. (first.messages ++ map (start_for plan x) (take i ready)) ++ s ∷ [] in
-      h ∙ ap add e ∙ ap with_messages (ap with_sent is_start ∙ gathered_more (start_for plan x) ready i g 0 first.messages within at)
+      sent_one_more (start_for plan x) ready i g 0 first before after sent within at e is_start h
 
 -- a transaction of the plan is one with one more start of the plan's
 pub fits_more : (plan : Plan) (x : Transaction) (start : SentStart) (starts : List SentStart) → IsTransactionOf plan x → start.group < length (groups_of plan x.proc) → starts ≡ x.starts ++ start ∷ [] → IsTransactionOf plan (record x { starts = starts })

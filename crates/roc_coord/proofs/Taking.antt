@@ -1,8 +1,9 @@
 -- What a transaction is with one more startok, and what is sent: with the commits once every group has started
-use Rattle.std.proofs.Common.{◌≡◌, Bool, true, false, cond, List, [], ◌∷◌, ◌++◌, append_assoc, append-nil, ap, sym, ◌∙◌}
+use Rattle.std.proofs.Common.{◌≡◌, Bool, true, false, cond, List, [], ◌∷◌, ◌++◌, append-nil, ap, subst, sym, ◌∙◌}
 use Rattle.roc_base.specs.declared.node.Shard.{Shard}
 use Rattle.roc_msg.specs.declared.outbox.Outgoing.{Outgoing}
-use Rattle.roc_msg.specs.declared.outbox.Outbox.{Outbox}
+use Rattle.roc_msg.specs.Outbox.{Collected, HasSent}
+use Rattle.roc_msg.proofs.Sent.{sent_then}
 use Rattle.roc_plan.specs.Groups.{Plan}
 use Rattle.roc_coord.specs.declared.transaction.TakenStart.{TakenStart}
 use Rattle.roc_coord.specs.declared.transaction.Transaction.{Transaction}
@@ -12,9 +13,9 @@ use Rattle.roc_coord.specs.Step.{with_commits, with_startok, sends_after}
 pub started : (plan : Plan) (x y : Transaction) (ok : TakenStart) (startoks : List TakenStart) → startoks ≡ x.startoks ++ ok ∷ [] → y ≡ with_starts plan (record x { startoks = startoks }) → y ≡ with_starts plan (with_startok x ok)
 started plan x y ok startoks e h = h ∙ ap (λ s. with_starts plan (record x { startoks = s })) e
 
-pub starts_sent : (plan : Plan) (x : Transaction) (ok : TakenStart) (startoks : List TakenStart) (before after : Outbox) → startoks ≡ x.startoks ++ ok ∷ []
-    → after ≡ record before { messages = before.messages ++ starts_of plan (record x { startoks = startoks }) } → after ≡ record before { messages = before.messages ++ starts_of plan (with_startok x ok) }
-starts_sent plan x ok startoks before after e h = h ∙ ap (λ s. record before { messages = before.messages ++ starts_of plan (record x { startoks = s }) }) e
+pub starts_sent : (plan : Plan) (x : Transaction) (ok : TakenStart) (startoks : List TakenStart) (before after : Collected) → startoks ≡ x.startoks ++ ok ∷ []
+    → HasSent before after (starts_of plan (record x { startoks = startoks })) → HasSent before after (starts_of plan (with_startok x ok))
+starts_sent plan x ok startoks before after e h = subst (λ s. HasSent before after (starts_of plan (record x { startoks = s }))) e h
 
 module _ (plan : Plan) (x y : Transaction) (kept : y ≡ with_starts plan x) where
   all_of : (b : Bool) → all_started plan y ≡ b → all_started plan (with_starts plan x) ≡ b
@@ -26,11 +27,10 @@ module _ (plan : Plan) (x y : Transaction) (kept : y ≡ with_starts plan x) whe
       let z : Transaction = with_starts plan x in
       kept ∙ ap (λ b. cond b (record z { asked = shards_of z }) z) (sym (all_of false e))
 
-  pub sent_while_some_wait : (before after : Outbox) → all_started plan y ≡ false → after ≡ record before { messages = before.messages ++ starts_of plan x } → after ≡ record before { messages = before.messages ++ sends_after plan x }
+  pub sent_while_some_wait : (before after : Collected) → all_started plan y ≡ false → HasSent before after (starts_of plan x) → HasSent before after (sends_after plan x)
   sent_while_some_wait before after e h =
-      let with_messages : List Outgoing → Outbox = λ m. record before { messages = before.messages ++ m } in
       let commits : Bool → List Outgoing = λ b. starts_of plan x ++ cond b (commits_of (with_starts plan x)) [] in
-      h ∙ ap with_messages (sym (append-nil (starts_of plan x)) ∙ ap commits (sym (all_of false e)))
+      subst (HasSent before after) (sym (append-nil (starts_of plan x)) ∙ ap commits (sym (all_of false e))) h
 
   -- each has
   pub none_wait : (w : Transaction) → all_started plan y ≡ true → w.asked ≡ shards_of y → w ≡ record y { asked = w.asked } → w ≡ with_commits plan (with_starts plan x)
@@ -40,11 +40,9 @@ module _ (plan : Plan) (x y : Transaction) (kept : y ≡ with_starts plan x) whe
       let asked_all : Transaction → Transaction = λ v. record v { asked = shards_of v } in
       others ∙ ap with_asked asked ∙ ap asked_all kept ∙ ap (λ b. cond b (record z { asked = shards_of z }) z) (sym (all_of true e))
 
-  pub sent_where_none_wait : (before middle after : Outbox) → all_started plan y ≡ true → middle ≡ record before { messages = before.messages ++ starts_of plan x } → after ≡ record middle { messages = middle.messages ++ commits_of y }
-      → after ≡ record before { messages = before.messages ++ sends_after plan x }
+  pub sent_where_none_wait : (before middle after : Collected) → all_started plan y ≡ true → HasSent before middle (starts_of plan x) → HasSent middle after (commits_of y)
+      → HasSent before after (sends_after plan x)
   sent_where_none_wait before middle after e h k =
-      let with_messages : List Outgoing → Outbox = λ m. record before { messages = m } in
-      let add : Outbox → Outbox = λ o. record o { messages = o.messages ++ commits_of y } in
-      let commits : Bool → List Outgoing = λ b. before.messages ++ (starts_of plan x ++ cond b (commits_of (with_starts plan x)) []) in
-      let commits_for : Transaction → List Outgoing = λ v. (before.messages ++ starts_of plan x) ++ commits_of v in
-      k ∙ ap add h ∙ ap with_messages (ap commits_for kept ∙ append_assoc before.messages (starts_of plan x) (commits_of (with_starts plan x)) ∙ ap commits (sym (all_of true e)))
+      let commits : Bool → List Outgoing = λ b. starts_of plan x ++ cond b (commits_of (with_starts plan x)) [] in
+      let commits_for : Transaction → List Outgoing = λ v. starts_of plan x ++ commits_of v in
+      subst (HasSent before after) (ap commits_for kept ∙ ap commits (sym (all_of true e))) (sent_then before middle after (starts_of plan x) (commits_of y) h k)

@@ -5,8 +5,8 @@ use Rattle.roc_base.specs.declared.id.TxnId.{TxnId}
 use Rattle.roc_base.specs.declared.node.Shard.{Shard}
 use Rattle.roc_base.specs.TxnId.{is_txn}
 use Rattle.roc_msg.specs.declared.msg.Msg.{Msg}
-use Rattle.roc_msg.specs.declared.msg.Msg.TheVariants.{StartOk, CommitOk}
-use Rattle.roc_msg.specs.declared.outbox.Outbox.{Outbox}
+use Rattle.roc_msg.specs.declared.msg.Msg.TheVariants.{Start, StartOk, Commit, CommitOk, Fetch, Known, Stop}
+use Rattle.roc_msg.specs.Outbox.{Collected, HasSent}
 use Rattle.roc_msg.specs.declared.outbox.Outgoing.{Outgoing}
 use Rattle.roc_msg.specs.declared.reason.Reason.{Reason}
 use Rattle.roc_msg.specs.declared.reason.Reason.TheVariants.{Foreign, Stale, Unfit}
@@ -21,10 +21,10 @@ use Rattle.roc_coord.specs.Starts.{with_starts, starts_of, all_started, shards_o
 use Rattle.roc_coord.specs.Commits.{places_on, all_committed, reply_of}
 
 -- this was answered, the state is now this one, and an outbox has gained what is sent
-pub record IsOutcome (step : CoordStep) (answered : Handled) (reached : CoordState) (before after : Outbox) : Type 0 where
+pub record IsOutcome (step : CoordStep) (answered : Handled) (reached : CoordState) (before after : Collected) : Type 0 where
   pub answer : answered ≡ step.answer
   pub state : reached ≡ step.state
-  pub sent : after ≡ record before { messages = before.messages ++ step.sends }
+  pub sent : HasSent before after (step.sends)
 
 -- where there is a reason to, a message is ignored
 abbrev pub unless_refused : CoordState → Option Reason → CoordStep → CoordStep

@@ -1,7 +1,7 @@
 -- A submission: docs/PROTOCOL.md, "Coordinator"
 use Rattle.std.specs.Prelude.{◌≡◌, ℕ, ℤ, not, ◌+◌, ◌==◌, nat_le, List, [], ◌∷◌, ◌++◌, Option, Some, None, Result, Ok, Err, length, if◌then◌else◌}
 use Rattle.roc_base.specs.declared.id.TxnId.{TxnId}
-use Rattle.roc_msg.specs.declared.outbox.Outbox.{Outbox}
+use Rattle.roc_msg.specs.Outbox.{Collected, HasSent}
 use Rattle.roc_msg.specs.declared.outbox.Outgoing.{Outgoing}
 use Rattle.roc_plan.specs.Groups.{Plan, procedure_of, is_transaction}
 use Rattle.roc_coord.specs.declared.handled.SubmitFault.{SubmitFault}
@@ -64,10 +64,10 @@ abbrev pub after_submit : Plan → CoordState → ℕ → List ℤ → Submissio
 after_submit plan s proc args = refused_or_accepted plan s proc args (refusal_of plan s proc args)
 
 -- this was answered, the state is now this one, and an outbox has gained what is sent
-pub record IsSubmitted (submission : Submission) (answered : Result TxnId SubmitFault) (reached : CoordState) (before after : Outbox) : Type 0 where
+pub record IsSubmitted (submission : Submission) (answered : Result TxnId SubmitFault) (reached : CoordState) (before after : Collected) : Type 0 where
   pub answer : answered ≡ submission.answer
   pub state : reached ≡ submission.state
-  pub sent : after ≡ record before { messages = before.messages ++ submission.sends }
+  pub sent : HasSent before after (submission.sends)
 
 -- the coordinator found no memory, in the call or before it; or else the fact holds
 abbrev pub UnlessStopped : Result TxnId SubmitFault → Type 0 → Type 0

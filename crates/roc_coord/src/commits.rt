@@ -2,6 +2,7 @@
 ghost use Rattle.std.specs.Prelude.{◌≡◌, ◌++◌, ◌==◌, not, filter, map, IfOk, OnOk};
 ghost use Rattle.std.specs.List.{flat_map, list_any};
 ghost use Rattle.roc_base.specs.Edges.{united};
+ghost use Rattle.roc_msg.specs.Outbox.{HasSent};
 ghost use Rattle.roc_coord.specs.State.{has_commitok};
 ghost use Rattle.roc_coord.specs.Starts.{shards_below, shards_of, commit_to, commits_of};
 ghost use Rattle.roc_coord.specs.Commits.{all_committed};
@@ -64,7 +65,7 @@ fn send_each(
     shards: &[Shard],
     outbox: &mut Outbox,
 ) -> Result<(), NoMemory>
-    ensures { OnOk result (outbox.new ≡ record outbox.old { messages = outbox.old.messages ++ map (commit_with id edges.now facts.now) shards.now }) }
+    ensures { OnOk result (HasSent outbox.old outbox.new (map (commit_with id edges.now facts.now) shards.now)) }
 {
     for shard in shards {
         let commit = Msg::Commit {
@@ -84,7 +85,7 @@ fn send_to(
     shards: &[Shard],
     outbox: &mut Outbox,
 ) -> Result<(), NoMemory>
-    ensures { OnOk result (outbox.new ≡ record outbox.old { messages = outbox.old.messages ++ map (commit_to x.now) shards.now }) }
+    ensures { OnOk result (HasSent outbox.old outbox.new (map (commit_to x.now) shards.now)) }
 {
     let edges = all_edges(alloc, x.startoks.as_slice())?;
     let facts = all_facts(alloc, x)?;
@@ -99,7 +100,7 @@ pub(crate) fn send_commits(
     outbox: &mut Outbox,
 ) -> Result<(), NoMemory>
     ensures asked { OnOk result (x.new.asked ≡ shards_of x.old) }
-    ensures sent { OnOk result (outbox.new ≡ record outbox.old { messages = outbox.old.messages ++ commits_of x.old }) }
+    ensures sent { OnOk result (HasSent outbox.old outbox.new (commits_of x.old)) }
     ensures others { x.new ≡ record x.old { asked = x.new.asked } }
 {
     let shards = shards_below(alloc, x.starts.as_slice(), SHARDS)?;
@@ -127,7 +128,7 @@ pub(crate) fn send_commits_again(
     x: &Transaction,
     outbox: &mut Outbox,
 ) -> Result<(), NoMemory>
-    ensures { OnOk result (outbox.new ≡ record outbox.old { messages = outbox.old.messages ++ commits_again x.now }) }
+    ensures { OnOk result (HasSent outbox.old outbox.new (commits_again x.now)) }
 {
     let shards = unanswered(alloc, x)?;
     send_to(alloc, x, shards.as_slice(), outbox)

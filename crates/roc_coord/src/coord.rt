@@ -1,5 +1,6 @@
 //! A coordinator: submissions and the answers to its requests.
 ghost use Rattle.std.specs.Prelude.{◌≡◌, ◌<◌, ◌++◌, ◌↔◌, length, true, None, IfOk, OnOk};
+ghost use Rattle.roc_msg.specs.Outbox.{HasSent};
 ghost use Rattle.roc_plan.specs.Groups.{procedure_of};
 ghost use Rattle.roc_coord.specs.State.{first_coord};
 ghost use Rattle.roc_coord.specs.Ids.{ids_of};
@@ -134,7 +135,7 @@ impl Coord {
     /// nothing but that `NoMemory`, which promises nothing of `outbox`, stops the coordinator.
     pub fn tick(&mut self, plan: &Plan, outbox: &mut Outbox) -> Result<(), NodeFault>
         requires { CoordFits plan.now self.old }
-        ensures sent { OnOk result (outbox.new ≡ record outbox.old { messages = outbox.old.messages ++ tick_sends plan.now self.old }) }
+        ensures sent { OnOk result (HasSent outbox.old outbox.new (tick_sends plan.now self.old)) }
         ensures same { OnOk result (self.new ≡ self.old) }
         ensures stopped { (result ≡ Err NodeFault.Stopped) ↔ (self.old.stopped ≡ true) }
         ensures unchanged { result ≡ Err NodeFault.Stopped → (self.new ≡ self.old) × (outbox.new ≡ outbox.old) }
@@ -251,7 +252,7 @@ fn started(
     requires proc { proc < length plan.now.program.procedures }
     requires args { length args.now ≡ (procedure_of plan.now proc).arguments }
     ensures kept { IfOk result (λ x. x ≡ with_starts plan.now (unstarted id proc args.now)) }
-    ensures sent { OnOk result (outbox.new ≡ record outbox.old { messages = outbox.old.messages ++ starts_of plan.now (unstarted id proc args.now) }) }
+    ensures sent { OnOk result (HasSent outbox.old outbox.new (starts_of plan.now (unstarted id proc args.now))) }
     ensures fits { IfOk result (IsTransactionOf plan.now) }
 {
     let mut x = Transaction {

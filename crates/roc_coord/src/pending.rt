@@ -2,6 +2,7 @@
 ghost use Rattle.std.specs.Prelude.{◌≡◌, ◌<◌, ◌++◌, ◌∷◌, [], position, length, ℕ, IsTrue, IfOk, OnOk, OnErr};
 ghost use Rattle.std.specs.List.{flat_map, AllByRecursion};
 ghost use Rattle.roc_base.specs.TxnId.{is_txn, txn_lt};
+ghost use Rattle.roc_msg.specs.Outbox.{HasSent};
 ghost use Rattle.roc_msg.specs.declared.outbox.Outbox.{Outbox};
 ghost use Rattle.roc_coord.specs.State.{find_transaction, CoordState};
 ghost use Rattle.roc_coord.specs.Fits.{IsTransactionOf};
@@ -123,7 +124,7 @@ impl Pending {
         outbox: &mut Outbox,
     ) -> Result<(), NoMemory>
         requires { AllByRecursion (IsTransactionOf plan.now) self.now }
-        ensures { OnOk result (outbox.new ≡ record outbox.old { messages = outbox.old.messages ++ flat_map (sent_again plan.now) self.now }) }
+        ensures { OnOk result (HasSent outbox.old outbox.new (flat_map (sent_again plan.now) self.now)) }
     {
         send_each_again(alloc, plan, self.transactions.as_slice(), outbox)
     }
@@ -206,7 +207,7 @@ fn send_each_again(
     outbox: &mut Outbox,
 ) -> Result<(), NoMemory>
     requires { AllByRecursion (IsTransactionOf plan.now) transactions.now }
-    ensures { OnOk result (outbox.new ≡ record outbox.old { messages = outbox.old.messages ++ flat_map (sent_again plan.now) transactions.now }) }
+    ensures { OnOk result (HasSent outbox.old outbox.new (flat_map (sent_again plan.now) transactions.now)) }
 {
     for x in transactions {
         send_again(alloc, plan, x, outbox)?;

@@ -1,6 +1,7 @@
 //! The start round: which groups can start, and what is sent to start them.
 ghost use Rattle.std.specs.Prelude.{◌≡◌, ◌<◌, ◌++◌, length, filter, map, is_some, IfOk, OnOk, All};
 ghost use Rattle.std.specs.Option.{option_copied};
+ghost use Rattle.roc_msg.specs.Outbox.{HasSent};
 ghost use Rattle.roc_plan.specs.Groups.{groups_of};
 ghost use Rattle.roc_coord.specs.State.{find_start, find_startok};
 ghost use Rattle.roc_coord.specs.Fits.{IsTransactionOf};
@@ -131,7 +132,7 @@ fn send_each(
     requires transaction { IsTransactionOf plan.now x.old }
     requires groups { All (λ group. group < length (groups_of plan.now x.old.proc)) ready.now }
     ensures kept { OnOk result (x.new ≡ record x.old { starts = x.old.starts ++ map (sent_start plan.now x.old) ready.now }) }
-    ensures sent { OnOk result (outbox.new ≡ record outbox.old { messages = outbox.old.messages ++ map (start_for plan.now x.old) ready.now }) }
+    ensures sent { OnOk result (HasSent outbox.old outbox.new (map (start_for plan.now x.old) ready.now)) }
     ensures id { x.new.id ≡ x.old.id }
     ensures fits { IsTransactionOf plan.now x.new }
 {
@@ -155,7 +156,7 @@ pub(crate) fn send_starts(
 ) -> Result<(), NoMemory>
     requires transaction { IsTransactionOf plan.now x.old }
     ensures kept { OnOk result (x.new ≡ with_starts plan.now x.old) }
-    ensures sent { OnOk result (outbox.new ≡ record outbox.old { messages = outbox.old.messages ++ starts_of plan.now x.old }) }
+    ensures sent { OnOk result (HasSent outbox.old outbox.new (starts_of plan.now x.old)) }
     ensures id { x.new.id ≡ x.old.id }
     ensures fits { IsTransactionOf plan.now x.new }
 {
@@ -194,7 +195,7 @@ fn resend_each(
 ) -> Result<(), NoMemory>
     requires transaction { IsTransactionOf plan.now x.now }
     requires groups { All (λ group. group < length (groups_of plan.now x.now.proc)) groups.now }
-    ensures { OnOk result (outbox.new ≡ record outbox.old { messages = outbox.old.messages ++ map (start_for plan.now x.now) groups.now }) }
+    ensures { OnOk result (HasSent outbox.old outbox.new (map (start_for plan.now x.now) groups.now)) }
 {
     for group in groups {
         let (shard, start) = start_for(alloc, plan, x, *group)?;
@@ -211,7 +212,7 @@ pub(crate) fn send_starts_again(
     outbox: &mut Outbox,
 ) -> Result<(), NoMemory>
     requires { IsTransactionOf plan.now x.now }
-    ensures { OnOk result (outbox.new ≡ record outbox.old { messages = outbox.old.messages ++ starts_again plan.now x.now }) }
+    ensures { OnOk result (HasSent outbox.old outbox.new (starts_again plan.now x.now)) }
 {
     let groups = awaiting_groups(alloc, plan, x)?;
     resend_each(alloc, plan, x, groups.as_slice(), outbox)

@@ -1,6 +1,7 @@
 //! What an answer to one of a coordinator's requests does to its transaction.
 ghost use Rattle.std.specs.Prelude.{◌≡◌, ◌<◌, ◌++◌, length, IfOk, IfNone, OnOk};
 ghost use Rattle.std.specs.Bool.{OnTrue};
+ghost use Rattle.roc_msg.specs.Outbox.{HasSent};
 ghost use Rattle.roc_plan.specs.Groups.{groups_of};
 ghost use Rattle.roc_coord.specs.Fits.{IsTransactionOf};
 ghost use Rattle.roc_coord.specs.Starts.{bound_count, out_count, with_starts};
@@ -84,7 +85,7 @@ pub(crate) fn take_startok(
     requires transaction { IsTransactionOf plan.now x.old }
     requires group { ok.group < length (groups_of plan.now x.old.proc) }
     ensures kept { OnOk result (x.new ≡ with_commits plan.now (with_starts plan.now (with_startok x.old ok))) }
-    ensures sent { OnOk result (outbox.new ≡ record outbox.old { messages = outbox.old.messages ++ sends_after plan.now (with_startok x.old ok) }) }
+    ensures sent { OnOk result (HasSent outbox.old outbox.new (sends_after plan.now (with_startok x.old ok))) }
     ensures id { x.new.id ≡ x.old.id }
     ensures fits { IsTransactionOf plan.now x.new }
 {
@@ -166,7 +167,7 @@ pub(crate) fn send_again(
     outbox: &mut Outbox,
 ) -> Result<(), NoMemory>
     requires { IsTransactionOf plan.now x.now }
-    ensures { OnOk result (outbox.new ≡ record outbox.old { messages = outbox.old.messages ++ sent_again plan.now x.now }) }
+    ensures { OnOk result (HasSent outbox.old outbox.new (sent_again plan.now x.now)) }
 {
     if all_started(plan, x) {
         send_commits_again(alloc, x, outbox)

@@ -1,1 +1,2 @@
 pub mod FactFronts
+pub mod Sent

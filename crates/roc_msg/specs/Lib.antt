@@ -1,4 +1,5 @@
 pub mod InPlace
 pub mod Facts
 pub mod Msg
+pub mod Outbox
 pub mod Reason

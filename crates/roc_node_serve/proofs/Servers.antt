@@ -7,7 +7,7 @@ use Rattle.roc_io.specs.Packet.{Packet}
 use Rattle.roc_msg.specs.declared.msg.Msg.{Msg}
 use Rattle.roc_msg.specs.declared.outbox.Outgoing.{Outgoing}
 use Rattle.roc_server.specs.First.{first_server}
-use Rattle.roc_msg.specs.declared.outbox.Outbox.{Outbox}
+use Rattle.roc_msg.specs.Outbox.{Collected}
 use Rattle.roc_server.specs.declared.handled.Handled.{Handled}
 use Rattle.roc_server.specs.Step.{Handles, Shows}
 use Rattle.roc_server.specs.State.{ServerState, ServerStep}
@@ -134,7 +134,7 @@ same_node : (messages : List Outgoing) (s t : ServerState) (p q : List Packet) (
 same_node messages s t p q h i c d b e s1 p1 h1 c1 b1 =
     ap (λ x. made messages x p h c b) s1 ∙ ap (λ x. made messages t x h c b) p1 ∙ ap (λ x. made messages t q x c b) h1 ∙ ap (λ x. made messages t q i x b) c1 ∙ ap (made messages t q i d) b1
 
-pub stepped : (S : NodeSetting) (old new : ServerNode) (output : TurnOutput) (msg : Msg) (answer : Handled) (out_old out_new : Outbox) → (r : ServerStep) × Handles S.plan old.server msg r × Shows r answer new.server out_old out_new
+pub stepped : (S : NodeSetting) (old new : ServerNode) (output : TurnOutput) (msg : Msg) (answer : Handled) (out_old out_new : Collected) → (r : ServerStep) × Handles S.plan old.server msg r × Shows r answer new.server out_old out_new
     → out_old.messages ≡ [] → new.heard ≡ old.heard → new.counts ≡ with_answer old.counts answer → output.stopped ≡ false → output.sends.items ≡ packets_for S.header S.cluster old.heard out_new.messages
     → Leads (TakesMessage S (bare old) false msg) new output
 stepped S old new output msg answer out_old out_new step none heard counts stopped sends =

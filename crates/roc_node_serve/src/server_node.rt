@@ -79,7 +79,7 @@ fn take_step(
         setting.cluster,
         shards,
         &server_node.heard,
-        outbox.messages.as_slice(),
+        outbox.messages(),
     )?;
     count_answer(&mut server_node.counts, answer);
     Ok(TurnOutput {
@@ -165,7 +165,7 @@ pub fn take_silence(
         setting.cluster,
         shards,
         &server_node.heard,
-        outbox.messages.as_slice(),
+        outbox.messages(),
     )?;
     Ok(TurnOutput {
         stopped: false,

@@ -5,7 +5,7 @@ use Rattle.std.proofs.lemmas.Bool.{ltb-true, lt-ltb}
 use Rattle.std.proofs.lemmas.List.{drop-drop}
 use Rattle.roc_sequence.proofs.Fronts.{rest_at, no_rest, front_whole}
 use Rattle.roc_base.specs.declared.id.TxnId.{TxnId}
-use Rattle.roc_msg.specs.declared.outbox.Outbox.{Outbox}
+use Rattle.roc_msg.specs.Outbox.{Collected}
 use Rattle.roc_msg.specs.declared.outbox.Outgoing.{Outgoing}
 use Rattle.roc_plan.specs.Groups.{Plan}
 use Rattle.roc_program.specs.LookUps.{procedure_named}
@@ -37,7 +37,7 @@ submits_none plan request state out text name same named = let e : procedure_nam
   text = sym (append-nil text);
 }
 
-pub submits_call : (plan : Plan) (request : Request) (proc : ℕ) (id : TxnId) (old new : CoordState) (out_old out_new : Outbox) (text_old text_new name : List ℕ) (args : List ℤ) → name ≡ request.name → Some proc ≡ procedure_named plan.program name
+pub submits_call : (plan : Plan) (request : Request) (proc : ℕ) (id : TxnId) (old new : CoordState) (out_old out_new : Collected) (text_old text_new name : List ℕ) (args : List ℤ) → name ≡ request.name → Some proc ≡ procedure_named plan.program name
     → args ≡ request.args → IsSubmitted (after_submit plan old proc args) (Ok id) new out_old out_new → text_new ≡ text_old ++ line_text plan.program (Submit id proc request.args)
     → SubmitsOne plan request old new out_old.messages out_new.messages text_old text_new
 submits_call plan request proc id old new out_old out_new text_old text_new name args same named given step text =
@@ -49,12 +49,12 @@ submits_call plan request proc id old new out_old out_new text_old text_new name
       lines = submit_lines proc request.args sub.answer;
       is = ap (submitted_call plan (none_submitted old) request.args) e
           ∙ ap (λ s. record { state = s; left = []; messages = sub.sends; lines = submit_lines proc request.args sub.answer }) (sym h.state);
-      outbox = ap (λ (o : Outbox). o.messages) h.sent;
+      outbox = h.sent.0;
       text = text ∙ ap (λ l. text_old ++ l) (sym (append-nil (line_text plan.program (Submit id proc request.args))) ∙ ap (lines_text plan.program) (sym lines));
     }
 
 -- a call that is refused shows nothing
-refused_submits : (plan : Plan) (request : Request) (proc : ℕ) (fault : SubmitFault) (old new : CoordState) (out_old out_new : Outbox) (text name : List ℕ) (args : List ℤ) → name ≡ request.name → Some proc ≡ procedure_named plan.program name
+refused_submits : (plan : Plan) (request : Request) (proc : ℕ) (fault : SubmitFault) (old new : CoordState) (out_old out_new : Collected) (text name : List ℕ) (args : List ℤ) → name ≡ request.name → Some proc ≡ procedure_named plan.program name
     → args ≡ request.args → IsSubmitted (after_submit plan old proc args) (Err fault) new out_old out_new
     → SubmitsOne plan request old new out_old.messages out_new.messages text text
 refused_submits plan request proc fault old new out_old out_new text name args same named given step =
@@ -66,12 +66,12 @@ refused_submits plan request proc fault old new out_old out_new text name args s
       lines = submit_lines proc request.args sub.answer;
       is = ap (submitted_call plan (none_submitted old) request.args) e
           ∙ ap (λ s. record { state = s; left = []; messages = sub.sends; lines = submit_lines proc request.args sub.answer }) (sym h.state);
-      outbox = ap (λ (o : Outbox). o.messages) h.sent;
+      outbox = h.sent.0;
       text = sym (append-nil text) ∙ ap (λ l. text ++ lines_text plan.program l) (sym lines);
     }
 
 -- the same of a fault that is told by what it equals, where that fault promises the step
-pub submits_refused : (plan : Plan) (request : Request) (proc : ℕ) (fault kind : SubmitFault) (old new : CoordState) (out_old out_new : Outbox) (text name : List ℕ) (args : List ℤ) → name ≡ request.name → Some proc ≡ procedure_named plan.program name
+pub submits_refused : (plan : Plan) (request : Request) (proc : ℕ) (fault kind : SubmitFault) (old new : CoordState) (out_old out_new : Collected) (text name : List ℕ) (args : List ℤ) → name ≡ request.name → Some proc ≡ procedure_named plan.program name
     → args ≡ request.args → fault ≡ kind → UnlessStopped (Err fault) (IsSubmitted (after_submit plan old proc args) (Err fault) new out_old out_new)
     → (UnlessStopped (Err kind) (IsSubmitted (after_submit plan old proc args) (Err kind) new out_old out_new) → IsSubmitted (after_submit plan old proc args) (Err kind) new out_old out_new)
     → SubmitsOne plan request old new out_old.messages out_new.messages text text

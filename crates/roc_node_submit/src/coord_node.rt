@@ -174,7 +174,7 @@ fn post_all(alloc: Global, setting: Setting<'_>, outbox: &Outbox) -> Result<Vec<
         setting.cluster,
         shards,
         &Heard::new(),
-        outbox.messages.as_slice(),
+        outbox.messages(),
     )
 }
 

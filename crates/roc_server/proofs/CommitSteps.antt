@@ -8,7 +8,7 @@ use Rattle.roc_base.specs.TxnId.{is_txn}
 use Rattle.roc_depgraph.specs.declared.known.KnownList.{KnownList}
 use Rattle.roc_depgraph.specs.Deps.{IsDecided}
 use Rattle.roc_server_lists.proofs.InOrder.{nothing_new}
-use Rattle.roc_msg.specs.declared.outbox.Outbox.{Outbox}
+use Rattle.roc_msg.specs.Outbox.{Collected, HasSent}
 use Rattle.roc_msg.specs.declared.reason.Reason.{Reason}
 use Rattle.roc_msg.specs.declared.reason.Reason.TheVariants.{NotHere, Differs}
 use Rattle.roc_plan.specs.Groups.{Plan}
@@ -27,12 +27,12 @@ use Rattle.roc_server.specs.Step.{Shows, unless_ignored}
 pub fault_is : (s : ServerState) (id : TxnId) (edges : List Dependency) (facts : List KnownList) (h d : Bool) → is_here id s.started ≡ h → commit_differs s id edges facts ≡ d → commit_fault s id edges facts ≡ cond (not h) (Some NotHere) (cond d (Some Differs) None)
 fault_is s id edges facts h d p q = λ i. cond (not (p i)) (Some NotHere) (cond (q i) (Some Differs) None)
 
-module _ (plan : Plan) (shard : Shard) (old : ServerData) (before : Outbox) (id : TxnId) (edges : List Dependency) where
+module _ (plan : Plan) (shard : Shard) (old : ServerData) (before : Collected) (id : TxnId) (edges : List Dependency) where
   abbrev s : ServerState
   s = state_of shard old false
 
   ignored_shown : (reason : Reason) → Shows (ignored s reason) (Ignored reason) s before before
-  ignored_shown reason = record { answers = refl; keeps = refl; sends = sym (append-nil before.messages); decides = sym (append-nil before.decided) }
+  ignored_shown reason = record { answers = refl; keeps = refl; sends = sym (append-nil before.messages); decides = sym (append-nil before.decided); ran = sym (append-nil before.ran) }
 
   module _ (facts : List KnownList) where
     abbrev fault : Option Reason
@@ -47,11 +47,11 @@ module _ (plan : Plan) (shard : Shard) (old : ServerData) (before : Outbox) (id 
         let Q : Option Reason → Type 0 = λ f. Shows (after_commit plan old.decided [] s id edges facts f) (Ignored reason) s before before in
         record { ids = []; new_ids = subst P (sym e) (nothing_new old.deps); shown = subst Q (sym e) (ignored_shown reason) }
 
-    module _ (new : ServerData) (mid : Outbox) (news : List KnownList) (none : fault ≡ None) (is : news ≡ lists) (t : Teaches plan shard old new before mid news) where
+    module _ (new : ServerData) (mid : Collected) (news : List KnownList) (none : fault ≡ None) (is : news ≡ lists) (t : Teaches plan shard old new before mid news) where
       taught_here : Teaches plan shard old new before mid lists
       taught_here = subst (Teaches plan shard old new before mid) is t
 
-      made : (after : Outbox) → Shows (after_commit plan old.decided taught_here.ids s id edges facts None) Done (state_of shard new false) before after → Commits plan shard old new before after id edges facts Done
+      made : (after : Collected) → Shows (after_commit plan old.decided taught_here.ids s id edges facts None) Done (state_of shard new false) before after → Commits plan shard old new before after id edges facts Done
       made after shown =
           let P : Option Reason → Type 0 = λ f. AreNew (IsDecided old.deps) (old.deps ++ unless_ignored f lists) taught_here.ids in
           let Q : Option Reason → Type 0 = λ f. Shows (after_commit plan old.decided taught_here.ids s id edges facts f) Done (state_of shard new false) before after in
@@ -72,9 +72,10 @@ module _ (plan : Plan) (shard : Shard) (old : ServerData) (before : Outbox) (id 
             keeps = h.keeps;
             sends = h.sends ∙ ap (λ xs. before.messages ++ xs) (sym (append-nil step.sends) ∙ ap (λ d. step.sends ++ cond d (commitok_of plan step.state id ∷ []) []) (sym b));
             decides = h.decides;
+            ran = h.ran;
           })
 
-      pub commit_repeated : (after : Outbox) → is_listed is_txn old.decided id ≡ true → after ≡ record mid { messages = mid.messages ++ commitok plan shard new.started id ∷ [] } → Commits plan shard old new before after id edges facts Done
+      pub commit_repeated : (after : Collected) → is_listed is_txn old.decided id ≡ true → HasSent mid after (commitok plan shard new.started id ∷ []) → Commits plan shard old new before after id edges facts Done
       commit_repeated after b sent =
           let h = taught_here.shown in
           let own : commitok plan shard new.started id ≡ commitok_of plan step.state id = ap (λ (st : ServerState). commitok_of plan st id) (sym h.keeps) in
@@ -82,11 +83,12 @@ module _ (plan : Plan) (shard : Shard) (old : ServerData) (before : Outbox) (id 
             answers = refl;
             keeps = h.keeps;
             sends =
-                ap (λ o. o.messages) sent
+                sent.0
                 ∙ (λ i. h.sends i ++ own i ∷ [])
                 ∙ append_assoc before.messages step.sends (commitok_of plan step.state id ∷ [])
                 ∙ ap (λ d. before.messages ++ (step.sends ++ cond d (commitok_of plan step.state id ∷ []) [])) (sym b);
-            decides = ap (λ o. o.decided) sent ∙ h.decides;
+            decides = sent.1 ∙ h.decides;
+            ran = sent.2 ∙ h.ran;
           })
 
   abbrev known_why : Option Reason
@@ -101,7 +103,7 @@ module _ (plan : Plan) (shard : Shard) (old : ServerData) (before : Outbox) (id 
       let Q : Option Reason → Type 0 = λ f. Shows (after_known plan [] s id edges f) (Ignored reason) s before before in
       record { ids = []; new_ids = subst P (sym e) (nothing_new old.deps); shown = subst Q (sym e) (ignored_shown reason) }
 
-  pub known_taught : (new : ServerData) (after : Outbox) (news : List KnownList) → known_why ≡ None → news ≡ one → Teaches plan shard old new before after news → Knows plan shard old new before after id edges Done
+  pub known_taught : (new : ServerData) (after : Collected) (news : List KnownList) → known_why ≡ None → news ≡ one → Teaches plan shard old new before after news → Knows plan shard old new before after id edges Done
   known_taught new after news none is t =
       let u : Teaches plan shard old new before after one = subst (Teaches plan shard old new before after) is t in
       let P : Option Reason → Type 0 = λ f. AreNew (IsDecided old.deps) (old.deps ++ unless_ignored f one) u.ids in

@@ -5,7 +5,7 @@ use Rattle.roc_base.specs.declared.node.Shard.{Shard}
 use Rattle.roc_base.specs.Edge.{Dependency}
 use Rattle.roc_await.specs.Waits.{Waiting, with_asker}
 use Rattle.roc_depgraph.specs.Deps.{list_of}
-use Rattle.roc_msg.specs.declared.outbox.Outbox.{Outbox}
+use Rattle.roc_msg.specs.Outbox.{Collected, HasSent}
 use Rattle.roc_msg.specs.declared.reason.Reason.TheVariants.{NotHere}
 use Rattle.roc_server.specs.declared.handled.Handled.TheVariants.{Done, Ignored}
 use Rattle.roc_server.specs.declared.server_data.ServerData.{ServerData}
@@ -24,26 +24,26 @@ module _ (shard : Shard) (k : ServerData) (id : TxnId) (asker : Shard) where
   abbrev step : Bool → Option (List Dependency) → ServerStep
   step here list = if here then fetch_taken s id asker list else ignored s NotHere
 
-  pub fetch_ignored : (out : Outbox) → is_here id k.started ≡ false → Shows (after_fetch s id asker) (Ignored NotHere) s out out
+  pub fetch_ignored : (out : Collected) → is_here id k.started ≡ false → Shows (after_fetch s id asker) (Ignored NotHere) s out out
   fetch_ignored out away =
       let P : Bool → Type 0 = λ here. Shows (step here (list_of id k.deps)) (Ignored NotHere) s out out in
-      subst P (sym away) (record { answers = refl; keeps = refl; sends = sym (append-nil out.messages); decides = sym (append-nil out.decided) })
+      subst P (sym away) (record { answers = refl; keeps = refl; sends = sym (append-nil out.messages); decides = sym (append-nil out.decided); ran = sym (append-nil out.ran) })
 
   module _ (here : is_here id k.started ≡ true) where
-    found : (list : Option (List Dependency)) (new : ServerState) (before after : Outbox) → list ≡ list_of id k.deps → Shows (step true list) Done new before after → Shows (after_fetch s id asker) Done new before after
+    found : (list : Option (List Dependency)) (new : ServerState) (before after : Collected) → list ≡ list_of id k.deps → Shows (step true list) Done new before after → Shows (after_fetch s id asker) Done new before after
     found list new before after e shown =
         let P : Bool → Type 0 = λ b. Shows (step b (list_of id k.deps)) Done new before after in
         let Q : Option (List Dependency) → Type 0 = λ o. Shows (step true o) Done new before after in
         subst P (sym here) (subst Q e shown)
 
-    pub fetch_told : (edges : List Dependency) (before after : Outbox) → Some edges ≡ list_of id k.deps → after ≡ record before { messages = before.messages ++ known_to (list_with id edges) (record { id = id; shard = asker }) ∷ [] } → Shows (after_fetch s id asker) Done s before after
+    pub fetch_told : (edges : List Dependency) (before after : Collected) → Some edges ≡ list_of id k.deps → HasSent before after (known_to (list_with id edges) (record { id = id; shard = asker }) ∷ []) → Shows (after_fetch s id asker) Done s before after
     fetch_told edges before after e sent =
-        found (Some edges) s before after e (record { answers = refl; keeps = refl; sends = ap (λ o. o.messages) sent; decides = ap (λ o. o.decided) sent ∙ sym (append-nil before.decided) })
+        found (Some edges) s before after e (record { answers = refl; keeps = refl; sends = sent.0; decides = sent.1 ∙ sym (append-nil before.decided); ran = sent.2 ∙ sym (append-nil before.ran) })
 
-    pub fetch_kept : (waits : Waiting) (out : Outbox) → None ≡ list_of id k.deps → waits ≡ record k.waits { askers = with_asker (record { id = id; shard = asker }) k.waits.askers } → Shows (after_fetch s id asker) Done (state_of shard (record k { waits = waits }) false) out out
+    pub fetch_kept : (waits : Waiting) (out : Collected) → None ≡ list_of id k.deps → waits ≡ record k.waits { askers = with_asker (record { id = id; shard = asker }) k.waits.askers } → Shows (after_fetch s id asker) Done (state_of shard (record k { waits = waits }) false) out out
     fetch_kept waits out e kept =
         found None (state_of shard (record k { waits = waits }) false) out out e
-        (record { answers = refl; keeps = ap (λ w. state_of shard (record k { waits = w }) false) (sym kept); sends = sym (append-nil out.messages); decides = sym (append-nil out.decided) })
+        (record { answers = refl; keeps = ap (λ w. state_of shard (record k { waits = w }) false) (sym kept); sends = sym (append-nil out.messages); decides = sym (append-nil out.decided); ran = sym (append-nil out.ran) })
 
   -- who asked is in no invariant
   pub fetch_sound : (waits : Waiting) → waits ≡ record k.waits { askers = with_asker (record { id = id; shard = asker }) k.waits.askers } → IsConsistent k → IsConsistent (record k { waits = waits })

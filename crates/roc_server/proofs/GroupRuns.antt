@@ -81,7 +81,7 @@ module _ {E : Type 0} (plan : Plan) (id : TxnId) (number at : ℕ) (old new : Li
 
 -- ---- buffered ones
 
-buffered-append : (plan : Plan) (xs ys : List StartedGroup) → buffered plan (xs ++ ys) ≡ buffered plan xs ++ buffered plan ys
+pub buffered-append : (plan : Plan) (xs ys : List StartedGroup) → buffered plan (xs ++ ys) ≡ buffered plan xs ++ buffered plan ys
 buffered-append plan [] ys = refl
 buffered-append plan (x ∷ xs) ys = go (not (is_immediate_of plan x.proc x.group)) (buffered-append plan xs ys)
   where

@@ -1,3 +1,4 @@
+mod Accesses
 mod CommitSteps
 mod FetchSteps
 mod FirstCells

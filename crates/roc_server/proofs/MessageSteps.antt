@@ -6,8 +6,8 @@ use Rattle.roc_base.specs.Edge.{Dependency}
 use Rattle.roc_depgraph.specs.declared.known.KnownList.{KnownList}
 use Rattle.roc_group.specs.GroupRun.{call}
 use Rattle.roc_msg.specs.declared.msg.Msg.{Msg}
-use Rattle.roc_msg.specs.declared.msg.Msg.TheVariants.{Start, Commit, Fetch, Known}
-use Rattle.roc_msg.specs.declared.outbox.Outbox.{Outbox}
+use Rattle.roc_msg.specs.declared.msg.Msg.TheVariants.{Start, StartOk, Commit, CommitOk, Fetch, Known, Stop}
+use Rattle.roc_msg.specs.Outbox.{Collected}
 use Rattle.roc_msg.specs.declared.reason.Reason.TheVariants.{Foreign}
 use Rattle.roc_plan.specs.Groups.{Plan}
 use Rattle.roc_server.specs.declared.handled.Handled.{Handled}
@@ -24,10 +24,10 @@ use Rattle.roc_server_lists.proofs.InOrder.{nothing_new}
 use Rattle.roc_server.proofs.StartSteps.{nothing_led}
 
 -- what is answered, kept and sent is the step of a message
-abbrev pub IsStepFor : Plan → ServerState → Msg → ServerState → Outbox → Outbox → Handled → Type 0
+abbrev pub IsStepFor : Plan → ServerState → Msg → ServerState → Collected → Collected → Handled → Type 0
 IsStepFor plan s msg after old new answer = (r : ServerStep) × Handles plan s msg r × Shows r answer after old new
 
-module _ (plan : Plan) (shard : Shard) (k new : ServerData) (sound : IsConsistent k) (before after : Outbox) where
+module _ (plan : Plan) (shard : Shard) (k new : ServerData) (sound : IsConsistent k) (before after : Collected) where
   abbrev s : ServerState
   s = state_of shard k false
 
@@ -67,7 +67,7 @@ module _ (plan : Plan) (shard : Shard) (k new : ServerData) (sound : IsConsisten
   fetch_comes (Ok answer) msg id asker is h =
       comes msg (Fetch id asker) (record { before = k.decided; reached = []; decided = [] }) answer is (record { before = decided; reached = nothing_led k.deps; decided = nothing_new k.deps }) h
 
-module _ (plan : Plan) (shard : Shard) (k : ServerData) (sound : IsConsistent k) (out : Outbox) where
+module _ (plan : Plan) (shard : Shard) (k : ServerData) (sound : IsConsistent k) (out : Collected) where
   abbrev nothing : Findings
   nothing = record { before = k.decided; reached = []; decided = [] }
 
@@ -75,7 +75,7 @@ module _ (plan : Plan) (shard : Shard) (k : ServerData) (sound : IsConsistent k)
   now = state_of shard k false
 
   ignored_shown : Shows (ignored now Foreign) (Ignored Foreign) now out out
-  ignored_shown = record { answers = refl; keeps = refl; sends = sym (append-nil out.messages); decides = sym (append-nil out.decided) }
+  ignored_shown = record { answers = refl; keeps = refl; sends = sym (append-nil out.messages); decides = sym (append-nil out.decided); ran = sym (append-nil out.ran) }
 
   -- it is ignored, whatever a server does not take
   pub foreign_comes : (msg : Msg)
@@ -91,7 +91,7 @@ module _ (plan : Plan) (shard : Shard) (k : ServerData) (sound : IsConsistent k)
   foreign_comes msg a b c d = comes plan shard k k sound out out msg msg nothing (Ignored Foreign) refl (record { before = decided plan shard k k sound out out; reached = nothing_led k.deps; decided = nothing_new k.deps }) ignored_shown
 
 -- the same between equal states
-pub comes_from : (plan : Plan) (s t after then : ServerState) (msg : Msg) (old new : Outbox) (answer : Handled) → s ≡ t → after ≡ then → IsStepFor plan s msg after old new answer → IsStepFor plan t msg then old new answer
+pub comes_from : (plan : Plan) (s t after then : ServerState) (msg : Msg) (old new : Collected) (answer : Handled) → s ≡ t → after ≡ then → IsStepFor plan s msg after old new answer → IsStepFor plan t msg then old new answer
 comes_from plan s t after then msg old new answer is is2 comes =
     let P : ServerState → Type 0 = λ u. IsStepFor plan u msg after old new answer in
     let Q : ServerState → Type 0 = λ u. IsStepFor plan t msg u old new answer in

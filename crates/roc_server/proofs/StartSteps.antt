@@ -14,7 +14,7 @@ use Rattle.roc_base.specs.Equalities.{is_txn-true}
 use Rattle.roc_depgraph.specs.declared.known.KnownList.{KnownList}
 use Rattle.roc_depgraph.specs.Deps.{IsDecided, is_known}
 use Rattle.roc_group.specs.GroupRun.{GroupCall}
-use Rattle.roc_msg.specs.declared.outbox.Outbox.{Outbox}
+use Rattle.roc_msg.specs.Outbox.{Collected, HasSent}
 use Rattle.roc_msg.specs.declared.reason.Reason.{Reason}
 use Rattle.roc_msg.specs.declared.reason.Reason.TheVariants.{BadProc, BadGroup, BadInputs, NotHere, Late, Differs}
 use Rattle.roc_plan.specs.Groups.{Plan, groups_of, shard_of, group_place}
@@ -57,18 +57,18 @@ module _ (plan : Plan) (shard : Shard) (k : ServerData) (id : TxnId) (c : GroupC
   by_tests f g = cond (is_none f && is_none g) (edges_for plan k.decided s id c) []
 
   -- it was ignored
-  pub start_ignored : (out : Outbox) (reason : Reason) → start_fault plan s id c ≡ Some reason → StartTaken plan shard k k out out id c (Ignored reason)
+  pub start_ignored : (out : Collected) (reason : Reason) → start_fault plan s id c ≡ Some reason → StartTaken plan shard k k out out id c (Ignored reason)
   start_ignored out reason judged =
       let P : List Dependency → Type 0 = λ es. AreLedTo k.deps es [] in
       let Q : ServerStep → Type 0 = λ r. Shows r (Ignored reason) s out out in
       record {
         reached = [];
         led = subst P (ap (λ f. by_tests f (find_group id c.group k.started)) (sym judged)) (nothing_led k.deps);
-        shown = subst Q (ap (start_judged plan k.decided [] s id c) (sym judged)) (record { answers = refl; keeps = refl; sends = sym (append-nil out.messages); decides = sym (append-nil out.decided) });
+        shown = subst Q (ap (start_judged plan k.decided [] s id c) (sym judged)) (record { answers = refl; keeps = refl; sends = sym (append-nil out.messages); decides = sym (append-nil out.decided); ran = sym (append-nil out.ran) });
       }
 
   -- a group that is here was told again
-  pub start_repeated : (old new : Outbox) (e : StartedGroup) → start_fault plan s id c ≡ None → find_group id c.group k.started ≡ Some e → new ≡ record old { messages = old.messages ++ startok_of shard e ∷ [] } → StartTaken plan shard k k old new id c Done
+  pub start_repeated : (old new : Collected) (e : StartedGroup) → start_fault plan s id c ≡ None → find_group id c.group k.started ≡ Some e → HasSent old new (startok_of shard e ∷ []) → StartTaken plan shard k k old new id c Done
   start_repeated old new e judged there sent =
       let P : List Dependency → Type 0 = λ es. AreLedTo k.deps es [] in
       let Q : ServerStep → Type 0 = λ r. Shows r Done s old new in
@@ -77,11 +77,11 @@ module _ (plan : Plan) (shard : Shard) (k : ServerData) (id : TxnId) (c : GroupC
         led = subst P (ap (λ g. by_tests None g) (sym there) ∙ ap (λ f. by_tests f (find_group id c.group k.started)) (sym judged)) (nothing_led k.deps);
         shown =
             subst Q (ap (start_taken plan k.decided [] s id c) (sym there) ∙ ap (start_judged plan k.decided [] s id c) (sym judged))
-            (record { answers = refl; keeps = refl; sends = ap (λ o. o.messages) sent; decides = ap (λ o. o.decided) sent ∙ sym (append-nil old.decided) });
+            (record { answers = refl; keeps = refl; sends = sent.0; decides = sent.1 ∙ sym (append-nil old.decided); ran = sent.2 ∙ sym (append-nil old.ran) });
       }
 
   -- a group that is not here started
-  pub start_made : {E : Type 0} (r : Result Handled E) (new : ServerData) (before after : Outbox) → start_fault plan s id c ≡ None → find_group id c.group k.started ≡ None → IfOk r (StartsNew plan shard k new before after id c) → IfOk r (StartTaken plan shard k new before after id c)
+  pub start_made : {E : Type 0} (r : Result Handled E) (new : ServerData) (before after : Collected) → start_fault plan s id c ≡ None → find_group id c.group k.started ≡ None → IfOk r (StartsNew plan shard k new before after id c) → IfOk r (StartTaken plan shard k new before after id c)
   start_made (Err e) new before after judged absent h = tt
   start_made (Ok answer) new before after judged absent h =
       let P : List Dependency → Type 0 = λ es. AreLedTo k.deps es h.reached in

@@ -23,12 +23,12 @@ use Rattle.roc_depgraph.specs.Deps.{is_known, IsKnown, IsDecided}
 use Rattle.roc_depgraph.proofs.Laws.{decided_stays}
 use Rattle.roc_server_lists.proofs.Added.{decided_test}
 use Rattle.roc_server_lists.proofs.Learning.{keeps_front}
-use Rattle.roc_msg.specs.declared.outbox.Outbox.{Outbox}
+use Rattle.roc_msg.specs.Outbox.{Collected, HasSent}
 use Rattle.roc_msg.specs.declared.outbox.Outgoing.{Outgoing}
 use Rattle.roc_plan.specs.Groups.{Plan}
 use Rattle.roc_server.specs.declared.handled.Handled.TheVariants.{Done}
 use Rattle.roc_server.specs.declared.server_data.ServerData.{ServerData}
-use Rattle.roc_server.specs.Runs.{commitok, commitok_of, take_all}
+use Rattle.roc_server.specs.Runs.{accesses_of, all_buffered, commitok, commitok_of, take_all}
 use Rattle.roc_server_lists.specs.New.{AreNew}
 use Rattle.roc_server_lists.specs.Asking.{knowns_for, asked_of, fetch_from, waiting_after}
 use Rattle.roc_server.specs.Lists.{is_missing, missing_from, lists_after, taught}
@@ -41,7 +41,7 @@ use Rattle.roc_server.specs.Step.{Shows}
 use Rattle.roc_server.proofs.SameGroups.{once_same, here_same}
 use Rattle.roc_server.proofs.IndexSteps.{index_decided}
 
-module _ (plan : Plan) (shard : Shard) (old mid new : ServerData) (before first second after : Outbox) (news : List KnownList) (ids : List TxnId) (found : List TxnId) (asks : List OpenFetch) (sound : IsConsistent old) (m : KnowsMore shard old mid before first news asks found) (h : DecidedTaken plan shard mid new first second ids) (sent : after ≡ record second { messages = second.messages ++ map (fetch_from shard) asks }) where
+module _ (plan : Plan) (shard : Shard) (old mid new : ServerData) (before first second after : Collected) (news : List KnownList) (ids : List TxnId) (found : List TxnId) (asks : List OpenFetch) (sound : IsConsistent old) (m : KnowsMore shard old mid before first news asks found) (h : DecidedTaken plan shard mid new first second ids) (sent : HasSent second after (map (fetch_from shard) asks)) where
   abbrev s : ServerState
   s = state_of shard old false
 
@@ -96,14 +96,14 @@ module _ (plan : Plan) (shard : Shard) (old mid new : ServerData) (before first 
 
   sends : after.messages ≡ before.messages ++ (knowns ++ (oks ++ fetches))
   sends =
-      ap (λ o. o.messages) sent
+      sent.0
       ∙ (λ i. (h.sent ∙ ap (λ xs. first.messages ++ xs) told_here) i ++ map (fetch_from shard) (m.missing i))
-      ∙ ap (λ (o : Outbox). (o.messages ++ oks) ++ fetches) m.sent
+      ∙ ap (λ (xs : List Outgoing). (xs ++ oks) ++ fetches) m.sent.0
       ∙ append_assoc (before.messages ++ knowns) oks fetches
       ∙ append_assoc before.messages knowns (oks ++ fetches)
 
   shown : Shows (taught plan s news ids) Done (state_of shard new false) before after
-  shown = record { answers = refl; keeps = reached; sends = sends; decides = ap (λ o. o.decided) sent ∙ h.told ∙ ap (λ (o : Outbox). o.decided ++ ids) m.sent }
+  shown = record { answers = refl; keeps = reached; sends = sends; decides = sent.1 ∙ h.told ∙ ap (λ ds. ds ++ ids) m.sent.1; ran = sent.2 ∙ h.ran ∙ (λ i. m.sent.2 i ++ accesses_of (all_buffered plan (m.started i) ids)) }
 
   stays : (t : TxnId) → IsDecided old.deps t → IsDecided all t
   stays t d = decided_stays old.deps all (keeps_front old.deps news) t d

@@ -7,6 +7,7 @@ use Rattle.roc_base.specs.declared.node.Shard.{Shard}
 use Rattle.roc_base.specs.TxnId.{is_txn}
 use Rattle.roc_msg.specs.declared.msg.Msg.TheVariants.{CommitOk}
 use Rattle.roc_msg.specs.declared.outbox.Outgoing.{Outgoing}
+use Rattle.roc_msg.specs.declared.outbox.Ran.{Ran}
 use Rattle.roc_plan.specs.Groups.{Plan, groups_of, is_immediate_of}
 use Rattle.roc_group.specs.GroupRun.{GroupCall, group_run}
 use Rattle.roc_server.specs.declared.started.StartedGroup.{StartedGroup}
@@ -50,6 +51,10 @@ take_all plan s (t ∷ ts) = take_all plan (run_groups plan s (buffered_here pla
 -- the groups that run so
 abbrev pub all_buffered : Plan → List StartedGroup → List TxnId → List StartedGroup
 all_buffered plan started ts = flat_map (λ t. buffered_here plan t started) ts
+
+-- the accesses of groups, one after another
+abbrev pub accesses_of : List StartedGroup → List Ran
+accesses_of es = flat_map (λ e. map (λ a. record { id = e.id; cell = a.cell; writes = a.writes }) e.cells) es
 
 -- what the coordinator is told: what the transaction's buffered groups here gave, in group order
 abbrev pub outs_here : Plan → TxnId → List StartedGroup → List ℤ

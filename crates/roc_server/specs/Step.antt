@@ -5,8 +5,8 @@ use Rattle.roc_base.specs.Edge.{Dependency}
 use Rattle.roc_depgraph.specs.declared.known.KnownList.{KnownList}
 use Rattle.roc_depgraph.specs.Deps.{IsDecided}
 use Rattle.roc_msg.specs.declared.msg.Msg.{Msg}
-use Rattle.roc_msg.specs.declared.msg.Msg.TheVariants.{Start, Commit, Fetch, Known}
-use Rattle.roc_msg.specs.declared.outbox.Outbox.{Outbox}
+use Rattle.roc_msg.specs.declared.msg.Msg.TheVariants.{Start, StartOk, Commit, CommitOk, Fetch, Known, Stop}
+use Rattle.roc_msg.specs.Outbox.{Collected}
 use Rattle.roc_msg.specs.declared.outbox.Outgoing.{Outgoing}
 use Rattle.roc_msg.specs.declared.reason.Reason.{Reason}
 use Rattle.roc_msg.specs.declared.reason.Reason.TheVariants.{Foreign}
@@ -17,6 +17,7 @@ use Rattle.roc_server_lists.specs.New.{AreNew, AreDecided, AreLedTo}
 use Rattle.roc_server.specs.Start.{start_fault, edges_for, after_start}
 use Rattle.roc_server_lists.specs.Carried.{list_with, carried, unknown_of}
 use Rattle.roc_server.specs.Lists.{commit_fault, after_commit, after_fetch, known_fault, after_known, fetched_again}
+use Rattle.roc_server.specs.Runs.{accesses_of}
 use Rattle.roc_server.specs.State.{ignored, find_group, ServerState, ServerStep}
 
 -- ---- what a step finds in the lists
@@ -70,11 +71,12 @@ pub record Handles (plan : Plan) (s : ServerState) (msg : Msg) (r : ServerStep) 
   pub is : r ≡ after_message plan s findings msg
 
 -- r is what was answered, what is kept, and what was added to an outbox
-pub record Shows (r : ServerStep) (answer : Handled) (state : ServerState) (old new : Outbox) : Type 0 where
+pub record Shows (r : ServerStep) (answer : Handled) (state : ServerState) (old new : Collected) : Type 0 where
   pub answers : r.answer ≡ answer
   pub keeps : r.state ≡ state
   pub sends : new.messages ≡ old.messages ++ r.sends
   pub decides : new.decided ≡ old.decided ++ r.decided
+  pub ran : new.ran ≡ old.ran ++ accesses_of r.ran
 
 -- ---- a tick changes nothing; what it sends
 abbrev pub tick_sends : ServerState → List Outgoing

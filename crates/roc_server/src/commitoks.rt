@@ -1,5 +1,6 @@
 //! Answers to those that are decided.
 ghost use Rattle.std.specs.Prelude.{◌≡◌, ◌++◌, ◌∷◌, [], filter, map, OnOk};
+ghost use Rattle.roc_msg.specs.Outbox.{HasSent};
 ghost use Rattle.roc_server.specs.Fits.{AreGroupsOf};
 ghost use Rattle.roc_server.specs.Runs.{commitok};
 ghost use Rattle.roc_server.specs.State.{is_here};
@@ -22,7 +23,7 @@ pub(crate) fn send_commitoks(
     outbox: &mut Outbox,
 ) -> Result<(), NoMemory>
     requires { AreGroupsOf plan.now started.now }
-    ensures { OnOk result (outbox.new ≡ record outbox.old { messages = outbox.old.messages ++ map (commitok plan.now shard started.now) (filter (λ t. is_here t started.now) ids.now) }) }
+    ensures { OnOk result (HasSent outbox.old outbox.new (map (commitok plan.now shard started.now) (filter (λ t. is_here t started.now) ids.now))) }
 {
     for id in ids {
         if is_here(started, *id) {
@@ -42,7 +43,7 @@ pub(crate) fn send_commitok(
     outbox: &mut Outbox,
 ) -> Result<(), NoMemory>
     requires { AreGroupsOf plan.now started.now }
-    ensures { OnOk result (outbox.new ≡ record outbox.old { messages = outbox.old.messages ++ commitok plan.now shard started.now id ∷ [] }) }
+    ensures { OnOk result (HasSent outbox.old outbox.new (commitok plan.now shard started.now id ∷ [])) }
 {
     let outs = outs_here(alloc, plan, id, started)?;
     outbox.send(Node::Coord(id.coord), Msg::CommitOk { id, shard, outs })

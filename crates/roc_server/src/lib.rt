@@ -27,6 +27,7 @@ mod indexed;
 pub mod laws;
 mod looks;
 mod missing;
+mod ran;
 mod runs;
 mod server;
 mod server_data;

@@ -2,6 +2,7 @@
 ghost use Rattle.std.specs.Prelude.{◌≡◌, ◌↔◌, ◌+◌, ◌≤◌, ◌++◌, List, length, true, false, IsTrue, IfOk, OnOk};
 ghost use Rattle.roc_base.specs.declared.id.TxnId.{TxnId as Id};
 ghost use Rattle.roc_depgraph.specs.Deps.{IsDecided};
+ghost use Rattle.roc_msg.specs.Outbox.{HasSent};
 ghost use Rattle.roc_server_lists.specs.New.{AreDecided};
 ghost use Rattle.roc_rows.specs.Store.{entries};
 ghost use Rattle.roc_server.specs.First.{first_server};
@@ -108,7 +109,7 @@ impl Server {
     /// Sends again what was asked for and is not known yet. It changes nothing but that `NoMemory`, which promises nothing of `outbox`,
     /// stops the server.
     pub fn tick(&mut self, outbox: &mut Outbox) -> Result<(), NodeFault>
-        ensures sent { OnOk result (outbox.new ≡ record outbox.old { messages = outbox.old.messages ++ tick_sends self.old }) }
+        ensures sent { OnOk result (HasSent outbox.old outbox.new (tick_sends self.old)) }
         ensures same { OnOk result (self.new ≡ self.old) }
         ensures going { OnOk result (self.old.stopped ≡ false) }
         ensures stopped { (result ≡ Err NodeFault.Stopped) ↔ (self.old.stopped ≡ true) }

@@ -1,18 +1,21 @@
 //! Starts.
-ghost use Rattle.std.specs.Prelude.{◌≡◌, ◌++◌, ◌∷◌, [], ◌<◌, length, None, false, IfOk, OnOk};
+ghost use Rattle.std.specs.Prelude.{◌≡◌, ◌++◌, ◌∷◌, [], ◌<◌, length, None, false, if◌then◌else◌, IfOk, OnOk};
 ghost use Rattle.roc_depgraph.specs.Deps.{is_known};
+ghost use Rattle.roc_msg.specs.Outbox.{HasSent, HasRun};
 ghost use Rattle.roc_group.specs.GroupRun.{call};
-ghost use Rattle.roc_plan.specs.Groups.{groups_of};
+ghost use Rattle.roc_plan.specs.Groups.{groups_of, is_immediate_of};
 ghost use Rattle.roc_server.specs.Fits.{IsCallOf, AreGroupsOf};
 ghost use Rattle.roc_server.specs.Inner.ServerData.{state_of, asked, IsConsistent};
 ghost use Rattle.roc_server.specs.Inner.Starts.{StartTaken, StartsNew};
+ghost use Rattle.roc_server.specs.Runs.{accesses_of};
 ghost use Rattle.roc_server.specs.Start.{has_counts, start_fault, startok_of};
 ghost use Rattle.roc_server.specs.State.{find_group};
 
 use crate::groups::{differs, find_group};
 use crate::indexed::add_group;
+use crate::ran::note_group;
 use crate::server_data::ServerData;
-use crate::started_now::new_group;
+use crate::started_now::{is_immediate, new_group};
 use crate::{Handled, StartedGroup};
 use roc_base::{NoMemory, Node, Shard, TxnId};
 use roc_msg::{Msg, Outbox, Reason};
@@ -74,11 +77,27 @@ fn start_new(
     ensures sound { OnOk result (IsConsistent kept.new) }
 {
     let started = new_group(alloc, plan, shard, kept, request)?;
+    note_if_immediate(plan, &started, outbox)?;
     send_startok(shard, &started, outbox)?;
     let at = kept.started.as_slice().len();
     add_group(&mut kept.index, at, &started)?;
     kept.started.push(started)?;
     Ok(Handled::Done)
+}
+
+// Notes the accesses of a group where it runs as it starts.
+fn note_if_immediate(
+    plan: &Plan,
+    group: &StartedGroup,
+    outbox: &mut Outbox,
+) -> Result<(), NoMemory>
+    requires { group.now.group < length (groups_of plan.now group.now.proc) }
+    ensures { OnOk result (HasRun outbox.old outbox.new (accesses_of (if is_immediate_of plan.now group.now.proc group.now.group then group.now ∷ [] else []))) }
+{
+    if is_immediate(plan, group.proc, group.group) {
+        return note_group(group, outbox);
+    }
+    Ok(())
 }
 
 // Why a start is ignored, where it is: the first reason that holds.
@@ -120,7 +139,7 @@ fn has_counts(plan: &Plan, proc: u16, group: u16, known: &Known) -> bool
 
 // Tells a group's coordinator that it has started, what it gave, and what comes before.
 fn send_startok(shard: Shard, e: &StartedGroup, outbox: &mut Outbox) -> Result<(), NoMemory>
-    ensures { OnOk result (outbox.new ≡ record outbox.old { messages = outbox.old.messages ++ startok_of shard e.now ∷ [] }) }
+    ensures { OnOk result (HasSent outbox.old outbox.new (startok_of shard e.now ∷ [])) }
 {
     let startok = Msg::StartOk {
         id: e.id,

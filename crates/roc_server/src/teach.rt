@@ -14,6 +14,7 @@ ghost use Rattle.roc_server.specs.Inner.Taught.{DecidedTaken, KnowsMore, TakesNe
 use crate::commitoks::send_commitoks;
 use crate::indexed::take_out;
 use crate::missing::missing_from;
+use crate::ran::note_all;
 use crate::runs::run_all;
 use crate::server_data::ServerData;
 use roc_await::OpenFetch;
@@ -99,8 +100,9 @@ fn take_decided(
 {
     kept.ancestors.keep(&kept.deps, ids)?;
     take_out(&mut kept.index, &kept.started, ids);
+    note_all(plan, ids, &kept.started, outbox)?;
     run_all(alloc, plan, ids, &mut kept.started, &mut kept.rows)?;
     kept.decided.take(ids)?;
-    outbox.decided.extend_from_slice(ids)?;
+    outbox.decide_all(ids)?;
     send_commitoks(alloc, plan, shard, &kept.started, ids, outbox)
 }

@@ -2,6 +2,7 @@
 ghost use Rattle.std.specs.Prelude.{◌≡◌, ◌++◌, not, filter, OnOk};
 ghost use Rattle.std.specs.List.{list_any, flat_map};
 ghost use Rattle.roc_base.specs.TxnId.{is_txn};
+ghost use Rattle.roc_msg.specs.Outbox.{HasSent};
 ghost use Rattle.roc_server_lists.specs.Asking.{knowns_for};
 
 use crate::fetches::send_known;
@@ -12,7 +13,7 @@ use roc_msg::Outbox;
 
 /// Tells each of the lists to those who asked for it. `NoMemory` leaves `outbox` with a part of these messages.
 pub fn tell_all(askers: &[Asker], news: &[KnownList], outbox: &mut Outbox) -> Result<(), NoMemory>
-    ensures { OnOk result (outbox.new ≡ record outbox.old { messages = outbox.old.messages ++ flat_map (knowns_for askers.now) news.now }) }
+    ensures { OnOk result (HasSent outbox.old outbox.new (flat_map (knowns_for askers.now) news.now)) }
 {
     for k in news {
         tell(askers, k, outbox)?;
@@ -22,7 +23,7 @@ pub fn tell_all(askers: &[Asker], news: &[KnownList], outbox: &mut Outbox) -> Re
 
 // Tells a list to those who asked for it.
 fn tell(askers: &[Asker], k: &KnownList, outbox: &mut Outbox) -> Result<(), NoMemory>
-    ensures { OnOk result (outbox.new ≡ record outbox.old { messages = outbox.old.messages ++ knowns_for askers.now k.now }) }
+    ensures { OnOk result (HasSent outbox.old outbox.new (knowns_for askers.now k.now)) }
 {
     for a in askers {
         if a.id == k.of {

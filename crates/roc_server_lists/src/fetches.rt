@@ -1,6 +1,7 @@
 //! Fetches, and what answers them.
 ghost use Rattle.std.specs.Prelude.{◌≡◌, ◌++◌, ◌∷◌, [], not, map, filter, OnOk};
 ghost use Rattle.roc_depgraph.specs.Deps.{is_known};
+ghost use Rattle.roc_msg.specs.Outbox.{HasSent};
 ghost use Rattle.roc_server_lists.specs.Asking.{known_to, fetch_from};
 ghost use Rattle.roc_server_lists.specs.Carried.{list_with};
 
@@ -16,7 +17,7 @@ pub fn send_known(
     edges: &Edges,
     outbox: &mut Outbox,
 ) -> Result<(), NoMemory>
-    ensures { OnOk result (outbox.new ≡ record outbox.old { messages = outbox.old.messages ++ known_to (list_with id edges.now) (record { id = id; shard = asker }) ∷ [] }) }
+    ensures { OnOk result (HasSent outbox.old outbox.new (known_to (list_with id edges.now) (record { id = id; shard = asker }) ∷ [])) }
 {
     let edges = edges.clone()?;
     outbox.send(Node::Server(asker), Msg::Known { id, edges })
@@ -29,7 +30,7 @@ pub fn fetch_again(
     asked: &[OpenFetch],
     outbox: &mut Outbox,
 ) -> Result<(), NoMemory>
-    ensures { OnOk result (outbox.new ≡ record outbox.old { messages = outbox.old.messages ++ map (fetch_from shard) (filter (λ a. not (is_known deps.now a.id)) asked.now) }) }
+    ensures { OnOk result (HasSent outbox.old outbox.new (map (fetch_from shard) (filter (λ a. not (is_known deps.now a.id)) asked.now))) }
 {
     for a in asked {
         if deps.list(a.id).is_none() {
@@ -41,7 +42,7 @@ pub fn fetch_again(
 
 /// Asks for these lists. `NoMemory` leaves `outbox` with a part of these messages.
 pub fn send_fetches(shard: Shard, asks: &[OpenFetch], outbox: &mut Outbox) -> Result<(), NoMemory>
-    ensures { OnOk result (outbox.new ≡ record outbox.old { messages = outbox.old.messages ++ map (fetch_from shard) asks.now }) }
+    ensures { OnOk result (HasSent outbox.old outbox.new (map (fetch_from shard) asks.now)) }
 {
     for a in asks {
         send_fetch(shard, *a, outbox)?;
@@ -51,7 +52,7 @@ pub fn send_fetches(shard: Shard, asks: &[OpenFetch], outbox: &mut Outbox) -> Re
 
 // Asks for a list.
 fn send_fetch(shard: Shard, asked: OpenFetch, outbox: &mut Outbox) -> Result<(), NoMemory>
-    ensures { OnOk result (outbox.new ≡ record outbox.old { messages = outbox.old.messages ++ fetch_from shard asked ∷ [] }) }
+    ensures { OnOk result (HasSent outbox.old outbox.new (fetch_from shard asked ∷ [])) }
 {
     let fetch = Msg::Fetch {
         id: asked.id,

@@ -162,7 +162,7 @@ fn sends(
 {
     let mut outbox = Outbox::new(alloc);
     handles_all(rt, alloc, plan, server, cases, &mut outbox)?;
-    assert_eq!(rt; outbox.messages.len(), sent);
+    assert_eq!(rt; outbox.messages().len(), sent);
     Ok(())
 }
 

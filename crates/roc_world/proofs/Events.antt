@@ -6,7 +6,7 @@ use Rattle.roc_base.specs.declared.node.Node.{Node}
 use Rattle.roc_base.specs.declared.node.Node.TheVariants.{Server, Coord}
 use Rattle.roc_base.specs.declared.node.Shard.{Shard}
 use Rattle.roc_msg.specs.declared.msg.Envelope.{Envelope}
-use Rattle.roc_msg.specs.declared.outbox.Outbox.{Outbox}
+use Rattle.roc_msg.specs.Outbox.{Collected}
 use Rattle.roc_plan.specs.Groups.{Plan}
 use Rattle.roc_server.specs.declared.handled.Handled.{Handled as ServerHandled}
 use Rattle.roc_server.specs.State.{answered, ServerState}
@@ -39,7 +39,7 @@ module _ (plan : Plan) (w : World) where
     delivered = record { sent = w.sent; undelivered = filter (λ n. not (n == k)) w.undelivered }
 
     pub server_comes :
-        (shard : Shard) → m.to ≡ Server shard → (answer : ServerHandled) (what : Seen) (servers : List ServerState) (noted_in : Messages) (before out : Outbox) (after : World)
+        (shard : Shard) → m.to ≡ Server shard → (answer : ServerHandled) (what : Seen) (servers : List ServerState) (noted_in : Messages) (before out : Collected) (after : World)
         → before.messages ≡ [] → before.decided ≡ [] → ServerTakes plan shard.0 m.msg answer w.servers servers before out → what ≡ server_seen answer → noted_in ≡ delivered
         → after ≡ record (sends (record w { servers = servers; sent = noted_in.sent; undelivered = noted_in.undelivered }) (Server shard) out.messages) { order = noted w.order out.decided }
         → Leads plan w (Deliver k) what after
@@ -55,13 +55,13 @@ module _ (plan : Plan) (w : World) where
         (r.decided, (m, some, there, subst (λ (node : Node). IsReceived plan (mark_delivered w k) m.msg node (record { seen = what; decided = r.decided; world = after })) (sym to) (takes.server, r, takes.there, takes.handles, is)))
 
     pub coord_comes :
-        (number : ℕ) → m.to ≡ Coord number → (answer : CoordHandled) (what : Seen) (coords : List CoordState) (noted_in : Messages) (before out : Outbox) (after : World)
+        (number : ℕ) → m.to ≡ Coord number → (answer : CoordHandled) (what : Seen) (coords : List CoordState) (noted_in : Messages) (before out : Collected) (after : World)
         → before.messages ≡ [] → CoordTakes plan number m.msg answer w.coords coords before out → what ≡ coord_seen answer → noted_in ≡ delivered
         → after ≡ record (sends (record w { coords = coords; sent = noted_in.sent; undelivered = noted_in.undelivered }) (Coord number) out.messages) { history = w.history ++ answer_entries answer }
         → Leads plan w (Deliver k) what after
     coord_comes number to answer what coords noted_in before out after none takes what_is network_is after_is =
         let r = after_message plan takes.coord m.msg in
-        let outs : out.messages ≡ r.sends = ap (λ (o : Outbox). o.messages) takes.outcome.sent ∙ ap (λ xs. xs ++ r.sends) none in
+        let outs : out.messages ≡ r.sends = takes.outcome.sent.0 ∙ ap (λ xs. xs ++ r.sends) none in
         let told = takes.outcome.answer in
         let sees : what ≡ coord_seen r.answer = what_is ∙ ap coord_seen told in
         let others = takes.others in
@@ -74,12 +74,12 @@ module _ (plan : Plan) (w : World) where
   -- ---- a tick
 
   pub server_ticks :
-      (shard : Shard) (what : Seen) (servers : List ServerState) (before out : Outbox) (after : World)
+      (shard : Shard) (what : Seen) (servers : List ServerState) (before out : Collected) (after : World)
       → before.messages ≡ [] → ServerTicks shard.0 w.servers servers before out → what ≡ seen.Done → after ≡ sends (record w { servers = servers }) (Server shard) out.messages
       → Leads plan w (Tick (Server shard)) what after
   server_ticks shard what servers before out after none ticks sees after_is =
       let tells = server.tick_sends ticks.server in
-      let outs : out.messages ≡ tells = ap (λ (o : Outbox). o.messages) ticks.sent ∙ ap (λ xs. xs ++ tells) none in
+      let outs : out.messages ≡ tells = ticks.sent.0 ∙ ap (λ xs. xs ++ tells) none in
       let others = ticks.others in
       let world_is : after ≡ at_server w shard.0 (answered ticks.server tells) = after_is ∙ (λ i. sends (record w { servers = others i }) (Server shard) (outs i)) in
       let o : Outcome = record { seen = what; decided = []; world = after } in
@@ -88,7 +88,7 @@ module _ (plan : Plan) (w : World) where
 
   -- ---- a submission
 
-  module _ (number proc : ℕ) (args : List ℤ) (coords : List CoordState) (before out : Outbox) where
+  module _ (number proc : ℕ) (args : List ℤ) (coords : List CoordState) (before out : Collected) where
     abbrev Submitting : Result TxnId SubmitFault → Type 0
     Submitting answer = CoordSubmits plan number proc args answer w.coords coords before out
 

@@ -2,7 +2,7 @@
 use Rattle.std.proofs.Common.{◌≡◌, ℕ, ℤ, ◌<◌, ◌++◌, List, Some, Result, Ok, Err, length, get_or, slice_set, refl, sym, ap, ◌∙◌}
 use Rattle.std.proofs.lemmas.Option.{slice_get-get_or}
 use Rattle.roc_msg.specs.declared.msg.Msg.{Msg}
-use Rattle.roc_msg.specs.declared.outbox.Outbox.{Outbox}
+use Rattle.roc_msg.specs.Outbox.{Collected, HasSent}
 use Rattle.roc_plan.specs.Groups.{Plan}
 use Rattle.roc_server.specs.declared.handled.Handled.{Handled}
 use Rattle.roc_server.specs.State.{ServerState, ServerStep}
@@ -17,7 +17,7 @@ use Rattle.roc_coord.specs.Submit.{after_submit, IsSubmitted, UnlessStopped}
 use Rattle.roc_world.specs.Inner.Nodes.{ServerTakes, CoordTakes, CoordSubmits, ServerTicks}
 
 pub server_takes :
-    (plan : Plan) (servers : List ServerState) (shard : ℕ) (s after : ServerState) (msg : Msg) (answer : Handled) (before out : Outbox) → shard < length servers → s ≡ get_or servers shard s
+    (plan : Plan) (servers : List ServerState) (shard : ℕ) (s after : ServerState) (msg : Msg) (answer : Handled) (before out : Collected) → shard < length servers → s ≡ get_or servers shard s
     → (r : ServerStep) × Handles plan s msg r × Shows r answer after before out → ServerTakes plan shard msg answer servers (slice_set servers shard after) before out
 server_takes plan servers shard s after msg answer before out within is (r, handles, shows) =
     record {
@@ -25,17 +25,17 @@ server_takes plan servers shard s after msg answer before out within is (r, hand
       there = slice_get-get_or servers shard s within ∙ ap Some (sym is);
       step = r;
       handles = handles;
-      shows = record { answers = shows.answers; keeps = refl; sends = shows.sends; decides = shows.decides };
+      shows = record { answers = shows.answers; keeps = refl; sends = shows.sends; decides = shows.decides; ran = shows.ran };
       others = ap (slice_set servers shard) (sym shows.keeps);
     }
 
 pub server_ticks :
-    (servers : List ServerState) (shard : ℕ) (s after : ServerState) (before out : Outbox) → shard < length servers → s ≡ get_or servers shard s
-    → out ≡ record before { messages = before.messages ++ tick_sends s } → after ≡ s → ServerTicks shard servers (slice_set servers shard after) before out
+    (servers : List ServerState) (shard : ℕ) (s after : ServerState) (before out : Collected) → shard < length servers → s ≡ get_or servers shard s
+    → HasSent before out (tick_sends s) → after ≡ s → ServerTicks shard servers (slice_set servers shard after) before out
 server_ticks servers shard s after before out within is sent same = record { server = s; there = slice_get-get_or servers shard s within ∙ ap Some (sym is); sent = sent; others = ap (slice_set servers shard) same }
 
 pub coord_takes :
-    (plan : Plan) (coords : List CoordState) (number : ℕ) (s after : CoordState) (msg : Msg) (answer : CoordHandled) (before out : Outbox) → number < length coords → s ≡ get_or coords number s
+    (plan : Plan) (coords : List CoordState) (number : ℕ) (s after : CoordState) (msg : Msg) (answer : CoordHandled) (before out : Collected) → number < length coords → s ≡ get_or coords number s
     → IsOutcome (after_message plan s msg) answer after before out → CoordTakes plan number msg answer coords (slice_set coords number after) before out
 coord_takes plan coords number s after msg answer before out within is outcome =
     record {
@@ -46,7 +46,7 @@ coord_takes plan coords number s after msg answer before out within is outcome =
     }
 
 pub coord_submits :
-    (plan : Plan) (coords : List CoordState) (number proc : ℕ) (args : List ℤ) (s after : CoordState) (answer : Result TxnId SubmitFault) (before out : Outbox) → number < length coords → s ≡ get_or coords number s
+    (plan : Plan) (coords : List CoordState) (number proc : ℕ) (args : List ℤ) (s after : CoordState) (answer : Result TxnId SubmitFault) (before out : Collected) → number < length coords → s ≡ get_or coords number s
     → UnlessStopped answer (IsSubmitted (after_submit plan s proc args) answer after before out) → UnlessStopped answer (CoordSubmits plan number proc args answer coords (slice_set coords number after) before out)
 coord_submits plan coords number proc args s after answer before out within is = unless_stopped answer (λ submitted.
     record {

@@ -125,7 +125,8 @@ fn tick(alloc: Global, plan: &Plan, parts: &mut Parts, node: Node) -> Result<See
 fn send_from(parts: &mut Parts, from: Node, outbox: Outbox) -> Result<(), NoMemory>
     ensures { OnOk result (world_of parts.new ≡ sends (world_of parts.old) from outbox.messages) }
 {
-    parts.network.add(from, outbox.messages)
+    let (messages, _) = outbox.into_parts();
+    parts.network.add(from, messages)
 }
 
 // What a coordinator sends for an accepted submission goes into the network, and the submission into the history.
@@ -164,9 +165,9 @@ fn note_at_server(
     ensures { IfOk result (λ what. (what ≡ server_seen handled)
         × (world_of parts.new ≡ record (sends (world_of parts.old) (node.Server shard) outbox.messages) { order = noted parts.old.order outbox.decided })) }
 {
-    let Outbox { messages, decided } = outbox;
+    let (messages, decided) = outbox.into_parts();
     parts.network.add(Node::Server(shard), messages)?;
-    parts.order.note(decided.as_slice())?;
+    parts.order.note(&decided)?;
     Ok(server_seen(handled))
 }
 

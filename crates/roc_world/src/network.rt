@@ -6,7 +6,6 @@ ghost use Rattle.roc_world.specs.Inner.Messages.{AreNumbered};
 
 use roc_base::{NoMemory, Node};
 use roc_msg::{Envelope, Outgoing};
-use roc_sequence::Sequence;
 use std::alloc::Global;
 use std::marker::Model;
 
@@ -62,16 +61,11 @@ impl Network {
     }
 
     /// Adds the messages that a node sends. `NoMemory` may leave some added.
-    pub fn add(&mut self, from: Node, messages: Sequence<Outgoing>) -> Result<(), NoMemory>
-        ensures sent { OnOk result (self.new.sent ≡ self.old.sent ++ map (sent_by from) messages) }
-        ensures undelivered { OnOk result (self.new.undelivered ≡ self.old.undelivered ++ range_with_len (length self.old.sent + 1) (length messages)) }
+    pub fn add(&mut self, from: Node, messages: Vec<Outgoing>) -> Result<(), NoMemory>
+        ensures sent { OnOk result (self.new.sent ≡ self.old.sent ++ map (sent_by from) messages.items) }
+        ensures undelivered { OnOk result (self.new.undelivered ≡ self.old.undelivered ++ range_with_len (length self.old.sent + 1) (length messages.items)) }
     {
-        add_all(
-            &mut self.sent,
-            &mut self.undelivered,
-            from,
-            messages.into_vec(),
-        )
+        add_all(&mut self.sent, &mut self.undelivered, from, messages)
     }
 }
 

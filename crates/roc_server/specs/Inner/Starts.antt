@@ -3,7 +3,7 @@ use Rattle.std.specs.Prelude.{◌≡◌, false, if◌then◌else◌, List}
 use Rattle.roc_base.specs.declared.id.TxnId.{TxnId}
 use Rattle.roc_base.specs.declared.node.Shard.{Shard}
 use Rattle.roc_group.specs.GroupRun.{GroupCall, group_run}
-use Rattle.roc_msg.specs.declared.outbox.Outbox.{Outbox}
+use Rattle.roc_msg.specs.Outbox.{Collected}
 use Rattle.roc_plan.specs.Groups.{Plan}
 use Rattle.roc_server.specs.declared.handled.Handled.{Handled}
 use Rattle.roc_server.specs.declared.server_data.ServerData.{ServerData}
@@ -28,13 +28,13 @@ pub record IsNewGroup (plan : Plan) (shard : Shard) (old new : ServerData) (id :
   pub index : new.index ≡ old.index
 
 -- a start was taken, or ignored
-pub record StartTaken (plan : Plan) (shard : Shard) (old new : ServerData) (before after : Outbox) (id : TxnId) (c : GroupCall) (answer : Handled) : Type 0 where
+pub record StartTaken (plan : Plan) (shard : Shard) (old new : ServerData) (before after : Collected) (id : TxnId) (c : GroupCall) (answer : Handled) : Type 0 where
   pub reached : List TxnId
   pub led : AreLedTo old.deps (edges_of_new plan old.decided (state_of shard old false) id c) reached
   pub shown : Shows (after_start plan old.decided reached (state_of shard old false) id c) answer (state_of shard new false) before after
 
 -- a new group started
-pub record StartsNew (plan : Plan) (shard : Shard) (old new : ServerData) (before after : Outbox) (id : TxnId) (c : GroupCall) (answer : Handled) : Type 0 where
+pub record StartsNew (plan : Plan) (shard : Shard) (old new : ServerData) (before after : Collected) (id : TxnId) (c : GroupCall) (answer : Handled) : Type 0 where
   pub reached : List TxnId
   pub led : AreLedTo old.deps (edges_for plan old.decided (state_of shard old false) id c) reached
   pub shown : Shows (start_new plan (state_of shard old false) c (new_group plan old.decided reached (state_of shard old false) id c)) answer (state_of shard new false) before after

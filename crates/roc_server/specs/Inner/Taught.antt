@@ -12,12 +12,12 @@ use Rattle.roc_await.specs.Lacks.{AreLacks, AreDecidedBy}
 use Rattle.roc_depgraph.specs.declared.known.KnownList.{KnownList}
 use Rattle.roc_depgraph.specs.Closure.{IsRisingListOf}
 use Rattle.roc_depgraph.specs.Deps.{IsDecided}
-use Rattle.roc_msg.specs.declared.outbox.Outbox.{Outbox}
+use Rattle.roc_msg.specs.Outbox.{Collected, HasSent}
 use Rattle.roc_plan.specs.Groups.{Plan}
 use Rattle.roc_server.specs.declared.handled.Handled.{Handled}
 use Rattle.roc_server.specs.declared.handled.Handled.TheVariants.{Done}
 use Rattle.roc_server.specs.declared.server_data.ServerData.{ServerData}
-use Rattle.roc_server.specs.Runs.{commitok, take_all}
+use Rattle.roc_server.specs.Runs.{accesses_of, all_buffered, commitok, take_all}
 use Rattle.roc_server_lists.specs.New.{AreNew}
 use Rattle.roc_server_lists.specs.Carried.{list_with, carried, unknown_of}
 use Rattle.roc_server_lists.specs.Asking.{knowns_for, waiting_after}
@@ -28,7 +28,7 @@ use Rattle.roc_server.specs.State.{is_here, ServerState}
 use Rattle.roc_server.specs.Step.{Shows, unless_ignored}
 
 -- the lists are known, their askers told, what is missing was asked for, and these are what they decide
-pub record KnowsMore (shard : Shard) (old new : ServerData) (before after : Outbox) (news : List KnownList) (asks : List OpenFetch) (ids : List TxnId) : Type 0 where
+pub record KnowsMore (shard : Shard) (old new : ServerData) (before after : Collected) (news : List KnownList) (asks : List OpenFetch) (ids : List TxnId) : Type 0 where
   pub rows : new.rows ≡ old.rows
   pub started : new.started ≡ old.started
   pub decided : new.decided ≡ old.decided
@@ -39,10 +39,10 @@ pub record KnowsMore (shard : Shard) (old new : ServerData) (before after : Outb
   pub news_decide : AreDecidedBy old.deps (old.deps ++ news) ids
   pub missing : asks ≡ missing_from (state_of shard old false) (old.deps ++ news)
   pub waits : new.waits ≡ waiting_after old.waits news asks
-  pub sent : after ≡ record before { messages = before.messages ++ flat_map (knowns_for old.waits.askers) news }
+  pub sent : HasSent before after (flat_map (knowns_for old.waits.askers) news)
 
 -- these are taken, with what is kept and sent before and after
-pub record DecidedTaken (plan : Plan) (shard : Shard) (old new : ServerData) (before after : Outbox) (ids : List TxnId) : Type 0 where
+pub record DecidedTaken (plan : Plan) (shard : Shard) (old new : ServerData) (before after : Collected) (ids : List TxnId) : Type 0 where
   pub chosen : AreNew (IsListed is_txn old.decided) old.deps ids
   pub lists : new.deps ≡ old.deps
   pub waits : new.waits ≡ old.waits
@@ -53,13 +53,14 @@ pub record DecidedTaken (plan : Plan) (shard : Shard) (old new : ServerData) (be
   pub runs : (s : ServerState) → take_all plan (holding s old.rows.store old.started) ids ≡ holding s new.rows.store new.started
   pub groups : AreSameGroups old.started new.started
   pub told : after.decided ≡ before.decided ++ ids
+  pub ran : after.ran ≡ before.ran ++ accesses_of (all_buffered plan old.started ids)
   pub sent : after.messages ≡ before.messages ++ map (commitok plan shard new.started) (filter (λ t. is_here t new.started) ids)
 
-abbrev pub TakesNew : Plan → Shard → (old new : ServerData) → (before after : Outbox) → Type 0
+abbrev pub TakesNew : Plan → Shard → (old new : ServerData) → (before after : Collected) → Type 0
 TakesNew plan shard old new before after = (ids : List TxnId) × DecidedTaken plan shard old new before after ids
 
 -- new lists are taught, with all that comes of it
-pub record Teaches (plan : Plan) (shard : Shard) (old new : ServerData) (before after : Outbox) (news : List KnownList) : Type 0 where
+pub record Teaches (plan : Plan) (shard : Shard) (old new : ServerData) (before after : Collected) (news : List KnownList) : Type 0 where
   pub ids : List TxnId
   pub new_ids : AreNew (IsDecided old.deps) (old.deps ++ news) ids
   pub shown : Shows (taught plan (state_of shard old false) news ids) Done (state_of shard new false) before after
@@ -67,14 +68,14 @@ pub record Teaches (plan : Plan) (shard : Shard) (old new : ServerData) (before 
   pub sound : IsConsistent new
 
 -- a commit was taken, or ignored
-pub record Commits (plan : Plan) (shard : Shard) (old new : ServerData) (before after : Outbox) (id : TxnId) (edges : List Dependency) (facts : List KnownList) (answer : Handled) : Type 0 where
+pub record Commits (plan : Plan) (shard : Shard) (old new : ServerData) (before after : Collected) (id : TxnId) (edges : List Dependency) (facts : List KnownList) (answer : Handled) : Type 0 where
   pub ids : List TxnId
   pub new_ids : AreNew (IsDecided old.deps) (old.deps ++ unless_ignored (commit_fault (state_of shard old false) id edges facts) (unknown_of old.deps (carried id edges facts))) ids
   pub shown : Shows (after_commit plan old.decided ids (state_of shard old false) id edges facts (commit_fault (state_of shard old false) id edges facts)) answer
       (state_of shard new false) before after
 
 -- a list that was asked for was taken, or ignored
-pub record Knows (plan : Plan) (shard : Shard) (old new : ServerData) (before after : Outbox) (id : TxnId) (edges : List Dependency) (answer : Handled) : Type 0 where
+pub record Knows (plan : Plan) (shard : Shard) (old new : ServerData) (before after : Collected) (id : TxnId) (edges : List Dependency) (answer : Handled) : Type 0 where
   pub ids : List TxnId
   pub new_ids : AreNew (IsDecided old.deps) (old.deps ++ unless_ignored (known_fault (state_of shard old false) id edges) (unknown_of old.deps (list_with id edges ∷ []))) ids
   pub shown : Shows (after_known plan ids (state_of shard old false) id edges (known_fault (state_of shard old false) id edges)) answer (state_of shard new false) before after

@@ -2,7 +2,7 @@
 use Rattle.std.specs.Prelude.{◌≡◌, ℕ, ℤ, List, ◌++◌, Some, Result, slice_get, slice_set}
 use Rattle.roc_base.specs.declared.id.TxnId.{TxnId}
 use Rattle.roc_msg.specs.declared.msg.Msg.{Msg}
-use Rattle.roc_msg.specs.declared.outbox.Outbox.{Outbox}
+use Rattle.roc_msg.specs.Outbox.{Collected, HasSent}
 use Rattle.roc_plan.specs.Groups.{Plan}
 use Rattle.roc_server.specs.declared.handled.Handled.{Handled as ServerHandled}
 use Rattle.roc_server.specs.State.{ServerState, ServerStep}
@@ -15,7 +15,7 @@ use Rattle.roc_coord.specs.Submit.{after_submit, IsSubmitted}
 use Rattle.roc_coord.specs.Tick.{tick_sends as coord_sends}
 
 -- the server of a shard took a message, and no other changed
-pub record ServerTakes (plan : Plan) (shard : ℕ) (msg : Msg) (answer : ServerHandled) (old new : List ServerState) (before after : Outbox) : Type 0 where
+pub record ServerTakes (plan : Plan) (shard : ℕ) (msg : Msg) (answer : ServerHandled) (old new : List ServerState) (before after : Collected) : Type 0 where
   pub server : ServerState
   pub there : slice_get old shard ≡ Some server
   pub step : ServerStep
@@ -24,29 +24,29 @@ pub record ServerTakes (plan : Plan) (shard : ℕ) (msg : Msg) (answer : ServerH
   pub others : new ≡ slice_set old shard step.state
 
 -- a coordinator took a message, and no other changed
-pub record CoordTakes (plan : Plan) (number : ℕ) (msg : Msg) (answer : CoordHandled) (old new : List CoordState) (before after : Outbox) : Type 0 where
+pub record CoordTakes (plan : Plan) (number : ℕ) (msg : Msg) (answer : CoordHandled) (old new : List CoordState) (before after : Collected) : Type 0 where
   pub coord : CoordState
   pub there : slice_get old number ≡ Some coord
   pub outcome : IsOutcome (after_message plan coord msg) answer (after_message plan coord msg).state before after
   pub others : new ≡ slice_set old number (after_message plan coord msg).state
 
 -- a transaction was submitted at a coordinator, and no other changed
-pub record CoordSubmits (plan : Plan) (number proc : ℕ) (args : List ℤ) (answer : Result TxnId SubmitFault) (old new : List CoordState) (before after : Outbox) : Type 0 where
+pub record CoordSubmits (plan : Plan) (number proc : ℕ) (args : List ℤ) (answer : Result TxnId SubmitFault) (old new : List CoordState) (before after : Collected) : Type 0 where
   pub coord : CoordState
   pub there : slice_get old number ≡ Some coord
   pub submitted : IsSubmitted (after_submit plan coord proc args) answer (after_submit plan coord proc args).state before after
   pub others : new ≡ slice_set old number (after_submit plan coord proc args).state
 
 -- a tick of a server, which is written again as it was
-pub record ServerTicks (shard : ℕ) (old new : List ServerState) (before after : Outbox) : Type 0 where
+pub record ServerTicks (shard : ℕ) (old new : List ServerState) (before after : Collected) : Type 0 where
   pub server : ServerState
   pub there : slice_get old shard ≡ Some server
-  pub sent : after ≡ record before { messages = before.messages ++ server_sends server }
+  pub sent : HasSent before after (server_sends server)
   pub others : new ≡ slice_set old shard server
 
 -- a tick of a coordinator, likewise
-pub record CoordTicks (plan : Plan) (number : ℕ) (old new : List CoordState) (before after : Outbox) : Type 0 where
+pub record CoordTicks (plan : Plan) (number : ℕ) (old new : List CoordState) (before after : Collected) : Type 0 where
   pub coord : CoordState
   pub there : slice_get old number ≡ Some coord
-  pub sent : after ≡ record before { messages = before.messages ++ coord_sends plan coord }
+  pub sent : HasSent before after (coord_sends plan coord)
   pub others : new ≡ slice_set old number coord

@@ -3,16 +3,14 @@ use Rattle.std.proofs.Common.{List, ap, refl, sym, append-nil, get_or, ◌∙◌
 use Rattle.roc_base.specs.Edge.{Dependency}
 use Rattle.roc_base.specs.declared.node.Shard.{Shard}
 use Rattle.roc_depgraph.specs.declared.known.KnownList.{KnownList}
-use Rattle.roc_msg.specs.declared.outbox.Outbox.{Outbox}
+use Rattle.roc_msg.proofs.Sent.{sent_none}
 use Rattle.roc_msg.specs.declared.outbox.Outgoing.{Outgoing}
 use Rattle.roc_coord.specs.Inner.CommitWith.{commit_with}
 use Rattle.roc_coord.proofs.Sends.{sent_one_more, sent_all}
 use Rattle.roc_coord.proofs.commits.send_each.Goals as goal
 
 pub loop-shard-init : goal.loop-shard-init
-loop-shard-init c =
-    let with_messages : List Outgoing → Outbox = λ m. record c.args.outbox.now { messages = m } in
-    ap with_messages (sym (append-nil c.args.outbox.now.messages))
+loop-shard-init c = sent_none c.args.outbox.now
 
 pub loop-shard-preserved : goal.loop-shard-preserved
 loop-shard-preserved c =

@@ -1,16 +1,14 @@
 -- The outbox gains the start of one more group
 use Rattle.std.proofs.Common.{List, ap, refl, sym, append-nil, get_or}
 use Rattle.roc_base.specs.declared.node.Node.TheVariants.{Server}
-use Rattle.roc_msg.specs.declared.outbox.Outbox.{Outbox}
+use Rattle.roc_msg.proofs.Sent.{sent_none}
 use Rattle.roc_msg.specs.declared.outbox.Outgoing.{Outgoing}
 use Rattle.roc_coord.specs.Starts.{start_for}
 use Rattle.roc_coord.proofs.Sends.{sent_one_more, sent_all}
 use Rattle.roc_coord.proofs.starts.resend_each.Goals as goal
 
 pub loop-group-init : goal.loop-group-init
-loop-group-init c =
-    let with_messages : List Outgoing → Outbox = λ m. record c.args.outbox.now { messages = m } in
-    ap with_messages (sym (append-nil c.args.outbox.now.messages))
+loop-group-init c = sent_none c.args.outbox.now
 
 pub start_for-requires : goal.start_for-requires
 start_for-requires c = record { transaction = c.requires.transaction; group = c.requires.groups c.loop-group.group-index 0 c.loop-group-test.true }

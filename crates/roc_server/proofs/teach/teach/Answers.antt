@@ -2,7 +2,7 @@ use Rattle.std.proofs.Common.{◌++◌, List, map, sym, subst, ap, ◌∙◌}
 use Rattle.std.proofs.lemmas.Result.{on_ok_weaker}
 use Rattle.roc_sequence.specs.Places.{NoneTwice}
 use Rattle.roc_await.specs.declared.waits.OpenFetch.{OpenFetch}
-use Rattle.roc_msg.specs.declared.outbox.Outbox.{Outbox}
+use Rattle.roc_msg.specs.Outbox.{HasSent}
 use Rattle.roc_server.specs.declared.started.StartedGroup.{StartedGroup}
 use Rattle.roc_server.specs.Fits.{AreGroupsOf}
 use Rattle.roc_server_lists.specs.Asking.{fetch_from}
@@ -55,9 +55,9 @@ take_new-requires-clause-group_refs c =
 pub returns : goal.returns
 returns c =
     let t = c.in_ok-take_new.ensures in
-    let P : List OpenFetch → Outbox = λ xs. record c.take_new.new.outbox { messages = c.take_new.new.outbox.messages ++ map (fetch_from c.args.shard) xs } in
+    let P : List OpenFetch → Type 0 = λ xs. HasSent c.take_new.new.outbox c.send_fetches.new.outbox (map (fetch_from c.args.shard) xs) in
     on_ok_weaker c.send_fetches.result
     (λ sent.
     teaches c.args.plan.now c.args.shard c.args.kept.now c.know_more.new.kept c.take_new.new.kept c.args.outbox.now c.know_more.new.outbox c.take_new.new.outbox c.send_fetches.new.outbox c.args.news.now t.0 c.in_ok-asks.ids.items c.in_ok-asks.asks.items c.requires.sound
-    (c.in_ok-asks.ensures c.args.shard) t.1 (sent ∙ ap P c.deref-2.ensures.value))
+    (c.in_ok-asks.ensures c.args.shard) t.1 (subst P c.deref-2.ensures.value sent))
     c.send_fetches.ensures

@@ -1,0 +1,34 @@
+-- What an outbox holds, and what is added to it
+use Rattle.std.specs.Prelude.{◌≡◌, ◌++◌, ℕ, List}
+use Rattle.roc_base.specs.declared.id.TxnId.{TxnId}
+use Rattle.roc_msg.specs.declared.outbox.Outgoing.{Outgoing}
+use Rattle.roc_msg.specs.declared.outbox.Ran.{Ran}
+
+-- how many more of each find room
+pub record Room : Type 0 where
+  pub messages : ℕ
+  pub decided : ℕ
+  pub ran : ℕ
+
+-- what is sent, what is newly decided, and which cells were accessed, each in order
+pub record Collected : Type 0 where
+  pub messages : List Outgoing
+  pub decided : List TxnId
+  pub ran : List Ran
+  pub room : Room
+
+-- the same is held; there may be other room
+abbrev pub HoldsSame : (old new : Collected) → Type 0
+HoldsSame old new = (new.messages ≡ old.messages) × (new.decided ≡ old.decided) × (new.ran ≡ old.ran)
+
+-- these messages are sent behind the others, and that is all
+abbrev pub HasSent : (old new : Collected) → List Outgoing → Type 0
+HasSent old new sends = (new.messages ≡ old.messages ++ sends) × (new.decided ≡ old.decided) × (new.ran ≡ old.ran)
+
+-- these transactions are decided behind the others, and that is all
+abbrev pub HasDecided : (old new : Collected) → List TxnId → Type 0
+HasDecided old new ids = (new.messages ≡ old.messages) × (new.decided ≡ old.decided ++ ids) × (new.ran ≡ old.ran)
+
+-- these accesses stand behind the others, and that is all
+abbrev pub HasRun : (old new : Collected) → List Ran → Type 0
+HasRun old new accesses = (new.messages ≡ old.messages) × (new.decided ≡ old.decided) × (new.ran ≡ old.ran ++ accesses)
