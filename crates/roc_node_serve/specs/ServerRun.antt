@@ -6,7 +6,7 @@ use Rattle.roc_io.specs.declared.link.Addr.{Addr}
 use Rattle.roc_io.specs.Cause.{one_more}
 use Rattle.roc_io.specs.Packet.{Packet}
 use Rattle.roc_msg.specs.declared.msg.Msg.{Msg}
-use Rattle.roc_msg.specs.declared.msg.Msg.TheVariants.{Start, StartOk, Commit, CommitOk, Fetch, Known, Stop}
+use Rattle.roc_msg.specs.declared.msg.Msg.TheVariants.{Stop}
 use Rattle.roc_msg.specs.declared.outbox.Outgoing.{Outgoing}
 use Rattle.roc_plan.specs.Groups.{Plan}
 use Rattle.roc_wire.specs.declared.header.Header.{Header}
@@ -66,12 +66,7 @@ server_heard node header from = record node { heard = heard_of node.heard header
 
 abbrev pub is_stop : Msg → Bool
 is_stop Stop = true
-is_stop (Start id proc group args inputs) = false
-is_stop (StartOk id group shard bound outs edges facts) = false
-is_stop (Commit id edges facts) = false
-is_stop (CommitOk id shard outs) = false
-is_stop (Fetch id asker) = false
-is_stop (Known id edges) = false
+is_stop msg = false
 
 -- a delivery: a stop is for the node, and any other message for its core, whose step it is
 abbrev pub TakesMessage : NodeSetting → ServerNodeState → (stops : Bool) → Msg → ServerNodeState → Type 0

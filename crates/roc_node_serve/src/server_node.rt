@@ -51,6 +51,12 @@ fn is_stop(msg: &Msg) -> bool
         Msg::CommitOk { .. } => false,
         Msg::Fetch { .. } => false,
         Msg::Known { .. } => false,
+        Msg::Ended { .. } => false,
+        Msg::Settled { .. } => false,
+        Msg::Read { .. } => false,
+        Msg::ReadOk { .. } => false,
+        Msg::Drained { .. } => false,
+        Msg::Switched { .. } => false,
     }
 }
 
