@@ -30,7 +30,11 @@ FORMS = {word: re.compile(word + rest) for word, rest in {
 
 # The first letters of who sends and who gets a message of each kind, and whether it shows edges and facts.
 KINDS = {"start": ("cs", False, False), "startok": ("sc", True, True), "commit": ("cs", True, True), "commitok": ("sc", False, False),
-         "fetch": ("ss", False, False), "known": ("ss", True, False)}
+         "fetch": ("ss", False, False), "known": ("ss", True, False), "ended": ("cs", False, False), "settled": ("ss", False, False),
+         "read": ("cs", False, False), "readok": ("sc", False, False), "drained": ("cs", False, False), "switched": ("sc", False, False)}
+
+# The kinds that show a mark in the id's place: they are of no transaction.
+MARKS = ("ended", "drained", "switched")
 
 # Which closing lines may stand behind which: "" stands for the events.
 BEHIND = {"": ("order",), "order": ("row", "pending", "end"), "row": ("row", "pending", "end"), "pending": ("pending", "end"), "end": ()}
@@ -62,12 +66,17 @@ class Message:
     """A message, with the events that sent and delivered it."""
     number: str
     kind: str
-    transaction: str
+    named: str
     receiver: str
     edges: list[str]
     facts: list[str]
     sent: Event
     deliveries: list[Event] = field(default_factory=list)
+
+    @property
+    def transaction(self) -> str:
+        """The transaction that it is of; empty where a mark stands in the id's place."""
+        return "" if self.kind in MARKS else self.named
 
 
 @dataclass
@@ -131,7 +140,7 @@ class Reader:
         event.ignored = line
 
     def take_send(self, line: str, groups: tuple[str, ...]) -> None:
-        number, kind, transaction, sender, receiver, edges, facts = groups
+        number, kind, named, sender, receiver, edges, facts = groups
         event = self.last()
         self.ensure(kind in KINDS, f"no kind of message: {kind}")
         route, may_have_edges, may_have_facts = KINDS[kind]
@@ -140,7 +149,7 @@ class Reader:
         self.ensure((may_have_edges or not edges) and (may_have_facts or not facts), f"a {kind} carries no such list")
         self.ensure(event.word in ("submit", "deliver", "tick") and not event.ignored and not event.answer, "its event sends nothing here")
         self.ensure(event.node == sender, f"{sender} sends, and {event.node} acts")
-        message = Message(number, kind, transaction, receiver, edges.split(), facts.split(), event)
+        message = Message(number, kind, named, receiver, edges.split(), facts.split(), event)
         event.sends.append(message)
         self.report.messages.append(message)
 
@@ -186,7 +195,7 @@ def by_number(name: str) -> tuple[int, ...]:
 def concerns(event: Event) -> list[str]:
     """The transactions that an event is about, the first of its message or submission and then those of what it sends."""
     own = [event.message.transaction] if event.message else [event.words.split(" ")[1]] if event.word == "submit" else []
-    return own + [message.transaction for message in event.sends]
+    return [name for name in own + [message.transaction for message in event.sends] if name]
 
 
 def transactions(report: Report) -> list[str]:
