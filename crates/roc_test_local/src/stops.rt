@@ -34,7 +34,7 @@ const ANY: Addr = Addr {
 };
 
 // The magic, the version, the kind, the tag, the role and the number of the sender.
-const STOP: &[u8] = b"RCO1\x01\x07tagoften\x01\x00\x00";
+const STOP: &[u8] = b"RCO1\x02\x07tagoften\x01\x00\x00";
 
 fn two_shards(alloc: Global) -> Result<Cluster, ClusterFault> {
     parse_cluster(alloc, TWO_SHARDS, 2)
