@@ -5,19 +5,23 @@ use Rattle.roc_program.specs.Program.{Workload}
 use Rattle.roc_program.specs.Pieces.{piece_of, piece_ids, all_pieces}
 use Rattle.roc_program.specs.Conflict.{are_in_conflict}
 use Rattle.roc_program.specs.declared.piece_id.PieceId.{PieceId}
-use Rattle.roc_plan.specs.Groups.{Plan, groups_of, group_of}
+use Rattle.roc_plan.specs.Groups.{Plan, is_view_of, groups_of, group_of}
 use Rattle.roc_plan.specs.Accepted.{is_piece_immediate}
 use Rattle.roc_report.specs.declared.line.Standing.{Standing}
-use Rattle.roc_report.specs.declared.line.Standing.TheVariants.{Immediate, Promoted, Deferrable}
+use Rattle.roc_report.specs.declared.line.Standing.TheVariants.{Immediate, Promoted, Deferrable, View}
 use Rattle.roc_report.specs.Line.{Line, Shards, Proc, Piece, Group, Conflict, Accepted}
 
 -- the procedures of a program, by number
 abbrev pub procedures_of : Workload → List ℕ
 procedures_of program = range_with_len 0 (length program.procedures)
 
--- declared `now`, or immediate all the same, or neither
+-- of a view; or declared `now`, or immediate all the same, or none of these
 abbrev pub standing_of : Plan → PieceId → Standing
-standing_of plan id = if (piece_of plan.program id).is_now then Immediate else (if is_piece_immediate plan id then Promoted else Deferrable)
+standing_of plan id =
+    if is_view_of plan id.proc then View
+    else if (piece_of plan.program id).is_now then Immediate
+    else if is_piece_immediate plan id then Promoted
+    else Deferrable
 
 abbrev pub piece_lines : Plan → (proc : ℕ) → List Line
 piece_lines plan proc = map (λ id. Piece id (standing_of plan id)) (piece_ids plan.program proc)
@@ -25,8 +29,9 @@ piece_lines plan proc = map (λ id. Piece id (standing_of plan id)) (piece_ids p
 abbrev pub group_line : Plan → (proc number : ℕ) → Line
 group_line plan proc number = let group = group_of plan proc number in Group proc number group.is_immediate group.pieces
 
+-- a view, each of whose pieces is a group, has no such lines
 abbrev pub group_lines : Plan → (proc : ℕ) → List Line
-group_lines plan proc = map (group_line plan proc) (range_with_len 0 (length (groups_of plan proc)))
+group_lines plan proc = if is_view_of plan proc then [] else map (group_line plan proc) (range_with_len 0 (length (groups_of plan proc)))
 
 -- a procedure, behind it its pieces, and behind these its groups
 abbrev pub procedure_lines : Plan → (proc : ℕ) → List Line

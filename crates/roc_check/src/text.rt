@@ -1,11 +1,11 @@
 //! The lines of the text of `check`, one behind another.
 ghost use Rattle.std.specs.Prelude.{◌≡◌, ◌++◌, ◌<◌, length, map, filter, IfOk, OnOk};
-ghost use Rattle.std.specs.List.{flat_map};
+ghost use Rattle.std.specs.List.{flat_map, range_with_len};
 ghost use Rattle.roc_program.specs.Conflict.{are_in_conflict};
 ghost use Rattle.roc_program.specs.Pieces.{all_pieces};
 ghost use Rattle.roc_plan.specs.Groups.{groups_of, group_of};
 ghost use Rattle.roc_plan.specs.Accepted.{is_piece_immediate};
-ghost use Rattle.roc_check.specs.Lines.{procedures_of, standing_of, piece_lines, group_lines, procedure_lines, conflict_lines, check_lines};
+ghost use Rattle.roc_check.specs.Lines.{procedures_of, standing_of, piece_lines, group_line, group_lines, procedure_lines, conflict_lines, check_lines};
 ghost use Rattle.roc_report.specs.Line.{Conflict};
 ghost use Rattle.roc_report.specs.Text.{lines_text};
 
@@ -68,7 +68,9 @@ fn standing(plan: &Plan, id: PieceId) -> Standing
     requires { id.proc < length plan.now.program.procedures }
     ensures { result ≡ standing_of plan.now id }
 {
-    if is_declared_now(plan.workload(), id) {
+    if plan.is_view(id.proc) {
+        Standing::View
+    } else if is_declared_now(plan.workload(), id) {
         Standing::Immediate
     } else if is_piece_immediate(plan, id) {
         Standing::Promoted
@@ -100,10 +102,26 @@ fn is_immediate(plan: &Plan, proc: u16, group: u16) -> bool
     }
 }
 
-// Adds the groups of a procedure.
+// Adds the groups of a procedure, unless it is a view.
 fn push_groups(alloc: Global, text: &mut Vec<u8>, plan: &Plan, proc: u16) -> Result<(), NoMemory>
     requires { proc < length plan.now.program.procedures }
     ensures { OnOk result (text.new.items ≡ text.old.items ++ lines_text plan.now.program (group_lines plan.now proc)) }
+{
+    if plan.is_view(proc) {
+        return Ok(());
+    }
+    push_each_group(alloc, text, plan, proc)
+}
+
+// Adds each group of a procedure.
+fn push_each_group(
+    alloc: Global,
+    text: &mut Vec<u8>,
+    plan: &Plan,
+    proc: u16,
+) -> Result<(), NoMemory>
+    requires { proc < length plan.now.program.procedures }
+    ensures { OnOk result (text.new.items ≡ text.old.items ++ lines_text plan.now.program (map (group_line plan.now proc) (range_with_len 0 (length (groups_of plan.now proc))))) }
 {
     for number in 0..plan.groups(proc) {
         let immediate = is_immediate(plan, proc, number);

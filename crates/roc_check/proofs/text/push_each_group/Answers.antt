@@ -4,7 +4,7 @@ use Rattle.roc_report.specs.Line.{Group}
 use Rattle.roc_report.specs.Text.{line_text}
 use Rattle.roc_check.specs.Lines.{group_line}
 use Rattle.roc_check.proofs.Added.{line_added}
-use Rattle.roc_check.proofs.text.push_groups.Goals as goal
+use Rattle.roc_check.proofs.text.push_each_group.Goals as goal
 
 pub loop-number-preserved : goal.loop-number-preserved
 loop-number-preserved c =
