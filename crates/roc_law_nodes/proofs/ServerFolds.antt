@@ -5,7 +5,7 @@ use Rattle.std.specs.Prelude.{filter}
 use Rattle.roc_base.specs.declared.node.Shard.{Shard}
 use Rattle.roc_io.specs.declared.link.Addr.{Addr}
 use Rattle.roc_msg.specs.declared.msg.Msg.{Msg}
-use Rattle.roc_msg.specs.declared.msg.Msg.TheVariants.{Start, StartOk, Commit, CommitOk, Fetch, Known, Stop}
+use Rattle.roc_msg.specs.declared.msg.Msg.TheVariants.{Stop}
 use Rattle.roc_msg.specs.declared.outbox.Outgoing.{Outgoing}
 use Rattle.roc_plan.specs.Groups.{Plan}
 use Rattle.roc_server.specs.State.{ServerState, ServerStep}
@@ -74,12 +74,7 @@ module _ (S : NodeSetting) (shard : Shard) where
 module _ (plan : Plan) (shard : Shard) where
   stop_does_nothing : (msg : Msg) (s after : ServerState) (outs : List Outgoing) → is_stop msg ≡ true → ServerSteps plan s (delivered msg) after outs → (after ≡ s) × (outs ≡ [])
   stop_does_nothing Stop s after outs e (r, handles, state, sends) = (state ∙ ap (λ (r : ServerStep). r.state) handles.is, sends ∙ ap (λ (r : ServerStep). r.sends) handles.is)
-  stop_does_nothing (Start id proc group args inputs) s after outs e h = absurd (cc)
-  stop_does_nothing (StartOk id group at bound values edges facts) s after outs e h = absurd (cc)
-  stop_does_nothing (Commit id edges facts) s after outs e h = absurd (cc)
-  stop_does_nothing (CommitOk id at values) s after outs e h = absurd (cc)
-  stop_does_nothing (Fetch id asker) s after outs e h = absurd (cc)
-  stop_does_nothing (Known id edges) s after outs e h = absurd (cc)
+  stop_does_nothing msg s after outs e h = absurd (cc)
 
   module _ (front : List OwnEvent) (s : ServerState) (messages : List Outgoing) (fold : IsServerFold plan shard front s messages) where
     message_more : (msg : Msg) (after : ServerState) (outs : List Outgoing) → ServerSteps plan s (delivered msg) after outs → (b : Bool) → is_stop msg ≡ b → IsServerFold plan shard (front ++ for_core (delivered msg ∷ [])) after (messages ++ outs)
