@@ -33,6 +33,7 @@ use Rattle.roc_protocol.specs.Quiet.{PrecedesIn, WasDelivered, IsQuiet}
 use Rattle.roc_world.specs.Reads.{cells_of, unanswered_of}
 use Rattle.roc_report.specs.Shown.{message_kind, edges_of, shown_message}
 use Rattle.roc_report.specs.Line.{Line, ShownMessage, Submit, Deliver, Send, Answer, Row, Pending}
+use Rattle.roc_report.proofs.Named.{id_is_shown}
 use Rattle.roc_replay.specs.Cells.{by_cell}
 use Rattle.roc_replay.specs.Report.{submission_lines, ignored_lines, first_lines, send_lines, answer_lines, step_lines, steps_lines, end_line, closing_lines, report}
 use Rattle.roc_replay.specs.Readback.{entries_in, history_in, IsShownBefore, LooksQuiet}
@@ -309,7 +310,7 @@ module _ (plan : Plan) (coords : ℕ) (steps : List Stepped) (w : World) (r : Is
         message = shown_message m;
         shown = has_left (Send own.0 (shown_message m)) (steps_lines [] steps) (closing_lines w) (shown.sends (Send own.0 (shown_message m)) own.1);
         startok = ap message_kind p.told.is;
-        of = ap id_of p.told.is;
+        of = id_is_shown m ∙ ap id_of p.told.is;
         entry = p.entry;
         listed = subst (Has p.entry) (sym (ap edges_of p.told.is)) p.listed;
         from = p.from;
@@ -323,7 +324,7 @@ module _ (plan : Plan) (coords : ℕ) (steps : List Stepped) (w : World) (r : Is
             (let index : k ≡ suc k - 1 = omega arith in
             let own = sent_is_shown (suc k) (shown_message m) (m, omega arith, subst (λ (n : ℕ). slice_get w.sent n ≡ Some m) index there, refl) in
             let led : ReachesOrIs (IsShownBefore lines) u t = elim chain [ inl e ↦ inl e | inr c ↦ inr (weaker_chain (PrecedesIn w.sent) (IsShownBefore lines) precedes_is_shown u t c) ] in
-            shown_was_delivered (suc k) (looks.each (suc k) (shown_message m) u own is led));
+            shown_was_delivered (suc k) (looks.each (suc k) (shown_message m) u own (id_is_shown m ∙ is) led));
       }
 
   -- and is answered, where what is quiet is, since the lines show the history

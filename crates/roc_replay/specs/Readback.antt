@@ -12,7 +12,7 @@ use Rattle.roc_whole.specs.Serial.{serial_store, start_store}
 use Rattle.roc_audit.specs.declared.entry.Entry.{Entry}
 use Rattle.roc_audit.specs.declared.entry.Entry.TheVariants.{Submitted, Answered}
 use Rattle.roc_audit.specs.Witness.{submitted_calls, IsSerialWitness}
-use Rattle.roc_report.specs.Line.{Line, ShownMessage, StartOk, Submit, Deliver, Send, Answer, Order, Row, Pending}
+use Rattle.roc_report.specs.Line.{Line, ShownMessage, id_shown, StartOk, Submit, Deliver, Send, Answer, Order, Row, Pending}
 
 -- what a line tells of the history: a submission or an answer
 abbrev pub entries_in : Line → List Entry
@@ -56,7 +56,7 @@ pub record IsShownBefore (lines : List Line) (u t : TxnId) : Type 0 where
   pub message : ShownMessage
   pub shown : Has (Send number message) lines
   pub startok : message.kind ≡ StartOk
-  pub of : message.id ≡ Some t
+  pub of : id_shown message ≡ Some t
   pub entry : Dependency
   pub listed : Has entry message.edges
   pub from : entry.from ≡ u
@@ -64,7 +64,7 @@ pub record IsShownBefore (lines : List Line) (u t : TxnId) : Type 0 where
 -- the lines show that every message that they show of t, or of one from which a chain of these leads to t, was delivered
 pub record LooksQuiet (lines : List Line) (t : TxnId) : Type 0 where
   pub each :
-      (number : ℕ) (message : ShownMessage) (u : TxnId) → Has (Send number message) lines → message.id ≡ Some u → ReachesOrIs (IsShownBefore lines) u t
+      (number : ℕ) (message : ShownMessage) (u : TxnId) → Has (Send number message) lines → id_shown message ≡ Some u → ReachesOrIs (IsShownBefore lines) u t
       → Has (Deliver number) lines
 
 -- ---- what lines explain
