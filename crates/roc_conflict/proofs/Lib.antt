@@ -6,3 +6,5 @@ pub mod Marking
 pub mod Promoting
 pub mod Rows
 pub mod Views
+pub mod Declared
+pub mod Gathering

@@ -1,4 +1,5 @@
 pub mod Immediate
 pub mod Classes
 pub mod Contended
+pub mod Columns
 pub mod Inner

@@ -13,9 +13,9 @@ is_held row piece = slice_index_or row piece false
 abbrev pub is_marked_at : List (List Bool) → (proc piece : ℕ) → Bool
 is_marked_at marks proc piece = is_held (slice_index_or marks proc []) piece
 
--- a piece is declared `now` or marked as promoted, and was not taken
-abbrev pub is_due : Workload → (promoted taken : List (List Bool)) → PieceId → Bool
-is_due program promoted taken id = not (is_immediate taken id) && (is_immediate promoted id || (piece_of program id).is_now)
+-- a piece is declared `now` or promoted, and was not taken
+abbrev pub is_due : Workload → (is_promoted : PieceId → Bool) → (taken : List (List Bool)) → PieceId → Bool
+is_due program is_promoted taken id = not (is_immediate taken id) && ((piece_of program id).is_now || is_promoted id)
 
 -- how many places are not marked
 abbrev pub open_places : List Bool → ℕ

@@ -1,8 +1,9 @@
 use Rattle.std.proofs.Common.{◌≡◌, ◌<◌, false}
 use Rattle.roc_program.specs.Pieces.{HasPiece}
 use Rattle.roc_program.specs.declared.piece_id.PieceId.{PieceId}
+use Rattle.roc_conflict.specs.Columns.{piece_meets}
 use Rattle.roc_conflict.specs.Inner.Marks.{is_due}
 use Rattle.roc_conflict.proofs.promotion.first_due.Given as goal
 
 abbrev pub invariant-loop-proc : goal.invariant-loop-proc
-invariant-loop-proc l = (id : PieceId) → id.proc < l.proc → HasPiece l.workload id → is_due l.workload l.promoted l.taken id ≡ false
+invariant-loop-proc l = (id : PieceId) → id.proc < l.proc → HasPiece l.workload id → is_due l.workload (piece_meets l.workload l.reached) l.taken id ≡ false

@@ -1,8 +1,0 @@
-use Rattle.std.proofs.Common.{◌↔◌, ◌⊎◌, ◌<◌, IsTrue}
-use Rattle.roc_program.specs.declared.piece_id.PieceId.{PieceId}
-use Rattle.roc_program.specs.Conflict.{are_in_conflict}
-use Rattle.roc_conflict.specs.Classes.{is_immediate}
-use Rattle.roc_conflict.proofs.promotion.mark_promoted.Given as goal
-
-abbrev pub invariant-loop-proc : goal.invariant-loop-proc
-invariant-loop-proc l = (id : PieceId) → IsTrue (is_immediate l.promoted id) ↔ (IsTrue (is_immediate l.fn.promoted id) ⊎ ((id.proc < l.proc) × IsTrue (are_in_conflict l.workload l.one id)))
