@@ -5,7 +5,7 @@ ghost use Rattle.roc_conflict.specs.Classes.{is_immediate};
 ghost use Rattle.roc_merge_groups.specs.Flow.{feeds, Leads};
 ghost use Rattle.roc_merge.specs.Inner.Tables.{holds, AreContended, IsFlow};
 
-use roc_conflict::{Classes, contended};
+use roc_conflict::{Classes, Columns};
 use roc_merge_accept::feeds;
 use roc_program::{PieceId, Workload, piece_count};
 
@@ -24,9 +24,10 @@ pub(crate) fn contended_in(workload: &Workload, classes: &Classes, proc: u16) ->
     requires { proc < length workload.now.procedures }
     ensures { AreContended workload.now (is_immediate classes.now) proc result }
 {
+    let all = Columns::of_all(workload);
     let mut row = [false; 16];
     for piece in 0..count_of(workload, proc) {
-        row[usize::from(piece)] = contended(workload, classes, PieceId { proc, piece });
+        row[usize::from(piece)] = all.contend(workload, classes, PieceId { proc, piece });
     }
     row
 }

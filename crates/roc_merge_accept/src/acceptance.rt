@@ -3,6 +3,7 @@ ghost use Rattle.std.specs.Prelude.{◌≡◌, ◌↔◌, ℕ, ◌<◌, length, 
 ghost use Rattle.std.specs.List.{AllByRecursion};
 ghost use Rattle.roc_program.specs.Pieces.{pieces_in};
 ghost use Rattle.roc_conflict.specs.Classes.{is_immediate};
+ghost use Rattle.roc_conflict.specs.Columns.{AreAll};
 ghost use Rattle.roc_merge_groups.specs.Groups.{piece_numbered, groups_in};
 ghost use Rattle.roc_merge_groups.specs.Core.{AreCoLocated};
 ghost use Rattle.roc_merge_groups.specs.Grouping.{IsGrouping};
@@ -13,7 +14,7 @@ ghost use Rattle.roc_merge_accept.specs.Inner.Tests.{IsAlike, has_contended, Are
 use crate::are_co_located;
 use crate::circle::has_no_circle;
 use crate::partition::is_grouping;
-use roc_conflict::{Classes, contended, is_least};
+use roc_conflict::{Classes, Columns, is_least};
 use roc_merge_groups::Groups;
 use roc_program::{PieceId, Workload, piece_count, procedure_count};
 
@@ -104,8 +105,9 @@ fn are_contended_in_one(workload: &Workload, classes: &Classes, groups: &Groups)
     requires { (proc : ℕ) → proc < length workload.now.procedures → IsGrouping (length (pieces_in workload.now proc)) (groups_in groups.now proc) }
     ensures { IsTrue result ↔ ((proc : ℕ) → proc < length workload.now.procedures → AreContendedIn workload.now (is_immediate classes.now) proc (groups_in groups.now proc)) }
 {
+    let all = Columns::of_all(workload);
     for proc in 0..procedure_count(workload) {
-        if contended_groups(workload, classes, proc, groups.of_procedure(proc)) > 1 {
+        if contended_groups(&all, workload, classes, proc, groups.of_procedure(proc)) > 1 {
             return false;
         }
     }
@@ -113,19 +115,33 @@ fn are_contended_in_one(workload: &Workload, classes: &Classes, groups: &Groups)
 }
 
 // How many groups of a procedure have a contended piece.
-fn contended_groups(workload: &Workload, classes: &Classes, proc: u16, groups: &[Vec<u16>]) -> usize
+fn contended_groups(
+    all: &Columns,
+    workload: &Workload,
+    classes: &Classes,
+    proc: u16,
+    groups: &[Vec<u16>],
+) -> usize
+    requires { AreAll workload.now all.now }
     ensures { result ≡ count_by (λ g. has_contended workload.now (is_immediate classes.now) proc g.items) groups.now }
 {
     groups
         .iter()
-        .filter(|group| has_contended(workload, classes, proc, group))
+        .filter(|group| has_contended(all, workload, classes, proc, group))
         .count()
 }
 
-fn has_contended(workload: &Workload, classes: &Classes, proc: u16, group: &[u16]) -> bool
+fn has_contended(
+    all: &Columns,
+    workload: &Workload,
+    classes: &Classes,
+    proc: u16,
+    group: &[u16],
+) -> bool
+    requires { AreAll workload.now all.now }
     ensures { result ≡ has_contended workload.now (is_immediate classes.now) proc group.now }
 {
-    group.iter().any(|piece| contended(
+    group.iter().any(|piece| all.contend(
         workload,
         classes,
         PieceId {
