@@ -4,9 +4,9 @@
 //! `specs/Cycles.antt` which cycles no reordering undoes (`IsUnreorderable`); in words and with an example both stand
 //! in `docs/CHECKER.md`.
 //!
-//! The layers above may rely on this: [`edge`] is exactly that edge, and takes no memory; and by [`laws`] a procedure
-//! has an unreorderable cycle through an S-edge of its own exactly if two of its immediate pieces are contended, and
-//! then one of at most six vertices between each two of them.
+//! The layers above may rely on this: [`edge`] is exactly that edge, and takes no memory; [`Vertex::is_before`] is the
+//! order of `specs/Order.antt`; and by [`laws`] a procedure has an unreorderable cycle through an S-edge of its own
+//! exactly if two of its immediate pieces are contended, and then one of at most six vertices between each two of them.
 #![tactic(auto)]
 
 mod graph;

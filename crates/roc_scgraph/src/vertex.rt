@@ -8,7 +8,7 @@ pub enum Instance {
     Second,
 }
 
-/// A piece of an instance of its procedure, by the numbers of procedure and piece; ordered by procedure, piece and instance.
+/// A piece of an instance of its procedure, by the numbers of procedure and piece; [`Vertex::is_before`] says how they are ordered.
 #[derive(Clone, Copy, PartialEq, Eq, PartialOrd, Ord)]
 pub struct Vertex {
     pub proc: u16,
@@ -27,6 +27,14 @@ pub enum Kind {
 impl Vertex {
     ghost use Rattle.std.specs.Prelude.{◌≡◌};
     ghost use Rattle.roc_scgraph.specs.Graph.{piece_id};
+    ghost use Rattle.roc_scgraph.specs.Order.{is_before};
+
+    /// Whether it comes before another: by procedure, then by piece, then by instance.
+    pub fn is_before(self, other: Vertex) -> bool
+        ensures { result ≡ is_before self other }
+    {
+        self < other
+    }
 
     /// The piece that it stands for.
     pub fn id(self) -> PieceId

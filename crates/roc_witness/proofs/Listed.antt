@@ -15,7 +15,7 @@ use Rattle.roc_scgraph.specs.declared.vertex.Instance.{Instance}
 use Rattle.roc_scgraph.specs.declared.vertex.Instance.TheVariants.{First, Second}
 use Rattle.roc_scgraph.specs.Graph.{piece_id}
 use Rattle.roc_scgraph.proofs.Vertices.{same_vertex}
-use Rattle.roc_witness.specs.Order.{is_earlier_instance, is_before}
+use Rattle.roc_scgraph.specs.Order.{is_earlier_instance, is_before}
 use Rattle.roc_witness.specs.Inner.Vertices.{instances_of, vertices_in, vertices}
 
 -- two more

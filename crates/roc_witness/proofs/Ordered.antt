@@ -7,7 +7,8 @@ use Rattle.roc_scgraph.specs.declared.vertex.Instance.{Instance}
 use Rattle.roc_scgraph.specs.declared.vertex.Instance.TheVariants.{First, Second}
 use Rattle.roc_scgraph.specs.Graph.{is_vertex}
 use Rattle.roc_scgraph.proofs.Vertices.{same_vertex, is_vertex-true, is_vertex-same}
-use Rattle.roc_witness.specs.Order.{is_earlier_instance, is_before, stands_before}
+use Rattle.roc_scgraph.specs.Order.{is_earlier_instance, is_before}
+use Rattle.roc_witness.specs.Order.{stands_before}
 use Rattle.roc_witness.specs.Inner.Candidates.{is_better}
 
 -- ---- vertices

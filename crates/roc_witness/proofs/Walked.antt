@@ -10,7 +10,8 @@ use Rattle.roc_sequence.proofs.Members.{has_one, has_filter, from_has_filter}
 use Rattle.roc_sequence.proofs.Found.{found_has, none_passes}
 use Rattle.roc_sequence.proofs.Rising.{rising_filter}
 use Rattle.roc_scgraph.specs.declared.vertex.Vertex.{Vertex}
-use Rattle.roc_witness.specs.Order.{is_before, stands_before}
+use Rattle.roc_scgraph.specs.Order.{is_before}
+use Rattle.roc_witness.specs.Order.{stands_before}
 use Rattle.roc_witness.specs.Inner.Walks.{IsWalk, IsLeastWalk, HasNoWalk, IsLeastAdded, level, AreLevels}
 use Rattle.roc_witness.proofs.Ordered.{comes_not, comes_same}
 

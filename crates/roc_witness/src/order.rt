@@ -1,7 +1,7 @@
 //! The order of vertices, and of lists of them.
 ghost use Rattle.std.specs.Prelude.{◌≡◌};
 ghost use Rattle.roc_scgraph.specs.Graph.{is_vertex};
-ghost use Rattle.roc_witness.specs.Order.{is_before, stands_before};
+ghost use Rattle.roc_witness.specs.Order.{stands_before};
 ghost use Rattle.roc_witness.specs.Inner.Candidates.{is_better};
 
 use roc_scgraph::Vertex;
@@ -12,19 +12,13 @@ pub(crate) fn is_same(one: Vertex, other: Vertex) -> bool
     one.proc == other.proc && one.instance == other.instance && one.piece == other.piece
 }
 
-fn is_before(one: Vertex, other: Vertex) -> bool
-    ensures { result ≡ is_before one other }
-{
-    one < other
-}
-
 // Whether a list comes before another by the first place at which they differ.
 fn stands_before(one: &[Vertex], other: &[Vertex]) -> bool
     ensures { result ≡ stands_before one.now other.now }
 {
     let (mut left, mut right) = (one, other);
     while let (Some((a, rest)), Some((b, behind))) = (left.split_first(), right.split_first()) {
-        if is_before(*a, *b) {
+        if a.is_before(*b) {
             return true;
         }
         if !is_same(*a, *b) {

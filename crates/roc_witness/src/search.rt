@@ -6,7 +6,8 @@ ghost use Rattle.roc_conflict.specs.Classes.{is_immediate};
 ghost use Rattle.roc_sequence.specs.Rising.{IsRising};
 ghost use Rattle.roc_scgraph.specs.declared.vertex.Vertex.{Vertex};
 ghost use Rattle.roc_scgraph.specs.Cycles.{first_instance};
-ghost use Rattle.roc_witness.specs.Order.{is_before, stands_before};
+ghost use Rattle.roc_scgraph.specs.Order.{is_before};
+ghost use Rattle.roc_witness.specs.Order.{stands_before};
 ghost use Rattle.roc_witness.specs.Shortest.{IsCycleOf};
 ghost use Rattle.roc_witness.specs.Inner.Candidates as spec;
 

@@ -7,7 +7,7 @@ ghost use Rattle.std.specs.List.{list_any};
 ghost use Rattle.std.specs.Option.{option_copied};
 ghost use Rattle.roc_sequence.specs.Rising.{IsRising};
 ghost use Rattle.roc_scgraph.specs.Graph.{are_siblings};
-ghost use Rattle.roc_witness.specs.Order.{is_before};
+ghost use Rattle.roc_scgraph.specs.Order.{is_before};
 ghost use Rattle.roc_witness.specs.Inner.Walks as spec;
 
 use crate::order::is_same;

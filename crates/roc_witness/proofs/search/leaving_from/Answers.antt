@@ -3,7 +3,7 @@ use Rattle.std.proofs.lemmas.Result.{IfOk-weaker}
 use Rattle.std.specs.Option.{option_map}
 use Rattle.roc_sequence.specs.Rising.{IsRising}
 use Rattle.roc_sequence.proofs.Rising.{rising_filter}
-use Rattle.roc_witness.specs.Order.{is_before}
+use Rattle.roc_scgraph.specs.Order.{is_before}
 use Rattle.roc_witness.specs.Inner.Vertices.{is_open}
 use Rattle.roc_witness.specs.Inner.Candidates.{IsBest, LeavesFrom}
 use Rattle.roc_witness.proofs.Best.{found_from, none_from_last, Searched}

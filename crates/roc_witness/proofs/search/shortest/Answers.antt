@@ -5,7 +5,8 @@ use Rattle.std.specs.Option.{option_map}
 use Rattle.roc_conflict.specs.Classes.{is_immediate}
 use Rattle.roc_sequence.specs.Rising.{IsRising}
 use Rattle.roc_scgraph.specs.declared.vertex.Vertex.{Vertex}
-use Rattle.roc_witness.specs.Order.{is_before, stands_before}
+use Rattle.roc_scgraph.specs.Order.{is_before}
+use Rattle.roc_witness.specs.Order.{stands_before}
 use Rattle.roc_witness.specs.Shortest.{IsCycleOf}
 use Rattle.roc_witness.specs.Inner.Candidates.{IsBest, LeavesBelow}
 use Rattle.roc_witness.proofs.Listed.{rising_vertices}
