@@ -7,3 +7,5 @@ pub mod Taking
 pub mod Regrouped
 pub mod Asking
 pub mod Counted
+pub mod PutInPlace
+pub mod Orders

@@ -2,3 +2,4 @@
 pub mod Groups
 pub mod Grown
 pub mod Taken
+pub mod Apart

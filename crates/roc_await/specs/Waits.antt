@@ -1,6 +1,6 @@
 -- Lists that a server asked others for, and who asked it: docs/PROTOCOL.md, "Fetches"
-use Rattle.std.specs.Prelude.{Bool, not, ◌&&◌, ◌||◌, nat_lt, List, [], ◌∷◌, filter}
-use Rattle.std.specs.List.{list_any}
+use Rattle.std.specs.Prelude.{Bool, not, ◌&&◌, ◌||◌, nat_lt, List, [], ◌∷◌, filter, IsTrue}
+use Rattle.std.specs.List.{AllByRecursion, list_any}
 use Rattle.roc_base.specs.declared.id.TxnId.{TxnId}
 use Rattle.roc_base.specs.TxnId.{is_txn, txn_lt}
 use Rattle.roc_msg.specs.InPlace.{in_place}
@@ -22,6 +22,11 @@ is_asked_before a b = txn_lt a.id b.id
 
 abbrev pub is_asker_before : Asker → Asker → Bool
 is_asker_before a b = txn_lt a.id b.id || (is_txn a.id b.id && nat_lt a.shard.0 b.shard.0)
+
+-- each comes before all behind it
+abbrev pub AreInOrder : {A : Type 0} → (A → A → Bool) → List A → Type 0
+AreInOrder before [] = Unit {0}
+AreInOrder before (x ∷ xs) = AllByRecursion (λ y. IsTrue (before x y)) xs × AreInOrder before xs
 
 -- the list of a transaction was asked for
 abbrev pub was_asked_for : TxnId → List OpenFetch → Bool

@@ -2,7 +2,8 @@
 //!
 //! [`Waits`] keeps the transactions whose lists a server asked for, each with the shard that it asked, and who asked it
 //! for lists that it does not know. Contracts see it as the two lists of `specs/Waits.antt`, in order and each kept
-//! once, and each call changes them exactly as its definition says; one that finds no memory leaves them as they were.
+//! once (`AreInOrder`, an invariant of the type), and each call changes them exactly as its definition says; one that
+//! finds no memory leaves them as they were, and [`Waits::drop_askers`] needs none.
 //!
 //! [`Lacks`] keeps the transactions whose lists are known and that are not decided, each with the ids that are missing
 //! for it (`specs/Lacks.antt`). The layers above may rely on this: [`Lacks::learnt`] takes in the lists that were

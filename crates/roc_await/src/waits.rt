@@ -1,7 +1,7 @@
 //! Who waits for which list.
-ghost use Rattle.std.specs.Prelude.{◌≡◌, ◌++◌, filter, not, IfOk, OnOk};
-ghost use Rattle.roc_base.specs.TxnId.{is_txn};
-ghost use Rattle.roc_await.specs.Waits.{is_asked_before, is_asker_before, with_asked, with_asker, without_askers_of};
+ghost use Rattle.std.specs.Prelude.{◌≡◌, ◌≤◌, length, filter, vec_len, vec_capacity, OnOk, OnErr};
+ghost use Rattle.roc_await.specs.Waits.{is_asked_before, is_asker_before, with_asked, with_asker, without_askers_of, AreInOrder};
+ghost use Rattle.roc_await.specs.Inner.Apart.{is_apart};
 
 use roc_base::{NoMemory, Shard, TxnId};
 use std::alloc::Global;
@@ -24,17 +24,18 @@ pub struct Asker {
 /// What a server waits for, and who waits for it.
 #[derive(Drop)]
 pub struct Waits {
-    alloc: Global,
     asked: Vec<OpenFetch>,
     askers: Vec<Asker>,
 }
 
 impl Model for Waits {
-    ghost use Rattle.roc_await.specs.Waits.{Waiting};
+    ghost use Rattle.roc_await.specs.Waits.{is_asked_before, is_asker_before, AreInOrder, Waiting};
 
     ghost Value = { Waiting };
 
     ghost view = { λ w. record { asked = w.asked.items; askers = w.askers.items } };
+
+    ghost invariant = { λ w. AreInOrder is_asked_before w.asked.items × AreInOrder is_asker_before w.askers.items };
 }
 
 impl Waits {
@@ -46,7 +47,6 @@ impl Waits {
         ensures { result ≡ none_waiting }
     {
         Waits {
-            alloc,
             asked: Vec::new(alloc),
             askers: Vec::new(alloc),
         }
@@ -78,8 +78,7 @@ impl Waits {
         ensures ok { OnOk result (self.new ≡ record self.old { asked = with_asked asked self.old.asked }) }
         ensures err { OnErr result (self.new ≡ self.old) }
     {
-        self.asked = with_asked(self.alloc, asked, &self.asked)?;
-        Ok(())
+        put_asked(&mut self.asked, asked)
     }
 
     /// One more has asked; it is kept once. `NoMemory` leaves all as it was.
@@ -87,8 +86,7 @@ impl Waits {
         ensures ok { OnOk result (self.new ≡ record self.old { askers = with_asker asker self.old.askers }) }
         ensures err { OnErr result (self.new ≡ self.old) }
     {
-        self.askers = with_asker(self.alloc, asker, &self.askers)?;
-        Ok(())
+        put_asker(&mut self.askers, asker)
     }
 
     /// Those who asked for the list of a transaction wait no longer. Takes no memory.
@@ -99,84 +97,64 @@ impl Waits {
     }
 }
 
-// What was asked for, with one more in its place.
-fn with_asked(
-    alloc: Global,
-    asked: OpenFetch,
-    all: &[OpenFetch],
-) -> Result<Vec<OpenFetch>, NoMemory>
-    ensures { IfOk result (λ v. v.items ≡ with_asked asked all.now) }
+// Puts one into its place among what was asked for, over what stood there.
+fn put_asked(all: &mut Vec<OpenFetch>, asked: OpenFetch) -> Result<(), NoMemory>
+    requires { AreInOrder is_asked_before all.old.items }
+    ensures ok { OnOk result (all.new.items ≡ with_asked asked all.old.items) }
+    ensures err { OnErr result (all.new.items ≡ all.old.items) }
+    ensures order { AreInOrder is_asked_before all.new.items }
 {
-    let mut with = asked_before(alloc, asked, all)?;
-    with.push(asked)?;
-    with.extend_from_slice(&asked_behind(alloc, asked, all)?)?;
-    Ok(with)
+    all.reserve(1)?;
+    let at = count_asked_before(all, asked);
+    keep_other_asked(all, asked);
+    all.insert(at, asked).unwrap();
+    Ok(())
 }
 
-// Those of them that come before one.
-fn asked_before(
-    alloc: Global,
-    asked: OpenFetch,
-    all: &[OpenFetch],
-) -> Result<Vec<OpenFetch>, NoMemory>
-    ensures { IfOk result (λ v. v.items ≡ filter (λ a. is_asked_before a asked) all.now) }
+// How many of them come before one.
+fn count_asked_before(all: &[OpenFetch], asked: OpenFetch) -> usize
+    ensures { result ≡ length (filter (λ a. is_asked_before a asked) all.now) }
 {
-    Ok(
-        all.iter()
-            .copied()
-            .filter(|a| a.id < asked.id)
-            .collect(alloc)?,
-    )
+    all.iter().filter(|a| a.id < asked.id).count()
 }
 
-// Those of them that come behind one.
-fn asked_behind(
-    alloc: Global,
-    asked: OpenFetch,
-    all: &[OpenFetch],
-) -> Result<Vec<OpenFetch>, NoMemory>
-    ensures { IfOk result (λ v. v.items ≡ filter (λ a. is_asked_before asked a) all.now) }
+// Those that come before one or behind it stay.
+fn keep_other_asked(all: &mut Vec<OpenFetch>, asked: OpenFetch)
+    ensures items { all.new.items ≡ filter (is_apart is_asked_before asked) all.old.items }
+    ensures len { vec_len all.new ≤ vec_len all.old }
+    ensures capacity { vec_capacity all.new ≡ vec_capacity all.old }
 {
-    Ok(
-        all.iter()
-            .copied()
-            .filter(|a| asked.id < a.id)
-            .collect(alloc)?,
-    )
+    all.retain(|a| a.id < asked.id || asked.id < a.id);
 }
 
-// Those who asked, with one more in its place.
-fn with_asker(alloc: Global, asker: Asker, all: &[Asker]) -> Result<Vec<Asker>, NoMemory>
-    ensures { IfOk result (λ v. v.items ≡ with_asker asker all.now) }
+// Puts one into his place among those who asked.
+fn put_asker(all: &mut Vec<Asker>, asker: Asker) -> Result<(), NoMemory>
+    requires { AreInOrder is_asker_before all.old.items }
+    ensures ok { OnOk result (all.new.items ≡ with_asker asker all.old.items) }
+    ensures err { OnErr result (all.new.items ≡ all.old.items) }
+    ensures order { AreInOrder is_asker_before all.new.items }
 {
-    let mut with = askers_before(alloc, asker, all)?;
-    with.push(asker)?;
-    with.extend_from_slice(&askers_behind(alloc, asker, all)?)?;
-    Ok(with)
+    all.reserve(1)?;
+    let at = count_askers_before(all, asker);
+    keep_other_askers(all, asker);
+    all.insert(at, asker).unwrap();
+    Ok(())
 }
 
-// Those of them who come before one.
-fn askers_before(alloc: Global, asker: Asker, all: &[Asker]) -> Result<Vec<Asker>, NoMemory>
-    ensures { IfOk result (λ v. v.items ≡ filter (λ a. is_asker_before a asker) all.now) }
+// How many of them come before one.
+fn count_askers_before(all: &[Asker], asker: Asker) -> usize
+    ensures { result ≡ length (filter (λ a. is_asker_before a asker) all.now) }
 {
-    Ok(
-        all.iter()
-            .copied()
-            .filter(|a| is_before(a, &asker))
-            .collect(alloc)?,
-    )
+    all.iter().filter(|a| is_before(a, &asker)).count()
 }
 
-// Those of them who come behind one.
-fn askers_behind(alloc: Global, asker: Asker, all: &[Asker]) -> Result<Vec<Asker>, NoMemory>
-    ensures { IfOk result (λ v. v.items ≡ filter (λ a. is_asker_before asker a) all.now) }
+// Those who come before one or behind him stay.
+fn keep_other_askers(all: &mut Vec<Asker>, asker: Asker)
+    ensures items { all.new.items ≡ filter (is_apart is_asker_before asker) all.old.items }
+    ensures len { vec_len all.new ≤ vec_len all.old }
+    ensures capacity { vec_capacity all.new ≡ vec_capacity all.old }
 {
-    Ok(
-        all.iter()
-            .copied()
-            .filter(|a| is_before(&asker, a))
-            .collect(alloc)?,
-    )
+    all.retain(|a| is_before(a, &asker) || is_before(&asker, a));
 }
 
 // Whether one stands before another, by id and then by shard.

@@ -39,14 +39,14 @@ impl Model for Outbox {
     ghost Value = { Collected };
 
     ghost view = { λ o. record {
-        messages = o.messages.items;
-        decided = o.decided.items;
-        ran = o.ran.items;
-        room = record {
-            messages = vec_capacity o.messages - length o.messages.items;
-            decided = vec_capacity o.decided - length o.decided.items;
-            ran = vec_capacity o.ran - length o.ran.items;
-        };
+      messages = o.messages.items;
+      decided = o.decided.items;
+      ran = o.ran.items;
+      room = record {
+        messages = vec_capacity o.messages - length o.messages.items;
+        decided = vec_capacity o.decided - length o.decided.items;
+        ran = vec_capacity o.ran - length o.ran.items;
+      };
     } };
 }
 

@@ -29,11 +29,7 @@ pub(crate) fn note_group(group: &StartedGroup, outbox: &mut Outbox) -> Result<()
 }
 
 // The same where the group is buffered.
-fn note_if_buffered(
-    plan: &Plan,
-    group: &StartedGroup,
-    outbox: &mut Outbox,
-) -> Result<(), NoMemory>
+fn note_if_buffered(plan: &Plan, group: &StartedGroup, outbox: &mut Outbox) -> Result<(), NoMemory>
     requires { group.now.group < length (groups_of plan.now group.now.proc) }
     ensures { OnOk result (HasRun outbox.old outbox.new (accesses_of (buffered plan.now (group.now ∷ [])))) }
 {

@@ -86,11 +86,7 @@ fn start_new(
 }
 
 // Notes the accesses of a group where it runs as it starts.
-fn note_if_immediate(
-    plan: &Plan,
-    group: &StartedGroup,
-    outbox: &mut Outbox,
-) -> Result<(), NoMemory>
+fn note_if_immediate(plan: &Plan, group: &StartedGroup, outbox: &mut Outbox) -> Result<(), NoMemory>
     requires { group.now.group < length (groups_of plan.now group.now.proc) }
     ensures { OnOk result (HasRun outbox.old outbox.new (accesses_of (if is_immediate_of plan.now group.now.proc group.now.group then group.now ∷ [] else []))) }
 {
