@@ -7,13 +7,11 @@ ghost use Rattle.roc_lang_parse.specs.Inner.Views.{ReadsAs, token_views, parts_t
 ghost use Rattle.roc_lang_parse.specs.Parts.{signed_at, behind_comma_at, separated_behind, separated_at, some_at};
 ghost use Rattle.roc_lang_parse.specs.Reading.{said_arity_at, arity_at, table_at, row_at, init_at, front_at, end_at, tables_at, inits_at, text_at, whole_at};
 
+use crate::number::{bounded_of, shards_of, signed_of};
 use crate::procedure::{names_of, procedures_of};
 use crate::refusal::{Refusal, limit_fault, or_refuse, token_fault};
 use crate::statement::MORE_IDS;
-use crate::terminal::{
-    before_mark, begins_mark, begins_word, bounded_of, mark, mark_line, name_of, shards_of,
-    signed_of, word,
-};
+use crate::terminal::{before_mark, begins_mark, begins_word, mark, mark_line, name_of, word};
 use crate::token::Token;
 use roc_lang::limits::{ARITY, COLUMNS, INITS, LEAST_ARITY, TABLES};
 use roc_lang::{Init, Procedure, Source, Table};

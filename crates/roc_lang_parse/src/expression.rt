@@ -12,10 +12,10 @@ ghost use Rattle.roc_lang_parse.specs.Reading.{plus_or_minus, sum_at, deep_at, e
 use crate::deep::{
     Deep, Function, Operands, applied, enclosed, paired, picked, plus_or_minus, times, word_of,
 };
+use crate::number::{begins_integer, integer_of};
 use crate::refusal::{Refusal, limit_fault, or_refuse};
 use crate::terminal::{
-    before_mark, begins_integer, begins_mark, begins_sign, begins_word, integer_of, mark, name_of,
-    sign_at, word,
+    before_mark, begins_mark, begins_sign, begins_word, mark, name_of, sign_at, word,
 };
 use crate::token::Token;
 use roc_lang::Expression;

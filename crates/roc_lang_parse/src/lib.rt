@@ -16,6 +16,7 @@ mod deep;
 mod expression;
 pub mod laws;
 mod lexer;
+mod number;
 mod parser;
 mod procedure;
 mod refusal;
