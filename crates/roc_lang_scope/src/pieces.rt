@@ -99,7 +99,8 @@ fn check_body<'a>(
     within: &Within<'a>,
     body: &'a [Statement],
 ) -> Result<(), Misuse<'a>>
-    ensures { Finds result (statements_faults (map table_tree tables.now) (within_of within.now) (bound_behind (map name_tree arguments.now) (map piece_tree pieces.now) []) (map statement_tree body.now)) }
+    ensures { Finds result (statements_faults (map table_tree tables.now) (within_of within.now)
+        (bound_behind (map name_tree arguments.now) (map piece_tree pieces.now) []) (map statement_tree body.now)) }
 {
     for (i, statement) in body.iter().enumerate() {
         let before = Before {

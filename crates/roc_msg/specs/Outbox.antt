@@ -5,7 +5,7 @@ use Rattle.roc_msg.specs.declared.outbox.Outgoing.{Outgoing}
 use Rattle.roc_msg.specs.declared.outbox.Ran.{Ran}
 
 -- how many more of each find room
-pub record Room : Type 0 where
+pub record OutboxRoom : Type 0 where
   pub messages : ℕ
   pub decided : ℕ
   pub ran : ℕ
@@ -15,7 +15,7 @@ pub record Collected : Type 0 where
   pub messages : List Outgoing
   pub decided : List TxnId
   pub ran : List Ran
-  pub room : Room
+  pub room : OutboxRoom
 
 -- the same is held; there may be other room
 abbrev pub HoldsSame : (old new : Collected) → Type 0

@@ -2,7 +2,8 @@
 //!
 //! A [`Msg`] is data: contracts see its lists as lists, and `specs/Msg.antt` reads its id and its kind. Its [`Facts`]
 //! are known lists that travel along; they rise strictly by id, whatever the message (`specs/Facts.antt`).
-//! [`CellVersions`] are a list of numbers, of what a read-only transaction has read. A [`Reason`] prints as `specs/Reason.antt` says. `specs/InPlace.antt` has lists that rise with one more put into its place.
+//! [`CellVersions`] are a list of numbers, of what a read-only transaction has read. A [`Reason`] prints as
+//! `specs/Reason.antt` says. `specs/InPlace.antt` has lists that rise with one more put into its place.
 //!
 //! An [`Outbox`] collects what a node sends in one event, the transactions that it decides in it, and the accesses of
 //! the groups that run in it (`specs/Outbox.antt`). Each call adds at the end, leaves what is held if it finds no

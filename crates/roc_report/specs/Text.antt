@@ -17,7 +17,8 @@ use Rattle.roc_scgraph.specs.declared.vertex.Vertex.{Vertex}
 use Rattle.roc_scgraph.specs.declared.vertex.Instance.{Instance}
 use Rattle.roc_scgraph.specs.declared.vertex.Instance.TheVariants.{First, Second}
 use Rattle.roc_scgraph.specs.Graph.{piece_id}
-use Rattle.roc_report.specs.Line.{MessageKind, Start, StartOk, Commit, CommitOk, Fetch, Known, Stop, Ended, Settled, Read, ReadOk, Drained, Switched, ShownMessage, Line, Submit, Busy, Spent, Deliver, Nothing, Tick, Ignored, Send, Answer}
+use Rattle.roc_report.specs.Line.{MessageKind, Start, StartOk, Commit, CommitOk, Fetch, Known, Stop, Ended, Settled, Read, ReadOk, Drained, Switched, ShownMessage, Line}
+use Rattle.roc_report.specs.Line.{Submit, Busy, Spent, Deliver, Nothing, Tick, Ignored, Send, Answer}
 use Rattle.roc_report.specs.Line.{Order, Row, Pending, End, Shards, Proc, Piece, Group, Conflict, Accepted, Apart, Blocked}
 use Rattle.roc_report.specs.Standing.{standing_text}
 

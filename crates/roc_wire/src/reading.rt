@@ -1,6 +1,7 @@
 //! Reading a datagram.
 ghost use Rattle.std.specs.Prelude.{◌≡◌, Ok, take, IfOk};
-ghost use Rattle.roc_wire.specs.Reading.{IsRead, bytes_read, start_read, start_ok_read, commit_read, commit_ok_read, fetch_read, known_read, ended_read, settled_read, read_read, read_ok_read, drained_read, switched_read, body_read, magic_read, version_read, kind_read};
+ghost use Rattle.roc_wire.specs.Reading.{IsRead, bytes_read, start_read, start_ok_read, commit_read, commit_ok_read, fetch_read, known_read, ended_read, settled_read};
+ghost use Rattle.roc_wire.specs.Reading.{read_read, read_ok_read, drained_read, switched_read, body_read, magic_read, version_read, kind_read};
 ghost use Rattle.roc_wire.specs.Reading.{node_read, whole_read, datagram, pair};
 ghost use Rattle.roc_wire.specs.Fits.{IsSpellable};
 ghost use Rattle.roc_wire.specs.Spelling.{spelling};
