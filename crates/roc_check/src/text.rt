@@ -10,8 +10,9 @@ ghost use Rattle.roc_report.specs.Line.{Conflict};
 ghost use Rattle.roc_report.specs.Text.{lines_text};
 
 use roc_base::NoMemory;
+use roc_conflict::Columns;
 use roc_plan::{Class, Plan};
-use roc_program::{PieceId, Workload, all_pieces, conflict, is_declared_now, piece_count};
+use roc_program::{PieceId, Workload, all_pieces, is_declared_now, piece_count};
 use roc_report::{CheckLine, Standing, append_check};
 use std::alloc::Global;
 
@@ -162,8 +163,9 @@ fn push_conflicts_of(
 ) -> Result<(), NoMemory>
     ensures { OnOk result (text.new.items ≡ text.old.items ++ lines_text workload.now (map (Conflict first) (filter (are_in_conflict workload.now first) others.now))) }
 {
+    let columns = Columns::of(workload, first);
     for other in others {
-        if conflict(workload, first, *other) {
+        if columns.conflict(workload, first, *other) {
             append_check(alloc, text, workload, &CheckLine::Conflict(first, *other))?;
         }
     }
