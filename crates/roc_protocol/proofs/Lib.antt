@@ -49,6 +49,7 @@ mod OngoingRuns
 mod Liveness
 mod Hears
 mod Takes
+mod Transactions
 mod Delivered
 mod Hearing
 mod Quieted
