@@ -1,13 +1,13 @@
--- The name of a value, as it stands on the command line
+-- What is printed for a value that is none: its name, as it stands on the command line, and what it may be
 use Rattle.std.specs.Prelude.{List, ℕ, codes}
 use Rattle.roc_cli_words.specs.declared.value.ValueName.{ValueName}
 use Rattle.roc_cli_words.specs.declared.value.ValueName.TheVariants.{Shard, Turns, Coord, Seed, Shards, Txns, Part}
 
 abbrev pub value_text : ValueName → List ℕ
-value_text Shard = codes "shard"
-value_text Turns = codes "turns"
-value_text Coord = codes "coord"
-value_text Seed = codes "seed"
-value_text Shards = codes "shards"
-value_text Txns = codes "txns"
-value_text Part = codes "part"
+value_text Shard = codes "shard: 0 to 63"
+value_text Turns = codes "turns: 1 to 4294967295"
+value_text Coord = codes "coord: 0 to 15"
+value_text Seed = codes "seed: 0 to 18446744073709551615"
+value_text Shards = codes "shards: 1 to 64"
+value_text Txns = codes "txns: 1 to 1000"
+value_text Part = codes "part: workload, schedule or run"

@@ -12,6 +12,19 @@ use clap::error::ErrorKind;
 use clap::{ArgMatches, Error};
 use std::alloc::Global;
 
+// What stands behind each refusal of `clap`.
+const COMMANDS: &str = "
+Commands:
+  check   writes the pieces and groups of a workload, or why it is refused
+  print   writes the canonical text of a workload
+  replay  writes the report of a schedule
+  serve   serves a shard on a network
+  submit  submits requests on a network, and writes their answers
+  stop    stops the servers of a cluster
+  local   starts the servers of a cluster, submits requests, and stops the servers
+  gen     writes a generated workload, its schedule, or what comes of its run
+";
+
 /// Why words ask for nothing.
 #[derive(Drop)]
 pub enum WordsFault {
@@ -29,7 +42,7 @@ fn fault_of(alloc: Global, error: &Error) -> WordsFault
     if error.kind() == ErrorKind::OutOfMemory {
         return WordsFault::NoMemory;
     }
-    match format!(in alloc; "{error}") {
+    match format!(in alloc; "{error}{}", COMMANDS) {
         Ok(text) => WordsFault::Refused(text),
         Err(_) => WordsFault::NoMemory,
     }

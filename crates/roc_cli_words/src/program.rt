@@ -113,6 +113,19 @@ fn bare_command<'a>(alloc: Global) -> Command<'a>
         .subcommand_required(true)
 }
 
+// The command with this name in its usage, where it was made.
+fn shown_as<'a>(
+    command: Result<Command<'a>, AllocError>,
+    name: &str,
+) -> Result<Command<'a>, AllocError>
+    ensures { (app : App) → IfOk command.entry (λ c. IsSoFar c app) → IfOk result (λ c. IsSoFar c app) }
+{
+    match command {
+        Ok(command) => command.bin_name(name),
+        Err(error) => Err(error),
+    }
+}
+
 // The program with one more command, where both were made.
 fn joined<'a>(
     program: Result<Command<'a>, AllocError>,
@@ -142,12 +155,20 @@ fn under<'a>(
 pub(crate) fn program<'a>(alloc: Global) -> Result<Command<'a>, AllocError>
     ensures { IfOk result (λ c. app_of c ≡ program_app) }
 {
-    let program = under(bare_command(alloc), workload_command(alloc, "check"));
-    let program = joined(program, workload_command(alloc, "print"));
-    let program = joined(program, replay_command(alloc));
-    let program = joined(program, serve_command(alloc));
-    let program = joined(program, submit_command(alloc));
-    let program = joined(program, cluster_command(alloc, "stop"));
-    let program = joined(program, local_command(alloc));
-    joined(program, gen_command(alloc))
+    let check = shown_as(workload_command(alloc, "check"), "rococo check");
+    let program = under(bare_command(alloc), check);
+    let print = shown_as(workload_command(alloc, "print"), "rococo print");
+    let program = joined(program, print);
+    let replay = shown_as(replay_command(alloc), "rococo replay");
+    let program = joined(program, replay);
+    let serve = shown_as(serve_command(alloc), "rococo serve");
+    let program = joined(program, serve);
+    let submit = shown_as(submit_command(alloc), "rococo submit");
+    let program = joined(program, submit);
+    let stop = shown_as(cluster_command(alloc, "stop"), "rococo stop");
+    let program = joined(program, stop);
+    let local = shown_as(local_command(alloc), "rococo local");
+    let program = joined(program, local);
+    let load = shown_as(gen_command(alloc), "rococo gen");
+    joined(program, load)
 }

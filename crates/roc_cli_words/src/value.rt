@@ -40,18 +40,18 @@ pub enum Part {
 }
 
 impl ValueName {
-    /// The name as it stands on the command line.
+    /// What is printed where the value is none: its name as it stands on the command line, and what it may be.
     pub fn as_str(self) -> &'static str
         ensures { result.now ≡ value_text self }
     {
         match self {
-            ValueName::Shard => "shard",
-            ValueName::Turns => "turns",
-            ValueName::Coord => "coord",
-            ValueName::Seed => "seed",
-            ValueName::Shards => "shards",
-            ValueName::Txns => "txns",
-            ValueName::Part => "part",
+            ValueName::Shard => "shard: 0 to 63",
+            ValueName::Turns => "turns: 1 to 4294967295",
+            ValueName::Coord => "coord: 0 to 15",
+            ValueName::Seed => "seed: 0 to 18446744073709551615",
+            ValueName::Shards => "shards: 1 to 64",
+            ValueName::Txns => "txns: 1 to 1000",
+            ValueName::Part => "part: workload, schedule or run",
         }
     }
 }
