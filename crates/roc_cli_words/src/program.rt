@@ -113,15 +113,15 @@ fn bare_command<'a>(alloc: Global) -> Command<'a>
         .subcommand_required(true)
 }
 
-// The command with this name in its usage, where it was made.
-fn shown_as<'a>(
+// The command with this line as its usage, where it was made.
+fn used_as<'a>(
     command: Result<Command<'a>, AllocError>,
-    name: &str,
+    usage: &'a str,
 ) -> Result<Command<'a>, AllocError>
     ensures { (app : App) → IfOk command.entry (λ c. IsSoFar c app) → IfOk result (λ c. IsSoFar c app) }
 {
     match command {
-        Ok(command) => command.bin_name(name),
+        Ok(command) => Ok(command.override_usage(usage)),
         Err(error) => Err(error),
     }
 }
@@ -155,20 +155,32 @@ fn under<'a>(
 pub(crate) fn program<'a>(alloc: Global) -> Result<Command<'a>, AllocError>
     ensures { IfOk result (λ c. app_of c ≡ program_app) }
 {
-    let check = shown_as(workload_command(alloc, "check"), "rococo check");
+    let check = used_as(workload_command(alloc, "check"), "rococo check WORKLOAD");
     let program = under(bare_command(alloc), check);
-    let print = shown_as(workload_command(alloc, "print"), "rococo print");
+    let print = used_as(workload_command(alloc, "print"), "rococo print WORKLOAD");
     let program = joined(program, print);
-    let replay = shown_as(replay_command(alloc), "rococo replay");
+    let replay = used_as(replay_command(alloc), "rococo replay WORKLOAD SCHEDULE");
     let program = joined(program, replay);
-    let serve = shown_as(serve_command(alloc), "rococo serve");
+    let serve = used_as(
+        serve_command(alloc),
+        "rococo serve WORKLOAD CLUSTER --shard N --turns T [--counts]",
+    );
     let program = joined(program, serve);
-    let submit = shown_as(submit_command(alloc), "rococo submit");
+    let submit = used_as(
+        submit_command(alloc),
+        "rococo submit WORKLOAD CLUSTER REQUESTS --coord C --turns T",
+    );
     let program = joined(program, submit);
-    let stop = shown_as(cluster_command(alloc, "stop"), "rococo stop");
+    let stop = used_as(
+        cluster_command(alloc, "stop"),
+        "rococo stop WORKLOAD CLUSTER",
+    );
     let program = joined(program, stop);
-    let local = shown_as(local_command(alloc), "rococo local");
+    let local = used_as(
+        local_command(alloc),
+        "rococo local WORKLOAD CLUSTER REQUESTS --turns T",
+    );
     let program = joined(program, local);
-    let load = shown_as(gen_command(alloc), "rococo gen");
+    let load = used_as(gen_command(alloc), "rococo gen SEED SHARDS TXNS PART");
     joined(program, load)
 }

@@ -150,7 +150,7 @@ module _ (plan : Plan) (schemes : HasSchemes plan) (laws : (S : Scheme) → IsSo
     calls = asked plan schemes laws stores coords steps w run some
 
     pub networked : IsNetworked plan calls T (serial.is plan schemes laws stores coords steps w run some) (laws T (sound plan schemes laws stores coords steps w run some)) w
-    networked = run_networked plan calls T (serial.is plan schemes laws stores coords steps w run some) (laws T (sound plan schemes laws stores coords steps w run some)) stores coords steps w run (agrees plan w (submissions plan schemes laws stores coords steps w run some))
+    networked = run_networked plan calls T (serial.is plan schemes laws stores coords steps w run some) (laws T (sound plan schemes laws stores coords steps w run some)) stores coords steps w run (agrees plan some.0 w (submissions plan schemes laws stores coords steps w run some))
 
     -- a union is of a submitted transaction
     final_of : (t : TxnId) (es : List Dependency) → IsUnionIn w.sent (length (groups_of plan (calls t).procedure)) t es → IsFinalIn plan w t es

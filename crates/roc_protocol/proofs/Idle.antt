@@ -1,5 +1,6 @@
 -- Where the plan has no transaction, nothing happens
 use Rattle.std.proofs.Common.{◌≡◌, ℕ, ◌+◌, ◌-◌, ◌≤◌, List, [], Option, Some, None, length, map, refl, sym, ap, subst, ◌∙◌, arith, inl, inr}
+use Rattle.std.proofs.lemmas.Bool.{false≢true}
 use Rattle.std.specs.Prelude.{slice_get, filter, flat_map, not}
 use Rattle.std.proofs.Common.{append-nil}
 use Rattle.roc_depgraph.specs.Deps.{is_known}
