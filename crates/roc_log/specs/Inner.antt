@@ -1,0 +1,2 @@
+-- What private functions give: what a log is stands in the other files
+pub mod Given

@@ -1,0 +1,5 @@
+//! Tests of logs. It gives nothing to use.
+#![tactic(auto)]
+
+#[cfg(test)]
+mod logs;
