@@ -73,8 +73,14 @@ module _ (program : Workload) (tag : List ℕ) (node : Node) where
           → Told ended number (line ∷ lines) (before_lines number one (λ r. reads_of (ends node r) (number + 1) lines))
       go (Ok read) is behind = told_further ended number line lines read is (reads_of (ends node read) (number + 1) lines) (behind read)
       go (Err fault) is behind = record {
-        before = []; line = line; behind = lines; reads = [];
-        parts = refl; right = tt; wrong = is; place = omega arith;
+        before = [];
+        line = line;
+        behind = lines;
+        reads = [];
+        parts = refl;
+        right = tt;
+        wrong = is;
+        place = omega arith;
       }
 
   -- reading stops where a line is wrong

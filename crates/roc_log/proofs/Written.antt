@@ -154,9 +154,11 @@ lines_above program tag node ended (line ∷ lines) may =
 lines_are : (program : Workload) (tag : List ℕ) (node : Node) (ended : Bool) (lines : List LogLine) → MayFollow program tag node ended lines → AreLines program tag node ended (map (raw program) lines) lines
 lines_are program tag node ended [] may = tt
 lines_are program tag node ended (line ∷ lines) may =
-    let words = words_cut (first_word line) (other_words program line) (first_above line) (others_above program tag node line may.1) in
-    (ap (λ b. cond b (Err what.Word) (line_of program tag node (exact_words (raw program line)))) may.0
-        ∙ ap (line_of program tag node) words ∙ words_read program tag node line may.1, lines_are program tag node (ends node line) lines may.2)
+    let words = words_cut (first_word line) (other_words program line) (first_above line) (others_above program tag node line may.1) in (
+      ap (λ b. cond b (Err what.Word) (line_of program tag node (exact_words (raw program line)))) may.0
+          ∙ ap (line_of program tag node) words ∙ words_read program tag node line may.1,
+      lines_are program tag node (ends node line) lines may.2,
+    )
 
 pub log_is_read : (program : Workload) (tag : List ℕ) (seen : List Node) (log : Log) → MayBeWritten program tag seen log → IsLog program tag seen (log_text program log) log
 log_is_read program tag seen log may = record {

@@ -56,11 +56,7 @@ fn judged(alloc: Global, tag: &[u8; 8], bytes: &[u8]) -> Result<bool, LineFault>
 
 /// The bytes of the datagram that a word spells, and whether it is a Stop.
 #[tactic(auto, unfolding(crate::specs::Words::datagram_of))]
-fn datagram_of(
-    alloc: Global,
-    tag: &[u8; 8],
-    word: &[u8],
-) -> Result<(Sequence<u8>, bool), LineFault>
+fn datagram_of(alloc: Global, tag: &[u8; 8], word: &[u8]) -> Result<(Sequence<u8>, bool), LineFault>
     ensures bytes { Gives (λ x. x.0) result (or_word (datagram_of tag.now word.now)) }
     ensures stop { IfOk result (λ x. x.1 ≡ is_stop x.0) }
 {

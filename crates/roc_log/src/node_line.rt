@@ -106,7 +106,13 @@ fn unseen(seen: &[Node], named: Result<Node, What>) -> Result<Node, What>
     ensures { result ≡ or_unseen seen.now named }
 {
     match named {
-        Ok(node) => { if is_seen(seen, node) { Err(What::Twice(node)) } else { Ok(node) } }
+        Ok(node) => {
+            if is_seen(seen, node) {
+                Err(What::Twice(node))
+            } else {
+                Ok(node)
+            }
+        }
         Err(what) => Err(what),
     }
 }

@@ -20,7 +20,13 @@ pub(crate) fn line_count(parts: &[&[u8]]) -> usize
     ensures few { result ≤ length parts.now }
 {
     match parts.split_last() {
-        Some((last, front)) => { if last.is_empty() { front.len() } else { parts.len() } }
+        Some((last, front)) => {
+            if last.is_empty() {
+                front.len()
+            } else {
+                parts.len()
+            }
+        }
         None => 0,
     }
 }

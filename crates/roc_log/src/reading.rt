@@ -34,11 +34,7 @@ fn integers_of(alloc: Global, words: &[&[u8]]) -> Result<Nums, LineFault>
 }
 
 /// `NAME A1 A2 ..`
-fn submission_of(
-    alloc: Global,
-    workload: &Workload,
-    words: &[&[u8]],
-) -> Result<LogLine, LineFault>
+fn submission_of(alloc: Global, workload: &Workload, words: &[&[u8]]) -> Result<LogLine, LineFault>
     ensures { Gives (λ line. line) result (submission_of workload.now (views words.now)) }
 {
     match words {
