@@ -2,8 +2,8 @@
 use Rattle.std.proofs.Common.{◌≡◌, ℕ, zero, suc, ◌+◌, Bool, true, false, cond, List, [], ◌∷◌, ◌++◌, length, take, map, refl, sym, ap, ◌∙◌, append-nil, arith, length-append}
 use Rattle.std.proofs.lemmas.List.{map-append}
 use Rattle.std.specs.Borrow.{Bor}
-use Rattle.roc_sched.specs.Lines.{is_empty}
-use Rattle.roc_log.specs.Words.{without_empty_last}
+use Rattle.roc_sched.specs.Lines.{is_empty, parts_of}
+use Rattle.roc_log.specs.Words.{without_empty_last, log_lines}
 use Rattle.roc_log.specs.Inner.Given.{views}
 
 -- the last part decides
@@ -56,3 +56,13 @@ pub take_views : (n : ℕ) (parts : List (Bor (List ℕ))) → views (take n par
 take_views zero parts = refl
 take_views (suc n) [] = refl
 take_views (suc n) (part ∷ parts) = ap (λ ps. part.now ∷ ps) (take_views n parts)
+
+-- as many of the parts of a text as are lines
+pub lines_counted : (text : List ℕ) (n : ℕ) (lent counted parts : List (Bor (List ℕ))) → lent ≡ parts → counted ≡ parts → views parts ≡ parts_of 10 text
+    → take n (views counted) ≡ without_empty_last (views counted) → views (take n lent) ≡ log_lines text
+unfolding log_lines
+lines_counted text n lent counted parts same also are count =
+    take_views n lent
+    ∙ ap (λ (ps : List (Bor (List ℕ))). take n (views ps)) (same ∙ sym also)
+    ∙ count
+    ∙ ap without_empty_last (ap views also ∙ are)

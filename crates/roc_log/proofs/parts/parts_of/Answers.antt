@@ -6,4 +6,4 @@ use Rattle.roc_log.proofs.parts.parts_of.Goals as goal
 pub returns : goal.returns
 returns c =
     map_from_collect _ c.collect.ensures.ran
-    (YieldsList-from_slice_split _ _ c.args.text.now (cc) (cc) (cc) (λ x r q k. search (rules, tests)))
+    (YieldsList-from_slice_split _ _ {f = c.split.result.pred} c.args.text.now (cc) (cc) (cc) (λ x r q k. search (rules, tests)))
