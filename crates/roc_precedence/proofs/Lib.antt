@@ -3,3 +3,4 @@ pub mod Orders
 pub mod Runs
 pub mod Taught
 pub mod Found
+pub mod OneCycle

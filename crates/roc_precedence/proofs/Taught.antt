@@ -26,7 +26,7 @@ use Rattle.roc_depgraph.proofs.Listed.{listed_one, in_one}
 use Rattle.roc_component.proofs.ListsWithin.{new_at, once_from_rising}
 use Rattle.roc_precedence.specs.declared.pair.Pair.{Pair}
 use Rattle.roc_precedence.specs.Pairs.{IsPaired}
-use Rattle.roc_precedence.specs.Inner.Lists.{AreListsFor, IsListFor, IsRunOf, SayTheSame, entry_of, precedes_itself}
+use Rattle.roc_precedence.specs.Inner.Lists.{AreListsFor, IsListFor, IsRunOf, SayTheSame, entry_of, precedes}
 
 -- ---- the entries of a run
 
@@ -38,9 +38,9 @@ any_found u (e ∷ es) = go (is_txn e.from u) (any_found u es)
     go true ih = refl
     go false ih = ih
 
-pub itself_found : (known : List KnownList) (id : TxnId) (list : List Dependency) (found : Option Dependency) (b : Bool) → b ≡ is_some found → found ≡ entry_at id list → Some list ≡ list_of id known → b ≡ precedes_itself known id
-itself_found known id list found b e f g =
-    e ∙ (ap is_some f ∙ (sym (any_found id list) ∙ ap (λ (o : Option (List Dependency)). list_any (λ d. is_txn d.from id) (unwrap_or o [])) g))
+pub one_found : (known : List KnownList) (u t : TxnId) (list : List Dependency) (found : Option Dependency) (b : Bool) → b ≡ is_some found → found ≡ entry_at u list → Some list ≡ list_of t known → b ≡ precedes known u t
+one_found known u t list found b e f g =
+    e ∙ (ap is_some f ∙ (sym (any_found u list) ∙ ap (λ (o : Option (List Dependency)). list_any (λ d. is_txn d.from u) (unwrap_or o [])) g))
 
 any_said : (u : TxnId) (es : List Dependency) → list_any (λ d. is_txn d.from u) es ≡ is_some (all_of u es)
 any_said u [] = refl

@@ -40,9 +40,13 @@ pub record AreListsFor (pairs : List Pair) (ids : List TxnId) (known : List Know
   pub each : (t : TxnId) → IsListed is_txn ids t → (u : TxnId) → Precedes known u t ↔ IsPaired pairs u t
   pub only : (t : TxnId) → ¬ IsListed is_txn ids t → list_of t known ≡ None
 
+-- the known list of t names u
+abbrev pub precedes : List KnownList → TxnId → TxnId → Bool
+precedes known u t = list_any (λ d. is_txn d.from u) (entries_of known t)
+
 -- the known list of t names t
 abbrev pub precedes_itself : List KnownList → TxnId → Bool
-precedes_itself known t = list_any (λ d. is_txn d.from t) (entries_of known t)
+precedes_itself known t = precedes known t t
 
 -- a list has at most one member
 abbrev pub has_one_at_most : List TxnId → Bool
