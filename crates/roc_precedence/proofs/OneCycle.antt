@@ -20,11 +20,11 @@ apart (a ∷ us) (b ∷ vs) n h k =
     elim (txn_cases a b) [
       | inl low ↦ absurd (false≢true (sym h ∙ or_left (txn_lt a b) (is_txn a b && stands_before us vs) low))
       | inr m ↦ elim m [
-          | inl e ↦ (
-              let f = apart us vs (omega arith) (sym (comes_same a b us vs e) ∙ h) (sym (comes_same b a vs us (sym e)) ∙ k) in
-              λ i. e i ∷ f i)
-          | inr low ↦ absurd (false≢true (sym k ∙ or_left (txn_lt b a) (is_txn b a && stands_before vs us) low))
-        ]
+        | inl e ↦ (
+            let f = apart us vs (omega arith) (sym (comes_same a b us vs e) ∙ h) (sym (comes_same b a vs us (sym e)) ∙ k) in
+            λ i. e i ∷ f i)
+        | inr low ↦ absurd (false≢true (sym k ∙ or_left (txn_lt b a) (is_txn b a && stands_before vs us) low))
+      ]
     ]
 
 not_true : (b : Bool) → ¬ (b ≡ true) → b ≡ false
