@@ -3,7 +3,8 @@
 //! `specs/Orders.antt` has the least order (`IsLeastOrder`): each member stands behind all that come before it, and is the least of
 //! those that could stand at its place. `specs/Cycles.antt` has cycles, as lists of ids. The layers above may rely on this:
 //! [`least_order`] gives that order exactly where no members are a cycle, for any pairs; and by [`laws`] relations with the same
-//! chains have the same order, so that pairs may be left out that others lead through.
+//! chains have the same order, so that pairs may be left out that others lead through, and a relation has at most one least
+//! cycle (`IsLeastCycle`).
 #![tactic(auto)]
 
 pub mod laws;
