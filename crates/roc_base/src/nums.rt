@@ -38,6 +38,20 @@ impl Nums {
         })
     }
 
+    /// The numbers of a vector, with the room that it has. Takes no memory.
+    pub fn from_vec(items: Vec<i64>) -> Nums
+        ensures { result ≡ items.items }
+    {
+        Nums { items }
+    }
+
+    /// The numbers as a vector, with the room that they have. Takes no memory.
+    pub fn into_vec(self) -> Vec<i64>
+        ensures { result.items ≡ self }
+    {
+        self.items
+    }
+
     /// Adds a number at the end. `NoMemory` leaves the list as it was.
     pub fn push(&mut self, number: i64) -> Result<(), NoMemory>
         ensures ok { OnOk result (self.new ≡ self.old ++ number ∷ []) }
