@@ -94,12 +94,13 @@ impl Outbox {
     }
 
     /// Takes memory ahead, so that so many more messages, decided transactions and accesses cannot fail. What is held stays, whether there
-    /// is memory or not.
+    /// is memory or not. `NoMemory` comes only where there is less room than this.
     pub fn reserve(&mut self, messages: usize, decided: usize, ran: usize) -> Result<(), NoMemory>
         ensures same { HoldsSame self.old self.new }
         ensures messages { OnOk result (messages ≤ self.new.room.messages) }
         ensures decided { OnOk result (decided ≤ self.new.room.decided) }
         ensures ran { OnOk result (ran ≤ self.new.room.ran) }
+        ensures succeeds { messages ≤ self.old.room.messages → decided ≤ self.old.room.decided → ran ≤ self.old.room.ran → IsOk result }
         ensures kept { (self.old.room.messages ≤ self.new.room.messages) × ((self.old.room.decided ≤ self.new.room.decided) × (self.old.room.ran ≤ self.new.room.ran)) }
     {
         self.messages.reserve(messages)?;
