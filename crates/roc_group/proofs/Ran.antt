@@ -1,12 +1,12 @@
 -- Runs of pieces, and what they use and bind, one after another
-use Rattle.std.proofs.Common.{◌≡◌, ℤ, true, false, Result, Ok, Err, OnOk, List, [], ◌∷◌, ◌++◌, refl, sym, ap, ◌∙◌, append_assoc, append-nil}
+use Rattle.std.proofs.Common.{◌≡◌, ◌≤◌, ◌+◌, ℕ, zero, suc, ℤ, true, false, List, [], ◌∷◌, ◌++◌, length, map, take, refl, sym, ap, ◌∙◌, append_assoc, append-nil, arith}
 use Rattle.roc_program.specs.Program.{Statement, Get, Set, Out, Piece}
-use Rattle.roc_base.specs.declared.memory.NoMemory.{NoMemory}
 use Rattle.roc_rows.specs.Store.{Store}
 use Rattle.roc_program.specs.Values.{Environment, value}
 use Rattle.roc_whole.specs.Run.{Progress, progress, behind, access_cell, after_statement, after_piece, after_pieces}
 use Rattle.roc_whole.proofs.Replies.{after_piece-behind}
 use Rattle.roc_group.specs.Accesses.{access, uses_of_body, uses_of_piece, uses_of_pieces}
+use Rattle.roc_group.specs.GroupRun.{statements_in}
 
 pub after_pieces-append : (p : Progress) (xs ys : List Piece) → after_pieces p (xs ++ ys) ≡ after_pieces (after_pieces p xs) ys
 after_pieces-append p [] ys = refl
@@ -34,12 +34,14 @@ uses_of_pieces-behind said p (piece ∷ ps) =
 pub uses_said : (store : Store) (env : Environment) (said : List ℤ) (ps : List Piece) → uses_of_pieces (progress store env said) ps ≡ uses_of_pieces (progress store env []) ps
 uses_said store env said ps = ap (λ r. uses_of_pieces (progress store env r) ps) (sym (append-nil said)) ∙ uses_of_pieces-behind said (progress store env []) ps
 
--- ---- what holds where a call succeeded
+-- ---- how many statements there are
 
-pub ok_then : {P Q : Type 0} (result : Result (Unit {0}) NoMemory) → OnOk result P → (P → Q) → OnOk result Q
-ok_then (Ok done) p f = f p
-ok_then (Err fault) p f = tt
+pub statements_in-append : (xs ys : List Piece) → statements_in (xs ++ ys) ≡ statements_in xs + statements_in ys
+statements_in-append [] ys = omega arith
+statements_in-append (x ∷ xs) ys = let more = statements_in-append xs ys in omega (arith, more)
 
-pub ok_both : {P Q R : Type 0} (result : Result (Unit {0}) NoMemory) → OnOk result P → OnOk result Q → (P → Q → R) → OnOk result R
-ok_both (Ok done) p q f = f p q
-ok_both (Err fault) p q f = tt
+-- the first ones have no more than all
+pub statements_taken : (f : ℕ → Piece) (i : ℕ) (xs : List ℕ) → statements_in (map f (take i xs)) ≤ statements_in (map f xs)
+statements_taken f zero xs = omega arith
+statements_taken f (suc i) [] = omega arith
+statements_taken f (suc i) (x ∷ xs) = let more = statements_taken f i xs in omega (arith, more)

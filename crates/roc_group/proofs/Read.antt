@@ -16,9 +16,11 @@ use Rattle.roc_program.proofs.Rows.{read-map, all_read}
 use Rattle.roc_plan.specs.Groups.{Plan, procedure_of, groups_of, group_of, inputs_in, pieces_at}
 use Rattle.roc_plan.proofs.Taken.{map_taken}
 use Rattle.roc_plan.specs.Accepted.{IsAccepted}
+use Rattle.roc_group.specs.GroupRun.{statements_in}
 use Rattle.roc_group.specs.Inner.Steady.{IsSteady, AreSteady}
 use Rattle.roc_group.proofs.GroupStarts.{init_long, taken_is}
 use Rattle.roc_group.proofs.Grouped.{is_piece, is_procedure, has_names}
+use Rattle.roc_group.proofs.Ran.{statements_in-append, statements_taken}
 use Rattle.roc_group.proofs.Steady.{piece_uses_known}
 
 -- ---- pieces that a procedure lends, by number
@@ -32,6 +34,15 @@ module _ (p : Procedure) (pieces : List ℕ) (i from : ℕ) (all : AllByRecursio
   one_more x is =
       map_taken (λ k. get_or (pure.procedure p).pieces k no_piece) pieces i 0 l
       ∙ ap (λ y. pieces_at (pure.procedure p) (take i pieces) ++ y ∷ []) (ap (λ k. get_or (pure.procedure p).pieces k no_piece) (sym is_from) ∙ read-map pure.piece p.pieces.items from x no_piece piece_within is)
+
+  -- it adds its statements, and they are of all
+  pub counts_one : (x : Piece) → x ≡ get_or p.pieces.items from x → statements_in (pieces_at (pure.procedure p) (take (i + 1) pieces)) ≡ statements_in (pieces_at (pure.procedure p) (take i pieces)) + length x.body.items
+  counts_one x is =
+      let more = ap statements_in (one_more x is) ∙ statements_in-append (pieces_at (pure.procedure p) (take i pieces)) (pure.piece x ∷ []) in
+      omega (arith, more, length-map x.body.items pure.statement)
+
+  pub fits_one : (x : Piece) → x ≡ get_or p.pieces.items from x → statements_in (pieces_at (pure.procedure p) (take i pieces)) + length x.body.items ≤ statements_in (pieces_at (pure.procedure p) pieces)
+  fits_one x is = omega (arith, counts_one x is, statements_taken (λ k. get_or (pure.procedure p).pieces k no_piece) (i + 1) pieces)
 
 -- a procedure with a group is there
 pub procedure_there : (plan : Plan) (proc group : ℕ) → IsAccepted plan → group < length (groups_of plan proc) → proc < length plan.program.procedures

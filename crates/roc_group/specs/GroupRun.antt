@@ -1,5 +1,5 @@
 -- A group's part of a procedure's run: docs/PROTOCOL.md, "Groups"
-use Rattle.std.specs.Prelude.{ℕ, ℤ, List, [], map}
+use Rattle.std.specs.Prelude.{ℕ, ℤ, ◌+◌, List, [], ◌∷◌, length, map}
 use Rattle.roc_rows.specs.Store.{Store}
 use Rattle.roc_program.specs.Program.{Piece}
 use Rattle.roc_plan.specs.Groups.{Plan, procedure_of, group_of, pieces_at, environment_in, bound_of}
@@ -36,3 +36,11 @@ group_uses plan c store = uses_of_pieces (begin plan c store) (group_pieces plan
 -- the values of the names that it binds, in the order in which they are bound
 abbrev pub bound_by_run : Plan → GroupCall → Store → List ℤ
 bound_by_run plan c store = map (value_of_name (group_run plan c store).environment) (bound_of plan c.proc c.group)
+
+-- how many statements pieces have
+abbrev pub statements_in : List Piece → ℕ
+statements_in [] = 0
+statements_in (piece ∷ pieces) = length piece.body + statements_in pieces
+
+abbrev pub statements_of : Plan → (proc group : ℕ) → ℕ
+statements_of plan proc group = statements_in (pieces_at (procedure_of plan proc) (group_of plan proc group).pieces)

@@ -1,3 +1,4 @@
 pub mod Accesses
 pub mod GroupRun
+pub mod Outputs
 pub mod Inner

@@ -4,8 +4,9 @@
 //!
 //! The layers above may rely on this: [`cells`] is what a deferrable group uses, whatever the store holds;
 //! [`run_group`] changes the cells, and adds to what is bound, to the reply and to the cells used, exactly as the
-//! group's run does, unless memory runs out and a part of the run is done; and [`conflict`] tells exactly whether two
-//! lists of uses have a cell in common that one of them writes, without memory.
+//! group's run does; where memory runs out before, nothing is done, and it does not run out where cells and [`Outputs`]
+//! have room for one per statement, and [`Outputs`] for the procedure's names (`specs/Outputs.antt`); and [`conflict`] tells exactly
+//! whether two lists of uses have a cell in common that one of them writes, without memory.
 //!
 //! By [`laws`], of accepted plans: what a deferrable group uses follows from what it is given, and the cells of each
 //! group are at its place, and groups of views only read. Of all plans: groups whose cells conflict, and that are of no

@@ -1,5 +1,5 @@
 //! The cells that a group uses.
-ghost use Rattle.std.specs.Prelude.{◌≡◌, ◌++◌, ◌∷◌, [], ◌<◌, false, length, IfOk, OnOk};
+ghost use Rattle.std.specs.Prelude.{◌≡◌, ◌++◌, ◌∷◌, [], ◌<◌, ◌≤◌, ◌+◌, false, length, IfOk, vec_len, vec_capacity};
 ghost use Rattle.std.specs.List.{AllByRecursion, flat_map};
 ghost use Rattle.roc_rows.specs.Store.{Store};
 ghost use Rattle.roc_plan.specs.Groups.{procedure_of, groups_of, inputs_of, is_immediate_of, pieces_at};
@@ -51,43 +51,41 @@ fn uses_of_pieces(
     requires keys { AllByRecursion HasKeys (pure.procedure procedure.now).pieces }
     ensures { IfOk result (λ uses. uses ≡ flat_map (uses_with names.now) (pieces_at (pure.procedure procedure.now) pieces.now)) }
 {
-    let mut uses = Sequence::new(alloc);
-    for piece in pieces {
-        push_uses(&procedure.pieces[usize::from(*piece)], names, &mut uses)?;
+    let mut uses = Vec::new(alloc);
+    for number in pieces {
+        let piece = &procedure.pieces[usize::from(*number)];
+        uses.reserve(piece.body.len())?;
+        push_uses(piece, names, &mut uses);
     }
-    Ok(uses)
+    Ok(Sequence::from_vec(uses))
 }
 
-// Adds what the statements of a piece use, where the names have these values.
-pub(crate) fn push_uses(
-    piece: &Piece,
-    names: &[i64],
-    uses: &mut Sequence<Access>,
-) -> Result<(), NoMemory>
-    requires { HasKeys (pure.piece piece.now) }
-    ensures { OnOk result (uses.new ≡ uses.old ++ uses_with names.now (pure.piece piece.now)) }
+// Adds what the statements of a piece use, where the names have these values. There is room for one per statement.
+pub(crate) fn push_uses(piece: &Piece, names: &[i64], uses: &mut Vec<Access>)
+    requires keys { HasKeys (pure.piece piece.now) }
+    requires room { vec_len uses.old + length piece.now.body.items ≤ vec_capacity uses.old }
+    ensures uses { uses.new.items ≡ uses.old.items ++ uses_with names.now (pure.piece piece.now) }
+    ensures len { vec_len uses.new ≤ vec_len uses.old + length piece.now.body.items }
+    ensures capacity { vec_capacity uses.old ≤ vec_capacity uses.new }
 {
     let place = piece.place.value(names);
     for statement in &piece.body {
-        push_use(place, names, statement, uses)?;
+        push_use(place, names, statement, uses);
     }
-    Ok(())
 }
 
 // Adds what a statement uses.
-fn push_use(
-    place: i64,
-    names: &[i64],
-    statement: &Statement,
-    uses: &mut Sequence<Access>,
-) -> Result<(), NoMemory>
-    requires { HasKey (pure.statement statement.now) }
-    ensures { OnOk result (uses.new ≡ uses.old ++ uses_of place names.now (pure.statement statement.now)) }
+fn push_use(place: i64, names: &[i64], statement: &Statement, uses: &mut Vec<Access>)
+    requires key { HasKey (pure.statement statement.now) }
+    requires room { vec_len uses.old < vec_capacity uses.old }
+    ensures uses { uses.new.items ≡ uses.old.items ++ uses_of place names.now (pure.statement statement.now) }
+    ensures len { vec_len uses.new ≤ vec_len uses.old + 1 }
+    ensures capacity { vec_capacity uses.old ≤ vec_capacity uses.new }
 {
     match statement {
         Statement::Get(_, from) => push_access(place, names, from, false, uses),
         Statement::Set(to, _) => push_access(place, names, to, true, uses),
-        Statement::Out(_) => Ok(()),
+        Statement::Out(_) => {}
     }
 }
 
@@ -97,10 +95,13 @@ fn push_access(
     names: &[i64],
     row: &roc_program::Access,
     writes: bool,
-    uses: &mut Sequence<Access>,
-) -> Result<(), NoMemory>
-    requires { IsKey (pure.access row.now).id }
-    ensures { OnOk result (uses.new ≡ uses.old ++ access (access_cell place names.now (pure.access row.now)) writes ∷ []) }
+    uses: &mut Vec<Access>,
+)
+    requires key { IsKey (pure.access row.now).id }
+    requires room { vec_len uses.old < vec_capacity uses.old }
+    ensures uses { uses.new.items ≡ uses.old.items ++ access (access_cell place names.now (pure.access row.now)) writes ∷ [] }
+    ensures len { vec_len uses.new ≤ vec_len uses.old + 1 }
+    ensures capacity { vec_capacity uses.old ≤ vec_capacity uses.new }
 {
     let cell = Cell {
         table: row.table,
@@ -108,6 +109,5 @@ fn push_access(
         id: row.key(names),
         column: row.column,
     };
-    uses.push(Access { cell, writes })?;
-    Ok(())
+    uses.push(Access { cell, writes }).unwrap();
 }

@@ -145,8 +145,9 @@ fn given_with(
     ensures given { IfOk result (λ given. given ≡ (group_run plan.now (call proc group known.now.args known.now.inputs) rows.old.store).reply) }
 {
     let mut out = Outputs::new(alloc);
-    run_group(alloc, plan, proc, group, known, rows, &mut out)?;
-    Ok(out.outs)
+    run_group(plan, proc, group, known, rows, &mut out)?;
+    let (_, outs, _) = out.into_parts();
+    Ok(outs)
 }
 
 // What a group was called with.

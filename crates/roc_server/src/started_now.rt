@@ -14,10 +14,11 @@ use crate::StartedGroup;
 use crate::looks::{Starting, entries};
 use crate::server_data::ServerData;
 use crate::starts::Request;
-use roc_base::{Edges, NoMemory, Shard, Steps};
+use roc_base::{Edges, NoMemory, Nums, Shard, Steps};
 use roc_group::{Access, Outputs, cells, run_group};
 use roc_plan::{Class, Known, Plan};
 use roc_rows::Rows;
+use roc_sequence::Sequence;
 use roc_server_lists::facts_for;
 use std::alloc::Global;
 use std::marker::Brand;
@@ -31,15 +32,23 @@ pub(crate) fn is_immediate(plan: &Plan, proc: u16, group: u16) -> bool
     plan.class(proc, group) == Class::Immediate
 }
 
+// What a group that starts now binds, gives out and touches.
+#[derive(Drop)]
+struct Begun {
+    bound: Nums,
+    outs: Nums,
+    cells: Sequence<Access>,
+}
+
 // An immediate group runs: what it gave and touched. Of a deferrable one what it will use.
-fn begun(
+fn begin_group(
     alloc: Global,
     plan: &Plan,
     proc: u16,
     group: u16,
     known: &Known,
     rows: &mut Rows,
-) -> Result<Outputs, NoMemory>
+) -> Result<Begun, NoMemory>
     requires exists { group < length (groups_of plan.now proc) }
     requires args { length known.now.args ≡ (procedure_of plan.now proc).arguments }
     requires inputs { length known.now.inputs ≡ length (inputs_of plan.now proc group) }
@@ -49,13 +58,18 @@ fn begun(
     ensures store { OnOk result (rows.new.store
         ≡ (if is_immediate_of plan.now proc group then (group_run plan.now (call proc group known.now.args known.now.inputs) rows.old.store).store else rows.old.store)) }
 {
-    let mut out = Outputs::new(alloc);
     if is_immediate(plan, proc, group) {
-        run_group(alloc, plan, proc, group, known, rows, &mut out)?;
-        return Ok(out);
+        let mut out = Outputs::new(alloc);
+        run_group(plan, proc, group, known, rows, &mut out)?;
+        let (bound, outs, cells) = out.into_parts();
+        return Ok(Begun { bound, outs, cells });
     }
-    out.cells = cells(alloc, plan, proc, group, known)?;
-    Ok(out)
+    let cells = cells(alloc, plan, proc, group, known)?;
+    Ok(Begun {
+        bound: Nums::new(alloc),
+        outs: Nums::new(alloc),
+        cells,
+    })
 }
 
 // The entries of a group that starts now, where no steps are counted.
@@ -100,7 +114,14 @@ pub(crate) fn new_group(
         known,
     } = request;
     let immediate = is_immediate(plan, proc, group);
-    let Outputs { bound, outs, cells } = begun(alloc, plan, proc, group, &known, &mut kept.rows)?;
+    let Begun { bound, outs, cells } = begin_group(
+        alloc,
+        plan,
+        proc,
+        group,
+        &known,
+        &mut kept.rows,
+    )?;
     let starting = Starting {
         shard,
         id,

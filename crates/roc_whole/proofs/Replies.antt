@@ -29,8 +29,7 @@ pub after_pieces-said : (store : Store) (env : Environment) (said : List ℤ) (p
 after_pieces-said store env said pieces =
     ap (λ r. after_pieces (progress store env r) pieces) (sym (append-nil said)) ∙ after_pieces-behind said (progress store env []) pieces
 
--- all pieces run from the arguments are the whole run, behind what was said before
-pub whole_from : (procedure named : Procedure) (store : Store) (env : Environment) (said args : List ℤ) (end : Progress) → end ≡ after_pieces (progress store env said) procedure.pieces → env ≡ with_arguments procedure args → procedure ≡ named → end ≡ behind said (whole_run named args store)
-whole_from procedure named store env said args end ran starts is =
-    ran ∙ ap (λ e. after_pieces (progress store e said) procedure.pieces) starts ∙ after_pieces-said store (with_arguments procedure args) said procedure.pieces
-    ∙ ap (λ p. behind said (whole_run p args store)) is
+-- all pieces run from the arguments are the whole run
+pub whole_from : (procedure named : Procedure) (store : Store) (env : Environment) (args : List ℤ) (end : Progress) → end ≡ after_pieces (progress store env []) procedure.pieces → env ≡ with_arguments procedure args → procedure ≡ named → end ≡ whole_run named args store
+whole_from procedure named store env args end ran starts is =
+    ran ∙ ap (λ e. after_pieces (progress store e []) procedure.pieces) starts ∙ ap (λ p. whole_run p args store) is

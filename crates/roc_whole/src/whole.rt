@@ -32,7 +32,9 @@ pub fn run_whole(
 {
     let procedure = &workload.procedures()[proc as usize];
     let mut names = start_names(alloc, procedure, args)?;
-    run_pieces(procedure, rows, names.as_mut_slice(), reply)?;
+    let mut given = Vec::new(alloc);
+    run_pieces(procedure, rows, names.as_mut_slice(), &mut given)?;
+    reply.extend_from_slice(given.as_slice())?;
     Ok(())
 }
 
@@ -41,13 +43,15 @@ fn run_pieces(
     procedure: &Procedure,
     rows: &mut Rows,
     names: &mut [i64],
-    reply: &mut Nums,
+    reply: &mut Vec<i64>,
 ) -> Result<(), NoMemory>
     requires { AllByRecursion HasKeys (pure.procedure procedure.now).pieces }
-    ensures { OnOk result (progress rows.new.store names.new reply.new ≡ after_pieces (progress rows.old.store names.old reply.old) (pure.procedure procedure.now).pieces) }
+    ensures { OnOk result (progress rows.new.store names.new reply.new.items ≡ after_pieces (progress rows.old.store names.old reply.old.items) (pure.procedure procedure.now).pieces) }
 {
     for piece in &procedure.pieces {
-        run_piece(piece, rows, names, reply)?;
+        rows.reserve(piece.body.len())?;
+        reply.reserve(piece.body.len())?;
+        run_piece(piece, rows, names, reply);
     }
     Ok(())
 }

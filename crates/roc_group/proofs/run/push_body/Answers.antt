@@ -1,4 +1,4 @@
-use Rattle.std.proofs.Common.{◌≡◌, ◌∙◌, ◌++◌, ◌∷◌, [], ◌+◌, map, take, get_or, sym, ap, append_assoc}
+use Rattle.std.proofs.Common.{◌≡◌, ◌∙◌, ◌++◌, ◌∷◌, [], ◌+◌, map, take, get_or, sym, ap, append_assoc, arith}
 use Rattle.std.proofs.lemmas.List.{take_more, map-append}
 use Rattle.std.specs.List.{filter_map}
 use Rattle.roc_plan.proofs.Taken.{filter_map_behind}
@@ -17,5 +17,9 @@ loop-statement-preserved c =
     let more : map pure.statement (take (at + 1) body) ≡ map pure.statement (take at body) ++ pure.statement c.statement-item.result ∷ [] =
     ap (map pure.statement) (take_more body at c.statement-item.result c.loop-statement-test.true) ∙ map-append pure.statement (take at body) (get_or body at c.statement-item.result ∷ [])
     ∙ ap (λ s. map pure.statement (take at body) ++ pure.statement s ∷ []) (sym c.statement-item.is) in
-    c.in_ok-push_value.ensures ∙ ap (λ ns. ns ++ map f last) c.loop-statement.invariant ∙ append_assoc c.args.bound.now (map f front) (map f last)
-    ∙ ap (λ ns. c.args.bound.now ++ ns) (sym (ap (λ ns. map f ns) (ap (filter_map binding) more ∙ filter_map_behind binding (map pure.statement (take at body)) (pure.statement c.statement-item.result)) ∙ map-append f front last))
+    record {
+      bound = c.push_value.ensures.bound ∙ ap (λ ns. ns ++ map f last) c.loop-statement.invariant.bound ∙ append_assoc c.args.bound.now.items (map f front) (map f last)
+          ∙ ap (λ ns. c.args.bound.now.items ++ ns) (sym (ap (λ ns. map f ns) (ap (filter_map binding) more ∙ filter_map_behind binding (map pure.statement (take at body)) (pure.statement c.statement-item.result)) ∙ map-append f front last));
+      len = omega (arith, c.loop-statement.invariant.len, c.push_value.ensures.len);
+      room = omega (arith, c.loop-statement.invariant.room, c.push_value.ensures.capacity);
+    }

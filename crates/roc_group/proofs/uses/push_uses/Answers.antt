@@ -6,7 +6,7 @@ use Rattle.roc_program.specs.declared.parts.Statement.{Statement}
 use Rattle.roc_program.proofs.Rows.{all_read}
 use Rattle.roc_group.proofs.uses.push_uses.Goals as goal
 
-pub push_use-requires : goal.push_use-requires
-push_use-requires c =
+pub push_use-requires-clause-key : goal.push_use-requires-clause-key
+push_use-requires-clause-key c =
     let P : List Statement → Type 0 = λ ss. AllByRecursion HasKey (map pure.statement ss) in
-    all_read HasKey pure.statement c.deref-statement-items.result.now c.loop-statement.statement-index c.statement-item.result (subst P (sym c.deref-statement-items.ensures.value) c.requires) c.loop-statement-test.true c.statement-item.is
+    all_read HasKey pure.statement c.deref-statement-items.result.now c.loop-statement.statement-index c.statement-item.result (subst P (sym c.deref-statement-items.ensures.value) c.requires.keys) c.loop-statement-test.true c.statement-item.is

@@ -6,5 +6,5 @@ use Rattle.roc_group.specs.Inner.Steady.{uses_with}
 use Rattle.roc_group.proofs.uses.uses_of_pieces.Given as goal
 
 -- what the pieces so far use
-abbrev pub invariant-loop-piece : goal.invariant-loop-piece
-invariant-loop-piece l = l.uses ≡ flat_map (uses_with l.names) (pieces_at (pure.procedure l.procedure) (take l.piece-index l.pieces))
+abbrev pub invariant-loop-number : goal.invariant-loop-number
+invariant-loop-number l = l.uses.items ≡ flat_map (uses_with l.names) (pieces_at (pure.procedure l.procedure) (take l.number-index l.pieces))

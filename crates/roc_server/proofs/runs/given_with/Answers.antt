@@ -17,4 +17,4 @@ returns-clause-store c = c.in_ok-run_group.ensures.store
 pub returns-clause-given : goal.returns-clause-given
 returns-clause-given c =
     let k = call c.args.proc c.args.group c.args.known.now.args c.args.known.now.inputs in
-    c.in_ok-run_group.ensures.outs ∙ ap (λ xs. xs ++ (group_run c.args.plan.now k c.args.rows.now.store).reply) c.new-out.ensures.outs
+    c.into_parts-outs.ensures.outs ∙ c.in_ok-run_group.ensures.outs ∙ ap (λ xs. xs ++ (group_run c.args.plan.now k c.args.rows.now.store).reply) c.new-out.ensures.outs
