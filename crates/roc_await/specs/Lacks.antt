@@ -32,6 +32,11 @@ pub record AreDecidedBy (known more : List KnownList) (ids : List TxnId) : Type 
   pub only : (t : TxnId) → IsListed is_txn ids t → IsDecided more t × ¬ IsDecided known t
   pub all : (t : TxnId) → IsDecided more t → ¬ IsDecided known t → IsListed is_txn ids t
 
+-- what comes of new lists: the transactions that they decide, rising, and the lacks from then on
+pub record NextLacks : Type 0 where
+  pub decided : List TxnId
+  pub lacks : List Lack
+
 -- how many ids a closure names as missing; none where it is whole
 abbrev pub count_of_missing : Closure → ℕ
 count_of_missing (Whole ids) = 0

@@ -35,6 +35,33 @@ impl Model for Lacks {
     ghost view = { λ l. all_lacks l.groups.items };
 }
 
+/// What comes of new lists: the transactions that they decide, and what the others lack then.
+#[derive(Drop)]
+pub struct NextLacks {
+    decided: Vec<TxnId>,
+    groups: Vec<Group>,
+}
+
+impl Model for NextLacks {
+    ghost use Rattle.roc_await.specs.Lacks.{NextLacks as Next};
+    ghost use Rattle.roc_await.specs.Inner.Groups.{all_lacks};
+
+    ghost Value = { Next };
+
+    ghost view = { λ n. record { decided = n.decided.items; lacks = all_lacks n.groups.items } };
+}
+
+impl NextLacks {
+    ghost use Rattle.std.specs.Prelude.{◌≡◌};
+
+    /// The transactions that become decided, by id rising. Takes no memory.
+    pub fn decided(&self) -> &[TxnId]
+        ensures { result.now ≡ self.now.decided }
+    {
+        self.decided.as_slice()
+    }
+}
+
 impl Lacks {
     /// Where no list is known. Takes no memory.
     pub fn new(alloc: Global) -> Lacks
@@ -47,6 +74,29 @@ impl Lacks {
         }
     }
 
+    /// What `learnt` gives and leaves, where new lists are known: those of `ids`, which `deps` has learnt last. `take` does the rest.
+    pub fn ready(&self, deps: &Deps, ids: &[TxnId]) -> Result<NextLacks, NoMemory>
+        requires { AreLacksBefore deps.now ids.now self.now }
+        ensures lacks { IfOk result (λ next. AreLacks deps.now next.lacks) }
+        ensures decided { IfOk result (λ next. (were : AreLacksBefore deps.now ids.now self.now) → AreDecidedBy were.before deps.now next.decided) }
+        ensures rising { IfOk result (λ next. IsStrictlySortedBy txn_cmp next.decided) }
+    {
+        let groups = taught(self.alloc, deps, &self.groups, ids)?;
+        let decided = decided(self.alloc, &groups)?;
+        let groups = undecided(groups);
+        Ok(NextLacks { decided, groups })
+    }
+
+    /// The new lists are learnt, with what `ready` found. Gives the transactions that became decided by them, rising. Takes no memory.
+    pub fn take(&mut self, next: NextLacks) -> Vec<TxnId>
+        ensures lacks { self.new ≡ next.lacks }
+        ensures decided { result.items ≡ next.decided }
+    {
+        let NextLacks { decided, groups } = next;
+        self.groups = groups;
+        decided
+    }
+
     /// New lists are known: those of `ids`, which `deps` has learnt last. Gives the transactions that became decided by them, rising.
     /// `NoMemory` leaves all as it was.
     pub fn learnt(&mut self, deps: &Deps, ids: &[TxnId]) -> Result<Vec<TxnId>, NoMemory>
@@ -56,10 +106,8 @@ impl Lacks {
         ensures rising { IfOk result (λ found. IsStrictlySortedBy txn_cmp found.items) }
         ensures err { OnErr result (self.new ≡ self.old) }
     {
-        let groups = taught(self.alloc, deps, &self.groups, ids)?;
-        let found = decided(self.alloc, &groups)?;
-        self.groups = undecided(groups);
-        Ok(found)
+        let next = self.ready(deps, ids)?;
+        Ok(self.take(next))
     }
 
     /// How many ids are missing for a transaction whose list is known: as many as its closure finds, and none where it is decided.

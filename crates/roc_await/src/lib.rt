@@ -8,8 +8,9 @@
 //! [`Lacks`] keeps the transactions whose lists are known and that are not decided, each with the ids that are missing
 //! for it (`specs/Lacks.antt`). The layers above may rely on this: [`Lacks::learnt`] takes in the lists that were
 //! learnt last (`specs/Learning.antt`), gives exactly the transactions that they decide, rising, and leaves all as it
-//! was if memory is wanting; [`Lacks::missing`] is how many ids are missing for a transaction whose list is known, as
-//! many as its closure names, and takes no memory. `specs/Inner/` is of this crate alone.
+//! was if memory is wanting. [`Lacks::ready`] finds the same and changes nothing, and then [`Lacks::take`] cannot fail.
+//! [`Lacks::missing`] is how many ids are missing for a transaction whose list is known, as many as its closure names,
+//! and takes no memory. `specs/Inner/` is of this crate alone.
 #![tactic(auto)]
 
 mod group;
@@ -21,5 +22,5 @@ mod taught;
 mod waits;
 
 pub use lack::Lack;
-pub use lacks::Lacks;
+pub use lacks::{Lacks, NextLacks};
 pub use waits::{Asker, OpenFetch, Waits};
