@@ -9,3 +9,5 @@ pub mod Asking
 pub mod Counted
 pub mod PutInPlace
 pub mod Orders
+pub mod SideBySide
+pub mod OpenFetches

@@ -1,9 +1,11 @@
 //! What a server waits for.
 //!
-//! [`Waits`] keeps the transactions whose lists a server asked for, each with the shard that it asked, and who asked it
-//! for lists that it does not know. Contracts see it as the two lists of `specs/Waits.antt`, in order and each kept
-//! once (`AreInOrder`, an invariant of the type), and each call changes them exactly as its definition says; one that
-//! finds no memory leaves them as they were, and [`Waits::drop_askers`] needs none.
+//! [`Waits`] keeps the transactions whose lists a server asked for, each with the shard that it asked, which of them are
+//! open, as their lists were not taken since, and who asked it for lists that it does not know. Contracts see it as an
+//! `Awaited` (`specs/Waits.antt`): the three lists, in order and each kept once (`AreKept`, an invariant of the type), and
+//! how many more calls of [`Waits::ask`] or [`Waits::keep_asker`] cannot fail. Each call changes them exactly as its
+//! definition says; one that finds no memory leaves them as they were. Only [`Waits::ask`], [`Waits::keep_asker`] and
+//! [`Waits::reserve`] need any, and none where `spare` suffices; each of the first two takes at most one of it.
 //!
 //! [`Lacks`] keeps the transactions whose lists are known and that are not decided, each with the ids that are missing
 //! for it (`specs/Lacks.antt`). The layers above may rely on this: [`Lacks::learnt`] takes in the lists that were

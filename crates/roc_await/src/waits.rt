@@ -1,6 +1,7 @@
 //! Who waits for which list.
-ghost use Rattle.std.specs.Prelude.{◌≡◌, ◌≤◌, length, filter, vec_len, vec_capacity, OnOk, OnErr};
-ghost use Rattle.roc_await.specs.Waits.{is_asked_before, is_asker_before, with_asked, with_asker, without_askers_of, AreInOrder};
+ghost use Rattle.std.specs.Prelude.{◌≡◌, ◌+◌, ◌<◌, ◌≤◌, length, filter, vec_len, vec_capacity};
+ghost use Rattle.roc_base.specs.TxnId.{is_txn, txn_lt};
+ghost use Rattle.roc_await.specs.Waits.{askers_of, is_asked_before, is_asker_before, with_asked, with_asker, without_askers_of, without_fetch_of, AreInOrder};
 ghost use Rattle.roc_await.specs.Inner.Apart.{is_apart};
 
 use roc_base::{NoMemory, Shard, TxnId};
@@ -26,89 +27,169 @@ pub struct Asker {
 pub struct Waits {
     asked: Vec<OpenFetch>,
     askers: Vec<Asker>,
+    // The open ones: of what was asked for, what was not taken since.
+    fetches: Vec<OpenFetch>,
 }
 
 impl Model for Waits {
-    ghost use Rattle.roc_await.specs.Waits.{is_asked_before, is_asker_before, AreInOrder, Waiting};
+    ghost use Rattle.std.specs.Prelude.{◌-◌, min, vec_len, vec_capacity};
+    ghost use Rattle.roc_await.specs.Waits.{AreKept, Awaited};
 
-    ghost Value = { Waiting };
+    ghost Value = { Awaited };
 
-    ghost view = { λ w. record { asked = w.asked.items; askers = w.askers.items } };
+    ghost view = { λ w. record {
+      waiting = record { asked = w.asked.items; askers = w.askers.items };
+      fetches = w.fetches.items;
+      spare = min (vec_capacity w.asked - vec_len w.asked) (min (vec_capacity w.askers - vec_len w.askers) (vec_capacity w.fetches - vec_len w.fetches));
+    } };
 
-    ghost invariant = { λ w. AreInOrder is_asked_before w.asked.items × AreInOrder is_asker_before w.askers.items };
+    ghost invariant = { λ w. AreKept w.asked.items w.askers.items w.fetches.items };
 }
 
 impl Waits {
-    ghost use Rattle.std.specs.Prelude.{◌≡◌, OnOk, OnErr};
-    ghost use Rattle.roc_await.specs.Waits.{none_waiting, was_asked_for, with_asked, with_asker, without_askers_of};
+    ghost use Rattle.std.specs.Prelude.{◌≡◌, ◌+◌, ◌<◌, ◌≤◌, [], IsOk, OnOk, OnErr};
+    ghost use Rattle.roc_await.specs.Waits.{askers_of, none_waiting, shard_asked, with_asked, with_asker, without_askers_of, without_fetch_of};
 
     /// Nothing was asked for, and nobody has asked. Takes no memory.
     pub fn new(alloc: Global) -> Waits
-        ensures { result ≡ none_waiting }
+        ensures waiting { result.waiting ≡ none_waiting }
+        ensures fetches { result.fetches ≡ [] }
     {
         Waits {
             asked: Vec::new(alloc),
             askers: Vec::new(alloc),
+            fetches: Vec::new(alloc),
         }
     }
 
-    /// What was asked for, by id rising.
-    pub fn asked(&self) -> &[OpenFetch]
-        ensures { result.now ≡ self.now.asked }
+    /// The shard that was asked for the list of a transaction, whether the list was taken since or not. Takes no memory.
+    pub fn asked(&self, id: TxnId) -> Option<Shard>
+        ensures { result ≡ shard_asked id self.now.waiting.asked }
     {
-        self.asked.as_slice()
+        self.asked.iter().find(|a| a.id == id).map(|a| a.at)
     }
 
-    /// Who asked, by id and shard rising.
-    pub fn askers(&self) -> &[Asker]
-        ensures { result.now ≡ self.now.askers }
+    /// Who asked for the list of a transaction, by shard rising. Takes no memory.
+    pub fn askers(&self, id: TxnId) -> &[Asker]
+        ensures { result.now ≡ askers_of id self.now.waiting.askers }
     {
-        self.askers.as_slice()
+        askers_of(&self.askers, id)
     }
 
-    /// Whether the list of a transaction was asked for.
-    pub fn was_asked_for(&self, id: TxnId) -> bool
-        ensures { result ≡ was_asked_for id self.now.asked }
+    /// What was asked for and not taken since, by id rising. Takes no memory.
+    pub fn open(&self) -> &[OpenFetch]
+        ensures { result.now ≡ self.now.fetches }
     {
-        self.asked.iter().any(|a| a.id == id)
+        self.fetches.as_slice()
     }
 
-    /// One more is asked for. `NoMemory` leaves all as it was.
+    /// One more is asked for, and open. `NoMemory` leaves all as it was, and comes only where `spare` is 0.
     pub fn ask(&mut self, asked: OpenFetch) -> Result<(), NoMemory>
-        ensures ok { OnOk result (self.new ≡ record self.old { asked = with_asked asked self.old.asked }) }
-        ensures err { OnErr result (self.new ≡ self.old) }
+        ensures waiting { OnOk result (self.new.waiting ≡ record self.old.waiting { asked = with_asked asked self.old.waiting.asked }) }
+        ensures fetches { OnOk result (self.new.fetches ≡ with_asked asked self.old.fetches) }
+        ensures err { OnErr result ((self.new.waiting ≡ self.old.waiting) × (self.new.fetches ≡ self.old.fetches)) }
+        ensures succeeds { 0 < self.old.spare → IsOk result }
+        ensures spare { self.old.spare ≤ self.new.spare + 1 }
     {
-        put_asked(&mut self.asked, asked)
+        self.reserve(1)?;
+        put_asked(&mut self.asked, asked);
+        put_asked(&mut self.fetches, asked);
+        Ok(())
     }
 
-    /// One more has asked; it is kept once. `NoMemory` leaves all as it was.
+    /// One more has asked; it is kept once. `NoMemory` leaves all as it was, and comes only where `spare` is 0.
     pub fn keep_asker(&mut self, asker: Asker) -> Result<(), NoMemory>
-        ensures ok { OnOk result (self.new ≡ record self.old { askers = with_asker asker self.old.askers }) }
-        ensures err { OnErr result (self.new ≡ self.old) }
+        ensures waiting { OnOk result (self.new.waiting ≡ record self.old.waiting { askers = with_asker asker self.old.waiting.askers }) }
+        ensures fetches { self.new.fetches ≡ self.old.fetches }
+        ensures err { OnErr result (self.new.waiting ≡ self.old.waiting) }
+        ensures succeeds { 0 < self.old.spare → IsOk result }
+        ensures spare { self.old.spare ≤ self.new.spare + 1 }
     {
-        put_asker(&mut self.askers, asker)
+        self.reserve(1)?;
+        put_asker(&mut self.askers, asker);
+        Ok(())
+    }
+
+    /// The list of a transaction is learnt: it is open no longer. Takes no memory.
+    pub fn took(&mut self, id: TxnId)
+        ensures waiting { self.new.waiting ≡ self.old.waiting }
+        ensures fetches { self.new.fetches ≡ without_fetch_of id self.old.fetches }
+        ensures spare { self.old.spare ≤ self.new.spare }
+    {
+        take_out_fetch(&mut self.fetches, id);
     }
 
     /// Those who asked for the list of a transaction wait no longer. Takes no memory.
     pub fn drop_askers(&mut self, id: TxnId)
-        ensures { self.new ≡ record self.old { askers = without_askers_of id self.old.askers } }
+        ensures waiting { self.new.waiting ≡ record self.old.waiting { askers = without_askers_of id self.old.waiting.askers } }
+        ensures fetches { self.new.fetches ≡ self.old.fetches }
+        ensures spare { self.old.spare ≤ self.new.spare }
     {
         take_out_askers(&mut self.askers, id);
     }
+
+    /// How many more calls of `ask` or `keep_asker` cannot fail. Takes no memory.
+    pub fn spare(&self) -> usize
+        ensures { result ≡ self.now.spare }
+    {
+        let asked = self.asked.capacity() - self.asked.len();
+        let askers = self.askers.capacity() - self.askers.len();
+        let fetches = self.fetches.capacity() - self.fetches.len();
+        asked.min(askers.min(fetches))
+    }
+
+    /// Takes memory ahead, so that this many more calls of `ask` or `keep_asker` cannot fail. What is held stays, whether
+    /// there is memory or not.
+    pub fn reserve(&mut self, more: usize) -> Result<(), NoMemory>
+        ensures waiting { self.new.waiting ≡ self.old.waiting }
+        ensures fetches { self.new.fetches ≡ self.old.fetches }
+        ensures ok { OnOk result (more ≤ self.new.spare) }
+        ensures succeeds { more ≤ self.old.spare → IsOk result }
+        ensures spare { self.old.spare ≤ self.new.spare }
+    {
+        self.asked.reserve(more)?;
+        self.askers.reserve(more)?;
+        self.fetches.reserve(more)?;
+        Ok(())
+    }
 }
 
-// Puts one into its place among what was asked for, over what stood there.
-fn put_asked(all: &mut Vec<OpenFetch>, asked: OpenFetch) -> Result<(), NoMemory>
-    requires { AreInOrder is_asked_before all.old.items }
-    ensures ok { OnOk result (all.new.items ≡ with_asked asked all.old.items) }
-    ensures err { OnErr result (all.new.items ≡ all.old.items) }
-    ensures order { AreInOrder is_asked_before all.new.items }
+// Those who asked for the list of one transaction. They stand side by side.
+fn askers_of(askers: &[Asker], id: TxnId) -> &[Asker]
+    requires { AreInOrder is_asker_before askers.now }
+    ensures { result.now ≡ askers_of id askers.now }
 {
-    all.reserve(1)?;
+    let from = count_below(askers, id);
+    let len = count_same(askers, id);
+    &askers[from..][..len]
+}
+
+// How many asked for lists of lower ids.
+fn count_below(askers: &[Asker], id: TxnId) -> usize
+    ensures count { result ≡ length (filter (λ a. txn_lt a.id id) askers.now) }
+    ensures bound { result ≤ length askers.now }
+{
+    askers.iter().filter(|a| a.id < id).count()
+}
+
+// How many asked for the list of a transaction.
+fn count_same(askers: &[Asker], id: TxnId) -> usize
+    ensures { result ≡ length (filter (λ a. is_txn a.id id) askers.now) }
+{
+    askers.iter().filter(|a| a.id == id).count()
+}
+
+// Puts one into its place among fetches that have room for one more, over what stood there.
+fn put_asked(all: &mut Vec<OpenFetch>, asked: OpenFetch)
+    requires order { AreInOrder is_asked_before all.old.items }
+    requires room { vec_len all.old < vec_capacity all.old }
+    ensures items { all.new.items ≡ with_asked asked all.old.items }
+    ensures len { vec_len all.new ≤ vec_len all.old + 1 }
+    ensures capacity { vec_capacity all.old ≤ vec_capacity all.new }
+{
     let at = count_asked_before(all, asked);
     keep_other_asked(all, asked);
     all.insert(at, asked).unwrap();
-    Ok(())
 }
 
 // How many of them come before one.
@@ -127,18 +208,17 @@ fn keep_other_asked(all: &mut Vec<OpenFetch>, asked: OpenFetch)
     all.retain(|a| a.id < asked.id || asked.id < a.id);
 }
 
-// Puts one into his place among those who asked.
-fn put_asker(all: &mut Vec<Asker>, asker: Asker) -> Result<(), NoMemory>
-    requires { AreInOrder is_asker_before all.old.items }
-    ensures ok { OnOk result (all.new.items ≡ with_asker asker all.old.items) }
-    ensures err { OnErr result (all.new.items ≡ all.old.items) }
-    ensures order { AreInOrder is_asker_before all.new.items }
+// Puts one into his place among those who asked, where there is room for one more.
+fn put_asker(all: &mut Vec<Asker>, asker: Asker)
+    requires order { AreInOrder is_asker_before all.old.items }
+    requires room { vec_len all.old < vec_capacity all.old }
+    ensures items { all.new.items ≡ with_asker asker all.old.items }
+    ensures len { vec_len all.new ≤ vec_len all.old + 1 }
+    ensures capacity { vec_capacity all.old ≤ vec_capacity all.new }
 {
-    all.reserve(1)?;
     let at = count_askers_before(all, asker);
     keep_other_askers(all, asker);
     all.insert(at, asker).unwrap();
-    Ok(())
 }
 
 // How many of them come before one.
@@ -166,7 +246,18 @@ fn is_before(a: &Asker, b: &Asker) -> bool
 
 // Those who asked for other lists stay.
 fn take_out_askers(askers: &mut Vec<Asker>, id: TxnId)
-    ensures { askers.new.items ≡ without_askers_of id askers.old.items }
+    ensures items { askers.new.items ≡ without_askers_of id askers.old.items }
+    ensures len { vec_len askers.new ≤ vec_len askers.old }
+    ensures capacity { vec_capacity askers.new ≡ vec_capacity askers.old }
 {
     askers.retain(|a| a.id != id);
+}
+
+// The fetches of other transactions stay.
+fn take_out_fetch(fetches: &mut Vec<OpenFetch>, id: TxnId)
+    ensures items { fetches.new.items ≡ without_fetch_of id fetches.old.items }
+    ensures len { vec_len fetches.new ≤ vec_len fetches.old }
+    ensures capacity { vec_capacity fetches.new ≡ vec_capacity fetches.old }
+{
+    fetches.retain(|a| a.id != id);
 }

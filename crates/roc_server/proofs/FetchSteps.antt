@@ -1,10 +1,13 @@
 -- What comes of a fetch
-use Rattle.std.proofs.Common.{◌≡◌, Bool, true, false, if◌then◌else◌, List, [], ◌∷◌, ◌++◌, Option, Some, None, refl, sym, ap, subst, ◌∙◌, append-nil}
+use Rattle.std.proofs.Common.{◌≡◌, Bool, true, false, not, ◌&&◌, filter, if◌then◌else◌, List, [], ◌∷◌, Option, Some, None, refl, sym, ap, subst, ◌∙◌, append-nil}
+use Rattle.std.specs.List.{AllByRecursion, flat_map}
 use Rattle.roc_base.specs.declared.id.TxnId.{TxnId}
 use Rattle.roc_base.specs.declared.node.Shard.{Shard}
 use Rattle.roc_base.specs.Edge.{Dependency}
-use Rattle.roc_await.specs.Waits.{Waiting, with_asker}
-use Rattle.roc_depgraph.specs.Deps.{list_of}
+use Rattle.roc_await.specs.Waits.{Awaited, Waiting, was_asked_for, with_asker}
+use Rattle.roc_await.specs.declared.waits.OpenFetch.{OpenFetch}
+use Rattle.roc_depgraph.specs.declared.known.KnownList.{KnownList}
+use Rattle.roc_depgraph.specs.Deps.{is_known, list_of}
 use Rattle.roc_msg.specs.Outbox.{Collected, HasSent}
 use Rattle.roc_msg.specs.declared.reason.Reason.TheVariants.{NotHere}
 use Rattle.roc_server.specs.declared.handled.Handled.TheVariants.{Done, Ignored}
@@ -40,16 +43,17 @@ module _ (shard : Shard) (k : ServerData) (id : TxnId) (asker : Shard) where
     fetch_told edges before after e sent =
         found (Some edges) s before after e (record { answers = refl; keeps = refl; sends = sent.0; decides = sent.1 ∙ sym (append-nil before.decided); ran = sent.2 ∙ sym (append-nil before.ran) })
 
-    pub fetch_kept : (waits : Waiting) (out : Collected) → None ≡ list_of id k.deps → waits ≡ record k.waits { askers = with_asker (record { id = id; shard = asker }) k.waits.askers } → Shows (after_fetch s id asker) Done (state_of shard (record k { waits = waits }) false) out out
+    pub fetch_kept : (waits : Awaited) (out : Collected) → None ≡ list_of id k.deps → waits.waiting ≡ record k.waits.waiting { askers = with_asker (record { id = id; shard = asker }) k.waits.waiting.askers } → Shows (after_fetch s id asker) Done (state_of shard (record k { waits = waits }) false) out out
     fetch_kept waits out e kept =
         found None (state_of shard (record k { waits = waits }) false) out out e
-        (record { answers = refl; keeps = ap (λ w. state_of shard (record k { waits = w }) false) (sym kept); sends = sym (append-nil out.messages); decides = sym (append-nil out.decided); ran = sym (append-nil out.ran) })
+        (record { answers = refl; keeps = ap (λ (w : Waiting). record s { lists = record s.lists { waiting = w } }) (sym kept); sends = sym (append-nil out.messages); decides = sym (append-nil out.decided); ran = sym (append-nil out.ran) })
 
   -- who asked is in no invariant
-  pub fetch_sound : (waits : Waiting) → waits ≡ record k.waits { askers = with_asker (record { id = id; shard = asker }) k.waits.askers } → IsConsistent k → IsConsistent (record k { waits = waits })
-  fetch_sound waits kept h =
-      subst (λ w. IsConsistent (record k { waits = w })) (sym kept)
-      (record {
+  pub fetch_sound : (waits : Awaited) → waits.waiting ≡ record k.waits.waiting { askers = with_asker (record { id = id; shard = asker }) k.waits.waiting.askers } → waits.fetches ≡ k.waits.fetches → IsConsistent k
+      → IsConsistent (record k { waits = waits })
+  fetch_sound waits kept open_same h =
+      let same : waits.waiting.asked ≡ k.waits.waiting.asked = ap (λ (w : Waiting). w.asked) kept in
+      record {
         groups_once = h.groups_once;
         decided_rising = h.decided_rising;
         decided_only = h.decided_only;
@@ -57,5 +61,8 @@ module _ (shard : Shard) (k : ServerData) (id : TxnId) (asker : Shard) where
         rows = h.rows;
         lacks = h.lacks;
         index = h.index;
-        none_left = h.none_left;
-      })
+        none_left =
+            subst (λ (asked : List OpenFetch). AllByRecursion (λ (d : Dependency). (not (is_known k.deps d.from) && (not (is_here d.from k.started) && not (was_asked_for d.from asked))) ≡ false) (flat_map (λ (list : KnownList). list.edges) k.deps))
+            (sym same) h.none_left;
+        open_unknown = open_same ∙ h.open_unknown ∙ ap (filter (λ (a : OpenFetch). not (is_known k.deps a.id))) (sym same);
+      }

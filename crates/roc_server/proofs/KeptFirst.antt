@@ -1,17 +1,18 @@
 -- A server that keeps nothing but cells
-use Rattle.std.proofs.Common.{◌≡◌, List, [], refl, sym, subst, false}
+use Rattle.std.proofs.Common.{◌≡◌, List, [], not, filter, refl, sym, ap, ◌∙◌, subst, false}
 use Rattle.std.proofs.lemmas.Bool.{false≢true}
 use Rattle.std.specs.List.Sorted.{IsStrictlySortedBy}
 use Rattle.roc_sequence.specs.Places.{IsListed, NoneTwice}
 use Rattle.roc_base.specs.declared.id.TxnId.{TxnId}
 use Rattle.roc_base.specs.TxnId.{is_txn, txn_cmp}
 use Rattle.roc_depgraph.specs.declared.known.KnownList.{KnownList}
-use Rattle.roc_depgraph.specs.Deps.{IsDecided}
+use Rattle.roc_depgraph.specs.Deps.{is_known, IsDecided}
 use Rattle.roc_server.specs.declared.server_data.ServerData.{ServerData}
 use Rattle.std.specs.List.{AllByRecursion, flat_map}
 use Rattle.std.proofs.lemmas.Option.{none-some}
 use Rattle.roc_base.proofs.Ids.{none_rise, unlisted_none}
 use Rattle.roc_server_ancestors.specs.Least.{AreRows}
+use Rattle.roc_await.specs.Waits.{Waiting, none_waiting}
 use Rattle.roc_await.specs.Lacks.{AreLacks}
 use Rattle.roc_server.specs.Inner.Indexed.{IsIndexOf}
 use Rattle.roc_server.specs.Inner.ServerData.{IsConsistent, is_left, is_same_group}
@@ -25,8 +26,8 @@ no_lacks = record { each = tt; some = tt; all = λ t h. absurd (false≢true h) 
 no_group_refs : IsIndexOf [] [] []
 no_group_refs c = refl
 
-pub nothing_sound : (k : ServerData) → k.started ≡ [] → k.deps ≡ [] → k.decided ≡ [] → k.ancestors ≡ [] → k.lacks ≡ [] → k.index ≡ [] → IsConsistent k
-nothing_sound k started deps decided ancestors lacks index =
+pub nothing_sound : (k : ServerData) → k.started ≡ [] → k.deps ≡ [] → k.decided ≡ [] → k.ancestors ≡ [] → k.lacks ≡ [] → k.index ≡ [] → k.waits.waiting ≡ none_waiting → k.waits.fetches ≡ [] → IsConsistent k
+nothing_sound k started deps decided ancestors lacks index waiting open_none =
     let once : NoneTwice is_same_group [] = tt in
     record {
       groups_once = subst (NoneTwice is_same_group) (sym started) once;
@@ -37,4 +38,5 @@ nothing_sound k started deps decided ancestors lacks index =
       lacks = subst (λ (ks : List KnownList). AreLacks ks k.lacks) (sym deps) (subst (AreLacks []) (sym lacks) no_lacks);
       index = subst (λ es. IsIndexOf k.index k.decided es) (sym started) (subst (λ ids. IsIndexOf k.index ids []) (sym decided) (subst (λ i. IsIndexOf i [] []) (sym index) no_group_refs));
       none_left = subst (λ (ks : List KnownList). AllByRecursion (λ d. is_left k d ≡ false) (flat_map (λ list. list.edges) ks)) (sym deps) tt;
+      open_unknown = open_none ∙ sym (ap (λ (w : Waiting). filter (λ a. not (is_known k.deps a.id)) w.asked) waiting);
     }

@@ -1,16 +1,20 @@
 -- What known lists name and is unknown, not here and not asked for
-use Rattle.std.proofs.Common.{◌≡◌, false, not, ◌&&◌, List, ◌++◌, filter, sym, ap, ◌∙◌}
+use Rattle.std.proofs.Common.{◌≡◌, true, false, not, ◌&&◌, List, ◌++◌, filter, sym, ap, subst, ◌∙◌}
+use Rattle.std.proofs.lemmas.Bool.{and_parts}
 use Rattle.std.proofs.lemmas.Grind.{flat_map-append}
 use Rattle.std.specs.List.{AllByRecursion, flat_map}
-use Rattle.roc_sequence.proofs.Holds.{all_weaker}
+use Rattle.roc_sequence.proofs.Holds.{all_weaker, has_all}
+use Rattle.roc_sequence.proofs.Members.{from_has_map, from_has_filter}
 use Rattle.roc_base.specs.Edge.{Dependency}
 use Rattle.roc_base.specs.Edges.{united}
+use Rattle.roc_await.specs.declared.waits.OpenFetch.{OpenFetch}
 use Rattle.roc_await.specs.Waits.{was_asked_for}
+use Rattle.roc_server_lists.specs.Asking.{asked_of}
 use Rattle.roc_depgraph.specs.declared.known.KnownList.{KnownList}
 use Rattle.roc_depgraph.specs.Deps.{is_known}
 use Rattle.roc_depgraph.proofs.Laws.{KeepsLists, known_stays}
 use Rattle.roc_server_lists.proofs.Skipped.{left_still, all_skipped}
-use Rattle.roc_server.specs.Lists.{is_missing}
+use Rattle.roc_server.specs.Lists.{is_missing, missing_from}
 use Rattle.roc_server.specs.State.{is_here, ServerState}
 
 -- that an entry's transaction is missing is a test of that transaction
@@ -27,3 +31,13 @@ missing_of_news s old news keeps none =
     let skipped = all_skipped (is_missing s (old ++ news)) (missing_of s (old ++ news)) (flat_map (λ (k : KnownList). k.edges) old) (flat_map (λ (k : KnownList). k.edges) news)
     (all_weaker (λ d. is_missing s old d ≡ false) (λ d. is_missing s (old ++ news) d ≡ false) still (flat_map (λ (k : KnownList). k.edges) old) none) in
     sym (ap (λ es. filter (is_missing s (old ++ news)) (united es)) (flat_map-append (λ (k : KnownList). k.edges) old news) ∙ skipped)
+
+-- what is missing is unknown
+pub missing_unknown : (s : ServerState) (known : List KnownList) → AllByRecursion (λ a. not (is_known known a.id) ≡ true) (missing_from s known)
+missing_unknown s known =
+    let named = united (flat_map (λ (k : KnownList). k.edges) known) in
+    has_all (λ (a : OpenFetch). not (is_known known a.id) ≡ true) (missing_from s known)
+    (λ a h.
+    let q = from_has_map asked_of a (filter (is_missing s known) named) h in
+    let f = from_has_filter (is_missing s known) q.0 named q.1 in
+    subst (λ (a : OpenFetch). not (is_known known a.id) ≡ true) (sym q.2) (and_parts (not (is_known known q.0.from)) _ f.1).0)

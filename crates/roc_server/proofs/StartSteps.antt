@@ -1,5 +1,5 @@
 -- What comes of a start, case by case
-use Rattle.std.proofs.Common.{◌≡◌, ◌<◌, ◌==◌, ◌&&◌, ℕ, Bool, true, false, not, nat_lt, cond, is_none, Some, None, Option, List, [], ◌∷◌, ◌++◌, length, Result, Ok, Err, IfOk, refl, sym, ap, subst, ◌∙◌, append-nil, arith, inl, inr}
+use Rattle.std.proofs.Common.{◌≡◌, ◌<◌, ◌==◌, ◌&&◌, ℕ, Bool, true, false, not, nat_lt, cond, is_none, Some, None, Option, List, [], ◌∷◌, ◌++◌, length, Result, Ok, Err, IfOk, refl, sym, ap, subst, ◌∙◌, append-nil, arith, inl, inr, filter}
 use Rattle.std.proofs.lemmas.Bool.{eqb-true, and_parts, false≢true}
 use Rattle.std.specs.List.Sorted.{IsStrictlySortedBy}
 use Rattle.roc_sequence.specs.Places.{place_of, is_listed, IsListed, NoneTwice}
@@ -31,7 +31,7 @@ use Rattle.std.specs.List.{AllByRecursion, flat_map}
 use Rattle.roc_base.proofs.Ids.{none_rise}
 use Rattle.roc_sequence.proofs.Holds.{all_weaker, any_has, has_any}
 use Rattle.roc_sequence.proofs.Members.{has_left}
-use Rattle.roc_await.specs.Waits.{Waiting, was_asked_for}
+use Rattle.roc_await.specs.Waits.{Awaited, was_asked_for}
 use Rattle.roc_server_ancestors.specs.Least.{AreRows}
 use Rattle.roc_await.specs.Lacks.{AreLacks}
 use Rattle.roc_server_lists.proofs.Skipped.{left_still}
@@ -160,9 +160,12 @@ start_sound k mid after index e id group sound started deps decided ancestors la
       none_left =
           subst (λ ks. AllByRecursion (λ d. is_left (record mid { started = after; index = index }) d ≡ false) (flat_map (λ list. list.edges) ks)) (sym deps)
           (all_weaker (λ d. is_left k d ≡ false) (λ d. is_left (record mid { started = after; index = index }) d ≡ false)
-          (λ d. left_still (is_known k.deps d.from) (is_here d.from k.started) (was_asked_for d.from k.waits.asked) (is_known mid.deps d.from) (is_here d.from after) (was_asked_for d.from mid.waits.asked)
+          (λ d. left_still (is_known k.deps d.from) (is_here d.from k.started) (was_asked_for d.from k.waits.waiting.asked) (is_known mid.deps d.from) (is_here d.from after) (was_asked_for d.from mid.waits.waiting.asked)
           (λ h. ap (λ ks. is_known ks d.from) deps ∙ h)
           (λ h. subst (λ xs. is_here d.from xs ≡ true) (sym (is ∙ ap (λ (v : List StartedGroup). v ++ e ∷ []) started)) (here_more d.from k.started e h))
-          (λ h. ap (λ (w : Waiting). was_asked_for d.from w.asked) waits ∙ h))
+          (λ h. ap (λ (w : Awaited). was_asked_for d.from w.waiting.asked) waits ∙ h))
           (flat_map (λ list. list.edges) k.deps) sound.none_left);
+      open_unknown =
+          let Unknown : Awaited → List KnownList → Type 0 = λ w ks. w.fetches ≡ filter (λ a. not (is_known ks a.id)) w.waiting.asked in
+          subst (λ w. Unknown w mid.deps) (sym waits) (subst (Unknown k.waits) (sym deps) sound.open_unknown);
     }

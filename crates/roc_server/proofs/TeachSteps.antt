@@ -1,16 +1,18 @@
 -- What comes of lists that are taught
-use Rattle.std.proofs.Common.{◌≡◌, Bool, true, false, List, ◌++◌, ◌||◌, map, filter, refl, sym, ap, subst, ◌∙◌, append_assoc, inl, inr}
+use Rattle.std.proofs.Common.{◌≡◌, Bool, true, false, List, ◌++◌, ◌||◌, not, map, filter, refl, sym, ap, subst, ◌∙◌, append_assoc, inl, inr}
 use Rattle.std.specs.List.{AllByRecursion, flat_map}
 use Rattle.roc_sequence.specs.Lists.{Has}
 use Rattle.roc_sequence.proofs.Holds.{has_all}
 use Rattle.roc_sequence.proofs.Members.{has_map}
 use Rattle.roc_base.specs.Edge.{Dependency}
 use Rattle.roc_base.specs.Edges.{united}
-use Rattle.roc_await.specs.Waits.{Waiting, was_asked_for, with_all_asked}
+use Rattle.roc_await.specs.Waits.{Awaited, Waiting, was_asked_for, with_all_asked}
 use Rattle.roc_await.specs.Lacks.{AreLacks}
 use Rattle.roc_await.proofs.Asking.{asked_still, asked_all}
 use Rattle.roc_server_lists.proofs.Skipped.{left_still, left_by_third, passed}
-use Rattle.roc_server.proofs.LeftOut.{missing_of}
+use Rattle.roc_await.proofs.OpenFetches.{some_all_asked}
+use Rattle.roc_server_lists.proofs.NotOfNews.{unknown_not_of}
+use Rattle.roc_server.proofs.LeftOut.{missing_of, missing_unknown}
 use Rattle.roc_sequence.specs.Places.{is_listed, IsListed}
 use Rattle.roc_sequence.proofs.Places.{listed_or_not}
 use Rattle.roc_sequence.proofs.Appended.{listed_front, listed_behind, listed_either}
@@ -30,7 +32,7 @@ use Rattle.roc_server.specs.declared.handled.Handled.TheVariants.{Done}
 use Rattle.roc_server.specs.declared.server_data.ServerData.{ServerData}
 use Rattle.roc_server.specs.Runs.{accesses_of, all_buffered, commitok, commitok_of, take_all}
 use Rattle.roc_server_lists.specs.New.{AreNew}
-use Rattle.roc_server_lists.specs.Asking.{knowns_for, asked_of, fetch_from, waiting_after}
+use Rattle.roc_server_lists.specs.Asking.{knowns_for, asked_of, fetch_from, open_after, waiting_after}
 use Rattle.roc_server.specs.Lists.{is_missing, missing_from, lists_after, taught}
 use Rattle.roc_server.specs.Inner.Indexed.{AreOut}
 use Rattle.roc_server.specs.Inner.ServerData.{state_of, holding, is_left, AreSameGroups, IsConsistent}
@@ -70,8 +72,8 @@ module _ (plan : Plan) (shard : Shard) (old mid new : ServerData) (before first 
   known_is : all ≡ new.deps
   known_is = sym m.deps ∙ sym h.lists
 
-  waiting_is : waiting_after old.waits news (missing_from s all) ≡ new.waits
-  waiting_is = ap (waiting_after old.waits news) (sym m.missing) ∙ sym m.waits ∙ sym h.waits
+  waiting_is : waiting_after old.waits.waiting news (missing_from s all) ≡ new.waits.waiting
+  waiting_is = ap (waiting_after old.waits.waiting news) (sym m.missing) ∙ sym m.waits ∙ ap (λ (w : Awaited). w.waiting) (sym h.waits)
 
   reached : take_all plan knowing ids ≡ state_of shard new false
   reached =
@@ -86,7 +88,7 @@ module _ (plan : Plan) (shard : Shard) (old mid new : ServerData) (before first 
   told_here i = map (commitok_of plan (sym reached i)) (filter (λ t. here_same t old.started new.started groups i) ids)
 
   abbrev knowns : List Outgoing
-  knowns = flat_map (knowns_for old.waits.askers) news
+  knowns = flat_map (knowns_for old.waits.waiting.askers) news
 
   abbrev oks : List Outgoing
   oks = map (commitok_of plan (take_all plan knowing ids)) (filter (λ t. is_here t old.started) ids)
@@ -121,23 +123,37 @@ module _ (plan : Plan) (shard : Shard) (old mid new : ServerData) (before first 
       here_now : is_here d.from old.started ≡ true → is_here d.from new.started ≡ true
       here_now e = here_same d.from old.started new.started groups ∙ e
 
-      asked_is : with_all_asked (missing_from s all) old.waits.asked ≡ new.waits.asked
+      asked_is : with_all_asked (missing_from s all) old.waits.waiting.asked ≡ new.waits.waiting.asked
       asked_is = ap (λ (w : Waiting). w.asked) waiting_is
 
-      asked_now : was_asked_for d.from (with_all_asked (missing_from s all) old.waits.asked) ≡ true → was_asked_for d.from new.waits.asked ≡ true
+      asked_now : was_asked_for d.from (with_all_asked (missing_from s all) old.waits.waiting.asked) ≡ true → was_asked_for d.from new.waits.waiting.asked ≡ true
       asked_now e = subst (λ (xs : List OpenFetch). was_asked_for d.from xs ≡ true) asked_is e
 
       go : (b : Bool) → missing d ≡ b → is_left new d ≡ false
       go true e =
           let u = passed missing (λ a b f. missing_of s all a b f) (flat_map (λ (k : KnownList). k.edges) all) d named e in
-          let a : was_asked_for u.0.from (with_all_asked (missing_from s all) old.waits.asked) ≡ true = asked_all (asked_of u.0) (missing_from s all) old.waits.asked (has_map asked_of u.0 (filter missing (united (flat_map (λ (k : KnownList). k.edges) all))) u.1) in
-          left_by_third (is_known new.deps d.from) (is_here d.from new.started) (was_asked_for d.from new.waits.asked) (asked_now (subst (λ (t : TxnId). was_asked_for t (with_all_asked (missing_from s all) old.waits.asked) ≡ true) u.2 a))
+          let a : was_asked_for u.0.from (with_all_asked (missing_from s all) old.waits.waiting.asked) ≡ true = asked_all (asked_of u.0) (missing_from s all) old.waits.waiting.asked (has_map asked_of u.0 (filter missing (united (flat_map (λ (k : KnownList). k.edges) all))) u.1) in
+          left_by_third (is_known new.deps d.from) (is_here d.from new.started) (was_asked_for d.from new.waits.waiting.asked) (asked_now (subst (λ (t : TxnId). was_asked_for t (with_all_asked (missing_from s all) old.waits.waiting.asked) ≡ true) u.2 a))
       go false e =
-          left_still (is_known all d.from) (is_here d.from old.started) (was_asked_for d.from old.waits.asked) (is_known new.deps d.from) (is_here d.from new.started) (was_asked_for d.from new.waits.asked)
-          known_now here_now (λ k. asked_now (asked_still d.from (missing_from s all) old.waits.asked k)) e
+          left_still (is_known all d.from) (is_here d.from old.started) (was_asked_for d.from old.waits.waiting.asked) (is_known new.deps d.from) (is_here d.from new.started) (was_asked_for d.from new.waits.waiting.asked)
+          known_now here_now (λ k. asked_now (asked_still d.from (missing_from s all) old.waits.waiting.asked k)) e
 
   left_after : AllByRecursion (λ d. is_left new d ≡ false) (flat_map (λ (k : KnownList). k.edges) all)
   left_after = has_all (λ d. is_left new d ≡ false) (flat_map (λ (k : KnownList). k.edges) all) one_after
+
+  -- what is asked for now is unknown, so what is open is all that was asked for and is unknown
+  abbrev unknown : List KnownList → OpenFetch → Bool
+  unknown ks a = not (is_known ks a.id)
+
+  open_now : new.waits.fetches ≡ filter (unknown new.deps) new.waits.waiting.asked
+  open_now =
+      let asked = missing_from s all in
+      ap (λ (w : Awaited). w.fetches) h.waits
+      ∙ m.fetches
+      ∙ (λ i. open_after (sound.open_unknown i) news (m.missing i))
+      ∙ ap (with_all_asked asked) (unknown_not_of (λ (a : OpenFetch). a.id) old.deps news old.waits.waiting.asked)
+      ∙ sym (some_all_asked (unknown all) asked old.waits.waiting.asked (missing_unknown s all))
+      ∙ (λ i. filter (unknown (known_is i)) ((waiting_is i).asked))
 
   sound_after : IsConsistent new
   sound_after =
@@ -160,6 +176,7 @@ module _ (plan : Plan) (shard : Shard) (old mid new : ServerData) (before first 
             index_decided old.index new.index old.decided ids new.decided old.started new.started sound.index (subst (λ i. AreOut ids i new.index) m.index h.index) groups
             (subst (λ d. (t : TxnId) → is_listed is_txn new.decided t ≡ (is_listed is_txn d t || is_listed is_txn ids t)) m.decided (decided_test mid.decided ids new.decided h.decided));
         none_left = subst (λ (ks : List KnownList). AllByRecursion (λ d. is_left new d ≡ false) (flat_map (λ list. list.edges) ks)) known_is left_after;
+        open_unknown = open_now;
       }
 
   pub teaches : Teaches plan shard old new before after news

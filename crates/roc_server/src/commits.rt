@@ -10,6 +10,7 @@ ghost use Rattle.roc_server.specs.Lists.{commit_fault, known_fault};
 use crate::Handled;
 use crate::commitoks::send_commitok;
 use crate::groups::is_here;
+use crate::missing::was_asked_for;
 use crate::server_data::ServerData;
 use crate::teach::teach;
 use roc_base::{Edges, NoMemory, Shard, TxnId};
@@ -91,7 +92,7 @@ fn commit_fault(kept: &ServerData, id: TxnId, edges: &Edges, facts: &[KnownList]
 fn known_fault(kept: &ServerData, id: TxnId, edges: &Edges) -> Option<Reason>
     ensures { (shard : At) → result ≡ known_fault (state_of shard kept.now false) id edges.now }
 {
-    if !kept.waits.was_asked_for(id) {
+    if !was_asked_for(&kept.waits, id) {
         return Some(Reason::NotHere);
     }
     if is_unlike(&kept.deps, id, edges) {

@@ -2,6 +2,7 @@
 ghost use Rattle.std.specs.Prelude.{◌≡◌, map, filter, IfOk};
 ghost use Rattle.std.specs.List.{flat_map};
 ghost use Rattle.roc_base.specs.Edges.{united};
+ghost use Rattle.roc_await.specs.Waits.{was_asked_for};
 ghost use Rattle.roc_server_lists.specs.Asking.{asked_of};
 ghost use Rattle.roc_server.specs.Lists.{is_missing};
 ghost use Rattle.roc_server.specs.State.{ServerState};
@@ -9,7 +10,7 @@ ghost use Rattle.roc_server.specs.State.{ServerState};
 use crate::groups::is_here;
 use crate::started_groups::StartedGroups;
 use roc_await::{OpenFetch, Waits};
-use roc_base::{Edge, NoMemory};
+use roc_base::{Edge, NoMemory, TxnId};
 use roc_depgraph::{Deps, KnownList};
 use roc_server_lists::all_edges;
 use std::alloc::Global;
@@ -22,7 +23,7 @@ pub(crate) fn missing_from(
     started: &StartedGroups,
     waits: &Waits,
 ) -> Result<Vec<OpenFetch>, NoMemory>
-    ensures { IfOk result (λ asks. (s : ServerState) → s.started ≡ started.now → s.lists.waiting.asked ≡ waits.now.asked
+    ensures { IfOk result (λ asks. (s : ServerState) → s.started ≡ started.now → s.lists.waiting.asked ≡ waits.now.waiting.asked
         → asks.items ≡ map asked_of (filter (is_missing s deps.now) (united (flat_map (λ k. k.edges) news.now)))) }
 {
     let edges = all_edges(alloc, news)?;
@@ -40,8 +41,15 @@ pub(crate) fn missing_from(
 
 // Whether what an entry names is missing.
 fn is_missing(deps: &Deps, started: &StartedGroups, waits: &Waits, edge: Edge) -> bool
-    ensures { (s : ServerState) → s.started ≡ started.now → s.lists.waiting.asked ≡ waits.now.asked → result ≡ is_missing s deps.now edge }
+    ensures { (s : ServerState) → s.started ≡ started.now → s.lists.waiting.asked ≡ waits.now.waiting.asked → result ≡ is_missing s deps.now edge }
 {
     let id = edge.from();
-    deps.list(id).is_none() && !is_here(started, id) && !waits.was_asked_for(id)
+    deps.list(id).is_none() && !is_here(started, id) && !was_asked_for(waits, id)
+}
+
+// Whether the list of a transaction was asked for.
+pub(crate) fn was_asked_for(waits: &Waits, id: TxnId) -> bool
+    ensures { result ≡ was_asked_for id waits.now.waiting.asked }
+{
+    waits.asked(id).is_some()
 }

@@ -24,7 +24,7 @@ use roc_group::Access;
 use roc_msg::{Msg, NodeFault, Outbox, Reason};
 use roc_plan::{Class, Known, Plan};
 use roc_rows::Cell;
-use roc_server_lists::fetch_again;
+use roc_server_lists::send_fetches;
 use std::alloc::Global;
 use std::marker::Model;
 use std::sync::ledger::Ledger;
@@ -119,7 +119,7 @@ impl Server {
         if self.stopped {
             return Err(NodeFault::Stopped);
         }
-        match fetch_again(self.shard, &self.kept.deps, self.kept.waits.asked(), outbox) {
+        match send_fetches(self.shard, self.kept.waits.open(), outbox) {
             Ok(()) => Ok(()),
             Err(NoMemory) => {
                 self.kept.clear(self.alloc);

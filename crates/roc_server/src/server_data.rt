@@ -33,7 +33,7 @@ impl ServerData {
         ensures rows { result.rows ≡ rows }
         ensures started { result.started ≡ [] }
         ensures deps { result.deps ≡ [] }
-        ensures waits { result.waits ≡ none_waiting }
+        ensures waits { result.waits.waiting ≡ none_waiting }
         ensures decided { result.decided ≡ [] }
         ensures sound { IsConsistent result }
     {

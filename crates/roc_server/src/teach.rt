@@ -55,7 +55,7 @@ fn know_more(
     requires sound { IsConsistent kept.old }
     ensures { IfOk result (λ found. (shard : At) → KnowsMore shard kept.old kept.new outbox.old outbox.new news.now found.0.items found.1.items) }
 {
-    tell_all(kept.waits.askers(), news, outbox)?;
+    tell_all(&kept.waits, news, outbox)?;
     let ids = learn_all(alloc, &mut kept.deps, &mut kept.lacks, news)?;
     let asks = missing_from(alloc, news, &kept.deps, &kept.started, &kept.waits)?;
     wait_for(&mut kept.waits, news, &asks)?;

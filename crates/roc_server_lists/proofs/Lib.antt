@@ -1,5 +1,5 @@
 pub mod Added
-mod DroppedAskers
+pub mod NotOfNews
 pub mod InOrder
 pub mod Learnable
 pub mod Learning

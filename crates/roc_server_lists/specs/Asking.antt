@@ -29,3 +29,7 @@ fetch_from shard a = record { to = Server a.at; msg = Fetch a.id shard }
 -- the askers of these lists are dropped, and what is missing was asked for
 abbrev pub waiting_after : Waiting → (news : List KnownList) → List OpenFetch → Waiting
 waiting_after w news asks = record { asked = with_all_asked asks w.asked; askers = filter (λ a. not (list_any (λ k. is_txn k.of a.id) news)) w.askers }
+
+-- what is open then: no fetch of these lists, and what is missing
+abbrev pub open_after : List OpenFetch → (news : List KnownList) → List OpenFetch → List OpenFetch
+open_after fetches news asks = with_all_asked asks (filter (λ a. not (list_any (λ k. is_txn k.of a.id) news)) fetches)

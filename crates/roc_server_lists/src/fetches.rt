@@ -1,13 +1,11 @@
 //! Fetches, and what answers them.
-ghost use Rattle.std.specs.Prelude.{◌≡◌, ◌++◌, ◌∷◌, [], not, map, filter, OnOk};
-ghost use Rattle.roc_depgraph.specs.Deps.{is_known};
+ghost use Rattle.std.specs.Prelude.{◌≡◌, ◌++◌, ◌∷◌, [], map, OnOk};
 ghost use Rattle.roc_msg.specs.Outbox.{HasSent};
 ghost use Rattle.roc_server_lists.specs.Asking.{known_to, fetch_from};
 ghost use Rattle.roc_server_lists.specs.Carried.{list_with};
 
 use roc_await::OpenFetch;
 use roc_base::{Edges, NoMemory, Node, Shard, TxnId};
-use roc_depgraph::Deps;
 use roc_msg::{Msg, Outbox};
 
 /// Tells a list to one who asked for it. `NoMemory` promises nothing of `outbox`.
@@ -21,23 +19,6 @@ pub fn send_known(
 {
     let edges = edges.clone()?;
     outbox.send(Node::Server(asker), Msg::Known { id, edges })
-}
-
-/// Asks again for what is not known. `NoMemory` leaves `outbox` with a part of these messages.
-pub fn fetch_again(
-    shard: Shard,
-    deps: &Deps,
-    asked: &[OpenFetch],
-    outbox: &mut Outbox,
-) -> Result<(), NoMemory>
-    ensures { OnOk result (HasSent outbox.old outbox.new (map (fetch_from shard) (filter (λ a. not (is_known deps.now a.id)) asked.now))) }
-{
-    for a in asked {
-        if deps.list(a.id).is_none() {
-            send_fetch(shard, *a, outbox)?;
-        }
-    }
-    Ok(())
 }
 
 /// Asks for these lists. `NoMemory` leaves `outbox` with a part of these messages.

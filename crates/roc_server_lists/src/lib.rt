@@ -6,8 +6,8 @@
 //! [`news_of_known`] give those of transactions of which none is known, and [`commit_differs`] and [`is_unlike`] tell
 //! whether another list is known (`specs/Carried.antt`). Of new lists: [`learn_all`] learns them and gives exactly the
 //! transactions that they decide, [`newly_decided`] puts these into component order (`specs/New.antt`), and [`Decided`]
-//! keeps the decided ones, rising. Of who asks: [`tell_all`], [`send_known`], [`all_edges`], [`wait_for`],
-//! [`send_fetches`] and [`fetch_again`] tell lists, note who waits for what, and ask (`specs/Asking.antt`).
+//! keeps the decided ones, rising. Of who asks: [`tell_all`], [`send_known`], [`all_edges`], [`wait_for`]
+//! and [`send_fetches`] tell lists, note who waits for what, and ask (`specs/Asking.antt`).
 //! [`facts_for`] gives the known lists that travel along (`specs/Piggyback.antt`).
 //!
 //! A call that finds no memory may have done a part: then nothing is promised of the lists, nor of the outbox.
@@ -24,7 +24,7 @@ mod unlike;
 pub use askers::tell_all;
 pub use asks::{all_edges, wait_for};
 pub use decided::{Decided, newly_decided};
-pub use fetches::{fetch_again, send_fetches, send_known};
+pub use fetches::{send_fetches, send_known};
 pub use news::{learn_all, news_of_commit, news_of_known};
 pub use told::facts_for;
 pub use unlike::{commit_differs, is_unlike};

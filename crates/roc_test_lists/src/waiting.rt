@@ -2,7 +2,7 @@
 ghost use Rattle.std.specs.Prelude.{OnOk};
 ghost use Rattle.roc_await.specs.Lacks.{AreLacks};
 
-use roc_await::Lacks;
+use roc_await::{Asker, Lacks, OpenFetch, Waits};
 use roc_base::{Edge, Edges, Shard, TxnId};
 use roc_depgraph::Deps;
 use std::alloc::Global;
@@ -64,5 +64,21 @@ fn a_ring_is_decided_by_its_last_list(rt: HostRuntime) -> Result<(), Fail> {
         assert_eq!(rt; lacks.missing(txn(of)), missing);
         assert_eq!(rt; lacks.missing(txn(0)), missing);
     }
+    Ok(())
+}
+
+#[test]
+fn what_was_taken_is_open_no_longer(rt: HostRuntime) -> Result<(), Fail> {
+    let (id, at) = (txn(1), Shard(2));
+    let mut waits = Waits::new(rt.alloc());
+    waits.reserve(2)?;
+    waits.ask(OpenFetch { id, at })?;
+    waits.keep_asker(Asker {
+        id,
+        shard: Shard(3),
+    })?;
+    waits.took(id);
+    assert!(rt; waits.open().is_empty());
+    assert!(rt; waits.asked(id) == Some(at) && waits.askers(id).len() == 1);
     Ok(())
 }

@@ -20,7 +20,7 @@ use Rattle.roc_server.specs.declared.server_data.ServerData.{ServerData}
 use Rattle.roc_server.specs.Runs.{accesses_of, all_buffered, commitok, take_all}
 use Rattle.roc_server_lists.specs.New.{AreNew}
 use Rattle.roc_server_lists.specs.Carried.{list_with, carried, unknown_of}
-use Rattle.roc_server_lists.specs.Asking.{knowns_for, waiting_after}
+use Rattle.roc_server_lists.specs.Asking.{knowns_for, open_after, waiting_after}
 use Rattle.roc_server.specs.Lists.{missing_from, taught, commit_fault, after_commit, known_fault, after_known}
 use Rattle.roc_server.specs.Inner.Indexed.{AreOut}
 use Rattle.roc_server.specs.Inner.ServerData.{state_of, holding, AreSameGroups, IsConsistent}
@@ -38,8 +38,9 @@ pub record KnowsMore (shard : Shard) (old new : ServerData) (before after : Coll
   pub lacks : AreLacks new.deps new.lacks
   pub news_decide : AreDecidedBy old.deps (old.deps ++ news) ids
   pub missing : asks ≡ missing_from (state_of shard old false) (old.deps ++ news)
-  pub waits : new.waits ≡ waiting_after old.waits news asks
-  pub sent : HasSent before after (flat_map (knowns_for old.waits.askers) news)
+  pub waits : new.waits.waiting ≡ waiting_after old.waits.waiting news asks
+  pub fetches : new.waits.fetches ≡ open_after old.waits.fetches news asks
+  pub sent : HasSent before after (flat_map (knowns_for old.waits.waiting.askers) news)
 
 -- these are taken, with what is kept and sent before and after
 pub record DecidedTaken (plan : Plan) (shard : Shard) (old new : ServerData) (before after : Collected) (ids : List TxnId) : Type 0 where

@@ -4,5 +4,5 @@ use Rattle.roc_base.specs.TxnId.{is_txn}
 use Rattle.roc_await.specs.declared.waits.Asker.{Asker}
 use Rattle.roc_await.proofs.waits.take_out_askers.Goals as goal
 
-pub returns : goal.returns
-returns c = filter_same _ (λ (a : Asker). not (is_txn a.id c.args.id)) _ (λ x b f k. search rules) _ _ c.retain.ensures.filtered
+pub returns-clause-items : goal.returns-clause-items
+returns-clause-items c = filter_same _ (λ (a : Asker). not (is_txn a.id c.args.id)) _ (λ x b f k. search rules) _ _ c.retain.ensures.filtered

@@ -19,8 +19,8 @@ returns-in_ok-send_known-in-Some-clause-sound c = c.requires.sound
 pub returns-in_ok-keep_asker-in-None-clause-step : goal.returns-in_ok-keep_asker-in-None-clause-step
 returns-in_ok-keep_asker-in-None-clause-step c =
     fetch_kept c.args.shard c.args.kept.now c.args.id c.args.asker (sym c.is_here.ensures ∙ c.if-not-is_here.false) c.keep_asker.new.self c.args.outbox.now c.in-None.ensures
-    c.in_ok-keep_asker-in-None.ensures.ok
+    c.in_ok-keep_asker-in-None.ensures.waiting
 
 pub returns-in_ok-keep_asker-in-None-clause-sound : goal.returns-in_ok-keep_asker-in-None-clause-sound
 returns-in_ok-keep_asker-in-None-clause-sound c =
-    fetch_sound c.args.shard c.args.kept.now c.args.id c.args.asker c.keep_asker.new.self c.in_ok-keep_asker-in-None.ensures.ok c.requires.sound
+    fetch_sound c.args.shard c.args.kept.now c.args.id c.args.asker c.keep_asker.new.self c.in_ok-keep_asker-in-None.ensures.waiting c.in_ok-keep_asker-in-None.ensures.fetches c.requires.sound

@@ -1,11 +1,9 @@
-use Rattle.std.proofs.Common.{◌≡◌, ◌++◌, false, List, map, filter, refl, subst, ap, ◌∙◌}
+use Rattle.std.proofs.Common.{◌≡◌, false, List, map, filter, refl, subst, ap, ◌∙◌}
 use Rattle.std.specs.List.{flat_map}
 use Rattle.roc_base.specs.Edges.{united}
-use Rattle.roc_await.specs.declared.waits.Asker.{Asker}
 use Rattle.roc_await.specs.Lacks.{AreDecidedBy}
 use Rattle.roc_depgraph.specs.declared.known.KnownList.{KnownList}
-use Rattle.roc_msg.specs.Outbox.{HasSent}
-use Rattle.roc_server_lists.specs.Asking.{knowns_for, asked_of, waiting_after}
+use Rattle.roc_server_lists.specs.Asking.{asked_of, open_after, waiting_after}
 use Rattle.roc_server.specs.Lists.{is_missing}
 use Rattle.roc_server.specs.Inner.ServerData.{state_of}
 use Rattle.roc_server.proofs.LeftOut.{missing_of_news}
@@ -18,7 +16,6 @@ returns c shard =
     let news = c.args.news.now in
     let s = state_of shard old false in
     let Found : List KnownList → Type 0 = λ ks. c.in_ok-asks.asks.items ≡ map asked_of (filter (is_missing s ks) (united (flat_map (λ (k : KnownList). k.edges) news))) in
-    let Told : List Asker → Type 0 = λ askers. HasSent c.args.outbox.now c.tell_all.new.outbox (flat_map (knowns_for askers) news) in
     record {
       rows = refl;
       started = refl;
@@ -31,7 +28,7 @@ returns c shard =
       missing =
           subst Found c.in_ok-ids.ensures.learnt (c.in_ok-asks.ensures s refl refl)
           ∙ ap (map asked_of) (missing_of_news s old.deps news (keeps_front old.deps news) c.requires.sound.none_left);
-      waits =
-          c.in_ok-wait_for.ensures ∙ ap (waiting_after old.waits news) c.deref.ensures.value;
-      sent = subst Told c.askers.ensures c.in_ok-tell_all.ensures;
+      waits = c.in_ok-wait_for.ensures.waiting ∙ ap (waiting_after old.waits.waiting news) c.deref.ensures.value;
+      fetches = c.in_ok-wait_for.ensures.fetches ∙ ap (open_after old.waits.fetches news) c.deref.ensures.value;
+      sent = c.in_ok-tell_all.ensures;
     }

@@ -1,4 +1,4 @@
-use Rattle.std.proofs.Common.{◌≡◌, ◌++◌, map, take}
+use Rattle.std.proofs.Common.{map, take}
 use Rattle.roc_msg.specs.Outbox.{HasSent}
 use Rattle.roc_server_lists.specs.Asking.{fetch_from}
 use Rattle.roc_server_lists.proofs.fetches.send_fetches.Given as goal

@@ -1,12 +1,11 @@
-use Rattle.std.proofs.Common.{not, sym, subst}
-use Rattle.roc_base.specs.TxnId.{is_txn}
+use Rattle.std.proofs.Common.{List, sym, subst}
 use Rattle.roc_await.specs.declared.waits.Asker.{Asker}
-use Rattle.roc_await.specs.Waits.{is_asker_before, AreInOrder}
-use Rattle.roc_await.proofs.PutInPlace.{order_some}
+use Rattle.roc_await.specs.Waits.{AreKept}
+use Rattle.roc_await.proofs.OpenFetches.{kept_without_askers}
 use Rattle.roc_await.proofs.waits.Waits.drop_askers.Goals as goal
 
 pub invariant_of-self : goal.invariant_of-self
-invariant_of-self c = (
-  c.self.invariant.0,
-  subst (AreInOrder is_asker_before) (sym c.take_out_askers.ensures) (order_some is_asker_before (λ (a : Asker). not (is_txn a.id c.args.id)) c.self.inside.askers.items c.self.invariant.1),
-)
+invariant_of-self c =
+    let w = c.self.inside in
+    let Kept : List Asker → Type 0 = λ xs. AreKept w.asked.items xs w.fetches.items in
+    subst Kept (sym c.take_out_askers.ensures.items) (kept_without_askers w.asked.items w.askers.items w.fetches.items c.self.invariant c.args.id)

@@ -1,0 +1,8 @@
+use Rattle.std.proofs.Common.{rules, not}
+use Rattle.std.proofs.lemmas.Fn.{filter_same}
+use Rattle.roc_base.specs.TxnId.{is_txn}
+use Rattle.roc_await.specs.declared.waits.OpenFetch.{OpenFetch}
+use Rattle.roc_await.proofs.waits.take_out_fetch.Goals as goal
+
+pub returns-clause-items : goal.returns-clause-items
+returns-clause-items c = filter_same _ (λ (a : OpenFetch). not (is_txn a.id c.args.id)) _ (λ x b f k. search rules) _ _ c.retain.ensures.filtered
