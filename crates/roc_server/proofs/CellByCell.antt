@@ -1,10 +1,10 @@
 -- The groups that are found cell by cell are those that come before
-use Rattle.std.proofs.Common.{◌≡◌, ℕ, suc, Bool, true, false, cond, not, ◌&&◌, ◌||◌, if◌then◌else◌, List, [], ◌∷◌, ◌++◌, map, filter, refl, sym, ap, subst, ◌∙◌}
+use Rattle.std.proofs.Common.{◌≡◌, Bool, Some, true, false, cond, not, ◌&&◌, ◌||◌, if◌then◌else◌, List, [], ◌∷◌, ◌++◌, map, filter, refl, sym, ap, subst, ◌∙◌}
 use Rattle.std.proofs.lemmas.Bool.{false≢true}
-use Rattle.std.specs.List.{flat_map, list_any}
+use Rattle.std.specs.List.{AllByRecursion, flat_map, list_any}
 use Rattle.roc_sequence.specs.Lists.{Has}
-use Rattle.roc_sequence.specs.Places.{is_listed}
-use Rattle.roc_sequence.proofs.Holds.{any_has, has_any}
+use Rattle.roc_sequence.specs.Places.{NoneTwice, is_listed}
+use Rattle.roc_sequence.proofs.Holds.{any_has, has_any, has_all}
 use Rattle.roc_sequence.proofs.Members.{has_map, from_has_map, has_filter, from_has_filter, has_flat_map, from_has_flat_map}
 use Rattle.roc_base.specs.declared.id.TxnId.{TxnId}
 use Rattle.roc_base.specs.declared.node.Shard.{Shard}
@@ -21,9 +21,15 @@ use Rattle.roc_server_index.specs.GroupRefs.{group_refs_at}
 use Rattle.roc_plan.specs.Groups.{Plan, is_immediate_of}
 use Rattle.roc_server.specs.declared.started.StartedGroup.{StartedGroup}
 use Rattle.roc_server.specs.Start.{conflicts_before, edge_to, uses_cell}
-use Rattle.roc_server.specs.Inner.Indexed.{group_ref_of, group_refs_from, undecided, IsIndexOf, conflicts_with, is_met, edge_from}
-use Rattle.roc_server.proofs.Stands.{Stand, all_stand}
+use Rattle.roc_server.specs.Inner.Indexed.{group_ref_of, group_refs_of, undecided, IsIndexOf, conflicts_with, is_met, edge_from}
+use Rattle.roc_server.specs.State.{find_group}
+use Rattle.roc_server.specs.Inner.ServerData.{is_same_group}
+use Rattle.roc_server.proofs.Stands.{group_found}
 use Rattle.roc_server_lists.proofs.Unions.{same_members}
+
+-- each of the groups is found among all by its number
+abbrev pub AreFound : (whole es : List StartedGroup) → Type 0
+AreFound whole es = AllByRecursion (λ e. find_group e.id e.group whole ≡ Some e) es
 
 -- a group that conflicts with a use uses its cell
 conflict_uses : (e : StartedGroup) (a : Access) → uses_cell a.cell e ≡ false → do_conflict e.cells (a ∷ []) ≡ false
@@ -71,19 +77,19 @@ module _ (plan : Plan) (shard : Shard) (left_out : List TxnId) (id : TxnId) (imm
     abbrev conflicts : StartedGroup → Bool
     conflicts e = do_conflict e.cells (a ∷ [])
 
-    skipped : (at : ℕ) (e : StartedGroup) (ss : List GroupRef) (rest : List Dependency) → met (group_ref_of at e) ≡ false → met_at whole a ss ≡ rest → met_at whole a (group_ref_of at e ∷ ss) ≡ rest
-    skipped at e ss rest m ih = ap (λ b. map (edge_from shard immediate) (cond b (group_ref_of at e ∷ filter met ss) (filter met ss))) m ∙ ih
+    skipped : (e : StartedGroup) (ss : List GroupRef) (rest : List Dependency) → met (group_ref_of e) ≡ false → met_at whole a ss ≡ rest → met_at whole a (group_ref_of e ∷ ss) ≡ rest
+    skipped e ss rest m ih = ap (λ b. map (edge_from shard immediate) (cond b (group_ref_of e ∷ filter met ss) (filter met ss))) m ∙ ih
 
     -- a group that uses the cell
-    used : (at : ℕ) (e : StartedGroup) (ss : List GroupRef) (rest : List Dependency) (l o k f : Bool) → met (group_ref_of at e) ≡ ((not o && k) && f) → met_at whole a ss ≡ rest
-        → met_at whole a (cond (not l) (group_ref_of at e ∷ ss) ss) ≡ (if not o && (not l && (k && f)) then entry e ∷ rest else rest)
-    used at e ss rest true true k f m ih = ih
-    used at e ss rest true false k f m ih = ih
-    used at e ss rest false true k f m ih = skipped at e ss rest m ih
-    used at e ss rest false false true true m ih =
-        ap (λ b. map (edge_from shard immediate) (cond b (group_ref_of at e ∷ filter met ss) (filter met ss))) m ∙ ap (λ ds. entry e ∷ ds) ih
-    used at e ss rest false false true false m ih = skipped at e ss rest m ih
-    used at e ss rest false false false f m ih = skipped at e ss rest m ih
+    used : (e : StartedGroup) (ss : List GroupRef) (rest : List Dependency) (l o k f : Bool) → met (group_ref_of e) ≡ ((not o && k) && f) → met_at whole a ss ≡ rest
+        → met_at whole a (cond (not l) (group_ref_of e ∷ ss) ss) ≡ (if not o && (not l && (k && f)) then entry e ∷ rest else rest)
+    used e ss rest true true k f m ih = ih
+    used e ss rest true false k f m ih = ih
+    used e ss rest false true k f m ih = skipped e ss rest m ih
+    used e ss rest false false true true m ih =
+        ap (λ b. map (edge_from shard immediate) (cond b (group_ref_of e ∷ filter met ss) (filter met ss))) m ∙ ap (λ ds. entry e ∷ ds) ih
+    used e ss rest false false true false m ih = skipped e ss rest m ih
+    used e ss rest false false false f m ih = skipped e ss rest m ih
 
     -- one that does not
     unused : (e : StartedGroup) (rest : List Dependency) (l o k f : Bool) → f ≡ false → rest ≡ (if not o && (not l && (k && f)) then entry e ∷ rest else rest)
@@ -96,22 +102,22 @@ module _ (plan : Plan) (shard : Shard) (left_out : List TxnId) (id : TxnId) (imm
     pick e es true = refl
     pick e es false = refl
 
-    met_from : (at : ℕ) (es : List StartedGroup) → Stand whole at es → met_at whole a (undecided left_out (group_refs_from a.cell at es)) ≡ before (a ∷ []) es
-    met_from at [] h = refl
-    met_from at (e ∷ es) h = go (uses_cell a.cell e) refl (met_from (suc at) es h.1)
+    met_from : (es : List StartedGroup) → AreFound whole es → met_at whole a (undecided left_out (group_refs_of a.cell es)) ≡ before (a ∷ []) es
+    met_from [] h = refl
+    met_from (e ∷ es) h = go (uses_cell a.cell e) refl (met_from es h.1)
       where
-        go : (u : Bool) → uses_cell a.cell e ≡ u → met_at whole a (undecided left_out (group_refs_from a.cell (suc at) es)) ≡ before (a ∷ []) es
-            → met_at whole a (undecided left_out (if u then group_ref_of at e ∷ group_refs_from a.cell (suc at) es else group_refs_from a.cell (suc at) es)) ≡ before (a ∷ []) (e ∷ es)
+        go : (u : Bool) → uses_cell a.cell e ≡ u → met_at whole a (undecided left_out (group_refs_of a.cell es)) ≡ before (a ∷ []) es
+            → met_at whole a (undecided left_out (if u then group_ref_of e ∷ group_refs_of a.cell es else group_refs_of a.cell es)) ≡ before (a ∷ []) (e ∷ es)
         go true u ih =
-            used at e (undecided left_out (group_refs_from a.cell (suc at) es)) (before (a ∷ []) es) (left e) (own e) (kind e) (conflicts e) (ap (λ o. (not (own e) && kind e) && conflicts_with a o) h.0) ih
+            used e (undecided left_out (group_refs_of a.cell es)) (before (a ∷ []) es) (left e) (own e) (kind e) (conflicts e) (ap (λ o. (not (own e) && kind e) && conflicts_with a o) h.0) ih
             ∙ sym (pick e (filter (conflicts_before plan left_out id immediate (a ∷ [])) es) (conflicts_before plan left_out id immediate (a ∷ []) e))
         go false u ih =
             ih ∙ unused e (before (a ∷ []) es) (left e) (own e) (kind e) (conflicts e) (conflict_uses e a u)
             ∙ sym (pick e (filter (conflicts_before plan left_out id immediate (a ∷ [])) es) (conflicts_before plan left_out id immediate (a ∷ []) e))
 
   -- what is met at a cell's references are the entries of the groups that come before one that makes this use alone
-  pub met_is : (index : List (Cell × List GroupRef)) (es : List StartedGroup) (a : Access) → IsIndexOf index left_out es → met_at es a (group_refs_at a.cell index) ≡ before (a ∷ []) es
-  met_is index es a h = ap (met_at es a) (h a.cell) ∙ met_from es a 0 es (all_stand es)
+  pub met_is : (index : List (Cell × List GroupRef)) (es : List StartedGroup) (a : Access) → NoneTwice is_same_group es → IsIndexOf index left_out es → met_at es a (group_refs_at a.cell index) ≡ before (a ∷ []) es
+  met_is index es a once h = ap (met_at es a) (h a.cell) ∙ met_from es a es (has_all (λ e. find_group e.id e.group es ≡ Some e) es (λ e k. group_found es e once k))
 
   -- ---- over all cells
 
@@ -165,10 +171,10 @@ module _ (plan : Plan) (shard : Shard) (left_out : List TxnId) (id : TxnId) (imm
   pub over_cells : (cells : List Access) (es : List StartedGroup) → united (flat_map (λ a. before (a ∷ []) es) cells) ≡ united (before cells es)
   over_cells cells es = same_members (flat_map (λ a. before (a ∷ []) es) cells) (before cells es) (λ d. (of_any cells es d, in_any cells es d))
 
-  each_met : (index : List (Cell × List GroupRef)) (es : List StartedGroup) (cells : List Access) → IsIndexOf index left_out es → flat_map (λ a. met_at es a (group_refs_at a.cell index)) cells ≡ flat_map (λ a. before (a ∷ []) es) cells
-  each_met index es [] h = refl
-  each_met index es (a ∷ more) h = λ i. met_is index es a h i ++ each_met index es more h i
+  each_met : (index : List (Cell × List GroupRef)) (es : List StartedGroup) (cells : List Access) → NoneTwice is_same_group es → IsIndexOf index left_out es → flat_map (λ a. met_at es a (group_refs_at a.cell index)) cells ≡ flat_map (λ a. before (a ∷ []) es) cells
+  each_met index es [] once h = refl
+  each_met index es (a ∷ more) once h = λ i. met_is index es a once h i ++ each_met index es more once h i
 
   -- what is met at the cells' references, united
-  pub all_met : (index : List (Cell × List GroupRef)) (es : List StartedGroup) (cells : List Access) → IsIndexOf index left_out es → united (flat_map (λ a. met_at es a (group_refs_at a.cell index)) cells) ≡ united (before cells es)
-  all_met index es cells h = ap united (each_met index es cells h) ∙ over_cells cells es
+  pub all_met : (index : List (Cell × List GroupRef)) (es : List StartedGroup) (cells : List Access) → NoneTwice is_same_group es → IsIndexOf index left_out es → united (flat_map (λ a. met_at es a (group_refs_at a.cell index)) cells) ≡ united (before cells es)
+  all_met index es cells once h = ap united (each_met index es cells once h) ∙ over_cells cells es

@@ -1,10 +1,9 @@
 -- The index follows the started groups and what is decided
-use Rattle.std.proofs.Common.{◌≡◌, ℕ, ◌+◌, ◌-◌, ◌<◌, ◌==◌, Bool, true, false, cond, not, ◌&&◌, ◌||◌, if◌then◌else◌, List, [], ◌∷◌, ◌++◌, length, take, filter, get_or, Option, Some, None, slice_get, refl, sym, ap, subst, ◌∙◌, inl, inr, length-append, append-nil, arith}
+use Rattle.std.proofs.Common.{◌≡◌, ℕ, ◌+◌, ◌-◌, ◌<◌, ◌==◌, Bool, true, false, cond, not, ◌&&◌, ◌||◌, if◌then◌else◌, List, [], ◌∷◌, ◌++◌, length, take, filter, find, get_or, ◌⊎◌, Option, Some, None, slice_get, refl, sym, ap, subst, ◌∙◌, inl, inr, length-append, append-nil, arith}
 use Rattle.std.proofs.lemmas.Bool.{false≢true}
 use Rattle.std.proofs.lemmas.Bool.Decides.{nat_tests}
 use Rattle.std.proofs.lemmas.List.Elements.{filter-append}
 use Rattle.std.proofs.lemmas.List.Folds.{list_any_more}
-use Rattle.std.proofs.lemmas.Option.{slice_get_within}
 use Rattle.std.specs.List.{AllByRecursion, list_any}
 use Rattle.roc_sequence.specs.Lists.{Has}
 use Rattle.roc_sequence.specs.Places.{is_listed}
@@ -17,11 +16,12 @@ use Rattle.roc_rows.specs.declared.cell.Cell.{Cell}
 use Rattle.roc_rows.specs.Cells.{is_cell}
 use Rattle.roc_group.specs.declared.access.Access.{Access}
 use Rattle.roc_server_index.specs.declared.group_ref.GroupRef.{GroupRef}
-use Rattle.roc_server_index.specs.GroupRefs.{group_refs_at, is_of_place, ends_at, with_group_ref, without, ChangesAt}
+use Rattle.roc_server_index.specs.GroupRefs.{group_refs_at, is_same_ref, is_ref_of, ends_with, with_group_ref, without, ChangesAt}
 use Rattle.roc_server.specs.declared.started.StartedGroup.{StartedGroup}
 use Rattle.roc_server.specs.Start.{uses_cell}
 use Rattle.roc_server.specs.Inner.ServerData.{AreSameGroups}
-use Rattle.roc_server.specs.Inner.Indexed.{group_ref_of, group_refs_from, undecided, IsIndexOf, IsGroupRefOf, AreGroupRefsOf, IsAddedAt, IsOutOf, IsOut, AreOut}
+use Rattle.roc_server.specs.Inner.Indexed.{group_ref_of, group_refs_of, undecided, IsIndexOf, IsGroupRefOf, AreGroupRefsOf, IsAddedAt, IsOutOf, IsOut, AreOut}
+use Rattle.roc_server.specs.State.{is_group, find_group}
 use Rattle.roc_server.proofs.Stands.{indexed_is, group_refs_more, group_refs_same}
 
 abbrev Index : Type 0
@@ -48,33 +48,30 @@ stands_last : (ss : List GroupRef) (s : GroupRef) → slice_get (ss ++ s ∷ [])
 stands_last [] s = refl
 stands_last (x ∷ xs) s = stands_last xs s
 
-ends_new : (s : GroupRef) (ss : List GroupRef) → ends_at s.at (ss ++ s ∷ []) ≡ true
+ends_new : (s : GroupRef) (ss : List GroupRef) → ends_with s (ss ++ s ∷ []) ≡ true
 ends_new s ss =
     let long = length-append ss (s ∷ []) in
     let last : length (ss ++ s ∷ []) - 1 ≡ length ss = omega (arith, long) in
-    let own : (s.at == s.at) ≡ true = grind (arith, nat_tests) in
-    ap (λ n. is_of_place s.at (slice_get (ss ++ s ∷ []) n)) last ∙ ap (is_of_place s.at) (stands_last ss s) ∙ own
+    let own : is_same_ref s s ≡ true = grind (arith, nat_tests) in
+    ap (λ n. is_ref_of s (slice_get (ss ++ s ∷ []) n)) last ∙ ap (is_ref_of s) (stands_last ss s) ∙ own
 
-ends_old : (at : ℕ) (ss : List GroupRef) → AllByRecursion (λ s. s.at < at) ss → ends_at at ss ≡ false
-ends_old at ss h = go (slice_get ss (length ss - 1)) refl
+ends_old : (s : GroupRef) (ss : List GroupRef) → AllByRecursion (λ x. is_same_ref x s ≡ false) ss → ends_with s ss ≡ false
+ends_old s ss h = go (slice_get ss (length ss - 1)) refl
   where
-    go : (o : Option GroupRef) → slice_get ss (length ss - 1) ≡ o → is_of_place at (slice_get ss (length ss - 1)) ≡ false
-    go None e = ap (is_of_place at) e
-    go (Some x) e =
-        let below : x.at < at = all_has (λ s. s.at < at) x ss h (has_at ss (length ss - 1) x e) in
-        let other : (x.at == at) ≡ false = grind (arith, nat_tests) in
-        ap (is_of_place at) e ∙ other
+    go : (o : Option GroupRef) → slice_get ss (length ss - 1) ≡ o → is_ref_of s (slice_get ss (length ss - 1)) ≡ false
+    go None e = ap (is_ref_of s) e
+    go (Some x) e = ap (is_ref_of s) e ∙ all_has (λ x. is_same_ref x s ≡ false) x ss h (has_at ss (length ss - 1) x e)
 
-with_once : (s : GroupRef) (ss : List GroupRef) (u t : Bool) → AllByRecursion (λ x. x.at < s.at) ss → (if t then with_group_ref s (ss ++ (if u then s ∷ [] else [])) else ss ++ (if u then s ∷ [] else [])) ≡ ss ++ (if u || t then s ∷ [] else [])
+with_once : (s : GroupRef) (ss : List GroupRef) (u t : Bool) → AllByRecursion (λ x. is_same_ref x s ≡ false) ss → (if t then with_group_ref s (ss ++ (if u then s ∷ [] else [])) else ss ++ (if u then s ∷ [] else [])) ≡ ss ++ (if u || t then s ∷ [] else [])
 with_once s ss true true h = ap (λ b. if b then ss ++ s ∷ [] else (ss ++ s ∷ []) ++ s ∷ []) (ends_new s ss)
-with_once s ss false true h = ap (with_group_ref s) (append-nil ss) ∙ ap (λ b. if b then ss else ss ++ s ∷ []) (ends_old s.at ss h)
+with_once s ss false true h = ap (with_group_ref s) (append-nil ss) ∙ ap (λ b. if b then ss else ss ++ s ∷ []) (ends_old s ss h)
 with_once s ss true false h = refl
 with_once s ss false false h = refl
 
 pub added_none : (s : GroupRef) (old : Index) → IsAddedAt s [] old old
 added_none s old c = sym (append-nil (group_refs_at c old))
 
-pub added_more : (s : GroupRef) (cells : List Access) (k : ℕ) (a : Access) (old mid new : Index) → ((c : Cell) → AllByRecursion (λ x. x.at < s.at) (group_refs_at c old)) → k < length cells → IsAddedAt s (take k cells) old mid
+pub added_more : (s : GroupRef) (cells : List Access) (k : ℕ) (a : Access) (old mid new : Index) → ((c : Cell) → AllByRecursion (λ x. is_same_ref x s ≡ false) (group_refs_at c old)) → k < length cells → IsAddedAt s (take k cells) old mid
     → ChangesAt (get_or cells k a).cell (with_group_ref s) mid new → IsAddedAt s (take (k + 1) cells) old new
 added_more s cells k a old mid new fresh within so_far step c =
     let x : Access = get_or cells k a in
@@ -82,22 +79,29 @@ added_more s cells k a old mid new fresh within so_far step c =
     ∙ with_once s (group_refs_at c old) (list_any (λ b. is_cell b.cell c) (take k cells)) (is_cell x.cell c) (fresh c)
     ∙ ap (λ t. group_refs_at c old ++ (if t then s ∷ [] else [])) (sym (list_any_more (λ b. is_cell b.cell c) cells k a within))
 
--- all places of the index are below the next one
-pub all_below : (index : Index) (decided : List TxnId) (es : List StartedGroup) → IsIndexOf index decided es → (c : Cell) → AllByRecursion (λ s. s.at < length es) (group_refs_at c index)
-all_below index decided es h c = has_all (λ s. s.at < length es) (group_refs_at c index) (λ s k. let p = indexed_is c index decided es h s k in slice_get_within es s.at p.group p.stands)
+not_found : {A : Type 0} (p : A → Bool) (xs : List A) (a : A) → find p xs ≡ None → Has a xs → p a ≡ false
+not_found p [] a none k = absurd k
+not_found {A = A} p (x ∷ xs) a none k = go (p x) refl none k (not_found p xs a)
+  where
+    go : (b : Bool) → p x ≡ b → cond b (Some x) (find p xs) ≡ None → (a ≡ x) ⊎ Has a xs → (find p xs ≡ None → Has a xs → p a ≡ false) → p a ≡ false
+    go true e n k ih = cc
+    go false e n (inl is) ih = ap p is ∙ e
+    go false e n (inr h) ih = ih n h
+
+-- a group that is not here has no reference
+pub none_yet : (index : Index) (decided : List TxnId) (es : List StartedGroup) (e : StartedGroup) → IsIndexOf index decided es → find_group e.id e.group es ≡ None → (c : Cell) → AllByRecursion (λ s. is_same_ref s (group_ref_of e) ≡ false) (group_refs_at c index)
+none_yet index decided es e h absent c = has_all (λ s. is_same_ref s (group_ref_of e) ≡ false) (group_refs_at c index) (λ s k.
+    let p = indexed_is c index decided es h s k in ap (λ (x : GroupRef). is_same_ref x (group_ref_of e)) p.is ∙ not_found (is_group e.id e.group) es p.group absent p.has)
 
 -- with one more group, whose transaction is not decided
-pub index_started : (old new : Index) (decided : List TxnId) (es : List StartedGroup) (e : StartedGroup) → IsIndexOf old decided es → is_listed is_txn decided e.id ≡ false → IsAddedAt (group_ref_of (length es) e) e.cells old new → IsIndexOf new decided (es ++ e ∷ [])
+pub index_started : (old new : Index) (decided : List TxnId) (es : List StartedGroup) (e : StartedGroup) → IsIndexOf old decided es → is_listed is_txn decided e.id ≡ false → IsAddedAt (group_ref_of e) e.cells old new → IsIndexOf new decided (es ++ e ∷ [])
 index_started old new decided es e h unknown added c =
-    added c ∙ ap (λ ss. ss ++ (if uses_cell c e then group_ref_of (length es) e ∷ [] else [])) (h c) ∙ go (uses_cell c e)
-    ∙ sym (filter-append (λ (s : GroupRef). not (is_listed is_txn decided s.id)) (group_refs_from c 0 es) (if uses_cell c e then group_ref_of (length es) e ∷ [] else []))
-    ∙ ap (undecided decided) (sym (group_refs_more c 0 es e ∙ ap (λ n. group_refs_from c 0 es ++ (if uses_cell c e then group_ref_of n e ∷ [] else [])) first))
+    added c ∙ ap (λ ss. ss ++ (if uses_cell c e then group_ref_of e ∷ [] else [])) (h c) ∙ go (uses_cell c e)
+    ∙ sym (filter-append (λ (s : GroupRef). not (is_listed is_txn decided s.id)) (group_refs_of c es) (if uses_cell c e then group_ref_of e ∷ [] else []))
+    ∙ ap (undecided decided) (sym (group_refs_more c es e))
   where
-    first : 0 + length es ≡ length es
-    first = omega arith
-
-    go : (u : Bool) → undecided decided (group_refs_from c 0 es) ++ (if u then group_ref_of (length es) e ∷ [] else []) ≡ undecided decided (group_refs_from c 0 es) ++ undecided decided (if u then group_ref_of (length es) e ∷ [] else [])
-    go true = ap (λ b. undecided decided (group_refs_from c 0 es) ++ (if not b then group_ref_of (length es) e ∷ [] else [])) (sym unknown)
+    go : (u : Bool) → undecided decided (group_refs_of c es) ++ (if u then group_ref_of e ∷ [] else []) ≡ undecided decided (group_refs_of c es) ++ undecided decided (if u then group_ref_of e ∷ [] else [])
+    go true = ap (λ b. undecided decided (group_refs_of c es) ++ (if not b then group_ref_of e ∷ [] else [])) (sym unknown)
     go false = refl
 
 -- ---- what is decided is taken out
@@ -134,7 +138,7 @@ out_of_all id es old new group_refs out c = out c ∙ go (list_any (λ e. is_txn
     go true h = refl
     go false h = sym (filter_all (λ (s : GroupRef). not (is_txn s.id id)) (group_refs_at c old) (λ s k. none s (group_refs c s k) (is_txn s.id id) refl))
       where
-        none : (s : GroupRef) → IsGroupRefOf es es c s → (t : Bool) → is_txn s.id id ≡ t → not t ≡ true
+        none : (s : GroupRef) → IsGroupRefOf es c s → (t : Bool) → is_txn s.id id ≡ t → not t ≡ true
         none s p false e = refl
         none s p true e =
             let own : is_txn p.group.id id ≡ true = ap (λ (x : GroupRef). is_txn x.id id) (sym p.is) ∙ e in
@@ -165,7 +169,7 @@ pub index_decided : (old new : Index) (before ids after : List TxnId) (es fs : L
 index_decided old new before ids after es fs h out same is c =
     out c ∙ ap (filter (λ (s : GroupRef). not (is_listed is_txn ids s.id))) (h c)
     ∙ filter_both (λ (s : GroupRef). not (is_listed is_txn before s.id)) (λ s. not (is_listed is_txn ids s.id)) (λ s. not (is_listed is_txn after s.id))
-    (λ s. neither (is_listed is_txn before s.id) (is_listed is_txn ids s.id) ∙ ap not (sym (is s.id))) (group_refs_from c 0 es)
+    (λ s. neither (is_listed is_txn before s.id) (is_listed is_txn ids s.id) ∙ ap not (sym (is s.id))) (group_refs_of c es)
     ∙ ap (undecided after) (sym (group_refs_same c es fs same))
   where
     neither : (a b : Bool) → (not a && not b) ≡ not (a || b)

@@ -14,7 +14,7 @@ use Rattle.roc_server_index.specs.GroupRefs.{group_refs_at}
 use Rattle.roc_plan.specs.Groups.{Plan, is_immediate_of}
 use Rattle.roc_server.specs.declared.started.StartedGroup.{StartedGroup}
 use Rattle.roc_server.specs.Start.{uses_cell, is_user, users}
-use Rattle.roc_server.specs.Inner.Indexed.{group_ref_of, group_refs_from, undecided, IsIndexOf, is_looked_at}
+use Rattle.roc_server.specs.Inner.Indexed.{group_ref_of, group_refs_of, undecided, IsIndexOf, is_looked_at}
 
 -- ---- counts of what passes a test, more a loop comes along
 
@@ -49,22 +49,22 @@ module _ (plan : Plan) (left_out : List TxnId) (id : TxnId) (immediate : Bool) w
   user = is_user plan left_out immediate
 
   -- one reference, or none, for a group that uses the cell
-  pass : (at : ℕ) (e : StartedGroup) (ss : List GroupRef) (es : List StartedGroup) (l o k : Bool) → looked (group_ref_of at e) ≡ (not o && k) → length (filter looked ss) ≤ length es
-      → length (filter looked (cond (not l) (group_ref_of at e ∷ ss) ss)) ≤ length (cond (not l && (k && true)) (e ∷ es) es)
-  pass at e ss es true o k m ih = ih
-  pass at e ss es false true k m ih =
-      let none : length (cond (looked (group_ref_of at e)) (group_ref_of at e ∷ filter looked ss) (filter looked ss)) ≡ length (filter looked ss) = ap (λ b. length (cond b (group_ref_of at e ∷ filter looked ss) (filter looked ss))) m in
+  pass : (e : StartedGroup) (ss : List GroupRef) (es : List StartedGroup) (l o k : Bool) → looked (group_ref_of e) ≡ (not o && k) → length (filter looked ss) ≤ length es
+      → length (filter looked (cond (not l) (group_ref_of e ∷ ss) ss)) ≤ length (cond (not l && (k && true)) (e ∷ es) es)
+  pass e ss es true o k m ih = ih
+  pass e ss es false true k m ih =
+      let none : length (cond (looked (group_ref_of e)) (group_ref_of e ∷ filter looked ss) (filter looked ss)) ≡ length (filter looked ss) = ap (λ b. length (cond b (group_ref_of e ∷ filter looked ss) (filter looked ss))) m in
       let more : length es ≤ length (cond (k && true) (e ∷ es) es) = longer (k && true) in
       omega (arith, ih, none, more)
     where
       longer : (b : Bool) → length es ≤ length (cond b (e ∷ es) es)
       longer true = omega arith
       longer false = omega arith
-  pass at e ss es false false true m ih =
-      let one : length (cond (looked (group_ref_of at e)) (group_ref_of at e ∷ filter looked ss) (filter looked ss)) ≡ suc (length (filter looked ss)) = ap (λ b. length (cond b (group_ref_of at e ∷ filter looked ss) (filter looked ss))) m in
+  pass e ss es false false true m ih =
+      let one : length (cond (looked (group_ref_of e)) (group_ref_of e ∷ filter looked ss) (filter looked ss)) ≡ suc (length (filter looked ss)) = ap (λ b. length (cond b (group_ref_of e ∷ filter looked ss) (filter looked ss))) m in
       omega (arith, ih, one)
-  pass at e ss es false false false m ih =
-      let none : length (cond (looked (group_ref_of at e)) (group_ref_of at e ∷ filter looked ss) (filter looked ss)) ≡ length (filter looked ss) = ap (λ b. length (cond b (group_ref_of at e ∷ filter looked ss) (filter looked ss))) m in
+  pass e ss es false false false m ih =
+      let none : length (cond (looked (group_ref_of e)) (group_ref_of e ∷ filter looked ss) (filter looked ss)) ≡ length (filter looked ss) = ap (λ b. length (cond b (group_ref_of e ∷ filter looked ss) (filter looked ss))) m in
       omega (arith, ih, none)
 
   not_a_user : (e : StartedGroup) (es : List StartedGroup) (l k : Bool) → length es ≤ length (cond (not l && (k && false)) (e ∷ es) es)
@@ -72,14 +72,14 @@ module _ (plan : Plan) (left_out : List TxnId) (id : TxnId) (immediate : Bool) w
   not_a_user e es false true = omega arith
   not_a_user e es false false = omega arith
 
-  looked_from : (c : Cell) (at : ℕ) (es : List StartedGroup) → length (filter looked (undecided left_out (group_refs_from c at es))) ≤ length (filter (user c) es)
-  looked_from c at [] = omega arith
-  looked_from c at (e ∷ es) = go (uses_cell c e) (looked_from c (suc at) es)
+  looked_from : (c : Cell) (es : List StartedGroup) → length (filter looked (undecided left_out (group_refs_of c es))) ≤ length (filter (user c) es)
+  looked_from c [] = omega arith
+  looked_from c (e ∷ es) = go (uses_cell c e) (looked_from c es)
     where
-      go : (u : Bool) → length (filter looked (undecided left_out (group_refs_from c (suc at) es))) ≤ length (filter (user c) es)
-          → length (filter looked (undecided left_out (if u then group_ref_of at e ∷ group_refs_from c (suc at) es else group_refs_from c (suc at) es)))
+      go : (u : Bool) → length (filter looked (undecided left_out (group_refs_of c es))) ≤ length (filter (user c) es)
+          → length (filter looked (undecided left_out (if u then group_ref_of e ∷ group_refs_of c es else group_refs_of c es)))
           ≤ length (cond (not (is_listed is_txn left_out e.id) && (same_tag (is_immediate_of plan e.proc e.group) immediate && u)) (e ∷ filter (user c) es) (filter (user c) es))
-      go true ih = pass at e (undecided left_out (group_refs_from c (suc at) es)) (filter (user c) es) (is_listed is_txn left_out e.id) (is_txn e.id id) (same_tag (is_immediate_of plan e.proc e.group) immediate) refl ih
+      go true ih = pass e (undecided left_out (group_refs_of c es)) (filter (user c) es) (is_listed is_txn left_out e.id) (is_txn e.id id) (same_tag (is_immediate_of plan e.proc e.group) immediate) refl ih
       go false ih =
           let more = not_a_user e (filter (user c) es) (is_listed is_txn left_out e.id) (same_tag (is_immediate_of plan e.proc e.group) immediate) in
           omega (arith, ih, more)
@@ -88,7 +88,7 @@ module _ (plan : Plan) (left_out : List TxnId) (id : TxnId) (immediate : Bool) w
   pub looked_within : (index : List (Cell × List GroupRef)) (es : List StartedGroup) → IsIndexOf index left_out es → (cells : List Access) → length (flat_map (λ a. filter looked (group_refs_at a.cell index)) cells) ≤ length (users plan left_out immediate cells es)
   looked_within index es h [] = omega arith
   looked_within index es h (a ∷ more) =
-      let here : length (filter looked (group_refs_at a.cell index)) ≤ length (filter (user a.cell) es) = subst (λ ss. length (filter looked ss) ≤ length (filter (user a.cell) es)) (sym (h a.cell)) (looked_from a.cell 0 es) in
+      let here : length (filter looked (group_refs_at a.cell index)) ≤ length (filter (user a.cell) es) = subst (λ ss. length (filter looked ss) ≤ length (filter (user a.cell) es)) (sym (h a.cell)) (looked_from a.cell es) in
       let left = length-append (filter looked (group_refs_at a.cell index)) (flat_map (λ b. filter looked (group_refs_at b.cell index)) more) in
       let right = length-append (filter (user a.cell) es) (users plan left_out immediate more es) in
       omega (arith, here, left, right, looked_within index es h more)

@@ -1,10 +1,10 @@
 //! What the index has of a group.
-ghost use Rattle.std.specs.Prelude.{◌<◌, false, OnOk};
+ghost use Rattle.std.specs.Prelude.{◌≡◌, false, OnOk};
 ghost use Rattle.std.specs.List.{AllByRecursion, list_any};
 ghost use Rattle.std.specs.Option.{option_copied, option_map_or};
 ghost use Rattle.roc_rows.specs.declared.cell.Cell.{Cell};
 ghost use Rattle.roc_rows.specs.Cells.{is_cell};
-ghost use Rattle.roc_server_index.specs.GroupRefs.{group_refs_at};
+ghost use Rattle.roc_server_index.specs.GroupRefs.{group_refs_at, is_same_ref};
 ghost use Rattle.roc_server.specs.Start.{uses_cell};
 ghost use Rattle.roc_server.specs.Inner.Indexed.{group_ref_of, IsAddedAt, IsOutOf, IsOut, AreGroupRefsOf, AreOut};
 
@@ -15,14 +15,13 @@ use roc_base::{NoMemory, TxnId};
 use roc_group::Access;
 use roc_server_index::{GroupRef, Index};
 
-// Adds the reference of a group that stands at this place, behind all others, at each cell that it uses.
-pub(crate) fn add_group(index: &mut Index, at: usize, e: &StartedGroup) -> Result<(), NoMemory>
-    requires { (c : Cell) → AllByRecursion (λ s. s.at < at) (group_refs_at c index.old) }
-    ensures { OnOk result (IsAddedAt (group_ref_of at e.now) e.now.cells index.old index.new) }
+// Adds the reference of a group, which has none yet, at each cell that it uses.
+pub(crate) fn add_group(index: &mut Index, e: &StartedGroup) -> Result<(), NoMemory>
+    requires { (c : Cell) → AllByRecursion (λ s. is_same_ref s (group_ref_of e.now) ≡ false) (group_refs_at c index.old) }
+    ensures { OnOk result (IsAddedAt (group_ref_of e.now) e.now.cells index.old index.new) }
 {
     let group_ref = GroupRef {
         id: e.id,
-        at,
         proc: e.proc,
         group: e.group,
     };

@@ -1,13 +1,18 @@
 //! The started groups that one that starts looks at: those that are undecided, of its class, and use one of its cells.
-ghost use Rattle.std.specs.Prelude.{◌≡◌, ◌+◌, ◌≤◌, ◌<◌, ◌++◌, length, map, filter, slice_get, Some, if◌then◌else◌, IfOk, OnOk};
+ghost use Rattle.std.specs.Prelude.{◌≡◌, ◌+◌, ◌≤◌, ◌++◌, length, map, filter, Some, IsSome, if◌then◌else◌, IfOk, OnOk};
 ghost use Rattle.std.specs.List.{AllByRecursion};
 ghost use Rattle.roc_base.specs.Edges.{united};
 ghost use Rattle.roc_server.specs.Fits.{AreGroupsOf};
+ghost use Rattle.roc_sequence.specs.Places.{NoneTwice};
+ghost use Rattle.roc_server.specs.Inner.ServerData.{is_same_group};
+ghost use Rattle.roc_server.specs.State.{find_group};
 ghost use Rattle.roc_server.specs.Inner.Indexed.{IsIndexOf, IsGroupRefWithin, is_looked_at, is_met, edge_from};
 ghost use Rattle.roc_server.specs.Start.{conflicts_before, edge_to, users};
 
 use crate::StartedGroup;
+use crate::groups::find_group;
 use crate::server_data::ServerData;
+use crate::started_groups::StartedGroups;
 use crate::started_now::is_immediate;
 use roc_base::{Edge, Edges, NoMemory, Shard, Steps, TxnId};
 use roc_group::{Access, conflict};
@@ -34,13 +39,14 @@ pub(crate) fn entries<L: Ledger>(
     steps: &mut Steps<L>,
 ) -> Result<Edges, NoMemory>
     requires fits { AreGroupsOf plan.now kept.now.started }
+    requires once { NoneTwice is_same_group kept.now.started }
     requires index { IsIndexOf kept.now.index kept.now.decided kept.now.started }
     ensures entries { IfOk result (λ edges. edges
         ≡ united (map (edge_to starting.shard starting.immediate) (filter (conflicts_before plan.now kept.now.decided starting.id starting.immediate cells.now) kept.now.started))) }
     ensures steps { steps.new ≤ steps.old + length (users plan.now kept.now.decided starting.immediate cells.now kept.now.started) }
 {
     let mut met = Vec::new(alloc);
-    let started = kept.started.as_slice();
+    let started = &kept.started;
     for access in cells {
         let group_refs = kept.index.at(access.cell);
         push_met(plan, started, group_refs, starting, access, &mut met, steps)?;
@@ -53,7 +59,7 @@ pub(crate) fn entries<L: Ledger>(
 // Adds the entries for the groups of these references that come before one that makes this use.
 fn push_met<L: Ledger>(
     plan: &Plan,
-    started: &[StartedGroup],
+    started: &StartedGroups,
     group_refs: &[GroupRef],
     starting: Starting,
     access: &Access,
@@ -81,7 +87,7 @@ fn push_met<L: Ledger>(
 // Whether the group of a reference comes before one that makes this use.
 fn is_met<L: Ledger>(
     plan: &Plan,
-    started: &[StartedGroup],
+    started: &StartedGroups,
     group_ref: GroupRef,
     starting: Starting,
     access: &Access,
@@ -97,20 +103,23 @@ fn is_met<L: Ledger>(
     if is_immediate(plan, group_ref.proc, group_ref.group) != starting.immediate {
         return false;
     }
-    let group = look(started, group_ref.at, steps);
+    let group = look(started, group_ref, steps);
     conflict(group.cells.as_slice(), &[*access])
 }
 
-// The group at a place: a step.
+// The group of a reference: a step.
 fn look<'a, L: Ledger>(
-    started: &'a [StartedGroup],
-    at: usize,
+    started: &'a StartedGroups,
+    group_ref: GroupRef,
     steps: &mut Steps<L>,
 ) -> &'a StartedGroup
-    requires { at < length started.now }
-    ensures group { slice_get started.now at ≡ Some result.now }
+    requires { IsSome (find_group group_ref.id group_ref.group started.now) }
+    ensures group { find_group group_ref.id group_ref.group started.now ≡ Some result.now }
     ensures steps { steps.new ≡ steps.old + 1 }
 {
     steps.tick();
-    &started[at]
+    match find_group(started, group_ref.id, group_ref.group) {
+        Some(group) => group,
+        None => unreachable!(),
+    }
 }

@@ -3,10 +3,11 @@ ghost use Rattle.std.specs.Prelude.{◌≡◌, ◌<◌, [], length, map, filter,
 ghost use Rattle.roc_base.specs.Edges.{united};
 ghost use Rattle.roc_group.specs.GroupRun.{call, group_run, group_uses, bound_by_run};
 ghost use Rattle.roc_plan.specs.Groups.{groups_of, is_immediate_of, procedure_of, inputs_of};
+ghost use Rattle.roc_sequence.specs.Places.{NoneTwice};
 ghost use Rattle.roc_server_ancestors.specs.Least.{AreRows};
 ghost use Rattle.roc_server.specs.Fits.{IsCallOf, AreGroupsOf};
 ghost use Rattle.roc_server.specs.Inner.Indexed.{IsIndexOf};
-ghost use Rattle.roc_server.specs.Inner.ServerData.{asked};
+ghost use Rattle.roc_server.specs.Inner.ServerData.{asked, is_same_group};
 ghost use Rattle.roc_server.specs.Inner.Starts.{IsNewGroup};
 ghost use Rattle.roc_server.specs.Start.{conflicts_before, edge_to};
 
@@ -85,6 +86,7 @@ fn edges_for<L: Ledger>(
     requires parts { blank.parts ≡ L.parts }
     requires some { 0 < blank.parts }
     requires fits { AreGroupsOf plan.now kept.now.started }
+    requires once { NoneTwice is_same_group kept.now.started }
     requires index { IsIndexOf kept.now.index kept.now.decided kept.now.started }
     ensures { IfOk result (λ edges. edges
         ≡ united (map (edge_to starting.shard starting.immediate) (filter (conflicts_before plan.now kept.now.decided starting.id starting.immediate cells.now) kept.now.started))) }
@@ -103,6 +105,7 @@ pub(crate) fn new_group(
 ) -> Result<StartedGroup, NoMemory>
     requires call { IsCallOf plan.now (asked request) }
     requires fits { AreGroupsOf plan.now kept.old.started }
+    requires once { NoneTwice is_same_group kept.old.started }
     requires index { IsIndexOf kept.old.index kept.old.decided kept.old.started }
     requires rows { AreRows kept.old.deps kept.old.ancestors }
     ensures { IfOk result (λ e. IsNewGroup plan.now shard kept.old kept.new request.id (asked request) e) }

@@ -79,8 +79,7 @@ fn start_new(
     let started = new_group(alloc, plan, shard, kept, request)?;
     note_if_immediate(plan, &started, outbox)?;
     send_startok(shard, &started, outbox)?;
-    let at = kept.started.as_slice().len();
-    add_group(&mut kept.index, at, &started)?;
+    add_group(&mut kept.index, &started)?;
     kept.started.push(started)?;
     Ok(Handled::Done)
 }

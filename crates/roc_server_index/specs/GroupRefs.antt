@@ -1,5 +1,5 @@
 -- What an index has at a cell
-use Rattle.std.specs.Prelude.{◌≡◌, ℕ, Bool, false, not, ◌==◌, ◌-◌, List, [], ◌∷◌, ◌++◌, Option, Some, None, length, filter, unwrap_or, slice_get, if◌then◌else◌}
+use Rattle.std.specs.Prelude.{◌≡◌, Bool, false, not, ◌&&◌, ◌==◌, ◌-◌, List, [], ◌∷◌, ◌++◌, Option, Some, None, length, filter, unwrap_or, slice_get, if◌then◌else◌}
 use Rattle.std.specs.Map.{lookup}
 use Rattle.roc_base.specs.declared.id.TxnId.{TxnId}
 use Rattle.roc_base.specs.TxnId.{is_txn}
@@ -11,17 +11,21 @@ use Rattle.roc_server_index.specs.declared.group_ref.GroupRef.{GroupRef}
 abbrev pub group_refs_at : Cell → List (Cell × List GroupRef) → List GroupRef
 group_refs_at c index = unwrap_or (lookup (is_cell c) index) []
 
--- the last of these is of that place
-abbrev pub is_of_place : ℕ → Option GroupRef → Bool
-is_of_place at None = false
-is_of_place at (Some s) = s.at == at
+-- the two are of one group
+abbrev pub is_same_ref : GroupRef → GroupRef → Bool
+is_same_ref s r = is_txn s.id r.id && s.group == r.group
 
-abbrev pub ends_at : ℕ → List GroupRef → Bool
-ends_at at ss = is_of_place at (slice_get ss (length ss - 1))
+abbrev pub is_ref_of : GroupRef → Option GroupRef → Bool
+is_ref_of r None = false
+is_ref_of r (Some s) = is_same_ref s r
 
--- with one more, unless the last is of its place
+-- the last of these is of that group
+abbrev pub ends_with : GroupRef → List GroupRef → Bool
+ends_with r ss = is_ref_of r (slice_get ss (length ss - 1))
+
+-- with one more, unless the last is of its group
 abbrev pub with_group_ref : GroupRef → List GroupRef → List GroupRef
-with_group_ref s ss = if ends_at s.at ss then ss else ss ++ s ∷ []
+with_group_ref s ss = if ends_with s ss then ss else ss ++ s ∷ []
 
 -- those of other transactions
 abbrev pub without : TxnId → List GroupRef → List GroupRef

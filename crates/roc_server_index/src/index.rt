@@ -1,6 +1,6 @@
 //! The index.
 ghost use Rattle.std.specs.Prelude.{◌≡◌, [], IsTrue, OnOk};
-ghost use Rattle.roc_server_index.specs.GroupRefs.{group_refs_at, ends_at, with_group_ref, without, ChangesAt};
+ghost use Rattle.roc_server_index.specs.GroupRefs.{group_refs_at, ends_with, with_group_ref, without, ChangesAt};
 ghost use Rattle.roc_server_index.specs.Inner.Held.{held};
 
 use crate::GroupRef;
@@ -49,7 +49,7 @@ impl Index {
         }
     }
 
-    /// Adds a reference at a cell, unless the last one there is of the same place. `NoMemory` promises nothing.
+    /// Adds a reference at a cell, unless the last one there is of the same group. `NoMemory` promises nothing.
     pub fn add(&mut self, cell: Cell, group_ref: GroupRef) -> Result<(), NoMemory>
         ensures { OnOk result (ChangesAt cell (with_group_ref group_ref) self.old self.new) }
     {
@@ -87,21 +87,21 @@ fn empties(cells: &mut BTreeMap<Cell, Vec<GroupRef>>, cell: Cell, id: TxnId) -> 
     }
 }
 
-// Whether the last of the references is of this place.
-fn ends_at(group_refs: &[GroupRef], at: usize) -> bool
-    ensures { result ≡ ends_at at group_refs.now }
+// Whether the last of the references is of this group.
+fn ends_with(group_refs: &[GroupRef], group_ref: GroupRef) -> bool
+    ensures { result ≡ ends_with group_ref group_refs.now }
 {
     match group_refs.last() {
-        Some(last) => last.at == at,
+        Some(last) => last.id == group_ref.id && last.group == group_ref.group,
         None => false,
     }
 }
 
-// Adds a reference, unless the last one is of the same place.
+// Adds a reference, unless the last one is of the same group.
 fn put(group_refs: &mut Vec<GroupRef>, group_ref: GroupRef) -> Result<(), NoMemory>
     ensures { OnOk result (group_refs.new.items ≡ with_group_ref group_ref group_refs.old.items) }
 {
-    if ends_at(group_refs, group_ref.at) {
+    if ends_with(group_refs, group_ref) {
         return Ok(());
     }
     group_refs.push(group_ref)?;

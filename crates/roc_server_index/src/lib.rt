@@ -1,5 +1,5 @@
 //! An index from cells to groups: at each cell the references of the groups that use it, in the order in which they came. A
-//! [`GroupRef`] is the place of a group among those that started, with what tells its class.
+//! [`GroupRef`] names a group that started by its transaction and number, with what tells its class.
 //!
 //! Contracts see an [`Index`] as the list of its cells with their references, and read it by `group_refs_at` of
 //! `specs/GroupRefs.antt` alone. The layers above may rely on this: what is added stands behind what is there, each reference

@@ -1,5 +1,5 @@
 -- The index from cells to the undecided groups that use them, and what is looked at through it
-use Rattle.std.specs.Prelude.{◌≡◌, ◌<◌, ℕ, suc, length, Bool, true, false, not, ◌&&◌, List, [], ◌∷◌, ◌++◌, Option, Some, None, filter, slice_get, if◌then◌else◌}
+use Rattle.std.specs.Prelude.{◌≡◌, ◌<◌, IsSome, length, Bool, true, false, not, ◌&&◌, List, [], ◌∷◌, ◌++◌, Option, Some, None, filter, if◌then◌else◌}
 use Rattle.std.specs.List.{list_any}
 use Rattle.roc_sequence.specs.Lists.{Has}
 use Rattle.roc_sequence.specs.Places.{is_listed}
@@ -17,14 +17,15 @@ use Rattle.roc_server_index.specs.GroupRefs.{group_refs_at, without}
 use Rattle.roc_plan.specs.Groups.{Plan, groups_of, is_immediate_of}
 use Rattle.roc_server.specs.declared.started.StartedGroup.{StartedGroup}
 use Rattle.roc_server.specs.Start.{uses_cell}
+use Rattle.roc_server.specs.State.{find_group}
 
-abbrev pub group_ref_of : ℕ → StartedGroup → GroupRef
-group_ref_of at e = record { id = e.id; at = at; proc = e.proc; group = e.group }
+abbrev pub group_ref_of : StartedGroup → GroupRef
+group_ref_of e = record { id = e.id; proc = e.proc; group = e.group }
 
--- the references of those of the groups that use a cell; the first of the groups has this place
-abbrev pub group_refs_from : Cell → ℕ → List StartedGroup → List GroupRef
-group_refs_from c at [] = []
-group_refs_from c at (e ∷ es) = if uses_cell c e then group_ref_of at e ∷ group_refs_from c (suc at) es else group_refs_from c (suc at) es
+-- the references of those of the groups that use a cell
+abbrev pub group_refs_of : Cell → List StartedGroup → List GroupRef
+group_refs_of c [] = []
+group_refs_of c (e ∷ es) = if uses_cell c e then group_ref_of e ∷ group_refs_of c es else group_refs_of c es
 
 -- those whose transactions are not decided
 abbrev pub undecided : List TxnId → List GroupRef → List GroupRef
@@ -32,22 +33,21 @@ undecided decided ss = filter (λ s. not (is_listed is_txn decided s.id)) ss
 
 -- at each cell it has exactly the references of the undecided groups that use the cell
 abbrev pub IsIndexOf : List (Cell × List GroupRef) → List TxnId → List StartedGroup → Type 0
-IsIndexOf index decided started = (c : Cell) → group_refs_at c index ≡ undecided decided (group_refs_from c 0 started)
+IsIndexOf index decided started = (c : Cell) → group_refs_at c index ≡ undecided decided (group_refs_of c started)
 
--- s is the reference of one of these groups, which uses the cell and stands in the whole list at that place
-pub record IsGroupRefOf (whole es : List StartedGroup) (c : Cell) (s : GroupRef) : Type 0 where
+-- s is the reference of one of these groups, which uses the cell
+pub record IsGroupRefOf (es : List StartedGroup) (c : Cell) (s : GroupRef) : Type 0 where
   pub group : StartedGroup
   pub has : Has group es
-  pub stands : slice_get whole s.at ≡ Some group
-  pub is : s ≡ group_ref_of s.at group
+  pub is : s ≡ group_ref_of group
   pub used : uses_cell c group ≡ true
 
 abbrev pub AreGroupRefsOf : List StartedGroup → List (Cell × List GroupRef) → Type 0
-AreGroupRefsOf started index = (c : Cell) (s : GroupRef) → Has s (group_refs_at c index) → IsGroupRefOf started started c s
+AreGroupRefsOf started index = (c : Cell) (s : GroupRef) → Has s (group_refs_at c index) → IsGroupRefOf started c s
 
--- a group stands there, and the plan has it
+-- there is such a group, and the plan has it
 abbrev pub IsGroupRefWithin : Plan → List StartedGroup → GroupRef → Type 0
-IsGroupRefWithin plan started s = (s.at < length started) × (s.group < length (groups_of plan s.proc))
+IsGroupRefWithin plan started s = IsSome (find_group s.id s.group started) × (s.group < length (groups_of plan s.proc))
 
 -- ---- changes
 
@@ -73,13 +73,13 @@ AreOut ids old new = (c : Cell) → group_refs_at c new ≡ filter (λ s. not (i
 abbrev pub is_looked_at : Plan → TxnId → (immediate : Bool) → GroupRef → Bool
 is_looked_at plan id immediate s = not (is_txn s.id id) && same_tag (is_immediate_of plan s.proc s.group) immediate
 
--- the group at a place conflicts with a use
+-- the group that was found conflicts with a use
 abbrev pub conflicts_with : Access → Option StartedGroup → Bool
 conflicts_with a None = false
 conflicts_with a (Some e) = do_conflict e.cells (a ∷ [])
 
 abbrev pub is_met : Plan → List StartedGroup → TxnId → (immediate : Bool) → Access → GroupRef → Bool
-is_met plan started id immediate a s = is_looked_at plan id immediate s && conflicts_with a (slice_get started s.at)
+is_met plan started id immediate a s = is_looked_at plan id immediate s && conflicts_with a (find_group s.id s.group started)
 
 -- the entry for the group of a reference
 abbrev pub edge_from : Shard → (immediate : Bool) → GroupRef → Dependency

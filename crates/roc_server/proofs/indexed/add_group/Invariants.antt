@@ -3,4 +3,4 @@ use Rattle.roc_server.specs.Inner.Indexed.{group_ref_of, IsAddedAt}
 use Rattle.roc_server.proofs.indexed.add_group.Given as goal
 
 abbrev pub invariant-loop-access : goal.invariant-loop-access
-invariant-loop-access l = IsAddedAt (group_ref_of l.at l.e) (take l.access-index l.access-items) l.initial.index l.index
+invariant-loop-access l = IsAddedAt (group_ref_of l.e) (take l.access-index l.access-items) l.initial.index l.index

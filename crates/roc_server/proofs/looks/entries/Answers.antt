@@ -18,9 +18,8 @@ pub push_met-requires : goal.push_met-requires
 push_met-requires g c =
     let k = c.args.kept.now in
     let plan = c.args.plan.now in
-    subst (AllByRecursion (IsGroupRefWithin plan c.as_slice-started.result.now)) (sym c.at-group_refs.ensures)
-    (subst (λ (es : List StartedGroup). AllByRecursion (IsGroupRefWithin plan es) (group_refs_at c.access-item.result.cell k.index)) (sym c.as_slice-started.ensures)
-    (indexed_within plan c.access-item.result.cell k.index k.decided k.started c.requires.fits c.requires.index))
+    subst (AllByRecursion (IsGroupRefWithin plan k.started)) (sym c.at-group_refs.ensures)
+    (indexed_within plan c.access-item.result.cell k.index k.decided k.started c.requires.fits c.requires.once c.requires.index)
 
 pub returns-in_err-push_met-clause-steps : goal.returns-in_err-push_met-clause-steps
 returns-in_err-push_met-clause-steps g c =
@@ -59,6 +58,6 @@ returns-clause-entries g c =
     let plan = c.args.plan.now in
     let cells = c.args.cells.now in
     let met : List StartedGroup → List Access → List Dependency = λ es us. flat_map (λ (a : Access). met_at plan p.shard k.decided p.id p.immediate es a (group_refs_at a.cell k.index)) us in
-    let whole : c.loop-access.met.items ≡ met k.started cells = c.loop-access.invariant.met ∙ (λ i. met (c.as_slice-started.ensures i) (take_all c.loop-access.access-index cells c.loop-access-test.false i)) in
+    let whole : c.loop-access.met.items ≡ met k.started cells = c.loop-access.invariant.met ∙ (λ i. met k.started (take_all c.loop-access.access-index cells c.loop-access-test.false i)) in
     c.in_ok-unite.ensures.united ∙ (λ i. united (c.new-edges.ensures i ++ (c.deref.ensures.value ∙ whole) i))
-    ∙ all_met plan p.shard k.decided p.id p.immediate k.index k.started cells c.requires.index
+    ∙ all_met plan p.shard k.decided p.id p.immediate k.index k.started cells c.requires.once c.requires.index

@@ -10,7 +10,7 @@ use Rattle.roc_server.proofs.looks.push_met.Goals as goal
 use Rattle.roc_server.proofs.looks.push_met.Goals.{then-is_met+in_ok-push, else-is_met}
 
 abbrev no_group_ref : GroupRef
-no_group_ref = record { id = record { coord = 0; seq = 0 }; at = 0; proc = 0; group = 0 }
+no_group_ref = record { id = record { coord = 0; seq = 0 }; proc = 0; group = 0 }
 
 pub returns-in_err-push-clause-steps : goal.returns-in_err-push-clause-steps
 returns-in_err-push-clause-steps g c =
