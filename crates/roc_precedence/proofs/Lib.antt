@@ -4,3 +4,7 @@ pub mod Runs
 pub mod Taught
 pub mod Found
 pub mod OneCycle
+pub mod Back
+pub mod Best
+pub mod Ways
+pub mod Around

@@ -7,7 +7,7 @@ use Rattle.roc_base.specs.Equalities.{is_txn-same}
 use Rattle.roc_base.proofs.Ids.{txn_lt-itself, txn_cases}
 use Rattle.roc_precedence.specs.Cycles.{IsLeastCycle, stands_before}
 
-comes_same : (w v : TxnId) (ws vs : List TxnId) → w ≡ v → stands_before (w ∷ ws) (v ∷ vs) ≡ stands_before ws vs
+pub comes_same : (w v : TxnId) (ws vs : List TxnId) → w ≡ v → stands_before (w ∷ ws) (v ∷ vs) ≡ stands_before ws vs
 comes_same w v ws vs e =
     ap (λ (x : TxnId). stands_before (x ∷ ws) (v ∷ vs)) e
     ∙ (ap (λ (t : Bool). t || (is_txn v v && stands_before ws vs)) (txn_lt-itself v) ∙ ap (λ (t : Bool). t && stands_before ws vs) (is_txn-same v))

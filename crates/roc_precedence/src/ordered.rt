@@ -8,7 +8,7 @@ ghost use Rattle.roc_precedence.specs.Orders.{IsLeastOrder};
 ghost use Rattle.roc_precedence.specs.Pairs.{IsPaired};
 
 use crate::Pair;
-use crate::lists::lists_of;
+use crate::lists::{lists_of, precedes};
 use roc_base::{NoMemory, TxnId};
 use roc_component::{components, order, rising};
 use roc_depgraph::Deps;
@@ -50,16 +50,7 @@ fn order_of(alloc: Global, set: &[TxnId], lists: &Deps) -> Result<Option<Vec<Txn
 fn one_precedes_itself(lists: &Deps, ids: &[TxnId]) -> bool
     ensures { result ≡ list_any (precedes_itself lists.now) ids.now }
 {
-    ids.iter().any(|id| precedes_itself(lists, *id))
-}
-
-fn precedes_itself(lists: &Deps, id: TxnId) -> bool
-    ensures { result ≡ precedes_itself lists.now id }
-{
-    match lists.list(id) {
-        None => false,
-        Some(list) => list.find(id).is_some(),
-    }
+    ids.iter().any(|id| precedes(lists, *id, *id))
 }
 
 // Whether no list has more than one member.
