@@ -1,4 +1,4 @@
-//! Tests of the least orders of pairs, of the test of serial witnesses, and of books. It gives nothing to use.
+//! Tests of the least orders and cycles of pairs, of the test of serial witnesses, and of books. It gives nothing to use.
 #![tactic(auto)]
 
 #[cfg(test)]
