@@ -2,9 +2,10 @@
 ghost use Rattle.std.specs.Prelude.{◌≡◌, ℕ, List};
 ghost use Rattle.roc_program.specs.Program.{Workload};
 ghost use Rattle.roc_plan.specs.Groups.{Plan};
+ghost use Rattle.roc_plan.specs.Accepted.{IsAccepted};
 ghost use Rattle.roc_report.specs.Line.{Line};
 ghost use Rattle.roc_check.specs.Lines.{check_lines};
-ghost use Rattle.roc_check.specs.Checked.{IsPlanOf, IsPlanOfText, IsRefusedBy, IsRefusedText};
+ghost use Rattle.roc_check.specs.Checked.{IsPlanOf, IsPlanOfText, IsRefusedBy};
 
 use roc_merge_groups::laws::merged_groups_are_one;
 
@@ -20,4 +21,9 @@ pub fn plans_are_unique()
 pub fn refusals_are_unique()
     ensures line { (program : Workload) (one other : Line) → IsRefusedBy program one → IsRefusedBy program other → one ≡ other }
     ensures no_plan { (program : Workload) (plan : Plan) (line : Line) → IsPlanOf program plan → IsRefusedBy program line → ⊥ }
+{}
+
+/// The plan of a text is accepted, so that the laws of accepted plans hold of it.
+pub fn plans_are_accepted()
+    ensures { (bytes : List ℕ) (plan : Plan) → IsPlanOfText bytes plan → IsAccepted plan }
 {}

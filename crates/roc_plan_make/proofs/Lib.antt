@@ -2,5 +2,5 @@ mod Few
 mod BuiltUp
 mod Counted
 mod Drawn
-mod Grouped
+pub mod Grouped
 mod Kept
