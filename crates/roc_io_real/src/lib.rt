@@ -1,19 +1,24 @@
-//! The machine as the traits of `roc_io`, and the program's words (`words_given`). `RealFiles` reads files by their
-//! paths, one byte more than the limit at most; `Stream` is standard output or standard error, where a piece goes out
-//! whole before the next begins; `RealLink` is one UDP socket whose receives wait 20 milliseconds; `RealSpawner` starts
-//! the program itself with other words, without input and output.
+//! The machine as the traits of `roc_io`, `roc_disk` and `roc_book`, and the program's words (`words_given`). `RealFiles`
+//! reads files by their paths, one byte more than the limit at most; `Stream` is standard output or standard error, where a
+//! piece goes out whole before the next begins; `RealLink` is one UDP socket whose receives wait 20 milliseconds;
+//! `RealSpawner` starts the program itself with other words, without input and output; `RealDisk` has one file open and
+//! locked; `RealBook` writes one file anew.
 //!
-//! They count their faults, and tell nothing of what is held, taken, bound, sent, received, started and awaited: what
-//! the system does is beyond any clause, and is tested.
+//! They count their faults, and tell nothing of what is held, taken, bound, sent, received, started, awaited and left by a
+//! stop: what the system does is beyond any clause, and is tested.
 #![tactic(auto)]
 
+mod book;
 mod children;
+mod disk;
 mod files;
 mod link;
 mod streams;
 mod words;
 
+pub use book::RealBook;
 pub use children::RealSpawner;
+pub use disk::RealDisk;
 pub use files::RealFiles;
 pub use link::RealLink;
 pub use streams::Stream;
