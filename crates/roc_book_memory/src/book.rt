@@ -6,11 +6,9 @@ ghost use Rattle.roc_io.specs.Sink.{write_failed, Takes};
 ghost use Rattle.roc_io_memory.specs.Calls.{calls_failing, next_fails, called};
 ghost use Rattle.roc_book.specs.Book.{open_failed};
 
-use crate::calls::Calls;
-use crate::kept::Kept;
 use roc_book::{Book, Opened};
 use roc_io::Written;
-use roc_io_memory::FileName;
+use roc_io_memory::{Calls, FileName, Kept};
 use std::alloc::Global;
 use std::marker::Model;
 

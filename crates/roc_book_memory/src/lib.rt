@@ -6,7 +6,5 @@
 #![tactic(auto)]
 
 mod book;
-mod calls;
-mod kept;
 
 pub use book::{CalmBook, MemBook};

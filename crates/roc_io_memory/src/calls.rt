@@ -1,5 +1,5 @@
 // Which calls of an object in memory fail.
-ghost use Rattle.std.specs.Prelude.{◌≡◌, ◌≤◌};
+ghost use Rattle.std.specs.Prelude.{◌≡◌};
 ghost use Rattle.roc_io_memory.specs.Calls.{calls_failing, next_fails, called};
 ghost use Rattle.roc_io.specs.Cause.{HasCause};
 
@@ -47,6 +47,7 @@ impl Calls {
         fails
     }
 
+    /// How many calls failed.
     pub fn faults(&self) -> u64
         ensures { result ≡ self.now.faults }
     {

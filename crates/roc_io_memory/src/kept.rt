@@ -21,6 +21,7 @@ impl<T> Model for Kept<T> {
 }
 
 impl<T: Drop> Kept<T> {
+    /// An empty list.
     pub fn new(alloc: Global) -> Self
         ensures { result ≡ Some [] }
     {
@@ -30,6 +31,7 @@ impl<T: Drop> Kept<T> {
         }
     }
 
+    /// Adds an item, if there is memory for it.
     pub fn push(&mut self, item: T)
         ensures { Adds self.old self.new (item ∷ []) }
     {
@@ -61,6 +63,7 @@ impl<T: Drop> Kept<T> {
 }
 
 impl Kept<u8> {
+    /// Adds bytes, if there is memory for all of them.
     pub fn extend(&mut self, bytes: &[u8])
         ensures { Adds self.old self.new bytes.now }
     {
