@@ -1,7 +1,9 @@
-//! Tests of the machine's network and processes, which no clause tells anything of. It gives nothing to use.
+//! Tests of the machine's network, processes, disk and books, which no clause tells anything of. It gives nothing to use.
 #![tactic(auto)]
 
 #[cfg(test)]
 mod children;
+#[cfg(test)]
+mod disks;
 #[cfg(test)]
 mod links;
