@@ -1,3 +1,4 @@
 mod Taken
 mod Added
 mod Numbers
+mod Named

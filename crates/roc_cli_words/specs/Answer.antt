@@ -1,5 +1,5 @@
 -- What `ask` answers of words
-use Rattle.std.specs.Prelude.{◌≡◌, List, Some, Result, Ok, Err}
+use Rattle.std.specs.Prelude.{◌≡◌, ◌≢◌, List, [], ◌∷◌, Some, Result, Ok, Err}
 use Rattle.clap.specs.Words.{Text}
 use Rattle.roc_cli_words.specs.declared.value.ValueName.{ValueName}
 use Rattle.roc_cli_words.specs.declared.answer.WordsFault.{WordsFault}
@@ -33,3 +33,8 @@ abbrev pub RefusesWords : List Text → Result Ask WordsFault → Type 0
 RefusesWords words (Ok ask) = Unit {0}
 RefusesWords words (Err NoMemory) = Unit {0}
 RefusesWords words (Err fault) = AreNoCommand words
+
+-- a word that is not empty and does not begin with a dash (45)
+abbrev pub IsPlainWord : Text → Type 0
+IsPlainWord [] = ⊥
+IsPlainWord (b ∷ bs) = b ≢ 45

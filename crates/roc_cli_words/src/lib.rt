@@ -5,11 +5,14 @@
 //! answers in `specs/Answer.antt`: a command exactly if the words are those of one, unless memory runs out; `Refused`
 //! only if `clap` finds a fault, and then the words ask for no command; `Value` only if this value is the first that is
 //! wrong. Want of memory is never told as a refusal. What the text of a refusal says is told by no clause.
+//! That `check W`, `print W` and `replay W S` ask for just that, of all names that are not empty and do not begin with a dash,
+//! is a law ([`laws`]).
 //! `specs/Inner/` is of this crate alone.
 #![tactic(auto)]
 
 mod answer;
 mod command;
+pub mod laws;
 mod program;
 mod value;
 

@@ -1,0 +1,11 @@
+use Rattle.roc_cli_words.proofs.Named.{checks, prints, replays}
+use Rattle.roc_cli_words.proofs.laws.files_are_named.Goals as goal
+
+pub returns-clause-check : goal.returns-clause-check
+returns-clause-check c = checks
+
+pub returns-clause-print : goal.returns-clause-print
+returns-clause-print c = prints
+
+pub returns-clause-replay : goal.returns-clause-replay
+returns-clause-replay c = replays
