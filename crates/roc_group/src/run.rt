@@ -72,7 +72,8 @@ fn make_room(
     ensures statements { OnOk result (statements_in (pieces_at (pure.procedure procedure.now) pieces.now) ≤ out.new.spare) }
     ensures names { OnOk result (procedure.now.names ≤ out.new.names) }
     ensures spare { rows.old.spare ≤ rows.new.spare }
-    ensures succeeds { statements_in (pieces_at (pure.procedure procedure.now) pieces.now) ≤ rows.old.spare → statements_in (pieces_at (pure.procedure procedure.now) pieces.now) ≤ out.old.spare → procedure.now.names ≤ out.old.names → IsOk result }
+    ensures succeeds { statements_in (pieces_at (pure.procedure procedure.now) pieces.now) ≤ rows.old.spare
+        → statements_in (pieces_at (pure.procedure procedure.now) pieces.now) ≤ out.old.spare → procedure.now.names ≤ out.old.names → IsOk result }
 {
     let spare = rows.spare();
     let statements = count_statements(procedure, pieces)?;
