@@ -1,6 +1,7 @@
 //! Laws of the check of a text. Each is the contract of a function that does nothing.
-ghost use Rattle.std.specs.Prelude.{◌≡◌, ℕ, List};
+ghost use Rattle.std.specs.Prelude.{◌≡◌, ◌⊎◌, ℕ, List};
 ghost use Rattle.roc_program.specs.Program.{Workload};
+ghost use Rattle.roc_program.specs.WellFormed.{IsProgram};
 ghost use Rattle.roc_plan.specs.Groups.{Plan};
 ghost use Rattle.roc_plan.specs.Accepted.{IsAccepted};
 ghost use Rattle.roc_report.specs.Line.{Line};
@@ -17,10 +18,11 @@ pub fn plans_are_unique()
     merged_groups_are_one();
 }
 
-/// A program is refused by at most one line, and by none where it has a plan.
+/// A program is refused by at most one line, and by none where it has a plan. A well-formed program has a plan, or a line refuses it.
 pub fn refusals_are_unique()
     ensures line { (program : Workload) (one other : Line) → IsRefusedBy program one → IsRefusedBy program other → one ≡ other }
     ensures no_plan { (program : Workload) (plan : Plan) (line : Line) → IsPlanOf program plan → IsRefusedBy program line → ⊥ }
+    ensures one_of { (program : Workload) → IsProgram program → ((plan : Plan) × IsPlanOf program plan) ⊎ ((line : Line) × IsRefusedBy program line) }
 {}
 
 /// The plan of a text is accepted, so that the laws of accepted plans hold of it.
