@@ -44,17 +44,17 @@ module _ (plan : Plan) (shard : Shard) (old : ServerData) (before : Collected) (
     pub commit_ignored : (reason : Reason) → fault ≡ Some reason → Commits plan shard old old before before id edges facts (Ignored reason)
     commit_ignored reason e =
         let P : Option Reason → Type 0 = λ f. AreNew (IsDecided old.deps) (old.deps ++ unless_ignored f lists) [] in
-        let Q : Option Reason → Type 0 = λ f. Shows (after_commit plan old.decided [] s id edges facts f) (Ignored reason) s before before in
+        let Q : Option Reason → Type 0 = λ f. Shows (after_commit plan old.decided.ids [] s id edges facts f) (Ignored reason) s before before in
         record { ids = []; new_ids = subst P (sym e) (nothing_new old.deps); shown = subst Q (sym e) (ignored_shown reason) }
 
     module _ (new : ServerData) (mid : Collected) (news : List KnownList) (none : fault ≡ None) (is : news ≡ lists) (t : Teaches plan shard old new before mid news) where
       taught_here : Teaches plan shard old new before mid lists
       taught_here = subst (Teaches plan shard old new before mid) is t
 
-      made : (after : Collected) → Shows (after_commit plan old.decided taught_here.ids s id edges facts None) Done (state_of shard new false) before after → Commits plan shard old new before after id edges facts Done
+      made : (after : Collected) → Shows (after_commit plan old.decided.ids taught_here.ids s id edges facts None) Done (state_of shard new false) before after → Commits plan shard old new before after id edges facts Done
       made after shown =
           let P : Option Reason → Type 0 = λ f. AreNew (IsDecided old.deps) (old.deps ++ unless_ignored f lists) taught_here.ids in
-          let Q : Option Reason → Type 0 = λ f. Shows (after_commit plan old.decided taught_here.ids s id edges facts f) Done (state_of shard new false) before after in
+          let Q : Option Reason → Type 0 = λ f. Shows (after_commit plan old.decided.ids taught_here.ids s id edges facts f) Done (state_of shard new false) before after in
           record { ids = taught_here.ids; new_ids = subst P (sym none) taught_here.new_ids; shown = subst Q (sym none) shown }
 
       abbrev step : ServerStep
@@ -64,7 +64,7 @@ module _ (plan : Plan) (shard : Shard) (old : ServerData) (before : Collected) (
       with_own : Bool → ServerStep
       with_own b = record step { sends = step.sends ++ cond b (commitok_of plan step.state id ∷ []) [] }
 
-      pub commit_taught : is_listed is_txn old.decided id ≡ false → Commits plan shard old new before mid id edges facts Done
+      pub commit_taught : is_listed is_txn old.decided.ids id ≡ false → Commits plan shard old new before mid id edges facts Done
       commit_taught b =
           let h = taught_here.shown in
           made mid (record {
@@ -75,7 +75,7 @@ module _ (plan : Plan) (shard : Shard) (old : ServerData) (before : Collected) (
             ran = h.ran;
           })
 
-      pub commit_repeated : (after : Collected) → is_listed is_txn old.decided id ≡ true → HasSent mid after (commitok plan shard new.started id ∷ []) → Commits plan shard old new before after id edges facts Done
+      pub commit_repeated : (after : Collected) → is_listed is_txn old.decided.ids id ≡ true → HasSent mid after (commitok plan shard new.started id ∷ []) → Commits plan shard old new before after id edges facts Done
       commit_repeated after b sent =
           let h = taught_here.shown in
           let own : commitok plan shard new.started id ≡ commitok_of plan step.state id = ap (λ (st : ServerState). commitok_of plan st id) (sym h.keeps) in

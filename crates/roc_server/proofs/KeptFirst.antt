@@ -26,7 +26,7 @@ no_lacks = record { each = tt; some = tt; all = λ t h. absurd (false≢true h) 
 no_group_refs : IsIndexOf [] [] []
 no_group_refs c = refl
 
-pub nothing_sound : (k : ServerData) → k.started ≡ [] → k.deps ≡ [] → k.decided ≡ [] → k.ancestors ≡ [] → k.lacks ≡ [] → k.index ≡ [] → k.waits.waiting ≡ none_waiting → k.waits.fetches ≡ [] → IsConsistent k
+pub nothing_sound : (k : ServerData) → k.started ≡ [] → k.deps ≡ [] → k.decided.ids ≡ [] → k.ancestors ≡ [] → k.lacks ≡ [] → k.index ≡ [] → k.waits.waiting ≡ none_waiting → k.waits.fetches ≡ [] → IsConsistent k
 nothing_sound k started deps decided ancestors lacks index waiting open_none =
     let once : NoneTwice is_same_group [] = tt in
     record {
@@ -36,7 +36,7 @@ nothing_sound k started deps decided ancestors lacks index waiting open_none =
       decided_all = λ t d. absurd (none_decided t (subst (λ (ks : List KnownList). IsDecided ks t) deps d));
       rows = subst (AreRows k.deps) (sym ancestors) (λ t ids is. absurd (none-some ids is));
       lacks = subst (λ (ks : List KnownList). AreLacks ks k.lacks) (sym deps) (subst (AreLacks []) (sym lacks) no_lacks);
-      index = subst (λ es. IsIndexOf k.index k.decided es) (sym started) (subst (λ ids. IsIndexOf k.index ids []) (sym decided) (subst (λ i. IsIndexOf i [] []) (sym index) no_group_refs));
+      index = subst (λ es. IsIndexOf k.index k.decided.ids es) (sym started) (subst (λ ids. IsIndexOf k.index ids []) (sym decided) (subst (λ i. IsIndexOf i [] []) (sym index) no_group_refs));
       none_left = subst (λ (ks : List KnownList). AllByRecursion (λ d. is_left k d ≡ false) (flat_map (λ list. list.edges) ks)) (sym deps) tt;
       open_unknown = open_none ∙ sym (ap (λ (w : Waiting). filter (λ a. not (is_known k.deps a.id)) w.asked) waiting);
     }

@@ -34,7 +34,7 @@ module _ (plan : Plan) (shard : Shard) (k new : ServerData) (sound : IsConsisten
   abbrev IsStep : Msg → Handled → Type 0
   IsStep msg answer = IsStepFor plan s msg (state_of shard new false) before after answer
 
-  decided : AreDecided k.deps k.decided
+  decided : AreDecided k.deps k.decided.ids
   decided = record { rising = sound.decided_rising; sound = sound.decided_only; complete = sound.decided_all }
 
   -- of a message of a kind, by what was found
@@ -47,29 +47,29 @@ module _ (plan : Plan) (shard : Shard) (k new : ServerData) (sound : IsConsisten
       → IfOk r (StartTaken plan shard k new before after id (call proc group args2 inputs2)) → IfOk r (IsStep msg)
   start_comes (Err e) msg id proc group args inputs args2 inputs2 is same same2 h = tt
   start_comes (Ok answer) msg id proc group args inputs args2 inputs2 is same same2 h =
-      comes msg (Start id proc group args2 inputs2) (record { before = k.decided; reached = h.reached; decided = [] }) answer (is ∙ (λ i. Start id proc group (sym same i) (sym same2 i)))
+      comes msg (Start id proc group args2 inputs2) (record { before = k.decided.ids; reached = h.reached; decided = [] }) answer (is ∙ (λ i. Start id proc group (sym same i) (sym same2 i)))
       (record { before = decided; reached = h.led; decided = nothing_new k.deps }) h.shown
 
   pub commit_comes : {E : Type 0} (r : Result Handled E) (msg : Msg) (id : TxnId) (edges : List Dependency) (facts facts2 : List KnownList) → msg ≡ Commit id edges facts → facts2 ≡ facts
       → IfOk r (Commits plan shard k new before after id edges facts2) → IfOk r (IsStep msg)
   commit_comes (Err e) msg id edges facts facts2 is same h = tt
   commit_comes (Ok answer) msg id edges facts facts2 is same h =
-      comes msg (Commit id edges facts2) (record { before = k.decided; reached = []; decided = h.ids }) answer (is ∙ (λ i. Commit id edges (sym same i)))
+      comes msg (Commit id edges facts2) (record { before = k.decided.ids; reached = []; decided = h.ids }) answer (is ∙ (λ i. Commit id edges (sym same i)))
       (record { before = decided; reached = nothing_led k.deps; decided = h.new_ids }) h.shown
 
   pub known_comes : {E : Type 0} (r : Result Handled E) (msg : Msg) (id : TxnId) (edges : List Dependency) → msg ≡ Known id edges → IfOk r (Knows plan shard k new before after id edges) → IfOk r (IsStep msg)
   known_comes (Err e) msg id edges is h = tt
   known_comes (Ok answer) msg id edges is h =
-      comes msg (Known id edges) (record { before = k.decided; reached = []; decided = h.ids }) answer is (record { before = decided; reached = nothing_led k.deps; decided = h.new_ids }) h.shown
+      comes msg (Known id edges) (record { before = k.decided.ids; reached = []; decided = h.ids }) answer is (record { before = decided; reached = nothing_led k.deps; decided = h.new_ids }) h.shown
 
   pub fetch_comes : {E : Type 0} (r : Result Handled E) (msg : Msg) (id : TxnId) (asker : Shard) → msg ≡ Fetch id asker → IfOk r (λ answer. Shows (after_fetch s id asker) answer (state_of shard new false) before after) → IfOk r (IsStep msg)
   fetch_comes (Err e) msg id asker is h = tt
   fetch_comes (Ok answer) msg id asker is h =
-      comes msg (Fetch id asker) (record { before = k.decided; reached = []; decided = [] }) answer is (record { before = decided; reached = nothing_led k.deps; decided = nothing_new k.deps }) h
+      comes msg (Fetch id asker) (record { before = k.decided.ids; reached = []; decided = [] }) answer is (record { before = decided; reached = nothing_led k.deps; decided = nothing_new k.deps }) h
 
 module _ (plan : Plan) (shard : Shard) (k : ServerData) (sound : IsConsistent k) (out : Collected) where
   abbrev nothing : Findings
-  nothing = record { before = k.decided; reached = []; decided = [] }
+  nothing = record { before = k.decided.ids; reached = []; decided = [] }
 
   abbrev now : ServerState
   now = state_of shard k false

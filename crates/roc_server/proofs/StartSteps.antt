@@ -54,7 +54,7 @@ module _ (plan : Plan) (shard : Shard) (k : ServerData) (id : TxnId) (c : GroupC
 
   -- the entries of a new group, by the two tests
   abbrev by_tests : Option Reason → Option StartedGroup → List Dependency
-  by_tests f g = cond (is_none f && is_none g) (edges_for plan k.decided s id c) []
+  by_tests f g = cond (is_none f && is_none g) (edges_for plan k.decided.ids s id c) []
 
   -- it was ignored
   pub start_ignored : (out : Collected) (reason : Reason) → start_fault plan s id c ≡ Some reason → StartTaken plan shard k k out out id c (Ignored reason)
@@ -64,7 +64,7 @@ module _ (plan : Plan) (shard : Shard) (k : ServerData) (id : TxnId) (c : GroupC
       record {
         reached = [];
         led = subst P (ap (λ f. by_tests f (find_group id c.group k.started)) (sym judged)) (nothing_led k.deps);
-        shown = subst Q (ap (start_judged plan k.decided [] s id c) (sym judged)) (record { answers = refl; keeps = refl; sends = sym (append-nil out.messages); decides = sym (append-nil out.decided); ran = sym (append-nil out.ran) });
+        shown = subst Q (ap (start_judged plan k.decided.ids [] s id c) (sym judged)) (record { answers = refl; keeps = refl; sends = sym (append-nil out.messages); decides = sym (append-nil out.decided); ran = sym (append-nil out.ran) });
       }
 
   -- a group that is here was told again
@@ -76,7 +76,7 @@ module _ (plan : Plan) (shard : Shard) (k : ServerData) (id : TxnId) (c : GroupC
         reached = [];
         led = subst P (ap (λ g. by_tests None g) (sym there) ∙ ap (λ f. by_tests f (find_group id c.group k.started)) (sym judged)) (nothing_led k.deps);
         shown =
-            subst Q (ap (start_taken plan k.decided [] s id c) (sym there) ∙ ap (start_judged plan k.decided [] s id c) (sym judged))
+            subst Q (ap (start_taken plan k.decided.ids [] s id c) (sym there) ∙ ap (start_judged plan k.decided.ids [] s id c) (sym judged))
             (record { answers = refl; keeps = refl; sends = sent.0; decides = sent.1 ∙ sym (append-nil old.decided); ran = sent.2 ∙ sym (append-nil old.ran) });
       }
 
@@ -89,7 +89,7 @@ module _ (plan : Plan) (shard : Shard) (k : ServerData) (id : TxnId) (c : GroupC
       record {
         reached = h.reached;
         led = subst P (ap (λ g. by_tests None g) (sym absent) ∙ ap (λ f. by_tests f (find_group id c.group k.started)) (sym judged)) h.led;
-        shown = subst Q (ap (start_taken plan k.decided h.reached s id c) (sym absent) ∙ ap (start_judged plan k.decided h.reached s id c) (sym judged)) h.shown;
+        shown = subst Q (ap (start_taken plan k.decided.ids h.reached s id c) (sym absent) ∙ ap (start_judged plan k.decided.ids h.reached s id c) (sym judged)) h.shown;
       }
 
 -- ---- a start that is taken is not late
@@ -136,13 +136,13 @@ here_more : (id : TxnId) (xs : List StartedGroup) (e : StartedGroup) → is_here
 here_more id xs e h = let a = any_has (λ (x : StartedGroup). is_txn x.id id) xs h in has_any (λ (x : StartedGroup). is_txn x.id id) (xs ++ e ∷ []) a.0 (has_left a.0 xs (e ∷ []) a.1) a.2
 
 -- of one whose list is unknown nothing is decided
-not_decided : (k : ServerData) (id : TxnId) → IsConsistent k → is_known k.deps id ≡ false → is_listed is_txn k.decided id ≡ false
-not_decided k id sound unknown = unlisted_test is_txn k.decided id (λ l. false≢true (sym unknown ∙ (sound.decided_only id l).own))
+not_decided : (k : ServerData) (id : TxnId) → IsConsistent k → is_known k.deps id ≡ false → is_listed is_txn k.decided.ids id ≡ false
+not_decided k id sound unknown = unlisted_test is_txn k.decided.ids id (λ l. false≢true (sym unknown ∙ (sound.decided_only id l).own))
 
-pub start_sound : (k mid : ServerData) (after : List StartedGroup) (index : List (Cell × List GroupRef)) (e : StartedGroup) (id : TxnId) (group : ℕ) → IsConsistent k → mid.started ≡ k.started → mid.deps ≡ k.deps → mid.decided ≡ k.decided → mid.ancestors ≡ k.ancestors → mid.lacks ≡ k.lacks → mid.waits ≡ k.waits → after ≡ mid.started ++ e ∷ [] → e.id ≡ id → e.group ≡ group → find_group id group k.started ≡ None → mid.index ≡ k.index → is_known k.deps id ≡ false → IsAddedAt (group_ref_of e) e.cells mid.index index → IsConsistent (record mid { started = after; index = index })
+pub start_sound : (k mid : ServerData) (after : List StartedGroup) (index : List (Cell × List GroupRef)) (e : StartedGroup) (id : TxnId) (group : ℕ) → IsConsistent k → mid.started ≡ k.started → mid.deps ≡ k.deps → mid.decided.ids ≡ k.decided.ids → mid.ancestors ≡ k.ancestors → mid.lacks ≡ k.lacks → mid.waits ≡ k.waits → after ≡ mid.started ++ e ∷ [] → e.id ≡ id → e.group ≡ group → find_group id group k.started ≡ None → mid.index ≡ k.index → is_known k.deps id ≡ false → IsAddedAt (group_ref_of e) e.cells mid.index index → IsConsistent (record mid { started = after; index = index })
 start_sound k mid after index e id group sound started deps decided ancestors lacks waits is own number absent indexed unknown added =
     let Lists : List KnownList → List TxnId → Type 0 = λ ks ids. ((t : TxnId) → IsListed is_txn ids t → IsDecided ks t) × ((t : TxnId) → IsDecided ks t → IsListed is_txn ids t) in
-    let both : Lists mid.deps mid.decided = subst (λ ks. Lists ks mid.decided) (sym deps) (subst (λ ids. Lists k.deps ids) (sym decided) (sound.decided_only, sound.decided_all)) in
+    let both : Lists mid.deps mid.decided.ids = subst (λ ks. Lists ks mid.decided.ids) (sym deps) (subst (λ ids. Lists k.deps ids) (sym decided) (sound.decided_only, sound.decided_all)) in
     record {
       groups_once =
           new_once k.started after e (is ∙ ap (λ (v : List StartedGroup). v ++ e ∷ []) started)
@@ -153,10 +153,10 @@ start_sound k mid after index e id group sound started deps decided ancestors la
       rows = subst (λ ks. AreRows ks mid.ancestors) (sym deps) (subst (AreRows k.deps) (sym ancestors) sound.rows);
       lacks = subst (λ ks. AreLacks ks mid.lacks) (sym deps) (subst (AreLacks k.deps) (sym lacks) sound.lacks);
       index =
-          subst (IsIndexOf index mid.decided) (sym is)
-          (index_started mid.index index mid.decided mid.started e
-          (subst (λ es. IsIndexOf mid.index mid.decided es) (sym started) (subst (λ ids. IsIndexOf mid.index ids k.started) (sym decided) (subst (λ i. IsIndexOf i k.decided k.started) (sym indexed) sound.index)))
-          (subst (λ ids. is_listed is_txn ids e.id ≡ false) (sym decided) (subst (λ t. is_listed is_txn k.decided t ≡ false) (sym own) (not_decided k id sound unknown))) added);
+          subst (IsIndexOf index mid.decided.ids) (sym is)
+          (index_started mid.index index mid.decided.ids mid.started e
+          (subst (λ es. IsIndexOf mid.index mid.decided.ids es) (sym started) (subst (λ ids. IsIndexOf mid.index ids k.started) (sym decided) (subst (λ i. IsIndexOf i k.decided.ids k.started) (sym indexed) sound.index)))
+          (subst (λ ids. is_listed is_txn ids e.id ≡ false) (sym decided) (subst (λ t. is_listed is_txn k.decided.ids t ≡ false) (sym own) (not_decided k id sound unknown))) added);
       none_left =
           subst (λ ks. AllByRecursion (λ d. is_left (record mid { started = after; index = index }) d ≡ false) (flat_map (λ list. list.edges) ks)) (sym deps)
           (all_weaker (λ d. is_left k d ≡ false) (λ d. is_left (record mid { started = after; index = index }) d ≡ false)

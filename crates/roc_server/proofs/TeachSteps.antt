@@ -23,6 +23,7 @@ use Rattle.roc_await.specs.declared.waits.OpenFetch.{OpenFetch}
 use Rattle.roc_depgraph.specs.declared.known.KnownList.{KnownList}
 use Rattle.roc_depgraph.specs.Deps.{is_known, IsKnown, IsDecided}
 use Rattle.roc_depgraph.proofs.Laws.{decided_stays}
+use Rattle.roc_server_lists.specs.Decided.{DecidedIds}
 use Rattle.roc_server_lists.proofs.Added.{decided_test}
 use Rattle.roc_server_lists.proofs.Learning.{keeps_front}
 use Rattle.roc_msg.specs.Outbox.{Collected, HasSent}
@@ -50,10 +51,10 @@ module _ (plan : Plan) (shard : Shard) (old mid new : ServerData) (before first 
   abbrev all : List KnownList
   all = old.deps ++ news
 
-  chosen : AreNew (IsListed is_txn old.decided) all ids
+  chosen : AreNew (IsListed is_txn old.decided.ids) all ids
   chosen =
-      let P : List TxnId → Type 0 = λ d. AreNew (IsListed is_txn d) mid.deps ids in
-      let Q : List KnownList → Type 0 = λ k. AreNew (IsListed is_txn old.decided) k ids in
+      let P : DecidedIds → Type 0 = λ d. AreNew (IsListed is_txn d.ids) mid.deps ids in
+      let Q : List KnownList → Type 0 = λ k. AreNew (IsListed is_txn old.decided.ids) k ids in
       subst Q m.deps (subst P m.decided h.chosen)
 
   new_ids : AreNew (IsDecided old.deps) all ids
@@ -158,23 +159,23 @@ module _ (plan : Plan) (shard : Shard) (old mid new : ServerData) (before first 
   sound_after : IsConsistent new
   sound_after =
       let Decided : (t : TxnId) → List KnownList → Type 0 = λ t k. IsDecided k t in
-      let Listed : (t : TxnId) → List TxnId → Type 0 = λ t d. IsListed is_txn (d ++ ids) t in
+      let Listed : (t : TxnId) → DecidedIds → Type 0 = λ t d. IsListed is_txn (d.ids ++ ids) t in
       record {
         groups_once = once_same old.started new.started groups sound.groups_once;
         decided_rising = h.decided.rising;
         decided_only = λ t l.
             subst (Decided t) known_is
-            (elim (listed_either is_txn old.decided ids t (subst (Listed t) m.decided (h.decided.sound t l))) [ inl k ↦ stays t (sound.decided_only t k) | inr k ↦ (chosen.members.only t k.1).0 ]);
+            (elim (listed_either is_txn old.decided.ids ids t (subst (Listed t) m.decided (h.decided.sound t l))) [ inl k ↦ stays t (sound.decided_only t k) | inr k ↦ (chosen.members.only t k.1).0 ]);
         decided_all = λ t d.
             let now = subst (Decided t) (sym known_is) d in
             h.decided.complete t
             (subst (Listed t) (sym m.decided)
-            (elim (listed_or_not is_txn old.decided t) [ inl k ↦ listed_front is_txn old.decided ids t k | inr n ↦ listed_behind is_txn old.decided ids t (chosen.members.all t (now, n)) ]));
+            (elim (listed_or_not is_txn old.decided.ids t) [ inl k ↦ listed_front is_txn old.decided.ids ids t k | inr n ↦ listed_behind is_txn old.decided.ids ids t (chosen.members.all t (now, n)) ]));
         rows = h.least;
         lacks = subst (λ (ks : List KnownList). AreLacks ks new.lacks) (sym h.lists) (subst (AreLacks mid.deps) (sym h.lacks) m.lacks);
         index =
-            index_decided old.index new.index old.decided ids new.decided old.started new.started sound.index (subst (λ i. AreOut ids i new.index) m.index h.index) groups
-            (subst (λ d. (t : TxnId) → is_listed is_txn new.decided t ≡ (is_listed is_txn d t || is_listed is_txn ids t)) m.decided (decided_test mid.decided ids new.decided h.decided));
+            index_decided old.index new.index old.decided.ids ids new.decided.ids old.started new.started sound.index (subst (λ i. AreOut ids i new.index) m.index h.index) groups
+            (subst (λ (d : DecidedIds). (t : TxnId) → is_listed is_txn new.decided.ids t ≡ (is_listed is_txn d.ids t || is_listed is_txn ids t)) m.decided (decided_test mid.decided.ids ids new.decided.ids h.decided));
         none_left = subst (λ (ks : List KnownList). AllByRecursion (λ d. is_left new d ≡ false) (flat_map (λ list. list.edges) ks)) known_is left_after;
         open_unknown = open_now;
       }

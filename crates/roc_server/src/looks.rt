@@ -40,10 +40,10 @@ pub(crate) fn entries<L: Ledger>(
 ) -> Result<Edges, NoMemory>
     requires fits { AreGroupsOf plan.now kept.now.started }
     requires once { NoneTwice is_same_group kept.now.started }
-    requires index { IsIndexOf kept.now.index kept.now.decided kept.now.started }
+    requires index { IsIndexOf kept.now.index kept.now.decided.ids kept.now.started }
     ensures entries { IfOk result (λ edges. edges
-        ≡ united (map (edge_to starting.shard starting.immediate) (filter (conflicts_before plan.now kept.now.decided starting.id starting.immediate cells.now) kept.now.started))) }
-    ensures steps { steps.new ≤ steps.old + length (users plan.now kept.now.decided starting.immediate cells.now kept.now.started) }
+        ≡ united (map (edge_to starting.shard starting.immediate) (filter (conflicts_before plan.now kept.now.decided.ids starting.id starting.immediate cells.now) kept.now.started))) }
+    ensures steps { steps.new ≤ steps.old + length (users plan.now kept.now.decided.ids starting.immediate cells.now kept.now.started) }
 {
     let mut met = Vec::new(alloc);
     let started = &kept.started;

@@ -34,7 +34,7 @@ impl ServerData {
         ensures started { result.started ≡ [] }
         ensures deps { result.deps ≡ [] }
         ensures waits { result.waits.waiting ≡ none_waiting }
-        ensures decided { result.decided ≡ [] }
+        ensures decided { result.decided.ids ≡ [] }
         ensures sound { IsConsistent result }
     {
         ServerData {

@@ -87,9 +87,9 @@ fn edges_for<L: Ledger>(
     requires some { 0 < blank.parts }
     requires fits { AreGroupsOf plan.now kept.now.started }
     requires once { NoneTwice is_same_group kept.now.started }
-    requires index { IsIndexOf kept.now.index kept.now.decided kept.now.started }
+    requires index { IsIndexOf kept.now.index kept.now.decided.ids kept.now.started }
     ensures { IfOk result (λ edges. edges
-        ≡ united (map (edge_to starting.shard starting.immediate) (filter (conflicts_before plan.now kept.now.decided starting.id starting.immediate cells.now) kept.now.started))) }
+        ≡ united (map (edge_to starting.shard starting.immediate) (filter (conflicts_before plan.now kept.now.decided.ids starting.id starting.immediate cells.now) kept.now.started))) }
 {
     let mut steps = Steps::<L>::new(blank);
     entries(alloc, plan, kept, starting, cells, &mut steps)
@@ -106,7 +106,7 @@ pub(crate) fn new_group(
     requires call { IsCallOf plan.now (asked request) }
     requires fits { AreGroupsOf plan.now kept.old.started }
     requires once { NoneTwice is_same_group kept.old.started }
-    requires index { IsIndexOf kept.old.index kept.old.decided kept.old.started }
+    requires index { IsIndexOf kept.old.index kept.old.decided.ids kept.old.started }
     requires rows { AreRows kept.old.deps kept.old.ancestors }
     ensures { IfOk result (λ e. IsNewGroup plan.now shard kept.old kept.new request.id (asked request) e) }
 {

@@ -73,7 +73,7 @@ fn take_new(
 ) -> Result<(), NoMemory>
     requires fits { AreGroupsOf plan.now kept.old.started }
     requires once { NoneTwice is_same_group kept.old.started }
-    requires new { AreAllNew (IsListed is_txn kept.old.decided) kept.old.deps ids.now }
+    requires new { AreAllNew (IsListed is_txn kept.old.decided.ids) kept.old.deps ids.now }
     requires rows { AreRows kept.old.deps kept.old.ancestors }
     requires group_refs { AreGroupRefsOf kept.old.started kept.old.index }
     ensures { OnOk result (TakesNew plan.now shard kept.old kept.new outbox.old outbox.new) }
@@ -93,7 +93,7 @@ fn take_decided(
 ) -> Result<(), NoMemory>
     requires fits { AreGroupsOf plan.now kept.old.started }
     requires once { NoneTwice is_same_group kept.old.started }
-    requires chosen { AreNew (IsListed is_txn kept.old.decided) kept.old.deps ids.now }
+    requires chosen { AreNew (IsListed is_txn kept.old.decided.ids) kept.old.deps ids.now }
     requires rows { AreRows kept.old.deps kept.old.ancestors }
     requires group_refs { AreGroupRefsOf kept.old.started kept.old.index }
     ensures { OnOk result (DecidedTaken plan.now shard kept.old kept.new outbox.old outbox.new ids.now) }

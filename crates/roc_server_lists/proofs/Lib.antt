@@ -4,6 +4,7 @@ pub mod InOrder
 pub mod Learnable
 pub mod Learning
 mod NewsOfFacts
+mod RisingIds
 pub mod Skipped
 mod ToldFacts
 pub mod Unions

@@ -2,3 +2,5 @@ pub mod Carried
 pub mod Piggyback
 pub mod Asking
 pub mod New
+pub mod Decided
+pub mod Inner

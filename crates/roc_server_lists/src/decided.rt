@@ -1,7 +1,7 @@
 //! What is decided, and what is newly so.
-ghost use Rattle.std.specs.Prelude.{◌≡◌, ◌++◌, [], List, IfOk, OnOk};
-ghost use Rattle.std.specs.List.Sorted.{IsStrictlySortedBy};
-ghost use Rattle.roc_base.specs.TxnId.{is_txn, txn_cmp};
+ghost use Rattle.std.specs.Prelude.{◌≡◌, ◌+◌, ◌≤◌, ◌++◌, [], List, length, IsOk, IfOk, OnOk, OnErr};
+ghost use Rattle.std.specs.HashSet.{spare};
+ghost use Rattle.roc_base.specs.TxnId.{is_txn};
 ghost use Rattle.roc_base.specs.declared.id.TxnId.{TxnId as Id};
 ghost use Rattle.roc_depgraph.specs.Closure.{IsRisingListOf};
 ghost use Rattle.roc_sequence.specs.Places.{IsListed, is_listed};
@@ -11,62 +11,82 @@ use roc_base::{NoMemory, TxnId};
 use roc_component::order;
 use roc_depgraph::Deps;
 use std::alloc::Global;
-use std::collections::BTreeSet;
+use std::collections::HashSet;
 use std::marker::Model;
 
-/// The transactions that are decided, by id rising.
+/// The transactions that are decided.
 #[derive(Drop)]
 pub struct Decided {
-    ids: BTreeSet<TxnId>,
+    ids: HashSet<TxnId>,
 }
 
 impl Model for Decided {
-    ghost use Rattle.std.specs.Prelude.{List};
-    ghost use Rattle.std.specs.List.Sorted.{IsStrictlySortedBy};
-    ghost use Rattle.roc_base.specs.declared.id.TxnId.{TxnId};
-    ghost use Rattle.roc_base.specs.TxnId.{txn_cmp};
+    ghost use Rattle.std.specs.HashSet.{spare};
+    ghost use Rattle.roc_server_lists.specs.Decided.{DecidedIds};
+    ghost use Rattle.roc_server_lists.specs.Inner.Rising.{rising_ids};
 
-    ghost Value = { List TxnId };
+    ghost Value = { DecidedIds };
 
-    ghost view = { λ d. d.ids.keys };
-
-    ghost invariant = { λ d. IsStrictlySortedBy txn_cmp d.ids.keys };
+    ghost view = { λ d. record { ids = rising_ids d.ids.keys; spare = spare d.ids } };
 }
 
 impl Decided {
     /// None is decided. Takes no memory.
     pub fn new(alloc: Global) -> Decided
-        ensures { result ≡ [] }
+        ensures { result.ids ≡ [] }
     {
         Decided {
-            ids: BTreeSet::new(alloc),
+            ids: HashSet::new(alloc),
         }
     }
 
     /// Whether a transaction is decided. Takes no memory.
     pub fn contains(&self, id: TxnId) -> bool
-        ensures { result ≡ is_listed is_txn self.now id }
+        ensures { result ≡ is_listed is_txn self.now.ids id }
     {
         self.ids.contains(&id)
     }
 
-    /// These are decided too. `NoMemory` promises nothing of the others: a part of these may be among them.
+    /// These are decided too. `NoMemory` leaves all as it was, and comes only where `spare` is less than their number.
     pub fn take(&mut self, ids: &[TxnId]) -> Result<(), NoMemory>
-        ensures { OnOk result (IsRisingListOf (IsListed is_txn (self.old ++ ids.now)) self.new) }
+        ensures ok { OnOk result (IsRisingListOf (IsListed is_txn (self.old.ids ++ ids.now)) self.new.ids) }
+        ensures err { OnErr result (self.new.ids ≡ self.old.ids) }
+        ensures succeeds { length ids.now ≤ self.old.spare → IsOk result }
+        ensures spare { self.old.spare ≤ self.new.spare + length ids.now }
     {
-        add_all(&mut self.ids, ids)
+        self.ids.reserve(ids.len())?;
+        add_all(&mut self.ids, ids);
+        Ok(())
+    }
+
+    /// How many more can be taken without fail. Takes no memory.
+    pub fn spare(&self) -> usize
+        ensures { result ≡ self.now.spare }
+    {
+        self.ids.capacity() - self.ids.len()
+    }
+
+    /// Takes memory ahead, so that this many more can be taken without fail. What is decided stays, whether there is memory or not.
+    pub fn reserve(&mut self, more: usize) -> Result<(), NoMemory>
+        ensures ids { self.new.ids ≡ self.old.ids }
+        ensures ok { OnOk result (more ≤ self.new.spare) }
+        ensures succeeds { more ≤ self.old.spare → IsOk result }
+        ensures spare { self.old.spare ≤ self.new.spare }
+    {
+        self.ids.reserve(more)?;
+        Ok(())
     }
 }
 
-// Adds ids to a set.
-fn add_all(set: &mut BTreeSet<TxnId>, ids: &[TxnId]) -> Result<(), NoMemory>
-    ensures added { OnOk result ((u : Id) → is_listed is_txn set.new.keys u ≡ is_listed is_txn (set.old.keys ++ ids.now) u) }
-    ensures rising { IsStrictlySortedBy txn_cmp set.old.keys → IsStrictlySortedBy txn_cmp set.new.keys }
+// Adds ids to a set that has room for them.
+fn add_all(set: &mut HashSet<TxnId>, ids: &[TxnId])
+    requires { length ids.now ≤ spare set.old }
+    ensures added { (u : Id) → is_listed is_txn set.new.keys u ≡ is_listed is_txn (set.old.keys ++ ids.now) u }
+    ensures spare { spare set.old ≤ spare set.new + length ids.now }
 {
     for id in ids {
-        set.insert(*id)?;
+        set.insert(*id).unwrap();
     }
-    Ok(())
 }
 
 /// What is decided and was not before, in component order. `NoMemory` comes where there is none for the order.

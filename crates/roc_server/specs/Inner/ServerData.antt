@@ -39,12 +39,12 @@ is_left k d = not (is_known k.deps d.from) && (not (is_here d.from k.started) &&
 -- exactly what was asked for and is not known
 pub record IsConsistent (k : ServerData) : Type 0 where
   pub groups_once : NoneTwice is_same_group k.started
-  pub decided_rising : IsStrictlySortedBy txn_cmp k.decided
-  pub decided_only : (t : TxnId) → IsListed is_txn k.decided t → IsDecided k.deps t
-  pub decided_all : (t : TxnId) → IsDecided k.deps t → IsListed is_txn k.decided t
+  pub decided_rising : IsStrictlySortedBy txn_cmp k.decided.ids
+  pub decided_only : (t : TxnId) → IsListed is_txn k.decided.ids t → IsDecided k.deps t
+  pub decided_all : (t : TxnId) → IsDecided k.deps t → IsListed is_txn k.decided.ids t
   pub rows : AreRows k.deps k.ancestors
   pub lacks : AreLacks k.deps k.lacks
-  pub index : IsIndexOf k.index k.decided k.started
+  pub index : IsIndexOf k.index k.decided.ids k.started
   pub none_left : AllByRecursion (λ d. is_left k d ≡ false) (flat_map (λ list. list.edges) k.deps)
   pub open_unknown : k.waits.fetches ≡ filter (λ a. not (is_known k.deps a.id)) k.waits.waiting.asked
 

@@ -44,12 +44,12 @@ pub record KnowsMore (shard : Shard) (old new : ServerData) (before after : Coll
 
 -- these are taken, with what is kept and sent before and after
 pub record DecidedTaken (plan : Plan) (shard : Shard) (old new : ServerData) (before after : Collected) (ids : List TxnId) : Type 0 where
-  pub chosen : AreNew (IsListed is_txn old.decided) old.deps ids
+  pub chosen : AreNew (IsListed is_txn old.decided.ids) old.deps ids
   pub lists : new.deps ≡ old.deps
   pub waits : new.waits ≡ old.waits
   pub lacks : new.lacks ≡ old.lacks
   pub least : AreRows new.deps new.ancestors
-  pub decided : IsRisingListOf (IsListed is_txn (old.decided ++ ids)) new.decided
+  pub decided : IsRisingListOf (IsListed is_txn (old.decided.ids ++ ids)) new.decided.ids
   pub index : AreOut ids old.index new.index
   pub runs : (s : ServerState) → take_all plan (holding s old.rows.store old.started) ids ≡ holding s new.rows.store new.started
   pub groups : AreSameGroups old.started new.started
@@ -72,7 +72,7 @@ pub record Teaches (plan : Plan) (shard : Shard) (old new : ServerData) (before 
 pub record Commits (plan : Plan) (shard : Shard) (old new : ServerData) (before after : Collected) (id : TxnId) (edges : List Dependency) (facts : List KnownList) (answer : Handled) : Type 0 where
   pub ids : List TxnId
   pub new_ids : AreNew (IsDecided old.deps) (old.deps ++ unless_ignored (commit_fault (state_of shard old false) id edges facts) (unknown_of old.deps (carried id edges facts))) ids
-  pub shown : Shows (after_commit plan old.decided ids (state_of shard old false) id edges facts (commit_fault (state_of shard old false) id edges facts)) answer
+  pub shown : Shows (after_commit plan old.decided.ids ids (state_of shard old false) id edges facts (commit_fault (state_of shard old false) id edges facts)) answer
       (state_of shard new false) before after
 
 -- a list that was asked for was taken, or ignored

@@ -17,7 +17,7 @@ returns c =
     let s : ServerState = state_of c.args.shard k false in
     let immediate : c.is_immediate-immediate.result ≡ is_immediate_group plan (asked r) = c.is_immediate-immediate.ensures in
     let cells : c.as_slice.result.now ≡ group_uses plan (asked r) k.rows.store = c.as_slice.ensures ∙ c.in_ok-bound.ensures.cells in
-    let edges : c.in_ok-edges.edges ≡ edges_for plan k.decided s r.id (asked r) = c.in_ok-edges.ensures ∙ (λ i. entries_for plan k.decided s r.id (immediate i) (cells i)) in
+    let edges : c.in_ok-edges.edges ≡ edges_for plan k.decided.ids s r.id (asked r) = c.in_ok-edges.ensures ∙ (λ i. entries_for plan k.decided.ids s r.id (immediate i) (cells i)) in
     record {
       reached = f.reached;
       led = subst (λ (es : List Dependency). AreLedTo k.deps es f.reached) (c.as_slice-2.ensures.entries ∙ edges) f.led;

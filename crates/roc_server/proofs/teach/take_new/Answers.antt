@@ -7,8 +7,8 @@ use Rattle.roc_server.proofs.teach.take_new.Goals as goal
 
 pub take_decided-requires-clause-chosen : goal.take_decided-requires-clause-chosen
 take_decided-requires-clause-chosen c =
-    let P : List TxnId → Type 0 = AreNew (IsListed is_txn c.args.kept.now.decided) c.args.kept.now.deps in
-    subst P (sym c.deref.ensures.value) (c.in_ok-ids.ensures c.args.kept.now.decided c.requires.new)
+    let P : List TxnId → Type 0 = AreNew (IsListed is_txn c.args.kept.now.decided.ids) c.args.kept.now.deps in
+    subst P (sym c.deref.ensures.value) (c.in_ok-ids.ensures c.args.kept.now.decided.ids c.requires.new)
 
 with_ids : {A : Type 0} {E : Type 0} (P : A → Type 0) (r : Result (Unit {0}) E) (a : A) → OnOk r (P a) → OnOk r ((x : A) × P x)
 with_ids P (Ok u) a h = (a, h)

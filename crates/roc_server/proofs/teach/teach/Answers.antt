@@ -11,6 +11,7 @@ use Rattle.roc_sequence.specs.Places.{IsListed}
 use Rattle.roc_base.specs.declared.id.TxnId.{TxnId}
 use Rattle.roc_base.specs.TxnId.{is_txn}
 use Rattle.roc_depgraph.specs.declared.known.KnownList.{KnownList}
+use Rattle.roc_server_lists.specs.Decided.{DecidedIds}
 use Rattle.roc_server_lists.specs.New.{AreAllNew}
 use Rattle.roc_server.specs.Inner.Indexed.{AreGroupRefsOf}
 use Rattle.roc_server.proofs.IndexSteps.{indexed_group_refs}
@@ -34,8 +35,8 @@ take_new-requires-clause-once c =
 pub take_new-requires-clause-new : goal.take_new-requires-clause-new
 take_new-requires-clause-new c =
     let m = c.in_ok-asks.ensures c.args.shard in
-    let New : List KnownList → List TxnId → Type 0 = λ ks taken. AreAllNew (IsListed is_txn taken) ks c.in_ok-asks.ids.items in
-    subst (AreAllNew (IsListed is_txn c.know_more.new.kept.decided) c.know_more.new.kept.deps) (sym c.deref.ensures.value)
+    let New : List KnownList → DecidedIds → Type 0 = λ ks taken. AreAllNew (IsListed is_txn taken.ids) ks c.in_ok-asks.ids.items in
+    subst (AreAllNew (IsListed is_txn c.know_more.new.kept.decided.ids) c.know_more.new.kept.deps) (sym c.deref.ensures.value)
     (subst (λ (ks : List KnownList). New ks c.know_more.new.kept.decided) (sym m.deps)
     (subst (New (c.args.kept.now.deps ++ c.args.news.now)) (sym m.decided) (not_taken c.args.kept.now (c.args.kept.now.deps ++ c.args.news.now) c.in_ok-asks.ids.items c.requires.sound m.news_decide)))
 
@@ -50,7 +51,7 @@ pub take_new-requires-clause-group_refs : goal.take_new-requires-clause-group_re
 take_new-requires-clause-group_refs c =
     let m = c.in_ok-asks.ensures c.args.shard in
     let sound = c.requires.sound in
-    subst (λ es. AreGroupRefsOf es c.know_more.new.kept.index) (sym m.started) (subst (AreGroupRefsOf c.args.kept.now.started) (sym m.index) (indexed_group_refs c.args.kept.now.index c.args.kept.now.decided c.args.kept.now.started sound.index))
+    subst (λ es. AreGroupRefsOf es c.know_more.new.kept.index) (sym m.started) (subst (AreGroupRefsOf c.args.kept.now.started) (sym m.index) (indexed_group_refs c.args.kept.now.index c.args.kept.now.decided.ids c.args.kept.now.started sound.index))
 
 pub returns : goal.returns
 returns c =

@@ -10,7 +10,7 @@ use Rattle.roc_server.specs.State.{ServerState}
 use Rattle.roc_server.specs.Inner.ServerData.{state_of, IsConsistent}
 use Rattle.roc_server.proofs.server.Server.entries.Goals as goal
 
-kept_decided : (k : ServerData) → IsConsistent k → AreDecided k.deps k.decided
+kept_decided : (k : ServerData) → IsConsistent k → AreDecided k.deps k.decided.ids
 kept_decided k sound = record { rising = sound.decided_rising; sound = sound.decided_only; complete = sound.decided_all }
 
 -- what holds of the decided ones as they are kept holds of any list of exactly these
@@ -26,7 +26,7 @@ returns-clause-entries g c =
     let now = state_of c.self.inside.shard k c.self.inside.stopped in
     let P : ServerState → Bool → Type 0 = λ s b. IfOk c.entries.result (λ e. (left_out : List TxnId) → AreDecided s.lists.known left_out → e ≡ entries_for plan left_out s c.args.id b cells) in
     let here : P now c.is_immediate.result =
-    for_each c.entries.result (λ left_out. entries_for plan left_out now c.args.id c.is_immediate.result cells) k.deps k.decided (kept_decided k c.self.invariant) c.entries.ensures.entries in
+    for_each c.entries.result (λ left_out. entries_for plan left_out now c.args.id c.is_immediate.result cells) k.deps k.decided.ids (kept_decided k c.self.invariant) c.entries.ensures.entries in
     subst (λ s. P s (is_immediate c.args.class)) c.self.view_is (subst (P now) c.is_immediate.ensures here)
 
 pub returns-clause-steps : goal.returns-clause-steps
@@ -37,5 +37,5 @@ returns-clause-steps g c =
     let now = state_of c.self.inside.shard k c.self.inside.stopped in
     let Bound : ServerState → Bool → List TxnId → Type 0 = λ s b left_out. c.entries.new.steps ≤ c.args.steps.now + length (users plan left_out b cells s.started) in
     let P : ServerState → Bool → Type 0 = λ s b. (left_out : List TxnId) → AreDecided s.lists.known left_out → Bound s b left_out in
-    let here : P now c.is_immediate.result = λ left_out p. subst (Bound now c.is_immediate.result) (rising_one (IsDecided k.deps) k.decided left_out (kept_decided k c.self.invariant) p) c.entries.ensures.steps in
+    let here : P now c.is_immediate.result = λ left_out p. subst (Bound now c.is_immediate.result) (rising_one (IsDecided k.deps) k.decided.ids left_out (kept_decided k c.self.invariant) p) c.entries.ensures.steps in
     subst (λ s. P s (is_immediate c.args.class)) c.self.view_is (subst (P now) c.is_immediate.ensures here)
