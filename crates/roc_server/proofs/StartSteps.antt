@@ -32,7 +32,7 @@ use Rattle.roc_base.proofs.Ids.{none_rise}
 use Rattle.roc_sequence.proofs.Holds.{all_weaker, any_has, has_any}
 use Rattle.roc_sequence.proofs.Members.{has_left}
 use Rattle.roc_await.specs.Waits.{Awaited, was_asked_for}
-use Rattle.roc_server_ancestors.specs.Least.{AreRows}
+use Rattle.roc_server_ancestors.specs.Least.{AreRows, HeldRows}
 use Rattle.roc_await.specs.Lacks.{AreLacks}
 use Rattle.roc_server_lists.proofs.Skipped.{left_still}
 use Rattle.roc_server.specs.Inner.Indexed.{group_ref_of, IsIndexOf, IsAddedAt}
@@ -150,7 +150,7 @@ start_sound k mid after index e id group sound started deps decided ancestors la
       decided_rising = subst (IsStrictlySortedBy txn_cmp) (sym decided) sound.decided_rising;
       decided_only = both.0;
       decided_all = both.1;
-      rows = subst (λ ks. AreRows ks mid.ancestors) (sym deps) (subst (AreRows k.deps) (sym ancestors) sound.rows);
+      rows = subst (λ ks. AreRows ks mid.ancestors.rows) (sym deps) (subst (λ (h : HeldRows). AreRows k.deps h.rows) (sym ancestors) sound.rows);
       lacks = subst (λ ks. AreLacks ks mid.lacks) (sym deps) (subst (AreLacks k.deps) (sym lacks) sound.lacks);
       index =
           subst (IsIndexOf index mid.decided.ids) (sym is)

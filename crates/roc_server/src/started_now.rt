@@ -107,7 +107,7 @@ pub(crate) fn new_group(
     requires fits { AreGroupsOf plan.now kept.old.started }
     requires once { NoneTwice is_same_group kept.old.started }
     requires index { IsIndexOf kept.old.index kept.old.decided.ids kept.old.started }
-    requires rows { AreRows kept.old.deps kept.old.ancestors }
+    requires rows { AreRows kept.old.deps kept.old.ancestors.rows }
     ensures { IfOk result (λ e. IsNewGroup plan.now shard kept.old kept.new request.id (asked request) e) }
 {
     let Request {

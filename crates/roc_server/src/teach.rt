@@ -74,7 +74,7 @@ fn take_new(
     requires fits { AreGroupsOf plan.now kept.old.started }
     requires once { NoneTwice is_same_group kept.old.started }
     requires new { AreAllNew (IsListed is_txn kept.old.decided.ids) kept.old.deps ids.now }
-    requires rows { AreRows kept.old.deps kept.old.ancestors }
+    requires rows { AreRows kept.old.deps kept.old.ancestors.rows }
     requires group_refs { AreGroupRefsOf kept.old.started kept.old.index }
     ensures { OnOk result (TakesNew plan.now shard kept.old kept.new outbox.old outbox.new) }
 {
@@ -94,7 +94,7 @@ fn take_decided(
     requires fits { AreGroupsOf plan.now kept.old.started }
     requires once { NoneTwice is_same_group kept.old.started }
     requires chosen { AreNew (IsListed is_txn kept.old.decided.ids) kept.old.deps ids.now }
-    requires rows { AreRows kept.old.deps kept.old.ancestors }
+    requires rows { AreRows kept.old.deps kept.old.ancestors.rows }
     requires group_refs { AreGroupRefsOf kept.old.started kept.old.index }
     ensures { OnOk result (DecidedTaken plan.now shard kept.old kept.new outbox.old outbox.new ids.now) }
 {

@@ -1,19 +1,19 @@
 -- What is kept of decided transactions
 use Rattle.std.proofs.Common.{◌≡◌, Bool, true, false, cond, List, [], ◌∷◌, ◌++◌, Option, Some, refl, sym, ap, ◌∙◌, subst, inl, inr, unwrap_or}
-use Rattle.std.specs.BTreeMap.{is_at}
 use Rattle.std.specs.List.{list_any, AllByRecursion}
 use Rattle.roc_sequence.specs.Places.{IsListed}
 use Rattle.roc_sequence.proofs.Holds.{has_all}
 use Rattle.roc_sequence.proofs.Appended.{listed_front, listed_behind, listed_either}
 use Rattle.roc_base.specs.declared.id.TxnId.{TxnId}
-use Rattle.roc_base.specs.TxnId.{is_txn, txn_cmp}
+use Rattle.roc_base.specs.TxnId.{is_txn}
+use Rattle.roc_base.specs.Equalities.{is_txn-true}
 use Rattle.roc_base.specs.Edge.{Dependency}
 use Rattle.roc_depgraph.specs.declared.known.KnownList.{KnownList}
 use Rattle.roc_depgraph.specs.Deps.{Precedes, IsDecided, list_of}
 use Rattle.roc_depgraph.specs.Reach.{Reaches, direct, through, ReachesOrIs}
 use Rattle.roc_depgraph.specs.Visits.{IsNamed}
 use Rattle.roc_depgraph.proofs.Laws.{KeepsLists, ancestor_stays, ancestor_back, decided_stays}
-use Rattle.roc_depgraph.proofs.Listed.{is_eq-true, listed_has, has_listed, listed_one, in_one}
+use Rattle.roc_depgraph.proofs.Listed.{listed_has, has_listed, listed_one, in_one}
 use Rattle.roc_component.specs.Components.{among, AreComponentsOf, Mates}
 use Rattle.roc_component.proofs.Relations.{mates_sym, mates_reach, mates_weaker, reach_trans}
 use Rattle.roc_server_ancestors.specs.Led.{IsLedTo, IsKnownAndLedTo}
@@ -43,14 +43,14 @@ module _ (known more : List KnownList) (keeps : KeepsLists known more) where
   rows_stay rows right t ids is = row_stays t ids (right t ids is)
 
 -- one more is kept
-pub row_kept : (known : List KnownList) (rows rows2 : List (TxnId × List TxnId)) (id : TxnId) (ids : List TxnId) → AreRows known rows → IsRow known id ids → ((q : TxnId) → row_of q rows2 ≡ cond (is_at (txn_cmp id) q) (Some ids) (row_of q rows)) → AreRows known rows2
-row_kept known rows rows2 id ids right row at t found is = go (is_at (txn_cmp id) t) refl
+pub row_kept : (known : List KnownList) (rows rows2 : List (TxnId × List TxnId)) (id : TxnId) (ids : List TxnId) → AreRows known rows → IsRow known id ids → ((q : TxnId) → row_of q rows2 ≡ cond (is_txn id q) (Some ids) (row_of q rows)) → AreRows known rows2
+row_kept known rows rows2 id ids right row at t found is = go (is_txn id t) refl
   where
-    go : (b : Bool) → is_at (txn_cmp id) t ≡ b → IsRow known t found
+    go : (b : Bool) → is_txn id t ≡ b → IsRow known t found
     go true e =
         let same : Some ids ≡ Some found = sym (at t ∙ ap (λ (b : Bool). cond b (Some ids) (row_of t rows)) e) ∙ is in
         let ids_are : ids ≡ found = cc in
-        subst (λ v. IsRow known v found) (is_eq-true id t e) (subst (IsRow known id) ids_are row)
+        subst (λ v. IsRow known v found) (is_txn-true id t e) (subst (IsRow known id) ids_are row)
     go false e = right t found (sym (at t ∙ ap (λ (b : Bool). cond b (Some ids) (row_of t rows)) e) ∙ is)
 
 -- a decided transaction, with what its list leads to

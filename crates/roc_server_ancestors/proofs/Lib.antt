@@ -4,3 +4,6 @@ pub mod Leads
 pub mod KeptRows
 pub mod TakenIn
 pub mod Told
+mod FoundRows
+mod Readied
+mod Moving

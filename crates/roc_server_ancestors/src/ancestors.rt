@@ -1,6 +1,7 @@
 //! The least of decided transactions and their ancestors.
-ghost use Rattle.std.specs.Prelude.{◌≡◌, ◌++◌, ◌∷◌, [], List, IfOk, OnOk};
-ghost use Rattle.std.specs.List.{AllByRecursion};
+ghost use Rattle.std.specs.Prelude.{◌≡◌, ◌+◌, ◌≤◌, ◌++◌, ◌∷◌, [], List, length, IsOk, IfOk, OnOk, OnErr};
+ghost use Rattle.std.specs.HashMap.{spare};
+ghost use Rattle.std.specs.List.{AllByRecursion, IsDistinct};
 ghost use Rattle.roc_base.specs.declared.id.TxnId.{TxnId as Id};
 ghost use Rattle.roc_base.specs.TxnId.{is_txn};
 ghost use Rattle.roc_depgraph.specs.declared.known.KnownList.{KnownList as Known};
@@ -8,8 +9,8 @@ ghost use Rattle.roc_depgraph.specs.Deps.{IsDecided, Precedes};
 ghost use Rattle.roc_depgraph.specs.Reach.{ReachesOrIs};
 ghost use Rattle.roc_sequence.specs.Places.{IsListed};
 ghost use Rattle.roc_server_ancestors.specs.Led.{IsKnownAndLedTo};
-ghost use Rattle.roc_server_ancestors.specs.Least.{AreLeast, AreRows, IsRow, KeepsRows};
-ghost use Rattle.roc_server_ancestors.specs.Inner.Met.{AreDecidedMates, KeepAllRows};
+ghost use Rattle.roc_server_ancestors.specs.Least.{AreAllRight, AreLeast, AreNextRows, AreRows, AreSameRows, ids_of, IsRow, KeepsRows};
+ghost use Rattle.roc_server_ancestors.specs.Inner.Met.{AreDecidedMates, KeepAllRows, Moves};
 
 use crate::search::met_from;
 use roc_base::{Edge, NoMemory, TxnId};
@@ -17,7 +18,7 @@ use roc_component::components;
 use roc_depgraph::Deps;
 use roc_sequence::Sequence;
 use std::alloc::Global;
-use std::collections::BTreeMap;
+use std::collections::HashMap;
 use std::marker::Model;
 
 /// How many of a transaction and its ancestors are kept.
@@ -27,93 +28,193 @@ const MOST_LEAST: usize = 16;
 #[derive(Drop)]
 pub struct Ancestors {
     alloc: Global,
-    rows: BTreeMap<TxnId, Sequence<TxnId>>,
+    rows: HashMap<TxnId, Sequence<TxnId>>,
 }
 
 impl Model for Ancestors {
+    ghost use Rattle.std.specs.HashMap.{spare};
+    ghost use Rattle.roc_server_ancestors.specs.Least.{HeldRows};
+
+    ghost Value = { HeldRows };
+
+    ghost view = { λ a. record { rows = a.rows.entries; spare = spare a.rows } };
+}
+
+/// The least of more decided transactions and their ancestors, before they are kept.
+#[derive(Drop)]
+pub struct NextRows {
+    rows: Vec<(TxnId, Sequence<TxnId>)>,
+}
+
+impl Model for NextRows {
     ghost use Rattle.std.specs.Prelude.{List};
     ghost use Rattle.roc_base.specs.declared.id.TxnId.{TxnId};
 
     ghost Value = { List (TxnId × List TxnId) };
 
-    ghost view = { λ a. a.rows.entries };
+    ghost view = { λ n. n.rows.items };
+}
+
+impl NextRows {
+    ghost use Rattle.std.specs.Prelude.{◌≡◌, length};
+
+    /// How many transactions these are. Takes no memory.
+    pub fn len(&self) -> usize
+        ensures { result ≡ length self.now }
+    {
+        self.rows.len()
+    }
 }
 
 impl Ancestors {
     /// Nothing is kept. Takes no memory.
     pub fn new(alloc: Global) -> Ancestors
-        ensures { result ≡ [] }
+        ensures { result.rows ≡ [] }
     {
         Ancestors {
             alloc,
-            rows: BTreeMap::new(alloc),
+            rows: HashMap::new(alloc),
         }
     }
 
     /// The least of all that entries lead to and whose lists are known: sixteen at most, rising.
     pub fn led_to(&self, deps: &Deps, edges: &[Edge]) -> Result<Vec<TxnId>, NoMemory>
-        requires { AreRows deps.now self.now }
+        requires { AreRows deps.now self.now.rows }
         ensures { IfOk result (λ ids. AreLeast (IsKnownAndLedTo deps.now edges.now) ids.items) }
     {
-        let met = met_from(self.alloc, &self.rows, deps, edges)?;
+        let none = HashMap::new(self.alloc);
+        let met = met_from(self.alloc, &self.rows, &none, deps, edges)?;
         let ids = least(self.alloc, &met)?;
         Ok(ids)
     }
 
-    /// Keeps the least of each of these decided transactions and its ancestors, beside what is kept. `NoMemory` promises nothing of what is kept.
-    pub fn keep(&mut self, deps: &Deps, ids: &[TxnId]) -> Result<(), NoMemory>
-        requires rows { AreRows deps.now self.old }
+    /// The least of each of these decided transactions and its ancestors. `take` keeps it.
+    pub fn ready(&self, deps: &Deps, ids: &[TxnId]) -> Result<NextRows, NoMemory>
+        requires rows { AreRows deps.now self.now.rows }
         requires decided { (t : Id) → IsListed is_txn ids.now t → IsDecided deps.now t }
-        ensures rows { OnOk result (AreRows deps.now self.new) }
-        ensures kept { OnOk result (KeepsRows ids.now self.old self.new) }
+        ensures { IfOk result (λ next. AreNextRows deps.now ids.now next) }
     {
         let lists = components(self.alloc, deps, ids)?;
-        keep_all(self.alloc, &mut self.rows, deps, &lists)?;
+        let mut made = HashMap::new(self.alloc);
+        make_all(self.alloc, &self.rows, &mut made, deps, &lists)?;
+        let rows = listed(self.alloc, made)?;
+        Ok(NextRows { rows })
+    }
+
+    /// Keeps what `ready` made, beside what is kept. `NoMemory` leaves all as it was, and comes only where `spare` is less than its
+    /// length.
+    pub fn take(&mut self, next: NextRows) -> Result<(), NoMemory>
+        ensures rows { (known : List Known) → AreRows known self.old.rows → AreAllRight known next → OnOk result (AreRows known self.new.rows) }
+        ensures kept { OnOk result (KeepsRows (ids_of next) self.old.rows self.new.rows) }
+        ensures err { OnErr result (AreSameRows self.old.rows self.new.rows) }
+        ensures succeeds { length next ≤ self.old.spare → IsOk result }
+        ensures spare { self.old.spare ≤ self.new.spare + length next }
+    {
+        let NextRows { rows } = next;
+        self.rows.reserve(rows.len())?;
+        move_all(&mut self.rows, rows);
+        Ok(())
+    }
+
+    /// Keeps the least of each of these decided transactions and its ancestors, beside what is kept. `NoMemory` leaves all as it was.
+    pub fn keep(&mut self, deps: &Deps, ids: &[TxnId]) -> Result<(), NoMemory>
+        requires rows { AreRows deps.now self.old.rows }
+        requires decided { (t : Id) → IsListed is_txn ids.now t → IsDecided deps.now t }
+        ensures rows { OnOk result (AreRows deps.now self.new.rows) }
+        ensures kept { OnOk result (KeepsRows ids.now self.old.rows self.new.rows) }
+        ensures err { OnErr result (AreSameRows self.old.rows self.new.rows) }
+    {
+        let next = self.ready(deps, ids)?;
+        self.take(next)
+    }
+
+    /// Of how many more transactions something can be kept without fail. Takes no memory.
+    pub fn spare(&self) -> usize
+        ensures { result ≡ self.now.spare }
+    {
+        self.rows.capacity() - self.rows.len()
+    }
+
+    /// Takes memory ahead, so that something can be kept of this many more transactions without fail. What is kept stays, whether
+    /// there is memory or not.
+    pub fn reserve(&mut self, more: usize) -> Result<(), NoMemory>
+        ensures rows { AreSameRows self.old.rows self.new.rows }
+        ensures ok { OnOk result (more ≤ self.new.spare) }
+        ensures succeeds { more ≤ self.old.spare → IsOk result }
+        ensures spare { self.old.spare ≤ self.new.spare }
+    {
+        self.rows.reserve(more)?;
         Ok(())
     }
 }
 
-// Keeps the least of each transaction of these lists, each of one component.
-fn keep_all(
+// The rows of a table, in a list.
+fn listed(
     alloc: Global,
-    rows: &mut BTreeMap<TxnId, Sequence<TxnId>>,
+    made: HashMap<TxnId, Sequence<TxnId>>,
+) -> Result<Vec<(TxnId, Sequence<TxnId>)>, NoMemory>
+    ensures { IfOk result (λ rows. (rows.items ≡ made.entries) × IsDistinct is_txn (ids_of made.entries)) }
+{
+    Ok(made.into_iter().collect::<Vec<_>>(alloc)?)
+}
+
+// Moves rows into a table that has room for them.
+fn move_all(rows: &mut HashMap<TxnId, Sequence<TxnId>>, mut next: Vec<(TxnId, Sequence<TxnId>)>)
+    requires { length next.items ≤ spare rows.old }
+    ensures moves { Moves next.items rows.old.entries rows.new.entries }
+    ensures spare { spare rows.old ≤ spare rows.new + length next.items }
+{
+    'moves: while let Some((id, least)) = next.pop() {
+        let put: Result<_, _> = rows.insert(id, least);
+        put.unwrap();
+    }
+}
+
+// Makes the rows of each transaction of these lists, each of one component.
+fn make_all(
+    alloc: Global,
+    rows: &HashMap<TxnId, Sequence<TxnId>>,
+    made: &mut HashMap<TxnId, Sequence<TxnId>>,
     deps: &Deps,
     lists: &[Sequence<TxnId>],
 ) -> Result<(), NoMemory>
-    requires rows { AreRows deps.now rows.old.entries }
+    requires rows { AreRows deps.now rows.now.entries }
+    requires made { AreRows deps.now made.old.entries }
     requires mates { AllByRecursion (AreDecidedMates deps.now) lists.now }
-    ensures rows { OnOk result (AreRows deps.now rows.new.entries) }
-    ensures kept { OnOk result (KeepAllRows lists.now rows.old.entries rows.new.entries) }
+    ensures made { OnOk result (AreRows deps.now made.new.entries) }
+    ensures kept { OnOk result (KeepAllRows lists.now made.old.entries made.new.entries) }
 {
     for list in lists {
-        keep_mates(alloc, rows, deps, list.as_slice())?;
+        make_mates(alloc, rows, made, deps, list.as_slice())?;
     }
     Ok(())
 }
 
 // What is in one component has the same ancestors, so one search serves all of it.
-fn keep_mates(
+fn make_mates(
     alloc: Global,
-    rows: &mut BTreeMap<TxnId, Sequence<TxnId>>,
+    rows: &HashMap<TxnId, Sequence<TxnId>>,
+    made: &mut HashMap<TxnId, Sequence<TxnId>>,
     deps: &Deps,
     ids: &[TxnId],
 ) -> Result<(), NoMemory>
-    requires rows { AreRows deps.now rows.old.entries }
+    requires rows { AreRows deps.now rows.now.entries }
+    requires made { AreRows deps.now made.old.entries }
     requires mates { AreDecidedMates deps.now ids.now }
-    ensures rows { OnOk result (AreRows deps.now rows.new.entries) }
-    ensures kept { OnOk result (KeepsRows ids.now rows.old.entries rows.new.entries) }
+    ensures made { OnOk result (AreRows deps.now made.new.entries) }
+    ensures kept { OnOk result (KeepsRows ids.now made.old.entries made.new.entries) }
 {
     let Some(first) = ids.first() else {
         return Ok(());
     };
-    let least = least_of(alloc, rows, deps, *first)?;
-    put_all(alloc, rows, ids, &least)
+    let least = least_of(alloc, rows, made, deps, *first)?;
+    put_all(alloc, made, ids, &least)
 }
 
 // Puts the same in the row of each of these.
 fn put_all(
     alloc: Global,
-    rows: &mut BTreeMap<TxnId, Sequence<TxnId>>,
+    rows: &mut HashMap<TxnId, Sequence<TxnId>>,
     ids: &[TxnId],
     least: &[TxnId],
 ) -> Result<(), NoMemory>
@@ -129,17 +230,19 @@ fn put_all(
 // The least of a decided transaction and its ancestors.
 fn least_of(
     alloc: Global,
-    rows: &BTreeMap<TxnId, Sequence<TxnId>>,
+    rows: &HashMap<TxnId, Sequence<TxnId>>,
+    made: &HashMap<TxnId, Sequence<TxnId>>,
     deps: &Deps,
     id: TxnId,
 ) -> Result<Vec<TxnId>, NoMemory>
     requires rows { AreRows deps.now rows.now.entries }
+    requires made { AreRows deps.now made.now.entries }
     requires decided { IsDecided deps.now id }
     ensures { IfOk result (λ ids. AreLeast (λ u. ReachesOrIs (Precedes deps.now) u id) ids.items) }
 {
     match deps.list(id) {
         Some(list) => {
-            let mut met = met_from(alloc, rows, deps, list.as_slice())?;
+            let mut met = met_from(alloc, rows, made, deps, list.as_slice())?;
             met.push(id)?;
             let ids = least(alloc, &met)?;
             Ok(ids)

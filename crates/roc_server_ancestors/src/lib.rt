@@ -3,11 +3,11 @@
 //!
 //! [`Ancestors::led_to`] gives the least of all that entries lead to and whose lists are known (`specs/Led.antt`). It
 //! goes back through known lists, and no further than what is kept: what is decided has all its ancestors known, and
-//! they never change. [`Ancestors::keep`] takes in more that are decided and keeps something of each, beside what is
-//! kept (`KeepsRows`); if memory is wanting, nothing is promised of what is kept.
+//! they never change. [`Ancestors::ready`] makes what is to be kept of more that are decided and changes nothing, and
+//! [`Ancestors::take`] keeps it, beside what is kept (`KeepsRows`); where there is room for it, it cannot fail.
 #![tactic(auto)]
 
 mod ancestors;
 mod search;
 
-pub use ancestors::Ancestors;
+pub use ancestors::{Ancestors, NextRows};

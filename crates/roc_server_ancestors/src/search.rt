@@ -1,5 +1,6 @@
 //! The search for what entries lead to.
 ghost use Rattle.std.specs.Prelude.{◌≡◌, ◌++◌, ◌∷◌, [], List, Some, None, IfOk, OnOk};
+ghost use Rattle.std.specs.Option.{option_copied};
 ghost use Rattle.roc_base.specs.declared.id.TxnId.{TxnId as Id};
 ghost use Rattle.roc_base.specs.Edge.{Dependency};
 ghost use Rattle.roc_depgraph.specs.Deps.{list_of};
@@ -12,17 +13,18 @@ use roc_base::{Edge, NoMemory, TxnId};
 use roc_depgraph::{Deps, visit};
 use roc_sequence::Sequence;
 use std::alloc::Global;
-use std::collections::{BTreeMap, BTreeSet};
+use std::collections::{BTreeSet, HashMap};
 
 // Of what entries lead to and is known: all that is not decided, and the least of what is. It goes no further from a transaction of which a row
-// is kept.
+// is kept, or made already.
 pub(crate) fn met_from(
     alloc: Global,
-    rows: &BTreeMap<TxnId, Sequence<TxnId>>,
+    rows: &HashMap<TxnId, Sequence<TxnId>>,
+    made: &HashMap<TxnId, Sequence<TxnId>>,
     deps: &Deps,
     edges: &[Edge],
 ) -> Result<Vec<TxnId>, NoMemory>
-    requires { AreRows deps.now rows.now.entries }
+    requires { AreRows deps.now (made.now.entries ++ rows.now.entries) }
     ensures { IfOk result (λ met. CoversLeast (IsKnownAndLedTo deps.now edges.now) met.items) }
 {
     let mut found = BTreeSet::new(alloc);
@@ -30,28 +32,29 @@ pub(crate) fn met_from(
     let mut met = Vec::new(alloc);
     visit(edges, &mut found, &mut todo)?;
     'search: while let Some(next) = todo.pop() {
-        meet(rows, deps, next, &mut found, &mut todo, &mut met)?;
+        meet(rows, made, deps, next, &mut found, &mut todo, &mut met)?;
     }
     Ok(met)
 }
 
 // Meets one that was found: by its row, or by its list, which is looked through.
 fn meet(
-    rows: &BTreeMap<TxnId, Sequence<TxnId>>,
+    rows: &HashMap<TxnId, Sequence<TxnId>>,
+    made: &HashMap<TxnId, Sequence<TxnId>>,
     deps: &Deps,
     next: TxnId,
     found: &mut BTreeSet<TxnId>,
     todo: &mut Vec<TxnId>,
     met: &mut Vec<TxnId>,
 ) -> Result<(), NoMemory>
-    ensures row { OnOk result ((ids : List Id) → row_of next rows.now.entries ≡ Some ids
+    ensures row { OnOk result ((ids : List Id) → row_of next (made.now.entries ++ rows.now.entries) ≡ Some ids
         → (met.new.items ≡ met.old.items ++ ids) × (found.new.keys ≡ found.old.keys) × (todo.new.items ≡ todo.old.items)) }
-    ensures list { OnOk result (row_of next rows.now.entries ≡ None → (es : List Dependency) → list_of next deps.now ≡ Some es
+    ensures list { OnOk result (row_of next (made.now.entries ++ rows.now.entries) ≡ None → (es : List Dependency) → list_of next deps.now ≡ Some es
         → (met.new.items ≡ met.old.items ++ next ∷ []) × Visits es found.old.keys todo.old.items found.new.keys todo.new.items) }
-    ensures nothing { OnOk result (row_of next rows.now.entries ≡ None → list_of next deps.now ≡ None
+    ensures nothing { OnOk result (row_of next (made.now.entries ++ rows.now.entries) ≡ None → list_of next deps.now ≡ None
         → (met.new.items ≡ met.old.items) × (found.new.keys ≡ found.old.keys) × (todo.new.items ≡ todo.old.items)) }
 {
-    if let Some(ids) = rows.get(&next) {
+    if let Some(ids) = row_at(rows, made, next) {
         met.extend_from_slice(ids.as_slice())?;
         return Ok(());
     }
@@ -61,4 +64,18 @@ fn meet(
         return Ok(());
     }
     Ok(())
+}
+
+// The row of a transaction: the one that was made, or else the one that is kept.
+fn row_at<'a>(
+    rows: &'a HashMap<TxnId, Sequence<TxnId>>,
+    made: &'a HashMap<TxnId, Sequence<TxnId>>,
+    id: TxnId,
+) -> Option<&'a Sequence<TxnId>>
+    ensures { option_copied result ≡ row_of id (made.now.entries ++ rows.now.entries) }
+{
+    match made.get(&id) {
+        Some(ids) => Some(ids),
+        None => rows.get(&id),
+    }
 }

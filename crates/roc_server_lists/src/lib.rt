@@ -6,11 +6,12 @@
 //! [`news_of_known`] give those of transactions of which none is known, and [`commit_differs`] and [`is_unlike`] tell
 //! whether another list is known (`specs/Carried.antt`). Of new lists: [`learn_all`] learns them and gives exactly the
 //! transactions that they decide, [`newly_decided`] puts these into component order (`specs/New.antt`), and [`Decided`]
-//! keeps the decided ones, rising. Of who asks: [`tell_all`], [`send_known`], [`all_edges`], [`wait_for`]
+//! keeps the decided ones, rising, and takes its memory ahead (`specs/Decided.antt`). Of who asks: [`tell_all`], [`send_known`], [`all_edges`], [`wait_for`]
 //! and [`send_fetches`] tell lists, note who waits for what, and ask (`specs/Asking.antt`).
 //! [`facts_for`] gives the known lists that travel along (`specs/Piggyback.antt`).
 //!
-//! A call that finds no memory may have done a part: then nothing is promised of the lists, nor of the outbox.
+//! A call that finds no memory may have done a part: then nothing is promised of the lists, nor of the outbox. What is decided
+//! stays as it was.
 #![tactic(auto)]
 
 mod askers;

@@ -19,7 +19,7 @@ pub fn facts_for(
     ancestors: &Ancestors,
     edges: &[Edge],
 ) -> Result<Facts, NoMemory>
-    requires { AreRows deps.now ancestors.now }
+    requires { AreRows deps.now ancestors.now.rows }
     ensures { IfOk result (AreFactsFor deps.now edges.now) }
 {
     let least = ancestors.led_to(deps, edges)?;

@@ -42,7 +42,7 @@ pub record IsConsistent (k : ServerData) : Type 0 where
   pub decided_rising : IsStrictlySortedBy txn_cmp k.decided.ids
   pub decided_only : (t : TxnId) → IsListed is_txn k.decided.ids t → IsDecided k.deps t
   pub decided_all : (t : TxnId) → IsDecided k.deps t → IsListed is_txn k.decided.ids t
-  pub rows : AreRows k.deps k.ancestors
+  pub rows : AreRows k.deps k.ancestors.rows
   pub lacks : AreLacks k.deps k.lacks
   pub index : IsIndexOf k.index k.decided.ids k.started
   pub none_left : AllByRecursion (λ d. is_left k d ≡ false) (flat_map (λ list. list.edges) k.deps)

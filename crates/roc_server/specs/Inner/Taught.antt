@@ -48,7 +48,7 @@ pub record DecidedTaken (plan : Plan) (shard : Shard) (old new : ServerData) (be
   pub lists : new.deps ≡ old.deps
   pub waits : new.waits ≡ old.waits
   pub lacks : new.lacks ≡ old.lacks
-  pub least : AreRows new.deps new.ancestors
+  pub least : AreRows new.deps new.ancestors.rows
   pub decided : IsRisingListOf (IsListed is_txn (old.decided.ids ++ ids)) new.decided.ids
   pub index : AreOut ids old.index new.index
   pub runs : (s : ServerState) → take_all plan (holding s old.rows.store old.started) ids ≡ holding s new.rows.store new.started

@@ -9,7 +9,7 @@ use Rattle.roc_base.specs.TxnId.{is_txn, txn_cmp, txn_lt}
 use Rattle.roc_depgraph.specs.declared.known.KnownList.{KnownList}
 use Rattle.roc_depgraph.specs.Deps.{Precedes, IsDecided}
 use Rattle.roc_component.specs.Components.{Mates}
-use Rattle.roc_server_ancestors.specs.Least.{most_least, HasRow}
+use Rattle.roc_server_ancestors.specs.Least.{most_least, AreAllRight, AreRows, HasRow, ids_of, KeepsRows}
 
 -- n of xs come before u
 pub record HasBefore (n : ℕ) (xs : List TxnId) (u : TxnId) : Type 0 where
@@ -31,7 +31,13 @@ pub record AreDecidedMates (known : List KnownList) (ids : List TxnId) : Type 0 
   pub decided : (t : TxnId) → IsListed is_txn ids t → IsDecided known t
   pub mates : (x u : TxnId) → IsListed is_txn ids x → IsListed is_txn ids u → Mates (Precedes known) x u
 
--- something is kept of each member of these lists, and of each of which something was
+-- something is kept of each member of these lists, and of each of which something was, and of no other
 pub record KeepAllRows (lists : List (List TxnId)) (old new : List (TxnId × List TxnId)) : Type 0 where
   pub told : (c : List TxnId) → Has c lists → (t : TxnId) → IsListed is_txn c t → HasRow new t
   pub stay : (t : TxnId) → HasRow old t → HasRow new t
+  pub only : (t : TxnId) → HasRow new t → ((c : List TxnId) × Has c lists × IsListed is_txn c t) ⊎ HasRow old t
+
+-- rows are put into others
+pub record Moves (next old new : List (TxnId × List TxnId)) : Type 0 where
+  pub rows : (known : List KnownList) → AreRows known old → AreAllRight known next → AreRows known new
+  pub kept : KeepsRows (ids_of next) old new

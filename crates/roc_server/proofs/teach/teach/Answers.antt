@@ -1,4 +1,4 @@
-use Rattle.std.proofs.Common.{◌++◌, List, map, sym, subst, ap, ◌∙◌}
+use Rattle.std.proofs.Common.{◌++◌, List, map, sym, subst}
 use Rattle.std.proofs.lemmas.Result.{on_ok_weaker}
 use Rattle.roc_sequence.specs.Places.{NoneTwice}
 use Rattle.roc_await.specs.declared.waits.OpenFetch.{OpenFetch}
@@ -8,7 +8,6 @@ use Rattle.roc_server.specs.Fits.{AreGroupsOf}
 use Rattle.roc_server_lists.specs.Asking.{fetch_from}
 use Rattle.roc_server.specs.Inner.ServerData.{is_same_group}
 use Rattle.roc_sequence.specs.Places.{IsListed}
-use Rattle.roc_base.specs.declared.id.TxnId.{TxnId}
 use Rattle.roc_base.specs.TxnId.{is_txn}
 use Rattle.roc_depgraph.specs.declared.known.KnownList.{KnownList}
 use Rattle.roc_server_lists.specs.Decided.{DecidedIds}
@@ -16,7 +15,7 @@ use Rattle.roc_server_lists.specs.New.{AreAllNew}
 use Rattle.roc_server.specs.Inner.Indexed.{AreGroupRefsOf}
 use Rattle.roc_server.proofs.IndexSteps.{indexed_group_refs}
 use Rattle.roc_server.proofs.Learning.{not_taken}
-use Rattle.roc_server_ancestors.specs.Least.{AreRows}
+use Rattle.roc_server_ancestors.specs.Least.{AreRows, HeldRows}
 use Rattle.roc_server_ancestors.proofs.KeptRows.{rows_stay}
 use Rattle.roc_server_lists.proofs.Learning.{keeps_front}
 use Rattle.roc_server.proofs.TeachSteps.{teaches}
@@ -44,8 +43,9 @@ pub take_new-requires-clause-rows : goal.take_new-requires-clause-rows
 take_new-requires-clause-rows c =
     let m = c.in_ok-asks.ensures c.args.shard in
     let old = c.args.kept.now in
-    subst (λ (ks : List KnownList). AreRows ks c.know_more.new.kept.ancestors) (sym m.deps)
-    (subst (AreRows (old.deps ++ c.args.news.now)) (sym m.ancestors) (rows_stay old.deps (old.deps ++ c.args.news.now) (keeps_front old.deps c.args.news.now) old.ancestors c.requires.sound.rows))
+    subst (λ (ks : List KnownList). AreRows ks c.know_more.new.kept.ancestors.rows) (sym m.deps)
+    (subst (λ (h : HeldRows). AreRows (old.deps ++ c.args.news.now) h.rows) (sym m.ancestors)
+    (rows_stay old.deps (old.deps ++ c.args.news.now) (keeps_front old.deps c.args.news.now) old.ancestors.rows c.requires.sound.rows))
 
 pub take_new-requires-clause-group_refs : goal.take_new-requires-clause-group_refs
 take_new-requires-clause-group_refs c =

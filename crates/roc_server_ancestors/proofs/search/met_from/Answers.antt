@@ -1,4 +1,4 @@
-use Rattle.std.proofs.Common.{◌≡◌, length, arith}
+use Rattle.std.proofs.Common.{◌≡◌, ◌++◌, length, arith}
 use Rattle.roc_server_ancestors.proofs.Leads.{search_start, search_done, turn}
 use Rattle.roc_server_ancestors.proofs.search.met_from.Goals as goal
 
@@ -9,12 +9,12 @@ search-init c =
 
 pub search-smaller : goal.search-smaller
 search-smaller c =
-    (turn c.args.deps.now c.args.edges.now c.args.rows.now.entries c.requires c.search.found.keys c.search.todo.items c.pop.new.self.items c.search.met.items c.meet.new.found.keys c.meet.new.todo.items c.meet.new.met.items c.in-Some.next
+    (turn c.args.deps.now c.args.edges.now (c.args.made.now.entries ++ c.args.rows.now.entries) c.requires c.search.found.keys c.search.todo.items c.pop.new.self.items c.search.met.items c.meet.new.found.keys c.meet.new.todo.items c.meet.new.met.items c.in-Some.next
     c.search.invariant c.in-Some.ensures.items c.in_ok-meet.ensures.row c.in_ok-meet.ensures.list c.in_ok-meet.ensures.nothing).smaller
 
 pub search-preserved : goal.search-preserved
 search-preserved c =
-    (turn c.args.deps.now c.args.edges.now c.args.rows.now.entries c.requires c.search.found.keys c.search.todo.items c.pop.new.self.items c.search.met.items c.meet.new.found.keys c.meet.new.todo.items c.meet.new.met.items c.in-Some.next
+    (turn c.args.deps.now c.args.edges.now (c.args.made.now.entries ++ c.args.rows.now.entries) c.requires c.search.found.keys c.search.todo.items c.pop.new.self.items c.search.met.items c.meet.new.found.keys c.meet.new.todo.items c.meet.new.met.items c.in-Some.next
     c.search.invariant c.in-Some.ensures.items c.in_ok-meet.ensures.row c.in_ok-meet.ensures.list c.in_ok-meet.ensures.nothing).search
 
 pub returns : goal.returns

@@ -1,7 +1,5 @@
-use Rattle.std.proofs.Common.{◌≡◌, cond, true, get_or, refl, arith}
-use Rattle.std.specs.List.{list_any}
+use Rattle.std.proofs.Common.{get_or, refl, arith}
 use Rattle.roc_base.specs.declared.id.TxnId.{TxnId}
-use Rattle.roc_base.specs.TxnId.{is_txn}
 use Rattle.roc_server_lists.proofs.Added.{none_added, one_added}
 use Rattle.roc_server_lists.proofs.decided.add_all.Goals as goal
 

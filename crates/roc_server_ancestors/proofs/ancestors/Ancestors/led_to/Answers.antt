@@ -1,12 +1,15 @@
-use Rattle.std.proofs.Common.{subst, sym}
+use Rattle.std.proofs.Common.{◌++◌, List, subst, sym}
+use Rattle.roc_base.specs.declared.id.TxnId.{TxnId}
 use Rattle.roc_server_ancestors.specs.Led.{IsKnownAndLedTo}
-use Rattle.roc_server_ancestors.specs.Least.{AreRows}
+use Rattle.roc_server_ancestors.specs.Least.{AreRows, HeldRows}
 use Rattle.roc_server_ancestors.specs.Inner.Met.{CoversLeast}
 use Rattle.roc_server_ancestors.proofs.Fronts.{least_met}
 use Rattle.roc_server_ancestors.proofs.ancestors.Ancestors.led_to.Goals as goal
 
 pub met_from-requires : goal.met_from-requires
-met_from-requires c = subst (AreRows c.args.deps.now) (sym c.self.view_is) c.requires
+met_from-requires c =
+    let own : AreRows c.args.deps.now c.self.inside.rows.entries = subst (λ (h : HeldRows). AreRows c.args.deps.now h.rows) (sym c.self.view_is) c.requires in
+    subst (λ (none : List (TxnId × List TxnId)). AreRows c.args.deps.now (none ++ c.self.inside.rows.entries)) (sym c.new-none.ensures.empty) own
 
 pub returns : goal.returns
 returns c =
