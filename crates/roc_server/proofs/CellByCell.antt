@@ -17,7 +17,7 @@ use Rattle.roc_rows.specs.Cells.{is_cell}
 use Rattle.roc_group.specs.declared.access.Access.{Access}
 use Rattle.roc_group.specs.Accesses.{meets, do_conflict}
 use Rattle.roc_server_index.specs.declared.group_ref.GroupRef.{GroupRef}
-use Rattle.roc_server_index.specs.GroupRefs.{group_refs_at}
+use Rattle.roc_server_index.specs.GroupRefs.{CellRefs, group_refs_at}
 use Rattle.roc_plan.specs.Groups.{Plan, is_immediate_of}
 use Rattle.roc_server.specs.declared.started.StartedGroup.{StartedGroup}
 use Rattle.roc_server.specs.Start.{conflicts_before, edge_to, uses_cell}
@@ -116,7 +116,7 @@ module _ (plan : Plan) (shard : Shard) (left_out : List TxnId) (id : TxnId) (imm
             ∙ sym (pick e (filter (conflicts_before plan left_out id immediate (a ∷ [])) es) (conflicts_before plan left_out id immediate (a ∷ []) e))
 
   -- what is met at a cell's references are the entries of the groups that come before one that makes this use alone
-  pub met_is : (index : List (Cell × List GroupRef)) (es : List StartedGroup) (a : Access) → NoneTwice is_same_group es → IsIndexOf index left_out es → met_at es a (group_refs_at a.cell index) ≡ before (a ∷ []) es
+  pub met_is : (index : List (Cell × CellRefs)) (es : List StartedGroup) (a : Access) → NoneTwice is_same_group es → IsIndexOf index left_out es → met_at es a (group_refs_at a.cell index) ≡ before (a ∷ []) es
   met_is index es a once h = ap (met_at es a) (h a.cell) ∙ met_from es a es (has_all (λ e. find_group e.id e.group es ≡ Some e) es (λ e k. group_found es e once k))
 
   -- ---- over all cells
@@ -171,10 +171,10 @@ module _ (plan : Plan) (shard : Shard) (left_out : List TxnId) (id : TxnId) (imm
   pub over_cells : (cells : List Access) (es : List StartedGroup) → united (flat_map (λ a. before (a ∷ []) es) cells) ≡ united (before cells es)
   over_cells cells es = same_members (flat_map (λ a. before (a ∷ []) es) cells) (before cells es) (λ d. (of_any cells es d, in_any cells es d))
 
-  each_met : (index : List (Cell × List GroupRef)) (es : List StartedGroup) (cells : List Access) → NoneTwice is_same_group es → IsIndexOf index left_out es → flat_map (λ a. met_at es a (group_refs_at a.cell index)) cells ≡ flat_map (λ a. before (a ∷ []) es) cells
+  each_met : (index : List (Cell × CellRefs)) (es : List StartedGroup) (cells : List Access) → NoneTwice is_same_group es → IsIndexOf index left_out es → flat_map (λ a. met_at es a (group_refs_at a.cell index)) cells ≡ flat_map (λ a. before (a ∷ []) es) cells
   each_met index es [] once h = refl
   each_met index es (a ∷ more) once h = λ i. met_is index es a once h i ++ each_met index es more once h i
 
   -- what is met at the cells' references, united
-  pub all_met : (index : List (Cell × List GroupRef)) (es : List StartedGroup) (cells : List Access) → NoneTwice is_same_group es → IsIndexOf index left_out es → united (flat_map (λ a. met_at es a (group_refs_at a.cell index)) cells) ≡ united (before cells es)
+  pub all_met : (index : List (Cell × CellRefs)) (es : List StartedGroup) (cells : List Access) → NoneTwice is_same_group es → IsIndexOf index left_out es → united (flat_map (λ a. met_at es a (group_refs_at a.cell index)) cells) ≡ united (before cells es)
   all_met index es cells once h = ap united (each_met index es cells once h) ∙ over_cells cells es

@@ -1,13 +1,14 @@
 -- The index follows the started groups and what is decided
-use Rattle.std.proofs.Common.{◌≡◌, ℕ, ◌+◌, ◌-◌, ◌<◌, ◌==◌, Bool, true, false, cond, not, ◌&&◌, ◌||◌, if◌then◌else◌, List, [], ◌∷◌, ◌++◌, length, take, filter, find, get_or, ◌⊎◌, Option, Some, None, slice_get, refl, sym, ap, subst, ◌∙◌, inl, inr, length-append, append-nil, arith}
-use Rattle.std.proofs.lemmas.Bool.{false≢true}
+use Rattle.std.proofs.Common.{◌≡◌, ℕ, ◌+◌, ◌-◌, ◌<◌, ◌≤◌, ◌==◌, Bool, true, false, cond, not, ◌&&◌, ◌||◌, if◌then◌else◌, List, [], ◌∷◌, ◌++◌, length, take, filter, find, get_or, ◌⊎◌, Option, Some, None, slice_get, refl, sym, ap, subst, ◌∙◌, inl, inr, length-append, append-nil, arith}
+use Rattle.std.proofs.lemmas.Bool.{false≢true, true≢false}
 use Rattle.std.proofs.lemmas.Bool.Decides.{nat_tests}
+use Rattle.std.proofs.lemmas.List.{take_more}
 use Rattle.std.proofs.lemmas.List.Elements.{filter-append}
 use Rattle.std.proofs.lemmas.List.Folds.{list_any_more}
 use Rattle.std.specs.List.{AllByRecursion, list_any}
 use Rattle.roc_sequence.specs.Lists.{Has}
 use Rattle.roc_sequence.specs.Places.{is_listed}
-use Rattle.roc_sequence.proofs.Holds.{all_has, has_all, has_any}
+use Rattle.roc_sequence.proofs.Holds.{all_has, all_append, all_weaker, has_all, has_any}
 use Rattle.roc_sequence.proofs.Members.{has_at, from_has_filter}
 use Rattle.roc_base.specs.declared.id.TxnId.{TxnId}
 use Rattle.roc_base.specs.TxnId.{is_txn}
@@ -16,16 +17,16 @@ use Rattle.roc_rows.specs.declared.cell.Cell.{Cell}
 use Rattle.roc_rows.specs.Cells.{is_cell}
 use Rattle.roc_group.specs.declared.access.Access.{Access}
 use Rattle.roc_server_index.specs.declared.group_ref.GroupRef.{GroupRef}
-use Rattle.roc_server_index.specs.GroupRefs.{group_refs_at, is_same_ref, is_ref_of, ends_with, with_group_ref, without, ChangesAt}
+use Rattle.roc_server_index.specs.GroupRefs.{CellRefs, group_refs_at, spare_at, is_same_ref, is_ref_of, ends_with, with_group_ref, without, ChangesAt, HaveSameRefs, KeepsRoom, TakesRoomAt}
 use Rattle.roc_server.specs.declared.started.StartedGroup.{StartedGroup}
 use Rattle.roc_server.specs.Start.{uses_cell}
 use Rattle.roc_server.specs.Inner.ServerData.{AreSameGroups}
-use Rattle.roc_server.specs.Inner.Indexed.{group_ref_of, group_refs_of, undecided, IsIndexOf, IsGroupRefOf, AreGroupRefsOf, IsAddedAt, IsOutOf, IsOut, AreOut}
+use Rattle.roc_server.specs.Inner.Indexed.{group_ref_of, group_refs_of, undecided, IsIndexOf, IsGroupRefOf, AreGroupRefsOf, HasRoomFor, IsAddedAt, IsOutOf, IsOut, AreOut}
 use Rattle.roc_server.specs.State.{is_group, find_group}
 use Rattle.roc_server.proofs.Stands.{indexed_is, group_refs_more, group_refs_same}
 
 abbrev Index : Type 0
-Index = List (Cell × List GroupRef)
+Index = List (Cell × CellRefs)
 
 -- ---- filters in a row
 
@@ -78,6 +79,47 @@ added_more s cells k a old mid new fresh within so_far step c =
     step c ∙ ap (λ ss. if is_cell x.cell c then with_group_ref s ss else ss) (so_far c)
     ∙ with_once s (group_refs_at c old) (list_any (λ b. is_cell b.cell c) (take k cells)) (is_cell x.cell c) (fresh c)
     ∙ ap (λ t. group_refs_at c old ++ (if t then s ∷ [] else [])) (sym (list_any_more (λ b. is_cell b.cell c) cells k a within))
+
+-- the references stayed before it was added
+pub added_behind : (s : GroupRef) (cells : List Access) (old mid new : Index) → HaveSameRefs old mid → IsAddedAt s cells mid new → IsAddedAt s cells old new
+added_behind s cells old mid new same added c = added c ∙ ap (λ ss. ss ++ (if list_any (λ a. is_cell a.cell c) cells then s ∷ [] else [])) (same c)
+
+-- ---- room for it
+
+pub room_none : (index : Index) → HasRoomFor [] index
+room_none index = tt
+
+pub room_more : (cells : List Access) (k : ℕ) (a : Access) (mid new : Index) → k < length cells → HasRoomFor (take k cells) mid → KeepsRoom mid new → 0 < spare_at (get_or cells k a).cell new → HasRoomFor (take (k + 1) cells) new
+room_more cells k a mid new within so_far kept now =
+    let P : Index → Access → Type 0 = λ i b. 0 < spare_at b.cell i in
+    subst (λ xs. HasRoomFor xs new) (sym (take_more cells k a within))
+    (all_append (P new) (take k cells) (get_or cells k a ∷ []) (all_weaker (P mid) (P new) (λ b h. let m = kept b.cell in omega (arith, h, m)) (take k cells) so_far) (now, tt))
+
+-- the cells that none of these uses have no less room
+abbrev pub KeepsRoomBeside : List Access → (old new : Index) → Type 0
+KeepsRoomBeside cells old new = (c : Cell) → list_any (λ a. is_cell a.cell c) cells ≡ false → spare_at c old ≤ spare_at c new
+
+pub beside_more : (cells : List Access) (k : ℕ) (a : Access) (old mid new : Index) → k < length cells → KeepsRoomBeside (take k cells) old mid → TakesRoomAt (get_or cells k a).cell mid new → KeepsRoomBeside (take (k + 1) cells) old new
+beside_more cells k a old mid new within so_far step c none =
+    go (list_any (λ b. is_cell b.cell c) (take k cells)) (is_cell (get_or cells k a).cell c) refl refl (sym (list_any_more (λ b. is_cell b.cell c) cells k a within) ∙ none)
+  where
+    go : (t u : Bool) → list_any (λ b. is_cell b.cell c) (take k cells) ≡ t → is_cell (get_or cells k a).cell c ≡ u → (t || u) ≡ false → spare_at c old ≤ spare_at c new
+    go true u e f h = absurd (true≢false h)
+    go false true e f h = absurd (true≢false h)
+    go false false e f h =
+        let first = so_far c e in
+        let next = subst (λ t. spare_at c mid ≤ spare_at c new + (if t then 1 else 0)) f (step c) in
+        omega (arith, first, next)
+
+-- where it has been added it is the last, and elsewhere there is room as before
+pub finds_room : (s : GroupRef) (cells : List Access) (a : Access) (old mid : Index) → IsAddedAt s cells old mid → KeepsRoomBeside cells old mid → 0 < spare_at a.cell old → (0 < spare_at a.cell mid) ⊎ (ends_with s (group_refs_at a.cell mid) ≡ true)
+finds_room s cells a old mid added kept room = go (list_any (λ b. is_cell b.cell a.cell) cells) refl
+  where
+    go : (t : Bool) → list_any (λ b. is_cell b.cell a.cell) cells ≡ t → (0 < spare_at a.cell mid) ⊎ (ends_with s (group_refs_at a.cell mid) ≡ true)
+    go true e = inr (ap (ends_with s) (added a.cell ∙ ap (λ t. group_refs_at a.cell old ++ (if t then s ∷ [] else [])) e) ∙ ends_new s (group_refs_at a.cell old))
+    go false e = let h = kept a.cell e in inl (omega (arith, room, h))
+
+-- ---- what is not there
 
 not_found : {A : Type 0} (p : A → Bool) (xs : List A) (a : A) → find p xs ≡ None → Has a xs → p a ≡ false
 not_found p [] a none k = absurd k

@@ -10,7 +10,7 @@ use Rattle.roc_base.specs.Equality.{same_tag}
 use Rattle.roc_rows.specs.declared.cell.Cell.{Cell}
 use Rattle.roc_group.specs.declared.access.Access.{Access}
 use Rattle.roc_server_index.specs.declared.group_ref.GroupRef.{GroupRef}
-use Rattle.roc_server_index.specs.GroupRefs.{group_refs_at}
+use Rattle.roc_server_index.specs.GroupRefs.{CellRefs, group_refs_at}
 use Rattle.roc_plan.specs.Groups.{Plan, is_immediate_of}
 use Rattle.roc_server.specs.declared.started.StartedGroup.{StartedGroup}
 use Rattle.roc_server.specs.Start.{uses_cell, is_user, users}
@@ -85,7 +85,7 @@ module _ (plan : Plan) (left_out : List TxnId) (id : TxnId) (immediate : Bool) w
           omega (arith, ih, more)
 
   -- the references of the first cells that are looked at, against all pairs
-  pub looked_within : (index : List (Cell × List GroupRef)) (es : List StartedGroup) → IsIndexOf index left_out es → (cells : List Access) → length (flat_map (λ a. filter looked (group_refs_at a.cell index)) cells) ≤ length (users plan left_out immediate cells es)
+  pub looked_within : (index : List (Cell × CellRefs)) (es : List StartedGroup) → IsIndexOf index left_out es → (cells : List Access) → length (flat_map (λ a. filter looked (group_refs_at a.cell index)) cells) ≤ length (users plan left_out immediate cells es)
   looked_within index es h [] = omega arith
   looked_within index es h (a ∷ more) =
       let here : length (filter looked (group_refs_at a.cell index)) ≤ length (filter (user a.cell) es) = subst (λ ss. length (filter looked ss) ≤ length (filter (user a.cell) es)) (sym (h a.cell)) (looked_from a.cell es) in

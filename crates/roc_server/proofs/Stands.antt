@@ -12,7 +12,7 @@ use Rattle.roc_base.specs.declared.id.TxnId.{TxnId}
 use Rattle.roc_base.specs.TxnId.{is_txn}
 use Rattle.roc_rows.specs.declared.cell.Cell.{Cell}
 use Rattle.roc_server_index.specs.declared.group_ref.GroupRef.{GroupRef}
-use Rattle.roc_server_index.specs.GroupRefs.{group_refs_at}
+use Rattle.roc_server_index.specs.GroupRefs.{CellRefs, group_refs_at}
 use Rattle.roc_plan.specs.Groups.{Plan, groups_of}
 use Rattle.roc_server.specs.declared.started.StartedGroup.{StartedGroup}
 use Rattle.roc_server.specs.Fits.{IsCallOf, AreGroupsOf}
@@ -54,11 +54,11 @@ group_ref_is c (e ∷ es) s k = go (uses_cell c e) refl k (group_ref_is c es s)
     go false u m ih = group_ref_more es e c s (ih m)
 
 -- what the index has at a cell are such references
-pub indexed_is : (c : Cell) (index : List (Cell × List GroupRef)) (decided : List TxnId) (es : List StartedGroup) → IsIndexOf index decided es → (s : GroupRef) → Has s (group_refs_at c index) → IsGroupRefOf es c s
+pub indexed_is : (c : Cell) (index : List (Cell × CellRefs)) (decided : List TxnId) (es : List StartedGroup) → IsIndexOf index decided es → (s : GroupRef) → Has s (group_refs_at c index) → IsGroupRefOf es c s
 indexed_is c index decided es h s k = group_ref_is c es s (from_has_filter (λ (x : GroupRef). not (is_listed is_txn decided x.id)) s (group_refs_of c es) (subst (Has s) (h c) k)).0
 
 -- of each the group is found, and the plan has it
-pub indexed_within : (plan : Plan) (c : Cell) (index : List (Cell × List GroupRef)) (decided : List TxnId) (es : List StartedGroup) → AreGroupsOf plan es → NoneTwice is_same_group es → IsIndexOf index decided es → AllByRecursion (IsGroupRefWithin plan es) (group_refs_at c index)
+pub indexed_within : (plan : Plan) (c : Cell) (index : List (Cell × CellRefs)) (decided : List TxnId) (es : List StartedGroup) → AreGroupsOf plan es → NoneTwice is_same_group es → IsIndexOf index decided es → AllByRecursion (IsGroupRefWithin plan es) (group_refs_at c index)
 indexed_within plan c index decided es fits once h =
     has_all (IsGroupRefWithin plan es) (group_refs_at c index) (λ s k.
     let p = indexed_is c index decided es h s k in

@@ -19,7 +19,7 @@ use Rattle.roc_msg.specs.declared.reason.Reason.{Reason}
 use Rattle.roc_msg.specs.declared.reason.Reason.TheVariants.{BadProc, BadGroup, BadInputs, NotHere, Late, Differs}
 use Rattle.roc_plan.specs.Groups.{Plan, groups_of, shard_of, group_place}
 use Rattle.roc_rows.specs.declared.cell.Cell.{Cell}
-use Rattle.roc_server_index.specs.declared.group_ref.GroupRef.{GroupRef}
+use Rattle.roc_server_index.specs.GroupRefs.{CellRefs}
 use Rattle.roc_server.specs.declared.handled.Handled.{Handled}
 use Rattle.roc_server.specs.declared.handled.Handled.TheVariants.{Done, Ignored}
 use Rattle.roc_server.specs.declared.server_data.ServerData.{ServerData}
@@ -139,7 +139,7 @@ here_more id xs e h = let a = any_has (λ (x : StartedGroup). is_txn x.id id) xs
 not_decided : (k : ServerData) (id : TxnId) → IsConsistent k → is_known k.deps id ≡ false → is_listed is_txn k.decided.ids id ≡ false
 not_decided k id sound unknown = unlisted_test is_txn k.decided.ids id (λ l. false≢true (sym unknown ∙ (sound.decided_only id l).own))
 
-pub start_sound : (k mid : ServerData) (after : List StartedGroup) (index : List (Cell × List GroupRef)) (e : StartedGroup) (id : TxnId) (group : ℕ) → IsConsistent k → mid.started ≡ k.started → mid.deps ≡ k.deps → mid.decided.ids ≡ k.decided.ids → mid.ancestors ≡ k.ancestors → mid.lacks ≡ k.lacks → mid.waits ≡ k.waits → after ≡ mid.started ++ e ∷ [] → e.id ≡ id → e.group ≡ group → find_group id group k.started ≡ None → mid.index ≡ k.index → is_known k.deps id ≡ false → IsAddedAt (group_ref_of e) e.cells mid.index index → IsConsistent (record mid { started = after; index = index })
+pub start_sound : (k mid : ServerData) (after : List StartedGroup) (index : List (Cell × CellRefs)) (e : StartedGroup) (id : TxnId) (group : ℕ) → IsConsistent k → mid.started ≡ k.started → mid.deps ≡ k.deps → mid.decided.ids ≡ k.decided.ids → mid.ancestors ≡ k.ancestors → mid.lacks ≡ k.lacks → mid.waits ≡ k.waits → after ≡ mid.started ++ e ∷ [] → e.id ≡ id → e.group ≡ group → find_group id group k.started ≡ None → mid.index ≡ k.index → is_known k.deps id ≡ false → IsAddedAt (group_ref_of e) e.cells mid.index index → IsConsistent (record mid { started = after; index = index })
 start_sound k mid after index e id group sound started deps decided ancestors lacks waits is own number absent indexed unknown added =
     let Lists : List KnownList → List TxnId → Type 0 = λ ks ids. ((t : TxnId) → IsListed is_txn ids t → IsDecided ks t) × ((t : TxnId) → IsDecided ks t → IsListed is_txn ids t) in
     let both : Lists mid.deps mid.decided.ids = subst (λ ks. Lists ks mid.decided.ids) (sym deps) (subst (λ ids. Lists k.deps ids) (sym decided) (sound.decided_only, sound.decided_all)) in

@@ -1,12 +1,12 @@
 //! What the index has of a group.
-ghost use Rattle.std.specs.Prelude.{◌≡◌, false, OnOk};
+ghost use Rattle.std.specs.Prelude.{◌≡◌, false, IsOk, OnOk};
 ghost use Rattle.std.specs.List.{AllByRecursion, list_any};
 ghost use Rattle.std.specs.Option.{option_copied, option_map_or};
 ghost use Rattle.roc_rows.specs.declared.cell.Cell.{Cell};
 ghost use Rattle.roc_rows.specs.Cells.{is_cell};
-ghost use Rattle.roc_server_index.specs.GroupRefs.{group_refs_at, is_same_ref};
+ghost use Rattle.roc_server_index.specs.GroupRefs.{group_refs_at, is_same_ref, HaveSameRefs, KeepsRoom};
 ghost use Rattle.roc_server.specs.Start.{uses_cell};
-ghost use Rattle.roc_server.specs.Inner.Indexed.{group_ref_of, IsAddedAt, IsOutOf, IsOut, AreGroupRefsOf, AreOut};
+ghost use Rattle.roc_server.specs.Inner.Indexed.{group_ref_of, HasRoomFor, IsAddedAt, IsOutOf, IsOut, AreGroupRefsOf, AreOut};
 
 use crate::StartedGroup;
 use crate::groups::group_at;
@@ -15,10 +15,26 @@ use roc_base::{NoMemory, TxnId};
 use roc_group::Access;
 use roc_server_index::{GroupRef, Index};
 
-// Adds the reference of a group, which has none yet, at each cell that it uses.
+// Takes memory ahead for the reference of a group at each cell that it uses. No references change, whether there is memory
+// or not.
+pub(crate) fn reserve_group(index: &mut Index, e: &StartedGroup) -> Result<(), NoMemory>
+    ensures refs { HaveSameRefs index.old index.new }
+    ensures ok { OnOk result (HasRoomFor e.now.cells index.new) }
+    ensures succeeds { HasRoomFor e.now.cells index.old → IsOk result }
+    ensures spare { KeepsRoom index.old index.new }
+{
+    for access in e.cells.as_slice() {
+        index.reserve(access.cell)?;
+    }
+    Ok(())
+}
+
+// Adds the reference of a group, which has none yet, at each cell that it uses. `NoMemory`, which comes only where a cell
+// has no room, may leave it at some of them.
 pub(crate) fn add_group(index: &mut Index, e: &StartedGroup) -> Result<(), NoMemory>
     requires { (c : Cell) → AllByRecursion (λ s. is_same_ref s (group_ref_of e.now) ≡ false) (group_refs_at c index.old) }
-    ensures { OnOk result (IsAddedAt (group_ref_of e.now) e.now.cells index.old index.new) }
+    ensures ok { OnOk result (IsAddedAt (group_ref_of e.now) e.now.cells index.old index.new) }
+    ensures succeeds { HasRoomFor e.now.cells index.old → IsOk result }
 {
     let group_ref = GroupRef {
         id: e.id,

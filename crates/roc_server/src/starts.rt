@@ -12,7 +12,7 @@ ghost use Rattle.roc_server.specs.Start.{has_counts, start_fault, startok_of};
 ghost use Rattle.roc_server.specs.State.{find_group};
 
 use crate::groups::{differs, find_group};
-use crate::indexed::add_group;
+use crate::indexed::{add_group, reserve_group};
 use crate::ran::note_group;
 use crate::server_data::ServerData;
 use crate::started_now::{is_immediate, new_group};
@@ -77,6 +77,7 @@ fn start_new(
     ensures sound { OnOk result (IsConsistent kept.new) }
 {
     let started = new_group(alloc, plan, shard, kept, request)?;
+    reserve_group(&mut kept.index, &started)?;
     note_if_immediate(plan, &started, outbox)?;
     send_startok(shard, &started, outbox)?;
     add_group(&mut kept.index, &started)?;

@@ -1,7 +1,7 @@
 //! The index.
-ghost use Rattle.std.specs.Prelude.{◌≡◌, [], IsTrue, OnOk};
-ghost use Rattle.roc_server_index.specs.GroupRefs.{group_refs_at, ends_with, with_group_ref, without, ChangesAt};
-ghost use Rattle.roc_server_index.specs.Inner.Held.{held};
+ghost use Rattle.std.specs.Prelude.{◌≡◌, ◌≤◌, ◌<◌, ◌+◌, [], true, IsTrue, IsOk, OnOk, OnErr};
+ghost use Rattle.roc_server_index.specs.GroupRefs.{group_refs_at, spare_at, ends_with, with_group_ref, without, ChangesAt, HaveSameRefs, KeepsRoom, TakesRoomAt};
+ghost use Rattle.roc_server_index.specs.Inner.Held.{held, room_of};
 
 use crate::GroupRef;
 use roc_base::{NoMemory, TxnId};
@@ -10,7 +10,8 @@ use std::alloc::Global;
 use std::collections::BTreeMap;
 use std::marker::Model;
 
-/// The references of the groups that use a cell, for each cell. A cell that no group uses takes no memory.
+/// The references of the groups that use a cell, for each cell. A cell takes no memory until a group uses it or room is
+/// reserved there.
 #[derive(Drop)]
 pub struct Index {
     alloc: Global,
@@ -20,12 +21,12 @@ pub struct Index {
 impl Model for Index {
     ghost use Rattle.std.specs.Prelude.{List};
     ghost use Rattle.roc_rows.specs.declared.cell.Cell.{Cell};
-    ghost use Rattle.roc_server_index.specs.declared.group_ref.GroupRef.{GroupRef};
+    ghost use Rattle.roc_server_index.specs.GroupRefs.{CellRefs};
     ghost use Rattle.roc_server_index.specs.Inner.Held.{held};
 
-    ghost Value = { List (Cell × List GroupRef) };
+    ghost Value = { List (Cell × CellRefs) };
 
-    ghost view = { λ i. held (λ v. v.items) i.cells.entries };
+    ghost view = { λ i. held i.cells.entries };
 }
 
 impl Index {
@@ -49,9 +50,14 @@ impl Index {
         }
     }
 
-    /// Adds a reference at a cell, unless the last one there is of the same group. `NoMemory` promises nothing.
+    /// Adds a reference at a cell, unless the last one there is of the same group. `NoMemory` leaves the references of all
+    /// cells as they were, and comes only where the cell has no room and its last reference is of another group.
     pub fn add(&mut self, cell: Cell, group_ref: GroupRef) -> Result<(), NoMemory>
-        ensures { OnOk result (ChangesAt cell (with_group_ref group_ref) self.old self.new) }
+        ensures ok { OnOk result (ChangesAt cell (with_group_ref group_ref) self.old self.new) }
+        ensures err { OnErr result (HaveSameRefs self.old self.new) }
+        ensures succeeds { 0 < spare_at cell self.old → IsOk result }
+        ensures again { ends_with group_ref (group_refs_at cell self.old) ≡ true → IsOk result }
+        ensures spare { TakesRoomAt cell self.old self.new }
     {
         if let Some(group_refs) = self.cells.get_mut(&cell) {
             put(group_refs, group_ref)?;
@@ -59,6 +65,23 @@ impl Index {
         }
         let mut group_refs = Vec::new(self.alloc);
         group_refs.push(group_ref)?;
+        self.cells.insert(cell, group_refs)?;
+        Ok(())
+    }
+
+    /// Takes memory ahead, so that one more reference finds room at a cell. No references change, whether there is memory
+    /// or not.
+    pub fn reserve(&mut self, cell: Cell) -> Result<(), NoMemory>
+        ensures refs { HaveSameRefs self.old self.new }
+        ensures ok { OnOk result (0 < spare_at cell self.new) }
+        ensures succeeds { 0 < spare_at cell self.old → IsOk result }
+        ensures spare { KeepsRoom self.old self.new }
+    {
+        if let Some(group_refs) = self.cells.get_mut(&cell) {
+            group_refs.reserve(1)?;
+            return Ok(());
+        }
+        let group_refs = Vec::with_capacity(self.alloc, 1)?;
         self.cells.insert(cell, group_refs)?;
         Ok(())
     }
@@ -75,8 +98,8 @@ impl Index {
 
 // Takes the references of a transaction out of a cell, and tells whether the cell was emptied by it.
 fn empties(cells: &mut BTreeMap<Cell, Vec<GroupRef>>, cell: Cell, id: TxnId) -> bool
-    ensures changes { ChangesAt cell (without id) (held (λ v. v.items) cells.old.entries) (held (λ v. v.items) cells.new.entries) }
-    ensures none { IsTrue result → group_refs_at cell (held (λ v. v.items) cells.new.entries) ≡ [] }
+    ensures changes { ChangesAt cell (without id) (held cells.old.entries) (held cells.new.entries) }
+    ensures none { IsTrue result → group_refs_at cell (held cells.new.entries) ≡ [] }
 {
     match cells.get_mut(&cell) {
         Some(group_refs) => {
@@ -99,7 +122,11 @@ fn ends_with(group_refs: &[GroupRef], group_ref: GroupRef) -> bool
 
 // Adds a reference, unless the last one is of the same group.
 fn put(group_refs: &mut Vec<GroupRef>, group_ref: GroupRef) -> Result<(), NoMemory>
-    ensures { OnOk result (group_refs.new.items ≡ with_group_ref group_ref group_refs.old.items) }
+    ensures ok { OnOk result (group_refs.new.items ≡ with_group_ref group_ref group_refs.old.items) }
+    ensures err { OnErr result (group_refs.new.items ≡ group_refs.old.items) }
+    ensures succeeds { 0 < room_of group_refs.old → IsOk result }
+    ensures again { ends_with group_ref group_refs.old.items ≡ true → IsOk result }
+    ensures spare { room_of group_refs.old ≤ room_of group_refs.new + 1 }
 {
     if ends_with(group_refs, group_ref) {
         return Ok(());

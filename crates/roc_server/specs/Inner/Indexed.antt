@@ -1,6 +1,6 @@
 -- The index from cells to the undecided groups that use them, and what is looked at through it
 use Rattle.std.specs.Prelude.{◌≡◌, ◌<◌, IsSome, length, Bool, true, false, not, ◌&&◌, List, [], ◌∷◌, ◌++◌, Option, Some, None, filter, if◌then◌else◌}
-use Rattle.std.specs.List.{list_any}
+use Rattle.std.specs.List.{AllByRecursion, list_any}
 use Rattle.roc_sequence.specs.Lists.{Has}
 use Rattle.roc_sequence.specs.Places.{is_listed}
 use Rattle.roc_base.specs.declared.id.TxnId.{TxnId}
@@ -13,7 +13,7 @@ use Rattle.roc_rows.specs.Cells.{is_cell}
 use Rattle.roc_group.specs.declared.access.Access.{Access}
 use Rattle.roc_group.specs.Accesses.{do_conflict}
 use Rattle.roc_server_index.specs.declared.group_ref.GroupRef.{GroupRef}
-use Rattle.roc_server_index.specs.GroupRefs.{group_refs_at, without}
+use Rattle.roc_server_index.specs.GroupRefs.{CellRefs, group_refs_at, spare_at, without}
 use Rattle.roc_plan.specs.Groups.{Plan, groups_of, is_immediate_of}
 use Rattle.roc_server.specs.declared.started.StartedGroup.{StartedGroup}
 use Rattle.roc_server.specs.Start.{uses_cell}
@@ -32,7 +32,7 @@ abbrev pub undecided : List TxnId → List GroupRef → List GroupRef
 undecided decided ss = filter (λ s. not (is_listed is_txn decided s.id)) ss
 
 -- at each cell it has exactly the references of the undecided groups that use the cell
-abbrev pub IsIndexOf : List (Cell × List GroupRef) → List TxnId → List StartedGroup → Type 0
+abbrev pub IsIndexOf : List (Cell × CellRefs) → List TxnId → List StartedGroup → Type 0
 IsIndexOf index decided started = (c : Cell) → group_refs_at c index ≡ undecided decided (group_refs_of c started)
 
 -- s is the reference of one of these groups, which uses the cell
@@ -42,29 +42,33 @@ pub record IsGroupRefOf (es : List StartedGroup) (c : Cell) (s : GroupRef) : Typ
   pub is : s ≡ group_ref_of group
   pub used : uses_cell c group ≡ true
 
-abbrev pub AreGroupRefsOf : List StartedGroup → List (Cell × List GroupRef) → Type 0
+abbrev pub AreGroupRefsOf : List StartedGroup → List (Cell × CellRefs) → Type 0
 AreGroupRefsOf started index = (c : Cell) (s : GroupRef) → Has s (group_refs_at c index) → IsGroupRefOf started c s
 
 -- there is such a group, and the plan has it
 abbrev pub IsGroupRefWithin : Plan → List StartedGroup → GroupRef → Type 0
 IsGroupRefWithin plan started s = IsSome (find_group s.id s.group started) × (s.group < length (groups_of plan s.proc))
 
+-- there is room for one more reference at the cell of each of these uses
+abbrev pub HasRoomFor : List Access → List (Cell × CellRefs) → Type 0
+HasRoomFor cells index = AllByRecursion (λ a. 0 < spare_at a.cell index) cells
+
 -- ---- changes
 
 -- the reference stands behind those of each of these cells
-abbrev pub IsAddedAt : GroupRef → List Access → (old new : List (Cell × List GroupRef)) → Type 0
+abbrev pub IsAddedAt : GroupRef → List Access → (old new : List (Cell × CellRefs)) → Type 0
 IsAddedAt s cells old new = (c : Cell) → group_refs_at c new ≡ group_refs_at c old ++ (if list_any (λ a. is_cell a.cell c) cells then s ∷ [] else [])
 
 -- the transaction is out of the cells that pass, and no other cell has changed
-abbrev pub IsOutOf : TxnId → (Cell → Bool) → (old new : List (Cell × List GroupRef)) → Type 0
+abbrev pub IsOutOf : TxnId → (Cell → Bool) → (old new : List (Cell × CellRefs)) → Type 0
 IsOutOf id passes old new = (c : Cell) → group_refs_at c new ≡ (if passes c then without id (group_refs_at c old) else group_refs_at c old)
 
 -- it is out of all cells
-abbrev pub IsOut : TxnId → (old new : List (Cell × List GroupRef)) → Type 0
+abbrev pub IsOut : TxnId → (old new : List (Cell × CellRefs)) → Type 0
 IsOut id old new = (c : Cell) → group_refs_at c new ≡ without id (group_refs_at c old)
 
 -- all of them are
-abbrev pub AreOut : List TxnId → (old new : List (Cell × List GroupRef)) → Type 0
+abbrev pub AreOut : List TxnId → (old new : List (Cell × CellRefs)) → Type 0
 AreOut ids old new = (c : Cell) → group_refs_at c new ≡ filter (λ s. not (is_listed is_txn ids s.id)) (group_refs_at c old)
 
 -- ---- looks

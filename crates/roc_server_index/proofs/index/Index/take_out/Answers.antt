@@ -1,14 +1,15 @@
-use Rattle.std.proofs.Common.{◌≡◌, [], None, refl, sym, subst}
+use Rattle.std.proofs.Common.{[], None, refl, sym, subst}
 use Rattle.roc_server_index.specs.GroupRefs.{without, ChangesAt}
 use Rattle.roc_server_index.specs.Inner.Held.{held}
-use Rattle.roc_server_index.proofs.Changed.{changes, emptied}
+use Rattle.roc_server_index.proofs.Changed.{set_at, changes, emptied}
 use Rattle.roc_server_index.proofs.index.Index.take_out.Goals as goal
 use Rattle.roc_server_index.proofs.index.Index.take_out.Goals.{in-Some-1, in-None-1}
 
 pub returns-then-empties : goal.returns-then-empties
 returns-then-empties c =
-    let now = held (λ v. v.items) c.remove-group_refs.new.self.entries in
-    let removed = changes (λ v. v.items) c.args.cell c.empties.new.cells.entries c.remove-group_refs.new.self.entries None (λ ss. []) c.remove-group_refs.ensures.updates.0 refl in
+    let now = held c.remove-group_refs.new.self.entries in
+    let removed : ChangesAt c.args.cell (λ ss. []) (held c.empties.new.cells.entries) now =
+    changes c.args.cell _ _ _ (set_at c.args.cell c.empties.new.cells.entries c.remove-group_refs.new.self.entries None c.remove-group_refs.ensures.updates.0) (λ ss. []) refl in
     let done : ChangesAt c.args.cell (without c.args.id) c.args.self.now now =
     subst (λ v. ChangesAt c.args.cell (without c.args.id) v now) c.self.view_is
     (emptied c.args.cell (without c.args.id) _ _ now c.empties.ensures.changes (c.empties.ensures.none c.if-empties.true) removed) in
