@@ -1,0 +1,9 @@
+mod Appending
+mod Beginnings
+mod Bounds
+mod Ends
+mod Making
+mod Records
+mod TwoCalls
+mod Walks
+mod Whichever

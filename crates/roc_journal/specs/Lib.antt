@@ -1,0 +1,6 @@
+pub mod Answers
+pub mod Faults
+pub mod Format
+pub mod Inner
+pub mod Laws
+pub mod Settled
