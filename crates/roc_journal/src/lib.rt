@@ -15,6 +15,6 @@ pub mod laws;
 mod record;
 mod through;
 
-pub use fault::{AppendFault, ReadFault};
+pub use fault::AppendFault;
 pub use journal::{Journal, MOST_BYTES};
 pub use record::{Record, record_of};

@@ -1,0 +1,5 @@
+//! Tests of journals over disks in memory, with calls that fail or stop where told. It gives nothing to use.
+#![tactic(auto)]
+
+#[cfg(test)]
+mod appends;
