@@ -9,8 +9,8 @@ use Rattle.roc_disk.proofs.Moments.{joined, weaker}
 use Rattle.roc_journal.specs.declared.journal.Journal.{Journal}
 use Rattle.roc_journal.specs.declared.record.Record.{Record}
 use Rattle.roc_journal.specs.Format.{record_bytes, IsRecordOf}
-use Rattle.roc_journal.specs.Inner.Steps.{IsDurable, IsThrough}
-use Rattle.roc_journal.specs.Settled.{IsSettled, IsBeforeOrAfter}
+use Rattle.roc_journal.specs.Inner.Steps.{IsThrough}
+use Rattle.roc_journal.specs.Settled.{IsDurable, IsSettled, IsBeforeOrAfter}
 use Rattle.roc_journal.proofs.Ends.{size_of_end, torn_behind, put_behind, torn_gate, put_gate}
 use Rattle.roc_journal.proofs.Records.{front, one_or_other, all_more, gate_moves, front_size}
 

@@ -13,7 +13,7 @@ module _ (front : List ℕ) where
   pub size_of_end : (gate : ℕ) → length (front ++ gate ∷ []) ≡ length front + 1
   size_of_end gate = length-append front (gate ∷ [])
 
-  split_end : (gate : ℕ) (behind : List ℕ) → front ++ gate ∷ behind ≡ (front ++ gate ∷ []) ++ behind
+  pub split_end : (gate : ℕ) (behind : List ℕ) → front ++ gate ∷ behind ≡ (front ++ gate ∷ []) ++ behind
   split_end gate behind = sym (append_assoc front (gate ∷ []) behind)
 
   -- the bytes up to the gate stay

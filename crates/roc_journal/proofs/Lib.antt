@@ -1,9 +1,14 @@
 mod Appending
 mod Beginnings
 mod Bounds
+mod Datagrams
+mod Endings
 mod Ends
+mod Heads
 mod Making
+mod Nexts
 mod Records
 mod TwoCalls
+mod Unwritten
 mod Walks
 mod Whichever

@@ -10,8 +10,8 @@ use Rattle.roc_disk.proofs.Moments.{joined, weaker}
 use Rattle.roc_journal.specs.declared.journal.Journal.{Journal}
 use Rattle.roc_journal.specs.declared.record.Record.{Record}
 use Rattle.roc_journal.specs.Format.{magic, head, record_bytes, opened, IsJournal}
-use Rattle.roc_journal.specs.Inner.Steps.{IsDurable, IsThrough}
-use Rattle.roc_journal.specs.Settled.{IsSettled, IsUnmade}
+use Rattle.roc_journal.specs.Inner.Steps.{IsThrough}
+use Rattle.roc_journal.specs.Settled.{IsDurable, IsSettled, IsUnmade}
 use Rattle.roc_journal.proofs.Records.{front, record_size}
 
 -- so short a file holds no record

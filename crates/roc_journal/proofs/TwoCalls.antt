@@ -7,7 +7,8 @@ use Rattle.roc_disk.specs.Answers.{OnDone}
 use Rattle.roc_disk.specs.Stops.{Follows, NoMore, Only, Elapses}
 use Rattle.roc_disk.specs.Over.{LeavesOnly}
 use Rattle.roc_disk.proofs.Moments.{started, one_more}
-use Rattle.roc_journal.specs.Inner.Steps.{IsDurable, IsThrough}
+use Rattle.roc_journal.specs.Inner.Steps.{IsThrough}
+use Rattle.roc_journal.specs.Settled.{IsDurable}
 
 pub on_done : (result : DiskDone) (P Q : Type 0) → (P → Q) → OnDone result P → OnDone result Q
 on_done Ok P Q to p = to p

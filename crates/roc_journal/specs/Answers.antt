@@ -2,6 +2,8 @@
 use Rattle.std.specs.Prelude.{ℕ, ◌+◌, Bool, true, false, List, length, nat_le, Result, Ok, Err}
 use Rattle.roc_journal.specs.declared.fault.AppendFault.{AppendFault}
 use Rattle.roc_journal.specs.declared.fault.AppendFault.TheVariants.{Full, Disk}
+use Rattle.roc_journal.specs.declared.fault.ReadFault.{ReadFault}
+use Rattle.roc_journal.specs.declared.fault.ReadFault.TheVariants.{Journal as NoJournal, Disk as ReadDisk, NoMemory}
 use Rattle.roc_journal.specs.declared.journal.Journal.{Journal}
 
 -- how long a journal may be
@@ -21,3 +23,10 @@ abbrev pub is_full : {T : Type 0} → Result T AppendFault → Bool
 is_full (Ok done) = false
 is_full (Err Full) = true
 is_full (Err Disk) = false
+
+-- reading stopped because the disk failed
+abbrev pub read_failed : {T : Type 0} → Result T ReadFault → Bool
+read_failed (Ok found) = false
+read_failed (Err (NoJournal at)) = false
+read_failed (Err ReadDisk) = true
+read_failed (Err NoMemory) = false

@@ -6,6 +6,12 @@ use Rattle.roc_journal.specs.declared.journal.Journal.{Journal}
 use Rattle.roc_journal.specs.declared.record.Record.{Record}
 use Rattle.roc_journal.specs.Format.{head, opened, IsJournal, IsAtRest}
 
+-- The open file has this name, holds these bytes, and a stop leaves nothing else.
+pub record IsDurable {D : Type 0} (disk : DiskOf D) (now : D) (name bytes : List ℕ) : Type 0 where
+  pub file : disk.file now ≡ Some name
+  pub content : disk.content now name ≡ bytes
+  pub only : Only bytes (disk.may_leave now name)
+
 -- The open file has this name and is a journal of these records, with nothing behind it and all of it on the disk.
 pub record IsSettled {D : Type 0} (disk : DiskOf D) (now : D) (name tag : List ℕ) (records : List Record) (journal : Journal) : Type 0 where
   pub file : disk.file now ≡ Some name

@@ -32,6 +32,13 @@ fn blank_head(tag: [u8; 8]) -> [u8; 13]
 }
 
 impl Journal {
+    // The journal whose last gate has this place.
+    pub(crate) fn ending_at(gate: u64) -> Journal
+        ensures { result.gate ≡ gate }
+    {
+        Journal { gate }
+    }
+
     /// Makes a journal without records of the open file, which has to be empty and synced. `None` where the disk failed:
     /// what is left holds no record, and may be emptied and made again.
     pub fn create<D: Disk>(tag: [u8; 8], disk: &mut D) -> Option<Journal>

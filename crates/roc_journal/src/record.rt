@@ -11,7 +11,9 @@ use std::alloc::Global;
 /// A message that was kept, and the header that it came with.
 #[derive(Drop)]
 pub struct Record {
+    /// The header of the datagram, with the tag of the journal.
     pub header: Header,
+    /// The message.
     pub msg: Msg,
 }
 

@@ -1,16 +1,11 @@
 -- A write and a cut that are on the disk once they are answered Ok.
-use Rattle.std.specs.Prelude.{◌≡◌, ◌≤◌, ℕ, List, length, take, Some}
+use Rattle.std.specs.Prelude.{◌≤◌, ℕ, List, length, take}
 use Rattle.roc_disk.specs.declared.disk.Disk.{Ghosts as DiskOf}
 use Rattle.roc_disk.specs.declared.disk.DiskDone.{DiskDone}
 use Rattle.roc_disk.specs.Answers.{OnDone, put}
-use Rattle.roc_disk.specs.Stops.{Torn, Cut, Only}
+use Rattle.roc_disk.specs.Stops.{Torn, Cut}
 use Rattle.roc_disk.specs.Over.{LeavesOnly}
-
--- the open file has this name, holds these bytes, and a stop leaves nothing else
-pub record IsDurable {D : Type 0} (disk : DiskOf D) (now : D) (name bytes : List ℕ) : Type 0 where
-  pub file : disk.file now ≡ Some name
-  pub content : disk.content now name ≡ bytes
-  pub only : Only bytes (disk.may_leave now name)
+use Rattle.roc_journal.specs.Settled.{IsDurable}
 
 -- a stop at any moment leaves the file after this step, and once it was done the file is durable
 pub record IsThrough {D : Type 0} (disk : DiskOf D) (old new : D) (name : List ℕ) (step : List ℕ → Type 0) (result : DiskDone) (after : List ℕ) : Type 0 where

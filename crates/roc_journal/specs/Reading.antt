@@ -1,0 +1,45 @@
+-- How far a journal was read, and what came of one record more.
+use Rattle.std.specs.Prelude.{◌≡◌, ℕ, ◌+◌, ◌<◌, List, [], ◌∷◌, ◌++◌, length, Option, Some, None, Result, Ok, Err}
+use Rattle.std.specs.List.{AllByRecursion}
+use Rattle.roc_journal.specs.declared.fault.ReadFault.{ReadFault}
+use Rattle.roc_journal.specs.declared.fault.ReadFault.TheVariants.{Journal as NoJournal, Disk, NoMemory}
+use Rattle.roc_journal.specs.declared.reader.Reader.{Reader}
+use Rattle.roc_journal.specs.declared.record.Record.{Record}
+use Rattle.roc_journal.specs.Format.{head, opened, IsRecordOf, IsJournal}
+use Rattle.roc_journal.specs.Faults.{IsFault}
+
+-- These records were read of the bytes, which go on with a gate.
+pub record IsReadTo (bytes : List ℕ) (records : List Record) (reader : Reader) : Type 0 where
+  pub each : AllByRecursion (IsRecordOf reader.tag) records
+  pub gate_byte : ℕ
+  pub behind : List ℕ
+  pub is : bytes ≡ head reader.tag ++ opened records ++ gate_byte ∷ behind
+  pub gate : reader.gate ≡ length (head reader.tag ++ opened records)
+
+-- the place of a reader's gate lies within the file
+abbrev pub IsWithin : Reader → Type 0
+IsWithin reader = reader.gate < reader.len
+
+-- what came of reading on: a record with the place of its length, the end of the journal, or the fault that the file has
+abbrev pub Gives : (bytes : List ℕ) → List Record → (old new : Reader) → Result (Option (ℕ × Record)) ReadFault → Type 0
+Gives bytes records old new (Ok (Some (at, found))) = (at ≡ length (head old.tag ++ opened records) + 1) × IsReadTo bytes (records ++ found ∷ []) new
+Gives bytes records old new (Ok None) = IsJournal old.tag bytes records
+Gives bytes records old new (Err (NoJournal at)) = IsFault old.tag bytes at
+Gives bytes records old new (Err Disk) = Unit {0}
+Gives bytes records old new (Err NoMemory) = Unit {0}
+
+-- what the file does not say: a reader stands at a gate of a file of its own tag, and opening takes no memory
+abbrev pub StartsRight : (tag : List ℕ) → Result (Option Reader) ReadFault → Type 0
+StartsRight tag (Ok (Some reader)) = (reader.tag ≡ tag) × IsWithin reader
+StartsRight tag (Ok None) = Unit {0}
+StartsRight tag (Err (NoJournal at)) = Unit {0}
+StartsRight tag (Err Disk) = Unit {0}
+StartsRight tag (Err NoMemory) = ⊥
+
+-- what came of opening a file of these bytes: a reader of all of it that has read no record, the fault of the head, or that it is empty
+abbrev pub Starts : (tag bytes : List ℕ) → Result (Option Reader) ReadFault → Type 0
+Starts tag bytes (Ok (Some reader)) = (reader.len ≡ length bytes) × IsReadTo bytes [] reader
+Starts tag bytes (Ok None) = bytes ≡ []
+Starts tag bytes (Err (NoJournal at)) = ¬ (bytes ≡ []) × IsFault tag bytes at
+Starts tag bytes (Err Disk) = Unit {0}
+Starts tag bytes (Err NoMemory) = ⊥
