@@ -56,7 +56,8 @@ module _ (front : List ℕ) where
   pub put_gate : (gate byte : ℕ) (behind : List ℕ) → put (front ++ gate ∷ behind) (length front) (byte ∷ []) ≡ front ++ byte ∷ behind
   put_gate gate byte behind =
       ap (λ (l : List ℕ). l ++ byte ∷ [] ++ drop (length front + 1) (front ++ gate ∷ behind)) (take_at front (gate ∷ behind) (length front) refl)
-      ∙ ap (λ (l : List ℕ). (front ++ byte ∷ []) ++ l) (ap (λ (l : List ℕ). drop (length front + 1) l) (split_end gate behind) ∙ drop_at (front ++ gate ∷ []) behind (length front + 1) (size_of_end gate))
+      ∙ ap (λ (l : List ℕ). (front ++ byte ∷ []) ++ l)
+      (ap (λ (l : List ℕ). drop (length front + 1) l) (split_end gate behind) ∙ drop_at (front ++ gate ∷ []) behind (length front + 1) (size_of_end gate))
       ∙ append_assoc front (byte ∷ []) behind
 
   -- a cut behind the gate leaves it

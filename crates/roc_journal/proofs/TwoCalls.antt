@@ -37,5 +37,7 @@ module _ {D : Type 0} (disk : DiskOf D) (old mid new : D) (name bytes : List ℕ
         → OnDone result (Only (disk.content mid name) (disk.may_leave new name)) → IsThrough disk old new name (step bytes) result after
     sync_follows result after file content same_file same_content no_more goes_on durable_now = record {
       leaves = one_more disk name old mid new (step bytes) leaves goes_on (λ image may. left image (no_more image may));
-      done = on_done result _ _ (λ only. record { file = same_file ∙ file ∙ durable.file; content = same_content ∙ content; only = subst (λ held. Only held (disk.may_leave new name)) content only }) durable_now;
+      done = on_done result _ _
+          (λ only. record { file = same_file ∙ file ∙ durable.file; content = same_content ∙ content; only = subst (λ held. Only held (disk.may_leave new name)) content only })
+          durable_now;
     }

@@ -12,8 +12,10 @@ returns-in-Failed-write_through-clause-any_moment g c = λ tells name file empty
     let mid = c.write_through-in-Ok.ensures.told tells in
     let first = c.in-Ok.ensures.written mid name _ (record { file = file; content = empty; only = only }) (omega arith) in
     let whole = first_done g.D.Disk name c.args.tag c.blank_head-blank.result c.blank_head-blank.ensures.tag_length c.blank_head-blank.ensures.bytes c.write_through.new.disk first.done in
-    let so_far = first_leaves g.D.Disk name c.args.tag c.blank_head-blank.result c.blank_head-blank.ensures.tag_length c.blank_head-blank.ensures.bytes c.args.disk.now c.write_through.new.disk _ _ first in
-    second_leaves g.D.Disk name c.args.tag c.blank_head-blank.result c.blank_head-blank.ensures.tag_length c.blank_head-blank.ensures.bytes c.args.disk.now c.write_through.new.disk c.write_through-in-Ok.new.disk _ _
+    let so_far = first_leaves g.D.Disk name c.args.tag c.blank_head-blank.result c.blank_head-blank.ensures.tag_length c.blank_head-blank.ensures.bytes c.args.disk.now c.write_through.new.disk _ _
+    first in
+    second_leaves g.D.Disk name c.args.tag c.blank_head-blank.result c.blank_head-blank.ensures.tag_length c.blank_head-blank.ensures.bytes c.args.disk.now
+    c.write_through.new.disk c.write_through-in-Ok.new.disk _ _
     so_far (c.write_through-in-Ok.ensures.written tells name _ whole (omega arith))
 
 pub returns-in-Ok-write_through-clause-any_moment : goal.returns-in-Ok-write_through-clause-any_moment
@@ -21,8 +23,10 @@ returns-in-Ok-write_through-clause-any_moment g c = λ tells name file empty onl
     let mid = c.write_through-in-Ok.ensures.told tells in
     let first = c.in-Ok.ensures.written mid name _ (record { file = file; content = empty; only = only }) (omega arith) in
     let whole = first_done g.D.Disk name c.args.tag c.blank_head-blank.result c.blank_head-blank.ensures.tag_length c.blank_head-blank.ensures.bytes c.write_through.new.disk first.done in
-    let so_far = first_leaves g.D.Disk name c.args.tag c.blank_head-blank.result c.blank_head-blank.ensures.tag_length c.blank_head-blank.ensures.bytes c.args.disk.now c.write_through.new.disk _ _ first in
-    second_leaves g.D.Disk name c.args.tag c.blank_head-blank.result c.blank_head-blank.ensures.tag_length c.blank_head-blank.ensures.bytes c.args.disk.now c.write_through.new.disk c.write_through-in-Ok.new.disk _ _
+    let so_far = first_leaves g.D.Disk name c.args.tag c.blank_head-blank.result c.blank_head-blank.ensures.tag_length c.blank_head-blank.ensures.bytes c.args.disk.now c.write_through.new.disk _ _
+    first in
+    second_leaves g.D.Disk name c.args.tag c.blank_head-blank.result c.blank_head-blank.ensures.tag_length c.blank_head-blank.ensures.bytes c.args.disk.now
+    c.write_through.new.disk c.write_through-in-Ok.new.disk _ _
     so_far (c.write_through-in-Ok.ensures.written tells name _ whole (omega arith))
 
 pub returns-in-Ok-write_through-clause-made : goal.returns-in-Ok-write_through-clause-made
