@@ -1,5 +1,5 @@
 -- What an outbox holds, and what is added to it
-use Rattle.std.specs.Prelude.{◌≡◌, ◌++◌, ℕ, List}
+use Rattle.std.specs.Prelude.{◌≡◌, ◌++◌, ◌≤◌, ℕ, List, length}
 use Rattle.roc_base.specs.declared.id.TxnId.{TxnId}
 use Rattle.roc_msg.specs.declared.outbox.Outgoing.{Outgoing}
 use Rattle.roc_msg.specs.declared.outbox.Ran.{Ran}
@@ -32,3 +32,11 @@ HasDecided old new ids = (new.messages ≡ old.messages) × (new.decided ≡ old
 -- these accesses stand behind the others, and that is all
 abbrev pub HasRun : (old new : Collected) → List Ran → Type 0
 HasRun old new accesses = (new.messages ≡ old.messages) × (new.decided ≡ old.decided) × (new.ran ≡ old.ran ++ accesses)
+
+-- what another one holds stands behind, each in order
+abbrev pub HoldsAlso : (old new more : Collected) → Type 0
+HoldsAlso old new more = (new.messages ≡ old.messages ++ more.messages) × (new.decided ≡ old.decided ++ more.decided) × (new.ran ≡ old.ran ++ more.ran)
+
+-- there is room for all that another one holds
+abbrev pub HasRoomFor : (old more : Collected) → Type 0
+HasRoomFor old more = (length more.messages ≤ old.room.messages) × (length more.decided ≤ old.room.decided) × (length more.ran ≤ old.room.ran)

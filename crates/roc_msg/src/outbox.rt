@@ -1,6 +1,6 @@
 //! What a node gives in one event.
 ghost use Rattle.std.specs.Prelude.{◌≡◌, ◌∷◌, ◌+◌, ◌<◌, ◌≤◌, [], length, IsOk, OnOk, OnErr};
-ghost use Rattle.roc_msg.specs.Outbox.{HoldsSame, HasSent, HasDecided, HasRun};
+ghost use Rattle.roc_msg.specs.Outbox.{HoldsSame, HoldsAlso, HasRoomFor, HasSent, HasDecided, HasRun};
 
 use crate::Msg;
 use roc_base::{NoMemory, Node, TxnId};
@@ -142,6 +142,25 @@ impl Outbox {
         ensures others { (self.new.room.messages ≡ self.old.room.messages) × (self.new.room.decided ≡ self.old.room.decided) }
     {
         self.ran.push(access)?;
+        Ok(())
+    }
+
+    /// Adds what another one holds: its messages, its decided transactions and its accesses. `NoMemory` comes only where there is no room
+    /// for all of them, and leaves what is held.
+    pub fn append(&mut self, more: Outbox) -> Result<(), NoMemory>
+        ensures ok { OnOk result (HoldsAlso self.old self.new more) }
+        ensures err { OnErr result (HoldsSame self.old self.new) }
+        ensures succeeds { HasRoomFor self.old more → IsOk result }
+    {
+        let Outbox {
+            mut messages,
+            mut decided,
+            mut ran,
+        } = more;
+        self.reserve(messages.len(), decided.len(), ran.len())?;
+        self.messages.append(&mut messages).unwrap();
+        self.decided.append(&mut decided).unwrap();
+        self.ran.append(&mut ran).unwrap();
         Ok(())
     }
 }

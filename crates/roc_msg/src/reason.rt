@@ -54,15 +54,13 @@ impl fmt::Display for Reason {
     }
 }
 
-/// Why a node gives no answer.
+/// Why a node gives no answer. The node and its outbox are as they were then, but for the room that they have, so the same call may be
+/// made again.
 #[derive(Clone, Copy, Debug, PartialEq, Eq, Error)]
 pub enum NodeFault {
-    /// No memory. Nothing is promised of the node, which stops.
+    /// There is no memory for what comes of the call.
     #[error("out of memory")]
     NoMemory,
-    /// This node found no memory before.
-    #[error("stopped")]
-    Stopped,
 }
 
 impl From<NoMemory> for NodeFault {
