@@ -3,3 +3,4 @@ pub mod Stored
 pub mod Listed
 pub mod Stores
 pub mod Counts
+pub mod Undone

@@ -2,7 +2,7 @@ use Rattle.std.proofs.Common.{◌∙◌, ap, sym, pos, unwrap_or, SFits, w64}
 use Rattle.std.proofs.lemmas.Int.{to_z-of_z}
 use Rattle.roc_rows.specs.Store.{read}
 use Rattle.roc_rows.proofs.Stored.{read-store_of}
-use Rattle.roc_rows.proofs.rows.Rows.get.Goals as goal
+use Rattle.roc_rows.proofs.numbers.Numbers.get.Goals as goal
 
 pub returns : goal.returns
 returns c =

@@ -6,7 +6,7 @@ use Rattle.std.specs.List.Sorted.{IsPermutation}
 use Rattle.std.specs.declared.alloc.AllocError.{AllocError}
 use Rattle.roc_rows.specs.Store.{entries}
 use Rattle.roc_rows.proofs.Listed.{sorted_entries}
-use Rattle.roc_rows.proofs.rows.Rows.nonzero.Goals as goal
+use Rattle.roc_rows.proofs.numbers.Numbers.nonzero.Goals as goal
 
 pub returns : goal.returns
 returns c =
