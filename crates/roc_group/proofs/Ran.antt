@@ -1,5 +1,5 @@
 -- Runs of pieces, and what they use and bind, one after another
-use Rattle.std.proofs.Common.{◌≡◌, ◌≤◌, ◌+◌, ℕ, zero, suc, ℤ, true, false, List, [], ◌∷◌, ◌++◌, length, map, take, refl, sym, ap, ◌∙◌, append_assoc, append-nil, arith}
+use Rattle.std.proofs.Common.{◌≡◌, ◌≤◌, ◌+◌, ℕ, zero, suc, ℤ, true, false, List, [], ◌∷◌, ◌++◌, map, take, refl, sym, ap, ◌∙◌, append_assoc, append-nil, arith}
 use Rattle.roc_program.specs.Program.{Statement, Get, Set, Out, Piece}
 use Rattle.roc_rows.specs.Store.{Store}
 use Rattle.roc_program.specs.Values.{Environment, value}

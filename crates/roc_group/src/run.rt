@@ -24,7 +24,7 @@ use roc_whole::run_piece;
 
 /// Runs a group on the cells: its pieces in program order, from what it is given. The values of the names that it binds, what it gives
 /// out and the cells that it touches are added to `out`. `NoMemory` leaves cells and `out` as they were, and comes only where cells or
-/// `out` lack room for one per statement of the group, or `out` lacks it for the procedure's names.
+/// `out` lack room for one per statement of the group, or `out` lacks it for the procedure's names. A savepoint of the cells stays.
 pub fn run_group(
     plan: &Plan,
     proc: u16,
@@ -43,6 +43,7 @@ pub fn run_group(
     ensures err { OnErr result ((rows.new.store ≡ rows.old.store) × AreSameOutputs out.old out.new) }
     ensures succeeds { statements_of plan.now proc group ≤ rows.old.spare → statements_of plan.now proc group ≤ out.old.spare → (procedure_of plan.now proc).names ≤ out.old.names → IsOk result }
     ensures spare { rows.old.spare ≤ rows.new.spare + statements_of plan.now proc group }
+    ensures saved { rows.new.saved ≡ rows.old.saved }
 {
     let procedure = &plan.workload().procedures()[proc as usize];
     let pieces = plan.pieces(proc, group);
@@ -68,6 +69,7 @@ fn make_room(
     requires { AllByRecursion (λ k. k < length (pure.procedure procedure.now).pieces) pieces.now }
     ensures store { rows.new.store ≡ rows.old.store }
     ensures same { AreSameOutputs out.old out.new }
+    ensures saved { rows.new.saved ≡ rows.old.saved }
     ensures rows { OnOk result (statements_in (pieces_at (pure.procedure procedure.now) pieces.now) ≤ rows.new.spare) }
     ensures statements { OnOk result (statements_in (pieces_at (pure.procedure procedure.now) pieces.now) ≤ out.new.spare) }
     ensures names { OnOk result (procedure.now.names ≤ out.new.names) }
@@ -119,6 +121,7 @@ fn run_with(
     ensures bound { given.new.bound.items ≡ given.old.bound.items ++ map (value_of_name names.new) (bound_in (pure.procedure procedure.now) pieces.now) }
     ensures cells { given.new.cells.items ≡ given.old.cells.items ++ uses_of_pieces (progress rows.old.store names.old given.old.outs.items) (pieces_at (pure.procedure procedure.now) pieces.now) }
     ensures spare { rows.old.spare ≤ rows.new.spare + statements_in (pieces_at (pure.procedure procedure.now) pieces.now) }
+    ensures saved { rows.new.saved ≡ rows.old.saved }
 {
     run_pieces(
         procedure,
@@ -149,6 +152,7 @@ fn run_pieces(
     ensures run { progress rows.new.store names.new outs.new.items ≡ after_pieces (progress rows.old.store names.old outs.old.items) (pieces_at (pure.procedure procedure.now) pieces.now) }
     ensures cells { cells.new.items ≡ cells.old.items ++ uses_of_pieces (progress rows.old.store names.old outs.old.items) (pieces_at (pure.procedure procedure.now) pieces.now) }
     ensures spare { rows.old.spare ≤ rows.new.spare + statements_in (pieces_at (pure.procedure procedure.now) pieces.now) }
+    ensures saved { rows.new.saved ≡ rows.old.saved }
 {
     for piece in pieces {
         run_one(
@@ -177,6 +181,7 @@ fn run_one(
     ensures run { progress rows.new.store names.new outs.new.items ≡ after_piece (progress rows.old.store names.old outs.old.items) (pure.piece piece.now) }
     ensures cells { cells.new.items ≡ cells.old.items ++ uses_of_piece (progress rows.old.store names.old outs.old.items) (pure.piece piece.now) }
     ensures spare { rows.old.spare ≤ rows.new.spare + length piece.now.body.items }
+    ensures saved { rows.new.saved ≡ rows.old.saved }
     ensures lens { (vec_len outs.new ≤ vec_len outs.old + length piece.now.body.items) × (vec_len cells.new ≤ vec_len cells.old + length piece.now.body.items) }
     ensures capacities { (vec_capacity outs.old ≤ vec_capacity outs.new) × (vec_capacity cells.old ≤ vec_capacity cells.new) }
 {

@@ -29,7 +29,7 @@ fault_is s id edges facts h d p q = λ i. cond (not (p i)) (Some NotHere) (cond 
 
 module _ (plan : Plan) (shard : Shard) (old : ServerData) (before : Collected) (id : TxnId) (edges : List Dependency) where
   abbrev s : ServerState
-  s = state_of shard old false
+  s = state_of shard old
 
   ignored_shown : (reason : Reason) → Shows (ignored s reason) (Ignored reason) s before before
   ignored_shown reason = record { answers = refl; keeps = refl; sends = sym (append-nil before.messages); decides = sym (append-nil before.decided); ran = sym (append-nil before.ran) }
@@ -51,10 +51,10 @@ module _ (plan : Plan) (shard : Shard) (old : ServerData) (before : Collected) (
       taught_here : Teaches plan shard old new before mid lists
       taught_here = subst (Teaches plan shard old new before mid) is t
 
-      made : (after : Collected) → Shows (after_commit plan old.decided.ids taught_here.ids s id edges facts None) Done (state_of shard new false) before after → Commits plan shard old new before after id edges facts Done
+      made : (after : Collected) → Shows (after_commit plan old.decided.ids taught_here.ids s id edges facts None) Done (state_of shard new) before after → Commits plan shard old new before after id edges facts Done
       made after shown =
           let P : Option Reason → Type 0 = λ f. AreNew (IsDecided old.deps) (old.deps ++ unless_ignored f lists) taught_here.ids in
-          let Q : Option Reason → Type 0 = λ f. Shows (after_commit plan old.decided.ids taught_here.ids s id edges facts f) Done (state_of shard new false) before after in
+          let Q : Option Reason → Type 0 = λ f. Shows (after_commit plan old.decided.ids taught_here.ids s id edges facts f) Done (state_of shard new) before after in
           record { ids = taught_here.ids; new_ids = subst P (sym none) taught_here.new_ids; shown = subst Q (sym none) shown }
 
       abbrev step : ServerStep
@@ -107,5 +107,5 @@ module _ (plan : Plan) (shard : Shard) (old : ServerData) (before : Collected) (
   known_taught new after news none is t =
       let u : Teaches plan shard old new before after one = subst (Teaches plan shard old new before after) is t in
       let P : Option Reason → Type 0 = λ f. AreNew (IsDecided old.deps) (old.deps ++ unless_ignored f one) u.ids in
-      let Q : Option Reason → Type 0 = λ f. Shows (after_known plan u.ids s id edges f) Done (state_of shard new false) before after in
+      let Q : Option Reason → Type 0 = λ f. Shows (after_known plan u.ids s id edges f) Done (state_of shard new) before after in
       record { ids = u.ids; new_ids = subst P (sym none) u.new_ids; shown = subst Q (sym none) u.shown }

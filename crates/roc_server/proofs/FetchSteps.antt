@@ -21,7 +21,7 @@ use Rattle.roc_server.specs.Step.{Shows}
 
 module _ (shard : Shard) (k : ServerData) (id : TxnId) (asker : Shard) where
   abbrev s : ServerState
-  s = state_of shard k false
+  s = state_of shard k
 
   -- by whether the transaction is here, and by the list that is known
   abbrev step : Bool → Option (List Dependency) → ServerStep
@@ -43,9 +43,9 @@ module _ (shard : Shard) (k : ServerData) (id : TxnId) (asker : Shard) where
     fetch_told edges before after e sent =
         found (Some edges) s before after e (record { answers = refl; keeps = refl; sends = sent.0; decides = sent.1 ∙ sym (append-nil before.decided); ran = sent.2 ∙ sym (append-nil before.ran) })
 
-    pub fetch_kept : (waits : Awaited) (out : Collected) → None ≡ list_of id k.deps → waits.waiting ≡ record k.waits.waiting { askers = with_asker (record { id = id; shard = asker }) k.waits.waiting.askers } → Shows (after_fetch s id asker) Done (state_of shard (record k { waits = waits }) false) out out
+    pub fetch_kept : (waits : Awaited) (out : Collected) → None ≡ list_of id k.deps → waits.waiting ≡ record k.waits.waiting { askers = with_asker (record { id = id; shard = asker }) k.waits.waiting.askers } → Shows (after_fetch s id asker) Done (state_of shard (record k { waits = waits })) out out
     fetch_kept waits out e kept =
-        found None (state_of shard (record k { waits = waits }) false) out out e
+        found None (state_of shard (record k { waits = waits })) out out e
         (record { answers = refl; keeps = ap (λ (w : Waiting). record s { lists = record s.lists { waiting = w } }) (sym kept); sends = sym (append-nil out.messages); decides = sym (append-nil out.decided); ran = sym (append-nil out.ran) })
 
   -- who asked is in no invariant

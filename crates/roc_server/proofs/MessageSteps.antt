@@ -29,16 +29,16 @@ IsStepFor plan s msg after old new answer = (r : ServerStep) × Handles plan s m
 
 module _ (plan : Plan) (shard : Shard) (k new : ServerData) (sound : IsConsistent k) (before after : Collected) where
   abbrev s : ServerState
-  s = state_of shard k false
+  s = state_of shard k
 
   abbrev IsStep : Msg → Handled → Type 0
-  IsStep msg answer = IsStepFor plan s msg (state_of shard new false) before after answer
+  IsStep msg answer = IsStepFor plan s msg (state_of shard new) before after answer
 
   decided : AreDecided k.deps k.decided.ids
   decided = record { rising = sound.decided_rising; sound = sound.decided_only; complete = sound.decided_all }
 
   -- of a message of a kind, by what was found
-  comes : (msg m : Msg) (f : Findings) (answer : Handled) → msg ≡ m → AreFindings plan s m f → Shows (after_message plan s f m) answer (state_of shard new false) before after → IsStep msg answer
+  comes : (msg m : Msg) (f : Findings) (answer : Handled) → msg ≡ m → AreFindings plan s m f → Shows (after_message plan s f m) answer (state_of shard new) before after → IsStep msg answer
   comes msg m f answer is found shown =
       let P : Msg → Type 0 = λ n. IsStep n answer in
       subst P (sym is) (after_message plan s f m, record { findings = f; found = found; is = refl }, shown)
@@ -62,7 +62,7 @@ module _ (plan : Plan) (shard : Shard) (k new : ServerData) (sound : IsConsisten
   known_comes (Ok answer) msg id edges is h =
       comes msg (Known id edges) (record { before = k.decided.ids; reached = []; decided = h.ids }) answer is (record { before = decided; reached = nothing_led k.deps; decided = h.new_ids }) h.shown
 
-  pub fetch_comes : {E : Type 0} (r : Result Handled E) (msg : Msg) (id : TxnId) (asker : Shard) → msg ≡ Fetch id asker → IfOk r (λ answer. Shows (after_fetch s id asker) answer (state_of shard new false) before after) → IfOk r (IsStep msg)
+  pub fetch_comes : {E : Type 0} (r : Result Handled E) (msg : Msg) (id : TxnId) (asker : Shard) → msg ≡ Fetch id asker → IfOk r (λ answer. Shows (after_fetch s id asker) answer (state_of shard new) before after) → IfOk r (IsStep msg)
   fetch_comes (Err e) msg id asker is h = tt
   fetch_comes (Ok answer) msg id asker is h =
       comes msg (Fetch id asker) (record { before = k.decided.ids; reached = []; decided = [] }) answer is (record { before = decided; reached = nothing_led k.deps; decided = nothing_new k.deps }) h
@@ -72,7 +72,7 @@ module _ (plan : Plan) (shard : Shard) (k : ServerData) (sound : IsConsistent k)
   nothing = record { before = k.decided.ids; reached = []; decided = [] }
 
   abbrev now : ServerState
-  now = state_of shard k false
+  now = state_of shard k
 
   ignored_shown : Shows (ignored now Foreign) (Ignored Foreign) now out out
   ignored_shown = record { answers = refl; keeps = refl; sends = sym (append-nil out.messages); decides = sym (append-nil out.decided); ran = sym (append-nil out.ran) }

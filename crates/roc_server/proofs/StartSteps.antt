@@ -50,7 +50,7 @@ nothing_led known = record { rising = none_rise; sound = λ u l. absurd (none u 
 
 module _ (plan : Plan) (shard : Shard) (k : ServerData) (id : TxnId) (c : GroupCall) where
   abbrev s : ServerState
-  s = state_of shard k false
+  s = state_of shard k
 
   -- the entries of a new group, by the two tests
   abbrev by_tests : Option Reason → Option StartedGroup → List Dependency
@@ -85,7 +85,7 @@ module _ (plan : Plan) (shard : Shard) (k : ServerData) (id : TxnId) (c : GroupC
   start_made (Err e) new before after judged absent h = tt
   start_made (Ok answer) new before after judged absent h =
       let P : List Dependency → Type 0 = λ es. AreLedTo k.deps es h.reached in
-      let Q : ServerStep → Type 0 = λ r. Shows r answer (state_of shard new false) before after in
+      let Q : ServerStep → Type 0 = λ r. Shows r answer (state_of shard new) before after in
       record {
         reached = h.reached;
         led = subst P (ap (λ g. by_tests None g) (sym absent) ∙ ap (λ f. by_tests f (find_group id c.group k.started)) (sym judged)) h.led;

@@ -46,7 +46,7 @@ use Rattle.roc_server.proofs.IndexSteps.{index_decided}
 
 module _ (plan : Plan) (shard : Shard) (old mid new : ServerData) (before first second after : Collected) (news : List KnownList) (ids : List TxnId) (found : List TxnId) (asks : List OpenFetch) (sound : IsConsistent old) (m : KnowsMore shard old mid before first news asks found) (h : DecidedTaken plan shard mid new first second ids) (sent : HasSent second after (map (fetch_from shard) asks)) where
   abbrev s : ServerState
-  s = state_of shard old false
+  s = state_of shard old
 
   abbrev all : List KnownList
   all = old.deps ++ news
@@ -76,11 +76,11 @@ module _ (plan : Plan) (shard : Shard) (old mid new : ServerData) (before first 
   waiting_is : waiting_after old.waits.waiting news (missing_from s all) ≡ new.waits.waiting
   waiting_is = ap (waiting_after old.waits.waiting news) (sym m.missing) ∙ sym m.waits ∙ ap (λ (w : Awaited). w.waiting) (sym h.waits)
 
-  reached : take_all plan knowing ids ≡ state_of shard new false
+  reached : take_all plan knowing ids ≡ state_of shard new
   reached =
       (λ i. take_all plan (holding knowing (sym m.rows i).store (sym m.started i)) ids)
       ∙ h.runs knowing
-      ∙ (λ i. let t : ServerState = record { shard = shard; store = new.rows.store; started = new.started; lists = record { known = known_is i; waiting = waiting_is i }; stopped = false } in t)
+      ∙ (λ i. let t : ServerState = record { shard = shard; store = new.rows.store; started = new.started; lists = record { known = known_is i; waiting = waiting_is i } } in t)
 
   groups : AreSameGroups old.started new.started
   groups = h.groups ∙ (λ i. map unrun (m.started i))
@@ -105,7 +105,7 @@ module _ (plan : Plan) (shard : Shard) (old mid new : ServerData) (before first 
       ∙ append_assoc (before.messages ++ knowns) oks fetches
       ∙ append_assoc before.messages knowns (oks ++ fetches)
 
-  shown : Shows (taught plan s news ids) Done (state_of shard new false) before after
+  shown : Shows (taught plan s news ids) Done (state_of shard new) before after
   shown = record { answers = refl; keeps = reached; sends = sends; decides = sent.1 ∙ h.told ∙ ap (λ ds. ds ++ ids) m.sent.1; ran = sent.2 ∙ h.ran ∙ (λ i. m.sent.2 i ++ accesses_of (all_buffered plan (m.started i) ids)) }
 
   stays : (t : TxnId) → IsDecided old.deps t → IsDecided all t

@@ -1,5 +1,5 @@
 -- A server before any message: docs/PROTOCOL.md, "Server"
-use Rattle.std.specs.Prelude.{false, ◌==◌, [], filter}
+use Rattle.std.specs.Prelude.{◌==◌, [], filter}
 use Rattle.roc_base.specs.declared.node.Shard.{Shard}
 use Rattle.roc_plan.specs.Groups.{Plan, shard_of}
 use Rattle.roc_rows.specs.Store.{empty}
@@ -15,5 +15,4 @@ first_server plan shard =
       store = after_inits empty (filter (λ i. shard_of plan i.place == shard.0) plan.program.inits);
       started = [];
       lists = record { known = []; waiting = none_waiting };
-      stopped = false;
     }

@@ -24,8 +24,6 @@ pub record ServerState : Type 0 where
   -- the groups that started here, in the order in which they arrived
   pub started : List StartedGroup
   pub lists : Lists
-  -- it found no memory once, and does nothing since
-  pub stopped : Bool
 
 -- what comes of a message: the answer, the state after it, what is sent, the transactions newly decided, in the order in which they were
 -- taken, and the groups that ran, in the order in which they did

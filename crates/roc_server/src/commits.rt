@@ -77,7 +77,7 @@ pub(crate) fn take_known(
 
 // Why a commit is ignored, where it is.
 fn commit_fault(kept: &ServerData, id: TxnId, edges: &Edges, facts: &[KnownList]) -> Option<Reason>
-    ensures { (shard : At) → result ≡ commit_fault (state_of shard kept.now false) id edges.now facts.now }
+    ensures { (shard : At) → result ≡ commit_fault (state_of shard kept.now) id edges.now facts.now }
 {
     if !is_here(&kept.started, id) {
         return Some(Reason::NotHere);
@@ -90,7 +90,7 @@ fn commit_fault(kept: &ServerData, id: TxnId, edges: &Edges, facts: &[KnownList]
 
 // Why an answer to a fetch is ignored, where it is.
 fn known_fault(kept: &ServerData, id: TxnId, edges: &Edges) -> Option<Reason>
-    ensures { (shard : At) → result ≡ known_fault (state_of shard kept.now false) id edges.now }
+    ensures { (shard : At) → result ≡ known_fault (state_of shard kept.now) id edges.now }
 {
     if !was_asked_for(&kept.waits, id) {
         return Some(Reason::NotHere);

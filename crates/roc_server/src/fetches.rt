@@ -21,7 +21,7 @@ pub(crate) fn take_fetch(
     outbox: &mut Outbox,
 ) -> Result<Handled, NoMemory>
     requires sound { IsConsistent kept.old }
-    ensures step { IfOk result (λ answer. Shows (after_fetch (state_of shard kept.old false) id asker) answer (state_of shard kept.new false) outbox.old outbox.new) }
+    ensures step { IfOk result (λ answer. Shows (after_fetch (state_of shard kept.old) id asker) answer (state_of shard kept.new) outbox.old outbox.new) }
     ensures started { OnOk result (kept.new.started ≡ kept.old.started) }
     ensures sound { OnOk result (IsConsistent kept.new) }
 {

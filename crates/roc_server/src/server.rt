@@ -186,7 +186,7 @@ fn take(
 ) -> Result<Handled, NoMemory>
     requires fits { AreGroupsOf plan.now kept.old.started }
     requires sound { IsConsistent kept.old }
-    ensures step { IfOk result (λ answer. (r : ServerStep) × Handles plan.now (state_of shard kept.old false) msg.now r × Shows r answer (state_of shard kept.new false) outbox.old outbox.new) }
+    ensures step { IfOk result (λ answer. (r : ServerStep) × Handles plan.now (state_of shard kept.old) msg.now r × Shows r answer (state_of shard kept.new) outbox.old outbox.new) }
     ensures fits { OnOk result (AreGroupsOf plan.now kept.new.started) }
     ensures sound { OnOk result (IsConsistent kept.new) }
 {

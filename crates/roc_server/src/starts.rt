@@ -98,7 +98,7 @@ fn note_if_immediate(plan: &Plan, group: &StartedGroup, outbox: &mut Outbox) -> 
 
 // Why a start is ignored, where it is: the first reason that holds.
 fn start_fault(plan: &Plan, shard: Shard, kept: &ServerData, request: &Request) -> Option<Reason>
-    ensures reason { result ≡ start_fault plan.now (state_of shard kept.now false) request.now.id (asked request.now) }
+    ensures reason { result ≡ start_fault plan.now (state_of shard kept.now) request.now.id (asked request.now) }
     ensures fits { result ≡ None → IsCallOf plan.now (asked request.now) }
 {
     let (id, proc, group) = (request.id, request.proc, request.group);

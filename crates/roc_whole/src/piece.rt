@@ -17,6 +17,7 @@ pub fn run_piece(piece: &Piece, rows: &mut Rows, names: &mut [i64], reply: &mut 
     requires reply { vec_len reply.old + length piece.now.body.items ≤ vec_capacity reply.old }
     ensures run { progress rows.new.store names.new reply.new.items ≡ after_piece (progress rows.old.store names.old reply.old.items) (pure.piece piece.now) }
     ensures spare { rows.old.spare ≤ rows.new.spare + length piece.now.body.items }
+    ensures saved { rows.new.saved ≡ rows.old.saved }
     ensures len { vec_len reply.new ≤ vec_len reply.old + length piece.now.body.items }
     ensures capacity { vec_capacity reply.old ≤ vec_capacity reply.new }
 {
@@ -39,6 +40,7 @@ fn run_statement(
     requires reply { vec_len reply.old < vec_capacity reply.old }
     ensures run { progress rows.new.store names.new reply.new.items ≡ after_statement place (progress rows.old.store names.old reply.old.items) (pure.statement statement.now) }
     ensures spare { rows.old.spare ≤ rows.new.spare + 1 }
+    ensures saved { rows.new.saved ≡ rows.old.saved }
     ensures len { vec_len reply.new ≤ vec_len reply.old + 1 }
     ensures capacity { vec_capacity reply.old ≤ vec_capacity reply.new }
 {

@@ -19,8 +19,8 @@ use Rattle.roc_server.specs.declared.starts.Request.{Request}
 use Rattle.roc_server.specs.State.{is_group, is_here, unrun, ServerState}
 use Rattle.roc_server.specs.Inner.Indexed.{IsIndexOf}
 
-abbrev pub state_of : Shard → ServerData → Bool → ServerState
-state_of shard k stopped = record { shard = shard; store = k.rows.store; started = k.started; lists = record { known = k.deps; waiting = k.waits.waiting }; stopped = stopped }
+abbrev pub state_of : Shard → ServerData → ServerState
+state_of shard k = record { shard = shard; store = k.rows.store; started = k.started; lists = record { known = k.deps; waiting = k.waits.waiting } }
 
 -- the same with these cells and groups
 abbrev pub holding : ServerState → Store → List StartedGroup → ServerState
@@ -55,3 +55,8 @@ AreSameGroups old new = map unrun new ≡ map unrun old
 -- the call that a request asks for
 abbrev pub asked : Request → GroupCall
 asked r = call r.proc r.group r.known.args r.known.inputs
+
+-- the definitions see the same, and what is kept beside is right for it
+pub record IsSame (old new : ServerData) : Type 0 where
+  pub state : (shard : Shard) → state_of shard new ≡ state_of shard old
+  pub sound : IsConsistent new

@@ -16,8 +16,8 @@ use Rattle.roc_server.specs.Step.{Shows, edges_of_new}
 -- e is what is kept of a group that starts, and an immediate one ran
 pub record IsNewGroup (plan : Plan) (shard : Shard) (old new : ServerData) (id : TxnId) (c : GroupCall) (e : StartedGroup) : Type 0 where
   pub reached : List TxnId
-  pub led : AreLedTo old.deps (edges_for plan old.decided.ids (state_of shard old false) id c) reached
-  pub is : e ≡ new_group plan old.decided.ids reached (state_of shard old false) id c
+  pub led : AreLedTo old.deps (edges_for plan old.decided.ids (state_of shard old) id c) reached
+  pub is : e ≡ new_group plan old.decided.ids reached (state_of shard old) id c
   pub store : new.rows.store ≡ (if is_immediate_group plan c then (group_run plan c old.rows.store).store else old.rows.store)
   pub started : new.started ≡ old.started
   pub deps : new.deps ≡ old.deps
@@ -30,11 +30,11 @@ pub record IsNewGroup (plan : Plan) (shard : Shard) (old new : ServerData) (id :
 -- a start was taken, or ignored
 pub record StartTaken (plan : Plan) (shard : Shard) (old new : ServerData) (before after : Collected) (id : TxnId) (c : GroupCall) (answer : Handled) : Type 0 where
   pub reached : List TxnId
-  pub led : AreLedTo old.deps (edges_of_new plan old.decided.ids (state_of shard old false) id c) reached
-  pub shown : Shows (after_start plan old.decided.ids reached (state_of shard old false) id c) answer (state_of shard new false) before after
+  pub led : AreLedTo old.deps (edges_of_new plan old.decided.ids (state_of shard old) id c) reached
+  pub shown : Shows (after_start plan old.decided.ids reached (state_of shard old) id c) answer (state_of shard new) before after
 
 -- a new group started
 pub record StartsNew (plan : Plan) (shard : Shard) (old new : ServerData) (before after : Collected) (id : TxnId) (c : GroupCall) (answer : Handled) : Type 0 where
   pub reached : List TxnId
-  pub led : AreLedTo old.deps (edges_for plan old.decided.ids (state_of shard old false) id c) reached
-  pub shown : Shows (start_new plan (state_of shard old false) c (new_group plan old.decided.ids reached (state_of shard old false) id c)) answer (state_of shard new false) before after
+  pub led : AreLedTo old.deps (edges_for plan old.decided.ids (state_of shard old) id c) reached
+  pub shown : Shows (start_new plan (state_of shard old) c (new_group plan old.decided.ids reached (state_of shard old) id c)) answer (state_of shard new) before after

@@ -37,7 +37,7 @@ pub record KnowsMore (shard : Shard) (old new : ServerData) (before after : Coll
   pub deps : new.deps ≡ old.deps ++ news
   pub lacks : AreLacks new.deps new.lacks
   pub news_decide : AreDecidedBy old.deps (old.deps ++ news) ids
-  pub missing : asks ≡ missing_from (state_of shard old false) (old.deps ++ news)
+  pub missing : asks ≡ missing_from (state_of shard old) (old.deps ++ news)
   pub waits : new.waits.waiting ≡ waiting_after old.waits.waiting news asks
   pub fetches : new.waits.fetches ≡ open_after old.waits.fetches news asks
   pub sent : HasSent before after (flat_map (knowns_for old.waits.waiting.askers) news)
@@ -64,19 +64,19 @@ TakesNew plan shard old new before after = (ids : List TxnId) × DecidedTaken pl
 pub record Teaches (plan : Plan) (shard : Shard) (old new : ServerData) (before after : Collected) (news : List KnownList) : Type 0 where
   pub ids : List TxnId
   pub new_ids : AreNew (IsDecided old.deps) (old.deps ++ news) ids
-  pub shown : Shows (taught plan (state_of shard old false) news ids) Done (state_of shard new false) before after
+  pub shown : Shows (taught plan (state_of shard old) news ids) Done (state_of shard new) before after
   pub groups : AreSameGroups old.started new.started
   pub sound : IsConsistent new
 
 -- a commit was taken, or ignored
 pub record Commits (plan : Plan) (shard : Shard) (old new : ServerData) (before after : Collected) (id : TxnId) (edges : List Dependency) (facts : List KnownList) (answer : Handled) : Type 0 where
   pub ids : List TxnId
-  pub new_ids : AreNew (IsDecided old.deps) (old.deps ++ unless_ignored (commit_fault (state_of shard old false) id edges facts) (unknown_of old.deps (carried id edges facts))) ids
-  pub shown : Shows (after_commit plan old.decided.ids ids (state_of shard old false) id edges facts (commit_fault (state_of shard old false) id edges facts)) answer
-      (state_of shard new false) before after
+  pub new_ids : AreNew (IsDecided old.deps) (old.deps ++ unless_ignored (commit_fault (state_of shard old) id edges facts) (unknown_of old.deps (carried id edges facts))) ids
+  pub shown : Shows (after_commit plan old.decided.ids ids (state_of shard old) id edges facts (commit_fault (state_of shard old) id edges facts)) answer
+      (state_of shard new) before after
 
 -- a list that was asked for was taken, or ignored
 pub record Knows (plan : Plan) (shard : Shard) (old new : ServerData) (before after : Collected) (id : TxnId) (edges : List Dependency) (answer : Handled) : Type 0 where
   pub ids : List TxnId
-  pub new_ids : AreNew (IsDecided old.deps) (old.deps ++ unless_ignored (known_fault (state_of shard old false) id edges) (unknown_of old.deps (list_with id edges ∷ []))) ids
-  pub shown : Shows (after_known plan ids (state_of shard old false) id edges (known_fault (state_of shard old false) id edges)) answer (state_of shard new false) before after
+  pub new_ids : AreNew (IsDecided old.deps) (old.deps ++ unless_ignored (known_fault (state_of shard old) id edges) (unknown_of old.deps (list_with id edges ∷ []))) ids
+  pub shown : Shows (after_known plan ids (state_of shard old) id edges (known_fault (state_of shard old) id edges)) answer (state_of shard new) before after

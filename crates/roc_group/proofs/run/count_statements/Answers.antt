@@ -1,4 +1,4 @@
-use Rattle.std.proofs.Common.{◌≡◌, ◌≤◌, ◌<◌, ◌+◌, inl, inr, arith}
+use Rattle.std.proofs.Common.{◌+◌, inl, inr, arith}
 use Rattle.std.proofs.lemmas.Bool.{cases_lt}
 use Rattle.roc_group.proofs.Read.{counts_one, fits_one}
 use Rattle.roc_group.proofs.run.count_statements.Goals as goal

@@ -1,4 +1,4 @@
-use Rattle.std.proofs.Common.{◌≡◌, ◌≤◌, ◌+◌, ◌∙◌, ◌++◌, ◌∷◌, [], List, length, take, sym, ap, append_assoc, append-nil, arith}
+use Rattle.std.proofs.Common.{◌∙◌, ◌++◌, ◌∷◌, [], List, take, sym, ap, append_assoc, append-nil, arith}
 use Rattle.roc_program.specs.Keys.{HasKeys}
 use Rattle.roc_program.specs.Parts as pure
 use Rattle.roc_program.specs.Program.{Piece}
@@ -43,6 +43,7 @@ loop-piece-preserved c =
           ∙ append_assoc c.args.cells.now.items (uses_of_pieces start front) (uses_of_piece (after_pieces start front) last)
           ∙ ap (λ us. c.args.cells.now.items ++ us) (sym (ap (uses_of_pieces start) more ∙ uses_of_pieces-append start front (last ∷ []) ∙ ap (λ us. uses_of_pieces start front ++ us) (append-nil (uses_of_piece (after_pieces start front) last))));
       spare = omega (arith, count, was.spare, ran.spare);
+      saved = ran.saved ∙ was.saved;
       outs_len = omega (arith, count, was.outs_len, ran.lens.0);
       outs_room = omega (arith, was.outs_room, ran.capacities.0);
       cells_len = omega (arith, count, was.cells_len, ran.lens.1);

@@ -14,6 +14,7 @@ invariant-loop-piece l =
       run : progress l.rows.store l.names l.outs.items ≡ after_pieces (progress l.fn.rows.store l.fn.names l.fn.outs.items) (pieces_at (pure.procedure l.procedure) (take l.piece-index l.pieces));
       cells : l.cells.items ≡ l.fn.cells.items ++ uses_of_pieces (progress l.fn.rows.store l.fn.names l.fn.outs.items) (pieces_at (pure.procedure l.procedure) (take l.piece-index l.pieces));
       spare : l.fn.rows.spare ≤ l.rows.spare + statements_in (pieces_at (pure.procedure l.procedure) (take l.piece-index l.pieces));
+      saved : l.rows.saved ≡ l.fn.rows.saved;
       outs_len : vec_len l.outs ≤ vec_len l.fn.outs + statements_in (pieces_at (pure.procedure l.procedure) (take l.piece-index l.pieces));
       outs_room : vec_capacity l.fn.outs ≤ vec_capacity l.outs;
       cells_len : vec_len l.cells ≤ vec_len l.fn.cells + statements_in (pieces_at (pure.procedure l.procedure) (take l.piece-index l.pieces));

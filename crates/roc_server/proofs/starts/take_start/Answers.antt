@@ -16,7 +16,7 @@ returns-in_ok-send_startok-in-Some-find_group-clause-step c =
 
 pub start_new-requires-clause-unknown : goal.start_new-requires-clause-unknown
 start_new-requires-clause-unknown c =
-    not_late c.args.plan.now (state_of c.args.shard c.args.kept.now false) c.args.request.id (asked c.args.request) (sym c.start_fault.ensures.reason ∙ c.in_default.is) (sym c.find_group.ensures ∙ ap option_copied c.in-None.is)
+    not_late c.args.plan.now (state_of c.args.shard c.args.kept.now) c.args.request.id (asked c.args.request) (sym c.start_fault.ensures.reason ∙ c.in_default.is) (sym c.find_group.ensures ∙ ap option_copied c.in-None.is)
 
 pub returns-in-None-clause-step : goal.returns-in-None-clause-step
 returns-in-None-clause-step c =

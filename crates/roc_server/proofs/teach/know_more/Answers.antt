@@ -14,7 +14,7 @@ pub returns : goal.returns
 returns c shard =
     let old = c.args.kept.now in
     let news = c.args.news.now in
-    let s = state_of shard old false in
+    let s = state_of shard old in
     let Found : List KnownList → Type 0 = λ ks. c.in_ok-asks.asks.items ≡ map asked_of (filter (is_missing s ks) (united (flat_map (λ (k : KnownList). k.edges) news))) in
     record {
       rows = refl;

@@ -11,6 +11,7 @@ invariant-loop-statement l = record {
       after_statements l.place (progress l.rows.store l.names l.reply.items) (map pure.statement (drop l.statement-index l.statement-items))
       ≡ after_statements l.place (progress l.initial.rows.store l.initial.names l.initial.reply.items) (map pure.statement l.statement-items);
   spare : l.initial.rows.spare ≤ l.rows.spare + l.statement-index;
+  saved : l.rows.saved ≡ l.initial.rows.saved;
   len : vec_len l.reply ≤ vec_len l.initial.reply + l.statement-index;
   capacity : vec_capacity l.initial.reply ≤ vec_capacity l.reply;
 }
