@@ -2,3 +2,4 @@
 pub mod Given
 pub mod CommitWith
 pub mod FactPlace
+pub mod MoreStarts

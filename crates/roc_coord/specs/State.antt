@@ -1,5 +1,5 @@
 -- What a coordinator keeps, and what comes of a message or a submission: docs/PROTOCOL.md, "Coordinator"
-use Rattle.std.specs.Prelude.{ℕ, Bool, false, ◌&&◌, ◌==◌, List, [], Option, map, find, if◌then◌else◌}
+use Rattle.std.specs.Prelude.{ℕ, Bool, ◌&&◌, ◌==◌, List, [], Option, map, find, if◌then◌else◌}
 use Rattle.std.specs.List.{list_any}
 use Rattle.roc_base.specs.declared.id.TxnId.{TxnId}
 use Rattle.roc_base.specs.declared.node.Shard.{Shard}
@@ -20,12 +20,10 @@ pub record CoordState : Type 0 where
   pub next : ℕ
   -- the transactions without a reply, by id rising
   pub pending : List Transaction
-  -- it found no memory once, and does nothing since
-  pub stopped : Bool
 
 -- before any submission
 abbrev pub first_coord : ℕ → CoordState
-first_coord number = record { number = number; next = 0; pending = []; stopped = false }
+first_coord number = record { number = number; next = 0; pending = [] }
 
 -- what comes of a message: the answer, the state after it, and what is sent
 pub record CoordStep : Type 0 where

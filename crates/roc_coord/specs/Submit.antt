@@ -5,7 +5,7 @@ use Rattle.roc_msg.specs.Outbox.{Collected, HasSent}
 use Rattle.roc_msg.specs.declared.outbox.Outgoing.{Outgoing}
 use Rattle.roc_plan.specs.Groups.{Plan, procedure_of, is_transaction}
 use Rattle.roc_coord.specs.declared.handled.SubmitFault.{SubmitFault}
-use Rattle.roc_coord.specs.declared.handled.SubmitFault.TheVariants.{Stopped, NoProc, Args, Spent, Busy, NoMemory}
+use Rattle.roc_coord.specs.declared.handled.SubmitFault.TheVariants.{NoProc, Args, Spent, Busy, NoMemory}
 use Rattle.roc_coord.specs.declared.transaction.Transaction.{Transaction}
 use Rattle.roc_coord.specs.State.{CoordState}
 use Rattle.roc_coord.specs.Starts.{with_starts, starts_of}
@@ -69,12 +69,11 @@ pub record IsSubmitted (submission : Submission) (answered : Result TxnId Submit
   pub state : reached ≡ submission.state
   pub sent : HasSent before after (submission.sends)
 
--- the coordinator found no memory, in the call or before it; or else the fact holds
-abbrev pub UnlessStopped : Result TxnId SubmitFault → Type 0 → Type 0
-UnlessStopped (Ok id) fact = fact
-UnlessStopped (Err Stopped) fact = Unit {0}
-UnlessStopped (Err NoMemory) fact = Unit {0}
-UnlessStopped (Err NoProc) fact = fact
-UnlessStopped (Err Args) fact = fact
-UnlessStopped (Err Spent) fact = fact
-UnlessStopped (Err Busy) fact = fact
+-- there was no memory for what comes of the submission, or else the fact holds
+abbrev pub UnlessNoMemory : Result TxnId SubmitFault → Type 0 → Type 0
+UnlessNoMemory (Ok id) fact = fact
+UnlessNoMemory (Err NoMemory) fact = Unit {0}
+UnlessNoMemory (Err NoProc) fact = fact
+UnlessNoMemory (Err Args) fact = fact
+UnlessNoMemory (Err Spent) fact = fact
+UnlessNoMemory (Err Busy) fact = fact

@@ -92,21 +92,18 @@ fn send_to(
     send_each(x.id, &edges, &facts, shards, outbox)
 }
 
-/// Sends the commits to the transaction's shards, rising, and keeps these shards as asked.
-/// `NoMemory` may leave some sent.
+/// Sends the commits to the transaction's shards, rising: these shards. `NoMemory` may leave some sent.
 pub(crate) fn send_commits(
     alloc: Global,
-    x: &mut Transaction,
+    x: &Transaction,
     outbox: &mut Outbox,
-) -> Result<(), NoMemory>
-    ensures asked { OnOk result (x.new.asked ≡ shards_of x.old) }
-    ensures sent { OnOk result (HasSent outbox.old outbox.new (commits_of x.old)) }
-    ensures others { x.new ≡ record x.old { asked = x.new.asked } }
+) -> Result<Sequence<Shard>, NoMemory>
+    ensures asked { IfOk result (λ shards. shards ≡ shards_of x.now) }
+    ensures sent { OnOk result (HasSent outbox.old outbox.new (commits_of x.now)) }
 {
     let shards = shards_below(alloc, x.starts.as_slice(), SHARDS)?;
     send_to(alloc, x, shards.as_slice(), outbox)?;
-    x.asked = shards;
-    Ok(())
+    Ok(shards)
 }
 
 // The shards whose commitok is not here.

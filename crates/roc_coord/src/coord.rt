@@ -1,6 +1,6 @@
 //! A coordinator: submissions and the answers to its requests.
-ghost use Rattle.std.specs.Prelude.{◌≡◌, ◌<◌, ◌++◌, ◌↔◌, length, true, None, IfOk, OnOk};
-ghost use Rattle.roc_msg.specs.Outbox.{HasSent};
+ghost use Rattle.std.specs.Prelude.{◌≡◌, ◌<◌, ◌++◌, length, None, IfOk, OnOk, OnErr};
+ghost use Rattle.roc_msg.specs.Outbox.{HoldsSame, HasSent};
 ghost use Rattle.roc_plan.specs.Groups.{procedure_of};
 ghost use Rattle.roc_coord.specs.State.{first_coord};
 ghost use Rattle.roc_coord.specs.Ids.{ids_of};
@@ -8,7 +8,7 @@ ghost use Rattle.roc_sequence.specs.Rising.{IsRising};
 ghost use Rattle.roc_base.specs.TxnId.{txn_lt};
 ghost use Rattle.roc_coord.specs.Fits.{IsTransactionOf, CoordFits};
 ghost use Rattle.roc_coord.specs.Starts.{with_starts, starts_of};
-ghost use Rattle.roc_coord.specs.Submit.{after_submit, refusal_of, unstarted, IsSubmitted, UnlessStopped};
+ghost use Rattle.roc_coord.specs.Submit.{after_submit, refusal_of, unstarted, IsSubmitted, UnlessNoMemory};
 ghost use Rattle.roc_coord.specs.Step.{after_message, IsOutcome};
 ghost use Rattle.roc_coord.specs.Tick.{tick_sends};
 
@@ -35,7 +35,6 @@ pub struct Coord {
     number: u16,
     next: u32,
     pending: Pending,
-    stopped: bool,
 }
 
 impl Model for Coord {
@@ -45,7 +44,7 @@ impl Model for Coord {
 
     ghost Value = { CoordState };
 
-    ghost view = { λ c. record { number = c.number; next = c.next; pending = c.pending; stopped = c.stopped } };
+    ghost view = { λ c. record { number = c.number; next = c.next; pending = c.pending } };
 
     ghost invariant = { λ c. AreGiven c.number c.next (ids_of c.pending) };
 }
@@ -60,13 +59,13 @@ impl Coord {
             number,
             next: 0,
             pending: Pending::new(alloc),
-            stopped: false,
         }
     }
 
     /// Submits a transaction: a call of a procedure with its arguments. It gets the next id, and
     /// the starts of the groups whose inputs are known go to the outbox. A refused submission
-    /// leaves all as it was.
+    /// leaves all as it was. `NoMemory` leaves the coordinator and the outbox as they were, but for their room, so that the same call may
+    /// be made again.
     pub fn submit(
         &mut self,
         plan: &Plan,
@@ -75,33 +74,22 @@ impl Coord {
         outbox: &mut Outbox,
     ) -> Result<TxnId, SubmitFault>
         requires fits { CoordFits plan.now self.old }
-        ensures step { UnlessStopped result (IsSubmitted (after_submit plan.now self.old proc args.now) result self.new outbox.old outbox.new) }
-
-        // Stopped comes exactly where the coordinator found no memory before, and changes nothing.
-        ensures stopped { (result ≡ Err SubmitFault.Stopped) ↔ (self.old.stopped ≡ true) }
-        ensures unchanged { result ≡ Err SubmitFault.Stopped → (self.new ≡ self.old) × (outbox.new ≡ outbox.old) }
-
-        // Nothing else is promised where there is no memory.
-        ensures no_memory { result ≡ Err SubmitFault.NoMemory → self.new.stopped ≡ true }
+        ensures step { UnlessNoMemory result (IsSubmitted (after_submit plan.now self.old proc args.now) result self.new outbox.old outbox.new) }
+        ensures no_memory { result ≡ Err SubmitFault.NoMemory → (self.new ≡ self.old) × HoldsSame outbox.old outbox.new }
         ensures fits { CoordFits plan.now self.new }
     {
-        if self.stopped {
-            return Err(SubmitFault::Stopped);
-        }
         if let Some(fault) = self.refusal(plan, proc, args) {
             return Err(fault);
         }
         match self.accept(plan, proc, args, outbox) {
             Ok(id) => Ok(id),
-            Err(NoMemory) => {
-                self.stopped = true;
-                Err(SubmitFault::NoMemory)
-            }
+            Err(NoMemory) => Err(SubmitFault::NoMemory),
         }
     }
 
     /// Handles a message: what becomes of it, and what goes to the outbox. An ignored message
-    /// leaves all as it was.
+    /// leaves all as it was. `NoMemory` leaves the coordinator and the outbox as they were, but for their room, so that the same call may
+    /// be made again.
     pub fn handle(
         &mut self,
         plan: &Plan,
@@ -110,47 +98,27 @@ impl Coord {
     ) -> Result<Handled, NodeFault>
         requires fits { CoordFits plan.now self.old }
         ensures step { IfOk result (λ answer. IsOutcome (after_message plan.now self.old msg.now) answer self.new outbox.old outbox.new) }
-
-        // Stopped comes exactly where the coordinator found no memory before, and changes nothing.
-        ensures stopped { (result ≡ Err NodeFault.Stopped) ↔ (self.old.stopped ≡ true) }
-        ensures unchanged { result ≡ Err NodeFault.Stopped → (self.new ≡ self.old) × (outbox.new ≡ outbox.old) }
-
-        // Nothing else is promised where there is no memory.
-        ensures no_memory { result ≡ Err NodeFault.NoMemory → self.new.stopped ≡ true }
+        ensures err { OnErr result ((self.new ≡ self.old) × HoldsSame outbox.old outbox.new) }
         ensures fits { CoordFits plan.now self.new }
     {
-        if self.stopped {
-            return Err(NodeFault::Stopped);
-        }
         match self.take(plan, msg, outbox) {
             Ok(answer) => Ok(answer),
-            Err(NoMemory) => {
-                self.stopped = true;
-                Err(NodeFault::NoMemory)
-            }
+            Err(NoMemory) => Err(NodeFault::NoMemory),
         }
     }
 
     /// Sends again, for each transaction without a reply, the starts without a startok, or the commits without a commitok. It changes
-    /// nothing but that `NoMemory`, which promises nothing of `outbox`, stops the coordinator.
+    /// nothing. `NoMemory` leaves the outbox as it was, but for its room, so that the same call may be made again.
     pub fn tick(&mut self, plan: &Plan, outbox: &mut Outbox) -> Result<(), NodeFault>
         requires { CoordFits plan.now self.old }
         ensures sent { OnOk result (HasSent outbox.old outbox.new (tick_sends plan.now self.old)) }
-        ensures same { OnOk result (self.new ≡ self.old) }
-        ensures stopped { (result ≡ Err NodeFault.Stopped) ↔ (self.old.stopped ≡ true) }
-        ensures unchanged { result ≡ Err NodeFault.Stopped → (self.new ≡ self.old) × (outbox.new ≡ outbox.old) }
-        ensures no_memory { result ≡ Err NodeFault.NoMemory → self.new.stopped ≡ true }
+        ensures same { self.new ≡ self.old }
+        ensures err { OnErr result (HoldsSame outbox.old outbox.new) }
         ensures fits { CoordFits plan.now self.new }
     {
-        if self.stopped {
-            return Err(NodeFault::Stopped);
-        }
         match self.pending.send_again(self.alloc, plan, outbox) {
             Ok(()) => Ok(()),
-            Err(NoMemory) => {
-                self.stopped = true;
-                Err(NodeFault::NoMemory)
-            }
+            Err(NoMemory) => Err(NodeFault::NoMemory),
         }
     }
 
@@ -179,7 +147,7 @@ impl Coord {
         }
     }
 
-    // Accepts a submission.
+    // Accepts a submission. `NoMemory` leaves all as it was.
     fn accept(
         &mut self,
         plan: &Plan,
@@ -190,22 +158,25 @@ impl Coord {
         requires fits { CoordFits plan.now self.old }
         requires accepted { refusal_of plan.now self.old proc args.now ≡ None }
         ensures step { IfOk result (λ id. IsSubmitted (after_submit plan.now self.old proc args.now) (Ok id) self.new outbox.old outbox.new) }
+        ensures err { OnErr result ((self.new ≡ self.old) × HoldsSame outbox.old outbox.new) }
         ensures fits { CoordFits plan.now self.new }
     {
         let id = TxnId {
             coord: self.number,
             seq: self.next,
         };
-        let x = started(self.alloc, plan, id, proc, args, outbox)?;
-        self.pending.push(x)?;
+        let mut sends = Outbox::new(self.alloc);
+        let x = started(self.alloc, plan, id, proc, args, &mut sends)?;
+        self.pending.push(x, sends, outbox)?;
         self.next += 1;
         Ok(id)
     }
 
-    // Takes a message, or ignores it.
+    // Takes a message, or ignores it. `NoMemory` leaves all as it was.
     fn take(&mut self, plan: &Plan, msg: &Msg, outbox: &mut Outbox) -> Result<Handled, NoMemory>
         requires fits { CoordFits plan.now self.old }
         ensures step { IfOk result (λ answer. IsOutcome (after_message plan.now self.old msg.now) answer self.new outbox.old outbox.new) }
+        ensures err { OnErr result ((self.new ≡ self.old) × HoldsSame outbox.old outbox.new) }
         ensures fits { CoordFits plan.now self.new }
     {
         match msg {

@@ -18,9 +18,6 @@ pub enum Handled {
 /// Why a submission is refused. Of several causes the first in this order is named.
 #[derive(Clone, Copy, Debug, PartialEq, Eq, Error)]
 pub enum SubmitFault {
-    /// This coordinator found no memory before.
-    #[error("stopped")]
-    Stopped,
     /// The plan has no such procedure.
     #[error("no procedure")]
     NoProc,
@@ -33,7 +30,8 @@ pub enum SubmitFault {
     /// As many transactions are unanswered as may be.
     #[error("busy")]
     Busy,
-    /// No memory. Nothing is promised of the coordinator, which stops.
+    /// There is no memory for what comes of the submission. The coordinator and the outbox are as they were, but for the room that they
+    /// have, so the same submission may be made again.
     #[error("out of memory")]
     NoMemory,
 }

@@ -8,8 +8,9 @@
 //! every plan and every message.
 //!
 //! The layers above may rely on this: a refused submission and an ignored message change nothing and send nothing; a
-//! tick changes nothing; want of memory stops the coordinator, and nothing else does; and what it holds stays of the
-//! plan that it is called with (`CoordFits`, `specs/Fits.antt`). [`Coord::unanswered`] lists the ids of the pending,
+//! tick changes nothing; want of memory leaves the coordinator and the outbox as they were, but for their room, so that
+//! the same call may be made again; and what it holds stays of the plan that it is called with (`CoordFits`,
+//! `specs/Fits.antt`). [`Coord::unanswered`] lists the ids of the pending,
 //! rising (`specs/Ids.antt`). `specs/Inner/` is of this crate alone.
 #![tactic(auto)]
 

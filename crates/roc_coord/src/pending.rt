@@ -2,7 +2,7 @@
 ghost use Rattle.std.specs.Prelude.{◌≡◌, ◌<◌, ◌++◌, ◌∷◌, [], position, length, ℕ, IsTrue, IfOk, OnOk, OnErr};
 ghost use Rattle.std.specs.List.{flat_map, AllByRecursion};
 ghost use Rattle.roc_base.specs.TxnId.{is_txn, txn_lt};
-ghost use Rattle.roc_msg.specs.Outbox.{HasSent};
+ghost use Rattle.roc_msg.specs.Outbox.{HoldsSame, HoldsAlso, HasSent};
 ghost use Rattle.roc_msg.specs.declared.outbox.Outbox.{Outbox};
 ghost use Rattle.roc_coord.specs.State.{find_transaction, CoordState};
 ghost use Rattle.roc_coord.specs.Fits.{IsTransactionOf};
@@ -67,20 +67,27 @@ impl Pending {
         self.ids.as_slice()
     }
 
-    /// Adds a transaction at the end. `NoMemory` leaves the others as they were.
-    pub fn push(&mut self, x: Transaction) -> Result<(), NoMemory>
+    /// Adds a transaction at the end, and what it sends to an outbox. `NoMemory` leaves both as they were.
+    pub fn push(
+        &mut self,
+        x: Transaction,
+        sends: Outbox,
+        outbox: &mut Outbox,
+    ) -> Result<(), NoMemory>
         requires { AllByRecursion (λ id. IsTrue (txn_lt id x.id)) (ids_of self.old) }
         ensures ok { OnOk result (self.new ≡ self.old ++ x ∷ []) }
-        ensures err { OnErr result (self.new ≡ self.old) }
+        ensures sent { OnOk result (HoldsAlso outbox.old outbox.new sends) }
+        ensures err { OnErr result ((self.new ≡ self.old) × HoldsSame outbox.old outbox.new) }
     {
         self.ids.reserve(1)?;
-        let id = x.id;
-        self.transactions.push(x)?;
-        self.ids.push(id).unwrap();
+        self.transactions.reserve(1)?;
+        outbox.append(sends)?;
+        self.ids.push(x.id).unwrap();
+        self.transactions.push(x).unwrap();
         Ok(())
     }
 
-    /// What comes of a startok. `NoMemory` may leave its transaction with a part of it.
+    /// What comes of a startok. `NoMemory` leaves all as it was.
     pub fn startok(
         &mut self,
         alloc: Global,
@@ -93,13 +100,14 @@ impl Pending {
         requires fits { AllByRecursion (IsTransactionOf plan.now) self.old }
         ensures step { IfOk result (λ answer. (s : CoordState) → s.pending ≡ self.old
             → IsOutcome (after_startok plan.now s (find_transaction id self.old) ok shard) answer (record s { pending = self.new }) outbox.old outbox.new) }
+        ensures err { OnErr result ((self.new ≡ self.old) × HoldsSame outbox.old outbox.new) }
         ensures ids { ids_of self.new ≡ ids_of self.old }
         ensures fits { AllByRecursion (IsTransactionOf plan.now) self.new }
     {
         startok(alloc, plan, &mut self.transactions, id, ok, shard, outbox)
     }
 
-    /// What comes of a commitok. `NoMemory` may leave its transaction with a part of it.
+    /// What comes of a commitok. `NoMemory` leaves all as it was.
     pub fn commitok(
         &mut self,
         alloc: Global,
@@ -110,13 +118,14 @@ impl Pending {
         requires { AllByRecursion (IsTransactionOf plan.now) self.old }
         ensures step { IfOk result (λ answer. (s : CoordState) (out : Outbox) → s.pending ≡ self.old
             → IsOutcome (after_commitok plan.now s (find_transaction id self.old) ok) answer (record s { pending = self.new }) out out) }
+        ensures err { OnErr result (self.new ≡ self.old) }
         ensures given { (number next : ℕ) → AreGiven number next (ids_of self.old) → AreGiven number next (ids_of self.new) }
         ensures fits { AllByRecursion (IsTransactionOf plan.now) self.new }
     {
         commitok(alloc, plan, &mut self.transactions, &mut self.ids, id, ok)
     }
 
-    /// Sends again what has no answer. `NoMemory` may leave some sent.
+    /// Sends again what has no answer. `NoMemory` leaves all as it was.
     pub fn send_again(
         &self,
         alloc: Global,
@@ -124,9 +133,12 @@ impl Pending {
         outbox: &mut Outbox,
     ) -> Result<(), NoMemory>
         requires { AllByRecursion (IsTransactionOf plan.now) self.now }
-        ensures { OnOk result (HasSent outbox.old outbox.new (flat_map (sent_again plan.now) self.now)) }
+        ensures sent { OnOk result (HasSent outbox.old outbox.new (flat_map (sent_again plan.now) self.now)) }
+        ensures err { OnErr result (HoldsSame outbox.old outbox.new) }
     {
-        send_each_again(alloc, plan, self.transactions.as_slice(), outbox)
+        let mut sends = Outbox::new(alloc);
+        send_each_again(alloc, plan, self.transactions.as_slice(), &mut sends)?;
+        outbox.append(sends)
     }
 }
 
@@ -137,7 +149,7 @@ fn place_of(transactions: &[Transaction], id: TxnId) -> Option<usize>
     transactions.iter().position(|x| x.id == id)
 }
 
-// What comes of a startok, over plain lists.
+// What comes of a startok, over plain lists. `NoMemory` leaves all as it was.
 fn startok(
     alloc: Global,
     plan: &Plan,
@@ -151,6 +163,7 @@ fn startok(
     requires rising { IsRising txn_lt (ids_of transactions.old.items) }
     ensures step { IfOk result (λ answer. (s : CoordState) → s.pending ≡ transactions.old.items
         → IsOutcome (after_startok plan.now s (find_transaction id transactions.old.items) ok shard) answer (record s { pending = transactions.new.items }) outbox.old outbox.new) }
+    ensures err { OnErr result ((transactions.new.items ≡ transactions.old.items) × HoldsSame outbox.old outbox.new) }
     ensures ids { ids_of transactions.new.items ≡ ids_of transactions.old.items }
     ensures fits { AllByRecursion (IsTransactionOf plan.now) transactions.new.items }
 {
@@ -164,7 +177,7 @@ fn startok(
     Ok(Handled::Done)
 }
 
-// What comes of a commitok, over plain lists.
+// What comes of a commitok, over plain lists. `NoMemory` leaves all as it was.
 fn commitok(
     alloc: Global,
     plan: &Plan,
@@ -178,6 +191,7 @@ fn commitok(
     requires rising { IsRising txn_lt ids.old.items }
     ensures step { IfOk result (λ answer. (s : CoordState) (out : Outbox) → s.pending ≡ transactions.old.items
         → IsOutcome (after_commitok plan.now s (find_transaction id transactions.old.items) ok) answer (record s { pending = transactions.new.items }) out out) }
+    ensures err { OnErr result (transactions.new.items ≡ transactions.old.items) }
     ensures ids { ids.new.items ≡ ids_of transactions.new.items }
     ensures rising { IsRising txn_lt ids.new.items }
     ensures given { (number next : ℕ) → AreGiven number next ids.old.items → AreGiven number next ids.new.items }
@@ -199,7 +213,7 @@ fn commitok(
     }
 }
 
-// Sends again what has no answer, of each transaction.
+// Sends again what has no answer, of each transaction. `NoMemory` may leave some sent.
 fn send_each_again(
     alloc: Global,
     plan: &Plan,

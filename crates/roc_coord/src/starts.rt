@@ -1,11 +1,12 @@
 //! The start round: which groups can start, and what is sent to start them.
-ghost use Rattle.std.specs.Prelude.{◌≡◌, ◌<◌, ◌++◌, length, filter, map, is_some, IfOk, OnOk, All};
+ghost use Rattle.std.specs.Prelude.{◌≡◌, ◌<◌, ◌++◌, length, filter, map, is_some, IfOk, OnOk, OnErr, All};
 ghost use Rattle.std.specs.Option.{option_copied};
 ghost use Rattle.roc_msg.specs.Outbox.{HasSent};
 ghost use Rattle.roc_plan.specs.Groups.{groups_of};
 ghost use Rattle.roc_coord.specs.State.{find_start, find_startok};
 ghost use Rattle.roc_coord.specs.Fits.{IsTransactionOf};
 ghost use Rattle.roc_coord.specs.Starts.{group_numbers, input_value, inputs_for, is_ready, can_start, ready_groups, shard_for, start_for, sent_start, with_starts, starts_of, all_started};
+ghost use Rattle.roc_coord.specs.Inner.MoreStarts.{HasMoreStarts};
 ghost use Rattle.roc_coord.specs.Tick.{awaits_startok, starts_again};
 
 use crate::{SentStart, TakenStart, Transaction};
@@ -121,7 +122,7 @@ fn start_for(
     Ok((shard, start))
 }
 
-// Sends the starts of these groups.
+// Sends the starts of these groups. `NoMemory` may leave some sent.
 fn send_each(
     alloc: Global,
     plan: &Plan,
@@ -133,6 +134,7 @@ fn send_each(
     requires groups { All (λ group. group < length (groups_of plan.now x.old.proc)) ready.now }
     ensures kept { OnOk result (x.new ≡ record x.old { starts = x.old.starts ++ map (sent_start plan.now x.old) ready.now }) }
     ensures sent { OnOk result (HasSent outbox.old outbox.new (map (start_for plan.now x.old) ready.now)) }
+    ensures err { OnErr result (HasMoreStarts x.old x.new) }
     ensures id { x.new.id ≡ x.old.id }
     ensures fits { IsTransactionOf plan.now x.new }
 {
@@ -157,6 +159,7 @@ pub(crate) fn send_starts(
     requires transaction { IsTransactionOf plan.now x.old }
     ensures kept { OnOk result (x.new ≡ with_starts plan.now x.old) }
     ensures sent { OnOk result (HasSent outbox.old outbox.new (starts_of plan.now x.old)) }
+    ensures err { OnErr result (HasMoreStarts x.old x.new) }
     ensures id { x.new.id ≡ x.old.id }
     ensures fits { IsTransactionOf plan.now x.new }
 {

@@ -1,10 +1,11 @@
 //! What an answer to one of a coordinator's requests does to its transaction.
-ghost use Rattle.std.specs.Prelude.{◌≡◌, ◌<◌, ◌++◌, length, IfOk, IfNone, OnOk};
+ghost use Rattle.std.specs.Prelude.{◌≡◌, ◌<◌, ◌++◌, length, take, IfOk, IfNone, OnOk, OnErr};
 ghost use Rattle.std.specs.Bool.{OnTrue};
-ghost use Rattle.roc_msg.specs.Outbox.{HasSent};
+ghost use Rattle.roc_msg.specs.Outbox.{HoldsSame, HasSent};
 ghost use Rattle.roc_plan.specs.Groups.{groups_of};
 ghost use Rattle.roc_coord.specs.Fits.{IsTransactionOf};
 ghost use Rattle.roc_coord.specs.Starts.{bound_count, out_count, with_starts};
+ghost use Rattle.roc_coord.specs.Inner.MoreStarts.{HasMoreStarts};
 ghost use Rattle.roc_coord.specs.Step.{is_fit_startok, startok_refusal, with_startok, with_commits, sends_after, is_asked, is_fit_commitok, commitok_refusal, with_commitok, reply_now};
 ghost use Rattle.roc_coord.specs.Tick.{sent_again};
 
@@ -15,7 +16,9 @@ use crate::{TakenCommit, TakenStart, Transaction};
 use roc_base::{NoMemory, Nums, Shard};
 use roc_msg::{Outbox, Reason};
 use roc_plan::{Class, Plan};
+use roc_sequence::Sequence;
 use std::alloc::{AllocError, Global};
+use std::mem;
 
 // How many values a group binds and gives when it starts.
 fn bound_count(plan: &Plan, proc: u16, group: u16) -> usize
@@ -73,8 +76,45 @@ pub(crate) fn startok_refusal(
     }
 }
 
+// Keeps the first so many elements. Takes no memory.
+fn cut<T: Drop>(alloc: Global, list: &mut Sequence<T>, count: usize)
+    ensures { list.new ≡ take count list.old }
+{
+    let mut items = mem::replace(list, Sequence::new(alloc)).into_vec();
+    items.truncate(count);
+    *list = Sequence::from_vec(items);
+}
+
+// Sends what is due with a startok that was put to the others: the starts that became ready, and once every group has started, the
+// commits. `NoMemory` may leave starts as sent that were not, and nothing else.
+fn send_after_startok(
+    alloc: Global,
+    plan: &Plan,
+    x: &mut Transaction,
+    outbox: &mut Outbox,
+) -> Result<(), NoMemory>
+    requires { IsTransactionOf plan.now x.old }
+    ensures kept { OnOk result (x.new ≡ with_commits plan.now (with_starts plan.now x.old)) }
+    ensures sent { OnOk result (HasSent outbox.old outbox.new (sends_after plan.now x.old)) }
+    ensures more { OnErr result (HasMoreStarts x.old x.new) }
+    ensures unsent { OnErr result (HoldsSame outbox.old outbox.new) }
+    ensures id { x.new.id ≡ x.old.id }
+    ensures fits { IsTransactionOf plan.now x.new }
+{
+    let mut sends = Outbox::new(alloc);
+    send_starts(alloc, plan, x, &mut sends)?;
+    if all_started(plan, x) {
+        let asked = send_commits(alloc, x, &mut sends)?;
+        outbox.append(sends)?;
+        x.asked = asked;
+    } else {
+        outbox.append(sends)?;
+    }
+    Ok(())
+}
+
 /// Takes a startok: sends the starts that became ready, and once every group has started, the
-/// commits.
+/// commits. `NoMemory` leaves all as it was.
 pub(crate) fn take_startok(
     alloc: Global,
     plan: &Plan,
@@ -86,15 +126,21 @@ pub(crate) fn take_startok(
     requires group { ok.group < length (groups_of plan.now x.old.proc) }
     ensures kept { OnOk result (x.new ≡ with_commits plan.now (with_starts plan.now (with_startok x.old ok))) }
     ensures sent { OnOk result (HasSent outbox.old outbox.new (sends_after plan.now (with_startok x.old ok))) }
+    ensures err { OnErr result ((x.new ≡ x.old) × HoldsSame outbox.old outbox.new) }
     ensures id { x.new.id ≡ x.old.id }
     ensures fits { IsTransactionOf plan.now x.new }
 {
+    let starts = x.starts.len();
+    let startoks = x.startoks.len();
     x.startoks.push(ok)?;
-    send_starts(alloc, plan, x, outbox)?;
-    if all_started(plan, x) {
-        send_commits(alloc, x, outbox)?;
+    match send_after_startok(alloc, plan, x, outbox) {
+        Ok(()) => Ok(()),
+        Err(NoMemory) => {
+            cut(alloc, &mut x.starts, starts);
+            cut(alloc, &mut x.startoks, startoks);
+            Err(NoMemory)
+        }
     }
-    Ok(())
 }
 
 // Whether a shard was asked to commit.
@@ -137,7 +183,7 @@ pub(crate) fn commitok_refusal(
     }
 }
 
-/// Takes a commitok: the reply, once each shard that was asked has answered.
+/// Takes a commitok: the reply, once each shard that was asked has answered. `NoMemory` leaves the transaction as it was.
 pub(crate) fn take_commitok(
     alloc: Global,
     plan: &Plan,
@@ -147,14 +193,21 @@ pub(crate) fn take_commitok(
     requires { IsTransactionOf plan.now x.old }
     ensures kept { OnOk result (x.new ≡ with_commitok x.old ok) }
     ensures reply { IfOk result (λ reply. reply ≡ reply_now plan.now (with_commitok x.old ok)) }
+    ensures err { OnErr result (x.new ≡ x.old) }
     ensures id { x.new.id ≡ x.old.id }
     ensures fits { IsTransactionOf plan.now x.new }
 {
+    let commitoks = x.commitoks.len();
     x.commitoks.push(ok)?;
-    if all_committed(x) {
-        Ok(Some(reply_of(alloc, plan, x)?))
-    } else {
-        Ok(None)
+    if !all_committed(x) {
+        return Ok(None);
+    }
+    match reply_of(alloc, plan, x) {
+        Ok(reply) => Ok(Some(reply)),
+        Err(NoMemory) => {
+            cut(alloc, &mut x.commitoks, commitoks);
+            Err(NoMemory)
+        }
     }
 }
 
