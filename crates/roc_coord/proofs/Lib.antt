@@ -7,4 +7,3 @@ pub mod Outcomes
 pub mod Given
 pub mod Gathering
 pub mod Fitting
-pub mod Taking

@@ -4,10 +4,8 @@ use Rattle.std.proofs.lemmas.List.{map_more, take_more, take_all}
 use Rattle.std.proofs.lemmas.List.Elements.{filter_more}
 use Rattle.std.specs.List.{filter}
 use Rattle.std.proofs.lemmas.Slice.Zip.{length-zip, get_or-zip}
-use Rattle.roc_base.specs.declared.id.TxnId.{TxnId}
 use Rattle.roc_msg.specs.declared.outbox.Outgoing.{Outgoing}
-use Rattle.roc_msg.specs.declared.outbox.Ran.{Ran}
-use Rattle.roc_msg.specs.Outbox.{Collected, HasSent, HoldsAlso}
+use Rattle.roc_msg.specs.Outbox.{Collected, HasSent}
 use Rattle.roc_msg.proofs.Sent.{sent_then}
 
 -- what was gathered of the elements so far, and of one more
@@ -38,14 +36,6 @@ sent_one_more f xs i x d first before after sent h is e s a =
 -- all were sent
 pub sent_all : {X : Type 0} (f : X → Outgoing) (xs : List X) (i : ℕ) (first after : Collected) → length xs ≤ i → HasSent first after (map f (take i xs)) → HasSent first after (map f xs)
 sent_all f xs i first after h e = subst (λ ys. HasSent first after (map f ys)) (take_all i xs h) e
-
--- what an outbox that held nothing has gained is sent with it
-pub sent_with : (before after none sends : Collected) (messages : List Outgoing) → none.messages ≡ [] → none.decided ≡ [] → none.ran ≡ [] → HasSent none sends messages → HoldsAlso before after sends → HasSent before after messages
-sent_with before after none sends messages e f g h k =
-    let put_messages : List Outgoing → List Outgoing = λ more. before.messages ++ more in
-    let put_decided : List TxnId → List TxnId = λ more. before.decided ++ more in
-    let put_ran : List Ran → List Ran = λ more. before.ran ++ more in
-    (k.0 ∙ ap put_messages (h.0 ∙ ap (λ first. first ++ messages) e), k.1 ∙ ap put_decided (h.1 ∙ f) ∙ append-nil before.decided, k.2 ∙ ap put_ran (h.2 ∙ g) ∙ append-nil before.ran)
 
 -- a test passes one more element, or does not
 module _ {X : Type 0} (p : X → Bool) (xs : List X) (i : ℕ) (d : X) (ys zs : List X) (within : i < length xs) (so_far : ys ≡ filter p (take i xs)) where

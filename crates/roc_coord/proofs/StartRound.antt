@@ -1,6 +1,5 @@
 -- The start round's loop: what is kept and sent with one more start
-use Rattle.std.proofs.Common.{◌≡◌, ℕ, ◌+◌, ◌<◌, List, [], ◌∷◌, ◌++◌, length, get_or, take, map, ap, subst, ◌∙◌, sym, refl}
-use Rattle.std.proofs.Math.Seq.{take-append_seam, take-length}
+use Rattle.std.proofs.Common.{◌≡◌, ℕ, ◌+◌, ◌<◌, List, [], ◌∷◌, ◌++◌, length, get_or, take, map, ap, subst, ◌∙◌, sym}
 use Rattle.std.specs.List.{AllByRecursion}
 use Rattle.roc_base.specs.declared.node.Shard.{Shard}
 use Rattle.roc_msg.specs.declared.outbox.Outgoing.{Outgoing}
@@ -10,7 +9,6 @@ use Rattle.roc_coord.specs.declared.transaction.SentStart.{SentStart}
 use Rattle.roc_coord.specs.declared.transaction.Transaction.{Transaction}
 use Rattle.roc_coord.specs.Fits.{IsTransactionOf}
 use Rattle.roc_coord.specs.Starts.{shard_for, start_for, sent_start}
-use Rattle.roc_coord.specs.Inner.MoreStarts.{HasMoreStarts}
 use Rattle.roc_coord.proofs.Sends.{gathered_more, sent_one_more}
 use Rattle.roc_sequence.proofs.Holds.{all_append}
 
@@ -43,13 +41,3 @@ fits_more plan x start starts h k e = record {
   starts = subst (λ s. AllByRecursion (λ v. v.group < length (groups_of plan x.proc)) s) (sym e) (all_append _ x.starts (start ∷ []) h.starts (k, tt));
   startoks = h.startoks;
 }
-
--- a transaction that has kept starts behind those of another, all of which it has, or none
-pub more_starts : (x y : Transaction) (starts rest : List SentStart) → y ≡ record x { starts = x.starts ++ rest } → starts ≡ y.starts → HasMoreStarts x (record y { starts = starts })
-more_starts x y starts rest e f =
-    let with_starts : Transaction → Transaction = λ v. record v { starts = starts } in
-    let is_longer : starts ≡ x.starts ++ rest = f ∙ ap (λ (v : Transaction). v.starts) e in
-    record { front = ap (take (length x.starts)) is_longer ∙ take-append_seam x.starts rest; others = ap with_starts e }
-
-pub no_more_starts : (x : Transaction) → HasMoreStarts x x
-no_more_starts x = record { front = take-length x.starts; others = refl }
