@@ -1,5 +1,5 @@
 -- What comes of an answer, for each way that its handling ends. `xs` are the transactions before it
-use Rattle.std.proofs.Common.{◌≡◌, ℕ, ℤ, ◌<◌, cond, not, List, ◌++◌, length, get_or, set, map, Option, Some, None, refl, sym, ap, subst, ◌∙◌}
+use Rattle.std.proofs.Common.{◌≡◌, ℕ, ℤ, ◌<◌, cond, not, List, length, get_or, set, map, Option, Some, None, refl, sym, ap, subst, ◌∙◌}
 use Rattle.std.specs.List.{filter, position, remove}
 use Rattle.roc_base.specs.declared.id.TxnId.{TxnId}
 use Rattle.roc_base.specs.declared.node.Shard.{Shard}

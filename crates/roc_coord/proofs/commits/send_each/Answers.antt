@@ -1,5 +1,5 @@
 -- The outbox gains the commit to one more shard
-use Rattle.std.proofs.Common.{List, ap, refl, sym, append-nil, get_or, ◌∙◌}
+use Rattle.std.proofs.Common.{List, ap, refl, get_or, ◌∙◌}
 use Rattle.roc_base.specs.Edge.{Dependency}
 use Rattle.roc_base.specs.declared.node.Shard.{Shard}
 use Rattle.roc_depgraph.specs.declared.known.KnownList.{KnownList}

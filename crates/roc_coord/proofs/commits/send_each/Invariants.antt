@@ -1,4 +1,4 @@
-use Rattle.std.proofs.Common.{◌≡◌, ◌++◌, map, take}
+use Rattle.std.proofs.Common.{map, take}
 use Rattle.roc_msg.specs.Outbox.{HasSent}
 use Rattle.roc_coord.specs.Inner.CommitWith.{commit_with}
 use Rattle.roc_coord.proofs.commits.send_each.Given as goal

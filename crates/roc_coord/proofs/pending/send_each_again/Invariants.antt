@@ -1,4 +1,4 @@
-use Rattle.std.proofs.Common.{◌≡◌, ◌++◌, take}
+use Rattle.std.proofs.Common.{take}
 use Rattle.std.specs.List.{flat_map}
 use Rattle.roc_msg.specs.Outbox.{HasSent}
 use Rattle.roc_coord.specs.Tick.{sent_again}

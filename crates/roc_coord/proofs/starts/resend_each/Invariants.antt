@@ -1,4 +1,4 @@
-use Rattle.std.proofs.Common.{◌≡◌, ◌++◌, map, take}
+use Rattle.std.proofs.Common.{map, take}
 use Rattle.roc_msg.specs.Outbox.{HasSent}
 use Rattle.roc_coord.specs.Starts.{start_for}
 use Rattle.roc_coord.proofs.starts.resend_each.Given as goal
