@@ -24,7 +24,7 @@ use Rattle.roc_law_log.proofs.Deciding.{decide-grows, decide-kept}
 continues_more : {A : Type 0} (xs ys zs : List A) → Continues xs ys → Continues ys zs → Continues xs zs
 continues_more xs ys zs a b = (a.0 ++ b.0, b.1 ∙ (ap (λ l. l ++ b.0) a.1 ∙ append_assoc xs a.0 b.0))
 
-in_continued : (xs ys : List TxnGroup) → Continues xs ys → (r : TxnGroup) → IsListed is_txn_group xs r → IsListed is_txn_group ys r
+pub in_continued : (xs ys : List TxnGroup) → Continues xs ys → (r : TxnGroup) → IsListed is_txn_group xs r → IsListed is_txn_group ys r
 in_continued xs ys e r h = subst (λ l. IsListed is_txn_group l r) (sym e.1) (listed_front is_txn_group xs e.0 r h)
 
 module _ (S : Scheme) (start : Store) where

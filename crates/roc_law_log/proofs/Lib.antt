@@ -13,3 +13,5 @@ pub mod SharedOut
 pub mod Kept
 pub mod Settled
 pub mod Chained
+pub mod Writes
+pub mod Between

@@ -6,4 +6,5 @@ pub mod Steps
 pub mod Invariants
 pub mod Edges
 pub mod Kept
+pub mod Clean
 pub mod Counting

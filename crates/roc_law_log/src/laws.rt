@@ -6,7 +6,7 @@ ghost use Rattle.roc_base.specs.TxnId.{is_txn};
 ghost use Rattle.roc_rows.specs.declared.cell.Cell.{Cell};
 ghost use Rattle.roc_rows.specs.Store.{Store, read};
 ghost use Rattle.roc_law_orders.specs.Behaviour.{TxnGroup, is_txn_group, DoesSame};
-ghost use Rattle.roc_law_orders.specs.Runs.{Stage, inputs_at, after_group, Conflict, account};
+ghost use Rattle.roc_law_orders.specs.Runs.{Stage, inputs_at, after_group, stage_behind, Conflict, account};
 ghost use Rattle.roc_law_orders.specs.Orders.{IsRealRun, one_by_one, Follows};
 ghost use Rattle.roc_law_log.specs.Scheme.{Scheme, IsSoundScheme};
 ghost use Rattle.roc_depgraph.specs.declared.known.KnownList.{KnownList};
@@ -18,12 +18,13 @@ ghost use Rattle.roc_law_log.specs.Edges.{AreEdges};
 ghost use Rattle.roc_law_log.specs.Log.{Log, PrecedesTxn, PrecedesTxnNow, shard_at, HasGroup, IsDecidedThroughout};
 ghost use Rattle.roc_law_log.specs.Settled.{IsSettled};
 ghost use Rattle.roc_law_log.specs.Kept.{KeepsRan};
+ghost use Rattle.roc_law_log.specs.Clean.{IsClean, writes_to};
 ghost use Rattle.roc_law_log.specs.Taking.{RespectsPrecedence, IsWholeOrder};
 ghost use Rattle.roc_law_log.specs.Steps.{LogStep, LogSteps, IsReachedLog, IsWaived, new_in};
 ghost use Rattle.roc_law_log.specs.Invariants.{LogInvariants, LogGrows};
 
 use roc_law_orders::laws::{
-    counter_is_lawful, groups_stand_one_by_one, runs_are_serial, runs_stay,
+    counter_is_lawful, groups_stand_one_by_one, last_values_are_serial, runs_are_serial, runs_stay,
 };
 
 /// What holds of each log that may come about, and is kept by each step.
@@ -85,6 +86,28 @@ pub fn lists_that_keep_follow()
 {
     logs_follow();
     runs_are_serial();
+}
+
+/// A cell that nobody writes for a while holds what a serial run leaves in it: if a cell is clean at two moments, and as many uses as may
+/// write it ran until the one as until the other, then at the later one it holds what it holds where the transactions that were decided
+/// until any moment between run one after another, in their order, or in any other that keeps what ran.
+pub fn steady_cells_are_serial()
+    ensures order { (S : Scheme) (start : Store) (log between later : Log) → IsSoundScheme S → LogInvariants S start log
+        → LogSteps S start log between → LogSteps S start between later
+        → (x : Cell) → IsClean S start log x → IsClean S start later x → writes_to S start log x ≡ writes_to S start later x
+        → read (stage_behind S.behaviour start (one_by_one S.behaviour between.order)).store x ≡ read (stage_behind S.behaviour start later.past.ran).store x }
+    ensures kept { (S : Scheme) (start : Store) (log between later : Log) → IsSoundScheme S → LogInvariants S start log
+        → LogSteps S start log between → LogSteps S start between later
+        → (x : Cell) → IsClean S start log x → IsClean S start later x → writes_to S start log x ≡ writes_to S start later x
+        → (O : List TxnId) → KeepsRan S start between O
+        → read (stage_behind S.behaviour start (one_by_one S.behaviour O)).store x ≡ read (stage_behind S.behaviour start later.past.ran).store x }
+{
+    groups_stand_one_by_one();
+    runs_stay();
+    logs_grow();
+    logs_follow();
+    lists_that_keep_follow();
+    last_values_are_serial();
 }
 
 /// What comes before a transaction that is decided anywhere, and its component, is decided too, and fixed: nothing new comes before it, nor

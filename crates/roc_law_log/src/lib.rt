@@ -5,8 +5,9 @@
 //! (a group starts, a shard decides, a transaction is answered) over `specs/Log.antt`, for a plan of which only what
 //! `specs/Scheme.antt` asks is known. `specs/Taking.antt` has the orders in which a shard takes new transactions,
 //! `specs/Invariants.antt` what holds of each log and what no step takes back, `specs/Settled.antt` transactions of
-//! which the whole component is answered, `specs/Kept.antt` lists of decided transactions that keep what ran, and
-//! `specs/Edges.antt` edges that somebody follows, as tests.
+//! which the whole component is answered, `specs/Kept.antt` lists of decided transactions that keep what ran,
+//! `specs/Clean.antt` cells of which a log says what they hold, and `specs/Edges.antt` edges that somebody follows, as
+//! tests.
 //!
 //! The layers above may rely on [`laws`]: whatever these rules let happen, each group that ran of a decided transaction
 //! saw and did what it would if the decided transactions ran one after another (`executions_are_serial`), and shards

@@ -1,19 +1,36 @@
 -- What stays where more groups run behind others
-use Rattle.std.proofs.Common.{◌≡◌, ℤ, List, [], ◌∷◌, ◌++◌, refl, sym, ap, subst, inl, inr, ◌∙◌}
+use Rattle.std.proofs.Common.{◌≡◌, ℤ, false, List, [], ◌∷◌, ◌++◌, append-nil, append_assoc, refl, sym, ap, subst, inl, inr, ◌∙◌}
 use Rattle.std.specs.List.{AllByRecursion}
 use Rattle.roc_sequence.specs.Places.{IsListed, IsListedBefore, NoneTwice}
 use Rattle.roc_sequence.proofs.Holds.{all_weaker}
-use Rattle.roc_sequence.proofs.Places.{listed_by_before, listed_or_not}
-use Rattle.roc_rows.specs.Store.{Store}
-use Rattle.roc_law_orders.specs.Behaviour.{TxnGroup, is_txn_group, Behaviour}
+use Rattle.roc_sequence.proofs.Places.{listed_by_before, listed_or_not, listed_head, listed_tail}
+use Rattle.roc_rows.specs.declared.cell.Cell.{Cell}
+use Rattle.roc_rows.specs.Store.{Store, read}
+use Rattle.roc_law_orders.specs.Behaviour.{TxnGroup, is_txn_group, is_written, Behaviour, IsLawful}
 use Rattle.roc_law_orders.specs.Runs.{Stage, first_stage, needs, inputs_at, uses_at, after_group, after_groups, groups_before, stage_behind, stage_before, uses_in, account_at}
 use Rattle.roc_law_orders.specs.Growth.{Stays}
-use Rattle.roc_law_orders.proofs.Places.{apart, before_appended, before_past, before_absent, none_twice_before}
-use Rattle.roc_law_orders.proofs.Stages.{yielded_not, yielded_at, yielded-before, same_inputs}
+use Rattle.roc_law_orders.proofs.SameGroups.{is_group-same}
+use Rattle.roc_law_orders.proofs.Places.{apart, before_appended, before_itself, before_past, before_absent, none_twice_before}
+use Rattle.roc_law_orders.proofs.Stages.{yielded_not, yielded_at, yielded-before, same_inputs, kept_cell}
 
 after_groups-append : (B : Behaviour) (s : Stage) (Q T : List TxnGroup) → after_groups B s (Q ++ T) ≡ after_groups B (after_groups B s Q) T
 after_groups-append B s [] T = refl
 after_groups-append B s (q ∷ Q) T = after_groups-append B (after_group B s q) Q T
+
+-- groups of T that do not write x leave it, where they run behind those of Q
+pub unwritten_kept : (B : Behaviour) (start : Store) (x : Cell) → IsLawful B → (T Q : List TxnGroup) → NoneTwice is_txn_group (Q ++ T)
+    → ((q : TxnGroup) → IsListed is_txn_group T q → is_written x (uses_in B start (Q ++ T) q) ≡ false)
+    → read (stage_behind B start (Q ++ T)).store x ≡ read (stage_behind B start Q).store x
+unwritten_kept B start x lawful [] Q n h = ap (λ F. read (stage_behind B start F).store x) (append-nil Q)
+unwritten_kept B start x lawful (t ∷ T) Q n h =
+    let e = append_assoc Q (t ∷ []) T in
+    let first = listed_head is_txn_group t T (is_group-same t) in
+    let f = before_past Q (t ∷ T) t (λ i. apart Q (t ∷ T) t n i first) ∙ (ap (λ F. Q ++ F) (before_itself T t) ∙ append-nil Q) in
+    ap (λ F. read (stage_behind B start F).store x) (sym e)
+    ∙ (unwritten_kept B start x lawful T (Q ++ t ∷ []) (subst (NoneTwice is_txn_group) (sym e) n)
+    (λ q i. subst (λ F. is_written x (uses_in B start F q) ≡ false) (sym e) (h q (listed_tail is_txn_group t T q i)))
+    ∙ (ap (λ (s : Stage). read s.store x) (after_groups-append B (first_stage start) Q (t ∷ []))
+    ∙ kept_cell B lawful (stage_behind B start Q) t x (subst (λ F. is_written x (uses_at B (stage_behind B start F) t) ≡ false) f (h t first))))
 
 -- the inputs of a group at its place are those in the end
 pub inputs_found : (B : Behaviour) (start : Store) (Q : List TxnGroup) (r : TxnGroup) → NoneTwice is_txn_group Q
