@@ -1,3 +1,6 @@
 pub mod Histories
 pub mod Replies
 pub mod Noted
+pub mod Weave
+pub mod ViewRuns
+pub mod WovenWitness

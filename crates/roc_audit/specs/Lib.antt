@@ -1,3 +1,4 @@
 pub mod History
 pub mod Order
 pub mod Witness
+pub mod Woven

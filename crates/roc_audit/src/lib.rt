@@ -5,10 +5,13 @@
 //! replies of the serial run, and real time. No piece, message or graph occurs in it.
 //!
 //! The layers above may rely on this: what is in an order stays where it is, and those of the ids noted that are not in
-//! it are put at its end; if memory is wanting, the order stays as it was.
+//! it are put at its end; if memory is wanting, the order stays as it was. And on a law: an order that explains a history
+//! without its views still does with the views put in, each behind as many transactions as it read of
+//! (`specs/Woven.antt`).
 #![tactic(auto)]
 
 mod entry;
+pub mod laws;
 mod order;
 
 pub use entry::Entry;
