@@ -1,3 +1,6 @@
 pub mod Sound
 mod OfPlan
 mod Whole
+mod SmallestPlan
+mod Alone
+mod SmallestRun

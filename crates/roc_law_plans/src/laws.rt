@@ -1,26 +1,45 @@
 //! Laws of the schemes of accepted plans, each the contract of a function that does nothing.
-ghost use Rattle.std.specs.Prelude.{◌≡◌, ℕ, ℤ, List, Some, map, slice_get};
+ghost use Rattle.std.specs.Prelude.{◌≡◌, ◌≢◌, ◌⊎◌, ℕ, ℤ, pos, ◌-◌, ◌<◌, List, [], ◌∷◌, Option, Some, None, map, slice_get};
 ghost use Rattle.roc_sequence.specs.Lists.{Has};
 ghost use Rattle.roc_base.specs.declared.id.TxnId.{TxnId};
+ghost use Rattle.roc_base.specs.declared.node.Shard.{Shard};
+ghost use Rattle.roc_base.specs.declared.node.Node.TheVariants as node;
 ghost use Rattle.roc_base.specs.TxnId.{is_txn};
-ghost use Rattle.roc_sequence.specs.Places.{IsListed, NoneTwice};
+ghost use Rattle.roc_base.specs.Edge.{Dependency};
+ghost use Rattle.roc_sequence.specs.Places.{IsListed, IsListedBefore, NoneTwice};
 ghost use Rattle.roc_whole.specs.Serial as whole;
 ghost use Rattle.roc_rows.specs.declared.cell.Cell.{Cell};
 ghost use Rattle.roc_rows.specs.Store.{read};
 ghost use Rattle.roc_plan.specs.Groups.{Plan, shard_of};
 ghost use Rattle.roc_plan.specs.Accepted.{IsAccepted};
+ghost use Rattle.roc_depgraph.specs.declared.known.KnownList.{KnownList};
+ghost use Rattle.roc_depgraph.specs.Deps.{Precedes, IsAncestor, IsDecided};
+ghost use Rattle.roc_component.specs.Components.{Mates};
+ghost use Rattle.roc_msg.specs.declared.msg.Envelope.{Envelope};
+ghost use Rattle.roc_msg.specs.declared.msg.Msg.TheVariants as msg;
+ghost use Rattle.roc_msg.specs.declared.reason.Reason.{Reason};
+ghost use Rattle.roc_msg.specs.declared.reason.Reason.TheVariants as reason;
 ghost use Rattle.roc_law_orders.specs.Runs.{stage_behind};
 ghost use Rattle.roc_law_orders.specs.Orders.{one_by_one};
 ghost use Rattle.roc_law_log.specs.Scheme.{IsSoundScheme};
-ghost use Rattle.roc_server.specs.State.{ServerState};
+ghost use Rattle.roc_server.specs.State.{find_group, ServerState};
+ghost use Rattle.roc_server.specs.declared.started.StartedGroup.{StartedGroup};
+ghost use Rattle.roc_coord.specs.declared.transaction.Transaction.{Transaction};
+ghost use Rattle.roc_coord.specs.State.{CoordState};
 ghost use Rattle.roc_audit.specs.declared.entry.Entry.TheVariants as entry;
 ghost use Rattle.roc_audit.specs.History.{WasSubmitted, WasAnswered};
 ghost use Rattle.roc_audit.specs.Witness.{submitted_calls, IsSerialWitness};
+ghost use Rattle.roc_protocol.specs.declared.event.Event.{Event};
+ghost use Rattle.roc_protocol.specs.declared.event.Event.TheVariants as event;
+ghost use Rattle.roc_protocol.specs.declared.event.Seen.TheVariants as seen;
+ghost use Rattle.roc_protocol.specs.Happens.{Outcome, Happens};
 ghost use Rattle.roc_protocol.specs.PlanAssumptions.{HasSchemes, IsSchemeOf, IsWholeReply};
+ghost use Rattle.roc_protocol.specs.Final.{lists_in, IsFinalIn};
 ghost use Rattle.roc_protocol.specs.Quiet.{IsQuiet};
-ghost use Rattle.roc_protocol.specs.Run.{Stepped, IsRun};
+ghost use Rattle.roc_protocol.specs.Run.{Stepped, Transition, IsRun};
 ghost use Rattle.roc_protocol.specs.World.{World};
 ghost use Rattle.roc_law_plans.specs.Scheme.{scheme_of, AreOrders, AreCalls};
+ghost use Rattle.roc_law_plans.specs.Smallest.{smallest};
 
 use roc_group::laws::{
     cells_are_at_the_place, cells_follow_from_what_is_given, conflicts_are_static,
@@ -32,9 +51,17 @@ use roc_plan::laws::{
     inputs_come_from_immediate_groups,
 };
 use roc_protocol::laws::{
+    answered_is_decided as answered_is_decided_over_schemes,
+    answered_worlds_rest as answered_worlds_rest_over_schemes,
+    cells_are_in_their_place as cells_are_in_their_place_over_schemes,
     cells_are_serial as cells_are_serial_over_schemes,
+    left_out_is_earlier as left_out_is_earlier_over_schemes,
+    lists_are_final as lists_are_final_over_schemes,
+    nothing_is_refused as nothing_is_refused_over_schemes,
     order_is_serial as order_is_serial_over_schemes,
     quiet_is_answered as quiet_is_answered_over_schemes,
+    servers_agree as servers_agree_over_schemes,
+    submissions_are_kept as submissions_are_kept_over_schemes,
 };
 
 /// The scheme of an accepted plan is sound.
@@ -105,11 +132,143 @@ pub fn cells_are_serial()
 }
 
 /// Over every run of every accepted plan, what was delivered is answered: a submitted transaction that is quiet, since every message of it
-/// and of its ancestors was delivered, has its reply in that same world.
+/// and of its ancestors was delivered, has its reply in that same world. And a quiet transaction is decided wherever it has a group.
 pub fn quiet_is_answered()
-    ensures { (plan : Plan) (coords : ℕ) (steps : List Stepped) (w : World) → IsAccepted plan → IsRun plan coords steps w
+    ensures answered { (plan : Plan) (coords : ℕ) (steps : List Stepped) (w : World) → IsAccepted plan → IsRun plan coords steps w
         → (t : TxnId) (proc : ℕ) (args : List ℤ) → Has (entry.Submitted t proc args) w.history → IsQuiet w t → (reply : List ℤ) × Has (entry.Answered t reply) w.history }
+    ensures decided { (plan : Plan) (coords : ℕ) (steps : List Stepped) (w : World) → IsAccepted plan → IsRun plan coords steps w
+        → (t : TxnId) → IsQuiet w t → (shard : Shard) (s : ServerState) → slice_get w.servers shard.0 ≡ Some s → (e : StartedGroup) → Has e s.started → e.id ≡ t
+        → IsDecided s.lists.known t }
 {
     accepted_plans_have_schemes();
     quiet_is_answered_over_schemes();
 }
+
+/// Over every run of every accepted plan, where each submitted transaction is answered, the nodes are done: no event changes the order or
+/// what a server's cells hold, and no coordinator has a transaction left.
+pub fn answered_worlds_rest()
+    ensures order { (plan : Plan) (coords : ℕ) (steps : List Stepped) (w : World) → IsAccepted plan → IsRun plan coords steps w
+        → ((t : TxnId) → WasSubmitted w.history t → (reply : List ℤ) × WasAnswered w.history t reply)
+        → (e : Option Event) (o : Outcome) → Transition plan w e o → o.world.order ≡ w.order }
+    ensures cells { (plan : Plan) (coords : ℕ) (steps : List Stepped) (w : World) → IsAccepted plan → IsRun plan coords steps w
+        → ((t : TxnId) → WasSubmitted w.history t → (reply : List ℤ) × WasAnswered w.history t reply)
+        → (e : Option Event) (o : Outcome) → Transition plan w e o
+        → (n : ℕ) (s v : ServerState) → slice_get w.servers n ≡ Some s → slice_get o.world.servers n ≡ Some v → v.store ≡ s.store }
+    ensures pending { (plan : Plan) (coords : ℕ) (steps : List Stepped) (w : World) → IsAccepted plan → IsRun plan coords steps w
+        → ((t : TxnId) → WasSubmitted w.history t → (reply : List ℤ) × WasAnswered w.history t reply)
+        → (n : ℕ) (c : CoordState) → slice_get w.coords n ≡ Some c → c.pending ≡ [] }
+{
+    accepted_plans_have_schemes();
+    answered_worlds_rest_over_schemes();
+}
+
+/// Over every run of every accepted plan, no server holds a cell of another shard: each is 0 there.
+pub fn cells_are_in_their_place()
+    ensures { (plan : Plan) (coords : ℕ) (steps : List Stepped) (w : World) → IsAccepted plan → IsRun plan coords steps w
+        → (shard : Shard) (s : ServerState) → slice_get w.servers shard.0 ≡ Some s → (x : Cell) → shard_of plan x.place ≢ shard.0 → read s.store x ≡ pos 0 }
+{
+    accepted_plans_have_schemes();
+    cells_are_in_their_place_over_schemes();
+}
+
+/// Over every run of every accepted plan, each sequence number below a coordinator's next one is that of a transaction that was submitted,
+/// and that is pending there or was answered; and so each transaction that was submitted is pending at its coordinator or was answered.
+/// None is both.
+pub fn submissions_are_kept()
+    ensures numbers { (plan : Plan) (coords : ℕ) (steps : List Stepped) (w : World) → IsAccepted plan → IsRun plan coords steps w
+        → (coord seq : ℕ) (c : CoordState) → slice_get w.coords coord ≡ Some c → seq < c.next
+        → WasSubmitted w.history (record { coord = coord; seq = seq })
+        × (((x : Transaction) × Has x c.pending × (x.id ≡ record { coord = coord; seq = seq })) ⊎ ((reply : List ℤ) × WasAnswered w.history (record { coord = coord; seq = seq }) reply)) }
+    ensures submitted { (plan : Plan) (coords : ℕ) (steps : List Stepped) (w : World) → IsAccepted plan → IsRun plan coords steps w
+        → (t : TxnId) → WasSubmitted w.history t
+        → (c : CoordState) × (slice_get w.coords t.coord ≡ Some c)
+        × (((x : Transaction) × Has x c.pending × (x.id ≡ t)) ⊎ ((reply : List ℤ) × WasAnswered w.history t reply)) }
+    ensures gone { (plan : Plan) (coords : ℕ) (steps : List Stepped) (w : World) → IsAccepted plan → IsRun plan coords steps w
+        → (t : TxnId) (reply : List ℤ) → WasAnswered w.history t reply → (n : ℕ) (c : CoordState) → slice_get w.coords n ≡ Some c → (x : Transaction)
+        → Has x c.pending → x.id ≢ t }
+{
+    accepted_plans_have_schemes();
+    submissions_are_kept_over_schemes();
+}
+
+/// Over every run of every accepted plan, who is answered is decided on every server where it has a group.
+pub fn answered_is_decided()
+    ensures { (plan : Plan) (coords : ℕ) (steps : List Stepped) (w : World) → IsAccepted plan → IsRun plan coords steps w
+        → (t : TxnId) (reply : List ℤ) → WasAnswered w.history t reply
+        → (shard : Shard) (s : ServerState) → slice_get w.servers shard.0 ≡ Some s → (e : StartedGroup) → Has e s.started → e.id ≡ t → IsDecided s.lists.known t }
+{
+    accepted_plans_have_schemes();
+    answered_is_decided_over_schemes();
+}
+
+/// Over every run of every accepted plan, what a start leaves out is earlier: what is decided on a server stands in the serial order
+/// already, and a transaction of which a group is to start there does not.
+pub fn left_out_is_earlier()
+    ensures decided { (plan : Plan) (coords : ℕ) (steps : List Stepped) (w : World) → IsAccepted plan → IsRun plan coords steps w
+        → (shard : Shard) (s : ServerState) → slice_get w.servers shard.0 ≡ Some s → (t : TxnId) → IsDecided s.lists.known t → IsListed is_txn w.order t }
+    ensures starting { (plan : Plan) (coords : ℕ) (steps : List Stepped) (w : World) → IsAccepted plan → IsRun plan coords steps w
+        → (shard : Shard) (s : ServerState) → slice_get w.servers shard.0 ≡ Some s
+        → (m : Envelope) → Has m w.sent → m.to ≡ node.Server shard → (id : TxnId) (proc group : ℕ) (args inputs : List ℤ) → m.msg ≡ msg.Start id proc group args inputs
+        → find_group id group s.started ≡ None → ¬ IsListed is_txn w.order id }
+{
+    accepted_plans_have_schemes();
+    left_out_is_earlier_over_schemes();
+}
+
+/// Over every run of every accepted plan, lists are final: each list that a server knows, or that a commit, a known or a fact carries, is the
+/// union of what the startoks of all groups of its transaction tell, which are in the network; and two startoks of one group are equal.
+pub fn lists_are_final()
+    ensures known { (plan : Plan) (coords : ℕ) (steps : List Stepped) (w : World) → IsAccepted plan → IsRun plan coords steps w
+        → (shard : Shard) (s : ServerState) → slice_get w.servers shard.0 ≡ Some s → (k : KnownList) → Has k s.lists.known → IsFinalIn plan w k.of k.edges }
+    ensures carried { (plan : Plan) (coords : ℕ) (steps : List Stepped) (w : World) → IsAccepted plan → IsRun plan coords steps w
+        → (m : Envelope) → Has m w.sent → (k : KnownList) → Has k (lists_in m.msg) → IsFinalIn plan w k.of k.edges }
+    ensures one { (plan : Plan) (coords : ℕ) (steps : List Stepped) (w : World) → IsAccepted plan → IsRun plan coords steps w
+        → (m other : Envelope) → Has m w.sent → Has other w.sent
+        → (t : TxnId) (g : ℕ) (shard at : Shard) (bound outs values gave : List ℤ) (edges entries : List Dependency) (facts lists : List KnownList)
+        → m.msg ≡ msg.StartOk t g shard bound outs edges facts → other.msg ≡ msg.StartOk t g at values gave entries lists → m.msg ≡ other.msg }
+{
+    accepted_plans_have_schemes();
+    lists_are_final_over_schemes();
+}
+
+/// Over every run of every accepted plan, no message is refused: a server takes each message that comes, and a coordinator ignores only one
+/// that was answered before or is of a transaction that has its reply.
+pub fn nothing_is_refused()
+    ensures servers { (plan : Plan) (coords : ℕ) (steps : List Stepped) (w : World) → IsAccepted plan → IsRun plan coords steps w
+        → (k : ℕ) (m : Envelope) (shard : Shard) (o : Outcome) → slice_get w.sent (k - 1) ≡ Some m → m.to ≡ node.Server shard
+        → Happens plan w (event.Deliver k) o → o.seen ≡ seen.Done }
+    ensures coordinators { (plan : Plan) (coords : ℕ) (steps : List Stepped) (w : World) → IsAccepted plan → IsRun plan coords steps w
+        → (k : ℕ) (o : Outcome) (why : Reason) → Happens plan w (event.Deliver k) o → o.seen ≡ seen.Ignored why → why ≡ reason.Stale }
+{
+    accepted_plans_have_schemes();
+    nothing_is_refused_over_schemes();
+}
+
+/// Over every run of every accepted plan, two servers that both decided a transaction know the same ancestors and the same component of it.
+/// And each server takes transactions in the serial order, as far as one is an ancestor of the other: what was decided before an event, and
+/// what the event decides, in its order.
+pub fn servers_agree()
+    ensures ancestors { (plan : Plan) (coords : ℕ) (steps : List Stepped) (w : World) → IsAccepted plan → IsRun plan coords steps w
+        → (shard other : Shard) (s v : ServerState) → slice_get w.servers shard.0 ≡ Some s → slice_get w.servers other.0 ≡ Some v
+        → (u t : TxnId) → IsDecided s.lists.known t → IsDecided v.lists.known t → IsAncestor s.lists.known u t → IsAncestor v.lists.known u t }
+    ensures components { (plan : Plan) (coords : ℕ) (steps : List Stepped) (w : World) → IsAccepted plan → IsRun plan coords steps w
+        → (shard other : Shard) (s v : ServerState) → slice_get w.servers shard.0 ≡ Some s → slice_get w.servers other.0 ≡ Some v
+        → (t u : TxnId) → IsDecided s.lists.known t → IsDecided v.lists.known t → Mates (Precedes s.lists.known) t u → Mates (Precedes v.lists.known) t u }
+    ensures order { (plan : Plan) (coords : ℕ) (steps : List Stepped) (w : World) → IsAccepted plan → IsRun plan coords steps w
+        → (k : ℕ) (m : Envelope) (shard : Shard) (s v : ServerState) (o : Outcome) → slice_get w.sent (k - 1) ≡ Some m → m.to ≡ node.Server shard
+        → slice_get w.servers shard.0 ≡ Some s → Happens plan w (event.Deliver k) o → slice_get o.world.servers shard.0 ≡ Some v
+        → (a b : TxnId) → IsAncestor v.lists.known a b ⊎ IsAncestor v.lists.known b a
+        → (IsDecided s.lists.known a × IsListed is_txn o.decided b) ⊎ (IsListed is_txn o.decided b × IsListedBefore is_txn o.decided a b)
+        → IsListedBefore is_txn o.world.order a b }
+{
+    accepted_plans_have_schemes();
+    servers_agree_over_schemes();
+}
+
+/// What these laws ask for can be met: the small plan is accepted, and in a run of it a transaction is submitted, is quiet, stands in the
+/// order and has its reply.
+pub fn a_submission_is_answered()
+    ensures accepted { IsAccepted smallest }
+    ensures answered { (steps : List Stepped) × (w : World) × IsRun smallest 1 steps w
+        × (t : TxnId) × (w.history ≡ entry.Submitted t 0 [] ∷ entry.Answered t (pos 1 ∷ []) ∷ []) × (w.order ≡ t ∷ []) × IsQuiet w t }
+{}

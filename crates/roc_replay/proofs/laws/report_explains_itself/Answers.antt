@@ -18,7 +18,7 @@ placed plan ok (negsuc a) = below plan.program.shards (a % plan.program.shards) 
 pub returns : goal.returns
 returns c plan coords steps w accepted run =
     let schemes = c.accepted_plans_have_schemes.ensures plan accepted in
-    explained plan coords steps w (c.order_is_serial.ensures plan coords steps w accepted run) (c.quiet_is_answered.ensures plan coords steps w accepted run)
+    explained plan coords steps w (c.order_is_serial.ensures plan coords steps w accepted run) (c.quiet_is_answered.ensures.answered plan coords steps w accepted run)
     (λ none.
     shown_cells plan w
     (c.cells_are_in_their_place.ensures.servers plan coords steps w run)

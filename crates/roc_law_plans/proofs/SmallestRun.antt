@@ -1,0 +1,147 @@
+-- A run of the smallest plan in which a transaction is answered. States are written as changes of the first ones, and each step computes
+use Rattle.std.proofs.Common.{pos, List, [], ◌∷◌, Some, None, refl, arith}
+use Rattle.roc_base.specs.declared.id.TxnId.{TxnId}
+use Rattle.roc_base.specs.declared.node.Shard.{Shard}
+use Rattle.roc_base.specs.declared.node.Node.TheVariants.{Server, Coord}
+use Rattle.roc_msg.specs.declared.msg.Envelope.{Envelope}
+use Rattle.roc_msg.specs.declared.msg.Msg.{Msg}
+use Rattle.roc_msg.specs.declared.msg.Msg.TheVariants.{Start, StartOk, Commit, CommitOk}
+use Rattle.roc_await.specs.Waits.{none_waiting}
+use Rattle.roc_server.specs.declared.started.StartedGroup.{StartedGroup}
+use Rattle.roc_server.specs.First.{first_server}
+use Rattle.roc_server.specs.declared.handled.Handled.TheVariants.{Done}
+use Rattle.roc_server.specs.State.{ServerState, ServerStep}
+use Rattle.roc_server.specs.Step.{Handles}
+use Rattle.roc_coord.specs.declared.transaction.Transaction.{Transaction}
+use Rattle.roc_coord.specs.State.{first_coord, CoordState}
+use Rattle.roc_coord.specs.Starts.{shards_below}
+use Rattle.roc_audit.specs.declared.entry.Entry.TheVariants.{Submitted, Answered}
+use Rattle.roc_protocol.specs.declared.event.Event.TheVariants.{Submit, Deliver}
+use Rattle.roc_protocol.specs.declared.event.Seen.TheVariants as seen
+use Rattle.roc_protocol.specs.World.{World, first_world}
+use Rattle.roc_protocol.specs.Quiet.{IsQuiet}
+use Rattle.roc_protocol.specs.Happens.{undecided, Happens}
+use Rattle.roc_protocol.specs.Run.{Stepped, IsRun, begun, goes_on}
+use Rattle.roc_law_plans.specs.Smallest.{smallest}
+use Rattle.roc_law_plans.proofs.Alone.{decided_of_none, led_to_none, new_of_none, new_alone}
+
+abbrev shard : Shard
+shard = record { 0 = 0 }
+
+abbrev pub id : TxnId
+id = record { coord = 0; seq = 0 }
+
+abbrev to_server : Msg → Envelope
+to_server msg = record { from = Coord 0; to = Server shard; msg = msg }
+
+abbrev to_coord : Msg → Envelope
+to_coord msg = record { from = Server shard; to = Coord 0; msg = msg }
+
+-- ---- it is submitted
+
+abbrev submitted_transaction : Transaction
+submitted_transaction = record { id = id; proc = 0; args = []; starts = (record { group = 0; shard = shard }) ∷ []; startoks = []; asked = []; commitoks = [] }
+
+abbrev submitted_coord : CoordState
+submitted_coord = record (first_coord 0) { next = 1; pending = submitted_transaction ∷ [] }
+
+abbrev start : Envelope
+start = to_server (Start id 0 0 [] [])
+
+abbrev submitted_world : World
+submitted_world = record (first_world smallest 1) { coords = submitted_coord ∷ []; sent = start ∷ []; undelivered = 1 ∷ []; history = Submitted id 0 [] ∷ [] }
+
+submits : Happens smallest (first_world smallest 1) (Submit 0 0 []) (undecided (seen.Submitted id) submitted_world)
+submits = (first_coord 0, refl, refl)
+
+-- ---- its group starts
+
+abbrev started_group : StartedGroup
+started_group = record { id = id; proc = 0; group = 0; args = []; inputs = []; cells = []; bound = []; outs = []; edges = []; facts = []; later = None }
+
+abbrev started_server : ServerState
+started_server = record (first_server smallest shard) { started = started_group ∷ [] }
+
+abbrev startok : Envelope
+startok = to_coord (StartOk id 0 shard [] [] [] [])
+
+abbrev started_world : World
+started_world = record submitted_world { servers = started_server ∷ []; sent = start ∷ startok ∷ []; undelivered = 2 ∷ [] }
+
+abbrev started_step : ServerStep
+started_step = record { answer = Done; state = started_server; sends = record { to = Coord 0; msg = startok.msg } ∷ []; decided = []; ran = [] }
+
+start_handled : Handles smallest (first_server smallest shard) (Start id 0 0 [] []) started_step
+start_handled =
+    record {
+      findings = record { before = []; reached = []; decided = [] };
+      found = record { before = decided_of_none; reached = led_to_none []; decided = new_of_none };
+      is = refl;
+    }
+
+starts : Happens smallest submitted_world (Deliver 1) (record { seen = seen.Done; decided = []; world = started_world })
+starts = (start, omega arith, refl, (first_server smallest shard, started_step, refl, start_handled, refl))
+
+-- ---- its commit is asked for
+
+abbrev asked_transaction : Transaction
+asked_transaction = record submitted_transaction { startoks = (record { group = 0; bound = []; outs = []; edges = []; facts = [] }) ∷ []; asked = shard ∷ [] }
+
+abbrev commit : Envelope
+commit = to_server (Commit id [] [])
+
+abbrev asked_world : World
+asked_world = record started_world { coords = (record submitted_coord { pending = asked_transaction ∷ [] }) ∷ []; sent = start ∷ startok ∷ commit ∷ []; undelivered = 3 ∷ [] }
+
+commits : Happens smallest started_world (Deliver 2) (undecided seen.Done asked_world)
+unfolding shards_below
+commits = (startok, omega arith, refl, (submitted_coord, refl, refl))
+
+-- ---- it is decided, and its group runs
+
+abbrev decided_server : ServerState
+decided_server =
+    record started_server {
+      started = (record started_group { later = Some (pos 1 ∷ []) }) ∷ [];
+      lists = record { known = (record { of = id; edges = [] }) ∷ []; waiting = none_waiting };
+    }
+
+abbrev commitok : Envelope
+commitok = to_coord (CommitOk id shard (pos 1 ∷ []))
+
+abbrev decided_world : World
+decided_world = record asked_world { servers = decided_server ∷ []; sent = start ∷ startok ∷ commit ∷ commitok ∷ []; undelivered = 4 ∷ []; order = id ∷ [] }
+
+abbrev decided_step : ServerStep
+decided_step = record { answer = Done; state = decided_server; sends = record { to = Coord 0; msg = commitok.msg } ∷ []; decided = id ∷ []; ran = started_group ∷ [] }
+
+commit_handled : Handles smallest started_server (Commit id [] []) decided_step
+commit_handled =
+    record {
+      findings = record { before = []; reached = []; decided = id ∷ [] };
+      found = record { before = decided_of_none; reached = led_to_none []; decided = new_alone id };
+      is = refl;
+    }
+
+runs : Happens smallest asked_world (Deliver 3) (record { seen = seen.Done; decided = id ∷ []; world = decided_world })
+runs = (commit, omega arith, refl, (started_server, decided_step, refl, commit_handled, refl))
+
+-- ---- and it is answered
+
+abbrev pub answered_world : World
+answered_world = record decided_world { coords = (record submitted_coord { pending = [] }) ∷ []; undelivered = []; history = Submitted id 0 [] ∷ Answered id (pos 1 ∷ []) ∷ [] }
+
+answers : Happens smallest decided_world (Deliver 4) (undecided (seen.Answered id (pos 1 ∷ [])) answered_world)
+answers = (commitok, omega arith, refl, (record submitted_coord { pending = asked_transaction ∷ [] }, refl, refl))
+
+pub run : (steps : List Stepped) × IsRun smallest 1 steps answered_world
+run =
+    let one = goes_on (Some (Submit 0 0 [])) _ begun submits in
+    let two = goes_on (Some (Deliver 1)) _ one starts in
+    let three = goes_on (Some (Deliver 2)) _ two commits in
+    let four = goes_on (Some (Deliver 3)) _ three runs in
+    (_, goes_on (Some (Deliver 4)) _ four answers)
+
+-- each message was delivered
+pub quiet : IsQuiet answered_world id
+quiet = record { each = λ k m u h e r. λ n. n }
