@@ -1,6 +1,6 @@
 //! The machine as the traits of `roc_io`, `roc_disk` and `roc_book`, and the program's words (`words_given`). `RealFiles`
 //! reads files by their paths, one byte more than the limit at most; `Stream` is standard output or standard error, where a
-//! piece goes out whole before the next begins; `RealLink` is one UDP socket whose receives wait 20 milliseconds;
+//! piece goes out whole before the next begins; `RealLink` is one UDP socket, quiet every 20 milliseconds;
 //! `RealSpawner` starts the program itself with other words, without input and output; `RealDisk` has one file open and
 //! locked; `RealBook` writes one file anew.
 //!

@@ -7,10 +7,16 @@ use std::io;
 use std::io::ErrorKind;
 use std::net::{Ipv4Addr, Net, SocketAddr, SocketAddrV4, UdpSocket};
 use std::os::fd::AsRawFd;
-use std::time::Duration;
+use std::time::{Clock, Duration, Instant};
 
-/// How many milliseconds a receive waits for a datagram.
-const WAIT_MILLIS: u64 = 20;
+/// How many milliseconds there are between two quiet receives, whether datagrams come or not.
+const QUIET_MILLIS: u64 = 20;
+
+/// How many milliseconds longer than wanted a receive may wait before the system is told anew.
+const GRAIN_MILLIS: u64 = 1;
+
+/// How often an interrupted receive is made again.
+const MOST_INTERRUPTS: u64 = 1_000_000;
 
 /// How many bytes of a datagram are kept, one more than a message may have.
 const KEPT_BYTES: usize = 60_001;
@@ -19,20 +25,21 @@ const KEPT_BYTES: usize = 60_001;
 const BUFFER_BYTES: i32 = 4_194_304;
 
 /// One socket, which a bind makes. Before it, and after one that failed, each call fails but a bind. A bind or receive that fails is
-/// counted, and so is a send apart from these.
+/// counted, and so is a send apart from these. A receive is quiet once 20 milliseconds have passed since the last quiet one, or since
+/// the bind, on a clock that does not go back: also where datagrams come without end, and not where a call was interrupted.
 #[derive(Drop)]
 pub struct RealLink<'a, N> {
-    net: &'a N,
-    socket: Option<UdpSocket>,
+    machine: &'a N,
+    socket: Option<BoundSocket>,
     faults: u64,
     lost: u64,
 }
 
 impl<'a, N> RealLink<'a, N> {
-    /// A link of this network that is not bound.
-    pub fn new(net: &'a N) -> Self {
+    /// A link of this machine's network and clock that is not bound.
+    pub fn new(machine: &'a N) -> Self {
         RealLink {
-            net,
+            machine,
             socket: None,
             faults: 0,
             lost: 0,
@@ -40,7 +47,7 @@ impl<'a, N> RealLink<'a, N> {
     }
 }
 
-impl<N: Net> Link for RealLink<'_, N> {
+impl<N: Net + Clock> Link for RealLink<'_, N> {
     ghost faults = { λ l. l.faults };
 
     ghost lost = { λ l. l.lost };
@@ -52,9 +59,9 @@ impl<N: Net> Link for RealLink<'_, N> {
     ghost sent = { λ l. None };
 
     fn bind(&mut self, addr: Addr) -> Bound {
-        match bound_socket(self.net, addr) {
+        match bound_socket(self.machine, addr) {
             Ok(socket) => {
-                self.socket = Some(socket);
+                self.socket = Some(BoundSocket::new(self.machine, socket));
                 Bound::Ok
             }
             Err(_) => {
@@ -75,10 +82,14 @@ impl<N: Net> Link for RealLink<'_, N> {
     }
 
     fn receive(&mut self, into: &mut Vec<u8>) -> Arrival {
-        let answer = received(&self.socket, into);
+        let answer = received(self.machine, &mut self.socket, into);
         match answer {
             Arrival::Datagram { .. } => {}
-            Arrival::Quiet | Arrival::NoMemory => into.clear(),
+            Arrival::Quiet => {
+                into.clear();
+                begin_again(self.machine, &mut self.socket);
+            }
+            Arrival::NoMemory => into.clear(),
             Arrival::Failed => {
                 into.clear();
                 self.faults = self.faults.saturating_add(1);
@@ -96,10 +107,81 @@ impl<N: Net> Link for RealLink<'_, N> {
     }
 }
 
+// The time between two quiet receives.
+fn quiet_time() -> Duration {
+    Duration::from_millis(QUIET_MILLIS)
+}
+
+// A socket with when it was bound, or last quiet, and how long its receives wait.
+#[derive(Drop)]
+struct BoundSocket {
+    socket: UdpSocket,
+    since: Option<Instant>,
+    wait: Duration,
+}
+
+impl BoundSocket {
+    fn new<M: Clock>(machine: &M, socket: UdpSocket) -> BoundSocket {
+        BoundSocket {
+            socket,
+            since: Instant::now(machine).ok(),
+            wait: quiet_time(),
+        }
+    }
+
+    // How long it is until a receive is quiet. Where the clock cannot be read, the system's wait decides.
+    fn left<M: Clock>(&self, machine: &M) -> Duration {
+        let Some(since) = self.since else {
+            return quiet_time();
+        };
+        match since.elapsed(machine) {
+            Ok(passed) => quiet_time().saturating_sub(passed),
+            Err(_) => quiet_time(),
+        }
+    }
+
+    // What comes within this time: nothing where the call was interrupted.
+    fn received_within(&mut self, left: Duration, into: &mut Vec<u8>) -> Option<Arrival> {
+        if self.wait < left
+            || self.wait.saturating_sub(left) > Duration::from_millis(GRAIN_MILLIS)
+        {
+            if self.socket.set_read_timeout(Some(left)).is_err() {
+                return Some(Arrival::Failed);
+            }
+            self.wait = left;
+        }
+        match self.socket.recv_from(into) {
+            Ok((count, SocketAddr::V4(from))) => {
+                into.truncate(count);
+                Some(Arrival::Datagram {
+                    from: Addr {
+                        host: from.ip().octets(),
+                        port: from.port(),
+                    },
+                })
+            }
+            Ok((_, SocketAddr::V6(_))) => Some(Arrival::Failed),
+            Err(error) => match error.kind() {
+                ErrorKind::WouldBlock | ErrorKind::TimedOut => Some(Arrival::Quiet),
+                ErrorKind::Interrupted => None,
+                ErrorKind::OutOfMemory => Some(Arrival::NoMemory),
+                _ => Some(Arrival::Failed),
+            },
+        }
+    }
+}
+
+// The time until the next quiet receive begins.
+fn begin_again<M: Clock>(machine: &M, socket: &mut Option<BoundSocket>) {
+    if let Some(bound) = socket {
+        bound.since = Instant::now(machine).ok();
+    }
+}
+
 // A socket at this address, whose receives end after a while.
 fn bound_socket<N: Net>(net: &N, addr: Addr) -> io::Result<UdpSocket> {
     let socket = UdpSocket::bind(net, machine_addr(addr))?;
-    socket.set_read_timeout(Some(Duration::from_millis(WAIT_MILLIS)))?;
+    socket.set_read_timeout(Some(quiet_time()))?;
     ask_for_room(&socket);
     Ok(socket)
 }
@@ -113,9 +195,9 @@ fn ask_for_room(socket: &UdpSocket) {
     }
 }
 
-fn is_sent(socket: &Option<UdpSocket>, to: Addr, bytes: &[u8]) -> bool {
+fn is_sent(socket: &Option<BoundSocket>, to: Addr, bytes: &[u8]) -> bool {
     match socket {
-        Some(socket) => match socket.send_to(bytes, machine_addr(to)) {
+        Some(bound) => match bound.socket.send_to(bytes, machine_addr(to)) {
             Ok(count) => count == bytes.len(),
             Err(_) => false,
         },
@@ -123,8 +205,13 @@ fn is_sent(socket: &Option<UdpSocket>, to: Addr, bytes: &[u8]) -> bool {
     }
 }
 
-fn received(socket: &Option<UdpSocket>, into: &mut Vec<u8>) -> Arrival {
-    let Some(socket) = socket else {
+// Receives one datagram, or waits for as long as is left until it is quiet. A call that was interrupted is made again.
+fn received<M: Clock>(
+    machine: &M,
+    socket: &mut Option<BoundSocket>,
+    into: &mut Vec<u8>,
+) -> Arrival {
+    let Some(bound) = socket else {
         return Arrival::Failed;
     };
     into.clear();
@@ -132,23 +219,16 @@ fn received(socket: &Option<UdpSocket>, into: &mut Vec<u8>) -> Arrival {
     if into.resize(KEPT_BYTES, 0).is_err() {
         return Arrival::NoMemory;
     }
-    match socket.recv_from(into) {
-        Ok((count, SocketAddr::V4(from))) => {
-            into.truncate(count);
-            Arrival::Datagram {
-                from: Addr {
-                    host: from.ip().octets(),
-                    port: from.port(),
-                },
-            }
+    for _ in 0..MOST_INTERRUPTS {
+        let left = bound.left(machine);
+        if left.is_zero() {
+            break;
         }
-        Ok((_, SocketAddr::V6(_))) => Arrival::Failed,
-        Err(error) => match error.kind() {
-            ErrorKind::WouldBlock | ErrorKind::TimedOut | ErrorKind::Interrupted => Arrival::Quiet,
-            ErrorKind::OutOfMemory => Arrival::NoMemory,
-            _ => Arrival::Failed,
-        },
+        if let Some(answer) = bound.received_within(left, into) {
+            return answer;
+        }
     }
+    Arrival::Quiet
 }
 
 fn machine_addr(addr: Addr) -> SocketAddr {

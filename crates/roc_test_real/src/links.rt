@@ -4,6 +4,7 @@ use roc_io_real::RealLink;
 use std::net::Net;
 use std::process::Abort;
 use std::test::Fail;
+use std::time::Clock;
 
 const ANY: Addr = Addr {
     host: [0, 0, 0, 0],
@@ -14,7 +15,7 @@ const ANY: Addr = Addr {
 const LARGE: usize = 49_184;
 
 /// Binds to the first port that nobody has, so that another run beside this one takes another.
-fn bound_to_free<N: Net>(rt: &impl Abort, link: &mut RealLink<N>) -> Addr {
+fn bound_to_free<N: Net + Clock>(rt: &impl Abort, link: &mut RealLink<N>) -> Addr {
     for port in 21_000..22_000 {
         let addr = Addr {
             host: [127, 0, 0, 1],
@@ -27,11 +28,20 @@ fn bound_to_free<N: Net>(rt: &impl Abort, link: &mut RealLink<N>) -> Addr {
     panic!(rt; "no port")
 }
 
-fn sender(rt: &impl Abort, arrival: Arrival) -> Addr {
-    match arrival {
-        Arrival::Datagram { from } => from,
-        _ => panic!(rt; "no datagram"),
+/// Receives until a datagram comes: a receive may be quiet before it.
+fn sender<N: Net + Clock>(
+    rt: &impl Abort,
+    link: &mut RealLink<N>,
+    bytes: &mut Vec<u8>,
+) -> Addr {
+    for _ in 0..100 {
+        match link.receive(bytes) {
+            Arrival::Datagram { from } => return from,
+            Arrival::Quiet => {}
+            _ => panic!(rt; "no datagram"),
+        }
     }
+    panic!(rt; "quiet")
 }
 
 #[test]
@@ -46,13 +56,13 @@ fn datagrams_go_there_and_back(rt: HostRuntime) -> Result<(), Fail> {
 
     assert_eq!(rt; far.send(here, b"a"), Sent::Ok);
     assert_eq!(rt; far.send(here, &large), Sent::Ok);
-    sender(&rt, near.receive(&mut bytes));
+    sender(&rt, &mut near, &mut bytes);
     assert_eq!(rt; bytes.as_slice(), b"a".as_slice());
-    let from = sender(&rt, near.receive(&mut bytes));
+    let from = sender(&rt, &mut near, &mut bytes);
     assert!(rt; bytes.as_slice() == large.as_slice());
 
     assert_eq!(rt; near.send(from, b"back"), Sent::Ok);
-    assert_eq!(rt; sender(&rt, far.receive(&mut bytes)), here);
+    assert_eq!(rt; sender(&rt, &mut far, &mut bytes), here);
     assert_eq!(rt; bytes.as_slice(), b"back".as_slice());
 
     assert_eq!(rt; near.receive(&mut bytes), Arrival::Quiet);
