@@ -62,7 +62,6 @@ module _ (plan : Plan) (w : World) where
       record { coords = ap (λ (o : Outcome). o.world.coords) h ∙ sym (set_there w.coords n c there); servers = ap (λ (o : Outcome). o.world.servers) h; sent = ap (λ (o : Outcome). o.world.sent) h ∙ sym (append-nil w.sent) }
   lands n proc args c o there (Some fault.Busy) h =
       record { coords = ap (λ (o : Outcome). o.world.coords) h ∙ sym (set_there w.coords n c there); servers = ap (λ (o : Outcome). o.world.servers) h; sent = ap (λ (o : Outcome). o.world.sent) h ∙ sym (append-nil w.sent) }
-  lands n proc args c o there (Some fault.Stopped) h = absurd h
   lands n proc args c o there (Some fault.NoProc) h = absurd h
   lands n proc args c o there (Some fault.Args) h = absurd h
   lands n proc args c o there (Some fault.NoMemory) h = absurd h

@@ -11,7 +11,7 @@ use Rattle.roc_msg.specs.declared.outbox.Outgoing.{Outgoing}
 use Rattle.roc_plan.specs.Groups.{Plan}
 use Rattle.roc_wire.specs.declared.header.Header.{Header}
 use Rattle.roc_server.specs.declared.handled.Handled.{Handled}
-use Rattle.roc_server.specs.declared.handled.Handled.TheVariants.{Done, Ignored}
+use Rattle.roc_server.specs.declared.handled.Handled.TheVariants.{Done, Gone, Ignored}
 use Rattle.roc_server.specs.First.{first_server}
 use Rattle.roc_server.specs.State.{ServerState, ServerStep}
 use Rattle.roc_server.specs.Step.{Handles, tick_sends}
@@ -48,6 +48,7 @@ server_sends S node outs = record node { messages = node.messages ++ outs; sends
 -- a delivery more was taken, and this is what the core answered to it
 abbrev pub with_answer : Counts → Handled → Counts
 with_answer c Done = with_taken c
+with_answer c Gone = with_taken c
 with_answer c (Ignored reason) = record c { taken = one_more c.taken; ignores = one_ignore_more c.ignores reason }
 
 -- its core takes a step for a delivery

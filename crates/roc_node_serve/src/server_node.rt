@@ -35,7 +35,7 @@ pub fn count_answer(counts: &mut Counts, answer: Handled)
 {
     counts.take();
     match answer {
-        Handled::Done => {}
+        Handled::Done | Handled::Gone => {}
         Handled::Ignored(reason) => counts.ignores.add(reason),
     }
 }

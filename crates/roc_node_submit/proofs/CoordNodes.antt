@@ -14,7 +14,7 @@ use Rattle.roc_report.specs.Text.{line_text, lines_text}
 use Rattle.roc_sched.specs.declared.line.Request.{Request}
 use Rattle.roc_coord.specs.declared.handled.SubmitFault.{SubmitFault}
 use Rattle.roc_coord.specs.State.{CoordState}
-use Rattle.roc_coord.specs.Submit.{after_submit, IsSubmitted, UnlessStopped, most_pending}
+use Rattle.roc_coord.specs.Submit.{after_submit, IsSubmitted, UnlessNoMemory, most_pending}
 use Rattle.roc_node_submit.specs.declared.coord_node.CoordNode.{CoordNode}
 use Rattle.roc_node_submit.specs.CoordRun.{Submissions, none_submitted, submitted, submitted_call, submitted_all, submit_lines}
 use Rattle.roc_node_submit.specs.Inner.CoordTurn.{SubmitsOne, SubmitsSome}
@@ -72,12 +72,12 @@ refused_submits plan request proc fault old new out_old out_new text name args s
 
 -- the same of a fault that is told by what it equals, where that fault promises the step
 pub submits_refused : (plan : Plan) (request : Request) (proc : ℕ) (fault kind : SubmitFault) (old new : CoordState) (out_old out_new : Collected) (text name : List ℕ) (args : List ℤ) → name ≡ request.name → Some proc ≡ procedure_named plan.program name
-    → args ≡ request.args → fault ≡ kind → UnlessStopped (Err fault) (IsSubmitted (after_submit plan old proc args) (Err fault) new out_old out_new)
-    → (UnlessStopped (Err kind) (IsSubmitted (after_submit plan old proc args) (Err kind) new out_old out_new) → IsSubmitted (after_submit plan old proc args) (Err kind) new out_old out_new)
+    → args ≡ request.args → fault ≡ kind → UnlessNoMemory (Err fault) (IsSubmitted (after_submit plan old proc args) (Err fault) new out_old out_new)
+    → (UnlessNoMemory (Err kind) (IsSubmitted (after_submit plan old proc args) (Err kind) new out_old out_new) → IsSubmitted (after_submit plan old proc args) (Err kind) new out_old out_new)
     → SubmitsOne plan request old new out_old.messages out_new.messages text text
 submits_refused plan request proc fault kind old new out_old out_new text name args same named given is step promised =
     refused_submits plan request proc kind old new out_old out_new text name args same named given
-    (promised (subst (λ (f : SubmitFault). UnlessStopped (Err f) (IsSubmitted (after_submit plan old proc args) (Err f) new out_old out_new)) is step))
+    (promised (subst (λ (f : SubmitFault). UnlessNoMemory (Err f) (IsSubmitted (after_submit plan old proc args) (Err f) new out_old out_new)) is step))
 
 -- ---- several
 

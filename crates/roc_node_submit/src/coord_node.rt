@@ -68,7 +68,6 @@ fn submit_one(
             Ok(())
         }
         Err(SubmitFault::NoMemory) => Err(NoMemory),
-        Err(SubmitFault::Stopped) => Err(NoMemory),
         Err(SubmitFault::NoProc) => Ok(()),
         Err(SubmitFault::Args) => Ok(()),
         Err(SubmitFault::Spent) => Ok(()),

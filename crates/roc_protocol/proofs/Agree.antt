@@ -1,5 +1,5 @@
 -- Servers agree on what precedes a transaction
-use Rattle.std.proofs.Common.{◌≡◌, ℕ, ◌<◌, List, [], Some, length, sym, subst, ◌∙◌, inl, inr}
+use Rattle.std.proofs.Common.{◌≡◌, ℕ, List, [], Some, sym, subst, ◌∙◌, inl, inr}
 use Rattle.std.specs.Prelude.{slice_get, IsTrue}
 use Rattle.std.specs.List.{list_any}
 use Rattle.std.proofs.lemmas.Bool.{false≢true}

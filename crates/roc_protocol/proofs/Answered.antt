@@ -1,5 +1,5 @@
 -- Who is pending, and who was answered
-use Rattle.std.proofs.Common.{◌≡◌, ℕ, ℤ, ◌<◌, List, Some, length, sym, subst, ◌∙◌, ◌⊎◌, inl, inr, arith}
+use Rattle.std.proofs.Common.{◌≡◌, ℕ, ℤ, ◌<◌, true, ap, List, Some, sym, subst, ◌∙◌, ◌⊎◌, inl, inr, arith}
 use Rattle.std.specs.Prelude.{slice_get}
 use Rattle.roc_sequence.specs.Lists.{Has}
 use Rattle.roc_sequence.specs.Places.{IsListed}
@@ -22,7 +22,13 @@ use Rattle.roc_protocol.specs.PlanAssumptions.{IsSchemeOf, HasSchemes}
 use Rattle.roc_protocol.specs.World.{World}
 use Rattle.roc_protocol.specs.Run.{Stepped, IsRun}
 use Rattle.roc_protocol.specs.Inner.Given.{LogLaws, StoreLaws}
-use Rattle.roc_protocol.proofs.Means.{entry_run}
+use Rattle.std.proofs.lemmas.Bool.{false≢true}
+use Rattle.roc_msg.specs.declared.msg.Envelope.{Envelope}
+use Rattle.roc_msg.specs.declared.msg.Msg.{Msg}
+use Rattle.roc_msg.specs.declared.msg.Msg.TheVariants.{Ended}
+use Rattle.roc_server.specs.Below.{is_ended}
+use Rattle.roc_protocol.proofs.Marks.{none_ended}
+use Rattle.roc_protocol.proofs.Means.{entry_run, Means}
 use Rattle.roc_protocol.proofs.Submissions.{AreSubmissions}
 use Rattle.roc_protocol.proofs.Idle.{run_idle}
 use Rattle.roc_protocol.proofs.Worlds.{IsLogged}
@@ -79,4 +85,21 @@ module _ (plan : Plan) (schemes : HasSchemes plan) (laws : (S : Scheme) → IsSo
         let here = d.everywhere e.group (i.are_groups (entry_run e) m.told.began) in
         subst (IsDecided s.lists.known) same ((mine.decided e.id).0 (subst (λ n. IsListed is_txn (l.0.decided n) e.id) m.on here)))
     | inr none ↦ absurd (subst (Has (Answered t reply)) (run_idle plan none coords steps w run).history h)
+  ]
+
+  pub mark_answered : (m : Envelope) → Has m w.sent → (coord mark : ℕ) → m.msg ≡ Ended coord mark → (q : ℕ) → q < mark → (reply : List ℤ) × WasAnswered w.history (record { coord = coord; seq = q }) reply
+  mark_answered m has coord mark is q below = elim (transaction_or_none plan) [
+    | inl some ↦
+        (let S = serial.S plan schemes laws stores coords steps w run some in
+        let l = serial.logged plan schemes laws stores coords steps w run some in
+        let asked = serial.asked plan schemes laws stores coords steps w run some in
+        let told = subst (λ (msg : Msg). Means plan asked S (start_store plan.program) l.0 msg m.to) is (l.1.means.messages m has) in
+        (l.1.means.answers (record { coord = coord; seq = q })).0 (told.0 q below))
+    | inr none ↦ absurd (subst (Has m) (run_idle plan none coords steps w run).sent has)
+  ]
+
+  pub heard_answered : (n : ℕ) (s : ServerState) → slice_get w.servers n ≡ Some s → (t : TxnId) → is_ended s.below t ≡ true → (reply : List ℤ) × WasAnswered w.history t reply
+  heard_answered n s there t e = elim (transaction_or_none plan) [
+    | inl some ↦ (let l = serial.logged plan schemes laws stores coords steps w run some in (l.1.means.answers t).0 ((l.1.means.servers n s there).ended t e))
+    | inr none ↦ absurd (false≢true (sym (none_ended t) ∙ ap (λ below. is_ended below t) (sym ((run_idle plan none coords steps w run).below n s there)) ∙ e))
   ]

@@ -16,7 +16,7 @@ use Rattle.roc_depgraph.specs.Deps.{list_of, is_known, IsKnown}
 use Rattle.roc_await.specs.declared.waits.OpenFetch.{OpenFetch}
 use Rattle.roc_await.specs.Waits.{askers_of}
 use Rattle.roc_msg.specs.declared.msg.Msg.{Msg}
-use Rattle.roc_msg.specs.declared.msg.Msg.TheVariants.{Start, StartOk, Commit, CommitOk, Fetch, Known}
+use Rattle.roc_msg.specs.declared.msg.Msg.TheVariants.{Start, StartOk, Commit, CommitOk, Fetch, Known, Ended, Settled}
 use Rattle.roc_msg.specs.declared.outbox.Outgoing.{Outgoing}
 use Rattle.roc_msg.specs.declared.reason.Reason.{Reason}
 use Rattle.roc_msg.specs.declared.reason.Reason.TheVariants.{NotHere, Foreign, Differs}
@@ -24,7 +24,7 @@ use Rattle.roc_msg.specs.Facts.{is_fact_before}
 use Rattle.roc_plan.specs.Groups.{Plan}
 use Rattle.roc_group.specs.GroupRun.{GroupCall, call, group_run}
 use Rattle.roc_server.specs.declared.started.StartedGroup.{StartedGroup}
-use Rattle.roc_server.specs.State.{ignored, answered, is_here, is_group, find_group, Lists, ServerState, ServerStep, unrun}
+use Rattle.roc_server.specs.State.{ignored, answered, is_here, is_group, find_group, Lists, ServerState, ServerStep, unrun, hearing}
 use Rattle.roc_server.specs.Start.{start_fault, start_taken, start_judged, startok_of, new_group}
 use Rattle.roc_server.specs.Runs.{group_call, with_later, run_group, run_groups, buffered_here, take_all, commitok_of, outs_here}
 use Rattle.roc_server_lists.specs.Carried.{list_with, carried, unknown_of}
@@ -35,6 +35,8 @@ use Rattle.roc_protocol.specs.Final.{lists_in}
 use Rattle.roc_protocol.proofs.Facts.{facts_known}
 use Rattle.roc_protocol.proofs.Served.{list_has}
 use Rattle.roc_protocol.proofs.Deciding.{take_keeps}
+use Rattle.roc_server.specs.declared.handled.Handled.{Handled}
+use Rattle.roc_server.specs.declared.handled.Handled.TheVariants.{Done, Gone}
 
 -- ---- what is kept of a started group stays, but what it gave later
 
@@ -303,6 +305,10 @@ module _ (plan : Plan) (Good : TxnId → List Dependency → Type 0) (Here : Txn
         (λ k h. subst (λ (k : KnownList). Good k.of k.edges) (sym (has_one k (list_with id edges) (from_has_filter (λ k. not (is_known s.lists.known k.of)) k (list_with id edges ∷ []) h).0)) good)
         ts [] (λ P k out h. absurd h))
 
+    -- a watermark is heard
+    hears : (coord mark : ℕ) (answer : Handled) → KeepsGood (record (answered (hearing s coord mark) []) { answer = answer })
+    hears coord mark answer = record { state = record { groups = holds.groups; known = holds.known; facts = holds.facts }; sends = λ out h. absurd h; told = λ out h. absurd h; kept = λ id g e h. (e, h, refl); here = λ id h. h; shard = refl }
+
     pub message_good : (msg : Msg) (r : ServerStep) → Handles plan s msg r → AllGood Good (lists_in msg) → StartsHere Here msg → KeepsGood r
     message_good msg r h good starts = subst KeepsGood (sym h.is) (go msg h.findings h.found good starts)
       where
@@ -311,6 +317,8 @@ module _ (plan : Plan) (Good : TxnId → List Dependency → Type 0) (Here : Txn
         go (Commit id edges facts) f found g k = commit_good f.before f.decided id edges facts g (commit_fault s id edges facts) refl
         go (Fetch id asker) f found g k = fetch_good id asker
         go (Known id edges) f found g k = known_good f.decided id edges (g (list_with id edges) (inl refl)) (known_fault s id edges)
+        go (Ended coord mark) f found g k = hears coord mark Done
+        go (Settled id mark) f found g k = hears id.coord mark Gone
         go msg f found g k = ignores Foreign
 
     pub tick_good : KeepsGood (answered s (tick_sends s))

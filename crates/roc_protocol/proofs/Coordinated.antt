@@ -1,5 +1,5 @@
 -- What comes of a message, a tick and a submission at a coordinator
-use Rattle.std.proofs.Common.{◌≡◌, ℕ, ℤ, ◌==◌, Bool, true, false, not, cond, ◌&&◌, List, [], ◌∷◌, Option, Some, None, length, map, refl, sym, ap, subst, ◌∙◌, ◌⊎◌, inl, inr, arith, is_some}
+use Rattle.std.proofs.Common.{◌≡◌, ℕ, ℤ, ◌==◌, Bool, true, false, not, cond, ◌&&◌, List, [], ◌∷◌, Option, Some, None, length, map, refl, sym, ap, subst, ◌∙◌, ◌⊎◌, inl, inr, arith, is_some, flat_map}
 use Rattle.std.proofs.lemmas.Bool.{false≢true, and_parts, and_from, eq-eqb, cases_eq}
 use Rattle.std.specs.Prelude.{slice_get, filter, is_none, if◌then◌else◌}
 use Rattle.roc_sequence.specs.Lists.{Has}
@@ -16,7 +16,7 @@ use Rattle.roc_base.specs.Equalities.{is_txn-true}
 use Rattle.roc_rows.specs.Store.{Store}
 use Rattle.roc_depgraph.proofs.Listed.{listed_one, in_one}
 use Rattle.roc_msg.specs.declared.msg.Msg.{Msg}
-use Rattle.roc_msg.specs.declared.msg.Msg.TheVariants.{StartOk, CommitOk}
+use Rattle.roc_msg.specs.declared.msg.Msg.TheVariants.{StartOk, CommitOk, Ended}
 use Rattle.roc_msg.specs.declared.outbox.Outgoing.{Outgoing}
 use Rattle.roc_msg.specs.declared.reason.Reason.TheVariants.{Stale, Unfit}
 use Rattle.roc_plan.specs.Groups.{Plan}
@@ -33,7 +33,7 @@ use Rattle.roc_coord.specs.declared.transaction.TakenCommit.{TakenCommit}
 use Rattle.roc_coord.specs.State.{find_transaction, with_transaction, find_start, find_startok, was_asked, has_commitok, CoordState}
 use Rattle.roc_coord.specs.Starts.{group_numbers, can_start, is_ready, ready_groups, start_for, with_starts, starts_of, all_started, commits_of, commit_to, shards_of, bound_count, out_count}
 use Rattle.roc_coord.specs.Commits.{all_committed, reply_of, places_on}
-use Rattle.roc_coord.specs.Step.{unless_refused, is_fit_startok, with_commits, commits_for, with_startok, sends_after, startok_taken, after_startok, is_asked, is_fit_commitok, with_commitok, reply_now, without_transaction, commitok_taken, after_commitok, after_message}
+use Rattle.roc_coord.specs.Step.{unless_refused, is_fit_startok, with_commits, commits_for, with_startok, sends_after, startok_taken, after_startok, is_asked, is_fit_commitok, with_commitok, reply_now, without_transaction, commitok_taken, after_commitok, after_message, answered_sends}
 use Rattle.roc_coord.specs.Submit.{next_id, new_transaction, accepted}
 use Rattle.roc_coord.specs.Tick.{awaits_startok, starts_again, commits_again, sent_again, tick_sends}
 use Rattle.roc_audit.specs.declared.entry.Entry.{Entry}
@@ -50,6 +50,13 @@ use Rattle.roc_protocol.proofs.Grows.{txn_grows, answered_grows, answer_grows}
 use Rattle.roc_protocol.proofs.Elsewhere.{IsQuietOn, server_elsewhere}
 use Rattle.roc_protocol.proofs.Changed.{coord_means}
 use Rattle.roc_protocol.proofs.Served.{StartsAre}
+use Rattle.roc_protocol.proofs.Marks.{IsMark, IsMarkOf, mark_sent, mark_told, mark_least, mark_next}
+use Rattle.roc_coord.specs.Marks.{ended_sends}
+
+-- no start is among the watermarks
+pub mark_starts-none : (Of : TxnId → Type 0) (msg : Msg) → IsMark msg → StartsAre Of msg
+mark_starts-none Of (Ended coord mark) h = tt
+mark_starts-none Of msg h = absurd h
 
 module _ (plan : Plan) (asked : TxnId → whole.Call) (S : Scheme) (start : Store) (is : IsSchemeOf plan asked S) (laws : LogLaws S start) (c : Log) (i : LogInvariants S start c) (w : World) (o : WorldMeans plan asked S start c w) (n : ℕ) (s : CoordState) (there : slice_get w.coords n ≡ Some s) (Of : TxnId → Type 0) (of : (x : Transaction) → Has x s.pending → Of x.id) where
   -- some steps of the log explain what a coordinator does, in which no group starts; and what it starts and holds is of these transactions
@@ -177,6 +184,18 @@ module _ (plan : Plan) (asked : TxnId → whole.Call) (S : Scheme) (start : Stor
       fresh true = ignores
       fresh false = unfit (is_fit_startok plan x ok shard) refl
 
+  -- the watermark of what a coordinator holds, where these are answered
+  mark_means : (log : Log) (after : CoordState) → CoordMeans plan asked S start log after → (out : Outgoing) → IsMarkOf plan after out → Means plan asked S start log out.msg out.to
+  mark_means log after holds out q =
+      subst (λ (out : Outgoing). Means plan asked S start log out.msg out.to) (sym q.is)
+      (λ k l. let bound = mark_next after in elim (holds.all k (omega arith)) [
+        | inl p ↦ absurd (let least = mark_least after p.0 p.1 in let same : p.0.id.seq ≡ k = ap (λ (t : TxnId). t.seq) p.2 in omega arith)
+        | inr h ↦ h
+      ], tt)
+
+  mark_starts : (after : CoordState) (out : Outgoing) → IsMarkOf plan after out → StartsAre Of out.msg
+  mark_starts after out q = subst (λ (out : Outgoing). StartsAre Of out.msg) (sym q.is) tt
+
   -- ---- an answer
 
   -- a transaction is answered, and so it is in the log
@@ -223,14 +242,14 @@ module _ (plan : Plan) (asked : TxnId → whole.Call) (S : Scheme) (start : Stor
     abbrev tells : List Entry
     tells = entry.Answered t reply ∷ []
 
-    is_answered_here : IsCoordinated (without_transaction s t) [] tells
+    is_answered_here : IsCoordinated (without_transaction s t) (answered_sends plan s (without_transaction s t)) tells
     is_answered_here =
         record {
           log = d;
           steps = steps_on;
-          means = coord_means plan asked S start is c d i j g reached w o n s (without_transaction s t) [] tells there
+          means = coord_means plan asked S start is c d i j g reached w o n s (without_transaction s t) (answered_sends plan s (without_transaction s t)) tells there
               (λ m v h. server_elsewhere plan asked S start is c d i j g m (quiet m) v (o.servers m v h))
-              o.order without_means (λ out k. absurd k)
+              o.order without_means (λ out k. mark_means d (without_transaction s t) without_means out (mark_told plan s (without_transaction s t) out k))
               (λ u r k. told u r (has_one (entry.Answered u r) (entry.Answered t reply) k))
               (λ u. (
                 λ h. elim (listed_either is_txn c.answered (t ∷ []) u h) [
@@ -243,7 +262,7 @@ module _ (plan : Plan) (asked : TxnId → whole.Call) (S : Scheme) (start : Stor
                 ],
               ));
           began = λ q h. h;
-          starts = λ out k. absurd k;
+          starts = λ out k. mark_starts (without_transaction s t) out (mark_told plan s (without_transaction s t) out k);
           pending = λ z k. of z (rest z k);
         }
       where
@@ -276,7 +295,7 @@ module _ (plan : Plan) (asked : TxnId → whole.Call) (S : Scheme) (start : Stor
       decided = d2.decided
 
       answers : (a : Shard) → Has a x.asked → (b : Bool) → all_committed (with_commitok x ok) ≡ b
-          → IsCoordinated (commitok_taken s (with_commitok x ok) (if b then Some (reply_of plan (with_commitok x ok)) else None)).state (commitok_taken s (with_commitok x ok) (if b then Some (reply_of plan (with_commitok x ok)) else None)).sends (answer_entries (commitok_taken s (with_commitok x ok) (if b then Some (reply_of plan (with_commitok x ok)) else None)).answer)
+          → IsCoordinated (commitok_taken plan s (with_commitok x ok) (if b then Some (reply_of plan (with_commitok x ok)) else None)).state (commitok_taken plan s (with_commitok x ok) (if b then Some (reply_of plan (with_commitok x ok)) else None)).sends (answer_entries (commitok_taken plan s (with_commitok x ok) (if b then Some (reply_of plan (with_commitok x ok)) else None)).answer)
       answers a h false f = changes (with_commitok x ok) m (of x found.0) [] (λ out h. absurd h) (λ out h. absurd h)
       answers a h true f =
           let all = m.asked_whole a h in
@@ -285,13 +304,13 @@ module _ (plan : Plan) (asked : TxnId → whole.Call) (S : Scheme) (start : Stor
           (answer_means plan asked S start is c i (with_commitok x ok) m all.0 all.1 f in_order)
 
       unfit : (b : Bool) → is_fit_commitok plan x ok ≡ b
-          → IsCoordinated (unless_refused s (if not b then Some Unfit else None) (commitok_taken s (with_commitok x ok) (reply_now plan (with_commitok x ok)))).state (unless_refused s (if not b then Some Unfit else None) (commitok_taken s (with_commitok x ok) (reply_now plan (with_commitok x ok)))).sends (answer_entries (unless_refused s (if not b then Some Unfit else None) (commitok_taken s (with_commitok x ok) (reply_now plan (with_commitok x ok)))).answer)
+          → IsCoordinated (unless_refused s (if not b then Some Unfit else None) (commitok_taken plan s (with_commitok x ok) (reply_now plan (with_commitok x ok)))).state (unless_refused s (if not b then Some Unfit else None) (commitok_taken plan s (with_commitok x ok) (reply_now plan (with_commitok x ok)))).sends (answer_entries (unless_refused s (if not b then Some Unfit else None) (commitok_taken plan s (with_commitok x ok) (reply_now plan (with_commitok x ok)))).answer)
       unfit false f = ignores
       unfit true f =
           let a = any_has (λ (a : Shard). a.0 == ok.shard.0) x.asked (and_parts (is_asked x ok.shard) (length ok.outs == length (places_on plan x ok.shard)) f).0 in
           answers a.0 a.1 (all_committed (with_commitok x ok)) refl
 
-      fresh : (b : Bool) → IsCoordinated (unless_refused s (if b then Some Stale else (if not (is_fit_commitok plan x ok) then Some Unfit else None)) (commitok_taken s (with_commitok x ok) (reply_now plan (with_commitok x ok)))).state (unless_refused s (if b then Some Stale else (if not (is_fit_commitok plan x ok) then Some Unfit else None)) (commitok_taken s (with_commitok x ok) (reply_now plan (with_commitok x ok)))).sends (answer_entries (unless_refused s (if b then Some Stale else (if not (is_fit_commitok plan x ok) then Some Unfit else None)) (commitok_taken s (with_commitok x ok) (reply_now plan (with_commitok x ok)))).answer)
+      fresh : (b : Bool) → IsCoordinated (unless_refused s (if b then Some Stale else (if not (is_fit_commitok plan x ok) then Some Unfit else None)) (commitok_taken plan s (with_commitok x ok) (reply_now plan (with_commitok x ok)))).state (unless_refused s (if b then Some Stale else (if not (is_fit_commitok plan x ok) then Some Unfit else None)) (commitok_taken plan s (with_commitok x ok) (reply_now plan (with_commitok x ok)))).sends (answer_entries (unless_refused s (if b then Some Stale else (if not (is_fit_commitok plan x ok) then Some Unfit else None)) (commitok_taken plan s (with_commitok x ok) (reply_now plan (with_commitok x ok)))).answer)
       fresh true = ignores
       fresh false = unfit (is_fit_commitok plan x ok) refl
 
@@ -305,8 +324,14 @@ module _ (plan : Plan) (asked : TxnId → whole.Call) (S : Scheme) (start : Stor
   pub tick_coordinated : IsCoordinated s (tick_sends plan s) []
   tick_coordinated =
       same (tick_sends plan s)
-      (λ out h. let q = from_has_flat_map (sent_again plan) out s.pending h in again_mean q.0 (means q.0 q.1) out (all_started plan q.0) refl q.2)
-      (λ out h. let q = from_has_flat_map (sent_again plan) out s.pending h in again_of q.0 (of q.0 q.1) out (all_started plan q.0) q.2)
+      (λ out h. elim (has_append out (flat_map (sent_again plan) s.pending) (ended_sends plan s) h) [
+        | inl k ↦ (let q = from_has_flat_map (sent_again plan) out s.pending k in again_mean q.0 (means q.0 q.1) out (all_started plan q.0) refl q.2)
+        | inr k ↦ mark_means c s mine out (mark_sent plan s out k)
+      ])
+      (λ out h. elim (has_append out (flat_map (sent_again plan) s.pending) (ended_sends plan s) h) [
+        | inl k ↦ (let q = from_has_flat_map (sent_again plan) out s.pending k in again_of q.0 (of q.0 q.1) out (all_started plan q.0) q.2)
+        | inr k ↦ mark_starts s out (mark_sent plan s out k)
+      ])
     where
       ready : (x : Transaction) → TxnMeans plan asked S start c x → (g : ℕ) → awaits_startok x g ≡ true → is_ready plan x g ≡ true
       ready x m g e = go (find_start g x.starts) refl (and_parts (is_some (find_start g x.starts)) (is_none (find_startok g x.startoks)) e).0

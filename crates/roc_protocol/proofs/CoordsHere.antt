@@ -27,13 +27,15 @@ use Rattle.roc_coord.specs.declared.transaction.Transaction.{Transaction}
 use Rattle.roc_coord.specs.Fits.{IsTransactionOf}
 use Rattle.roc_coord.specs.State.{find_transaction, with_transaction, find_startok, was_asked, has_commitok, CoordState, CoordStep}
 use Rattle.roc_coord.specs.Starts.{group_numbers, inputs_for, can_start, ready_groups, shards_below, shards_of, start_for, sent_start, with_starts, starts_of, all_started, all_edges, all_facts, gathered, commit_to, commits_of, bound_count, out_count}
-use Rattle.roc_coord.specs.Step.{unless_refused, is_fit_startok, with_commits, commits_for, with_startok, startok_taken, after_startok, with_commitok, reply_now, commitok_taken, commitok_refusal, after_commitok, after_message}
+use Rattle.roc_coord.specs.Step.{unless_refused, is_fit_startok, with_commits, commits_for, with_startok, startok_taken, after_startok, with_commitok, reply_now, commitok_taken, commitok_refusal, after_commitok, after_message, without_transaction}
 use Rattle.roc_coord.specs.Submit.{new_transaction, accepted}
 use Rattle.roc_coord.specs.Tick.{awaits_startok, starts_again, commits_again, sent_again, tick_sends}
 use Rattle.roc_protocol.specs.Fits.{AreSeenHere, AreListsHere, NamesNodes, IsTransactionHere}
 use Rattle.roc_protocol.proofs.Coordinators.{from_gathered}
 use Rattle.roc_protocol.proofs.Facts.{has_fitting}
 use Rattle.roc_protocol.proofs.Named.{shard_below, all_filter, all_flat, seen_united, IsOutHere}
+use Rattle.roc_protocol.proofs.Marks.{mark_sent}
+use Rattle.roc_coord.specs.Marks.{ended_sends, passes_mark}
 
 -- the shards of sent starts are there
 asked_here : (servers : ℕ) (starts : List SentStart) → AllByRecursion (λ (start : SentStart). start.shard.0 < servers) starts → (count : ℕ) → AllByRecursion (λ (shard : Shard). shard.0 < servers) (shards_below count starts)
@@ -183,6 +185,18 @@ module _ (plan : Plan) (servers coords : ℕ) (some : 0 < plan.program.shards) (
         refused false false f = same [] tt
         refused false true f = round (with_startok x ok) (now f)
 
+    told_here : (after : CoordState) → after.number ≡ s.number → AreOutsHere (ended_sends plan after)
+    told_here after same =
+        has_all (IsOutHere servers coords) (ended_sends plan after)
+        (λ out h. (let q = mark_sent plan after out h in subst (IsOutHere servers coords) (sym q.is) (in_shards q.shard q.there, subst (λ n. n < coords) (sym same) numbered)))
+      where
+        in_shards : (n : ℕ) → Has n (range_with_len 0 plan.program.shards) → n < servers
+        in_shards n h = subst (λ m. n < m) (sym shards) (all_has (λ n. n < plan.program.shards) n (range_with_len 0 plan.program.shards) (range_below 0 plan.program.shards plan.program.shards (omega arith)) h)
+
+    answered_told : (after : CoordState) → after.number ≡ s.number → (b : Bool) → AreOutsHere (if b then ended_sends plan after else [])
+    answered_told after same true = told_here after same
+    answered_told after same false = tt
+
     commitok_keeps : (ok : TakenCommit) (id : TxnId) (x : Option Transaction) → find_transaction id s.pending ≡ x → After (after_commitok plan s x ok)
     commitok_keeps ok id None e = same [] tt
     commitok_keeps ok id (Some x) e = refused (commitok_refusal plan x ok) (reply_now plan (with_commitok x ok))
@@ -192,10 +206,10 @@ module _ (plan : Plan) (servers coords : ℕ) (some : 0 < plan.program.shards) (
             let k = held x (found_has (λ (x : Transaction). is_txn x.id id) s.pending x e).0 in
             record { here = record { coord = k.here.coord; starts = k.here.starts; startoks = k.here.startoks; asked = k.here.asked }; of = record { procedure = k.of.procedure; args = k.of.args; starts = k.of.starts; startoks = k.of.startoks } }
 
-        refused : (why : Option Reason) (reply : Option (List ℤ)) → After (unless_refused s why (commitok_taken s (with_commitok x ok) reply))
+        refused : (why : Option Reason) (reply : Option (List ℤ)) → After (unless_refused s why (commitok_taken plan s (with_commitok x ok) reply))
         refused (Some why) reply = same [] tt
         refused None None = record { number = numbered; pending = kept (with_commitok x ok) now; sends = tt }
-        refused None (Some reply) = record { number = numbered; pending = λ z h. held z (from_has_filter (λ (z : Transaction). not (is_txn z.id x.id)) z s.pending h).0; sends = tt }
+        refused None (Some reply) = record { number = numbered; pending = λ z h. held z (from_has_filter (λ (z : Transaction). not (is_txn z.id x.id)) z s.pending h).0; sends = answered_told (without_transaction s x.id) refl (passes_mark s (without_transaction s x.id)) }
 
     pub message_keeps : (msg : Msg) → NamesNodes servers coords msg → After (after_message plan s msg)
     message_keeps (StartOk id group shard bound outs edges facts) k = startok_keeps (record { group = group; bound = bound; outs = outs; edges = edges; facts = facts }) shard id k.0 k.1 (find_transaction id s.pending) refl
@@ -203,7 +217,11 @@ module _ (plan : Plan) (servers coords : ℕ) (some : 0 < plan.program.shards) (
     message_keeps msg k = same [] tt
 
     pub tick_keeps : KeepsCoord s (tick_sends plan s)
-    tick_keeps = same (tick_sends plan s) (all_flat (IsOutHere servers coords) (sent_again plan) s.pending (has_all (λ x. AreOutsHere (sent_again plan x)) s.pending (λ x h. again x (held x h) (all_started plan x))))
+    tick_keeps =
+        same (tick_sends plan s)
+        (all_append (IsOutHere servers coords) (flat_map (sent_again plan) s.pending) (ended_sends plan s)
+        (all_flat (IsOutHere servers coords) (sent_again plan) s.pending (has_all (λ x. AreOutsHere (sent_again plan x)) s.pending (λ x h. again x (held x h) (all_started plan x))))
+        (told_here s refl))
       where
         again : (x : Transaction) → IsHeld x → (b : Bool) → AreOutsHere (if b then commits_again x else starts_again plan x)
         again x k true = commits_here x k (filter (λ (shard : Shard). not (has_commitok shard x.commitoks)) x.asked) (all_filter (λ (shard : Shard). shard.0 < servers) (λ (shard : Shard). not (has_commitok shard x.commitoks)) x.asked k.here.asked)

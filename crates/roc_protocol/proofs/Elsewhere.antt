@@ -16,7 +16,7 @@ use Rattle.roc_server.specs.State.{ServerState}
 use Rattle.roc_server.specs.State.{unrun}
 use Rattle.roc_protocol.specs.PlanAssumptions.{IsSchemeOf}
 use Rattle.roc_protocol.proofs.Means.{entry_run, place, Ran, Began, stage, ServerMeans}
-use Rattle.roc_protocol.proofs.Grows.{place_grows, entry_grows, all_grow, begun_grows}
+use Rattle.roc_protocol.proofs.Grows.{place_grows, entry_grows, all_grow, begun_grows, answered_grows}
 
 -- between the two logs no group starts or runs on the shard, its cells stay, and it decides nothing
 pub record IsQuietOn (plan : Plan) (asked : TxnId → whole.Call) (S : Scheme) (start : Store) (c d : Log) (shard : ℕ) : Type 0 where
@@ -45,5 +45,6 @@ module _ (plan : Plan) (asked : TxnId → whole.Call) (S : Scheme) (start : Stor
         };
         known = all_grow plan asked S start is c d i j g s.lists.known o.known;
         fetched = λ a h. begun_grows plan asked S start is c d i j g a.id a.at.0 (o.fetched a h);
+        ended = λ t h. answered_grows plan asked S start is c d i j g t (o.ended t h);
         decided = λ t. subst (λ l. IsListed is_txn l t ↔ IsDecided s.lists.known t) (sym q.decided) (o.decided t);
       }

@@ -5,24 +5,24 @@ use Rattle.std.specs.Prelude.{slice_get, slice_set, filter, flat_map, if◌then�
 use Rattle.std.specs.List.{list_any}
 use Rattle.roc_sequence.specs.Lists.{Has}
 use Rattle.roc_sequence.specs.Places.{is_listed}
-use Rattle.roc_sequence.proofs.Holds.{any_has, has_any}
-use Rattle.roc_sequence.proofs.Members.{has_append, has_one, has_left, has_right, has_filter, from_has_map, from_has_filter, from_has_flat_map}
+use Rattle.roc_sequence.proofs.Holds.{has_any}
+use Rattle.roc_sequence.proofs.Members.{has_append, has_one, from_has_map, from_has_filter, from_has_flat_map}
 use Rattle.roc_base.specs.declared.id.TxnId.{TxnId}
 use Rattle.roc_base.specs.declared.node.Node.{Node}
 use Rattle.roc_base.specs.declared.node.Node.TheVariants.{Server, Coord}
 use Rattle.roc_base.specs.declared.node.Shard.{Shard}
 use Rattle.roc_base.specs.TxnId.{is_txn}
 use Rattle.roc_base.specs.Equalities.{is_txn-true}
-use Rattle.roc_base.proofs.Ids.{is_txn-eq, txn_cases}
+use Rattle.roc_base.proofs.Ids.{is_txn-eq}
 use Rattle.roc_base.specs.Edge.{Dependency}
 use Rattle.roc_depgraph.specs.declared.known.KnownList.{KnownList}
 use Rattle.roc_depgraph.specs.Deps.{list_of, is_known}
 use Rattle.roc_await.specs.declared.waits.OpenFetch.{OpenFetch}
 use Rattle.roc_await.specs.declared.waits.Asker.{Asker}
-use Rattle.roc_await.specs.Waits.{is_asked_before, is_asker_before, was_asked_for, with_asked, with_all_asked, askers_of}
+use Rattle.roc_await.specs.Waits.{is_asker_before, was_asked_for, askers_of}
 use Rattle.roc_await.proofs.Asking.{asked_still, asked_all}
 use Rattle.roc_msg.specs.declared.msg.Msg.{Msg}
-use Rattle.roc_msg.specs.declared.msg.Msg.TheVariants.{Start, Commit, Fetch, Known}
+use Rattle.roc_msg.specs.declared.msg.Msg.TheVariants.{Start, Commit, Fetch, Known, Ended, Settled}
 use Rattle.roc_msg.specs.declared.msg.Envelope.{Envelope}
 use Rattle.roc_msg.specs.declared.outbox.Outgoing.{Outgoing}
 use Rattle.roc_msg.specs.declared.reason.Reason.{Reason}
@@ -30,7 +30,7 @@ use Rattle.roc_msg.specs.declared.reason.Reason.TheVariants.{NotHere, Foreign}
 use Rattle.roc_plan.specs.Groups.{Plan}
 use Rattle.roc_group.specs.GroupRun.{GroupCall, call}
 use Rattle.roc_server.specs.declared.started.StartedGroup.{StartedGroup}
-use Rattle.roc_server.specs.State.{ignored, answered, is_here, find_group, Lists, ServerState, ServerStep}
+use Rattle.roc_server.specs.State.{ignored, answered, is_here, find_group, Lists, ServerState, ServerStep, hearing}
 use Rattle.roc_server.specs.Start.{start_fault, start_taken, start_judged, startok_of, new_group}
 use Rattle.roc_server.specs.Runs.{commitok_of}
 use Rattle.roc_server_lists.specs.Carried.{list_with, carried, unknown_of}
@@ -43,6 +43,8 @@ use Rattle.roc_audit.specs.declared.entry.Entry.{Entry}
 use Rattle.roc_protocol.specs.World.{World, sent_by, mark_delivered, at_server, at_coord}
 use Rattle.roc_protocol.proofs.Gathered.{IsRound}
 use Rattle.roc_protocol.proofs.Changed.{get-set_here, get-set_other, get-set_cases}
+use Rattle.roc_server.specs.declared.handled.Handled.{Handled}
+use Rattle.roc_server.specs.declared.handled.Handled.TheVariants.{Done, Gone}
 
 -- ---- a step of a server. For says that a shard has asked for a list
 
@@ -147,6 +149,10 @@ module _ (plan : Plan) (For : TxnId → ℕ → Type 0) (s : ServerState) (waits
       subst (λ outs. KeepsFetches (record (taught plan s (unknown_of s.lists.known (list_with id edges ∷ [])) ts) { sends = outs })) (append-nil (taught plan s (unknown_of s.lists.known (list_with id edges ∷ [])) ts).sends)
       (taught_fetches (unknown_of s.lists.known (list_with id edges ∷ [])) ts [] (λ out h. absurd h))
 
+  -- a watermark is heard
+  hears : (coord mark : ℕ) (answer : Handled) → KeepsFetches (record (answered (hearing s coord mark) []) { answer = answer })
+  hears coord mark answer = record { asked = λ id h. h; askers = waits; sends = λ out h. absurd h; shard = refl }
+
   pub message_fetches : (msg : Msg) (to : Node) (r : ServerStep) → Handles plan s msg r → FetchedFor For msg to → KeepsFetches r
   message_fetches msg to r h k = subst KeepsFetches (sym h.is) (go msg k)
     where
@@ -155,6 +161,8 @@ module _ (plan : Plan) (For : TxnId → ℕ → Type 0) (s : ServerState) (waits
       go (Commit id edges facts) k = commit_fetches h.findings.before h.findings.decided id edges facts (commit_fault s id edges facts)
       go (Fetch id asker) k = fetch_fetches id asker k
       go (Known id edges) k = known_fetches h.findings.decided id edges (known_fault s id edges)
+      go (Ended coord mark) k = hears coord mark Done
+      go (Settled id mark) k = hears id.coord mark Gone
       go msg k = ignores Foreign
 
   pub tick_fetches : KeepsFetches (answered s (tick_sends s))
@@ -228,6 +236,7 @@ module _ (plan : Plan) (w : World) (o : HasAsked w) where
       of_round : (msg : Msg) (to : Node) → IsRound msg → FetchedFor (IsAskedFor w.servers) msg to
       of_round (Start id proc group args inputs) to k = tt
       of_round (Commit id edges facts) to k = tt
+      of_round (Ended coord mark) to k = tt
       of_round msg to k = absurd k
 
   pub comes_asked : (k : ℕ) → HasAsked (mark_delivered w k)

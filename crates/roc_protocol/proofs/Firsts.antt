@@ -23,6 +23,7 @@ use Rattle.roc_protocol.specs.World.{first_world}
 use Rattle.roc_protocol.proofs.Means.{ServerMeans, WorldMeans}
 use Rattle.roc_protocol.specs.Inner.Given.{StoreLaws}
 use Rattle.roc_protocol.proofs.Submissions.{AreSubmissions}
+use Rattle.roc_protocol.proofs.Marks.{none_ended}
 
 -- each of numbered things
 pub found_at : {A : Type 0} (f : ℕ → A) (a n number : ℕ) (x : A) → slice_get (map f (range_with_len a n)) number ≡ Some x → x ≡ f (a + number)
@@ -73,6 +74,7 @@ module _ (laws : StoreLaws) (plan : Plan) (asked : TxnId → whole.Call) (S : Sc
         };
         known = λ k h. absurd h;
         fetched = λ a h. absurd h;
+        ended = λ t h. absurd (false≢true (sym (none_ended t) ∙ h));
         decided = λ t. (λ h. absurd (omega arith), λ d. absurd (false≢true d.own));
       }
 

@@ -11,7 +11,7 @@ use Rattle.roc_base.specs.Equalities.{is_txn-true}
 use Rattle.roc_base.specs.Edge.{Dependency}
 use Rattle.roc_depgraph.specs.declared.known.KnownList.{KnownList}
 use Rattle.roc_msg.specs.declared.msg.Msg.{Msg}
-use Rattle.roc_msg.specs.declared.msg.Msg.TheVariants.{Start, StartOk, Commit, CommitOk}
+use Rattle.roc_msg.specs.declared.msg.Msg.TheVariants.{Start, StartOk, Commit, CommitOk, Ended}
 use Rattle.roc_msg.specs.declared.outbox.Outgoing.{Outgoing}
 use Rattle.roc_msg.specs.declared.reason.Reason.{Reason}
 use Rattle.roc_plan.specs.Groups.{Plan}
@@ -20,17 +20,20 @@ use Rattle.roc_coord.specs.declared.transaction.TakenStart.{TakenStart}
 use Rattle.roc_coord.specs.declared.transaction.TakenCommit.{TakenCommit}
 use Rattle.roc_coord.specs.State.{find_transaction, with_transaction, has_commitok, CoordState, CoordStep}
 use Rattle.roc_coord.specs.Starts.{group_numbers, ready_groups, start_for, with_starts, starts_of, all_started, all_edges, gathered, shards_of, commit_to, commits_of}
-use Rattle.roc_coord.specs.Step.{unless_refused, with_commits, commits_for, with_startok, sends_after, startok_taken, startok_refusal, after_startok, with_commitok, reply_now, commitok_taken, commitok_refusal, after_commitok, after_message}
+use Rattle.roc_coord.specs.Step.{unless_refused, with_commits, commits_for, with_startok, sends_after, startok_taken, startok_refusal, after_startok, with_commitok, reply_now, commitok_taken, commitok_refusal, after_commitok, after_message, without_transaction}
 use Rattle.roc_coord.specs.Submit.{next_id, new_transaction, accepted}
 use Rattle.roc_coord.specs.Tick.{awaits_startok, starts_again, commits_again, sent_again, tick_sends}
 use Rattle.roc_protocol.specs.Final.{lists_in}
 use Rattle.roc_protocol.proofs.Coordinators.{from_gathered}
 use Rattle.roc_protocol.proofs.Facts.{has_fitting}
+use Rattle.roc_protocol.proofs.Marks.{IsMarkOf, mark_sent, mark_told}
+use Rattle.roc_coord.specs.Marks.{ended_sends}
 
--- a coordinator sends starts and commits alone
+-- a coordinator sends starts, commits and watermarks alone
 abbrev pub IsRound : Msg → Type 0
 IsRound (Start id proc group args inputs) = Unit {0}
 IsRound (Commit id edges facts) = Unit {0}
+IsRound (Ended coord mark) = Unit {0}
 IsRound msg = ⊥
 
 module _ (plan : Plan) (Good : TxnId → List Dependency → Type 0) (Told : TxnId → TakenStart → Type 0) (Calls : TxnId → ℕ → Type 0) (facts_good : (t : TxnId) (ok : TakenStart) → Told t ok → (k : KnownList) → Has k ok.facts → Good k.of k.edges) where
@@ -100,6 +103,9 @@ module _ (plan : Plan) (Good : TxnId → List Dependency → Type 0) (Told : Txn
     abbrev After : CoordStep → Type 0
     After r = KeepsGathered r.state r.sends
 
+    told_carry : {after : CoordState} {out : Outgoing} → IsMarkOf plan after out → AllGood (lists_in out.msg) × IsRound out.msg
+    told_carry q = subst (λ (out : Outgoing). AllGood (lists_in out.msg) × IsRound out.msg) (sym q.is) (λ k j. absurd j, tt)
+
     startok_gathered : (ok : TakenStart) (shard : Shard) (id : TxnId) → Told id ok → (x : Option Transaction) → find_transaction id s.pending ≡ x → After (after_startok plan s x ok shard)
     startok_gathered ok shard id t None e = ignores
     startok_gathered ok shard id t (Some x) e = refused (startok_refusal plan x ok shard)
@@ -127,10 +133,10 @@ module _ (plan : Plan) (Good : TxnId → List Dependency → Type 0) (Told : Txn
         g : IsGathered (with_commitok x ok)
         g = let f = found_has (λ (x : Transaction). is_txn x.id id) s.pending x e in record { calls = (old x f.0).calls; startoks = (old x f.0).startoks }
 
-        refused : (o : Option Reason) (reply : Option (List ℤ)) → After (unless_refused s o (commitok_taken s (with_commitok x ok) reply))
+        refused : (o : Option Reason) (reply : Option (List ℤ)) → After (unless_refused s o (commitok_taken plan s (with_commitok x ok) reply))
         refused (Some why) reply = ignores
         refused None None = record { pending = kept (with_commitok x ok) g; sends = λ out h. absurd h }
-        refused None (Some reply) = record { pending = λ z h. old z (from_has_filter (λ (z : Transaction). not (is_txn z.id x.id)) z s.pending h).0; sends = λ out h. absurd h }
+        refused None (Some reply) = record { pending = λ z h. old z (from_has_filter (λ (z : Transaction). not (is_txn z.id x.id)) z s.pending h).0; sends = λ out h. told_carry (mark_told plan s (without_transaction s x.id) out h) }
 
     -- what a startok that comes tells
     abbrev pub Tells : Msg → Type 0
@@ -143,7 +149,10 @@ module _ (plan : Plan) (Good : TxnId → List Dependency → Type 0) (Told : Txn
     message_gathered msg t = ignores
 
     pub tick_gathered : KeepsGathered s (tick_sends plan s)
-    tick_gathered = same (tick_sends plan s) (λ out h. let q = from_has_flat_map (sent_again plan) out s.pending h in again q.0 (old q.0 q.1) out (all_started plan q.0) refl q.2)
+    tick_gathered = same (tick_sends plan s) (λ out h. elim (has_append out (flat_map (sent_again plan) s.pending) (ended_sends plan s) h) [
+      | inl k ↦ (let q = from_has_flat_map (sent_again plan) out s.pending k in again q.0 (old q.0 q.1) out (all_started plan q.0) refl q.2)
+      | inr k ↦ told_carry (mark_sent plan s out k)
+    ])
       where
         again : (x : Transaction) → IsGathered x → (out : Outgoing) → (b : Bool) → all_started plan x ≡ b → Has out (if b then commits_again x else starts_again plan x) → AllGood (lists_in out.msg) × IsRound out.msg
         again x g out true e h = commits_carry x g e (filter (λ (shard : Shard). not (has_commitok shard x.commitoks)) x.asked) out h

@@ -18,7 +18,7 @@ use Rattle.roc_base.specs.Edge.{Dependency}
 use Rattle.roc_rows.specs.Store.{Store}
 use Rattle.roc_depgraph.specs.declared.known.KnownList.{KnownList}
 use Rattle.roc_msg.specs.declared.msg.Msg.{Msg}
-use Rattle.roc_msg.specs.declared.msg.Msg.TheVariants.{Start, StartOk, Commit, CommitOk, Fetch, Known}
+use Rattle.roc_msg.specs.declared.msg.Msg.TheVariants.{Start, StartOk, Commit, CommitOk, Fetch, Known, Ended}
 use Rattle.roc_plan.specs.Groups.{Plan, groups_of, inputs_of, outs_of}
 use Rattle.roc_whole.specs.Serial as whole
 use Rattle.roc_law_orders.specs.Behaviour.{TxnGroup, is_txn_group, is_group_number}
@@ -151,6 +151,9 @@ module _ (plan : Plan) (asked : TxnId → whole.Call) (S : Scheme) (start : Stor
         to = o.to ∙ ap (λ (n : ℕ). Server (record { 0 = n })) (sym same);
       }
 
+  pub answered_grows : (t : TxnId) → IsListed is_txn c.answered t → IsListed is_txn d.answered t
+  answered_grows t h = subst (λ l. IsListed is_txn l t) (sym g.answered.1) (listed_front is_txn c.answered g.answered.0 t h)
+
   pub means_grow : (m : Msg) (to : Node) → Means plan asked S start c m to → Means plan asked S start d m to
   means_grow (Start id proc group args inputs) to o = start_is_grows id proc group args inputs to o
   means_grow (StartOk id group shard bound outs edges facts) to o = (told_grows (run_of id group) bound outs edges facts o.0, o.1 ∙ sym (place_grows (run_of id group) o.0.began), o.2)
@@ -158,6 +161,7 @@ module _ (plan : Plan) (asked : TxnId → whole.Call) (S : Scheme) (start : Stor
   means_grow (CommitOk id shard outs) to o = (done_grows id shard.0 outs o.0, o.1)
   means_grow (Fetch id asker) to o = begun_at_grows id to o
   means_grow (Known id edges) to o = (list_grows id edges o.0, o.1)
+  means_grow (Ended coord mark) to o = (λ q h. answered_grows (record { coord = coord; seq = q }) (o.0 q h), o.1)
   means_grow msg to o = o
 
   pub entry_grows : (s : ℕ) (e : StartedGroup) → EntryMeans plan asked S start c s e → EntryMeans plan asked S start d s e
@@ -187,9 +191,6 @@ module _ (plan : Plan) (asked : TxnId → whole.Call) (S : Scheme) (start : Stor
     where
       was : Transaction → ℕ → ℕ → Bool
       was x k p = was_asked x k (record { 0 = p })
-
-  pub answered_grows : (t : TxnId) → IsListed is_txn c.answered t → IsListed is_txn d.answered t
-  answered_grows t h = subst (λ l. IsListed is_txn l t) (sym g.answered.1) (listed_front is_txn c.answered g.answered.0 t h)
 
   pub coord_grows : (s : CoordState) → CoordMeans plan asked S start c s → CoordMeans plan asked S start d s
   coord_grows s o =

@@ -16,7 +16,7 @@ use Rattle.roc_plan.specs.Groups.{Plan}
 use Rattle.roc_whole.specs.Serial.{start_store}
 use Rattle.roc_law_log.specs.Scheme.{Scheme, IsSoundScheme}
 use Rattle.roc_server.specs.declared.handled.Handled.{Handled}
-use Rattle.roc_server.specs.declared.handled.Handled.TheVariants.{Done, Ignored}
+use Rattle.roc_server.specs.declared.handled.Handled.TheVariants.{Done, Ignored, Gone}
 use Rattle.roc_server.specs.State.{answered, ServerState, ServerStep}
 use Rattle.roc_server.specs.First.{first_server}
 use Rattle.roc_server.specs.Step as server
@@ -102,6 +102,7 @@ coord_takes servers sent msg n = tt
 -- what is seen as done was taken
 was_done : (a : Handled) → server_seen a ≡ seen.Done → a ≡ Done
 was_done Done e = refl
+was_done Gone e = absurd (cc)
 was_done (Ignored why) e = absurd (cc)
 
 module _ (plan : Plan) (w : World) (ha : HasAsked w) (takes : (k : ℕ) (m : Envelope) (shard : Shard) (v : Outcome) → slice_get w.sent (k - 1) ≡ Some m → m.to ≡ Server shard → Happens plan w (Deliver k) v → v.seen ≡ seen.Done) (o : HasHeard w) where

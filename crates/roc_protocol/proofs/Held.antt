@@ -130,7 +130,7 @@ module _ (plan : Plan) (s : CoordState) (once : (y z : Transaction) → Has y s.
       go None e = stays plan s once
       go (Some x) e = refused (commitok_refusal plan x (record { shard = shard; outs = outs })) (reply_now plan (with_commitok x (record { shard = shard; outs = outs })))
         where
-          refused : (o : Option Reason) (reply : Option (List ℤ)) → Advances plan s (unless_refused s o (commitok_taken s (with_commitok x (record { shard = shard; outs = outs })) reply)).state
+          refused : (o : Option Reason) (reply : Option (List ℤ)) → Advances plan s (unless_refused s o (commitok_taken plan s (with_commitok x (record { shard = shard; outs = outs })) reply)).state
           refused (Some why) reply = stays plan s once
           refused None None = changes plan s once x (with_commitok x (record { shard = shard; outs = outs })) (found_has (λ (x : Transaction). is_txn x.id id) s.pending x e).0 (record { id = refl; asked = λ g s k. k; whole = λ a b. (a, b) })
           refused None (Some reply) =

@@ -1,7 +1,7 @@
 -- Where the plan has no transaction, nothing happens
-use Rattle.std.proofs.Common.{◌≡◌, ℕ, ◌+◌, ◌-◌, ◌≤◌, List, [], Option, Some, None, length, map, refl, sym, ap, subst, ◌∙◌, arith, inl, inr}
+use Rattle.std.proofs.Common.{◌≡◌, ℕ, ◌+◌, ◌-◌, List, [], Option, Some, None, map, refl, sym, ap, subst, ◌∙◌, arith, inl, inr}
 use Rattle.std.proofs.lemmas.Bool.{false≢true}
-use Rattle.std.specs.Prelude.{slice_get, filter, flat_map, not}
+use Rattle.std.specs.Prelude.{slice_get, filter, not}
 use Rattle.std.proofs.Common.{append-nil}
 use Rattle.roc_depgraph.specs.Deps.{is_known}
 use Rattle.roc_base.specs.declared.node.Node.TheVariants.{Server, Coord}
@@ -13,6 +13,7 @@ use Rattle.roc_server_lists.specs.Asking.{fetch_from}
 use Rattle.roc_server.specs.Step as server
 use Rattle.roc_coord.specs.State.{first_coord, CoordState}
 use Rattle.roc_coord.specs.Tick as coord
+use Rattle.roc_server.specs.Below.{none_below}
 use Rattle.roc_protocol.specs.declared.event.Event.{Event}
 use Rattle.roc_protocol.specs.declared.event.Event.TheVariants.{Submit, Deliver, Tick}
 use Rattle.roc_protocol.specs.World.{World, at_server, at_coord}
@@ -31,7 +32,12 @@ pub record IsIdle (plan : Plan) (w : World) : Type 0 where
   pub known : (n : ℕ) (s : ServerState) → slice_get w.servers n ≡ Some s → s.lists.known ≡ []
   pub coords : (n : ℕ) (c : CoordState) → slice_get w.coords n ≡ Some c → c.pending ≡ []
   pub stores : (n : ℕ) (s : ServerState) → slice_get w.servers n ≡ Some s → s.store ≡ (first_server plan (record { 0 = n })).store
+  pub below : (n : ℕ) (s : ServerState) → slice_get w.servers n ≡ Some s → s.below ≡ none_below
   pub nexts : (n : ℕ) (c : CoordState) → slice_get w.coords n ≡ Some c → c.next ≡ 0
+
+-- a coordinator that has submitted nothing has nothing to send again or to tell
+none_sent : (plan : Plan) (s : CoordState) → s.pending ≡ [] → s.next ≡ 0 → coord.tick_sends plan s ≡ []
+none_sent plan s p q = λ i. coord.tick_sends plan (let t : CoordState = record { number = s.number; next = q i; pending = p i } in t)
 
 module _ (plan : Plan) (none : NoTransaction plan) where
   step_idle : (w : World) → IsIdle plan w → (e : Option Event) (o : Outcome) → Transition plan w e o → IsIdle plan o.world
@@ -60,10 +66,11 @@ module _ (plan : Plan) (none : NoTransaction plan) where
           | inl k ↦ subst (λ m. v.store ≡ (first_server plan (record { 0 = m })).store) k.0 (ap (λ (v : ServerState). v.store) k.1 ∙ i.stores shard.0 s there)
           | inr k ↦ i.stores m v k.1
         ];
+        below = λ m v h. elim (get-set_cases w.servers shard.0 m s s v there h) [ inl k ↦ ap (λ (v : ServerState). v.below) k.1 ∙ i.below shard.0 s there | inr k ↦ i.below m v k.1 ];
         nexts = i.nexts;
       }))
   step_idle w i (Some (Tick (Coord n))) o (s, there, e) =
-      let quiet : coord.tick_sends plan s ≡ [] = ap (flat_map (coord.sent_again plan)) (i.coords n s there) in
+      let quiet : coord.tick_sends plan s ≡ [] = none_sent plan s (i.coords n s there) (i.nexts n s there) in
       subst (λ (o : Outcome). IsIdle plan o.world) (sym e)
       (subst (λ outs. IsIdle plan (at_coord w n s outs [])) (sym quiet)
       (record {
@@ -74,6 +81,7 @@ module _ (plan : Plan) (none : NoTransaction plan) where
         known = i.known;
         coords = λ m v h. elim (get-set_cases w.coords n m s s v there h) [ inl k ↦ ap (λ (v : CoordState). v.pending) k.1 ∙ i.coords n s there | inr k ↦ i.coords m v k.1 ];
         stores = i.stores;
+        below = i.below;
         nexts = λ m v h. elim (get-set_cases w.coords n m s s v there h) [ inl k ↦ ap (λ (v : CoordState). v.next) k.1 ∙ i.nexts n s there | inr k ↦ i.nexts m v k.1 ];
       }))
 
@@ -88,6 +96,7 @@ module _ (plan : Plan) (none : NoTransaction plan) where
     stores = λ n s h.
         (let same : 0 + n ≡ n = omega arith in
         ap (λ (s : ServerState). s.store) (found_at (λ n. first_server plan (record { 0 = n })) 0 plan.program.shards n s h) ∙ ap (λ n. (first_server plan (record { 0 = n })).store) same);
+    below = λ n s h. ap (λ (s : ServerState). s.below) (found_at (λ n. first_server plan (record { 0 = n })) 0 plan.program.shards n s h);
     nexts = λ n c h. ap (λ (c : CoordState). c.next) (found_at first_coord 0 coords n c h);
   }
   run_idle coords steps w (goes_on {w = v} e o r h) = step_idle v (run_idle coords _ v r) e o h

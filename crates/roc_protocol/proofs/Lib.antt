@@ -1,3 +1,4 @@
+mod Marks
 mod Means
 mod Grows
 pub mod Meets

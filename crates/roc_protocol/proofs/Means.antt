@@ -16,7 +16,7 @@ use Rattle.roc_depgraph.specs.declared.known.KnownList.{KnownList}
 use Rattle.roc_depgraph.specs.Deps.{IsDecided}
 use Rattle.roc_await.specs.declared.waits.OpenFetch.{OpenFetch}
 use Rattle.roc_msg.specs.declared.msg.Msg.{Msg}
-use Rattle.roc_msg.specs.declared.msg.Msg.TheVariants.{Start, StartOk, Commit, CommitOk, Fetch, Known}
+use Rattle.roc_msg.specs.declared.msg.Msg.TheVariants.{Start, StartOk, Commit, CommitOk, Fetch, Known, Ended}
 use Rattle.roc_msg.specs.declared.msg.Envelope.{Envelope}
 use Rattle.roc_plan.specs.Groups.{Plan, groups_of, inputs_of, outs_of}
 use Rattle.roc_whole.specs.Serial as whole
@@ -35,6 +35,7 @@ use Rattle.roc_coord.specs.Starts.{is_ready, all_started, shards_of}
 use Rattle.roc_audit.specs.declared.entry.Entry.TheVariants.{Answered}
 use Rattle.roc_protocol.specs.PlanAssumptions.{picked, use_of}
 use Rattle.roc_protocol.specs.World.{World}
+use Rattle.roc_server.specs.Below.{is_ended}
 
 abbrev pub run_of : TxnId → ℕ → TxnGroup
 run_of t g = record { txn = t; group = g }
@@ -136,6 +137,10 @@ module _ (plan : Plan) (asked : TxnId → whole.Call) (S : Scheme) (start : Stor
     pub means : StartMeans (run_of id group) (place (run_of id group))
     pub to : node ≡ Server (record { 0 = place (run_of id group) })
 
+  -- all that this coordinator has submitted with a sequence below is answered
+  abbrev pub AreEnded : (coord mark : ℕ) → Type 0
+  AreEnded coord mark = (q : ℕ) → q < mark → IsListed is_txn log.answered (record { coord = coord; seq = q })
+
   abbrev pub Means : Msg → Node → Type 0
   Means (Start id proc group args inputs) to = StartIs id proc group args inputs to
   Means (StartOk id group shard bound outs edges facts) to = ToldMeans (run_of id group) bound outs edges facts × (shard.0 ≡ place (run_of id group)) × (to ≡ Coord id.coord)
@@ -143,6 +148,7 @@ module _ (plan : Plan) (asked : TxnId → whole.Call) (S : Scheme) (start : Stor
   Means (CommitOk id shard outs) to = DoneMeans id shard.0 outs × (to ≡ Coord id.coord)
   Means (Fetch id asker) to = IsBegunAt id to
   Means (Known id edges) to = ListMeans id edges × IsServerNode to
+  Means (Ended coord mark) to = AreEnded coord mark × IsServerNode to
   Means msg to = ⊥
 
   -- ---- servers
@@ -175,6 +181,8 @@ module _ (plan : Plan) (asked : TxnId → whole.Call) (S : Scheme) (start : Stor
     pub known : AllMean s.lists.known
     pub decided : (t : TxnId) → IsListed is_txn (log.decided shard) t ↔ IsDecided s.lists.known t
     pub fetched : (a : OpenFetch) → Has a s.lists.waiting.asked → HasBegun a.id a.at.0
+    -- what is below a watermark was answered
+    pub ended : (t : TxnId) → is_ended s.below t ≡ true → IsListed is_txn log.answered t
 
   -- ---- coordinators
 

@@ -32,7 +32,6 @@ module _ (plan : Plan) (one : (s : ServerState) (msg : Msg) (r other : ServerSte
     one_submission n proc args after outs (Ok id) o other h k = h ∙ sym k
     one_submission n proc args after outs (Err fault.Spent) o other h k = h ∙ sym k
     one_submission n proc args after outs (Err fault.Busy) o other h k = h ∙ sym k
-    one_submission n proc args after outs (Err fault.Stopped) o other h k = absurd h
     one_submission n proc args after outs (Err fault.NoProc) o other h k = absurd h
     one_submission n proc args after outs (Err fault.Args) o other h k = absurd h
     one_submission n proc args after outs (Err fault.NoMemory) o other h k = absurd h

@@ -43,6 +43,7 @@ use Rattle.roc_protocol.proofs.Pending.{StartsOn, IsPending}
 use Rattle.roc_protocol.proofs.Taken.{TakesMore, IsTakenBy}
 use Rattle.roc_protocol.proofs.Outstanding.{IsOutstanding, outstanding_stays}
 use Rattle.roc_protocol.proofs.OutstandingSteps.{Proceeds}
+use Rattle.roc_protocol.proofs.Coordinated.{mark_starts-none}
 
 -- it is pending at its coordinator
 pub record IsPendingAt (coords : List CoordState) (t : TxnId) : Type 0 where
@@ -196,7 +197,7 @@ module _ (plan : Plan) (asked : TxnId → whole.Call) (S : Scheme) (is : IsSchem
         | inl j ↦ commits_stay w v (Coord n) outs refl t (none t reply j) (g.out t reply j)
         | inr j ↦
             (let q = k.answers t reply j in
-            commits_stay w v (Coord n) outs refl t (λ out m. absurd (subst (Has out) q.5 m))
+            commits_stay w v (Coord n) outs refl t (λ out m. mark_starts-none (λ u. u ≢ t) out.msg (q.5 out m))
             (subst (CommitsAreOut w) q.2 (whole_out o g.holds s q.0 (subst (λ m. slice_get w.coords m ≡ Some s) (sym (o.own n s there q.0 q.1)) there) q.1 q.3)))
       ]
 

@@ -24,7 +24,7 @@ use Rattle.roc_coord.specs.declared.transaction.TakenCommit.{TakenCommit}
 use Rattle.roc_coord.specs.State.{find_transaction, with_transaction, find_startok, was_asked, has_commitok, CoordState}
 use Rattle.roc_coord.specs.Starts.{group_numbers, with_starts, starts_of, all_started, bound_count, out_count}
 use Rattle.roc_coord.specs.Commits.{all_committed, reply_of, places_on}
-use Rattle.roc_coord.specs.Step.{unless_refused, is_fit_startok, with_commits, with_startok, sends_after, startok_taken, after_startok, is_asked, is_fit_commitok, with_commitok, reply_now, without_transaction, commitok_taken, after_commitok, after_message}
+use Rattle.roc_coord.specs.Step.{unless_refused, is_fit_startok, with_commits, with_startok, sends_after, startok_taken, after_startok, is_asked, is_fit_commitok, with_commitok, reply_now, without_transaction, commitok_taken, after_commitok, after_message, answered_sends}
 use Rattle.roc_coord.specs.Submit.{next_id, new_transaction, accepted}
 use Rattle.roc_audit.specs.declared.entry.Entry.{Entry}
 use Rattle.roc_audit.specs.declared.entry.Entry.TheVariants as entry
@@ -33,6 +33,7 @@ use Rattle.roc_protocol.specs.Happens.{answer_entries}
 use Rattle.roc_protocol.proofs.Held.{with_cases}
 use Rattle.roc_protocol.proofs.Taken.{TakesMore, as_it_was, startok_more, commitok_more}
 use Rattle.roc_protocol.proofs.Outstanding.{IsOutstanding, outstanding_stays, new_outstanding, startok_outstanding, commitok_outstanding}
+use Rattle.roc_protocol.proofs.Marks.{IsMark, mark_told}
 
 -- each transaction goes on, is new, or is answered now, where its commits were sent before and nothing is sent
 pub record Proceeds (plan : Plan) (sent : List Envelope) (from : Node) (s after : CoordState) (outs : List Outgoing) (tells : List Entry) : Type 0 where
@@ -40,7 +41,7 @@ pub record Proceeds (plan : Plan) (sent : List Envelope) (from : Node) (s after 
   pub stays : (x : Transaction) → Has x s.pending → ((y : Transaction) × Has y after.pending × (y.id ≡ x.id)) ⊎ ((reply : List ℤ) × Has (entry.Answered x.id reply) tells)
   pub holds : (y : Transaction) → Has y after.pending → IsOutstanding plan (sent ++ map (sent_by from) outs) y
   pub answers : (t : TxnId) (reply : List ℤ) → Has (entry.Answered t reply) tells
-      → (x : Transaction) × Has x s.pending × (x.id ≡ t) × (all_started plan x ≡ true) × ((y : Transaction) → Has y after.pending → y.id ≢ t) × (outs ≡ [])
+      → (x : Transaction) × Has x s.pending × (x.id ≡ t) × (all_started plan x ≡ true) × ((y : Transaction) → Has y after.pending → y.id ≢ t) × ((out : Outgoing) → Has out outs → IsMark out.msg)
 
 -- a startok is of a group of its procedure, from one of few shards
 abbrev pub IsOfGroup : Plan → List Transaction → Msg → Type 0
@@ -140,26 +141,26 @@ module _ (plan : Plan) (sent : List Envelope) (from : Node) (s : CoordState) (on
       left z h false k = inl (z, has_filter (λ (z : Transaction). not (is_txn z.id x.id)) z s.pending h (ap not k), refl)
 
       answered : all_started plan x ≡ true → (b : Bool) → all_committed (with_commitok x ok) ≡ b
-          → Goes (commitok_taken s (with_commitok x ok) (if b then Some (reply_of plan (with_commitok x ok)) else None)).state (commitok_taken s (with_commitok x ok) (if b then Some (reply_of plan (with_commitok x ok)) else None)).sends (answer_entries (commitok_taken s (with_commitok x ok) (if b then Some (reply_of plan (with_commitok x ok)) else None)).answer)
+          → Goes (commitok_taken plan s (with_commitok x ok) (if b then Some (reply_of plan (with_commitok x ok)) else None)).state (commitok_taken plan s (with_commitok x ok) (if b then Some (reply_of plan (with_commitok x ok)) else None)).sends (answer_entries (commitok_taken plan s (with_commitok x ok) (if b then Some (reply_of plan (with_commitok x ok)) else None)).answer)
       answered all false f = changes x (with_commitok x ok) found (commitok_more x ok) [] (commitok_outstanding plan sent from x (old x found) [] ok all f)
       answered all true f =
           record {
             before = λ y h. inl (y, (gone y h).0, as_it_was y);
             stays = λ z h. left z h (is_txn z.id x.id) refl;
-            holds = λ y h. outstanding_stays plan sent [] y (old y (gone y h).0);
+            holds = λ y h. outstanding_stays plan sent (map (sent_by from) (answered_sends plan s (without_transaction s x.id))) y (old y (gone y h).0);
             answers = λ t reply h. (let k : entry.Answered t reply ≡ entry.Answered x.id (reply_of plan (with_commitok x ok)) = has_one (entry.Answered t reply) (entry.Answered x.id (reply_of plan (with_commitok x ok))) h in
                 let same_id : t ≡ x.id = cc in
-                (x, found, sym same_id, all, λ y j e. (gone y j).1 (e ∙ same_id), refl));
+                (x, found, sym same_id, all, λ y j e. (gone y j).1 (e ∙ same_id), λ out j. subst (λ (out : Outgoing). IsMark out.msg) (sym (mark_told plan s (without_transaction s x.id) out j).is) tt));
           }
 
       fit : (b : Bool) → is_fit_commitok plan x ok ≡ b
-          → Goes (unless_refused s (if not b then Some Unfit else None) (commitok_taken s (with_commitok x ok) (reply_now plan (with_commitok x ok)))).state (unless_refused s (if not b then Some Unfit else None) (commitok_taken s (with_commitok x ok) (reply_now plan (with_commitok x ok)))).sends (answer_entries (unless_refused s (if not b then Some Unfit else None) (commitok_taken s (with_commitok x ok) (reply_now plan (with_commitok x ok)))).answer)
+          → Goes (unless_refused s (if not b then Some Unfit else None) (commitok_taken plan s (with_commitok x ok) (reply_now plan (with_commitok x ok)))).state (unless_refused s (if not b then Some Unfit else None) (commitok_taken plan s (with_commitok x ok) (reply_now plan (with_commitok x ok)))).sends (answer_entries (unless_refused s (if not b then Some Unfit else None) (commitok_taken plan s (with_commitok x ok) (reply_now plan (with_commitok x ok)))).answer)
       fit false f = same []
       fit true f =
           let a = any_has (λ (a : Shard). a.0 == ok.shard.0) x.asked (and_parts (is_asked x ok.shard) (length ok.outs == length (places_on plan x ok.shard)) f).0 in
           answered (whole x found a.0 a.1) (all_committed (with_commitok x ok)) refl
 
-      fresh : (b : Bool) → Goes (unless_refused s (if b then Some Stale else (if not (is_fit_commitok plan x ok) then Some Unfit else None)) (commitok_taken s (with_commitok x ok) (reply_now plan (with_commitok x ok)))).state (unless_refused s (if b then Some Stale else (if not (is_fit_commitok plan x ok) then Some Unfit else None)) (commitok_taken s (with_commitok x ok) (reply_now plan (with_commitok x ok)))).sends (answer_entries (unless_refused s (if b then Some Stale else (if not (is_fit_commitok plan x ok) then Some Unfit else None)) (commitok_taken s (with_commitok x ok) (reply_now plan (with_commitok x ok)))).answer)
+      fresh : (b : Bool) → Goes (unless_refused s (if b then Some Stale else (if not (is_fit_commitok plan x ok) then Some Unfit else None)) (commitok_taken plan s (with_commitok x ok) (reply_now plan (with_commitok x ok)))).state (unless_refused s (if b then Some Stale else (if not (is_fit_commitok plan x ok) then Some Unfit else None)) (commitok_taken plan s (with_commitok x ok) (reply_now plan (with_commitok x ok)))).sends (answer_entries (unless_refused s (if b then Some Stale else (if not (is_fit_commitok plan x ok) then Some Unfit else None)) (commitok_taken plan s (with_commitok x ok) (reply_now plan (with_commitok x ok)))).answer)
       fresh true = same []
       fresh false = fit (is_fit_commitok plan x ok) refl
 

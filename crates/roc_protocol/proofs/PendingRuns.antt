@@ -1,5 +1,5 @@
 -- Each event keeps what holds of pending transactions
-use Rattle.std.proofs.Common.{◌≡◌, ◌≢◌, ℕ, ℤ, ◌-◌, ◌==◌, Bool, true, false, not, ◌&&◌, List, [], ◌∷◌, Option, Some, None, map, refl, sym, ap, subst, ◌∙◌, inl, inr, is_some}
+use Rattle.std.proofs.Common.{◌≡◌, ◌≢◌, ℕ, ℤ, ◌-◌, ◌==◌, Bool, true, false, not, ◌&&◌, List, [], ◌∷◌, Option, Some, None, map, refl, sym, ap, subst, ◌∙◌, inl, inr, is_some, flat_map}
 use Rattle.std.proofs.lemmas.Bool.{false≢true, and_parts, and_from, eq-eqb, cond-true}
 use Rattle.std.specs.Prelude.{slice_get, slice_set, filter, is_none, if◌then◌else◌}
 use Rattle.roc_sequence.specs.Lists.{Has}
@@ -34,7 +34,7 @@ use Rattle.roc_coord.specs.declared.transaction.TakenStart.{TakenStart}
 use Rattle.roc_coord.specs.declared.transaction.TakenCommit.{TakenCommit}
 use Rattle.roc_coord.specs.State.{find_transaction, with_transaction, find_start, find_startok, was_asked, has_commitok, first_coord, CoordState}
 use Rattle.roc_coord.specs.Starts.{group_numbers, ready_groups, shard_for, start_for, with_starts, starts_of, all_started, commit_to}
-use Rattle.roc_coord.specs.Step.{unless_refused, with_commits, with_startok, sends_after, startok_taken, startok_refusal, after_startok, with_commitok, reply_now, commitok_taken, commitok_refusal, after_commitok, after_message}
+use Rattle.roc_coord.specs.Step.{unless_refused, with_commits, with_startok, sends_after, startok_taken, startok_refusal, after_startok, with_commitok, reply_now, commitok_taken, commitok_refusal, after_commitok, after_message, answered_sends, without_transaction}
 use Rattle.roc_coord.specs.Submit.{next_id, new_transaction, accepted}
 use Rattle.roc_coord.specs.Tick.{awaits_startok, starts_again, commits_again, sent_again, tick_sends}
 use Rattle.roc_audit.specs.declared.entry.Entry.{Entry}
@@ -62,6 +62,8 @@ use Rattle.roc_protocol.proofs.Firsts.{found_at}
 use Rattle.roc_protocol.proofs.Submissions.{AreSubmissions, unused}
 use Rattle.roc_protocol.proofs.Worlds.{Submitting, is_refused, is_accepted, submitting, run_submissions, comes_logged, Agrees, agrees_before, IsLogged}
 use Rattle.roc_protocol.proofs.Witness.{step_extends, run_logged}
+use Rattle.roc_protocol.proofs.Marks.{IsMarkOf, mark_sent, mark_told}
+use Rattle.roc_coord.specs.Marks.{ended_sends}
 
 module _ (plan : Plan) (asked : TxnId → whole.Call) (S : Scheme) (is : IsSchemeOf plan asked S) (laws : LogLaws S (start_store plan.program)) where
   module _ (w : World) (log : Log) (l : IsLogged plan asked S is laws w log) (nw : IsNetworked plan asked S is laws w) (subs : AreSubmissions plan w.history w.coords) (o : IsPending plan w) where
@@ -126,15 +128,24 @@ module _ (plan : Plan) (asked : TxnId → whole.Call) (S : Scheme) (is : IsSchem
                   subst (λ b. Has b (map (λ (v : Transaction). if is_txn v.id y.id then y else v) s.pending)) (cond-true (is_txn x.id y.id) y x (is_txn-eq x.id y.id (sym same)))
                   (has_map (λ (v : Transaction). if is_txn v.id y.id then y else v) x s.pending h)
 
+      mark_on : (coords : List CoordState) {after : CoordState} (out : Outgoing) → IsMarkOf plan after out → StartsOn coords out.msg out.to
+      mark_on coords out q = subst (λ (out : Outgoing). StartsOn coords out.msg out.to) (sym q.is) tt
+
+      mark_lists : {after : CoordState} (out : Outgoing) → IsMarkOf plan after out → (k : KnownList) → Has k (lists_in out.msg) → ⊥
+      mark_lists out q k h = subst (λ (out : Outgoing). Has k (lists_in out.msg)) q.is h
+
       commitok_pending : (ok : TakenCommit) (x : Option Transaction) → Advances plan s (after_commitok plan s x ok).state → Result n (after_commitok plan s x ok).state (after_commitok plan s x ok).sends
       commitok_pending ok None a = silent s a
       commitok_pending ok (Some x) a = refused (commitok_refusal plan x ok) (reply_now plan (with_commitok x ok)) a
         where
-          refused : (r : Option Reason) (reply : Option (List ℤ)) → Advances plan s (unless_refused s r (commitok_taken s (with_commitok x ok) reply)).state
-              → Result n (unless_refused s r (commitok_taken s (with_commitok x ok) reply)).state (unless_refused s r (commitok_taken s (with_commitok x ok) reply)).sends
+          refused : (r : Option Reason) (reply : Option (List ℤ)) → Advances plan s (unless_refused s r (commitok_taken plan s (with_commitok x ok) reply)).state
+              → Result n (unless_refused s r (commitok_taken plan s (with_commitok x ok) reply)).state (unless_refused s r (commitok_taken plan s (with_commitok x ok) reply)).sends
           refused (Some why) reply a = silent s a
-          refused None None a = silent (commitok_taken s (with_commitok x ok) None).state a
-          refused None (Some reply) a = silent (commitok_taken s (with_commitok x ok) (Some reply)).state a
+          refused None None a = silent (commitok_taken plan s (with_commitok x ok) None).state a
+          refused None (Some reply) a = λ tells.
+              let after = without_transaction s x.id in
+              coordinated_pending plan asked S is laws w log l subs o n s there after a (answered_sends plan s after) tells (own_after after a)
+              (λ out h. mark_on (slice_set w.coords n after) out (mark_told plan s after out h)) (λ out h k j. absurd (mark_lists out (mark_told plan s after out h) k j))
 
       message_pending : (m : Envelope) → Has m w.sent → (msg : Msg) → m.msg ≡ msg → Advances plan s (after_message plan s msg).state → Result n (after_message plan s msg).state (after_message plan s msg).sends
       message_pending m has (StartOk id group shard bound outs edges facts) e a = startok_pending m has id group shard bound outs edges facts e (find_transaction id s.pending) refl a
@@ -147,8 +158,14 @@ module _ (plan : Plan) (asked : TxnId → whole.Call) (S : Scheme) (is : IsSchem
       tick_pending tells =
           let a = stays plan s once in
           coordinated_pending plan asked S is laws w log l subs o n s there s a (tick_sends plan s) tells (own_after s a)
-          (λ out h. let q = from_has_flat_map (sent_again plan) out s.pending h in again_starts a q.0 q.1 out (all_started plan q.0) q.2)
-          (λ out h k j. let q = from_has_flat_map (sent_again plan) out s.pending h in again_lists a q.0 q.1 out (all_started plan q.0) refl q.2 k j)
+          (λ out h. elim (has_append out (flat_map (sent_again plan) s.pending) (ended_sends plan s) h) [
+            | inl k ↦ (let q = from_has_flat_map (sent_again plan) out s.pending k in again_starts a q.0 q.1 out (all_started plan q.0) q.2)
+            | inr k ↦ mark_on (slice_set w.coords n s) out (mark_sent plan s out k)
+          ])
+          (λ out h k j. elim (has_append out (flat_map (sent_again plan) s.pending) (ended_sends plan s) h) [
+            | inl m ↦ (let q = from_has_flat_map (sent_again plan) out s.pending m in again_lists a q.0 q.1 out (all_started plan q.0) refl q.2 k j)
+            | inr m ↦ absurd (mark_lists out (mark_sent plan s out m) k j)
+          ])
         where
           again_starts : Advances plan s s → (x : Transaction) → Has x s.pending → (out : Outgoing) → (b : Bool) → Has out (if b then commits_again x else starts_again plan x) → StartsOn (slice_set w.coords n s) out.msg out.to
           again_starts a x h out true k = commit_starts plan w.coords n s s there once x (filter (λ (shard : Shard). not (has_commitok shard x.commitoks)) x.asked) out k

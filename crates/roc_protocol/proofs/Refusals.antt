@@ -18,7 +18,7 @@ use Rattle.roc_base.specs.Equality.{is_edges, is_nums}
 use Rattle.roc_depgraph.specs.declared.known.KnownList.{KnownList}
 use Rattle.roc_depgraph.specs.Deps.{list_of, is_known}
 use Rattle.roc_msg.specs.declared.msg.Msg.{Msg}
-use Rattle.roc_msg.specs.declared.msg.Msg.TheVariants.{Start, StartOk, Commit, CommitOk, Fetch, Known}
+use Rattle.roc_msg.specs.declared.msg.Msg.TheVariants.{Start, StartOk, Commit, CommitOk, Fetch, Known, Ended}
 use Rattle.roc_msg.specs.declared.msg.Envelope.{Envelope}
 use Rattle.roc_msg.specs.declared.reason.Reason.{Reason}
 use Rattle.roc_msg.specs.declared.reason.Reason.TheVariants.{NotHere}
@@ -216,4 +216,5 @@ module _ (plan : Plan) (asked : TxnId → whole.Call) (S : Scheme) (is : IsSchem
       go (Known id edges) e = known_done h.findings.decided id edges (known_fault s id edges) (known_taken-here m has id edges e to)
       go (StartOk id group shard bound outs edges facts) e = absurd (to_coord (subst (λ msg. Means plan asked S (start_store plan.program) log msg m.to) e (o.means.messages m has)).2)
       go (CommitOk id shard outs) e = absurd (to_coord (subst (λ msg. Means plan asked S (start_store plan.program) log msg m.to) e (o.means.messages m has)).1)
+      go (Ended coord mark) e = refl
       go any e = absurd (subst (λ msg. Means plan asked S (start_store plan.program) log msg m.to) e (o.means.messages m has))

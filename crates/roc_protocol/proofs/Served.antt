@@ -20,7 +20,7 @@ use Rattle.roc_depgraph.proofs.Listed.{has_listed}
 use Rattle.roc_await.specs.declared.waits.OpenFetch.{OpenFetch}
 use Rattle.roc_await.specs.Waits.{askers_of}
 use Rattle.roc_msg.specs.declared.msg.Msg.{Msg}
-use Rattle.roc_msg.specs.declared.msg.Msg.TheVariants.{Start, Commit, Fetch, Known}
+use Rattle.roc_msg.specs.declared.msg.Msg.TheVariants.{Start, Commit, Fetch, Known, Ended, Settled}
 use Rattle.roc_msg.specs.declared.outbox.Outgoing.{Outgoing}
 use Rattle.roc_msg.specs.declared.reason.Reason.{Reason}
 use Rattle.roc_msg.specs.declared.reason.Reason.TheVariants.{NotHere, Foreign}
@@ -34,7 +34,7 @@ use Rattle.roc_law_log.specs.Log.{Log}
 use Rattle.roc_law_log.specs.Steps.{LogSteps, no_steps, one_step_more, new_in}
 use Rattle.roc_law_log.specs.Invariants.{LogInvariants, LogGrows}
 use Rattle.roc_server.specs.declared.started.StartedGroup.{StartedGroup}
-use Rattle.roc_server.specs.State.{ignored, answered, is_group, is_here, find_group, ServerState, ServerStep}
+use Rattle.roc_server.specs.State.{ignored, answered, is_group, is_here, find_group, ServerState, ServerStep, hearing}
 use Rattle.roc_server_lists.specs.New.{AreNew}
 use Rattle.roc_server.specs.Start.{start_fault, start_taken, start_judged, startok_of, new_group, start_new}
 use Rattle.roc_server.specs.Runs.{commitok_of, outs_here}
@@ -46,13 +46,14 @@ use Rattle.roc_audit.specs.Order.{noted}
 use Rattle.roc_protocol.specs.PlanAssumptions.{IsSchemeOf}
 use Rattle.roc_protocol.specs.World.{World, at_server}
 use Rattle.roc_protocol.specs.Inner.Given.{LogLaws}
-use Rattle.roc_protocol.proofs.Means.{Began, Means, ListMeans, AllMean, StartIs, DoneMeans, ServerMeans, WorldMeans}
+use Rattle.roc_protocol.proofs.Means.{Began, Means, ListMeans, AllMean, StartIs, DoneMeans, ServerMeans, WorldMeans, AreEnded}
 use Rattle.roc_protocol.proofs.Grows.{begun_grows, list_grows, decided_grows}
 use Rattle.roc_protocol.proofs.Buffered.{outs_told}
 use Rattle.roc_protocol.proofs.Changed.{noted-new, server_means}
 use Rattle.roc_protocol.proofs.Elsewhere.{server_elsewhere}
 use Rattle.roc_protocol.proofs.Starting as starting
 use Rattle.roc_protocol.proofs.Deciding as deciding
+use Rattle.roc_protocol.proofs.Marks.{ended_cases}
 
 -- a list that is found is among the known ones
 pub list_has : (known : List KnownList) (id : TxnId) (edges : List Dependency) → list_of id known ≡ Some edges → (k : KnownList) × Has k known × (k.of ≡ id) × (k.edges ≡ edges)
@@ -244,7 +245,7 @@ module _ (plan : Plan) (asked : TxnId → whole.Call) (S : Scheme) (start : Stor
           still (answered s (known_to (list_with id edges) (record { id = id; shard = asker }) ∷ [])) mine
           (λ out h. subst (λ (out : Outgoing). Means plan asked S start c out.msg out.to) (sym (has_one out (known_to (list_with id edges) (record { id = id; shard = asker })) h)) (subst (λ es. ListMeans plan asked S start c id es) k.3 (subst (λ t. ListMeans plan asked S start c t k.0.edges) k.2 (mine.known k.0 k.1)), tt))
           refl
-      taken None e = still (fetch_taken s id asker None) (record { number = mine.number; groups = mine.groups; part = mine.part; known = mine.known; decided = mine.decided; fetched = mine.fetched }) (λ out h. absurd h) refl
+      taken None e = still (fetch_taken s id asker None) (record { number = mine.number; groups = mine.groups; part = mine.part; known = mine.known; decided = mine.decided; fetched = mine.fetched; ended = mine.ended }) (λ out h. absurd h) refl
 
       here : (b : Bool) → IsExplained (if b then fetch_taken s id asker (list_of id s.lists.known) else ignored s NotHere)
       here true = taken (list_of id s.lists.known) refl
@@ -260,6 +261,20 @@ module _ (plan : Plan) (asked : TxnId → whole.Call) (S : Scheme) (start : Stor
           taught_explained (unknown_of s.lists.known (list_with id edges ∷ [])) lists f.decided new (taught plan s (unknown_of s.lists.known (list_with id edges ∷ [])) f.decided) refl refl
           (taught_mean (unknown_of s.lists.known (list_with id edges ∷ [])) lists f.decided new)
 
+  ended_explained : (coord mark : ℕ) → AreEnded plan asked S start c coord mark → IsExplained (answered (hearing s coord mark) [])
+  ended_explained coord mark m =
+      still (answered (hearing s coord mark) [])
+      (record {
+        number = mine.number;
+        groups = mine.groups;
+        part = mine.part;
+        known = mine.known;
+        decided = mine.decided;
+        fetched = mine.fetched;
+        ended = λ t h. elim (ended_cases s.below coord mark t h) [ inl k ↦ mine.ended t k | inr k ↦ subst (IsListed is_txn c.answered) (λ i. record { coord = sym k.0 i; seq = t.seq }) (m t.seq k.1) ];
+      })
+      (λ out h. absurd h) refl
+
   pub message_explained : (msg : Msg) (r : ServerStep) → Handles plan s msg r → Means plan asked S start c msg (Server (record { 0 = n })) → StartsAre Fresh msg → IsExplained r
   message_explained msg r h m k = subst IsExplained (sym h.is) (go msg h.findings h.found m k)
     where
@@ -268,6 +283,8 @@ module _ (plan : Plan) (asked : TxnId → whole.Call) (S : Scheme) (start : Stor
       go (Commit id edges facts) f found m k = commit_explained f id edges facts found m.0
       go (Fetch id asker) f found m k = fetch_explained id asker
       go (Known id edges) f found m k = known_explained f id edges found m.0
+      go (Ended coord mark) f found m k = ended_explained coord mark m.0
+      go (Settled id below) f found m k = absurd m
       go msg f found m k = ignores Foreign
 
   pub tick_explained : IsExplained (answered s (tick_sends s))

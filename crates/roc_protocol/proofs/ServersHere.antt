@@ -21,7 +21,7 @@ use Rattle.roc_await.specs.declared.waits.OpenFetch.{OpenFetch}
 use Rattle.roc_await.specs.declared.waits.Asker.{Asker}
 use Rattle.roc_await.specs.Waits.{is_asked_before, is_asker_before, with_asked, with_all_asked, askers_of}
 use Rattle.roc_msg.specs.declared.msg.Msg.{Msg}
-use Rattle.roc_msg.specs.declared.msg.Msg.TheVariants.{Start, Commit, Fetch, Known}
+use Rattle.roc_msg.specs.declared.msg.Msg.TheVariants.{Start, Commit, Fetch, Known, Ended, Settled}
 use Rattle.roc_msg.specs.declared.outbox.Outgoing.{Outgoing}
 use Rattle.roc_msg.specs.declared.reason.Reason.{Reason}
 use Rattle.roc_msg.specs.declared.reason.Reason.TheVariants.{NotHere, Foreign, Differs, Late, BadProc, BadGroup, BadInputs}
@@ -31,7 +31,7 @@ use Rattle.roc_plan.specs.Groups.{Plan, procedure_of, groups_of, inputs_of, shar
 use Rattle.roc_group.specs.GroupRun.{GroupCall, call, group_uses}
 use Rattle.roc_server.specs.declared.started.StartedGroup.{StartedGroup}
 use Rattle.roc_server.specs.Fits.{IsCallOf, ServerFits}
-use Rattle.roc_server.specs.State.{ignored, answered, is_here, is_group, find_group, Lists, ServerState, ServerStep}
+use Rattle.roc_server.specs.State.{ignored, answered, is_here, is_group, find_group, Lists, ServerState, ServerStep, hearing}
 use Rattle.roc_server_lists.specs.Piggyback.{facts_of}
 use Rattle.roc_server.specs.Start.{first_reason, has_procedure, has_counts, differs, start_fault, start_taken, start_judged, startok_of, new_group, is_predecessor, is_immediate_group, edge_to}
 use Rattle.roc_server.specs.Runs.{group_call, commitok_of}
@@ -46,6 +46,8 @@ use Rattle.roc_protocol.proofs.Deciding.{take_keeps}
 use Rattle.roc_protocol.proofs.Facts.{facts_known}
 use Rattle.roc_protocol.proofs.Served.{list_has}
 use Rattle.roc_protocol.proofs.Named.{all_filter, all_in_place, all_flat, seen_united, IsOutHere}
+use Rattle.roc_server.specs.declared.handled.Handled.{Handled}
+use Rattle.roc_server.specs.declared.handled.Handled.TheVariants.{Done, Gone}
 
 -- a start is taken only of a group of the plan
 called : (plan : Plan) (s : ServerState) (id : TxnId) (c : GroupCall) → start_fault plan s id c ≡ None → IsCallOf plan c
@@ -248,6 +250,10 @@ module _ (plan : Plan) (servers coords : ℕ) (s : ServerState) (own : s.shard.0
       subst (λ outs. KeepsServer (record (taught plan s (unknown_of s.lists.known (list_with id edges ∷ [])) ts) { sends = outs })) (append-nil (taught plan s (unknown_of s.lists.known (list_with id edges ∷ [])) ts).sends)
       (taught_keeps (unknown_of s.lists.known (list_with id edges ∷ [])) (all_filter (λ (k : KnownList). AreSeenHere servers coords k.edges) (λ k. not (is_known s.lists.known k.of)) (list_with id edges ∷ []) (seen, tt)) ts [] tt)
 
+  -- a watermark is heard
+  hears : (coord mark : ℕ) (answer : Handled) → KeepsServer (record (answered (hearing s coord mark) []) { answer = answer })
+  hears coord mark answer = record { state = record { started = here.started; known = here.known; asked = here.asked; askers = here.askers }; fits = of_plan; shard = refl; sends = tt }
+
   -- ---- any message, and a tick
 
   pub message_keeps : (msg : Msg) (r : ServerStep) → Handles plan s msg r → NamesNodes servers coords msg → KeepsServer r
@@ -258,6 +264,8 @@ module _ (plan : Plan) (servers coords : ℕ) (s : ServerState) (own : s.shard.0
       go (Commit id edges facts) f found k = commit_keeps f.before f.decided id edges facts k.0 k.1 (commit_fault s id edges facts) refl
       go (Fetch id asker) f found k = fetch_keeps id asker k
       go (Known id edges) f found k = known_keeps f.decided id edges k (known_fault s id edges)
+      go (Ended coord mark) f found k = hears coord mark Done
+      go (Settled id mark) f found k = hears id.coord mark Gone
       go msg f found k = ignores Foreign
 
   pub tick_keeps : KeepsServer (answered s (tick_sends s))

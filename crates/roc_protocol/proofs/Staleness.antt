@@ -17,7 +17,7 @@ use Rattle.roc_base.specs.Edge.{Dependency}
 use Rattle.roc_program.specs.Values.{value_of_name}
 use Rattle.roc_depgraph.specs.declared.known.KnownList.{KnownList}
 use Rattle.roc_msg.specs.declared.msg.Msg.{Msg}
-use Rattle.roc_msg.specs.declared.msg.Msg.TheVariants.{Start, StartOk, Commit, CommitOk, Known}
+use Rattle.roc_msg.specs.declared.msg.Msg.TheVariants.{Start, StartOk, Commit, CommitOk, Known, Ended}
 use Rattle.roc_msg.specs.declared.msg.Envelope.{Envelope}
 use Rattle.roc_msg.specs.declared.reason.Reason.{Reason}
 use Rattle.roc_msg.specs.declared.reason.Reason.TheVariants.{Stale, Unfit}
@@ -180,7 +180,7 @@ module _ (plan : Plan) (asked : TxnId → whole.Call) (S : Scheme) (is : IsSchem
           let q = found_has (λ (x : Transaction). is_txn x.id id) s.pending x f in
           judged (has_commitok shard x.commitoks) (is_fit_commitok plan x (record { shard = shard; outs = outs })) (commitok_fit m has to id shard outs msg x q.0 (is_txn-true x.id id q.1)) (reply_now plan (with_commitok x (record { shard = shard; outs = outs }))) e
         where
-          judged : (a b : Bool) → b ≡ true → (reply : Option (List ℤ)) → (unless_refused s (if a then Some Stale else (if not b then Some Unfit else None)) (commitok_taken s (with_commitok x (record { shard = shard; outs = outs })) reply)).answer ≡ Ignored why → why ≡ Stale
+          judged : (a b : Bool) → b ≡ true → (reply : Option (List ℤ)) → (unless_refused s (if a then Some Stale else (if not b then Some Unfit else None)) (commitok_taken plan s (with_commitok x (record { shard = shard; outs = outs })) reply)).answer ≡ Ignored why → why ≡ Stale
           judged true b fit reply e = only e
           judged false true fit None e = absurd (cc)
           judged false true fit (Some reply) e = absurd (cc)
@@ -198,4 +198,5 @@ module _ (plan : Plan) (asked : TxnId → whole.Call) (S : Scheme) (is : IsSchem
       go (Start id proc group args inputs) f e = let k = (server_alone (Start id proc group args inputs) f).to in absurd (cc)
       go (Commit id edges facts) f e = absurd ((server_alone (Commit id edges facts) f).1)
       go (Known id edges) f e = absurd ((server_alone (Known id edges) f).1)
+      go (Ended coord mark) f e = absurd ((server_alone (Ended coord mark) f).1)
       go msg f e = absurd (server_alone msg f)

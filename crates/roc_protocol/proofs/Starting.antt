@@ -42,7 +42,7 @@ use Rattle.roc_server.specs.State.{unrun}
 use Rattle.roc_protocol.specs.PlanAssumptions.{called, use_of, IsSchemeOf}
 use Rattle.roc_protocol.specs.Inner.Given.{LogLaws}
 use Rattle.roc_protocol.proofs.Means.{run_of, entry_run, place, Precedes, Ran, Began, stage, EdgesMean, ListMeans, ToldMeans, StartIs, EntryMeans, ServerMeans}
-use Rattle.roc_protocol.proofs.Grows.{begun_grows, place_grows, values_grow, entry_grows, list_grows, all_grow}
+use Rattle.roc_protocol.proofs.Grows.{begun_grows, place_grows, values_grow, entry_grows, list_grows, all_grow, answered_grows}
 use Rattle.roc_protocol.proofs.Meets.{meet_of, of_meet}
 use Rattle.roc_protocol.proofs.Facts.{facts_known}
 use Rattle.roc_protocol.proofs.Local.{call_is, run_cells, run_elsewhere, run_bound, run_outs, run_uses}
@@ -314,6 +314,7 @@ module _ (plan : Plan) (asked : TxnId → whole.Call) (S : Scheme) (start : Stor
           known = all_grow plan asked S start is c d i j g s.lists.known o.known;
           decided = o.decided;
           fetched = λ a h. begun_grows plan asked S start is c d i j g a.id a.at.0 (o.fetched a h);
+          ended = λ t h. answered_grows plan asked S start is c d i j g t (o.ended t h);
         }
       where
         entry_start : EntryMeans plan asked S start d n (unrun entry)

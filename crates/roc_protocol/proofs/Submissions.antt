@@ -56,7 +56,7 @@ keeps_number plan s (CommitOk id shard outs) = go (find_transaction id s.pending
     go None = record { number = refl; next = refl }
     go (Some x) = refused (commitok_refusal plan x (record { shard = shard; outs = outs })) (reply_now plan (with_commitok x (record { shard = shard; outs = outs })))
       where
-        refused : (o : Option Reason) (reply : Option (List ℤ)) → KeepsNumber s (unless_refused s o (commitok_taken s (with_commitok x (record { shard = shard; outs = outs })) reply)).state
+        refused : (o : Option Reason) (reply : Option (List ℤ)) → KeepsNumber s (unless_refused s o (commitok_taken plan s (with_commitok x (record { shard = shard; outs = outs })) reply)).state
         refused (Some why) reply = record { number = refl; next = refl }
         refused None (Some reply) = record { number = refl; next = refl }
         refused None None = record { number = refl; next = refl }

@@ -144,8 +144,8 @@ module _ (plan : Plan) (s : CoordState) (once : (y z : Transaction) → Has y s.
       taken = has_any (λ (c : TakenCommit). c.shard.0 == ok.shard.0) (x.commitoks ++ ok ∷ []) ok (has_right ok x.commitoks (ok ∷ []) (inl refl)) (eq-eqb ok.shard.0 ok.shard.0 refl)
 
       judged : (a b : Bool) (reply : Option (List ℤ)) → has_commitok ok.shard x.commitoks ≡ a
-          → ((why : Reason) → (unless_refused s (if a then Some Stale else (if not b then Some Unfit else None)) (commitok_taken s (with_commitok x ok) reply)).answer ≡ Ignored why → why ≡ Stale)
-          → AllTook id (HasCommitok ok.shard) (unless_refused s (if a then Some Stale else (if not b then Some Unfit else None)) (commitok_taken s (with_commitok x ok) reply)).state.pending
+          → ((why : Reason) → (unless_refused s (if a then Some Stale else (if not b then Some Unfit else None)) (commitok_taken plan s (with_commitok x ok) reply)).answer ≡ Ignored why → why ≡ Stale)
+          → AllTook id (HasCommitok ok.shard) (unless_refused s (if a then Some Stale else (if not b then Some Unfit else None)) (commitok_taken plan s (with_commitok x ok) reply)).state.pending
       judged true b reply f only = before id (HasCommitok ok.shard) x e f
       judged false true None f only = now id (HasCommitok ok.shard) x e (with_commitok x ok) refl taken
       judged false true (Some reply) f only = over id (HasCommitok ok.shard) x e

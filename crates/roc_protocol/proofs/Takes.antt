@@ -21,17 +21,17 @@ use Rattle.roc_depgraph.proofs.Laws.{known_stays}
 use Rattle.roc_await.specs.declared.waits.Asker.{Asker}
 use Rattle.roc_await.specs.Waits.{is_asker_before, with_asker}
 use Rattle.roc_msg.specs.declared.msg.Msg.{Msg}
-use Rattle.roc_msg.specs.declared.msg.Msg.TheVariants.{Start, Commit, Fetch, Known}
+use Rattle.roc_msg.specs.declared.msg.Msg.TheVariants.{Start, Commit, Fetch, Known, Ended, Settled}
 use Rattle.roc_msg.specs.declared.outbox.Outgoing.{Outgoing}
 use Rattle.roc_msg.specs.declared.reason.Reason.{Reason}
 use Rattle.roc_msg.specs.declared.reason.Reason.TheVariants.{NotHere, Foreign, Differs}
 use Rattle.roc_msg.specs.Facts.{is_fact_before}
 use Rattle.roc_plan.specs.Groups.{Plan}
 use Rattle.roc_group.specs.GroupRun.{call}
-use Rattle.roc_server.specs.declared.handled.Handled.TheVariants.{Done}
+use Rattle.roc_server.specs.declared.handled.Handled.TheVariants.{Done, Gone}
 use Rattle.roc_server.specs.declared.started.StartedGroup.{StartedGroup}
 use Rattle.roc_server_lists.specs.New.{AreNew}
-use Rattle.roc_server.specs.State.{ignored, answered, is_here, is_group, find_group, ServerState, ServerStep}
+use Rattle.roc_server.specs.State.{ignored, answered, is_here, is_group, find_group, ServerState, ServerStep, hearing}
 use Rattle.roc_server.specs.Start.{start_fault, start_taken, start_judged, startok_of, new_group}
 use Rattle.roc_server.specs.Runs.{commitok_of}
 use Rattle.roc_server_lists.specs.Carried.{list_with, carried, unknown_of}
@@ -41,6 +41,7 @@ use Rattle.roc_server.specs.Step.{Findings, AreFindings, unless_ignored, after_m
 use Rattle.roc_protocol.proofs.Carried.{take_same}
 use Rattle.roc_protocol.proofs.Deciding.{more_keeps}
 use Rattle.roc_protocol.proofs.Hears.{in_place_has, has_known, IsAnswered, Hears, taught_known, taught_hears}
+use Rattle.roc_server.specs.declared.handled.Handled.{Handled}
 
 -- ---- who asks
 
@@ -183,6 +184,10 @@ module _ (plan : Plan) (s : ServerState) where
         λ done. taught_known plan s f.before found.before news f.decided new id (known_now (list_with id edges ∷ []) id edges (inl refl)),
       )
 
+  -- a watermark is heard
+  hears : (coord mark : ℕ) (answer : Handled) → Hears plan s (record (answered (hearing s coord mark) []) { answer = answer })
+  hears coord mark answer = record { known = λ t h. h; says = λ t here d. inl d; askers = λ a h n. inr (h, n); asked = λ a h. inl h; seeks = λ h. h }
+
   -- any message keeps what is waited for, and leaves what it does if it is taken
   pub message_result : (msg : Msg) (r : ServerStep) → Handles plan s msg r → Hears plan s r × (r.answer ≡ Done → Takes msg r)
   message_result msg r h = subst (Result msg) (sym h.is) (go msg h.findings h.found)
@@ -192,4 +197,6 @@ module _ (plan : Plan) (s : ServerState) where
       go (Commit id edges facts) f found = commit_result f id edges facts found (commit_fault s id edges facts) refl found.decided
       go (Fetch id asker) f found = fetch_result id asker
       go (Known id edges) f found = known_result f id edges found (known_fault s id edges) found.decided
+      go (Ended coord mark) f found = (hears coord mark Done, λ d. tt)
+      go (Settled id mark) f found = (hears id.coord mark Gone, λ d. tt)
       go msg f found = ignores msg Foreign

@@ -1,5 +1,5 @@
 -- Whether the plan has a procedure that may write
-use Rattle.std.proofs.Common.{◌≡◌, ◌⊎◌, ℕ, ◌<◌, ◌≤◌, Bool, true, false, ◌&&◌, not, nat_lt, length, refl, ap, inl, inr, arith, zero, suc, ◌∙◌}
+use Rattle.std.proofs.Common.{◌≡◌, ◌⊎◌, ℕ, ◌<◌, Bool, true, false, ◌&&◌, not, nat_lt, length, refl, ap, inl, inr, arith, zero, suc, ◌∙◌}
 use Rattle.std.proofs.lemmas.Bool.Decides.{nat_tests}
 use Rattle.std.proofs.lemmas.Bool.{cases_lt}
 use Rattle.roc_plan.specs.Groups.{Plan, is_transaction, is_view_of}

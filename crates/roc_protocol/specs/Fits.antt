@@ -6,7 +6,7 @@ use Rattle.roc_base.specs.declared.node.Node.TheVariants.{Server, Coord}
 use Rattle.roc_base.specs.Edge.{Dependency}
 use Rattle.roc_depgraph.specs.declared.known.KnownList.{KnownList}
 use Rattle.roc_msg.specs.declared.msg.Msg.{Msg}
-use Rattle.roc_msg.specs.declared.msg.Msg.TheVariants.{Start, StartOk, Commit, Fetch, Known}
+use Rattle.roc_msg.specs.declared.msg.Msg.TheVariants.{Start, StartOk, Commit, Fetch, Known, Ended}
 use Rattle.roc_msg.specs.declared.msg.Envelope.{Envelope}
 use Rattle.roc_plan.specs.Groups.{Plan}
 use Rattle.roc_server.specs.declared.started.StartedGroup.{StartedGroup}
@@ -38,6 +38,7 @@ module _ (servers coords : ℕ) where
   NamesNodes (Commit id edges facts) = AreSeenHere edges × AreListsHere facts
   NamesNodes (Fetch id asker) = asker.0 < servers
   NamesNodes (Known id edges) = AreSeenHere edges
+  NamesNodes (Ended coord mark) = coord < coords
   NamesNodes msg = Unit {0}
 
   -- it goes to a node that is there

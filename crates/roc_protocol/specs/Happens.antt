@@ -44,7 +44,6 @@ abbrev pub Submits : World → (number proc : ℕ) → List ℤ → CoordState �
 Submits w number proc args after outs (Ok id) o = o ≡ undecided (seen.Submitted id) (at_coord w number after outs (entry.Submitted id proc args ∷ []))
 Submits w number proc args after outs (Err fault.Spent) o = o ≡ undecided seen.Spent w
 Submits w number proc args after outs (Err fault.Busy) o = o ≡ undecided seen.Busy w
-Submits w number proc args after outs (Err fault.Stopped) o = ⊥
 Submits w number proc args after outs (Err fault.NoProc) o = ⊥
 Submits w number proc args after outs (Err fault.Args) o = ⊥
 Submits w number proc args after outs (Err fault.NoMemory) o = ⊥
@@ -56,6 +55,7 @@ IsSubmissionOf w number proc args s o = Submits w number proc args s.state s.sen
 
 abbrev pub server_seen : ServerHandled → Seen
 server_seen server_answer.Done = seen.Done
+server_seen server_answer.Gone = seen.Gone
 server_seen (server_answer.Ignored reason) = seen.Ignored reason
 
 abbrev pub coord_seen : CoordHandled → Seen

@@ -27,6 +27,8 @@ pub enum Seen {
     Done,
     /// A message was taken, and with it a transaction has its reply.
     Answered { id: TxnId, reply: Nums },
+    /// A message came too late to be taken.
+    Gone,
     /// A message was ignored.
     Ignored(Reason),
 }

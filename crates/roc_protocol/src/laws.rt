@@ -1,6 +1,6 @@
 //! What holds in every world of every run, whatever the network loses, repeats or reorders. Each law is the contract of a function that
 //! does nothing.
-ghost use Rattle.std.specs.Prelude.{◌≡◌, ◌≢◌, ◌⊎◌, ℕ, ℤ, pos, ◌-◌, ◌<◌, ◌≤◌, List, [], Option, Some, None, length, map, slice_get};
+ghost use Rattle.std.specs.Prelude.{◌≡◌, ◌≢◌, ◌⊎◌, ℕ, ℤ, pos, ◌-◌, ◌<◌, ◌≤◌, true, List, [], Option, Some, None, length, map, slice_get};
 ghost use Rattle.roc_sequence.specs.Lists.{Has};
 ghost use Rattle.roc_sequence.specs.Places.{IsListed, IsListedBefore};
 ghost use Rattle.roc_base.specs.declared.id.TxnId.{TxnId};
@@ -19,6 +19,7 @@ ghost use Rattle.roc_msg.specs.declared.msg.Msg.TheVariants as msg;
 ghost use Rattle.roc_msg.specs.declared.reason.Reason.{Reason};
 ghost use Rattle.roc_msg.specs.declared.reason.Reason.TheVariants as reason;
 ghost use Rattle.roc_msg.specs.declared.msg.Msg.{Msg};
+ghost use Rattle.roc_server.specs.Below.{is_ended};
 ghost use Rattle.roc_server.specs.State.{find_group, ServerState, ServerStep};
 ghost use Rattle.roc_server.specs.Step.{Handles};
 ghost use Rattle.roc_server.specs.declared.started.StartedGroup.{StartedGroup};
@@ -136,6 +137,18 @@ pub fn submissions_are_kept()
     ensures gone { (plan : Plan) (coords : ℕ) (steps : List Stepped) (w : World) → HasSchemes plan → IsRun plan coords steps w
         → (t : TxnId) (reply : List ℤ) → WasAnswered w.history t reply → (n : ℕ) (c : CoordState) → slice_get w.coords n ≡ Some c → (x : Transaction)
         → Has x c.pending → x.id ≢ t }
+{
+    machine_laws();
+}
+
+/// A coordinator tells a watermark only where it has answered all its transactions with a sequence below; so a transaction that a server
+/// has heard of as ended was answered.
+pub fn ended_is_answered()
+    ensures told { (plan : Plan) (coords : ℕ) (steps : List Stepped) (w : World) → HasSchemes plan → IsRun plan coords steps w
+        → (m : Envelope) → Has m w.sent → (coord mark : ℕ) → m.msg ≡ msg.Ended coord mark → (seq : ℕ) → seq < mark
+        → (reply : List ℤ) × WasAnswered w.history (record { coord = coord; seq = seq }) reply }
+    ensures heard { (plan : Plan) (coords : ℕ) (steps : List Stepped) (w : World) → HasSchemes plan → IsRun plan coords steps w
+        → (n : ℕ) (s : ServerState) → slice_get w.servers n ≡ Some s → (t : TxnId) → is_ended s.below t ≡ true → (reply : List ℤ) × WasAnswered w.history t reply }
 {
     machine_laws();
 }

@@ -35,7 +35,7 @@ use Rattle.roc_report.specs.Shown.{message_kind, edges_of, shown_message}
 use Rattle.roc_report.specs.Line.{Line, ShownMessage, Submit, Deliver, Send, Answer, Row, Pending}
 use Rattle.roc_report.proofs.Named.{id_is_shown}
 use Rattle.roc_replay.specs.Cells.{by_cell}
-use Rattle.roc_replay.specs.Report.{submission_lines, ignored_lines, first_lines, send_lines, answer_lines, step_lines, steps_lines, end_line, closing_lines, report}
+use Rattle.roc_replay.specs.Report.{submission_lines, untaken_lines, first_lines, send_lines, answer_lines, step_lines, steps_lines, end_line, closing_lines, report}
 use Rattle.roc_replay.specs.Readback.{entries_in, history_in, IsShownBefore, LooksQuiet}
 use Rattle.roc_replay.proofs.Growing.{run_lines}
 
@@ -57,16 +57,19 @@ module _ (Came : ℕ → Type 0) (Went : ℕ → ShownMessage → Type 0) where
   submission_says coord proc args seen.Busy line (inr h) = absurd h
   submission_says coord proc args seen.Done line h = absurd h
   submission_says coord proc args (seen.Answered id reply) line h = absurd h
+  submission_says coord proc args seen.Gone line h = absurd h
   submission_says coord proc args (seen.Ignored reason) line h = absurd h
 
-  ignored_says : (what : Seen) (line : Line) → Has line (ignored_lines what) → Says line
-  ignored_says (seen.Ignored reason) line (inl e) = subst Says (sym e) tt
-  ignored_says (seen.Ignored reason) line (inr h) = absurd h
-  ignored_says (seen.Submitted id) line h = absurd h
-  ignored_says seen.Spent line h = absurd h
-  ignored_says seen.Busy line h = absurd h
-  ignored_says seen.Done line h = absurd h
-  ignored_says (seen.Answered id reply) line h = absurd h
+  untaken_says : (what : Seen) (line : Line) → Has line (untaken_lines what) → Says line
+  untaken_says (seen.Ignored reason) line (inl e) = subst Says (sym e) tt
+  untaken_says (seen.Ignored reason) line (inr h) = absurd h
+  untaken_says seen.Gone line (inl e) = subst Says (sym e) tt
+  untaken_says seen.Gone line (inr h) = absurd h
+  untaken_says (seen.Submitted id) line h = absurd h
+  untaken_says seen.Spent line h = absurd h
+  untaken_says seen.Busy line h = absurd h
+  untaken_says seen.Done line h = absurd h
+  untaken_says (seen.Answered id reply) line h = absurd h
 
   answer_says : (what : Seen) (line : Line) → Has line (answer_lines what) → Says line
   answer_says (seen.Answered id reply) line (inl e) = subst Says (sym e) tt
@@ -75,6 +78,7 @@ module _ (Came : ℕ → Type 0) (Went : ℕ → ShownMessage → Type 0) where
   answer_says seen.Spent line h = absurd h
   answer_says seen.Busy line h = absurd h
   answer_says seen.Done line h = absurd h
+  answer_says seen.Gone line h = absurd h
   answer_says (seen.Ignored reason) line h = absurd h
 
   first_says : (e : Option Event) (what : Seen) → ((k : ℕ) → e ≡ Some (event.Deliver k) → Came k) → (line : Line) → Has line (first_lines e what) → Says line
@@ -82,7 +86,7 @@ module _ (Came : ℕ → Type 0) (Went : ℕ → ShownMessage → Type 0) where
   first_says None what f line (inr h) = absurd h
   first_says (Some (event.Submit coord proc args)) what f line h = submission_says coord proc args what line h
   first_says (Some (event.Deliver k)) what f line (inl i) = subst Says (sym i) (f k refl)
-  first_says (Some (event.Deliver k)) what f line (inr h) = ignored_says what line h
+  first_says (Some (event.Deliver k)) what f line (inr h) = untaken_says what line h
   first_says (Some (event.Tick node)) what f line (inl i) = subst Says (sym i) tt
   first_says (Some (event.Tick node)) what f line (inr h) = absurd h
 
@@ -179,7 +183,6 @@ submit_sends : (w : World) (coord proc : ℕ) (args : List ℤ) (after : CoordSt
 submit_sends w coord proc args after outs (Ok id) o e = subst (λ (x : Outcome). SendsMore w x.world) (sym e) (sends_these w (Coord coord) outs)
 submit_sends w coord proc args after outs (Err fault.Spent) o e = subst (λ (x : Outcome). SendsMore w x.world) (sym e) (sends_nothing w)
 submit_sends w coord proc args after outs (Err fault.Busy) o e = subst (λ (x : Outcome). SendsMore w x.world) (sym e) (sends_nothing w)
-submit_sends w coord proc args after outs (Err fault.Stopped) o e = absurd e
 submit_sends w coord proc args after outs (Err fault.NoProc) o e = absurd e
 submit_sends w coord proc args after outs (Err fault.Args) o e = absurd e
 submit_sends w coord proc args after outs (Err fault.NoMemory) o e = absurd e

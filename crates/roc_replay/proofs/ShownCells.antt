@@ -89,12 +89,14 @@ cells_in-first (Some (event.Submit coord proc args)) seen.Spent = refl
 cells_in-first (Some (event.Submit coord proc args)) seen.Busy = refl
 cells_in-first (Some (event.Submit coord proc args)) seen.Done = refl
 cells_in-first (Some (event.Submit coord proc args)) (seen.Answered id reply) = refl
+cells_in-first (Some (event.Submit coord proc args)) seen.Gone = refl
 cells_in-first (Some (event.Submit coord proc args)) (seen.Ignored reason) = refl
 cells_in-first (Some (event.Deliver k)) (seen.Submitted id) = refl
 cells_in-first (Some (event.Deliver k)) seen.Spent = refl
 cells_in-first (Some (event.Deliver k)) seen.Busy = refl
 cells_in-first (Some (event.Deliver k)) seen.Done = refl
 cells_in-first (Some (event.Deliver k)) (seen.Answered id reply) = refl
+cells_in-first (Some (event.Deliver k)) seen.Gone = refl
 cells_in-first (Some (event.Deliver k)) (seen.Ignored reason) = refl
 
 cells_in-answer : (s : Seen) → cells_in (answer_lines s) ≡ []
@@ -103,6 +105,7 @@ cells_in-answer (seen.Submitted id) = refl
 cells_in-answer seen.Spent = refl
 cells_in-answer seen.Busy = refl
 cells_in-answer seen.Done = refl
+cells_in-answer seen.Gone = refl
 cells_in-answer (seen.Ignored reason) = refl
 
 cells_in-steps : (before : List Envelope) (steps : List Stepped) → cells_in (steps_lines before steps) ≡ []

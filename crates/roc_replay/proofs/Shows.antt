@@ -37,7 +37,7 @@ use Rattle.roc_protocol.specs.Run.{Stepped, Transition, IsRun, begun, goes_on}
 use Rattle.roc_world.specs.Reads.{cells_of, unanswered_of}
 use Rattle.roc_report.specs.Line.{Deliver, Row, Pending}
 use Rattle.roc_replay.specs.Cells.{by_cell}
-use Rattle.roc_replay.specs.Report.{ignored_lines, first_lines, send_lines, answer_lines, step_lines, steps_lines, end_line, closing_lines, report}
+use Rattle.roc_replay.specs.Report.{untaken_lines, first_lines, send_lines, answer_lines, step_lines, steps_lines, end_line, closing_lines, report}
 use Rattle.roc_replay.specs.Readback.{entries_in, history_in, orders_of, orders_in, pending_in, cells_in, IsExplained}
 use Rattle.roc_replay.proofs.Growing.{run_lines}
 use Rattle.roc_replay.proofs.QuietLines.{shown_answered}
@@ -79,16 +79,16 @@ unfolding Gains
 submit_gains w coord proc args after outs (Ok id) o e = subst (λ (x : Outcome). Gains w (Some (event.Submit coord proc args)) x) (sym e) refl
 submit_gains w coord proc args after outs (Err fault.Spent) o e = subst (λ (x : Outcome). Gains w (Some (event.Submit coord proc args)) x) (sym e) (sym (append-nil w.history))
 submit_gains w coord proc args after outs (Err fault.Busy) o e = subst (λ (x : Outcome). Gains w (Some (event.Submit coord proc args)) x) (sym e) (sym (append-nil w.history))
-submit_gains w coord proc args after outs (Err fault.Stopped) o e = absurd e
 submit_gains w coord proc args after outs (Err fault.NoProc) o e = absurd e
 submit_gains w coord proc args after outs (Err fault.Args) o e = absurd e
 submit_gains w coord proc args after outs (Err fault.NoMemory) o e = absurd e
 
-server_shows : (k : ℕ) (a : ServerHandled) → history_in (Deliver k ∷ ignored_lines (server_seen a)) ++ history_in (answer_lines (server_seen a)) ≡ []
+server_shows : (k : ℕ) (a : ServerHandled) → history_in (Deliver k ∷ untaken_lines (server_seen a)) ++ history_in (answer_lines (server_seen a)) ≡ []
 server_shows k server_answer.Done = refl
+server_shows k server_answer.Gone = refl
 server_shows k (server_answer.Ignored reason) = refl
 
-coord_shows : (k : ℕ) (a : CoordHandled) → history_in (Deliver k ∷ ignored_lines (coord_seen a)) ++ history_in (answer_lines (coord_seen a)) ≡ answer_entries a
+coord_shows : (k : ℕ) (a : CoordHandled) → history_in (Deliver k ∷ untaken_lines (coord_seen a)) ++ history_in (answer_lines (coord_seen a)) ≡ answer_entries a
 coord_shows k coord_answer.Done = refl
 coord_shows k (coord_answer.Answered id reply) = refl
 coord_shows k (coord_answer.Ignored reason) = refl
@@ -140,12 +140,14 @@ orders_in-first (Some (event.Submit coord proc args)) seen.Spent = refl
 orders_in-first (Some (event.Submit coord proc args)) seen.Busy = refl
 orders_in-first (Some (event.Submit coord proc args)) seen.Done = refl
 orders_in-first (Some (event.Submit coord proc args)) (seen.Answered id reply) = refl
+orders_in-first (Some (event.Submit coord proc args)) seen.Gone = refl
 orders_in-first (Some (event.Submit coord proc args)) (seen.Ignored reason) = refl
 orders_in-first (Some (event.Deliver k)) (seen.Submitted id) = refl
 orders_in-first (Some (event.Deliver k)) seen.Spent = refl
 orders_in-first (Some (event.Deliver k)) seen.Busy = refl
 orders_in-first (Some (event.Deliver k)) seen.Done = refl
 orders_in-first (Some (event.Deliver k)) (seen.Answered id reply) = refl
+orders_in-first (Some (event.Deliver k)) seen.Gone = refl
 orders_in-first (Some (event.Deliver k)) (seen.Ignored reason) = refl
 
 orders_in-answer : (s : Seen) → orders_in (answer_lines s) ≡ []
@@ -154,6 +156,7 @@ orders_in-answer (seen.Submitted id) = refl
 orders_in-answer seen.Spent = refl
 orders_in-answer seen.Busy = refl
 orders_in-answer seen.Done = refl
+orders_in-answer seen.Gone = refl
 orders_in-answer (seen.Ignored reason) = refl
 
 orders_in-steps : (before : List Envelope) (steps : List Stepped) → orders_in (steps_lines before steps) ≡ []

@@ -56,6 +56,7 @@ busy_in-answer (seen.Submitted id) = refl
 busy_in-answer seen.Spent = refl
 busy_in-answer seen.Busy = refl
 busy_in-answer seen.Done = refl
+busy_in-answer seen.Gone = refl
 busy_in-answer (seen.Ignored reason) = refl
 
 busy_in-step : (before : List Envelope) (step : Stepped) → busy_in (step_lines before step) ≡ busy_in (first_lines step.event step.outcome.seen)

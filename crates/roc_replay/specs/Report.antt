@@ -11,7 +11,7 @@ use Rattle.roc_protocol.specs.World.{World}
 use Rattle.roc_protocol.specs.Run.{Stepped}
 use Rattle.roc_world.specs.Reads.{cells_of, unanswered_of}
 use Rattle.roc_report.specs.Shown.{shown_message}
-use Rattle.roc_report.specs.Line.{Line, Submit, Busy, Spent, Deliver, Nothing, Tick, Ignored, Send, Answer, Order, Row, Pending, End}
+use Rattle.roc_report.specs.Line.{Line, Submit, Busy, Spent, Deliver, Nothing, Tick, Gone, Ignored, Send, Answer, Order, Row, Pending, End}
 use Rattle.roc_replay.specs.Cells.{by_cell}
 
 -- ---- an event
@@ -23,22 +23,24 @@ submission_lines coord proc args seen.Spent = Spent coord ∷ []
 submission_lines coord proc args seen.Busy = Busy coord ∷ []
 submission_lines coord proc args seen.Done = []
 submission_lines coord proc args (seen.Answered id reply) = []
+submission_lines coord proc args seen.Gone = []
 submission_lines coord proc args (seen.Ignored reason) = []
 
--- why a message was ignored, if it was
-abbrev pub ignored_lines : Seen → List Line
-ignored_lines (seen.Ignored reason) = Ignored reason ∷ []
-ignored_lines (seen.Submitted id) = []
-ignored_lines seen.Spent = []
-ignored_lines seen.Busy = []
-ignored_lines seen.Done = []
-ignored_lines (seen.Answered id reply) = []
+-- that a message came too late, or why it was ignored, if it was not taken
+abbrev pub untaken_lines : Seen → List Line
+untaken_lines (seen.Ignored reason) = Ignored reason ∷ []
+untaken_lines seen.Gone = Gone ∷ []
+untaken_lines (seen.Submitted id) = []
+untaken_lines seen.Spent = []
+untaken_lines seen.Busy = []
+untaken_lines seen.Done = []
+untaken_lines (seen.Answered id reply) = []
 
 -- what happened, and what became of it; no event is a choice that found nothing
 abbrev pub first_lines : Option Event → Seen → List Line
 first_lines None seen = Nothing ∷ []
 first_lines (Some (event.Submit coord proc args)) seen = submission_lines coord proc args seen
-first_lines (Some (event.Deliver number)) seen = Deliver number ∷ ignored_lines seen
+first_lines (Some (event.Deliver number)) seen = Deliver number ∷ untaken_lines seen
 first_lines (Some (event.Tick node)) seen = Tick node ∷ []
 
 -- the messages that were sent, the first of them with this number
@@ -53,6 +55,7 @@ answer_lines (seen.Submitted id) = []
 answer_lines seen.Spent = []
 answer_lines seen.Busy = []
 answer_lines seen.Done = []
+answer_lines seen.Gone = []
 answer_lines (seen.Ignored reason) = []
 
 -- the lines of a step before which these messages were sent

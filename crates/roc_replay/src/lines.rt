@@ -2,7 +2,7 @@
 ghost use Rattle.std.specs.Prelude.{◌≡◌, ◌+◌, ◌^◌, ◌<◌, ◌≤◌, ◌++◌, [], ◌∷◌, drop, length, Some, IfOk, OnOk};
 ghost use Rattle.roc_report.specs.Line as line;
 ghost use Rattle.roc_report.specs.Text.{lines_text};
-ghost use Rattle.roc_replay.specs.Report.{first_lines, ignored_lines, send_lines, answer_lines};
+ghost use Rattle.roc_replay.specs.Report.{first_lines, untaken_lines, send_lines, answer_lines};
 
 use roc_base::NoMemory;
 use roc_msg::Envelope;
@@ -68,29 +68,32 @@ fn push_first(
                 },
                 Seen::Spent => ReportLine::Spent(*coord),
                 Seen::Busy => ReportLine::Busy(*coord),
-                Seen::Done | Seen::Answered { .. } | Seen::Ignored(_) => return Ok(()),
+                Seen::Done | Seen::Answered { .. } | Seen::Gone | Seen::Ignored(_) => {
+                    return Ok(());
+                }
             };
             append(alloc, text, workload, &line)
         }
         Event::Deliver(number) => {
             append(alloc, text, workload, &ReportLine::Deliver(*number))?;
-            push_ignored(alloc, text, workload, seen)
+            push_untaken(alloc, text, workload, seen)
         }
         Event::Tick(node) => append(alloc, text, workload, &ReportLine::Tick(*node)),
     }
 }
 
-// Adds why a message was ignored, if it was.
-fn push_ignored(
+// Adds that a message came too late, or why it was ignored, if it was not taken.
+fn push_untaken(
     alloc: Global,
     text: &mut Vec<u8>,
     workload: &Workload,
     seen: &Seen,
 ) -> Result<(), NoMemory>
-    ensures { OnOk result (text.new.items ≡ text.old.items ++ lines_text (workload.now) (ignored_lines seen.now)) }
+    ensures { OnOk result (text.new.items ≡ text.old.items ++ lines_text (workload.now) (untaken_lines seen.now)) }
 {
     match seen {
         Seen::Ignored(reason) => append(alloc, text, workload, &ReportLine::Ignored(*reason)),
+        Seen::Gone => append(alloc, text, workload, &ReportLine::Gone),
         Seen::Submitted(_) | Seen::Spent | Seen::Busy | Seen::Done | Seen::Answered { .. } => Ok(
             (),
         ),
@@ -131,6 +134,11 @@ fn push_answer(
             workload,
             &ReportLine::Answer { id: *id, reply },
         ),
-        Seen::Submitted(_) | Seen::Spent | Seen::Busy | Seen::Done | Seen::Ignored(_) => Ok(()),
+        Seen::Submitted(_)
+        | Seen::Spent
+        | Seen::Busy
+        | Seen::Done
+        | Seen::Gone
+        | Seen::Ignored(_) => Ok(()),
     }
 }

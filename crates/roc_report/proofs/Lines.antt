@@ -9,7 +9,7 @@ use Rattle.roc_program.specs.Program.{Workload}
 use Rattle.roc_program.specs.LookUps.{procedure_name, table_name, columns_of, column_name}
 use Rattle.roc_rows.specs.declared.cell.Cell.{Cell}
 use Rattle.roc_msg.specs.Reason.{reason_text}
-use Rattle.roc_report.specs.Line.{Line, Submit, Busy, Spent, Deliver, Nothing, Tick, Ignored, Send, Answer, Order, Row, Pending, End}
+use Rattle.roc_report.specs.Line.{Line, Submit, Busy, Spent, Deliver, Nothing, Tick, Gone, Ignored, Send, Answer, Order, Row, Pending, End}
 use Rattle.roc_report.specs.ReportLine.{AreNames, HasNames, IsSmallCell, IsReportLine}
 use Rattle.roc_report.specs.Text.{numbers_text, message_text, key_text, cell_text, words_of, lines_text}
 use Rattle.roc_report.proofs.Apart.{numbers_apart, integers_apart}
@@ -28,6 +28,7 @@ form (Spent coord) = 112
 form (Deliver number) = 300
 form Nothing = 310
 form (Tick node) = 316
+form Gone = 303
 form (Ignored reason) = 305
 form (Send number message) = 101
 form (Answer id reply) = 297
@@ -78,6 +79,7 @@ module _ (program : Workload) (names : HasNames program) where
   formed (Deliver number) r is = refl
   formed Nothing r is = refl
   formed (Tick node) r is = refl
+  formed Gone r is = refl
   formed (Ignored reason) r is = refl
   formed (Send number message) r is = refl
   formed (Answer id reply) r is = refl
@@ -132,6 +134,8 @@ module _ (program : Workload) (names : HasNames program) where
   one_line Nothing b r s is also f e = absurd (unlike 310 (form b) refl f)
   one_line (Tick n) (Tick m) r s is also f e = let p = nodes_apart n m (10 ∷ r) (10 ∷ s) is also refl refl (ap (drop 5) e) in (ap Tick p.0, tail_of p.1)
   one_line (Tick n) b r s is also f e = absurd (unlike 316 (form b) refl f)
+  one_line Gone Gone r s is also f e = (refl, ap (drop 5) e)
+  one_line Gone b r s is also f e = absurd (unlike 303 (form b) refl f)
   one_line (Ignored a) (Ignored b) r s is also f e =
       let behind : reason_text a ++ (10 ∷ r) ≡ reason_text b ++ (10 ∷ s) = ap (drop 8) e in
       let same = reasons_apart a b (10 ∷ r) (10 ∷ s) behind in

@@ -41,6 +41,7 @@ pub data Line : Type 0 where
   Deliver : (number : ℕ) → Line
   Nothing : Line
   Tick : (node : Node) → Line
+  Gone : Line
   Ignored : (reason : Reason) → Line
   Send : (number : ℕ) (message : ShownMessage) → Line
   Answer : (id : TxnId) (reply : List ℤ) → Line

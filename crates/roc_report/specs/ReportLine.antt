@@ -10,7 +10,7 @@ use Rattle.roc_lang.specs.Tokens.{IsWord}
 use Rattle.roc_program.specs.Program.{Workload}
 use Rattle.roc_program.specs.LookUps.{procedure_name, table_name, columns_of, column_name}
 use Rattle.roc_rows.specs.declared.cell.Cell.{Cell}
-use Rattle.roc_report.specs.Line.{ShownMessage, Line, Submit, Busy, Spent, Deliver, Nothing, Tick, Ignored, Send, Answer, Order, Row, Pending, End}
+use Rattle.roc_report.specs.Line.{ShownMessage, Line, Submit, Busy, Spent, Deliver, Nothing, Tick, Gone, Ignored, Send, Answer, Order, Row, Pending, End}
 
 -- ---- names
 
@@ -67,6 +67,7 @@ IsReportLine program (Spent coord) = IsSmall coord
 IsReportLine program (Deliver number) = IsSmall number
 IsReportLine program Nothing = Unit {0}
 IsReportLine program (Tick node) = IsSmallNode node
+IsReportLine program Gone = Unit {0}
 IsReportLine program (Ignored reason) = Unit {0}
 IsReportLine program (Send number message) = IsSmall number × IsSmallMessage message
 IsReportLine program (Answer id reply) = IsSmallId id × AreSmallIntegers reply

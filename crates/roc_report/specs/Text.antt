@@ -18,7 +18,7 @@ use Rattle.roc_scgraph.specs.declared.vertex.Instance.{Instance}
 use Rattle.roc_scgraph.specs.declared.vertex.Instance.TheVariants.{First, Second}
 use Rattle.roc_scgraph.specs.Graph.{piece_id}
 use Rattle.roc_report.specs.Line.{MessageKind, Start, StartOk, Commit, CommitOk, Fetch, Known, Stop, Ended, Settled, Read, ReadOk, Drained, Switched, ShownMessage, Line}
-use Rattle.roc_report.specs.Line.{Submit, Busy, Spent, Deliver, Nothing, Tick, Ignored, Send, Answer}
+use Rattle.roc_report.specs.Line.{Submit, Busy, Spent, Deliver, Nothing, Tick, Gone, Ignored, Send, Answer}
 use Rattle.roc_report.specs.Line.{Order, Row, Pending, End, Shards, Proc, Piece, Group, Conflict, Accepted, Apart, Blocked}
 use Rattle.roc_report.specs.Standing.{standing_text}
 
@@ -110,6 +110,7 @@ words_of program (Spent coord) = codes "spent " ++ decimal coord
 words_of program (Deliver number) = codes "deliver " ++ decimal number
 words_of program Nothing = codes "none"
 words_of program (Tick node) = codes "tick " ++ node_text node
+words_of program Gone = codes "gone"
 words_of program (Ignored reason) = codes "ignored " ++ reason_text reason
 words_of program (Send number message) = codes "send " ++ decimal number ++ spaced (message_text message)
 words_of program (Answer id reply) = codes "answer " ++ txn_text id ++ numbers_text reply

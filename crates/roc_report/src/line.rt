@@ -56,6 +56,8 @@ pub enum ReportLine<'a> {
     Nothing,
     /// A node's tick.
     Tick(Node),
+    /// The message came too late to be taken.
+    Gone,
     /// The message was ignored.
     Ignored(Reason),
     /// A message that was sent, with its number.

@@ -47,6 +47,7 @@ fn push_words(text: &mut String, workload: &Workload, line: &ReportLine) -> Resu
         ReportLine::Deliver(number) => write!(text, "deliver {number}"),
         ReportLine::Nothing => text.push_str("none"),
         ReportLine::Tick(node) => write!(text, "tick {node}"),
+        ReportLine::Gone => text.push_str("gone"),
         ReportLine::Ignored(reason) => write!(text, "ignored {reason}"),
         ReportLine::Send { number, sent } => push_sent(text, *number, sent),
         ReportLine::Answer { id, reply } => {

@@ -123,7 +123,7 @@ fn handles(
     ensures { ServerFits plan.now server.new }
 {
     let found = match server.handle(plan, msg, outbox) {
-        Ok(Handled::Done) => None,
+        Ok(Handled::Done | Handled::Gone) => None,
         Ok(Handled::Ignored(reason)) => Some(reason),
         Err(_) => panic!(rt; "no memory"),
     };

@@ -16,7 +16,7 @@ use Rattle.roc_coord.specs.declared.handled.SubmitFault.{SubmitFault}
 use Rattle.roc_coord.specs.declared.handled.SubmitFault.TheVariants as fault
 use Rattle.roc_coord.specs.State.{CoordState}
 use Rattle.roc_coord.specs.Step.{after_message}
-use Rattle.roc_coord.specs.Submit.{refusal_of, refused_or_accepted, after_submit, UnlessStopped}
+use Rattle.roc_coord.specs.Submit.{refusal_of, refused_or_accepted, after_submit, UnlessNoMemory}
 use Rattle.roc_audit.specs.Order.{noted}
 use Rattle.roc_protocol.specs.declared.event.Event.TheVariants.{Submit, Deliver, Tick}
 use Rattle.roc_protocol.specs.declared.event.Seen.{Seen}
@@ -125,11 +125,11 @@ module _ (plan : Plan) (w : World) where
         ([], (s.coord, s.there, subst (λ answer. Submits w number proc args r.state r.sends answer o) s.submitted.answer is))
 
     -- the same of arguments that are these
-    module _ (given : List ℤ) (same : given ≡ args) (why : SubmitFault) (submits : UnlessStopped (Err why) (CoordSubmits plan number proc given (Err why) w.coords coords before out)) where
-      told : (known : SubmitFault) → why ≡ known → UnlessStopped (Err known) (Submitting (Err known))
+    module _ (given : List ℤ) (same : given ≡ args) (why : SubmitFault) (submits : UnlessNoMemory (Err why) (CoordSubmits plan number proc given (Err why) w.coords coords before out)) where
+      told : (known : SubmitFault) → why ≡ known → UnlessNoMemory (Err known) (Submitting (Err known))
       told known is =
-          subst (λ (f : SubmitFault). UnlessStopped (Err f) (Submitting (Err f))) is
-          (subst (λ (a : List ℤ). UnlessStopped (Err why) (CoordSubmits plan number proc a (Err why) w.coords coords before out)) same submits)
+          subst (λ (f : SubmitFault). UnlessNoMemory (Err f) (Submitting (Err f))) is
+          (subst (λ (a : List ℤ). UnlessNoMemory (Err why) (CoordSubmits plan number proc a (Err why) w.coords coords before out)) same submits)
 
       pub spent_happens : why ≡ fault.Spent → Leads plan w (Submit number proc args) seen.Spent (record w { coords = coords })
       spent_happens is = spent (told fault.Spent is)

@@ -13,7 +13,7 @@ use Rattle.roc_coord.specs.declared.handled.SubmitFault.{SubmitFault}
 use Rattle.roc_coord.specs.declared.handled.SubmitFault.TheVariants as fault
 use Rattle.roc_coord.specs.State.{CoordState}
 use Rattle.roc_coord.specs.Step.{after_message, IsOutcome}
-use Rattle.roc_coord.specs.Submit.{after_submit, IsSubmitted, UnlessStopped}
+use Rattle.roc_coord.specs.Submit.{after_submit, IsSubmitted, UnlessNoMemory}
 use Rattle.roc_world.specs.Inner.Nodes.{ServerTakes, CoordTakes, CoordSubmits, ServerTicks}
 
 pub server_takes :
@@ -47,8 +47,8 @@ coord_takes plan coords number s after msg answer before out within is outcome =
 
 pub coord_submits :
     (plan : Plan) (coords : List CoordState) (number proc : ℕ) (args : List ℤ) (s after : CoordState) (answer : Result TxnId SubmitFault) (before out : Collected) → number < length coords → s ≡ get_or coords number s
-    → UnlessStopped answer (IsSubmitted (after_submit plan s proc args) answer after before out) → UnlessStopped answer (CoordSubmits plan number proc args answer coords (slice_set coords number after) before out)
-coord_submits plan coords number proc args s after answer before out within is = unless_stopped answer (λ submitted.
+    → UnlessNoMemory answer (IsSubmitted (after_submit plan s proc args) answer after before out) → UnlessNoMemory answer (CoordSubmits plan number proc args answer coords (slice_set coords number after) before out)
+coord_submits plan coords number proc args s after answer before out within is = unless_no_memory answer (λ submitted.
     record {
       coord = s;
       there = slice_get-get_or coords number s within ∙ ap Some (sym is);
@@ -56,11 +56,10 @@ coord_submits plan coords number proc args s after answer before out within is =
       others = ap (slice_set coords number) submitted.state;
     })
   where
-    unless_stopped : {P Q : Type 0} (a : Result TxnId SubmitFault) → (P → Q) → UnlessStopped a P → UnlessStopped a Q
-    unless_stopped (Ok id) f p = f p
-    unless_stopped (Err fault.Stopped) f p = p
-    unless_stopped (Err fault.NoMemory) f p = p
-    unless_stopped (Err fault.NoProc) f p = f p
-    unless_stopped (Err fault.Args) f p = f p
-    unless_stopped (Err fault.Spent) f p = f p
-    unless_stopped (Err fault.Busy) f p = f p
+    unless_no_memory : {P Q : Type 0} (a : Result TxnId SubmitFault) → (P → Q) → UnlessNoMemory a P → UnlessNoMemory a Q
+    unless_no_memory (Ok id) f p = f p
+    unless_no_memory (Err fault.NoMemory) f p = p
+    unless_no_memory (Err fault.NoProc) f p = f p
+    unless_no_memory (Err fault.Args) f p = f p
+    unless_no_memory (Err fault.Spent) f p = f p
+    unless_no_memory (Err fault.Busy) f p = f p

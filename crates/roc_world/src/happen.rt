@@ -66,8 +66,7 @@ fn submit(
         Ok(id) => note_submitted(parts, coord, id, proc, args, outbox),
         Err(SubmitFault::Spent) => Ok(Seen::Spent),
         Err(SubmitFault::Busy) => Ok(Seen::Busy),
-        // A coordinator stops where it found no memory, and no world is kept that did.
-        Err(SubmitFault::Stopped | SubmitFault::NoMemory) => Err(NoMemory),
+        Err(SubmitFault::NoMemory) => Err(NoMemory),
         Err(SubmitFault::NoProc | SubmitFault::Args) => unreachable!(),
     }
 }
@@ -192,6 +191,7 @@ fn server_seen(handled: ServerHandled) -> Seen
 {
     match handled {
         ServerHandled::Done => Seen::Done,
+        ServerHandled::Gone => Seen::Gone,
         ServerHandled::Ignored(reason) => Seen::Ignored(reason),
     }
 }

@@ -1,12 +1,11 @@
-//! The servers and the coordinators, of which one takes what comes. A node that stopped, now or before, is answered as want of memory:
-//! a node stops only where it found none, and no world that did is kept.
+//! The servers and the coordinators, of which one takes what comes.
 ghost use Rattle.std.specs.Prelude.{◌≡◌, ◌<◌, length, map, IfOk, OnOk};
 ghost use Rattle.std.specs.List.{AllByRecursion, range_with_len};
 ghost use Rattle.roc_server.specs.First.{first_server};
 ghost use Rattle.roc_server.specs.Fits.{ServerFits};
 ghost use Rattle.roc_coord.specs.State.{first_coord};
 ghost use Rattle.roc_coord.specs.Fits.{CoordFits};
-ghost use Rattle.roc_coord.specs.Submit.{UnlessStopped};
+ghost use Rattle.roc_coord.specs.Submit.{UnlessNoMemory};
 ghost use Rattle.roc_world.specs.Inner.Nodes.{ServerTakes, CoordTakes, CoordSubmits, ServerTicks, CoordTicks};
 
 use roc_base::{NoMemory, Shard, TxnId};
@@ -85,7 +84,7 @@ pub(crate) fn submit_at(
 ) -> Result<TxnId, SubmitFault>
     requires exists { number < length coords.old.items }
     requires fits { AllByRecursion (CoordFits plan.now) coords.old.items }
-    ensures { UnlessStopped result (CoordSubmits plan.now number proc args.now result coords.old.items coords.new.items outbox.old outbox.new) }
+    ensures { UnlessNoMemory result (CoordSubmits plan.now number proc args.now result coords.old.items coords.new.items outbox.old outbox.new) }
 {
     coords[number as usize].submit(plan, proc, args, outbox)
 }

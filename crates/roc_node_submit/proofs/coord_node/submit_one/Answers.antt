@@ -22,9 +22,6 @@ returns-in_err-append-in-Ok-clause-fits c = c.submit.ensures.fits
 pub returns-in-Err-NoMemory : goal.returns-in-Err-NoMemory
 returns-in-Err-NoMemory c = record { submits = tt; fits = c.submit.ensures.fits }
 
-pub returns-in-Err-Stopped : goal.returns-in-Err-Stopped
-returns-in-Err-Stopped c = record { submits = tt; fits = c.submit.ensures.fits }
-
 pub returns-in-Err-NoProc : goal.returns-in-Err-NoProc
 returns-in-Err-NoProc c = record {
   submits = submits_refused _ c.args.request.now c.in-Some.proc c.in-Err-NoProc.field-0 _ _ _ c.args.outbox.now c.submit.new.outbox _ c.as_bytes.result.now c.as_slice.result.now c.as_bytes.ensures c.in-Some.ensures c.as_slice.ensures c.in-Err-NoProc.field-0-is c.in-Err-NoProc.ensures.step (λ h. h);
