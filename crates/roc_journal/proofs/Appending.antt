@@ -10,12 +10,12 @@ use Rattle.roc_journal.specs.declared.journal.Journal.{Journal}
 use Rattle.roc_journal.specs.declared.record.Record.{Record}
 use Rattle.roc_journal.specs.Format.{record_bytes, IsRecordOf}
 use Rattle.roc_journal.specs.Inner.Steps.{IsThrough}
-use Rattle.roc_journal.specs.Settled.{IsDurable, IsSettled, IsBeforeOrAfter}
+use Rattle.roc_journal.specs.Settled.{IsDurable, IsSynced, IsBeforeOrAfter}
 use Rattle.roc_journal.proofs.Ends.{size_of_end, torn_behind, put_behind, torn_gate, put_gate}
 use Rattle.roc_journal.proofs.Records.{front, one_or_other, all_more, gate_moves, front_size}
 
 module _ {D : Type 0} (disk : DiskOf D) (name tag : List ℕ) (records : List Record) (added : Record) (journal : Journal) (bytes : List ℕ)
-    (is_of : IsRecordOf tag added) (text : bytes ≡ record_bytes added ++ 0 ∷ []) (old : D) (settled : IsSettled disk old name tag records journal) where
+    (is_of : IsRecordOf tag added) (text : bytes ≡ record_bytes added ++ 0 ∷ []) (old : D) (settled : IsSynced disk old name tag records journal) where
   abbrev pub held : List ℕ
   held = front tag records ++ settled.rests.gate ∷ []
 
@@ -67,7 +67,7 @@ module _ {D : Type 0} (disk : DiskOf D) (name tag : List ℕ) (records : List Re
       (weaker disk name mid new (Torn journal.gate 1 staged) (IsBeforeOrAfter tag records added) torn_second through.leaves)
 
   pub second_done : (new : D) (after : Journal) → after.gate ≡ journal.gate + length bytes → IsDurable disk new name (put staged journal.gate (1 ∷ []))
-      → IsSettled disk new name tag (records ++ added ∷ []) after
+      → IsSynced disk new name tag (records ++ added ∷ []) after
   second_done new after grown durable =
       let is_open : put staged journal.gate (1 ∷ []) ≡ front tag (records ++ added ∷ []) ++ 0 ∷ [] =
       ap (λ k. put staged k (1 ∷ [])) settled.gate ∙ put_gate (front tag records) settled.rests.gate 1 bytes

@@ -9,7 +9,7 @@ use Rattle.roc_journal.specs.declared.journal.Journal.{Journal}
 use Rattle.roc_journal.specs.declared.record.Record.{Record}
 use Rattle.roc_journal.specs.Format.{IsJournal}
 use Rattle.roc_journal.specs.Inner.Steps.{IsThrough}
-use Rattle.roc_journal.specs.Settled.{IsDurable, IsSettled}
+use Rattle.roc_journal.specs.Settled.{IsDurable, IsSynced}
 use Rattle.roc_journal.proofs.Ends.{cut_behind, take_behind}
 use Rattle.roc_journal.proofs.Records.{front}
 
@@ -31,7 +31,7 @@ module _ {D : Type 0} (disk : DiskOf D) (name tag bytes : List ℕ) (records : L
       })
       through.leaves
 
-  pub cut_done : (new : D) (made : Journal) → made.gate ≡ place → IsDurable disk new name (take (place + 1) bytes) → IsSettled disk new name tag records made
+  pub cut_done : (new : D) (made : Journal) → made.gate ≡ place → IsDurable disk new name (take (place + 1) bytes) → IsSynced disk new name tag records made
   cut_done new made same durable =
       let is = ap (λ k. take (k + 1) bytes) at ∙ ap (λ (l : List ℕ). take (length (front tag records) + 1) l) journal.is ∙ take_behind (front tag records) journal.gate journal.behind in
       record {

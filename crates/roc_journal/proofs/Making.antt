@@ -11,7 +11,7 @@ use Rattle.roc_journal.specs.declared.journal.Journal.{Journal}
 use Rattle.roc_journal.specs.declared.record.Record.{Record}
 use Rattle.roc_journal.specs.Format.{magic, head, record_bytes, opened, IsJournal}
 use Rattle.roc_journal.specs.Inner.Steps.{IsThrough}
-use Rattle.roc_journal.specs.Settled.{IsDurable, IsSettled, IsUnmade}
+use Rattle.roc_journal.specs.Settled.{IsDurable, IsSynced, IsUnmade}
 use Rattle.roc_journal.proofs.Records.{front, record_size}
 
 -- so short a file holds no record
@@ -48,7 +48,7 @@ module _ {D : Type 0} (disk : DiskOf D) (name tag blank : List ℕ) (eight : len
       joined disk name old mid new (IsUnmade tag) first
       (weaker disk name mid new (Torn 0 4 whole) (IsUnmade tag) (λ image torn. unmade tag image eight (omega (arith, torn.no_longer, whole_size))) through.leaves)
 
-  pub second_done : (new : D) (journal : Journal) → journal.gate ≡ 12 → IsDurable disk new name (put whole 0 magic) → IsSettled disk new name tag [] journal
+  pub second_done : (new : D) (journal : Journal) → journal.gate ≡ 12 → IsDurable disk new name (put whole 0 magic) → IsSynced disk new name tag [] journal
   second_done new journal twelve durable =
       let is_whole : put whole 0 magic ≡ front tag [] ++ 0 ∷ [] = ap (λ (l : List ℕ). l ++ 0 ∷ []) (sym (append-nil (head tag))) in
       record {

@@ -7,7 +7,7 @@ use Rattle.roc_journal.specs.declared.reader.Reader.{Reader}
 use Rattle.roc_journal.specs.declared.record.Record.{Record}
 use Rattle.roc_journal.specs.Format.{datagram_of, record_bytes, IsRecordOf, IsJournal}
 use Rattle.roc_journal.specs.Faults.{BeginsRecord, IsFault, record_is_bad}
-use Rattle.roc_journal.specs.Inner.Pieces.{IsOpenAt, IsFound}
+use Rattle.roc_journal.specs.Inner.Pieces.{HasOpenGate, IsFound}
 use Rattle.roc_journal.specs.Reading.{IsReadTo}
 use Rattle.roc_journal.proofs.Beginnings.{datagram_size, told_length, told_datagram, told_size, begins_with}
 use Rattle.roc_journal.proofs.Ends.{size_of_end, split_end, first_of}
@@ -17,7 +17,7 @@ module _ (bytes : List ℕ) (records : List Record) (reader : Reader) where
   gate_stands : (gate : ℕ) (behind : List ℕ) → bytes ≡ front reader.tag records ++ gate ∷ behind → reader.gate ≡ length (front reader.tag records) → drop reader.gate bytes ≡ gate ∷ behind
   gate_stands gate behind is place = ap (λ (l : List ℕ). drop reader.gate l) is ∙ drop_at (front reader.tag records) (gate ∷ behind) reader.gate (sym place)
 
-  pub as_open : (r : IsReadTo bytes records reader) → 1 ∷ [] ≡ take 1 (drop reader.gate bytes) → IsOpenAt bytes records reader r.behind
+  pub as_open : (r : IsReadTo bytes records reader) → 1 ∷ [] ≡ take 1 (drop reader.gate bytes) → HasOpenGate bytes records reader r.behind
   as_open r e =
       let one : 1 ≡ r.gate_byte = cc (e ∙ ap (λ (l : List ℕ). take 1 l) (gate_stands r.gate_byte r.behind r.is r.gate)) in
       record { each = r.each; is = r.is ∙ ap (λ byte. front reader.tag records ++ byte ∷ r.behind) (sym one); gate = r.gate }
@@ -27,7 +27,7 @@ module _ (bytes : List ℕ) (records : List Record) (reader : Reader) where
       let same : byte ≡ r.gate_byte = cc (e ∙ ap (λ (l : List ℕ). take 1 l) (gate_stands r.gate_byte r.behind r.is r.gate)) in
       record { each = r.each; gate = r.gate_byte; closed = λ one. other (same ∙ one); behind = r.behind; is = r.is }
 
-  module _ (behind : List ℕ) (open_at : IsOpenAt bytes records reader behind) where
+  module _ (behind : List ℕ) (open_at : HasOpenGate bytes records reader behind) where
     pub open_size : length bytes ≡ reader.gate + 1 + length behind
     open_size = omega (arith, open_at.gate, ap length open_at.is, length-append (front reader.tag records) (1 ∷ behind))
 

@@ -8,18 +8,18 @@ use Rattle.std.proofs.lemmas.List.{append-nil, length-take-le}
 use Rattle.std.proofs.lemmas.Nat.{be_bytes_4}
 use Rattle.std.proofs.lemmas.Slice.Eq.{bytes_eq-Decides}
 use Rattle.roc_wire.specs.Laws.{IsRight, IsWrong}
-use Rattle.roc_wire.specs.Reading.{IsBytes as AreBytes}
+use Rattle.roc_wire.specs.Reading.{IsBytes}
 use Rattle.roc_journal.specs.declared.record.Record.{Record}
 use Rattle.roc_journal.specs.Format.{magic, head, datagram_of, record_bytes, IsRecordOf}
 use Rattle.roc_journal.specs.Faults.{BeginsRecord, magic_is_wrong, tag_is_wrong, gate_is_missing, record_is_bad}
-use Rattle.roc_journal.specs.Laws.{IsBytes, HasRecords, HasFault}
+use Rattle.roc_journal.specs.Laws.{HasRecords, HasFault}
 use Rattle.roc_journal.proofs.Beginnings.{SpelledApart, datagram_is, told_length, told_datagram, told_rest, told_size, begins_with}
 use Rattle.roc_journal.proofs.Ends.{first_of}
 use Rattle.roc_journal.proofs.Records.{front, one_or_other, all_more, gate_moves}
 
 -- the law of datagrams that is needed here
 abbrev pub RightOrWrong : Type 0
-RightOrWrong = (bytes : List ℕ) → AreBytes bytes → IsRight bytes ⊎ IsWrong bytes
+RightOrWrong = (bytes : List ℕ) → IsBytes bytes → IsRight bytes ⊎ IsWrong bytes
 
 less_or_not : (a b : ℕ) → (a < b) ⊎ (b ≤ a)
 less_or_not zero zero = inr (omega arith)

@@ -1,12 +1,8 @@
 -- What holds of all files
-use Rattle.std.specs.Prelude.{ℕ, List, get_or, ◌<◌}
+use Rattle.std.specs.Prelude.{ℕ, List}
 use Rattle.roc_journal.specs.declared.record.Record.{Record}
 use Rattle.roc_journal.specs.Format.{IsJournal}
 use Rattle.roc_journal.specs.Faults.{IsFault}
-
--- each is a byte
-abbrev pub IsBytes : List ℕ → Type 0
-IsBytes bytes = (i : ℕ) → get_or bytes i 0 < 256
 
 -- the bytes are a journal of some records
 pub record HasRecords (tag bytes : List ℕ) : Type 0 where

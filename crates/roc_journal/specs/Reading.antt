@@ -17,29 +17,29 @@ pub record IsReadTo (bytes : List ℕ) (records : List Record) (reader : Reader)
   pub gate : reader.gate ≡ length (head reader.tag ++ opened records)
 
 -- the place of a reader's gate lies within the file
-abbrev pub IsWithin : Reader → Type 0
-IsWithin reader = reader.gate < reader.len
+abbrev pub IsGateWithin : Reader → Type 0
+IsGateWithin reader = reader.gate < reader.len
 
 -- what came of reading on: a record with the place of its length, the end of the journal, or the fault that the file has
-abbrev pub Gives : (bytes : List ℕ) → List Record → (old new : Reader) → Result (Option (ℕ × Record)) ReadFault → Type 0
-Gives bytes records old new (Ok (Some (at, found))) = (at ≡ length (head old.tag ++ opened records) + 1) × IsReadTo bytes (records ++ found ∷ []) new
-Gives bytes records old new (Ok None) = IsJournal old.tag bytes records
-Gives bytes records old new (Err (NoJournal at)) = IsFault old.tag bytes at
-Gives bytes records old new (Err Disk) = Unit {0}
-Gives bytes records old new (Err NoMemory) = Unit {0}
+abbrev pub ReadsNext : (bytes : List ℕ) → List Record → (old new : Reader) → Result (Option (ℕ × Record)) ReadFault → Type 0
+ReadsNext bytes records old new (Ok (Some (at, found))) = (at ≡ length (head old.tag ++ opened records) + 1) × IsReadTo bytes (records ++ found ∷ []) new
+ReadsNext bytes records old new (Ok None) = IsJournal old.tag bytes records
+ReadsNext bytes records old new (Err (NoJournal at)) = IsFault old.tag bytes at
+ReadsNext bytes records old new (Err Disk) = Unit {0}
+ReadsNext bytes records old new (Err NoMemory) = Unit {0}
 
 -- what the file does not say: a reader stands at a gate of a file of its own tag, and opening takes no memory
-abbrev pub StartsRight : (tag : List ℕ) → Result (Option Reader) ReadFault → Type 0
-StartsRight tag (Ok (Some reader)) = (reader.tag ≡ tag) × IsWithin reader
-StartsRight tag (Ok None) = Unit {0}
-StartsRight tag (Err (NoJournal at)) = Unit {0}
-StartsRight tag (Err Disk) = Unit {0}
-StartsRight tag (Err NoMemory) = ⊥
+abbrev pub OpensRight : (tag : List ℕ) → Result (Option Reader) ReadFault → Type 0
+OpensRight tag (Ok (Some reader)) = (reader.tag ≡ tag) × IsGateWithin reader
+OpensRight tag (Ok None) = Unit {0}
+OpensRight tag (Err (NoJournal at)) = Unit {0}
+OpensRight tag (Err Disk) = Unit {0}
+OpensRight tag (Err NoMemory) = ⊥
 
 -- what came of opening a file of these bytes: a reader of all of it that has read no record, the fault of the head, or that it is empty
-abbrev pub Starts : (tag bytes : List ℕ) → Result (Option Reader) ReadFault → Type 0
-Starts tag bytes (Ok (Some reader)) = (reader.len ≡ length bytes) × IsReadTo bytes [] reader
-Starts tag bytes (Ok None) = bytes ≡ []
-Starts tag bytes (Err (NoJournal at)) = ¬ (bytes ≡ []) × IsFault tag bytes at
-Starts tag bytes (Err Disk) = Unit {0}
-Starts tag bytes (Err NoMemory) = ⊥
+abbrev pub Opens : (tag bytes : List ℕ) → Result (Option Reader) ReadFault → Type 0
+Opens tag bytes (Ok (Some reader)) = (reader.len ≡ length bytes) × IsReadTo bytes [] reader
+Opens tag bytes (Ok None) = bytes ≡ []
+Opens tag bytes (Err (NoJournal at)) = ¬ (bytes ≡ []) × IsFault tag bytes at
+Opens tag bytes (Err Disk) = Unit {0}
+Opens tag bytes (Err NoMemory) = ⊥

@@ -13,7 +13,7 @@ pub record IsDurable {D : Type 0} (disk : DiskOf D) (now : D) (name bytes : List
   pub only : Only bytes (disk.may_leave now name)
 
 -- The open file has this name and is a journal of these records, with nothing behind it and all of it on the disk.
-pub record IsSettled {D : Type 0} (disk : DiskOf D) (now : D) (name tag : List ℕ) (records : List Record) (journal : Journal) : Type 0 where
+pub record IsSynced {D : Type 0} (disk : DiskOf D) (now : D) (name tag : List ℕ) (records : List Record) (journal : Journal) : Type 0 where
   pub file : disk.file now ≡ Some name
   pub rests : IsAtRest tag (disk.content now name) records
   pub gate : journal.gate ≡ length (head tag ++ opened records)

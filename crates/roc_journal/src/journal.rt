@@ -5,7 +5,7 @@ ghost use Rattle.roc_disk.specs.Over.{LeavesOnly};
 ghost use Rattle.roc_disk.specs.Stops.{Only};
 ghost use Rattle.roc_journal.specs.Answers.{has_room, append_failed, is_full};
 ghost use Rattle.roc_journal.specs.Format.{record_bytes, IsRecordOf};
-ghost use Rattle.roc_journal.specs.Settled.{IsSettled, IsBeforeOrAfter, IsUnmade};
+ghost use Rattle.roc_journal.specs.Settled.{IsSynced, IsBeforeOrAfter, IsUnmade};
 ghost use Rattle.roc_journal.specs.declared.record.Record.{Record as RecordValue};
 
 use crate::AppendFault;
@@ -45,7 +45,7 @@ impl Journal {
         ensures cause { HasCause (is_none result) (D.faults disk.old) (D.faults disk.new) }
         ensures told { D.tells disk.new ≡ true → D.tells disk.old ≡ true }
         ensures made { D.tells disk.new ≡ true → (name : List ℕ) → D.file disk.old ≡ Some name → D.content disk.old name ≡ [] → Only [] (D.may_leave disk.old name)
-            → IfSome result (λ journal. IsSettled D.Disk disk.new name tag [] journal) }
+            → IfSome result (λ journal. IsSynced D.Disk disk.new name tag [] journal) }
         ensures any_moment { D.tells disk.new ≡ true → (name : List ℕ) → D.file disk.old ≡ Some name → D.content disk.old name ≡ [] → Only [] (D.may_leave disk.old name)
             → LeavesOnly D.Disk disk.old disk.new name (IsUnmade tag) }
     {
@@ -75,10 +75,10 @@ impl Journal {
         ensures full { is_full result ≡ not (has_room self.old bytes.now) }
         ensures untouched { is_full result ≡ true → disk.new ≡ disk.old }
         ensures unchanged { OnErr result (self.new ≡ self.old) }
-        ensures appended { D.tells disk.new ≡ true → (name tag : List ℕ) (records : List RecordValue) (added : RecordValue) → IsSettled D.Disk disk.old name tag records self.old
-            → IsRecordOf tag added → bytes.now ≡ record_bytes added ++ 0 ∷ [] → OnOk result (IsSettled D.Disk disk.new name tag (records ++ added ∷ []) self.new) }
+        ensures appended { D.tells disk.new ≡ true → (name tag : List ℕ) (records : List RecordValue) (added : RecordValue) → IsSynced D.Disk disk.old name tag records self.old
+            → IsRecordOf tag added → bytes.now ≡ record_bytes added ++ 0 ∷ [] → OnOk result (IsSynced D.Disk disk.new name tag (records ++ added ∷ []) self.new) }
         // A stop at any moment of the call leaves the records from before it, with the new one or without.
-        ensures any_moment { D.tells disk.new ≡ true → (name tag : List ℕ) (records : List RecordValue) (added : RecordValue) → IsSettled D.Disk disk.old name tag records self.old
+        ensures any_moment { D.tells disk.new ≡ true → (name tag : List ℕ) (records : List RecordValue) (added : RecordValue) → IsSynced D.Disk disk.old name tag records self.old
             → IsRecordOf tag added → bytes.now ≡ record_bytes added ++ 0 ∷ [] → LeavesOnly D.Disk disk.old disk.new name (IsBeforeOrAfter tag records added) }
     {
         if !self.fits(bytes) {

@@ -2,7 +2,8 @@
 ghost use Rattle.std.specs.Prelude.{◌≡◌, ◌⊎◌, ℕ, List, length};
 ghost use Rattle.roc_journal.specs.Faults.{IsFault};
 ghost use Rattle.roc_journal.specs.Format.{IsJournal};
-ghost use Rattle.roc_journal.specs.Laws.{IsBytes, HasRecords, HasFault};
+ghost use Rattle.roc_journal.specs.Laws.{HasRecords, HasFault};
+ghost use Rattle.roc_wire.specs.Reading.{IsBytes};
 ghost use Rattle.roc_journal.specs.declared.record.Record.{Record};
 
 use roc_wire::laws::{right_or_wrong, spelled_apart};

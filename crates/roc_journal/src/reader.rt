@@ -4,10 +4,10 @@ ghost use Rattle.std.specs.Int.{w32, to_be_bytes, from_be_bytes};
 ghost use Rattle.roc_io.specs.Cause.{HasCause};
 ghost use Rattle.roc_disk.specs.Over.{LeavesOnly, Stays};
 ghost use Rattle.roc_journal.specs.Format.{magic, IsJournal};
-ghost use Rattle.roc_journal.specs.Settled.{IsDurable, IsSettled};
+ghost use Rattle.roc_journal.specs.Settled.{IsDurable, IsSynced};
 ghost use Rattle.roc_journal.specs.Answers.{read_failed};
-ghost use Rattle.roc_journal.specs.Inner.Pieces.{IsOpenAt};
-ghost use Rattle.roc_journal.specs.Reading.{IsReadTo, IsWithin, Gives, StartsRight, Starts};
+ghost use Rattle.roc_journal.specs.Inner.Pieces.{HasOpenGate};
+ghost use Rattle.roc_journal.specs.Reading.{IsReadTo, IsGateWithin, ReadsNext, OpensRight, Opens};
 ghost use Rattle.roc_journal.specs.declared.record.Record.{Record as RecordValue};
 
 use crate::pieces::{byte_at, eight_at, four_at, number_at, read_at, record_in, synced_len, zeros};
@@ -34,8 +34,8 @@ impl Reader {
         ensures cause { HasCause (read_failed result) (D.faults disk.old) (D.faults disk.new) }
         ensures told { D.tells disk.new ≡ true → D.tells disk.old ≡ true }
         ensures stays { D.tells disk.new ≡ true → Stays D.Disk disk.old disk.new }
-        ensures right { StartsRight tag result }
-        ensures started { D.tells disk.new ≡ true → (name : List ℕ) → D.file disk.old ≡ Some name → Starts tag (D.content disk.old name) result }
+        ensures right { OpensRight tag result }
+        ensures started { D.tells disk.new ≡ true → (name : List ℕ) → D.file disk.old ≡ Some name → Opens tag (D.content disk.old name) result }
         ensures durable { D.tells disk.new ≡ true → (name : List ℕ) → D.file disk.old ≡ Some name → read_failed result ≡ false
             → IsDurable D.Disk disk.new name (D.content disk.old name) }
     {
@@ -56,14 +56,14 @@ impl Reader {
         alloc: Global,
         disk: &mut D,
     ) -> Result<Option<(u64, Record)>, ReadFault>
-        requires within { IsWithin self.old }
+        requires within { IsGateWithin self.old }
         requires len { D.tells disk.old ≡ true → (name : List ℕ) → D.file disk.old ≡ Some name → self.old.len ≡ length (D.content disk.old name) }
         ensures cause { HasCause (read_failed result) (D.faults disk.old) (D.faults disk.new) }
         ensures told { D.tells disk.new ≡ true → D.tells disk.old ≡ true }
         ensures stays { D.tells disk.new ≡ true → Stays D.Disk disk.old disk.new }
-        ensures same { (self.new.tag ≡ self.old.tag) × (self.new.len ≡ self.old.len) × IsWithin self.new }
+        ensures same { (self.new.tag ≡ self.old.tag) × (self.new.len ≡ self.old.len) × IsGateWithin self.new }
         ensures read { D.tells disk.new ≡ true → (name : List ℕ) → D.file disk.old ≡ Some name → (records : List RecordValue)
-            → IsReadTo (D.content disk.old name) records self.old → Gives (D.content disk.old name) records self.old self.new result }
+            → IsReadTo (D.content disk.old name) records self.old → ReadsNext (D.content disk.old name) records self.old self.new result }
     {
         match byte_at(disk, self.gate) {
             None => Err(ReadFault::Disk),
@@ -79,11 +79,11 @@ impl Reader {
 
     /// The journal whose end was read. What stands behind its closed gate is cut. `None` where the disk failed.
     pub fn into_journal<D: Disk>(self, disk: &mut D) -> Option<Journal>
-        requires { IsWithin self }
+        requires { IsGateWithin self }
         ensures cause { HasCause (is_none result) (D.faults disk.old) (D.faults disk.new) }
         ensures told { D.tells disk.new ≡ true → D.tells disk.old ≡ true }
         ensures settled { D.tells disk.new ≡ true → (name bytes : List ℕ) (records : List RecordValue) → IsDurable D.Disk disk.old name bytes
-            → IsReadTo bytes records self → IsJournal self.tag bytes records → IfSome result (λ journal. IsSettled D.Disk disk.new name self.tag records journal) }
+            → IsReadTo bytes records self → IsJournal self.tag bytes records → IfSome result (λ journal. IsSynced D.Disk disk.new name self.tag records journal) }
         // A stop at any moment of the call leaves the same records.
         ensures any_moment { D.tells disk.new ≡ true → (name bytes : List ℕ) (records : List RecordValue) → IsDurable D.Disk disk.old name bytes
             → IsReadTo bytes records self → IsJournal self.tag bytes records → LeavesOnly D.Disk disk.old disk.new name (λ image. IsJournal self.tag image records) }
@@ -105,8 +105,8 @@ impl Reader {
         ensures cause { HasCause (read_failed result) (D.faults disk.old) (D.faults disk.new) }
         ensures told { D.tells disk.new ≡ true → D.tells disk.old ≡ true }
         ensures stays { D.tells disk.new ≡ true → Stays D.Disk disk.old disk.new }
-        ensures right { StartsRight tag result }
-        ensures started { D.tells disk.new ≡ true → (name : List ℕ) → D.file disk.old ≡ Some name → Starts tag (D.content disk.old name) result }
+        ensures right { OpensRight tag result }
+        ensures started { D.tells disk.new ≡ true → (name : List ℕ) → D.file disk.old ≡ Some name → Opens tag (D.content disk.old name) result }
     {
         if len < 4 {
             return Err(ReadFault::Journal(0));
@@ -130,9 +130,9 @@ impl Reader {
         ensures cause { HasCause (read_failed result) (D.faults disk.old) (D.faults disk.new) }
         ensures told { D.tells disk.new ≡ true → D.tells disk.old ≡ true }
         ensures stays { D.tells disk.new ≡ true → Stays D.Disk disk.old disk.new }
-        ensures right { StartsRight tag result }
+        ensures right { OpensRight tag result }
         ensures started { D.tells disk.new ≡ true → (name : List ℕ) → D.file disk.old ≡ Some name → take 4 (D.content disk.old name) ≡ magic
-            → Starts tag (D.content disk.old name) result }
+            → Opens tag (D.content disk.old name) result }
     {
         if len < 12 {
             return Err(ReadFault::Journal(4));
@@ -153,8 +153,8 @@ impl Reader {
     fn open_gate(tag: [u8; 8], len: u64) -> Result<Option<Reader>, ReadFault>
         requires { 12 ≤ len }
         ensures no_disk { read_failed result ≡ false }
-        ensures right { StartsRight tag result }
-        ensures started { (bytes : List ℕ) → len ≡ length bytes → take 4 bytes ≡ magic → take 8 (drop 4 bytes) ≡ tag → Starts tag bytes result }
+        ensures right { OpensRight tag result }
+        ensures started { (bytes : List ℕ) → len ≡ length bytes → take 4 bytes ≡ magic → take 8 (drop 4 bytes) ≡ tag → Opens tag bytes result }
     {
         if len == 12 {
             return Err(ReadFault::Journal(12));
@@ -168,14 +168,14 @@ impl Reader {
         alloc: Global,
         disk: &mut D,
     ) -> Result<Option<(u64, Record)>, ReadFault>
-        requires within { IsWithin self.old }
+        requires within { IsGateWithin self.old }
         requires len { D.tells disk.old ≡ true → (name : List ℕ) → D.file disk.old ≡ Some name → self.old.len ≡ length (D.content disk.old name) }
         ensures cause { HasCause (read_failed result) (D.faults disk.old) (D.faults disk.new) }
         ensures told { D.tells disk.new ≡ true → D.tells disk.old ≡ true }
         ensures stays { D.tells disk.new ≡ true → Stays D.Disk disk.old disk.new }
-        ensures same { (self.new.tag ≡ self.old.tag) × (self.new.len ≡ self.old.len) × IsWithin self.new }
+        ensures same { (self.new.tag ≡ self.old.tag) × (self.new.len ≡ self.old.len) × IsGateWithin self.new }
         ensures read { D.tells disk.new ≡ true → (name : List ℕ) → D.file disk.old ≡ Some name → (records : List RecordValue) (behind : List ℕ)
-            → IsOpenAt (D.content disk.old name) records self.old behind → Gives (D.content disk.old name) records self.old self.new result }
+            → HasOpenGate (D.content disk.old name) records self.old behind → ReadsNext (D.content disk.old name) records self.old self.new result }
     {
         if self.len - self.gate < 5 {
             return Err(ReadFault::Journal(self.gate + 1));
@@ -206,10 +206,10 @@ impl Reader {
         ensures cause { HasCause (read_failed result) (D.faults disk.old) (D.faults disk.new) }
         ensures told { D.tells disk.new ≡ true → D.tells disk.old ≡ true }
         ensures stays { D.tells disk.new ≡ true → Stays D.Disk disk.old disk.new }
-        ensures same { (self.new.tag ≡ self.old.tag) × (self.new.len ≡ self.old.len) × IsWithin self.new }
+        ensures same { (self.new.tag ≡ self.old.tag) × (self.new.len ≡ self.old.len) × IsGateWithin self.new }
         ensures read { D.tells disk.new ≡ true → (name : List ℕ) → D.file disk.old ≡ Some name → (records : List RecordValue) (behind : List ℕ)
-            → IsOpenAt (D.content disk.old name) records self.old behind → n ≡ from_be_bytes w32 (take 4 behind) → to_be_bytes w32 n ≡ take 4 behind
-            → Gives (D.content disk.old name) records self.old self.new result }
+            → HasOpenGate (D.content disk.old name) records self.old behind → n ≡ from_be_bytes w32 (take 4 behind) → to_be_bytes w32 n ≡ take 4 behind
+            → ReadsNext (D.content disk.old name) records self.old self.new result }
     {
         let Ok(mut datagram) = zeros(alloc, n as usize) else {
             return Err(ReadFault::NoMemory);
@@ -224,10 +224,10 @@ impl Reader {
     fn judge(&mut self, alloc: Global, datagram: &[u8]) -> Result<Option<(u64, Record)>, ReadFault>
         requires { self.old.gate + 5 + length datagram.now < self.old.len }
         ensures no_disk { read_failed result ≡ false }
-        ensures same { (self.new.tag ≡ self.old.tag) × (self.new.len ≡ self.old.len) × IsWithin self.new }
-        ensures read { (bytes : List ℕ) (records : List RecordValue) (behind : List ℕ) → IsOpenAt bytes records self.old behind → self.old.len ≡ length bytes
+        ensures same { (self.new.tag ≡ self.old.tag) × (self.new.len ≡ self.old.len) × IsGateWithin self.new }
+        ensures read { (bytes : List ℕ) (records : List RecordValue) (behind : List ℕ) → HasOpenGate bytes records self.old behind → self.old.len ≡ length bytes
             → length datagram.now ≡ from_be_bytes w32 (take 4 behind) → to_be_bytes w32 (length datagram.now) ≡ take 4 behind
-            → datagram.now ≡ take (length datagram.now) (drop 4 behind) → Gives bytes records self.old self.new result }
+            → datagram.now ≡ take (length datagram.now) (drop 4 behind) → ReadsNext bytes records self.old self.new result }
     {
         match record_in(alloc, self.tag, datagram) {
             Err(_) => Err(ReadFault::NoMemory),

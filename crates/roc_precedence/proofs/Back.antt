@@ -19,11 +19,11 @@ use Rattle.roc_depgraph.specs.Visits.{Visits}
 use Rattle.roc_depgraph.proofs.Listed.{has_from_listed, listed_from_has, listed_one, in_one}
 use Rattle.roc_depgraph.proofs.Visited.{visits_none}
 use Rattle.roc_depgraph.proofs.Walk.{named_ids, named_from}
-use Rattle.roc_precedence.specs.Inner.Rounds.{Walks, IsNearer, IsLevel, AreFound, LeadsInto, StepsBack, IsWithin, IsOver, AreLevels, HasNoRound, IsRoundWithin}
+use Rattle.roc_precedence.specs.Inner.Rounds.{Walks, IsNearer, IsLevel, AreFound, LeadsInto, StepsBack, IsWithinMost, IsOver, AreLevels, HasNoRound, IsRoundWithin}
 
 -- ---- one level behind another
 
-pub within_less : (most : Option ℕ) (a b : ℕ) → IsWithin most b → a ≤ b → IsWithin most a
+pub within_less : (most : Option ℕ) (a b : ℕ) → IsWithinMost most b → a ≤ b → IsWithinMost most a
 within_less None a b h k = tt
 within_less (Some m) a b h k = omega arith
 
@@ -129,7 +129,7 @@ module _ (E : TxnId → TxnId → Type 0) (s : TxnId) where
     settled (suc m) u w = let r = settled m w.0 w.2 in let k = r.1 in up_to (suc r.0) u (omega arith) (w.0, w.1, r.2)
 
   pub none_within : (n : ℕ) (level found : List TxnId) (most : Option ℕ) → AreFound E s n found → IsLevel E s n level → ¬ IsListed is_txn found s
-      → (length level ≡ 0) ⊎ (¬ IsWithin most (suc n)) → HasNoRound E most s
+      → (length level ≡ 0) ⊎ (¬ IsWithinMost most (suc n)) → HasNoRound E most s
   none_within n level found most f l unmet (inl e) j h w = unmet (f.complete s (nearer_more n (suc n) s (omega arith) (settled n level l e j s w)))
   none_within n level found most f l unmet (inr past) j h w =
       elim (cases_lt (suc j) (suc n)) [
@@ -138,14 +138,14 @@ module _ (E : TxnId → TxnId → Type 0) (s : TxnId) where
       ]
 
 -- what the test of an end says, of a level and a number that it was asked of
-pub goes_on : (over : Bool) (met level : List TxnId) (n m : ℕ) (most : Option ℕ) → IsOver met n most over → over ≡ false → met ≡ level → n ≡ m → (0 < length level) × IsWithin most (suc m)
+pub goes_on : (over : Bool) (met level : List TxnId) (n m : ℕ) (most : Option ℕ) → IsOver met n most over → over ≡ false → met ≡ level → n ≡ m → (0 < length level) × IsWithinMost most (suc m)
 goes_on true met level n m most h e f g = absurd (false≢true (sym e))
-goes_on false met level n m most h e f g = (subst (λ (l : List TxnId). 0 < length l) f h.0, subst (λ i. IsWithin most (suc i)) g h.1)
+goes_on false met level n m most h e f g = (subst (λ (l : List TxnId). 0 < length l) f h.0, subst (λ i. IsWithinMost most (suc i)) g h.1)
 
-pub has_ended : (over : Bool) (met level : List TxnId) (n m : ℕ) (most : Option ℕ) → IsOver met n most over → over ≡ true → met ≡ level → n ≡ m → (length level ≡ 0) ⊎ (¬ IsWithin most (suc m))
+pub has_ended : (over : Bool) (met level : List TxnId) (n m : ℕ) (most : Option ℕ) → IsOver met n most over → over ≡ true → met ≡ level → n ≡ m → (length level ≡ 0) ⊎ (¬ IsWithinMost most (suc m))
 has_ended false met level n m most h e f g = absurd (false≢true e)
 has_ended true met level n m most (inl h) e f g = inl (subst (λ (l : List TxnId). length l ≡ 0) f h)
-has_ended true met level n m most (inr h) e f g = inr (subst (λ i. ¬ IsWithin most (suc i)) g h)
+has_ended true met level n m most (inr h) e f g = inr (subst (λ i. ¬ IsWithinMost most (suc i)) g h)
 
 -- ---- a level back by known lists
 
@@ -255,7 +255,7 @@ module _ (known : List KnownList) where
       rising = b.rising is.rising;
     }
 
-    pub round_found : (most : Option ℕ) → IsWithin most (suc (length levels)) → IsListed is_txn found2 s → IsRoundWithin E s most (Some levels2)
+    pub round_found : (most : Option ℕ) → IsWithinMost most (suc (length levels)) → IsListed is_txn found2 s → IsRoundWithin E s most (Some levels2)
     round_found most h k = (
       record {
         back = more_levels;
@@ -263,7 +263,7 @@ module _ (known : List KnownList) where
         closes = subst (λ n. Walks E n s s) longer (closes_now E s (length levels) level found found2 next is.met is.front b is.not_yet k);
         shortest = λ r. is.not_yet (is.met.complete s (subst (λ n. IsNearer E n s s) (sym longer) r));
       },
-      subst (IsWithin most) longer h,
+      subst (IsWithinMost most) longer h,
     )
 
     nearer_named : (n : ℕ) (q : TxnId) → IsNearer E n q s → IsListed is_txn (named_ids known) q
@@ -282,5 +282,5 @@ module _ (known : List KnownList) where
         omega arith
 
   pub search_none : (s : TxnId) (found : List TxnId) (levels : List (List TxnId)) (level : List TxnId) (most : Option ℕ) → IsSearching s found levels level
-      → (length level ≡ 0) ⊎ (¬ IsWithin most (suc (length levels))) → HasNoRound E most s
+      → (length level ≡ 0) ⊎ (¬ IsWithinMost most (suc (length levels))) → HasNoRound E most s
   search_none s found levels level most is over = none_within E s (length levels) level found most is.met is.front is.not_yet over

@@ -15,7 +15,7 @@ use Rattle.roc_base.proofs.Ids.{is_lt-txn_cmp, txn_lt-asym, txn_lt-itself, unlis
 use Rattle.roc_depgraph.proofs.Listed.{listed_one, in_one}
 use Rattle.roc_depgraph.proofs.Searched.{stands_at}
 use Rattle.roc_precedence.specs.declared.rounds.Round.{Round}
-use Rattle.roc_precedence.specs.Inner.Rounds.{Walks, IsNearer, IsWithin, IsRound, HasNoRound, IsFirstRound, IsBestRound, IsRoundWithin, most_of, better as better_of}
+use Rattle.roc_precedence.specs.Inner.Rounds.{Walks, IsNearer, IsWithinMost, IsRound, HasNoRound, IsFirstRound, IsBestRound, IsRoundWithin, most_of, better as better_of}
 use Rattle.roc_precedence.proofs.Back.{within_less}
 
 -- in ids that rise what is before a place is below what is there
@@ -39,14 +39,14 @@ module _ (E : TxnId → TxnId → Type 0) where
   none_shorter taken (Some r) b y l = λ j h w. let s = b.is.some in b.shortest y l (j, omega arith, w)
 
   module _ (taken : List TxnId) (best : Option Round) (x : TxnId) (b : IsBestRound E taken best) (rises : (y : TxnId) → IsListed is_txn taken y → txn_lt y x ≡ true) where
-    module _ (levels : List (List TxnId)) (round : IsRound E x levels) (within : IsWithin (most_of best) (length levels)) where
+    module _ (levels : List (List TxnId)) (round : IsRound E x levels) (within : IsWithinMost (most_of best) (length levels)) where
       none_nearer : (y : TxnId) → IsListed is_txn taken y → ¬ IsNearer E (length levels) y y
       none_nearer y l r = let k = r.1 in none_shorter taken best b y l r.0 (within_less (most_of best) (suc r.0) (length levels) within (omega arith)) r.2
 
       none_as_long : (y : TxnId) → IsListed is_txn taken y → ¬ Walks E (length levels) y y
       none_as_long y l w = none_from (length levels) round.some within w
         where
-          none_from : (n : ℕ) → 0 < n → IsWithin (most_of best) n → ¬ Walks E n y y
+          none_from : (n : ℕ) → 0 < n → IsWithinMost (most_of best) n → ¬ Walks E n y y
           none_from zero h k w = omega arith
           none_from (suc n) h k w = none_shorter taken best b y l n k w
 
@@ -93,7 +93,7 @@ module _ (E : TxnId → TxnId → Type 0) where
     more : take i ids ++ x ∷ [] ≡ take (i + 1) ids
     more = ap (λ v. take i ids ++ v ∷ []) e ∙ sym (take_more ids i none h)
 
-    pub best_better : (levels : List (List TxnId)) → IsRound E x levels × IsWithin (most_of best) (length levels) → IsFirstRound E (take (i + 1) ids) x levels
+    pub best_better : (levels : List (List TxnId)) → IsRound E x levels × IsWithinMost (most_of best) (length levels) → IsFirstRound E (take (i + 1) ids) x levels
     best_better levels r = subst (λ l. IsFirstRound E l x levels) more (better (take i ids) best x b below levels r.0 r.1)
 
     pub best_kept : HasNoRound E (most_of best) x → IsBestRound E (take (i + 1) ids) best
@@ -102,4 +102,4 @@ module _ (E : TxnId → TxnId → Type 0) where
     pub best_next : (most : Option ℕ) (found : Option (Vec (List TxnId) Global)) → most ≡ most_of best → IsRoundWithin E x most (option_map (λ (l : Vec (List TxnId) Global). l.items) found)
         → IsBestRound E (take (i + 1) ids) (better_of x best found)
     best_next most None e n = best_kept (subst (λ m. HasNoRound E m x) e n)
-    best_next most (Some levels) e r = best_better levels.items (r.0, subst (λ m. IsWithin m (length levels.items)) e r.1)
+    best_next most (Some levels) e r = best_better levels.items (r.0, subst (λ m. IsWithinMost m (length levels.items)) e r.1)

@@ -1,6 +1,6 @@
 //! What is read of files that are a journal, that are none, and that a stop left.
 ghost use Rattle.std.specs.Prelude.{◌≡◌, ℕ, true, List, Some, length};
-ghost use Rattle.roc_journal.specs.Reading.{IsWithin};
+ghost use Rattle.roc_journal.specs.Reading.{IsGateWithin};
 
 use crate::{EMPTY, ONE, TAG};
 use roc_disk::Disk;
@@ -21,9 +21,9 @@ fn holding(alloc: Global, bytes: &[u8], failing: Vec<u64>, stop: u64, tear: Tear
 
 // Whether there is one record more.
 fn has_more<D: Disk>(alloc: Global, reader: &mut Reader, disk: &mut D) -> Result<bool, ReadFault>
-    requires within { IsWithin reader.old }
+    requires within { IsGateWithin reader.old }
     requires len { D.tells disk.old ≡ true → (name : List ℕ) → D.file disk.old ≡ Some name → reader.old.len ≡ length (D.content disk.old name) }
-    ensures within { IsWithin reader.new }
+    ensures within { IsGateWithin reader.new }
     ensures len { D.tells disk.new ≡ true → (name : List ℕ) → D.file disk.new ≡ Some name → reader.new.len ≡ length (D.content disk.new name) }
 {
     match reader.next(alloc, disk) {
@@ -35,7 +35,7 @@ fn has_more<D: Disk>(alloc: Global, reader: &mut Reader, disk: &mut D) -> Result
 
 // Reads up to two records: how many there are, or that the disk failed when the rest was cut.
 fn counted<D: Disk>(alloc: Global, reader: Reader, disk: &mut D) -> Result<u64, ReadFault>
-    requires within { IsWithin reader }
+    requires within { IsGateWithin reader }
     requires len { D.tells disk.old ≡ true → (name : List ℕ) → D.file disk.old ≡ Some name → reader.len ≡ length (D.content disk.old name) }
 {
     let mut reader = reader;
@@ -56,7 +56,7 @@ fn ended<D: Disk>(
     reader: Reader,
     disk: &mut D,
 ) -> Result<u64, ReadFault>
-    requires { IsWithin reader }
+    requires { IsGateWithin reader }
 {
     match last {
         Err(fault) => Err(fault),

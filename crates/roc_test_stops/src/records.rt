@@ -1,6 +1,6 @@
 //! Records that tell their numbers.
 ghost use Rattle.std.specs.Prelude.{◌≡◌, ℕ, true, List, Some, length};
-ghost use Rattle.roc_journal.specs.Reading.{IsWithin};
+ghost use Rattle.roc_journal.specs.Reading.{IsGateWithin};
 
 use crate::fault::Fault;
 use roc_base::Node;
@@ -43,7 +43,7 @@ fn journal_of<D: Disk>(alloc: Global, disk: &mut D) -> Result<(Journal, u32), Fa
 
 // The same of a journal that has a head. More records than a number counts have no room in one.
 fn read_all<D: Disk>(alloc: Global, reader: Reader, disk: &mut D) -> Result<(Journal, u32), Fault>
-    requires within { IsWithin reader }
+    requires within { IsGateWithin reader }
     requires len { D.tells disk.old ≡ true → (name : List ℕ) → D.file disk.old ≡ Some name → reader.len ≡ length (D.content disk.old name) }
 {
     let mut reader = reader;
@@ -63,9 +63,9 @@ fn has_next<D: Disk>(
     number: u32,
     disk: &mut D,
 ) -> Result<bool, Fault>
-    requires within { IsWithin reader.old }
+    requires within { IsGateWithin reader.old }
     requires len { D.tells disk.old ≡ true → (name : List ℕ) → D.file disk.old ≡ Some name → reader.old.len ≡ length (D.content disk.old name) }
-    ensures within { IsWithin reader.new }
+    ensures within { IsGateWithin reader.new }
     ensures len { D.tells disk.new ≡ true → (name : List ℕ) → D.file disk.new ≡ Some name → reader.new.len ≡ length (D.content disk.new name) }
 {
     match reader.next(alloc, disk) {

@@ -25,7 +25,7 @@ IsNumber bytes (Some n) = (n ≡ from_be_bytes w32 (take 4 bytes)) × (to_be_byt
 IsNumber bytes None = Unit {0}
 
 -- These records were read of the bytes, which go on with an open gate, and with these bytes behind it.
-pub record IsOpenAt (bytes : List ℕ) (records : List Record) (reader : Reader) (behind : List ℕ) : Type 0 where
+pub record HasOpenGate (bytes : List ℕ) (records : List Record) (reader : Reader) (behind : List ℕ) : Type 0 where
   pub each : AllByRecursion (IsRecordOf reader.tag) records
   pub is : bytes ≡ head reader.tag ++ opened records ++ 1 ∷ behind
   pub gate : reader.gate ≡ length (head reader.tag ++ opened records)

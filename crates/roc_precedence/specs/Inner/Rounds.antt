@@ -42,14 +42,14 @@ pub record StepsBack (E : TxnId → TxnId → Type 0) (level found found2 next :
   pub count : length next + length found ≡ length found2
 
 -- a number of steps is within a bound, where there is one
-abbrev pub IsWithin : Option ℕ → ℕ → Type 0
-IsWithin None n = Unit {0}
-IsWithin (Some most) n = n ≤ most
+abbrev pub IsWithinMost : Option ℕ → ℕ → Type 0
+IsWithinMost None n = Unit {0}
+IsWithinMost (Some most) n = n ≤ most
 
 -- a search ends where a level is empty, and at its bound
 abbrev pub IsOver : (level : List TxnId) → ℕ → Option ℕ → Bool → Type 0
-IsOver level n most false = (0 < length level) × IsWithin most (suc n)
-IsOver level n most true = (length level ≡ 0) ⊎ (¬ IsWithin most (suc n))
+IsOver level n most false = (0 < length level) × IsWithinMost most (suc n)
+IsOver level n most true = (length level ≡ 0) ⊎ (¬ IsWithinMost most (suc n))
 
 -- a shorter round has fewer steps than the best
 abbrev pub most_of : Option Round → Option ℕ
@@ -74,12 +74,12 @@ pub record IsRound (E : TxnId → TxnId → Type 0) (s : TxnId) (levels : List (
 
 -- E leads from s to itself in no number of steps within the bound
 abbrev pub HasNoRound : (E : TxnId → TxnId → Type 0) → Option ℕ → TxnId → Type 0
-HasNoRound E most s = (j : ℕ) → IsWithin most (suc j) → ¬ Walks E (suc j) s s
+HasNoRound E most s = (j : ℕ) → IsWithinMost most (suc j) → ¬ Walks E (suc j) s s
 
 -- a shortest round within the bound, or none
 abbrev pub IsRoundWithin : (E : TxnId → TxnId → Type 0) → TxnId → Option ℕ → Option (List (List TxnId)) → Type 0
 IsRoundWithin E s most None = HasNoRound E most s
-IsRoundWithin E s most (Some levels) = IsRound E s levels × IsWithin most (length levels)
+IsRoundWithin E s most (Some levels) = IsRound E s levels × IsWithinMost most (length levels)
 
 -- of the ids, in their order, the first with a shortest round
 pub record IsFirstRound (E : TxnId → TxnId → Type 0) (ids : List TxnId) (s : TxnId) (levels : List (List TxnId)) : Type 0 where

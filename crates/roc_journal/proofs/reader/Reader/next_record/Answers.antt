@@ -1,7 +1,7 @@
 use Rattle.std.proofs.Common.{List, ℕ, sym, ap, subst, take, ◌∙◌, arith}
 use Rattle.std.specs.Int.{w32, from_be_bytes}
-use Rattle.roc_journal.specs.Inner.Pieces.{IsOpenAt}
-use Rattle.roc_journal.specs.Reading.{Gives}
+use Rattle.roc_journal.specs.Inner.Pieces.{HasOpenGate}
+use Rattle.roc_journal.specs.Reading.{ReadsNext}
 use Rattle.roc_journal.proofs.Nexts.{open_behind, ends_early, too_long, too_short}
 use Rattle.roc_journal.proofs.Unwritten.{reads_on}
 use Rattle.roc_journal.proofs.reader.Reader.next_record.Goals as goal
@@ -36,5 +36,5 @@ returns-else-self-n-clause-read g c = λ tells name file records behind open_at.
     let spelled = number.1 ∙ ap (λ (l : List ℕ). take 4 l) there in
     let same = (c.number_at.ensures.stays mid).content name in
     let found = c.take_datagram.ensures.read tells name ((c.number_at.ensures.stays mid).file ∙ file) records behind
-    (subst (λ b. IsOpenAt b records c.args.self.now behind) (sym same) open_at) told spelled in
-    subst (λ b. Gives b records c.args.self.now c.take_datagram.new.self c.take_datagram.result) same found
+    (subst (λ b. HasOpenGate b records c.args.self.now behind) (sym same) open_at) told spelled in
+    subst (λ b. ReadsNext b records c.args.self.now c.take_datagram.new.self c.take_datagram.result) same found
