@@ -1,5 +1,5 @@
 -- What comes of an answer, for each way that its handling ends. `xs` are the transactions before it
-use Rattle.std.proofs.Common.{◌≡◌, ℕ, ℤ, ◌<◌, cond, not, List, length, get_or, set, map, Option, Some, None, refl, sym, ap, subst, ◌∙◌}
+use Rattle.std.proofs.Common.{◌≡◌, ℕ, ℤ, ◌<◌, cond, not, List, [], length, get_or, set, map, Option, Some, None, refl, sym, ap, subst, ◌∙◌}
 use Rattle.std.specs.List.{filter, position, remove}
 use Rattle.roc_base.specs.declared.id.TxnId.{TxnId}
 use Rattle.roc_base.specs.declared.node.Shard.{Shard}
@@ -7,6 +7,7 @@ use Rattle.roc_base.specs.TxnId.{is_txn, txn_lt}
 use Rattle.roc_base.specs.Equalities.{is_txn-true}
 use Rattle.roc_msg.specs.Outbox.{Collected, HasSent}
 use Rattle.roc_msg.proofs.Sent.{sent_none}
+use Rattle.roc_msg.specs.declared.outbox.Outgoing.{Outgoing}
 use Rattle.roc_msg.specs.declared.reason.Reason.{Reason}
 use Rattle.roc_msg.specs.declared.reason.Reason.TheVariants.{Stale}
 use Rattle.roc_plan.specs.Groups.{Plan}
@@ -18,9 +19,11 @@ use Rattle.roc_coord.specs.Ids.{ids_of}
 use Rattle.roc_sequence.specs.Rising.{IsRising}
 use Rattle.roc_sequence.proofs.Found.{not_found}
 use Rattle.roc_coord.specs.State.{ignored, find_transaction, with_transaction, CoordState, CoordStep}
+use Rattle.roc_coord.specs.Marks.{first_seq, watermark}
+use Rattle.roc_coord.specs.Inner.Rises.{rise_at, rise_sends}
 use Rattle.roc_coord.specs.Starts.{with_starts}
-use Rattle.roc_coord.specs.Step.{IsOutcome, unless_refused, startok_refusal, startok_taken, with_startok, with_commits, sends_after, after_startok, commitok_refusal, commitok_taken, with_commitok, without_transaction, reply_now, after_commitok}
-use Rattle.roc_coord.proofs.Among.{place_found, replaced, removed, remove-set}
+use Rattle.roc_coord.specs.Step.{IsOutcome, unless_refused, startok_refusal, startok_taken, with_startok, with_commits, sends_after, after_startok, commitok_refusal, commitok_taken, with_commitok, without_transaction, answered_sends, reply_now, after_commitok}
+use Rattle.roc_coord.proofs.Among.{place_found, replaced, removed, remove-set, ids_of-remove}
 
 module _ (plan : Plan) (xs : List Transaction) (s : CoordState) (same : s.pending ≡ xs) where
   -- an ignored message leaves the transactions, and sends nothing
@@ -77,35 +80,44 @@ module _ (plan : Plan) (xs : List Transaction) (s : CoordState) (same : s.pendin
       pub commitok_refused : (ok : TakenCommit) (out : Collected) (reason : Reason) → commitok_refusal plan x ok ≡ Some reason → IsOutcome (after_commitok plan s (find_transaction id xs) ok) (Ignored reason) (record s { pending = xs }) out out
       commitok_refused ok out reason h =
           ignored_outcome (after_commitok plan s (find_transaction id xs) ok) reason out
-          (ap (λ o. after_commitok plan s o ok) found ∙ ap (λ o. unless_refused s o (commitok_taken s (with_commitok x ok) (reply_now plan (with_commitok x ok)))) h)
+          (ap (λ o. after_commitok plan s o ok) found ∙ ap (λ o. unless_refused s o (commitok_taken plan s (with_commitok x ok) (reply_now plan (with_commitok x ok)))) h)
 
-      pub commitok_done : (ok : TakenCommit) (out : Collected) → IsRising txn_lt (ids_of xs) → commitok_refusal plan x ok ≡ None → reply_now plan (with_commitok x ok) ≡ None
-          → IsOutcome (after_commitok plan s (find_transaction id xs) ok) Done (record s { pending = set xs at (with_commitok x ok) }) out out
-      commitok_done ok out rising h k =
+      pub commitok_done : (ok : TakenCommit) (before after : Collected) → IsRising txn_lt (ids_of xs) → commitok_refusal plan x ok ≡ None → reply_now plan (with_commitok x ok) ≡ None → HasSent before after []
+          → IsOutcome (after_commitok plan s (find_transaction id xs) ok) Done (record s { pending = set xs at (with_commitok x ok) }) before after
+      commitok_done ok before after rising h k g =
           let y = with_commitok x ok in
-          let taken : Option (List ℤ) → CoordStep = commitok_taken s y in
+          let taken : Option (List ℤ) → CoordStep = commitok_taken plan s y in
           let step : after_commitok plan s (find_transaction id xs) ok ≡ taken None =
           ap (λ o. after_commitok plan s o ok) found ∙ ap (λ o. unless_refused s o (taken (reply_now plan y))) h ∙ ap taken k
           in
-          let outcome : IsOutcome (taken None) Done (record s { pending = set xs at y }) out out =
-          record { answer = refl; state = put_back at x y y rising within is refl refl; sent = sent_none out }
-          in subst (λ t. IsOutcome t Done (record s { pending = set xs at y }) out out) (sym step) outcome
+          let outcome : IsOutcome (taken None) Done (record s { pending = set xs at y }) before after =
+          record { answer = refl; state = put_back at x y y rising within is refl refl; sent = g }
+          in subst (λ t. IsOutcome t Done (record s { pending = set xs at y }) before after) (sym step) outcome
 
-      pub commitok_answered : (ok : TakenCommit) (out : Collected) (reply : List ℤ) → IsRising txn_lt (ids_of xs) → commitok_refusal plan x ok ≡ None → reply_now plan (with_commitok x ok) ≡ Some reply
-          → IsOutcome (after_commitok plan s (find_transaction id xs) ok) (Answered id reply) (record s { pending = remove (set xs at (with_commitok x ok)) at }) out out
-      commitok_answered ok out reply rising h k =
+      -- the last CommitOk: what is told is of the ids without the answered one
+      pub commitok_answered : (ok : TakenCommit) (before after : Collected) (reply : List ℤ) → IsRising txn_lt (ids_of xs) → commitok_refusal plan x ok ≡ None → reply_now plan (with_commitok x ok) ≡ Some reply
+          → HasSent before after (rise_sends plan (rise_at s.number s.next (ids_of xs) at))
+          → IsOutcome (after_commitok plan s (find_transaction id xs) ok) (Answered id reply) (record s { pending = remove (set xs at (with_commitok x ok)) at }) before after
+      commitok_answered ok before after reply rising h k g =
           let y = with_commitok x ok in
-          let taken : Option (List ℤ) → CoordStep = commitok_taken s y in
+          let taken : Option (List ℤ) → CoordStep = commitok_taken plan s y in
           let step : after_commitok plan s (find_transaction id xs) ok ≡ taken (Some reply) =
           ap (λ o. after_commitok plan s o ok) found ∙ ap (λ o. unless_refused s o (taken (reply_now plan y))) h ∙ ap taken k
           in
           let with_list : List Transaction → CoordState = λ pending. record s { pending = pending } in
           let without : List Transaction → CoordState = λ pending. record s { pending = filter (λ v. not (is_txn v.id id)) pending } in
           let at_id = ap (λ (v : Transaction). v.id) (sym is) ∙ own_id in
-          let outcome : IsOutcome (taken (Some reply)) (Answered id reply) (record s { pending = remove (set xs at y) at }) out out =
+          let left : with_list (remove xs at) ≡ without_transaction s y.id = ap with_list (removed xs at x id rising within at_id) ∙ ap without (sym same) ∙ ap (without_transaction s) (sym own_id) in
+          let outcome : IsOutcome (taken (Some reply)) (Answered id reply) (record s { pending = remove (set xs at y) at }) before after =
           record {
             answer = ap (λ v. Answered v reply) (sym own_id);
-            state = ap with_list (remove-set xs at y ∙ removed xs at x id rising within at_id) ∙ ap without (sym same) ∙ ap (without_transaction s) (sym own_id);
-            sent = sent_none out;
+            state = ap with_list (remove-set xs at y) ∙ left;
+            sent = subst (HasSent before after) (told ∙ ap (answered_sends plan s) left) g;
           }
-          in subst (λ t. IsOutcome t (Answered id reply) (record s { pending = remove (set xs at y) at }) out out) (sym step) outcome
+          in subst (λ t. IsOutcome t (Answered id reply) (record s { pending = remove (set xs at y) at }) before after) (sym step) outcome
+        where
+          told : rise_sends plan (rise_at s.number s.next (ids_of xs) at) ≡ answered_sends plan s (record s { pending = remove xs at })
+          told =
+              let with_old : List Transaction → List Outgoing = λ old. rise_sends plan (record { number = s.number; old = first_seq (ids_of old) s.next; new = first_seq (remove (ids_of xs) at) s.next }) in
+              let with_new : List TxnId → List Outgoing = λ new. rise_sends plan (record { number = s.number; old = watermark s; new = first_seq new s.next }) in
+              ap with_old (sym same) ∙ ap with_new (sym (ids_of-remove xs at))

@@ -3,3 +3,4 @@ pub mod Given
 pub mod CommitWith
 pub mod FactPlace
 pub mod MoreStarts
+pub mod Rises

@@ -1,5 +1,6 @@
 pub mod State
 pub mod Ids
+pub mod Marks
 pub mod Fits
 pub mod Starts
 pub mod Commits

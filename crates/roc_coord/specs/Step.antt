@@ -18,6 +18,7 @@ use Rattle.roc_coord.specs.declared.transaction.TakenCommit.{TakenCommit}
 use Rattle.roc_coord.specs.declared.transaction.Transaction.{Transaction}
 use Rattle.roc_coord.specs.State.{ignored, find_transaction, with_transaction, find_startok, was_asked, has_commitok, CoordState, CoordStep}
 use Rattle.roc_coord.specs.Starts.{with_starts, starts_of, all_started, shards_of, commits_of, bound_count, out_count}
+use Rattle.roc_coord.specs.Marks.{passes_mark, ended_sends}
 use Rattle.roc_coord.specs.Commits.{places_on, all_committed, reply_of}
 
 -- this was answered, the state is now this one, and an outbox has gained what is sent
@@ -87,9 +88,14 @@ reply_now plan x = if all_committed x then Some (reply_of plan x) else None
 abbrev pub without_transaction : CoordState → TxnId → CoordState
 without_transaction s id = record s { pending = filter (λ x. not (is_txn x.id id)) s.pending }
 
-abbrev pub commitok_taken : CoordState → Transaction → Option (List ℤ) → CoordStep
-commitok_taken s x None = record { answer = Done; state = with_transaction s x; sends = [] }
-commitok_taken s x (Some reply) = record { answer = Answered x.id reply; state = without_transaction s x.id; sends = [] }
+-- an answer that brings the watermark to or past a multiple of 64 tells it to each shard
+abbrev pub answered_sends : Plan → (old new : CoordState) → List Outgoing
+answered_sends plan old new = if passes_mark old new then ended_sends plan new else []
+
+abbrev pub commitok_taken : Plan → CoordState → Transaction → Option (List ℤ) → CoordStep
+commitok_taken plan s x None = record { answer = Done; state = with_transaction s x; sends = [] }
+commitok_taken plan s x (Some reply) =
+    record { answer = Answered x.id reply; state = without_transaction s x.id; sends = answered_sends plan s (without_transaction s x.id) }
 
 -- why it is not taken: the first reason that holds
 abbrev pub commitok_refusal : Plan → Transaction → TakenCommit → Option Reason
@@ -102,7 +108,7 @@ abbrev pub after_commitok : Plan → CoordState → Option Transaction → Taken
 after_commitok plan s None ok = ignored s Stale
 after_commitok plan s (Some x) ok =
     let taken = with_commitok x ok in
-    unless_refused s (commitok_refusal plan x ok) (commitok_taken s taken (reply_now plan taken))
+    unless_refused s (commitok_refusal plan x ok) (commitok_taken plan s taken (reply_now plan taken))
 
 -- ---- any message
 

@@ -1,10 +1,11 @@
 -- What a coordinator sends again at a tick, which changes nothing: docs/PROTOCOL.md, "Ticks"
-use Rattle.std.specs.Prelude.{ℕ, Bool, not, ◌&&◌, List, is_some, is_none, map, filter, if◌then◌else◌}
+use Rattle.std.specs.Prelude.{ℕ, Bool, not, ◌&&◌, ◌++◌, List, is_some, is_none, map, filter, if◌then◌else◌}
 use Rattle.std.specs.List.{flat_map}
 use Rattle.roc_msg.specs.declared.outbox.Outgoing.{Outgoing}
 use Rattle.roc_plan.specs.Groups.{Plan}
 use Rattle.roc_coord.specs.declared.transaction.Transaction.{Transaction}
 use Rattle.roc_coord.specs.State.{find_start, find_startok, has_commitok, CoordState}
+use Rattle.roc_coord.specs.Marks.{ended_sends}
 use Rattle.roc_coord.specs.Starts.{group_numbers, start_for, all_started, commit_to}
 
 -- a group that was asked to start, and has no startok
@@ -22,6 +23,6 @@ commits_again x = map (commit_to x) (filter (λ shard. not (has_commitok shard x
 abbrev pub sent_again : Plan → Transaction → List Outgoing
 sent_again plan x = if all_started plan x then commits_again x else starts_again plan x
 
--- of each transaction without a reply, by id
+-- of each transaction without a reply, by id; and behind these the watermark
 abbrev pub tick_sends : Plan → CoordState → List Outgoing
-tick_sends plan s = flat_map (sent_again plan) s.pending
+tick_sends plan s = flat_map (sent_again plan) s.pending ++ ended_sends plan s

@@ -87,8 +87,8 @@ impl Coord {
         }
     }
 
-    /// Handles a message: what becomes of it, and what goes to the outbox. An ignored message
-    /// leaves all as it was. `NoMemory` leaves the coordinator and the outbox as they were, but for their room, so that the same call may
+    /// Handles a message: what becomes of it, and what goes to the outbox. An answer that brings the watermark to or past a multiple of 64
+    /// sends it to each shard. An ignored message leaves all as it was. `NoMemory` leaves the coordinator and the outbox as they were, but for their room, so that the same call may
     /// be made again.
     pub fn handle(
         &mut self,
@@ -107,8 +107,8 @@ impl Coord {
         }
     }
 
-    /// Sends again, for each transaction without a reply, the starts without a startok, or the commits without a commitok. It changes
-    /// nothing. `NoMemory` leaves the outbox as it was, but for its room, so that the same call may be made again.
+    /// Sends again, for each transaction without a reply, the starts without a startok, or the commits without a commitok; and behind these
+    /// the watermark to each shard, where it is not 0. It changes nothing. `NoMemory` leaves the outbox as it was, but for its room, so that the same call may be made again.
     pub fn tick(&mut self, plan: &Plan, outbox: &mut Outbox) -> Result<(), NodeFault>
         requires { CoordFits plan.now self.old }
         ensures sent { OnOk result (HasSent outbox.old outbox.new (tick_sends plan.now self.old)) }
@@ -116,7 +116,10 @@ impl Coord {
         ensures err { OnErr result (HoldsSame outbox.old outbox.new) }
         ensures fits { CoordFits plan.now self.new }
     {
-        match self.pending.send_again(self.alloc, plan, outbox) {
+        match self
+            .pending
+            .send_again(self.alloc, plan, self.number, self.next, outbox)
+        {
             Ok(()) => Ok(()),
             Err(NoMemory) => Err(NodeFault::NoMemory),
         }
@@ -204,7 +207,8 @@ impl Coord {
                     shard: *shard,
                     outs: outs.clone()?,
                 };
-                self.pending.commitok(self.alloc, plan, *id, ok)
+                self.pending
+                    .commitok(self.alloc, plan, self.number, self.next, *id, ok, outbox)
             }
             _ => Ok(Handled::Ignored(Reason::Foreign)),
         }

@@ -5,7 +5,7 @@
 //! (`specs/Submit.antt`: the first reason to refuse, else the new transaction and its starts), [`Coord::handle`] is
 //! `after_message` (`specs/Step.antt`, on `specs/Starts.antt` and `specs/Commits.antt`: which starts can be sent, the
 //! commits once every group has started, and the reply) and [`Coord::tick`] sends `tick_sends` (`specs/Tick.antt`), for
-//! every plan and every message.
+//! every plan and every message. A tick and some answers tell each shard the watermark (`specs/Marks.antt`).
 //!
 //! The layers above may rely on this: a refused submission and an ignored message change nothing and send nothing; a
 //! tick changes nothing; want of memory leaves the coordinator and the outbox as they were, but for their room, so that
@@ -18,6 +18,7 @@ mod commits;
 mod coord;
 mod facts;
 mod handled;
+mod marks;
 mod pending;
 mod reply;
 mod starts;

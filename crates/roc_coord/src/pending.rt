@@ -1,17 +1,17 @@
 //! The transactions of a coordinator that have no reply yet.
-ghost use Rattle.std.specs.Prelude.{◌≡◌, ◌<◌, ◌++◌, ◌∷◌, [], position, length, ℕ, IsTrue, IfOk, OnOk, OnErr};
+ghost use Rattle.std.specs.Prelude.{◌≡◌, ◌<◌, ◌++◌, ◌∷◌, [], position, length, IsTrue, IfOk, OnOk, OnErr};
 ghost use Rattle.std.specs.List.{flat_map, AllByRecursion};
 ghost use Rattle.roc_base.specs.TxnId.{is_txn, txn_lt};
 ghost use Rattle.roc_msg.specs.Outbox.{HoldsSame, HoldsAlso, HasSent};
-ghost use Rattle.roc_msg.specs.declared.outbox.Outbox.{Outbox};
 ghost use Rattle.roc_coord.specs.State.{find_transaction, CoordState};
 ghost use Rattle.roc_coord.specs.Fits.{IsTransactionOf};
 ghost use Rattle.roc_coord.specs.Ids.{ids_of};
 ghost use Rattle.roc_coord.specs.Inner.Given.{AreGiven};
 ghost use Rattle.roc_sequence.specs.Rising.{IsRising};
 ghost use Rattle.roc_coord.specs.Step.{IsOutcome, after_startok, after_commitok};
-ghost use Rattle.roc_coord.specs.Tick.{sent_again};
+ghost use Rattle.roc_coord.specs.Tick.{sent_again, tick_sends};
 
+use crate::marks::{first_seq, rise_at, send_ended};
 use crate::take::{commitok_refusal, send_again, startok_refusal, take_commitok, take_startok};
 use crate::{Handled, TakenCommit, TakenStart, Transaction};
 use roc_base::{NoMemory, Shard, TxnId};
@@ -107,37 +107,56 @@ impl Pending {
         startok(alloc, plan, &mut self.transactions, id, ok, shard, outbox)
     }
 
-    /// What comes of a commitok. `NoMemory` leaves all as it was.
+    /// What comes of a commitok at the coordinator of a number with this sequence next. `NoMemory` leaves all as it was.
     pub fn commitok(
         &mut self,
         alloc: Global,
         plan: &Plan,
+        number: u16,
+        next: u32,
         id: TxnId,
         ok: TakenCommit,
+        outbox: &mut Outbox,
     ) -> Result<Handled, NoMemory>
         requires { AllByRecursion (IsTransactionOf plan.now) self.old }
-        ensures step { IfOk result (λ answer. (s : CoordState) (out : Outbox) → s.pending ≡ self.old
-            → IsOutcome (after_commitok plan.now s (find_transaction id self.old) ok) answer (record s { pending = self.new }) out out) }
-        ensures err { OnErr result (self.new ≡ self.old) }
-        ensures given { (number next : ℕ) → AreGiven number next (ids_of self.old) → AreGiven number next (ids_of self.new) }
+        ensures step { IfOk result (λ answer. IsOutcome
+            (after_commitok plan.now (record { number = number; next = next; pending = self.old }) (find_transaction id self.old) ok)
+            answer (record { number = number; next = next; pending = self.new }) outbox.old outbox.new) }
+        ensures err { OnErr result ((self.new ≡ self.old) × HoldsSame outbox.old outbox.new) }
+        ensures given { AreGiven number next (ids_of self.old) → AreGiven number next (ids_of self.new) }
         ensures fits { AllByRecursion (IsTransactionOf plan.now) self.new }
     {
-        commitok(alloc, plan, &mut self.transactions, &mut self.ids, id, ok)
+        commitok(
+            alloc,
+            plan,
+            number,
+            next,
+            &mut self.transactions,
+            &mut self.ids,
+            id,
+            ok,
+            outbox,
+        )
     }
 
-    /// Sends again what has no answer. `NoMemory` leaves all as it was.
+    /// Sends again what has no answer, and behind it the watermark of the coordinator of a number with this sequence next. `NoMemory` leaves
+    /// all as it was.
     pub fn send_again(
         &self,
         alloc: Global,
         plan: &Plan,
+        number: u16,
+        next: u32,
         outbox: &mut Outbox,
     ) -> Result<(), NoMemory>
         requires { AllByRecursion (IsTransactionOf plan.now) self.now }
-        ensures sent { OnOk result (HasSent outbox.old outbox.new (flat_map (sent_again plan.now) self.now)) }
+        ensures sent { OnOk result (HasSent outbox.old outbox.new (tick_sends plan.now (record { number = number; next = next; pending = self.now }))) }
         ensures err { OnErr result (HoldsSame outbox.old outbox.new) }
     {
+        let mark = first_seq(self.ids.as_slice(), next);
         let mut sends = Outbox::new(alloc);
         send_each_again(alloc, plan, self.transactions.as_slice(), &mut sends)?;
+        send_ended(plan, number, mark, &mut sends)?;
         outbox.append(sends)
     }
 }
@@ -181,20 +200,24 @@ fn startok(
 fn commitok(
     alloc: Global,
     plan: &Plan,
+    number: u16,
+    next: u32,
     transactions: &mut Vec<Transaction>,
     ids: &mut Vec<TxnId>,
     id: TxnId,
     ok: TakenCommit,
+    outbox: &mut Outbox,
 ) -> Result<Handled, NoMemory>
     requires fits { AllByRecursion (IsTransactionOf plan.now) transactions.old.items }
     requires ids { ids.old.items ≡ ids_of transactions.old.items }
     requires rising { IsRising txn_lt ids.old.items }
-    ensures step { IfOk result (λ answer. (s : CoordState) (out : Outbox) → s.pending ≡ transactions.old.items
-        → IsOutcome (after_commitok plan.now s (find_transaction id transactions.old.items) ok) answer (record s { pending = transactions.new.items }) out out) }
-    ensures err { OnErr result (transactions.new.items ≡ transactions.old.items) }
+    ensures step { IfOk result (λ answer. IsOutcome
+        (after_commitok plan.now (record { number = number; next = next; pending = transactions.old.items }) (find_transaction id transactions.old.items) ok)
+        answer (record { number = number; next = next; pending = transactions.new.items }) outbox.old outbox.new) }
+    ensures err { OnErr result ((transactions.new.items ≡ transactions.old.items) × HoldsSame outbox.old outbox.new) }
     ensures ids { ids.new.items ≡ ids_of transactions.new.items }
     ensures rising { IsRising txn_lt ids.new.items }
-    ensures given { (number next : ℕ) → AreGiven number next ids.old.items → AreGiven number next ids.new.items }
+    ensures given { AreGiven number next ids.old.items → AreGiven number next ids.new.items }
     ensures fits { AllByRecursion (IsTransactionOf plan.now) transactions.new.items }
 {
     let Some(at) = place_of(transactions, id) else {
@@ -203,7 +226,8 @@ fn commitok(
     if let Some(reason) = commitok_refusal(alloc, plan, &transactions[at], &ok)? {
         return Ok(Handled::Ignored(reason));
     }
-    match take_commitok(alloc, plan, &mut transactions[at], ok)? {
+    let rise = rise_at(number, next, ids, at);
+    match take_commitok(alloc, plan, &mut transactions[at], ok, rise, outbox)? {
         None => Ok(Handled::Done),
         Some(reply) => {
             transactions.remove(at);

@@ -5,11 +5,14 @@ ghost use Rattle.roc_msg.specs.Outbox.{HoldsSame, HasSent};
 ghost use Rattle.roc_plan.specs.Groups.{groups_of};
 ghost use Rattle.roc_coord.specs.Fits.{IsTransactionOf};
 ghost use Rattle.roc_coord.specs.Starts.{bound_count, out_count, with_starts};
+ghost use Rattle.roc_coord.specs.Commits.{reply_of};
 ghost use Rattle.roc_coord.specs.Inner.MoreStarts.{HasMoreStarts};
+ghost use Rattle.roc_coord.specs.Inner.Rises.{rise_sends, reply_sends};
 ghost use Rattle.roc_coord.specs.Step.{is_fit_startok, startok_refusal, with_startok, with_commits, sends_after, is_asked, is_fit_commitok, commitok_refusal, with_commitok, reply_now};
 ghost use Rattle.roc_coord.specs.Tick.{sent_again};
 
 use crate::commits::{all_committed, has_commitok, send_commits, send_commits_again};
+use crate::marks::{Rise, send_rise};
 use crate::reply::{places_on, reply_of, was_asked};
 use crate::starts::{all_started, has_startok, send_starts, send_starts_again};
 use crate::{TakenCommit, TakenStart, Transaction};
@@ -183,17 +186,40 @@ pub(crate) fn commitok_refusal(
     }
 }
 
-/// Takes a commitok: the reply, once each shard that was asked has answered. `NoMemory` leaves the transaction as it was.
+// The reply of a transaction whose shards have all answered, and the watermark to the shards where it is to be told. `NoMemory` leaves all
+// as it was.
+fn answer(
+    alloc: Global,
+    plan: &Plan,
+    x: &Transaction,
+    rise: Rise,
+    outbox: &mut Outbox,
+) -> Result<Nums, NoMemory>
+    requires { IsTransactionOf plan.now x.now }
+    ensures reply { IfOk result (λ reply. reply ≡ reply_of plan.now x.now) }
+    ensures sent { OnOk result (HasSent outbox.old outbox.new (rise_sends plan.now rise)) }
+    ensures err { OnErr result (HoldsSame outbox.old outbox.new) }
+{
+    let reply = reply_of(alloc, plan, x)?;
+    send_rise(alloc, plan, rise, outbox)?;
+    Ok(reply)
+}
+
+/// Takes a commitok: the reply, once each shard that was asked has answered, and the watermark to the shards where it is to be told.
+/// `NoMemory` leaves all as it was.
 pub(crate) fn take_commitok(
     alloc: Global,
     plan: &Plan,
     x: &mut Transaction,
     ok: TakenCommit,
+    rise: Rise,
+    outbox: &mut Outbox,
 ) -> Result<Option<Nums>, NoMemory>
     requires { IsTransactionOf plan.now x.old }
     ensures kept { OnOk result (x.new ≡ with_commitok x.old ok) }
     ensures reply { IfOk result (λ reply. reply ≡ reply_now plan.now (with_commitok x.old ok)) }
-    ensures err { OnErr result (x.new ≡ x.old) }
+    ensures sent { IfOk result (λ reply. HasSent outbox.old outbox.new (reply_sends plan.now rise reply)) }
+    ensures err { OnErr result ((x.new ≡ x.old) × HoldsSame outbox.old outbox.new) }
     ensures id { x.new.id ≡ x.old.id }
     ensures fits { IsTransactionOf plan.now x.new }
 {
@@ -202,7 +228,7 @@ pub(crate) fn take_commitok(
     if !all_committed(x) {
         return Ok(None);
     }
-    match reply_of(alloc, plan, x) {
+    match answer(alloc, plan, x, rise, outbox) {
         Ok(reply) => Ok(Some(reply)),
         Err(NoMemory) => {
             cut(alloc, &mut x.commitoks, commitoks);

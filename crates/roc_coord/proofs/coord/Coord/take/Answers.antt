@@ -1,4 +1,4 @@
 use Rattle.roc_coord.proofs.coord.Coord.take.Goals as goal
 
 pub invariant_of-self-in-CommitOk : goal.invariant_of-self-in-CommitOk
-invariant_of-self-in-CommitOk c = c.commitok.ensures.given c.self.inside.number c.self.inside.next c.self.invariant
+invariant_of-self-in-CommitOk c = c.commitok.ensures.given c.self.invariant

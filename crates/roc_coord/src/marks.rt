@@ -1,0 +1,103 @@
+//! The watermark of a coordinator, and how the shards are told.
+ghost use Rattle.std.specs.Prelude.{◌≡◌, ◌<◌, length, map, OnOk, OnErr};
+ghost use Rattle.std.specs.List.{range_with_len, remove};
+ghost use Rattle.roc_msg.specs.Outbox.{HoldsSame, HasSent};
+ghost use Rattle.roc_coord.specs.Marks.{first_seq};
+ghost use Rattle.roc_coord.specs.Inner.Rises.{ended_with, ended_by, rise_at, rise_sends};
+
+use roc_base::{NoMemory, Node, Shard, TxnId};
+use roc_msg::{Msg, Outbox};
+use roc_plan::Plan;
+use std::alloc::Global;
+
+/// An answer tells the watermark where it reaches or passes a multiple of this.
+const MARK_STEP: u32 = 64;
+
+/// The watermarks of the coordinator of a number, before and behind an answer.
+#[derive(Clone, Copy, Drop)]
+pub(crate) struct Rise {
+    pub number: u16,
+    pub old: u32,
+    pub new: u32,
+}
+
+/// The watermark of a coordinator with these ids unanswered, rising, and this sequence next.
+pub(crate) fn first_seq(ids: &[TxnId], next: u32) -> u32
+    ensures { result ≡ first_seq ids.now next }
+{
+    match ids.first() {
+        Some(id) => id.seq,
+        None => next,
+    }
+}
+
+// The same without the id at a place.
+fn first_seq_without(ids: &[TxnId], at: usize, next: u32) -> u32
+    requires { at < length ids.now }
+    ensures { result ≡ first_seq (remove ids.now at) next }
+{
+    if at == 0 {
+        first_seq(&ids[1..], next)
+    } else {
+        first_seq(ids, next)
+    }
+}
+
+/// The watermarks around the answer of the transaction at a place among these ids. Takes no memory.
+pub(crate) fn rise_at(number: u16, next: u32, ids: &[TxnId], at: usize) -> Rise
+    requires { at < length ids.now }
+    ensures { result ≡ rise_at number next ids.now at }
+{
+    Rise {
+        number,
+        old: first_seq(ids, next),
+        new: first_seq_without(ids, at, next),
+    }
+}
+
+// Tells the first so many shards, by number. `NoMemory` may leave some sent.
+fn send_to_first(count: u8, number: u16, mark: u32, outbox: &mut Outbox) -> Result<(), NoMemory>
+    ensures { OnOk result (HasSent outbox.old outbox.new (map (ended_with number mark) (range_with_len 0 count))) }
+{
+    for shard in 0..count {
+        let ended = Msg::Ended {
+            coord: number,
+            below: mark,
+        };
+        outbox.send(Node::Server(Shard(shard)), ended)?;
+    }
+    Ok(())
+}
+
+/// Tells each shard the watermark of the coordinator of a number; none while it is 0. `NoMemory` may leave some sent.
+pub(crate) fn send_ended(
+    plan: &Plan,
+    number: u16,
+    mark: u32,
+    outbox: &mut Outbox,
+) -> Result<(), NoMemory>
+    ensures { OnOk result (HasSent outbox.old outbox.new (ended_by plan.now number mark)) }
+{
+    if mark == 0 {
+        return Ok(());
+    }
+    send_to_first(plan.workload().shards(), number, mark, outbox)
+}
+
+/// Tells each shard the watermark behind an answer that brings it to or past a multiple of the step. `NoMemory` leaves all as it was.
+pub(crate) fn send_rise(
+    alloc: Global,
+    plan: &Plan,
+    rise: Rise,
+    outbox: &mut Outbox,
+) -> Result<(), NoMemory>
+    ensures sent { OnOk result (HasSent outbox.old outbox.new (rise_sends plan.now rise)) }
+    ensures err { OnErr result (HoldsSame outbox.old outbox.new) }
+{
+    if rise.old / MARK_STEP >= rise.new / MARK_STEP {
+        return Ok(());
+    }
+    let mut sends = Outbox::new(alloc);
+    send_ended(plan, rise.number, rise.new, &mut sends)?;
+    outbox.append(sends)
+}
