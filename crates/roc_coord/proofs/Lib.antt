@@ -7,3 +7,4 @@ pub mod Outcomes
 pub mod Given
 pub mod Gathering
 pub mod Fitting
+mod Least

@@ -19,7 +19,7 @@ use Rattle.roc_coord.specs.Ids.{ids_of}
 use Rattle.roc_sequence.specs.Rising.{IsRising}
 use Rattle.roc_sequence.proofs.Found.{not_found}
 use Rattle.roc_coord.specs.State.{ignored, find_transaction, with_transaction, CoordState, CoordStep}
-use Rattle.roc_coord.specs.Marks.{first_seq, watermark}
+use Rattle.roc_coord.specs.Marks.{least_seq, watermark}
 use Rattle.roc_coord.specs.Inner.Rises.{rise_at, rise_sends}
 use Rattle.roc_coord.specs.Starts.{with_starts}
 use Rattle.roc_coord.specs.Step.{IsOutcome, unless_refused, startok_refusal, startok_taken, with_startok, with_commits, sends_after, after_startok, commitok_refusal, commitok_taken, with_commitok, without_transaction, answered_sends, reply_now, after_commitok}
@@ -118,6 +118,6 @@ module _ (plan : Plan) (xs : List Transaction) (s : CoordState) (same : s.pendin
         where
           told : rise_sends plan (rise_at s.number s.next (ids_of xs) at) ≡ answered_sends plan s (record s { pending = remove xs at })
           told =
-              let with_old : List Transaction → List Outgoing = λ old. rise_sends plan (record { number = s.number; old = first_seq (ids_of old) s.next; new = first_seq (remove (ids_of xs) at) s.next }) in
-              let with_new : List TxnId → List Outgoing = λ new. rise_sends plan (record { number = s.number; old = watermark s; new = first_seq new s.next }) in
+              let with_old : List Transaction → List Outgoing = λ old. rise_sends plan (record { number = s.number; old = least_seq (ids_of old) s.next; new = least_seq (remove (ids_of xs) at) s.next }) in
+              let with_new : List TxnId → List Outgoing = λ new. rise_sends plan (record { number = s.number; old = watermark s; new = least_seq new s.next }) in
               ap with_old (sym same) ∙ ap with_new (sym (ids_of-remove xs at))

@@ -1,5 +1,5 @@
 -- What a coordinator tells servers that it has answered: docs/PROTOCOL.md, "Watermarks"
-use Rattle.std.specs.Prelude.{ℕ, Bool, ◌==◌, ◌/◌, nat_lt, List, [], ◌∷◌, map, if◌then◌else◌}
+use Rattle.std.specs.Prelude.{ℕ, Bool, ◌==◌, ◌/◌, nat_lt, min, List, [], ◌∷◌, map, if◌then◌else◌}
 use Rattle.std.specs.List.{range_with_len}
 use Rattle.roc_base.specs.declared.id.TxnId.{TxnId}
 use Rattle.roc_base.specs.declared.node.Node.TheVariants.{Server}
@@ -9,14 +9,14 @@ use Rattle.roc_plan.specs.Groups.{Plan}
 use Rattle.roc_coord.specs.Ids.{unanswered}
 use Rattle.roc_coord.specs.State.{CoordState}
 
--- the sequence of the first of these, or the next one
-abbrev pub first_seq : List TxnId → (next : ℕ) → ℕ
-first_seq [] next = next
-first_seq (id ∷ ids) next = id.seq
+-- the least sequence of these and of the next one
+abbrev pub least_seq : List TxnId → (next : ℕ) → ℕ
+least_seq [] next = next
+least_seq (id ∷ ids) next = min id.seq (least_seq ids next)
 
 -- the watermark of a coordinator: all that it has submitted with a sequence below is answered
 abbrev pub watermark : CoordState → ℕ
-watermark s = first_seq (unanswered s) s.next
+watermark s = least_seq (unanswered s) s.next
 
 abbrev pub ended_to : CoordState → (shard : ℕ) → Outgoing
 ended_to s shard = record { to = Server (record { 0 = shard }); msg = Ended s.number (watermark s) }

@@ -2,7 +2,7 @@
 ghost use Rattle.std.specs.Prelude.{◌≡◌, ◌<◌, length, map, OnOk, OnErr};
 ghost use Rattle.std.specs.List.{range_with_len, remove};
 ghost use Rattle.roc_msg.specs.Outbox.{HoldsSame, HasSent};
-ghost use Rattle.roc_coord.specs.Marks.{first_seq};
+ghost use Rattle.roc_coord.specs.Marks.{least_seq};
 ghost use Rattle.roc_coord.specs.Inner.Rises.{ended_with, ended_by, rise_at, rise_sends};
 
 use roc_base::{NoMemory, Node, Shard, TxnId};
@@ -21,26 +21,23 @@ pub(crate) struct Rise {
     pub new: u32,
 }
 
-/// The watermark of a coordinator with these ids unanswered, rising, and this sequence next.
-pub(crate) fn first_seq(ids: &[TxnId], next: u32) -> u32
-    ensures { result ≡ first_seq ids.now next }
+/// The watermark of a coordinator with these ids unanswered and this sequence next.
+pub(crate) fn least_seq(ids: &[TxnId], next: u32) -> u32
+    ensures { result ≡ least_seq ids.now next }
 {
-    match ids.first() {
-        Some(id) => id.seq,
-        None => next,
+    let mut least = next;
+    for id in ids {
+        least = least.min(id.seq);
     }
+    least
 }
 
 // The same without the id at a place.
-fn first_seq_without(ids: &[TxnId], at: usize, next: u32) -> u32
+fn least_seq_without(ids: &[TxnId], at: usize, next: u32) -> u32
     requires { at < length ids.now }
-    ensures { result ≡ first_seq (remove ids.now at) next }
+    ensures { result ≡ least_seq (remove ids.now at) next }
 {
-    if at == 0 {
-        first_seq(&ids[1..], next)
-    } else {
-        first_seq(ids, next)
-    }
+    least_seq(&ids[..at], least_seq(&ids[at + 1..], next))
 }
 
 /// The watermarks around the answer of the transaction at a place among these ids. Takes no memory.
@@ -50,8 +47,8 @@ pub(crate) fn rise_at(number: u16, next: u32, ids: &[TxnId], at: usize) -> Rise
 {
     Rise {
         number,
-        old: first_seq(ids, next),
-        new: first_seq_without(ids, at, next),
+        old: least_seq(ids, next),
+        new: least_seq_without(ids, at, next),
     }
 }
 

@@ -11,7 +11,7 @@ ghost use Rattle.roc_sequence.specs.Rising.{IsRising};
 ghost use Rattle.roc_coord.specs.Step.{IsOutcome, after_startok, after_commitok};
 ghost use Rattle.roc_coord.specs.Tick.{sent_again, tick_sends};
 
-use crate::marks::{first_seq, rise_at, send_ended};
+use crate::marks::{least_seq, rise_at, send_ended};
 use crate::take::{commitok_refusal, send_again, startok_refusal, take_commitok, take_startok};
 use crate::{Handled, TakenCommit, TakenStart, Transaction};
 use roc_base::{NoMemory, Shard, TxnId};
@@ -153,7 +153,7 @@ impl Pending {
         ensures sent { OnOk result (HasSent outbox.old outbox.new (tick_sends plan.now (record { number = number; next = next; pending = self.now }))) }
         ensures err { OnErr result (HoldsSame outbox.old outbox.new) }
     {
-        let mark = first_seq(self.ids.as_slice(), next);
+        let mark = least_seq(self.ids.as_slice(), next);
         let mut sends = Outbox::new(alloc);
         send_each_again(alloc, plan, self.transactions.as_slice(), &mut sends)?;
         send_ended(plan, number, mark, &mut sends)?;

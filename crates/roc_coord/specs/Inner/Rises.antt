@@ -7,7 +7,7 @@ use Rattle.roc_msg.specs.declared.msg.Msg.TheVariants.{Ended}
 use Rattle.roc_msg.specs.declared.outbox.Outgoing.{Outgoing}
 use Rattle.roc_plan.specs.Groups.{Plan}
 use Rattle.roc_coord.specs.declared.marks.Rise.{Rise}
-use Rattle.roc_coord.specs.Marks.{first_seq}
+use Rattle.roc_coord.specs.Marks.{least_seq}
 
 abbrev pub ended_with : (number mark shard : ℕ) → Outgoing
 ended_with number mark shard = record { to = Server (record { 0 = shard }); msg = Ended number mark }
@@ -17,7 +17,7 @@ ended_by plan number mark = if mark == 0 then [] else map (ended_with number mar
 
 -- the answer of the transaction at a place
 abbrev pub rise_at : (number next : ℕ) → List TxnId → (at : ℕ) → Rise
-rise_at number next ids at = record { number = number; old = first_seq ids next; new = first_seq (remove ids at) next }
+rise_at number next ids at = record { number = number; old = least_seq ids next; new = least_seq (remove ids at) next }
 
 abbrev pub rise_sends : Plan → Rise → List Outgoing
 rise_sends plan rise = if nat_lt (rise.old / 64) (rise.new / 64) then ended_by plan rise.number rise.new else []
