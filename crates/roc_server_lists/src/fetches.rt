@@ -1,6 +1,6 @@
 //! Fetches, and what answers them.
-ghost use Rattle.std.specs.Prelude.{◌≡◌, ◌++◌, ◌∷◌, [], map, OnOk};
-ghost use Rattle.roc_msg.specs.Outbox.{HasSent};
+ghost use Rattle.std.specs.Prelude.{◌≡◌, ◌++◌, ◌∷◌, [], map, OnOk, OnErr};
+ghost use Rattle.roc_msg.specs.Outbox.{HasSent, HoldsSame};
 ghost use Rattle.roc_server_lists.specs.Asking.{known_to, fetch_from};
 ghost use Rattle.roc_server_lists.specs.Carried.{list_with};
 
@@ -8,14 +8,15 @@ use roc_await::OpenFetch;
 use roc_base::{Edges, NoMemory, Node, Shard, TxnId};
 use roc_msg::{Msg, Outbox};
 
-/// Tells a list to one who asked for it. `NoMemory` promises nothing of `outbox`.
+/// Tells a list to one who asked for it. `NoMemory` leaves what `outbox` holds.
 pub fn send_known(
     asker: Shard,
     id: TxnId,
     edges: &Edges,
     outbox: &mut Outbox,
 ) -> Result<(), NoMemory>
-    ensures { OnOk result (HasSent outbox.old outbox.new (known_to (list_with id edges.now) (record { id = id; shard = asker }) ∷ [])) }
+    ensures sent { OnOk result (HasSent outbox.old outbox.new (known_to (list_with id edges.now) (record { id = id; shard = asker }) ∷ [])) }
+    ensures err { OnErr result (HoldsSame outbox.old outbox.new) }
 {
     let edges = edges.clone()?;
     outbox.send(Node::Server(asker), Msg::Known { id, edges })
