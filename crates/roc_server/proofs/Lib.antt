@@ -9,6 +9,7 @@ mod OneStep
 mod SameGroups
 mod StartSteps
 mod TeachSteps
+mod Undone
 mod LeftOut
 mod Learning
 mod Stands

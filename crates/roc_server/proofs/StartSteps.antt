@@ -1,5 +1,5 @@
 -- What comes of a start, case by case
-use Rattle.std.proofs.Common.{◌≡◌, ◌<◌, ◌==◌, ◌&&◌, ℕ, Bool, true, false, not, nat_lt, cond, is_none, Some, None, Option, List, [], ◌∷◌, ◌++◌, length, Result, Ok, Err, IfOk, refl, sym, ap, subst, ◌∙◌, append-nil, arith, inl, inr, filter}
+use Rattle.std.proofs.Common.{◌≡◌, ◌<◌, ◌==◌, ◌&&◌, ℕ, Bool, true, false, not, nat_lt, cond, is_none, Some, None, Option, List, [], ◌∷◌, ◌++◌, length, Result, Ok, Err, IfOk, refl, sym, ap, subst, ◌∙◌, append-nil, arith, inl, inr, filter, if◌then◌else◌}
 use Rattle.std.proofs.lemmas.Bool.{eqb-true, and_parts, false≢true}
 use Rattle.std.specs.List.Sorted.{IsStrictlySortedBy}
 use Rattle.roc_sequence.specs.Places.{place_of, is_listed, IsListed, NoneTwice}
@@ -14,10 +14,12 @@ use Rattle.roc_base.specs.Equalities.{is_txn-true}
 use Rattle.roc_depgraph.specs.declared.known.KnownList.{KnownList}
 use Rattle.roc_depgraph.specs.Deps.{IsDecided, is_known}
 use Rattle.roc_group.specs.GroupRun.{GroupCall}
-use Rattle.roc_msg.specs.Outbox.{Collected, HasSent}
+use Rattle.roc_msg.specs.Outbox.{Collected, HasSent, HoldsAlso}
 use Rattle.roc_msg.specs.declared.reason.Reason.{Reason}
 use Rattle.roc_msg.specs.declared.reason.Reason.TheVariants.{BadProc, BadGroup, BadInputs, NotHere, Late, Differs}
-use Rattle.roc_plan.specs.Groups.{Plan, groups_of, shard_of, group_place}
+use Rattle.roc_plan.specs.Groups.{Plan, groups_of, is_immediate_of, shard_of, group_place}
+use Rattle.roc_rows.specs.Held.{Held}
+use Rattle.roc_rows.specs.Store.{Store}
 use Rattle.roc_rows.specs.declared.cell.Cell.{Cell}
 use Rattle.roc_server_index.specs.GroupRefs.{CellRefs}
 use Rattle.roc_server.specs.declared.handled.Handled.{Handled}
@@ -25,7 +27,8 @@ use Rattle.roc_server.specs.declared.handled.Handled.TheVariants.{Done, Ignored}
 use Rattle.roc_server.specs.declared.server_data.ServerData.{ServerData}
 use Rattle.roc_server.specs.declared.started.StartedGroup.{StartedGroup}
 use Rattle.roc_server_lists.specs.New.{AreLedTo}
-use Rattle.roc_server.specs.Start.{first_reason, has_procedure, has_counts, differs, start_fault, start_judged, start_taken, startok_of, edges_for}
+use Rattle.roc_server.specs.Start.{first_reason, has_procedure, has_counts, differs, start_fault, start_judged, start_taken, start_new, startok_of, edges_for, new_group}
+use Rattle.roc_server.specs.Runs.{accesses_of}
 use Rattle.roc_server.specs.Step.{Shows}
 use Rattle.std.specs.List.{AllByRecursion, flat_map}
 use Rattle.roc_base.proofs.Ids.{none_rise}
@@ -37,7 +40,7 @@ use Rattle.roc_await.specs.Lacks.{AreLacks}
 use Rattle.roc_server_lists.proofs.Skipped.{left_still}
 use Rattle.roc_server.specs.Inner.Indexed.{group_ref_of, IsIndexOf, IsAddedAt}
 use Rattle.roc_server.specs.Inner.ServerData.{state_of, IsConsistent, is_left, is_same_group}
-use Rattle.roc_server.specs.Inner.Starts.{StartTaken, StartsNew}
+use Rattle.roc_server.specs.Inner.Starts.{IsNewGroup, StartTaken, StartsNew}
 use Rattle.roc_server.specs.State.{is_group, find_group, ServerState, ServerStep, is_here}
 use Rattle.roc_server.proofs.SameGroups.{same_own}
 use Rattle.roc_server.proofs.IndexSteps.{index_started}
@@ -90,6 +93,42 @@ module _ (plan : Plan) (shard : Shard) (k : ServerData) (id : TxnId) (c : GroupC
         reached = h.reached;
         led = subst P (ap (λ g. by_tests None g) (sym absent) ∙ ap (λ f. by_tests f (find_group id c.group k.started)) (sym judged)) h.led;
         shown = subst Q (ap (start_taken plan k.decided.ids h.reached s id c) (sym absent) ∙ ap (start_judged plan k.decided.ids h.reached s id c) (sym judged)) h.shown;
+      }
+
+-- ---- a group that starts now
+
+abbrev Told : Plan → Shard → StartedGroup → Collected → Type 0
+Told plan shard e sends =
+    (sends.messages ≡ startok_of shard e ∷ []) × ((sends.decided ≡ []) × (sends.ran ≡ accesses_of (if is_immediate_of plan e.proc e.group then e ∷ [] else [])))
+
+module _ (plan : Plan) (shard : Shard) (k mid : ServerData) (id : TxnId) (c : GroupCall) (before after : Collected) where
+  -- it stands behind the others, and what is told of it behind what was sent
+  pub start_entered : (e : StartedGroup) (started : List StartedGroup) (index : List (Cell × CellRefs)) (sends : Collected) → IsNewGroup plan shard k mid id c e → started ≡ mid.started ++ e ∷ [] → Told plan shard e sends → HoldsAlso before after sends
+      → StartsNew plan shard k (record mid { started = started; index = index }) before after id c Done
+  start_entered e started index sends n is told sent =
+      record {
+        reached = n.reached;
+        led = n.led;
+        shown = record {
+          answers = refl;
+          keeps = λ i. record { shard = shard; store = sym n.store i; started = sym (is ∙ (λ j. n.started j ++ n.is j ∷ [])) i; lists = record { known = sym n.deps i; waiting = (sym n.waits i).waiting } };
+          sends = sent.0 ∙ ap (λ ms. before.messages ++ ms) (told.0 ∙ ap (λ (g : StartedGroup). startok_of shard g ∷ []) n.is);
+          decides = sent.1 ∙ ap (λ ids. before.decided ++ ids) told.1.0;
+          ran = sent.2 ∙ ap (λ accesses. before.ran ++ accesses) (told.1.1 ∙ (λ i. accesses_of (if is_immediate_of plan (n.is i).proc (n.is i).group then n.is i ∷ [] else [])));
+        };
+      }
+
+  -- a savepoint before it and behind it changes no cell
+  pub start_between : (noted kept : Held) (answer : Handled) → noted.store ≡ k.rows.store → kept.store ≡ mid.rows.store → StartsNew plan shard (record k { rows = noted }) mid before after id c answer → StartsNew plan shard k (record mid { rows = kept }) before after id c answer
+  start_between noted kept answer same same2 h =
+      let from : Store → ServerState = λ store. record { shard = shard; store = store; started = k.started; lists = record { known = k.deps; waiting = k.waits.waiting } } in
+      let to : Store → ServerState = λ store. record { shard = shard; store = store; started = mid.started; lists = record { known = mid.deps; waiting = mid.waits.waiting } } in
+      record {
+        reached = h.reached;
+        led = subst (λ store. AreLedTo k.deps (edges_for plan k.decided.ids (from store) id c) h.reached) same h.led;
+        shown =
+            subst (λ store. Shows (start_new plan (from k.rows.store) c (new_group plan k.decided.ids h.reached (from k.rows.store) id c)) answer (to store) before after) (sym same2)
+            (subst (λ store. Shows (start_new plan (from store) c (new_group plan k.decided.ids h.reached (from store) id c)) answer (to mid.rows.store) before after) same h.shown);
       }
 
 -- ---- a start that is taken is not late

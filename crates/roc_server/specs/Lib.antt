@@ -5,5 +5,6 @@ pub mod Runs
 pub mod Lists
 pub mod Fits
 pub mod Step
+pub mod Waiting
 pub mod Codes
 pub mod Inner

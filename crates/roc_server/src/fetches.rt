@@ -1,6 +1,7 @@
 //! Fetches.
-ghost use Rattle.std.specs.Prelude.{◌≡◌, false, IfOk, OnOk};
-ghost use Rattle.roc_server.specs.Inner.ServerData.{state_of, IsConsistent};
+ghost use Rattle.std.specs.Prelude.{◌≡◌, false, IfOk, OnOk, OnErr};
+ghost use Rattle.roc_msg.specs.Outbox.{HoldsSame};
+ghost use Rattle.roc_server.specs.Inner.ServerData.{state_of, IsConsistent, IsSame};
 ghost use Rattle.roc_server.specs.Lists.{after_fetch};
 ghost use Rattle.roc_server.specs.Step.{Shows};
 
@@ -24,6 +25,7 @@ pub(crate) fn take_fetch(
     ensures step { IfOk result (λ answer. Shows (after_fetch (state_of shard kept.old) id asker) answer (state_of shard kept.new) outbox.old outbox.new) }
     ensures started { OnOk result (kept.new.started ≡ kept.old.started) }
     ensures sound { OnOk result (IsConsistent kept.new) }
+    ensures err { OnErr result (IsSame kept.old kept.new × HoldsSame outbox.old outbox.new) }
 {
     if !is_here(&kept.started, id) {
         return Ok(Handled::Ignored(Reason::NotHere));

@@ -6,11 +6,12 @@
 //!
 //! The layers above may rely on this: [`Server::handle`] is exactly that step, whatever the message, forged ones too,
 //! under any plan that its groups are of (`ServerFits` of `specs/Fits.antt`), and they stay of it; an ignored message
-//! changes nothing and sends nothing; [`Server::tick`] sends exactly `tick_sends` and changes nothing; a server that
-//! found no memory says so from then on, and exactly then. [`Server::decided`] tells exactly whether a transaction is
-//! decided here, and [`Server::cells`] lists the cells that are not 0. [`Server::entries`] gives the entries of a group
-//! that would start, and looks at no more started groups than there are pairs of a cell that it uses and an undecided
-//! group of its class that uses that cell (`users` of `specs/Start.antt`).
+//! changes nothing and sends nothing; [`Server::tick`] sends exactly `tick_sends` and changes nothing. Where memory ends,
+//! the server and what the outbox holds are as they were, but for their room, so the same call may be made again.
+//! [`Server::decided`] tells exactly whether a transaction is decided here, [`Server::cells`] lists the cells that are
+//! not 0, and [`Server::waiting`] the buffered groups of undecided transactions (`specs/Waiting.antt`).
+//! [`Server::entries`] gives the entries of a group that would start, and looks at no more started groups than there are
+//! pairs of a cell that it uses and an undecided group of its class that uses that cell (`users` of `specs/Start.antt`).
 //!
 //! What a server keeps beside its state, so that a step costs what is undecided, is in an invariant of the type and in
 //! no clause. `specs/Inner/` is of this crate alone.
@@ -36,7 +37,9 @@ mod started_groups;
 mod started_now;
 mod starts;
 mod teach;
+mod waiting;
 
 pub use handled::Handled;
 pub use server::Server;
 pub use started::StartedGroup;
+pub use waiting::Waiting;

@@ -1,16 +1,18 @@
 //! The server.
-ghost use Rattle.std.specs.Prelude.{◌≡◌, ◌↔◌, ◌+◌, ◌≤◌, ◌++◌, List, length, true, false, IsTrue, IfOk, OnOk};
+ghost use Rattle.std.specs.Prelude.{◌≡◌, ◌↔◌, ◌+◌, ◌≤◌, List, length, map, IsTrue, IfOk, OnOk, OnErr};
 ghost use Rattle.roc_base.specs.declared.id.TxnId.{TxnId as Id};
 ghost use Rattle.roc_depgraph.specs.Deps.{IsDecided};
-ghost use Rattle.roc_msg.specs.Outbox.{HasSent};
+ghost use Rattle.roc_msg.specs.Outbox.{HasSent, HoldsSame};
+ghost use Rattle.roc_server_lists.specs.Asking.{fetch_from};
 ghost use Rattle.roc_server_lists.specs.New.{AreDecided};
 ghost use Rattle.roc_rows.specs.Store.{entries};
 ghost use Rattle.roc_server.specs.First.{first_server};
 ghost use Rattle.roc_server.specs.Fits.{AreGroupsOf, ServerFits};
-ghost use Rattle.roc_server.specs.Inner.ServerData.{state_of, IsConsistent};
+ghost use Rattle.roc_server.specs.Inner.ServerData.{state_of, IsConsistent, IsSame};
 ghost use Rattle.roc_server.specs.Start.{is_immediate, entries_for, users};
 ghost use Rattle.roc_server.specs.State.{ServerStep};
 ghost use Rattle.roc_server.specs.Step.{Handles, Shows, tick_sends};
+ghost use Rattle.roc_server.specs.Waiting.{waiting_groups};
 
 use crate::Handled;
 use crate::commits::{take_commit, take_known};
@@ -19,6 +21,8 @@ use crate::first::first_rows;
 use crate::looks::{Starting, entries};
 use crate::server_data::ServerData;
 use crate::starts::{Request, take_start};
+use crate::waiting::{Waiting, all_waiting};
+use roc_await::OpenFetch;
 use roc_base::{Edges, NoMemory, Shard, Steps, TxnId};
 use roc_group::Access;
 use roc_msg::{Msg, NodeFault, Outbox, Reason};
@@ -36,7 +40,6 @@ pub struct Server {
     alloc: Global,
     shard: Shard,
     kept: ServerData,
-    stopped: bool,
 }
 
 impl Model for Server {
@@ -49,7 +52,7 @@ impl Model for Server {
 
     ghost use Rattle.roc_server.specs.Inner.ServerData.{state_of, IsConsistent};
 
-    ghost view = { λ s. state_of s.shard s.kept s.stopped };
+    ghost view = { λ s. state_of s.shard s.kept };
 
     ghost invariant = { λ s. IsConsistent s.kept };
 }
@@ -66,13 +69,12 @@ impl Server {
             alloc,
             shard,
             kept: ServerData::new(alloc, rows),
-            stopped: false,
         })
     }
 
     /// Takes a message, or ignores it for the first reason that holds. What it sends and what it
-    /// newly decides is added to `outbox`. `NoMemory` promises nothing of the server's groups, lists
-    /// and cells, nor of `outbox`, but that each later call answers `Stopped`.
+    /// newly decides is added to `outbox`. `NoMemory` leaves the server and what `outbox` holds as
+    /// they were, so the same call may be made again.
     pub fn handle(
         &mut self,
         plan: &Plan,
@@ -80,52 +82,27 @@ impl Server {
         outbox: &mut Outbox,
     ) -> Result<Handled, NodeFault>
         requires fits { ServerFits plan.now self.old }
-
-        // The step that the definitions fix.
         ensures step { IfOk result (λ answer. (r : ServerStep) × Handles plan.now self.old msg.now r × Shows r answer self.new outbox.old outbox.new) }
+        ensures err { OnErr result ((self.new ≡ self.old) × HoldsSame outbox.old outbox.new) }
         ensures fits { ServerFits plan.now self.new }
         ensures shard { self.new.shard ≡ self.old.shard }
-
-        // A server that found no memory answers so from then on, and exactly then.
-        ensures going { OnOk result (self.new.stopped ≡ false) }
-        ensures stopped { (result ≡ Err NodeFault.Stopped) ↔ (self.old.stopped ≡ true) }
-        ensures unchanged { result ≡ Err NodeFault.Stopped → (self.new ≡ self.old) × (outbox.new ≡ outbox.old) }
-        ensures no_memory { result ≡ Err NodeFault.NoMemory → self.new.stopped ≡ true }
     {
-        if self.stopped {
-            return Err(NodeFault::Stopped);
-        }
-        match take(self.alloc, plan, self.shard, &mut self.kept, msg, outbox) {
-            Ok(handled) => Ok(handled),
-            Err(NoMemory) => {
-                // A part may be done and another not, so nothing is kept.
-                self.kept.clear(self.alloc);
-                self.stopped = true;
-                Err(NodeFault::NoMemory)
-            }
-        }
+        let Ok(handled) = take(self.alloc, plan, self.shard, &mut self.kept, msg, outbox) else {
+            return Err(NodeFault::NoMemory);
+        };
+        Ok(handled)
     }
 
-    /// Sends again what was asked for and is not known yet. It changes nothing but that `NoMemory`, which promises nothing of `outbox`,
-    /// stops the server.
+    /// Sends again what was asked for and is not known yet. It changes nothing. `NoMemory` leaves what `outbox` holds, so the same
+    /// call may be made again.
     pub fn tick(&mut self, outbox: &mut Outbox) -> Result<(), NodeFault>
         ensures sent { OnOk result (HasSent outbox.old outbox.new (tick_sends self.old)) }
-        ensures same { OnOk result (self.new ≡ self.old) }
-        ensures going { OnOk result (self.old.stopped ≡ false) }
-        ensures stopped { (result ≡ Err NodeFault.Stopped) ↔ (self.old.stopped ≡ true) }
-        ensures unchanged { result ≡ Err NodeFault.Stopped → (self.new ≡ self.old) × (outbox.new ≡ outbox.old) }
-        ensures no_memory { result ≡ Err NodeFault.NoMemory → self.new.stopped ≡ true }
+        ensures same { self.new ≡ self.old }
+        ensures err { OnErr result (HoldsSame outbox.old outbox.new) }
     {
-        if self.stopped {
-            return Err(NodeFault::Stopped);
-        }
-        match send_fetches(self.shard, self.kept.waits.open(), outbox) {
+        match fetch_again(self.alloc, self.shard, self.kept.waits.open(), outbox) {
             Ok(()) => Ok(()),
-            Err(NoMemory) => {
-                self.kept.clear(self.alloc);
-                self.stopped = true;
-                Err(NodeFault::NoMemory)
-            }
+            Err(NoMemory) => Err(NodeFault::NoMemory),
         }
     }
 
@@ -160,6 +137,15 @@ impl Server {
         entries(self.alloc, plan, &self.kept, starting, cells, steps)
     }
 
+    /// The buffered groups of undecided transactions, in order of arrival, each as its transaction and the cells that it uses: what
+    /// waits here, for an auditor.
+    pub fn waiting(&self, plan: &Plan) -> Result<Vec<Waiting>, NoMemory>
+        requires fits { ServerFits plan.now self.now }
+        ensures { IfOk result (λ groups. (decided : List Id) → AreDecided self.now.lists.known decided → groups.items ≡ waiting_groups plan.now decided self.now) }
+    {
+        all_waiting(self.alloc, plan, &self.kept)
+    }
+
     /// The cells that are not 0, each with its number, by cell rising.
     pub fn cells(&self) -> Result<Vec<(Cell, i64)>, NoMemory>
         ensures { IfOk result (λ cells. cells.items ≡ entries self.now.store) }
@@ -173,6 +159,21 @@ fn is_immediate(class: Class) -> bool
     ensures { result ≡ is_immediate class }
 {
     class == Class::Immediate
+}
+
+// Asks again for these lists, all or none.
+fn fetch_again(
+    alloc: Global,
+    shard: Shard,
+    asks: &[OpenFetch],
+    outbox: &mut Outbox,
+) -> Result<(), NoMemory>
+    ensures sent { OnOk result (HasSent outbox.old outbox.new (map (fetch_from shard) asks.now)) }
+    ensures err { OnErr result (HoldsSame outbox.old outbox.new) }
+{
+    let mut sends = Outbox::new(alloc);
+    send_fetches(shard, asks, &mut sends)?;
+    outbox.append(sends)
 }
 
 // Takes a message, or ignores it.
@@ -189,6 +190,7 @@ fn take(
     ensures step { IfOk result (λ answer. (r : ServerStep) × Handles plan.now (state_of shard kept.old) msg.now r × Shows r answer (state_of shard kept.new) outbox.old outbox.new) }
     ensures fits { OnOk result (AreGroupsOf plan.now kept.new.started) }
     ensures sound { OnOk result (IsConsistent kept.new) }
+    ensures err { OnErr result (IsSame kept.old kept.new × HoldsSame outbox.old outbox.new) }
 {
     match msg {
         Msg::Start {

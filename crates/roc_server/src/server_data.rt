@@ -48,12 +48,4 @@ impl ServerData {
             index: Index::new(alloc),
         }
     }
-
-    // Keeps nothing any more.
-    pub(crate) fn clear(&mut self, alloc: Global)
-        ensures started { self.new.started ≡ [] }
-        ensures sound { IsConsistent self.new }
-    {
-        *self = ServerData::new(alloc, Rows::new(alloc));
-    }
 }

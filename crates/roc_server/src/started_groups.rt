@@ -1,15 +1,23 @@
 //! The groups that have started on a server, found by their transactions and numbers.
-ghost use Rattle.std.specs.Prelude.{◌≡◌, ◌<◌, ◌++◌, ◌∷◌, [], length, map, position, slice_get, slice_set, None, Some, OnOk};
-ghost use Rattle.indexmap.specs.IndexMap.{keys, values, index_map_len};
+ghost use Rattle.std.specs.Prelude.{◌≡◌, ◌<◌, ◌++◌, ◌∷◌, [], length, map, position, slice_get, slice_set, None, Some, false, OnOk, OnErr};
+ghost use Rattle.std.specs.List.{AllByRecursion};
+ghost use Rattle.indexmap.specs.IndexMap.{keys, values, index_map_len, spare};
 ghost use Rattle.roc_base.specs.TxnId.{is_txn};
+ghost use Rattle.roc_msg.specs.Outbox.{HoldsAlso, HoldsSame};
+ghost use Rattle.roc_rows.specs.declared.cell.Cell.{Cell};
+ghost use Rattle.roc_server_index.specs.GroupRefs.{group_refs_at, is_same_ref, HaveSameRefs};
 ghost use Rattle.roc_server.specs.declared.started.StartedGroup.{StartedGroup as Group};
-ghost use Rattle.roc_server.specs.Inner.Keyed.{AreBelow, IsOnceHere, key_of, lesser};
+ghost use Rattle.roc_server.specs.Inner.Indexed.{group_ref_of, IsAddedAt};
+ghost use Rattle.roc_server.specs.Inner.Keyed.{AreBelow, AreKeyed, IsOnceHere, key_of, lesser};
 ghost use Rattle.roc_server.specs.State.{find_group, is_group};
 
 use crate::StartedGroup;
 use crate::group_key::GroupKey;
+use crate::indexed::{add_group, reserve_group};
 use indexmap::IndexMap;
 use roc_base::{NoMemory, Nums, TxnId};
+use roc_msg::Outbox;
+use roc_server_index::Index;
 use std::alloc::Global;
 use std::marker::Model;
 
@@ -59,16 +67,25 @@ impl StartedGroups {
         self.numbers
     }
 
-    // Adds a group at the end.
-    pub(crate) fn push(&mut self, group: StartedGroup) -> Result<(), NoMemory>
-        requires { find_group group.id group.group self.old ≡ None }
-        ensures { OnOk result (self.new ≡ self.old ++ group ∷ []) }
+    // Adds a group at the end, and its references to the index, and sends what is told of it. All room is taken first, so
+    // `NoMemory` leaves all three as they were, but for their room.
+    pub(crate) fn enter(
+        &mut self,
+        group: StartedGroup,
+        index: &mut Index,
+        sends: Outbox,
+        outbox: &mut Outbox,
+    ) -> Result<(), NoMemory>
+        requires absent { find_group group.id group.group self.old ≡ None }
+        requires unmet { (c : Cell) → AllByRecursion (λ s. is_same_ref s (group_ref_of group) ≡ false) (group_refs_at c index.old) }
+        ensures groups { OnOk result (self.new ≡ self.old ++ group ∷ []) }
+        ensures refs { OnOk result (IsAddedAt (group_ref_of group) group.cells index.old index.new) }
+        ensures sent { OnOk result (HoldsAlso outbox.old outbox.new sends) }
+        ensures err { OnErr result ((self.new ≡ self.old) × (HaveSameRefs index.old index.new × HoldsSame outbox.old outbox.new)) }
     {
-        let (id, number) = (group.id, group.group as usize);
-        self.groups.insert(GroupKey { id, number }, group)?;
-        if self.numbers <= number {
-            self.numbers = number + 1;
-        }
+        self.groups.reserve(1)?;
+        add_and_send(index, &group, sends, outbox)?;
+        put(&mut self.groups, &mut self.numbers, group);
         Ok(())
     }
 
@@ -97,6 +114,39 @@ impl StartedGroups {
         ensures { (e : Group) → slice_get self.old at ≡ Some e → self.new ≡ slice_set self.old at (record e { later = Some given }) }
     {
         set_later(&mut self.groups, at, given);
+    }
+}
+
+// Adds the references of a group to the index, which has room for them then, and sends what is told of it.
+fn add_and_send(
+    index: &mut Index,
+    group: &StartedGroup,
+    sends: Outbox,
+    outbox: &mut Outbox,
+) -> Result<(), NoMemory>
+    requires { (c : Cell) → AllByRecursion (λ s. is_same_ref s (group_ref_of group.now) ≡ false) (group_refs_at c index.old) }
+    ensures refs { OnOk result (IsAddedAt (group_ref_of group.now) group.now.cells index.old index.new) }
+    ensures sent { OnOk result (HoldsAlso outbox.old outbox.new sends) }
+    ensures err { OnErr result (HaveSameRefs index.old index.new × HoldsSame outbox.old outbox.new) }
+{
+    reserve_group(index, group)?;
+    outbox.append(sends)?;
+    add_group(index, group).unwrap();
+    Ok(())
+}
+
+// Puts a group at the end, where there is room.
+fn put(groups: &mut IndexMap<GroupKey, StartedGroup>, numbers: &mut usize, group: StartedGroup)
+    requires room { 0 < spare groups.old }
+    requires keyed { AreKeyed groups.old.entries numbers.old }
+    requires absent { find_group group.id group.group (values groups.old) ≡ None }
+    ensures keyed { AreKeyed groups.new.entries numbers.new }
+    ensures groups { values groups.new ≡ values groups.old ++ group ∷ [] }
+{
+    let (id, number) = (group.id, group.group as usize);
+    groups.insert(GroupKey { id, number }, group).unwrap();
+    if *numbers <= number {
+        *numbers = number + 1;
     }
 }
 

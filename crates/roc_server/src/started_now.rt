@@ -8,7 +8,7 @@ ghost use Rattle.roc_server_ancestors.specs.Least.{AreRows};
 ghost use Rattle.roc_server.specs.Fits.{IsCallOf, AreGroupsOf};
 ghost use Rattle.roc_server.specs.Inner.Indexed.{IsIndexOf};
 ghost use Rattle.roc_server.specs.Inner.ServerData.{asked, is_same_group};
-ghost use Rattle.roc_server.specs.Inner.Starts.{IsNewGroup};
+ghost use Rattle.roc_server.specs.Inner.Starts.{IsNewGroup, KeepsBeside};
 ghost use Rattle.roc_server.specs.Start.{conflicts_before, edge_to};
 
 use crate::StartedGroup;
@@ -58,6 +58,7 @@ fn begin_group(
     ensures outs { IfOk result (λ o. o.outs ≡ (if is_immediate_of plan.now proc group then (group_run plan.now (call proc group known.now.args known.now.inputs) rows.old.store).reply else [])) }
     ensures store { OnOk result (rows.new.store
         ≡ (if is_immediate_of plan.now proc group then (group_run plan.now (call proc group known.now.args known.now.inputs) rows.old.store).store else rows.old.store)) }
+    ensures saved { rows.new.saved ≡ rows.old.saved }
 {
     if is_immediate(plan, proc, group) {
         let mut out = Outputs::new(alloc);
@@ -108,7 +109,9 @@ pub(crate) fn new_group(
     requires once { NoneTwice is_same_group kept.old.started }
     requires index { IsIndexOf kept.old.index kept.old.decided.ids kept.old.started }
     requires rows { AreRows kept.old.deps kept.old.ancestors.rows }
-    ensures { IfOk result (λ e. IsNewGroup plan.now shard kept.old kept.new request.id (asked request) e) }
+    ensures new { IfOk result (λ e. IsNewGroup plan.now shard kept.old kept.new request.id (asked request) e) }
+    ensures beside { KeepsBeside kept.old kept.new }
+    ensures saved { kept.new.rows.saved ≡ kept.old.rows.saved }
 {
     let Request {
         id,

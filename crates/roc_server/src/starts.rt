@@ -1,18 +1,18 @@
 //! Starts.
-ghost use Rattle.std.specs.Prelude.{◌≡◌, ◌++◌, ◌∷◌, [], ◌<◌, length, None, false, if◌then◌else◌, IfOk, OnOk};
+ghost use Rattle.std.specs.Prelude.{◌≡◌, ◌++◌, ◌∷◌, [], ◌<◌, length, None, false, if◌then◌else◌, IfOk, OnOk, OnErr};
 ghost use Rattle.roc_depgraph.specs.Deps.{is_known};
-ghost use Rattle.roc_msg.specs.Outbox.{HasSent, HasRun};
+ghost use Rattle.roc_msg.specs.Outbox.{HasSent, HasRun, HoldsSame};
 ghost use Rattle.roc_group.specs.GroupRun.{call};
 ghost use Rattle.roc_plan.specs.Groups.{groups_of, is_immediate_of};
+ghost use Rattle.roc_server.specs.declared.handled.Handled.TheVariants.{Done};
 ghost use Rattle.roc_server.specs.Fits.{IsCallOf, AreGroupsOf};
-ghost use Rattle.roc_server.specs.Inner.ServerData.{state_of, asked, IsConsistent};
-ghost use Rattle.roc_server.specs.Inner.Starts.{StartTaken, StartsNew};
+ghost use Rattle.roc_server.specs.Inner.ServerData.{state_of, asked, IsConsistent, IsSame};
+ghost use Rattle.roc_server.specs.Inner.Starts.{KeepsBeside, StartTaken, StartsNew};
 ghost use Rattle.roc_server.specs.Runs.{accesses_of};
 ghost use Rattle.roc_server.specs.Start.{has_counts, start_fault, startok_of};
 ghost use Rattle.roc_server.specs.State.{find_group};
 
 use crate::groups::{differs, find_group};
-use crate::indexed::{add_group, reserve_group};
 use crate::ran::note_group;
 use crate::server_data::ServerData;
 use crate::started_now::{is_immediate, new_group};
@@ -45,6 +45,7 @@ pub(crate) fn take_start(
     ensures step { IfOk result (StartTaken plan.now shard kept.old kept.new outbox.old outbox.new request.id (asked request)) }
     ensures fits { OnOk result (AreGroupsOf plan.now kept.new.started) }
     ensures sound { OnOk result (IsConsistent kept.new) }
+    ensures err { OnErr result (IsSame kept.old kept.new × HoldsSame outbox.old outbox.new) }
 {
     if let Some(reason) = start_fault(plan, shard, kept, &request) {
         return Ok(Handled::Ignored(reason));
@@ -58,7 +59,7 @@ pub(crate) fn take_start(
     }
 }
 
-// Starts a group that is not here.
+// Starts a group that is not here. Where there is no memory, what it set is undone.
 fn start_new(
     alloc: Global,
     plan: &Plan,
@@ -75,14 +76,62 @@ fn start_new(
     ensures step { IfOk result (StartsNew plan.now shard kept.old kept.new outbox.old outbox.new request.id (asked request)) }
     ensures fits { OnOk result (AreGroupsOf plan.now kept.new.started) }
     ensures sound { OnOk result (IsConsistent kept.new) }
+    ensures err { OnErr result (IsSame kept.old kept.new × HoldsSame outbox.old outbox.new) }
+{
+    kept.rows.savepoint();
+    match try_start(alloc, plan, shard, kept, request, outbox) {
+        Ok(()) => {
+            kept.rows.release();
+            Ok(Handled::Done)
+        }
+        Err(NoMemory) => {
+            kept.rows.rollback();
+            Err(NoMemory)
+        }
+    }
+}
+
+// The same behind a savepoint of the cells.
+fn try_start(
+    alloc: Global,
+    plan: &Plan,
+    shard: Shard,
+    kept: &mut ServerData,
+    request: Request,
+    outbox: &mut Outbox,
+) -> Result<(), NoMemory>
+    requires call { IsCallOf plan.now (asked request) }
+    requires absent { find_group request.id request.group kept.old.started ≡ None }
+    requires unknown { is_known kept.old.deps request.id ≡ false }
+    requires fits { AreGroupsOf plan.now kept.old.started }
+    requires sound { IsConsistent kept.old }
+    ensures step { OnOk result (StartsNew plan.now shard kept.old kept.new outbox.old outbox.new request.id (asked request) Done) }
+    ensures fits { OnOk result (AreGroupsOf plan.now kept.new.started) }
+    ensures sound { OnOk result (IsConsistent kept.new) }
+    ensures err { OnErr result (KeepsBeside kept.old kept.new × HoldsSame outbox.old outbox.new) }
+    ensures saved { kept.new.rows.saved ≡ kept.old.rows.saved }
 {
     let started = new_group(alloc, plan, shard, kept, request)?;
-    reserve_group(&mut kept.index, &started)?;
-    note_if_immediate(plan, &started, outbox)?;
-    send_startok(shard, &started, outbox)?;
-    add_group(&mut kept.index, &started)?;
-    kept.started.push(started)?;
-    Ok(Handled::Done)
+    let sends = told_of(alloc, plan, shard, &started)?;
+    kept.started.enter(started, &mut kept.index, sends, outbox)
+}
+
+// What is told of a group that starts, and the accesses of one that ran.
+fn told_of(
+    alloc: Global,
+    plan: &Plan,
+    shard: Shard,
+    group: &StartedGroup,
+) -> Result<Outbox, NoMemory>
+    requires { group.now.group < length (groups_of plan.now group.now.proc) }
+    ensures messages { IfOk result (λ sends. sends.messages ≡ startok_of shard group.now ∷ []) }
+    ensures decided { IfOk result (λ sends. sends.decided ≡ []) }
+    ensures ran { IfOk result (λ sends. sends.ran ≡ accesses_of (if is_immediate_of plan.now group.now.proc group.now.group then group.now ∷ [] else [])) }
+{
+    let mut sends = Outbox::new(alloc);
+    note_if_immediate(plan, group, &mut sends)?;
+    send_startok(shard, group, &mut sends)?;
+    Ok(sends)
 }
 
 // Notes the accesses of a group where it runs as it starts.
@@ -133,9 +182,10 @@ fn has_counts(plan: &Plan, proc: u16, group: u16, known: &Known) -> bool
         && known.inputs.len() == plan.inputs(proc, group).len()
 }
 
-// Tells a group's coordinator that it has started, what it gave, and what comes before.
+// Tells a group's coordinator that it has started, what it gave, and what comes before. `NoMemory` leaves what `outbox` holds.
 fn send_startok(shard: Shard, e: &StartedGroup, outbox: &mut Outbox) -> Result<(), NoMemory>
-    ensures { OnOk result (HasSent outbox.old outbox.new (startok_of shard e.now ∷ [])) }
+    ensures sent { OnOk result (HasSent outbox.old outbox.new (startok_of shard e.now ∷ [])) }
+    ensures err { OnErr result (HoldsSame outbox.old outbox.new) }
 {
     let startok = Msg::StartOk {
         id: e.id,

@@ -1,5 +1,5 @@
 -- A group that starts, as its parts are made
-use Rattle.std.specs.Prelude.{◌≡◌, false, if◌then◌else◌, List}
+use Rattle.std.specs.Prelude.{◌≡◌, if◌then◌else◌, List}
 use Rattle.roc_base.specs.declared.id.TxnId.{TxnId}
 use Rattle.roc_base.specs.declared.node.Shard.{Shard}
 use Rattle.roc_group.specs.GroupRun.{GroupCall, group_run}
@@ -9,9 +9,21 @@ use Rattle.roc_server.specs.declared.handled.Handled.{Handled}
 use Rattle.roc_server.specs.declared.server_data.ServerData.{ServerData}
 use Rattle.roc_server.specs.declared.started.StartedGroup.{StartedGroup}
 use Rattle.roc_server.specs.Inner.ServerData.{state_of}
+use Rattle.roc_server_index.specs.GroupRefs.{HaveSameRefs}
 use Rattle.roc_server_lists.specs.New.{AreLedTo}
 use Rattle.roc_server.specs.Start.{is_immediate_group, edges_for, new_group, start_new, after_start}
 use Rattle.roc_server.specs.Step.{Shows, edges_of_new}
+
+-- all but the cells is as it was, room aside
+pub record KeepsBeside (old new : ServerData) : Type 0 where
+  pub started : new.started ≡ old.started
+  pub deps : new.deps ≡ old.deps
+  pub waiting : new.waits.waiting ≡ old.waits.waiting
+  pub fetches : new.waits.fetches ≡ old.waits.fetches
+  pub decided : new.decided.ids ≡ old.decided.ids
+  pub ancestors : new.ancestors.rows ≡ old.ancestors.rows
+  pub lacks : new.lacks ≡ old.lacks
+  pub index : HaveSameRefs old.index new.index
 
 -- e is what is kept of a group that starts, and an immediate one ran
 pub record IsNewGroup (plan : Plan) (shard : Shard) (old new : ServerData) (id : TxnId) (c : GroupCall) (e : StartedGroup) : Type 0 where

@@ -8,8 +8,8 @@ use Rattle.roc_server.specs.Start.{edges_for, entries_for, is_immediate_group}
 use Rattle.roc_server.specs.State.{ServerState}
 use Rattle.roc_server.proofs.started_now.new_group.Goals as goal
 
-pub returns : goal.returns
-returns c =
+pub returns-clause-new : goal.returns-clause-new
+returns-clause-new c =
     let f = c.in_ok-facts.ensures in
     let k = c.args.kept.now in
     let r = c.args.request in

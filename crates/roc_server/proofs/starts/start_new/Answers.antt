@@ -1,27 +1,20 @@
-use Rattle.std.proofs.Common.{◌≡◌, ◌∙◌, false, None, List, sym, ap, subst}
-use Rattle.std.specs.List.{AllByRecursion}
-use Rattle.roc_rows.specs.declared.cell.Cell.{Cell}
-use Rattle.roc_server_index.specs.GroupRefs.{CellRefs, group_refs_at, is_same_ref}
-use Rattle.roc_server_lists.specs.Decided.{DecidedIds}
-use Rattle.roc_server.specs.declared.started.StartedGroup.{StartedGroup}
-use Rattle.roc_server.specs.Inner.Indexed.{group_ref_of}
-use Rattle.roc_server.specs.State.{find_group}
-use Rattle.roc_server.proofs.IndexSteps.{added_behind, none_yet}
-use Rattle.roc_server.proofs.StartSteps.{start_sound}
+use Rattle.roc_server.proofs.StartSteps.{start_between}
+use Rattle.roc_server.proofs.Undone.{cells_aside, tried_in_vain}
+use Rattle.roc_server.specs.declared.handled.Handled.TheVariants.{Done}
+use Rattle.roc_server.specs.Inner.ServerData.{asked}
 use Rattle.roc_server.proofs.starts.start_new.Goals as goal
 
-pub returns-clause-sound : goal.returns-clause-sound
-returns-clause-sound c =
-    let n = c.in_ok-started.ensures in
-    start_sound c.args.kept.now c.new_group.new.kept c.push.new.self c.add_group.new.index c.in_ok-started.started c.args.request.id c.args.request.group c.requires.sound n.started n.deps (ap (λ (d : DecidedIds). d.ids) n.decided) n.ancestors n.lacks n.waits c.in_ok-push.ensures
-    (ap (λ (e : StartedGroup). e.id) n.is) (ap (λ (e : StartedGroup). e.group) n.is) c.requires.absent n.index c.requires.unknown
-    (added_behind (group_ref_of c.in_ok-started.started) c.in_ok-started.started.cells c.new_group.new.kept.index c.reserve_group.new.index c.add_group.new.index c.reserve_group.ensures.refs c.in_ok-add_group.ensures.ok)
+pub try_start-requires-clause-sound : goal.try_start-requires-clause-sound
+try_start-requires-clause-sound c = cells_aside c.args.kept.now c.savepoint.new.self c.requires.sound
 
-pub add_group-requires : goal.add_group-requires
-add_group-requires c d =
-    let k = c.args.kept.now in
-    let n = c.in_ok-started.ensures in
-    let e = c.in_ok-started.started in
-    let absent : find_group e.id e.group k.started ≡ None = (λ i. find_group (n.is i).id (n.is i).group k.started) ∙ c.requires.absent in
-    subst (AllByRecursion (λ s. is_same_ref s (group_ref_of e) ≡ false)) (sym (c.reserve_group.ensures.refs d))
-    (subst (λ (i : List (Cell × CellRefs)). AllByRecursion (λ s. is_same_ref s (group_ref_of e) ≡ false) (group_refs_at d i)) (sym n.index) (none_yet k.index k.decided.ids k.started e c.requires.sound.index absent d))
+pub returns-in-Ok-clause-step : goal.returns-in-Ok-clause-step
+returns-in-Ok-clause-step c =
+    start_between c.args.plan.now c.args.shard c.args.kept.now c.try_start.new.kept c.args.request.id (asked c.args.request) c.args.outbox.now c.try_start.new.outbox c.savepoint.new.self c.release.new.self Done c.savepoint.ensures.store c.release.ensures.store c.in-Ok.ensures.step
+
+pub returns-in-Ok-clause-sound : goal.returns-in-Ok-clause-sound
+returns-in-Ok-clause-sound c = cells_aside c.try_start.new.kept c.release.new.self c.in-Ok.ensures.sound
+
+pub returns-in-Err-clause-err : goal.returns-in-Err-clause-err
+returns-in-Err-clause-err c =
+    let kept = c.in-Err.ensures.err in
+    (tried_in_vain c.args.kept.now c.try_start.new.kept c.savepoint.new.self c.rollback.new.self c.savepoint.ensures.saved c.in-Err.ensures.saved c.rollback.ensures.store kept.0 c.requires.sound, kept.1)

@@ -12,7 +12,7 @@ pub returns-in_ok-send_startok-in-Some-find_group-clause-step : goal.returns-in_
 returns-in_ok-send_startok-in-Some-find_group-clause-step c =
     start_repeated c.args.plan.now c.args.shard c.args.kept.now c.args.request.id (asked c.args.request) c.args.outbox.now c.send_startok.new.outbox c.in-Some-find_group.earlier.now (sym c.start_fault.ensures.reason ∙ c.in_default.is)
     (sym c.find_group.ensures ∙ ap option_copied c.in-Some-find_group.is)
-    c.in_ok-send_startok-in-Some-find_group.ensures
+    c.in_ok-send_startok-in-Some-find_group.ensures.sent
 
 pub start_new-requires-clause-unknown : goal.start_new-requires-clause-unknown
 start_new-requires-clause-unknown c =

@@ -1,0 +1,64 @@
+//! What waits on a server.
+ghost use Rattle.std.specs.Prelude.{◌≡◌, ◌++◌, ◌∷◌, [], ◌<◌, length, map, filter, IfOk, OnOk};
+ghost use Rattle.roc_plan.specs.Groups.{groups_of};
+ghost use Rattle.roc_server.specs.Fits.{AreGroupsOf};
+ghost use Rattle.roc_server.specs.Waiting.{is_waiting, waiting_of};
+
+use crate::StartedGroup;
+use crate::server_data::ServerData;
+use crate::started_now::is_immediate;
+use roc_base::{NoMemory, TxnId};
+use roc_group::Access;
+use roc_plan::Plan;
+use roc_sequence::Sequence;
+use roc_server_lists::Decided;
+use std::alloc::Global;
+
+/// A buffered group of a transaction that is not decided, with the cells that it uses.
+#[derive(Drop)]
+pub struct Waiting {
+    pub id: TxnId,
+    pub cells: Sequence<Access>,
+}
+
+// The groups that wait, in order of arrival.
+pub(crate) fn all_waiting(
+    alloc: Global,
+    plan: &Plan,
+    kept: &ServerData,
+) -> Result<Vec<Waiting>, NoMemory>
+    requires { AreGroupsOf plan.now kept.now.started }
+    ensures { IfOk result (λ groups. groups.items ≡ map waiting_of (filter (is_waiting plan.now kept.now.decided.ids) kept.now.started)) }
+{
+    let mut groups = Vec::new(alloc);
+    for group in kept.started.as_slice() {
+        if is_waiting(plan, &kept.decided, group) {
+            push_waiting(alloc, group, &mut groups)?;
+        }
+    }
+    Ok(groups)
+}
+
+// Whether a group is buffered, and its transaction not decided.
+fn is_waiting(plan: &Plan, decided: &Decided, group: &StartedGroup) -> bool
+    requires { group.now.group < length (groups_of plan.now group.now.proc) }
+    ensures { result ≡ is_waiting plan.now decided.now.ids group.now }
+{
+    !is_immediate(plan, group.proc, group.group) && !decided.contains(group.id)
+}
+
+// Adds what is shown of a group.
+fn push_waiting(
+    alloc: Global,
+    group: &StartedGroup,
+    groups: &mut Vec<Waiting>,
+) -> Result<(), NoMemory>
+    ensures { OnOk result (groups.new.items ≡ groups.old.items ++ waiting_of group.now ∷ []) }
+{
+    let cells = Sequence::from_slice(alloc, group.cells.as_slice())?;
+    groups.push(Waiting {
+        id: group.id,
+        cells,
+    })?;
+    Ok(())
+}
