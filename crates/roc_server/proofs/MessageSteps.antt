@@ -1,24 +1,25 @@
 -- What comes of a message, kind by kind
-use Rattle.std.proofs.Common.{◌≡◌, ℕ, ℤ, false, List, [], Result, Ok, Err, IfOk, refl, sym, subst, ◌∙◌, append-nil}
+use Rattle.std.proofs.Common.{◌≡◌, ℕ, ℤ, false, List, [], ◌++◌, Result, Ok, Err, IfOk, refl, sym, ap, subst, ◌∙◌, append-nil}
 use Rattle.roc_base.specs.declared.id.TxnId.{TxnId}
 use Rattle.roc_base.specs.declared.node.Shard.{Shard}
 use Rattle.roc_base.specs.Edge.{Dependency}
 use Rattle.roc_depgraph.specs.declared.known.KnownList.{KnownList}
 use Rattle.roc_group.specs.GroupRun.{call}
 use Rattle.roc_msg.specs.declared.msg.Msg.{Msg}
-use Rattle.roc_msg.specs.declared.msg.Msg.TheVariants.{Start, StartOk, Commit, CommitOk, Fetch, Known, Stop}
+use Rattle.roc_msg.specs.declared.msg.Msg.TheVariants.{Start, Commit, Fetch, Known, Ended, Settled}
 use Rattle.roc_msg.specs.Outbox.{Collected}
 use Rattle.roc_msg.specs.declared.reason.Reason.TheVariants.{Foreign}
 use Rattle.roc_plan.specs.Groups.{Plan}
 use Rattle.roc_server.specs.declared.handled.Handled.{Handled}
-use Rattle.roc_server.specs.declared.handled.Handled.TheVariants.{Ignored}
+use Rattle.roc_server.specs.declared.handled.Handled.TheVariants.{Done, Gone, Ignored}
 use Rattle.roc_server.specs.declared.server_data.ServerData.{ServerData}
 use Rattle.roc_server.specs.Inner.ServerData.{state_of, IsConsistent}
 use Rattle.roc_server.specs.Inner.Starts.{StartTaken}
 use Rattle.roc_server.specs.Inner.Taught.{Commits, Knows}
 use Rattle.roc_server.specs.Lists.{after_fetch}
+use Rattle.roc_server.specs.Runs.{accesses_of}
 use Rattle.roc_server_lists.specs.New.{AreDecided}
-use Rattle.roc_server.specs.State.{ignored, ServerState, ServerStep}
+use Rattle.roc_server.specs.State.{ignored, answered, gone, hearing, ServerState, ServerStep}
 use Rattle.roc_server.specs.Step.{Findings, AreFindings, after_message, Handles, Shows}
 use Rattle.roc_server_lists.proofs.InOrder.{nothing_new}
 use Rattle.roc_server.proofs.StartSteps.{nothing_led}
@@ -83,12 +84,43 @@ module _ (plan : Plan) (shard : Shard) (k : ServerData) (sound : IsConsistent k)
       → ((id : TxnId) (edges : List Dependency) (facts : List KnownList) → msg ≡ Commit id edges facts → ⊥)
       → ((id : TxnId) (asker : Shard) → msg ≡ Fetch id asker → ⊥)
       → ((id : TxnId) (edges : List Dependency) → msg ≡ Known id edges → ⊥)
+      → ((coord below : ℕ) → msg ≡ Ended coord below → ⊥)
+      → ((id : TxnId) (below : ℕ) → msg ≡ Settled id below → ⊥)
       → IsStepFor plan now msg now out out (Ignored Foreign)
-  foreign_comes (Start id proc group args inputs) a b c d = absurd (a id proc group args inputs refl)
-  foreign_comes (Commit id edges facts) a b c d = absurd (b id edges facts refl)
-  foreign_comes (Fetch id asker) a b c d = absurd (c id asker refl)
-  foreign_comes (Known id edges) a b c d = absurd (d id edges refl)
-  foreign_comes msg a b c d = comes plan shard k k sound out out msg msg nothing (Ignored Foreign) refl (record { before = decided plan shard k k sound out out; reached = nothing_led k.deps; decided = nothing_new k.deps }) ignored_shown
+  foreign_comes (Start id proc group args inputs) a b c d e f = absurd (a id proc group args inputs refl)
+  foreign_comes (Commit id edges facts) a b c d e f = absurd (b id edges facts refl)
+  foreign_comes (Fetch id asker) a b c d e f = absurd (c id asker refl)
+  foreign_comes (Known id edges) a b c d e f = absurd (d id edges refl)
+  foreign_comes (Ended coord below) a b c d e f = absurd (e coord below refl)
+  foreign_comes (Settled id below) a b c d e f = absurd (f id below refl)
+  foreign_comes msg a b c d e f = comes plan shard k k sound out out msg msg nothing (Ignored Foreign) refl (record { before = decided plan shard k k sound out out; reached = nothing_led k.deps; decided = nothing_new k.deps }) ignored_shown
+
+-- a watermark is heard
+module _ (plan : Plan) (shard : Shard) (k new : ServerData) (sound : IsConsistent k) (out : Collected) where
+  abbrev nothing_found : Findings
+  nothing_found = record { before = k.decided.ids; reached = []; decided = [] }
+
+  heard_shown : (r : ServerStep) → r.sends ≡ [] → r.decided ≡ [] → r.ran ≡ [] → r.state ≡ state_of shard new → Shows r r.answer (state_of shard new) out out
+  heard_shown r sends decides ran keeps =
+      record {
+        answers = refl;
+        keeps = keeps;
+        sends = sym (ap (λ l. out.messages ++ l) sends ∙ append-nil out.messages);
+        decides = sym (ap (λ l. out.decided ++ l) decides ∙ append-nil out.decided);
+        ran = sym (ap (λ l. out.ran ++ accesses_of l) ran ∙ append-nil out.ran);
+      }
+
+  pub ended_comes : (msg : Msg) (coord mark : ℕ) → msg ≡ Ended coord mark → state_of shard new ≡ hearing (state_of shard k) coord mark → IsStepFor plan (state_of shard k) msg (state_of shard new) out out Done
+  ended_comes msg coord mark is heard =
+      comes plan shard k new sound out out msg (Ended coord mark) nothing_found Done is
+      (record { before = decided plan shard k new sound out out; reached = nothing_led k.deps; decided = nothing_new k.deps })
+      (heard_shown (answered (hearing (state_of shard k) coord mark) []) refl refl refl (sym heard))
+
+  pub settled_comes : (msg : Msg) (id : TxnId) (mark : ℕ) → msg ≡ Settled id mark → state_of shard new ≡ hearing (state_of shard k) id.coord mark → IsStepFor plan (state_of shard k) msg (state_of shard new) out out Gone
+  settled_comes msg id mark is heard =
+      comes plan shard k new sound out out msg (Settled id mark) nothing_found Gone is
+      (record { before = decided plan shard k new sound out out; reached = nothing_led k.deps; decided = nothing_new k.deps })
+      (heard_shown (gone (hearing (state_of shard k) id.coord mark)) refl refl refl (sym heard))
 
 -- the same between equal states
 pub comes_from : (plan : Plan) (s t after then : ServerState) (msg : Msg) (old new : Collected) (answer : Handled) → s ≡ t → after ≡ then → IsStepFor plan s msg after old new answer → IsStepFor plan t msg then old new answer

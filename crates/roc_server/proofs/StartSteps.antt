@@ -111,7 +111,7 @@ module _ (plan : Plan) (shard : Shard) (k mid : ServerData) (id : TxnId) (c : Gr
         led = n.led;
         shown = record {
           answers = refl;
-          keeps = λ i. record { shard = shard; store = sym n.store i; started = sym (is ∙ (λ j. n.started j ++ n.is j ∷ [])) i; lists = record { known = sym n.deps i; waiting = (sym n.waits i).waiting } };
+          keeps = λ i. record { shard = shard; store = sym n.store i; started = sym (is ∙ (λ j. n.started j ++ n.is j ∷ [])) i; lists = record { known = sym n.deps i; waiting = (sym n.waits i).waiting }; below = sym n.marks i };
           sends = sent.0 ∙ ap (λ ms. before.messages ++ ms) (told.0 ∙ ap (λ (g : StartedGroup). startok_of shard g ∷ []) n.is);
           decides = sent.1 ∙ ap (λ ids. before.decided ++ ids) told.1.0;
           ran = sent.2 ∙ ap (λ accesses. before.ran ++ accesses) (told.1.1 ∙ (λ i. accesses_of (if is_immediate_of plan (n.is i).proc (n.is i).group then n.is i ∷ [] else [])));
@@ -121,8 +121,8 @@ module _ (plan : Plan) (shard : Shard) (k mid : ServerData) (id : TxnId) (c : Gr
   -- a savepoint before it and behind it changes no cell
   pub start_between : (noted kept : Held) (answer : Handled) → noted.store ≡ k.rows.store → kept.store ≡ mid.rows.store → StartsNew plan shard (record k { rows = noted }) mid before after id c answer → StartsNew plan shard k (record mid { rows = kept }) before after id c answer
   start_between noted kept answer same same2 h =
-      let from : Store → ServerState = λ store. record { shard = shard; store = store; started = k.started; lists = record { known = k.deps; waiting = k.waits.waiting } } in
-      let to : Store → ServerState = λ store. record { shard = shard; store = store; started = mid.started; lists = record { known = mid.deps; waiting = mid.waits.waiting } } in
+      let from : Store → ServerState = λ store. record { shard = shard; store = store; started = k.started; lists = record { known = k.deps; waiting = k.waits.waiting }; below = k.marks } in
+      let to : Store → ServerState = λ store. record { shard = shard; store = store; started = mid.started; lists = record { known = mid.deps; waiting = mid.waits.waiting }; below = mid.marks } in
       record {
         reached = h.reached;
         led = subst (λ store. AreLedTo k.deps (edges_for plan k.decided.ids (from store) id c) h.reached) same h.led;

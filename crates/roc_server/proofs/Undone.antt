@@ -31,7 +31,7 @@ same_kept old new cells p h =
     let Lists : List KnownList → List TxnId → Type 0 = λ ks ids. ((t : TxnId) → IsListed is_txn ids t → IsDecided ks t) × ((t : TxnId) → IsDecided ks t → IsListed is_txn ids t) in
     let both : Lists new.deps new.decided.ids = subst (λ ks. Lists ks new.decided.ids) (sym p.deps) (subst (λ ids. Lists old.deps ids) (sym p.decided) (h.decided_only, h.decided_all)) in
     record {
-      state = λ shard i. record { shard = shard; store = cells i; started = p.started i; lists = record { known = p.deps i; waiting = p.waiting i } };
+      state = λ shard i. record { shard = shard; store = cells i; started = p.started i; lists = record { known = p.deps i; waiting = p.waiting i }; below = p.marks i };
       sound = record {
         groups_once = subst (NoneTwice is_same_group) (sym p.started) h.groups_once;
         decided_rising = subst (IsStrictlySortedBy txn_cmp) (sym p.decided) h.decided_rising;
@@ -67,15 +67,15 @@ pub tried_in_vain : (k tried : ServerData) (noted undone : Held) → noted.saved
     → IsSame k (record tried { rows = undone })
 tried_in_vain k tried noted undone saved kept back p h =
     same_kept k (record tried { rows = undone }) (back ∙ ap (λ s. unwrap_or s tried.rows.store) (kept ∙ saved))
-    (record { started = p.started; deps = p.deps; waiting = p.waiting; fetches = p.fetches; decided = p.decided; ancestors = p.ancestors; lacks = p.lacks; index = p.index }) h
+    (record { started = p.started; deps = p.deps; waiting = p.waiting; fetches = p.fetches; decided = p.decided; ancestors = p.ancestors; lacks = p.lacks; index = p.index; marks = p.marks }) h
 
 -- only those who wait were told otherwise, and that was the same
 pub waits_same : (k : ServerData) (waits : Awaited) → waits.waiting ≡ k.waits.waiting → waits.fetches ≡ k.waits.fetches → IsConsistent k → IsSame k (record k { waits = waits })
 waits_same k waits waiting fetches h =
     same_kept k (record k { waits = waits }) refl
-    (record { started = refl; deps = refl; waiting = waiting; fetches = fetches; decided = refl; ancestors = refl; lacks = refl; index = λ c. refl }) h
+    (record { started = refl; deps = refl; waiting = waiting; fetches = fetches; decided = refl; ancestors = refl; lacks = refl; index = λ c. refl; marks = refl }) h
 
 -- two steps, of which the second touches groups and index alone
 pub beside_more : (k mid : ServerData) (started : List StartedGroup) (index : List (Cell × CellRefs)) → KeepsBeside k mid → started ≡ mid.started → HaveSameRefs mid.index index → KeepsBeside k (record mid { started = started; index = index })
 beside_more k mid started index p same refs =
-    record { started = same ∙ p.started; deps = p.deps; waiting = p.waiting; fetches = p.fetches; decided = p.decided; ancestors = p.ancestors; lacks = p.lacks; index = λ c. refs c ∙ p.index c }
+    record { started = same ∙ p.started; deps = p.deps; waiting = p.waiting; fetches = p.fetches; decided = p.decided; ancestors = p.ancestors; lacks = p.lacks; index = λ c. refs c ∙ p.index c; marks = p.marks }

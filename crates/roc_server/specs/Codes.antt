@@ -71,6 +71,6 @@ coded_lists =
 
 abbrev pub coded_state : Coded ServerState
 coded_state =
-    code_by (ℕ × (Store × (List StartedGroup × Lists))) (coded× coded_ℕ (coded× coded_store (coded× (coded_list coded_group) coded_lists)))
-    (λ s. (s.shard.0, (s.store, (s.started, s.lists))))
-    (λ p. record { shard = record { 0 = p.0 }; store = p.1.0; started = p.1.1.0; lists = p.1.1.1 }) (λ _. refl)
+    code_by (ℕ × (Store × (List StartedGroup × (Lists × List ℕ)))) (coded× coded_ℕ (coded× coded_store (coded× (coded_list coded_group) (coded× coded_lists (coded_list coded_ℕ)))))
+    (λ s. (s.shard.0, (s.store, (s.started, (s.lists, s.below)))))
+    (λ p. record { shard = record { 0 = p.0 }; store = p.1.0; started = p.1.1.0; lists = p.1.1.1.0; below = p.1.1.1.1 }) (λ _. refl)

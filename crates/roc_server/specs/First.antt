@@ -5,6 +5,7 @@ use Rattle.roc_plan.specs.Groups.{Plan, shard_of}
 use Rattle.roc_rows.specs.Store.{empty}
 use Rattle.roc_whole.specs.Serial.{after_inits}
 use Rattle.roc_await.specs.Waits.{none_waiting}
+use Rattle.roc_server.specs.Below.{none_below}
 use Rattle.roc_server.specs.State.{ServerState}
 
 -- it holds the start cells of its places, and nothing else
@@ -15,4 +16,5 @@ first_server plan shard =
       store = after_inits empty (filter (λ i. shard_of plan i.place == shard.0) plan.program.inits);
       started = [];
       lists = record { known = []; waiting = none_waiting };
+      below = none_below;
     }

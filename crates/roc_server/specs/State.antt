@@ -10,7 +10,8 @@ use Rattle.roc_msg.specs.declared.outbox.Outgoing.{Outgoing}
 use Rattle.roc_msg.specs.declared.reason.Reason.{Reason}
 use Rattle.roc_rows.specs.Store.{Store}
 use Rattle.roc_server.specs.declared.handled.Handled.{Handled}
-use Rattle.roc_server.specs.declared.handled.Handled.TheVariants.{Done, Ignored}
+use Rattle.roc_server.specs.declared.handled.Handled.TheVariants.{Done, Ignored, Gone}
+use Rattle.roc_server.specs.Below.{raised}
 use Rattle.roc_server.specs.declared.started.StartedGroup.{StartedGroup}
 
 -- the dependency lists that a server knows, in the order in which it learnt them; what it asked for, and who asked it
@@ -24,6 +25,8 @@ pub record ServerState : Type 0 where
   -- the groups that started here, in the order in which they arrived
   pub started : List StartedGroup
   pub lists : Lists
+  -- the watermarks of coordinators, by number
+  pub below : List ℕ
 
 -- what comes of a message: the answer, the state after it, what is sent, the transactions newly decided, in the order in which they were
 -- taken, and the groups that ran, in the order in which they did
@@ -38,9 +41,17 @@ pub record ServerStep : Type 0 where
 abbrev pub ignored : ServerState → Reason → ServerStep
 ignored s reason = record { answer = Ignored reason; state = s; sends = []; decided = []; ran = [] }
 
+-- a message that comes too late to change or send anything but a watermark
+abbrev pub gone : ServerState → ServerStep
+gone s = record { answer = Gone; state = s; sends = []; decided = []; ran = [] }
+
 -- a message that changes nothing, and what is sent
 abbrev pub answered : ServerState → List Outgoing → ServerStep
 answered s sends = record { answer = Done; state = s; sends = sends; decided = []; ran = [] }
+
+-- the watermark of a coordinator is heard
+abbrev pub hearing : ServerState → (coord mark : ℕ) → ServerState
+hearing s coord mark = record s { below = raised s.below coord mark }
 
 -- this group of this transaction
 abbrev pub is_group : TxnId → ℕ → StartedGroup → Bool

@@ -5,7 +5,7 @@ use Rattle.roc_base.specs.Edge.{Dependency}
 use Rattle.roc_depgraph.specs.declared.known.KnownList.{KnownList}
 use Rattle.roc_depgraph.specs.Deps.{IsDecided}
 use Rattle.roc_msg.specs.declared.msg.Msg.{Msg}
-use Rattle.roc_msg.specs.declared.msg.Msg.TheVariants.{Start, StartOk, Commit, CommitOk, Fetch, Known, Stop}
+use Rattle.roc_msg.specs.declared.msg.Msg.TheVariants.{Start, Commit, Fetch, Known, Ended, Settled}
 use Rattle.roc_msg.specs.Outbox.{Collected}
 use Rattle.roc_msg.specs.declared.outbox.Outgoing.{Outgoing}
 use Rattle.roc_msg.specs.declared.reason.Reason.{Reason}
@@ -18,7 +18,7 @@ use Rattle.roc_server.specs.Start.{start_fault, edges_for, after_start}
 use Rattle.roc_server_lists.specs.Carried.{list_with, carried, unknown_of}
 use Rattle.roc_server.specs.Lists.{commit_fault, after_commit, after_fetch, known_fault, after_known, fetched_again}
 use Rattle.roc_server.specs.Runs.{accesses_of}
-use Rattle.roc_server.specs.State.{ignored, find_group, ServerState, ServerStep}
+use Rattle.roc_server.specs.State.{ignored, answered, gone, hearing, find_group, ServerState, ServerStep}
 
 -- ---- what a step finds in the lists
 
@@ -62,6 +62,8 @@ after_message plan s f (Start id proc group args inputs) = after_start plan f.be
 after_message plan s f (Commit id edges facts) = after_commit plan f.before f.decided s id edges facts (commit_fault s id edges facts)
 after_message plan s f (Fetch id asker) = after_fetch s id asker
 after_message plan s f (Known id edges) = after_known plan f.decided s id edges (known_fault s id edges)
+after_message plan s f (Ended coord below) = answered (hearing s coord below) []
+after_message plan s f (Settled id below) = gone (hearing s id.coord below)
 after_message plan s f msg = ignored s Foreign
 
 -- r is what comes of a message

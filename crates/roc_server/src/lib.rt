@@ -27,6 +27,7 @@ mod handled;
 mod indexed;
 pub mod laws;
 mod looks;
+mod marks;
 mod missing;
 mod ran;
 mod runs;

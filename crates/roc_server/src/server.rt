@@ -6,11 +6,13 @@ ghost use Rattle.roc_msg.specs.Outbox.{HasSent, HoldsSame};
 ghost use Rattle.roc_server_lists.specs.Asking.{fetch_from};
 ghost use Rattle.roc_server_lists.specs.New.{AreDecided};
 ghost use Rattle.roc_rows.specs.Store.{entries};
+ghost use Rattle.roc_base.specs.declared.node.Shard.{Shard as At};
+ghost use Rattle.roc_server.specs.Below.{is_ended};
 ghost use Rattle.roc_server.specs.First.{first_server};
 ghost use Rattle.roc_server.specs.Fits.{AreGroupsOf, ServerFits};
 ghost use Rattle.roc_server.specs.Inner.ServerData.{state_of, IsConsistent, IsSame};
 ghost use Rattle.roc_server.specs.Start.{is_immediate, entries_for, users};
-ghost use Rattle.roc_server.specs.State.{ServerStep};
+ghost use Rattle.roc_server.specs.State.{hearing, ServerStep};
 ghost use Rattle.roc_server.specs.Step.{Handles, Shows, tick_sends};
 ghost use Rattle.roc_server.specs.Waiting.{waiting_groups};
 
@@ -114,6 +116,13 @@ impl Server {
         self.kept.decided.contains(id)
     }
 
+    /// Whether a transaction is below the highest watermark that was heard of its coordinator, and so was answered there. Takes no memory.
+    pub fn ended(&self, id: TxnId) -> bool
+        ensures { result ≡ is_ended self.now.below id }
+    {
+        self.kept.marks.is_ended(id)
+    }
+
     /// The entries of a group of this class that would start now and use these cells. A step is one look at a started group. What is
     /// looked at are groups of this class that use one of the cells and whose transactions are not decided, each once for each of the
     /// cells; however many groups have started, no other one is.
@@ -176,6 +185,16 @@ fn fetch_again(
     outbox.append(sends)
 }
 
+// Hears the watermark of a coordinator.
+fn hear(kept: &mut ServerData, coord: u16, mark: u32)
+    requires sound { IsConsistent kept.old }
+    ensures heard { (shard : At) → state_of shard kept.new ≡ hearing (state_of shard kept.old) coord mark }
+    ensures started { kept.new.started ≡ kept.old.started }
+    ensures sound { IsConsistent kept.new }
+{
+    kept.marks.raise(coord, mark);
+}
+
 // Takes a message, or ignores it.
 fn take(
     alloc: Global,
@@ -226,6 +245,14 @@ fn take(
         }
         Msg::Fetch { id, asker } => take_fetch(shard, kept, *id, *asker, outbox),
         Msg::Known { id, edges } => take_known(alloc, plan, shard, kept, *id, edges, outbox),
+        Msg::Ended { coord, below } => {
+            hear(kept, *coord, *below);
+            Ok(Handled::Done)
+        }
+        Msg::Settled { id, below } => {
+            hear(kept, id.coord, *below);
+            Ok(Handled::Gone)
+        }
         _ => Ok(Handled::Ignored(Reason::Foreign)),
     }
 }

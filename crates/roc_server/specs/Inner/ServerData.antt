@@ -20,7 +20,7 @@ use Rattle.roc_server.specs.State.{is_group, is_here, unrun, ServerState}
 use Rattle.roc_server.specs.Inner.Indexed.{IsIndexOf}
 
 abbrev pub state_of : Shard → ServerData → ServerState
-state_of shard k = record { shard = shard; store = k.rows.store; started = k.started; lists = record { known = k.deps; waiting = k.waits.waiting } }
+state_of shard k = record { shard = shard; store = k.rows.store; started = k.started; lists = record { known = k.deps; waiting = k.waits.waiting }; below = k.marks }
 
 -- the same with these cells and groups
 abbrev pub holding : ServerState → Store → List StartedGroup → ServerState

@@ -24,6 +24,7 @@ pub record KeepsBeside (old new : ServerData) : Type 0 where
   pub ancestors : new.ancestors.rows ≡ old.ancestors.rows
   pub lacks : new.lacks ≡ old.lacks
   pub index : HaveSameRefs old.index new.index
+  pub marks : new.marks ≡ old.marks
 
 -- e is what is kept of a group that starts, and an immediate one ran
 pub record IsNewGroup (plan : Plan) (shard : Shard) (old new : ServerData) (id : TxnId) (c : GroupCall) (e : StartedGroup) : Type 0 where
@@ -38,6 +39,7 @@ pub record IsNewGroup (plan : Plan) (shard : Shard) (old new : ServerData) (id :
   pub ancestors : new.ancestors ≡ old.ancestors
   pub lacks : new.lacks ≡ old.lacks
   pub index : new.index ≡ old.index
+  pub marks : new.marks ≡ old.marks
 
 -- a start was taken, or ignored
 pub record StartTaken (plan : Plan) (shard : Shard) (old new : ServerData) (before after : Collected) (id : TxnId) (c : GroupCall) (answer : Handled) : Type 0 where

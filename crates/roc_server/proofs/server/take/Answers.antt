@@ -1,4 +1,4 @@
-use Rattle.roc_server.proofs.MessageSteps.{foreign_comes, start_comes, commit_comes, known_comes, fetch_comes}
+use Rattle.roc_server.proofs.MessageSteps.{foreign_comes, ended_comes, settled_comes, start_comes, commit_comes, known_comes, fetch_comes}
 use Rattle.roc_server.proofs.server.take.Goals as goal
 
 pub returns-in_ok-clone-in-Start-2-clause-step : goal.returns-in_ok-clone-in-Start-2-clause-step
@@ -19,4 +19,12 @@ returns-in-Known-clause-step c =
     known_comes c.args.plan.now c.args.shard c.args.kept.now c.take_known.new.kept c.requires.sound c.args.outbox.now c.take_known.new.outbox c.take_known.result c.args.msg.now c.in-Known.id c.in-Known.edges c.in-Known.is c.take_known.ensures.step
 
 pub returns-in_default-clause-step : goal.returns-in_default-clause-step
-returns-in_default-clause-step c = foreign_comes c.args.plan.now c.args.shard c.args.kept.now c.requires.sound c.args.outbox.now c.args.msg.now c.in_default.not-Start c.in_default.not-Commit c.in_default.not-Fetch c.in_default.not-Known
+returns-in_default-clause-step c = foreign_comes c.args.plan.now c.args.shard c.args.kept.now c.requires.sound c.args.outbox.now c.args.msg.now c.in_default.not-Start c.in_default.not-Commit c.in_default.not-Fetch c.in_default.not-Known c.in_default.not-Ended c.in_default.not-Settled
+
+pub returns-in-Ended-clause-step : goal.returns-in-Ended-clause-step
+returns-in-Ended-clause-step c =
+    ended_comes c.args.plan.now c.args.shard c.args.kept.now c.hear.new.kept c.requires.sound c.args.outbox.now c.args.msg.now c.in-Ended.coord c.in-Ended.below c.in-Ended.is (c.hear.ensures.heard c.args.shard)
+
+pub returns-in-Settled-clause-step : goal.returns-in-Settled-clause-step
+returns-in-Settled-clause-step c =
+    settled_comes c.args.plan.now c.args.shard c.args.kept.now c.hear-in-Settled.new.kept c.requires.sound c.args.outbox.now c.args.msg.now c.in-Settled.id c.in-Settled.below c.in-Settled.is (c.hear-in-Settled.ensures.heard c.args.shard)

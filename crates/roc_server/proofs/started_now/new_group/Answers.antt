@@ -42,4 +42,5 @@ returns-clause-new c =
       ancestors = refl;
       lacks = refl;
       index = refl;
+      marks = refl;
     }

@@ -1,0 +1,51 @@
+//! The watermarks of coordinators.
+ghost use Rattle.std.specs.Prelude.{◌≡◌};
+ghost use Rattle.roc_server.specs.Below.{none_below, is_ended, raised};
+
+use roc_base::TxnId;
+use std::marker::Model;
+
+// Of each of sixteen coordinators, below which sequence it has answered all its transactions, as far as it was heard.
+#[derive(Drop)]
+pub(crate) struct Marks {
+    below: [u32; 16],
+}
+
+impl Model for Marks {
+    ghost use Rattle.std.specs.Prelude.{◌≡◌, ℕ, List, length};
+
+    ghost Value = { List ℕ };
+
+    ghost view = { λ m. m.below };
+
+    ghost invariant = { λ m. length m.below ≡ 16 };
+}
+
+impl Marks {
+    // None was heard.
+    pub(crate) fn new() -> Marks
+        ensures { result ≡ none_below }
+    {
+        Marks { below: [0; 16] }
+    }
+
+    // A coordinator told this watermark. One past the last coordinator is not kept, and one that is not higher changes nothing.
+    pub(crate) fn raise(&mut self, coord: u16, mark: u32)
+        ensures { self.new ≡ raised self.old coord mark }
+    {
+        let at = usize::from(coord);
+        if at < 16 {
+            self.below[at] = self.below[at].max(mark);
+        }
+    }
+
+    // Whether a transaction is below its coordinator's watermark.
+    pub(crate) fn is_ended(&self, id: TxnId) -> bool
+        ensures { result ≡ is_ended self.now id }
+    {
+        match self.below.get(usize::from(id.coord)) {
+            Some(mark) => id.seq < *mark,
+            None => false,
+        }
+    }
+}
