@@ -143,5 +143,5 @@ run =
     (_, goes_on (Some (Deliver 4)) _ four answers)
 
 -- each message was delivered
-pub quiet : IsQuiet answered_world id
+pub quiet : IsQuiet smallest run.0 answered_world id
 quiet = record { each = λ k m u h e r. λ n. n }

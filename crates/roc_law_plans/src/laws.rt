@@ -135,9 +135,9 @@ pub fn cells_are_serial()
 /// and of its ancestors was delivered, has its reply in that same world. And a quiet transaction is decided wherever it has a group.
 pub fn quiet_is_answered()
     ensures answered { (plan : Plan) (coords : ℕ) (steps : List Stepped) (w : World) → IsAccepted plan → IsRun plan coords steps w
-        → (t : TxnId) (proc : ℕ) (args : List ℤ) → Has (entry.Submitted t proc args) w.history → IsQuiet w t → (reply : List ℤ) × Has (entry.Answered t reply) w.history }
+        → (t : TxnId) (proc : ℕ) (args : List ℤ) → Has (entry.Submitted t proc args) w.history → IsQuiet plan steps w t → (reply : List ℤ) × Has (entry.Answered t reply) w.history }
     ensures decided { (plan : Plan) (coords : ℕ) (steps : List Stepped) (w : World) → IsAccepted plan → IsRun plan coords steps w
-        → (t : TxnId) → IsQuiet w t → (shard : Shard) (s : ServerState) → slice_get w.servers shard.0 ≡ Some s → (e : StartedGroup) → Has e s.started → e.id ≡ t
+        → (t : TxnId) → IsQuiet plan steps w t → (shard : Shard) (s : ServerState) → slice_get w.servers shard.0 ≡ Some s → (e : StartedGroup) → Has e s.started → e.id ≡ t
         → IsDecided s.lists.known t }
 {
     accepted_plans_have_schemes();
@@ -270,5 +270,5 @@ pub fn servers_agree()
 pub fn a_submission_is_answered()
     ensures accepted { IsAccepted smallest }
     ensures answered { (steps : List Stepped) × (w : World) × IsRun smallest 1 steps w
-        × (t : TxnId) × (w.history ≡ entry.Submitted t 0 [] ∷ entry.Answered t (pos 1 ∷ []) ∷ []) × (w.order ≡ t ∷ []) × IsQuiet w t }
+        × (t : TxnId) × (w.history ≡ entry.Submitted t 0 [] ∷ entry.Answered t (pos 1 ∷ []) ∷ []) × (w.order ≡ t ∷ []) × IsQuiet smallest steps w t }
 {}

@@ -111,7 +111,7 @@ module _ (plan : Plan) (w : World) (o : HasHeard w) (finals : (n : ℕ) (s : Ser
       let k = f.union.in_network g.0 (all_has (λ g. g < length (groups_of plan f.proc)) g.0 range (range_below 0 (length (groups_of plan f.proc)) (length (groups_of plan f.proc)) (omega arith)) g.1) in
       record { group = g.0; edges = f.union.told g.0; facts = k.0; told = subst (λ t. IsToldIn w.sent t g.0 (f.union.told g.0) k.0) e.of k.1; entry = a.0; listed = g.2; from = a.2 ∙ e.from }
 
-  module _ (t : TxnId) (quiet : IsQuiet w t) where
+  module _ (steps : List Stepped) (t : TxnId) (quiet : IsQuiet plan steps w t) where
     own : AreDelivered w t
     own = record { each = λ k m at of. quiet.each k m t at of (inl refl) }
 
@@ -184,9 +184,9 @@ module _ (plan : Plan) (schemes : HasSchemes plan) (laws : (S : Scheme) → IsSo
     finals = known_final plan schemes laws stores coords steps w run
 
     -- a quiet transaction is decided wherever it has a group
-    pub quiet_is_decided : (t : TxnId) → IsQuiet w t → (shard : Shard) (s : ServerState) → slice_get w.servers shard.0 ≡ Some s → (e : StartedGroup) → Has e s.started → e.id ≡ t → IsDecided s.lists.known t
-    quiet_is_decided t quiet shard s there e h of = decided_here plan w heard finals out t quiet shard.0 s there (has_any (λ (e : StartedGroup). is_txn e.id t) s.started e h (is_txn-eq e.id t of))
+    pub quiet_is_decided : (t : TxnId) → IsQuiet plan steps w t → (shard : Shard) (s : ServerState) → slice_get w.servers shard.0 ≡ Some s → (e : StartedGroup) → Has e s.started → e.id ≡ t → IsDecided s.lists.known t
+    quiet_is_decided t quiet shard s there e h of = decided_here plan w heard finals out steps t quiet shard.0 s there (has_any (λ (e : StartedGroup). is_txn e.id t) s.started e h (is_txn-eq e.id t of))
 
     -- each commit of it that was delivered has a commitok in the network
-    pub commits_heard : (t : TxnId) → IsQuiet w t → CommitsHeard w t
-    commits_heard t quiet = commits_answered plan w heard finals out t quiet
+    pub commits_heard : (t : TxnId) → IsQuiet plan steps w t → CommitsHeard w t
+    commits_heard t quiet = commits_answered plan w heard finals out steps t quiet

@@ -9,7 +9,9 @@ use Rattle.roc_depgraph.specs.Reach.{ReachesOrIs}
 use Rattle.roc_msg.specs.declared.msg.Msg.TheVariants.{StartOk}
 use Rattle.roc_msg.specs.declared.msg.Envelope.{Envelope}
 use Rattle.roc_msg.specs.Msg.{id_of}
+use Rattle.roc_plan.specs.Groups.{Plan}
 use Rattle.roc_protocol.specs.World.{World}
+use Rattle.roc_protocol.specs.Run.{Stepped}
 
 -- a startok in the network: of this group of this transaction, with these edges and facts
 pub record IsToldIn (sent : List Envelope) (t : TxnId) (group : ℕ) (edges : List Dependency) (facts : List KnownList) : Type 0 where
@@ -34,8 +36,12 @@ pub record PrecedesIn (sent : List Envelope) (u t : TxnId) : Type 0 where
 abbrev pub WasDelivered : World → ℕ → Type 0
 WasDelivered w k = ¬ Has k w.undelivered
 
--- every message of t, or of an ancestor of it by startoks in the network, was delivered
-pub record IsQuiet (w : World) (t : TxnId) : Type 0 where
+-- a delivery of message k counts: it was delivered at least once
+abbrev pub Counts : List Stepped → World → ℕ → Type 0
+Counts steps w k = WasDelivered w k
+
+-- of every message of t, or of an ancestor of it by startoks in the network, a delivery counts
+pub record IsQuiet (plan : Plan) (steps : List Stepped) (w : World) (t : TxnId) : Type 0 where
   pub each :
       (k : ℕ) (m : Envelope) (u : TxnId) → slice_get w.sent k ≡ Some m → id_of m.msg ≡ Some u → ReachesOrIs (PrecedesIn w.sent) u t
-      → WasDelivered w (suc k)
+      → Counts steps w (suc k)

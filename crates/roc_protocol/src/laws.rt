@@ -207,9 +207,9 @@ pub fn nothing_is_refused()
 /// reply in that same world. And a quiet transaction is decided wherever it has a group.
 pub fn quiet_is_answered()
     ensures answered { (plan : Plan) (coords : ℕ) (steps : List Stepped) (w : World) → HasSchemes plan → IsRun plan coords steps w
-        → (t : TxnId) (proc : ℕ) (args : List ℤ) → Has (entry.Submitted t proc args) w.history → IsQuiet w t → (reply : List ℤ) × Has (entry.Answered t reply) w.history }
+        → (t : TxnId) (proc : ℕ) (args : List ℤ) → Has (entry.Submitted t proc args) w.history → IsQuiet plan steps w t → (reply : List ℤ) × Has (entry.Answered t reply) w.history }
     ensures decided { (plan : Plan) (coords : ℕ) (steps : List Stepped) (w : World) → HasSchemes plan → IsRun plan coords steps w
-        → (t : TxnId) → IsQuiet w t → (shard : Shard) (s : ServerState) → slice_get w.servers shard.0 ≡ Some s → (e : StartedGroup) → Has e s.started → e.id ≡ t
+        → (t : TxnId) → IsQuiet plan steps w t → (shard : Shard) (s : ServerState) → slice_get w.servers shard.0 ≡ Some s → (e : StartedGroup) → Has e s.started → e.id ≡ t
         → IsDecided s.lists.known t }
 {
     machine_laws();

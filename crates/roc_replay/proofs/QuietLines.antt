@@ -320,7 +320,7 @@ module _ (plan : Plan) (coords : ℕ) (steps : List Stepped) (w : World) (r : Is
       }
 
   -- so what looks quiet is
-  pub looks_is_quiet : (t : TxnId) → LooksQuiet lines t → IsQuiet w t
+  pub looks_is_quiet : (t : TxnId) → LooksQuiet lines t → IsQuiet plan steps w t
   looks_is_quiet t looks =
       record {
         each = λ k m u there is chain.
@@ -332,7 +332,7 @@ module _ (plan : Plan) (coords : ℕ) (steps : List Stepped) (w : World) (r : Is
 
   -- and is answered, where what is quiet is, since the lines show the history
   pub shown_answered : history_in lines ≡ w.history
-      → ((t : TxnId) (proc : ℕ) (args : List ℤ) → Has (entry.Submitted t proc args) w.history → IsQuiet w t → (reply : List ℤ) × Has (entry.Answered t reply) w.history)
+      → ((t : TxnId) (proc : ℕ) (args : List ℤ) → Has (entry.Submitted t proc args) w.history → IsQuiet plan steps w t → (reply : List ℤ) × Has (entry.Answered t reply) w.history)
       → (t : TxnId) (proc : ℕ) (args : List ℤ) → Has (Submit t proc args) lines → LooksQuiet lines t → (reply : List ℤ) × Has (Answer t reply) lines
   shown_answered history answers t proc args h looks =
       let submitted = subst (Has (entry.Submitted t proc args)) history (has_flat_map entries_in (entry.Submitted t proc args) (Submit t proc args) lines h (inl refl)) in

@@ -197,7 +197,7 @@ report_orders steps w =
 
 -- where the order of the world is a serial witness of its history, what is quiet there is answered, and where nothing is pending its cells are serial
 pub explained : (plan : Plan) (coords : ℕ) (steps : List Stepped) (w : World) → IsSerialWitness plan.program w.history w.order
-    → ((t : TxnId) (proc : ℕ) (args : List ℤ) → Has (entry.Submitted t proc args) w.history → IsQuiet w t → (reply : List ℤ) × Has (entry.Answered t reply) w.history)
+    → ((t : TxnId) (proc : ℕ) (args : List ℤ) → Has (entry.Submitted t proc args) w.history → IsQuiet plan steps w t → (reply : List ℤ) × Has (entry.Answered t reply) w.history)
     → (pending_in (report steps w) ≡ [] → (x : Cell) (v : ℤ)
     → Has (x, v) (cells_in (report steps w)) ↔ ((v ≢ pos 0) × (read (serial_store plan.program (start_store plan.program) (submitted_calls w.history w.order)) x ≡ v)))
     → IsRun plan coords steps w → IsExplained plan.program (report steps w)
