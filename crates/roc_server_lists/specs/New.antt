@@ -1,14 +1,23 @@
 -- What follows from known lists, as a step reads it off them: docs/PROTOCOL.md, "Lists"
-use Rattle.std.specs.Prelude.{List}
+use Rattle.std.specs.Prelude.{◌≡◌, ◌++◌, List}
 use Rattle.roc_sequence.specs.Places.{IsListed}
 use Rattle.roc_base.specs.declared.id.TxnId.{TxnId}
 use Rattle.roc_base.specs.TxnId.{is_txn}
 use Rattle.roc_base.specs.Edge.{Dependency}
+use Rattle.roc_await.specs.Learning.{AreLearnable}
 use Rattle.roc_server_ancestors.specs.Led.{IsKnownAndLedTo}
 use Rattle.roc_component.specs.Components.{IsComponentOrderOf}
 use Rattle.roc_depgraph.specs.declared.known.KnownList.{KnownList}
 use Rattle.roc_depgraph.specs.Closure.{IsRisingListOf}
 use Rattle.roc_depgraph.specs.Deps.{IsDecided}
+
+-- ---- what is learnt
+
+-- the last lists are these, each new when it was learnt; before them, others were known
+pub record AreLearntLast (known news : List KnownList) : Type 0 where
+  pub before : List KnownList
+  pub known_are : known ≡ before ++ news
+  pub learnable : AreLearnable before news
 
 -- ---- what is newly decided
 

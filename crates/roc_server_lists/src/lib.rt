@@ -4,14 +4,14 @@
 //!
 //! Each call gives exactly what its definition says, or finds no memory. Of lists that come: [`news_of_commit`] and
 //! [`news_of_known`] give those of transactions of which none is known, and [`commit_differs`] and [`is_unlike`] tell
-//! whether another list is known (`specs/Carried.antt`). Of new lists: [`learn_all`] learns them and gives exactly the
-//! transactions that they decide, [`newly_decided`] puts these into component order (`specs/New.antt`), and [`Decided`]
-//! keeps the decided ones, rising, and takes its memory ahead (`specs/Decided.antt`). Of who asks: [`tell_all`], [`send_known`], [`all_edges`], [`wait_for`]
+//! whether another list is known (`specs/Carried.antt`). Of new lists: [`learn_news`] learns all of them or none, [`forget_news`]
+//! takes back those that were learnt last, [`newly_decided`] puts what they decide into component order (`specs/New.antt`),
+//! and [`Decided`] keeps the decided ones, rising, and takes its memory ahead (`specs/Decided.antt`). Of who asks: [`tell_all`], [`send_known`], [`all_edges`], [`wait_for`]
 //! and [`send_fetches`] tell lists, note who waits for what, and ask (`specs/Asking.antt`).
 //! [`facts_for`] gives the known lists that travel along (`specs/Piggyback.antt`).
 //!
-//! A call that finds no memory may have done a part: then nothing is promised of the lists, nor of the outbox. What is decided
-//! stays as it was.
+//! A call that finds no memory leaves the lists and what is decided as they were. Of the outbox nothing is promised then, nor of
+//! who waits where there was no room ahead.
 #![tactic(auto)]
 
 mod askers;
@@ -26,6 +26,6 @@ pub use askers::tell_all;
 pub use asks::{all_edges, wait_for};
 pub use decided::{Decided, newly_decided};
 pub use fetches::{send_fetches, send_known};
-pub use news::{learn_all, news_of_commit, news_of_known};
+pub use news::{forget_news, ids_of_news, learn_news, news_of_commit, news_of_known};
 pub use told::facts_for;
 pub use unlike::{commit_differs, is_unlike};

@@ -1,11 +1,10 @@
 //! Lists that a message teaches.
-ghost use Rattle.std.specs.Prelude.{◌≡◌, ◌++◌, ◌∷◌, [], map, filter, IfOk, OnOk};
-ghost use Rattle.roc_await.specs.Lacks.{AreLacks, AreDecidedBy};
+ghost use Rattle.std.specs.Prelude.{◌≡◌, ◌++◌, ◌∷◌, [], map, filter, IfOk, OnOk, OnErr};
 ghost use Rattle.roc_await.specs.Learning.{AreLearnable};
 ghost use Rattle.roc_base.specs.TxnId.{txn_lt};
 ghost use Rattle.roc_server_lists.specs.Carried.{list_with, carried, unknown_of};
+ghost use Rattle.roc_server_lists.specs.New.{AreLearntLast};
 
-use roc_await::Lacks;
 use roc_base::{Edges, NoMemory, TxnId};
 use roc_depgraph::{Deps, KnownList};
 use std::alloc::Global;
@@ -92,29 +91,34 @@ fn push_behind(
     Ok(())
 }
 
-/// Learns lists, where none is known of their transactions, and gives what they decide. `NoMemory` promises nothing of `deps` and
-/// `lacks`: some lists may be learnt and others not.
-pub fn learn_all(
-    alloc: Global,
-    deps: &mut Deps,
-    lacks: &mut Lacks,
-    news: &[KnownList],
-) -> Result<Vec<TxnId>, NoMemory>
-    requires learnable { AreLearnable deps.old news.now }
-    requires lacks { AreLacks deps.old lacks.old }
-    ensures learnt { OnOk result (deps.new ≡ deps.old ++ news.now) }
-    ensures lacks { OnOk result (AreLacks deps.new lacks.new) }
-    ensures decided { IfOk result (λ ids. AreDecidedBy deps.old deps.new ids.items) }
+/// Learns lists, where none is known of their transactions. `NoMemory` leaves `deps` as it was.
+pub fn learn_news(deps: &mut Deps, news: &[KnownList]) -> Result<(), NoMemory>
+    requires { AreLearnable deps.old news.now }
+    ensures ok { OnOk result (deps.new ≡ deps.old ++ news.now) }
+    ensures err { OnErr result (deps.new ≡ deps.old) }
 {
-    for k in news {
-        deps.learn(k.of, &k.edges)?;
+    for at in 0..news.len() {
+        let k = &news[at];
+        if let Err(fault) = deps.learn(k.of, &k.edges) {
+            forget_news(deps, &news[..at]);
+            return Err(fault);
+        }
     }
-    let ids = ids_of_news(alloc, news)?;
-    lacks.learnt(deps, &ids)
+    Ok(())
 }
 
-// Whose they are.
-fn ids_of_news(alloc: Global, news: &[KnownList]) -> Result<Vec<TxnId>, NoMemory>
+/// Forgets the lists that were learnt last. Takes no memory.
+pub fn forget_news(deps: &mut Deps, news: &[KnownList])
+    requires { AreLearntLast deps.old news.now }
+    ensures { (were : AreLearntLast deps.old news.now) → deps.new ≡ were.before }
+{
+    for k in news {
+        deps.undo(k.of);
+    }
+}
+
+/// Whose they are.
+pub fn ids_of_news(alloc: Global, news: &[KnownList]) -> Result<Vec<TxnId>, NoMemory>
     ensures { IfOk result (λ ids. ids.items ≡ map (λ k. k.of) news.now) }
 {
     Ok(news.iter().map(|k| k.of).collect(alloc)?)

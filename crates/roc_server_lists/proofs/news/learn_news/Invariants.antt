@@ -1,0 +1,9 @@
+use Rattle.std.proofs.Common.{◌≡◌, ◌++◌, take, drop}
+use Rattle.roc_await.specs.Learning.{AreLearnable}
+use Rattle.roc_server_lists.proofs.news.learn_news.Given as goal
+
+abbrev pub invariant-loop-at : goal.invariant-loop-at
+invariant-loop-at l = record {
+  learnt : l.deps ≡ l.initial.deps ++ take l.at l.news;
+  learnable : AreLearnable l.deps (drop l.at l.news);
+}
