@@ -43,7 +43,7 @@ ran_same plan e at old new before after got ran =
     let gave : StartedGroup = record e { later = Some (group_run plan (group_call e) before).reply } in
     subst (AreSameGroups old) (sym ran.groups) (set_same old at e gave got refl)
 
-got : {A : Type 0} (xs : List A) (at : ℕ) → at < length xs → (x : A) × (slice_get xs at ≡ Some x)
+pub got : {A : Type 0} (xs : List A) (at : ℕ) → at < length xs → (x : A) × (slice_get xs at ≡ Some x)
 got [] at l = absurd (omega arith)
 got (x ∷ xs) zero l = (x, refl)
 got (x ∷ xs) (suc k) l = got xs k (omega arith)

@@ -8,6 +8,7 @@ mod MessageSteps
 mod OneStep
 mod SameGroups
 mod StartSteps
+mod TaughtParts
 mod TeachSteps
 mod Undone
 mod LeftOut
@@ -17,4 +18,5 @@ mod CellByCell
 mod Pairs
 mod IndexSteps
 mod Placed
+mod Restored
 mod KeyedGroups

@@ -1,5 +1,5 @@
 //! Runs of the groups that have started.
-ghost use Rattle.std.specs.Prelude.{◌≡◌, ◌<◌, ◌++◌, [], length, unwrap_or, Some, slice_get, IfOk, OnOk};
+ghost use Rattle.std.specs.Prelude.{◌≡◌, ◌<◌, ◌++◌, [], length, unwrap_or, Some, slice_get, slice_set, IfOk, OnOk};
 ghost use Rattle.std.specs.Option.{option_to_list};
 ghost use Rattle.roc_sequence.specs.Places.{NoneTwice};
 ghost use Rattle.roc_group.specs.GroupRun.{call, group_run};
@@ -7,7 +7,7 @@ ghost use Rattle.roc_server.specs.Runs.{buffered_here, group_call, outs_here, ru
 ghost use Rattle.roc_server.specs.declared.started.StartedGroup.{StartedGroup as Group};
 ghost use Rattle.roc_server.specs.Fits.{AreGroupsOf, IsCallOf};
 ghost use Rattle.roc_server.specs.Inner.ServerData.{holding, is_same_group, AreSameGroups};
-ghost use Rattle.roc_server.specs.Inner.Runs.{buffered, RunsAt, RunsIfBuffered};
+ghost use Rattle.roc_server.specs.Inner.Runs.{buffered, restored, with_later_at, RunsAt, RunsIfBuffered};
 ghost use Rattle.roc_server.specs.State.{find_group, ServerState};
 
 use crate::StartedGroup;
@@ -20,6 +20,13 @@ use roc_plan::{Known, Plan};
 use roc_rows::Rows;
 use std::alloc::Global;
 
+// What is kept of what the group at an index gave, before it runs.
+#[derive(Drop)]
+pub(crate) struct Earlier {
+    pub at: usize,
+    pub later: Option<Nums>,
+}
+
 // Takes transactions one by one: the buffered groups of each run, by number.
 pub(crate) fn run_all(
     alloc: Global,
@@ -27,14 +34,17 @@ pub(crate) fn run_all(
     ids: &[TxnId],
     started: &mut StartedGroups,
     rows: &mut Rows,
+    earlier: &mut Vec<Earlier>,
 ) -> Result<(), NoMemory>
     requires fits { AreGroupsOf plan.now started.old }
     requires once { NoneTwice is_same_group started.old }
     ensures runs { OnOk result ((s : ServerState) → take_all plan.now (holding s rows.old.store started.old) ids.now ≡ holding s rows.new.store started.new) }
     ensures groups { OnOk result (AreSameGroups started.old started.new) }
+    ensures restored { restored earlier.new.items started.new ≡ restored earlier.old.items started.old }
+    ensures saved { rows.new.saved ≡ rows.old.saved }
 {
     for id in ids {
-        run_transaction(alloc, plan, *id, started, rows)?;
+        run_transaction(alloc, plan, *id, started, rows, earlier)?;
     }
     Ok(())
 }
@@ -46,15 +56,18 @@ fn run_transaction(
     id: TxnId,
     started: &mut StartedGroups,
     rows: &mut Rows,
+    earlier: &mut Vec<Earlier>,
 ) -> Result<(), NoMemory>
     requires fits { AreGroupsOf plan.now started.old }
     requires once { NoneTwice is_same_group started.old }
     ensures runs { OnOk result ((s : ServerState) → run_groups plan.now (holding s rows.old.store started.old) (buffered_here plan.now id started.old) ≡ holding s rows.new.store started.new) }
     ensures groups { OnOk result (AreSameGroups started.old started.new) }
+    ensures restored { restored earlier.new.items started.new ≡ restored earlier.old.items started.old }
+    ensures saved { rows.new.saved ≡ rows.old.saved }
 {
     let count = count_of_groups(plan, started, id);
     for number in 0..count {
-        run_number(alloc, plan, id, number, started, rows)?;
+        run_number(alloc, plan, id, number, started, rows, earlier)?;
     }
     Ok(())
 }
@@ -67,15 +80,18 @@ fn run_number(
     number: u16,
     started: &mut StartedGroups,
     rows: &mut Rows,
+    earlier: &mut Vec<Earlier>,
 ) -> Result<(), NoMemory>
     requires fits { AreGroupsOf plan.now started.old }
     requires once { NoneTwice is_same_group started.old }
     ensures runs { OnOk result ((s : ServerState)
         → run_groups plan.now (holding s rows.old.store started.old) (buffered plan.now (option_to_list (find_group id number started.old))) ≡ holding s rows.new.store started.new) }
     ensures groups { OnOk result (AreSameGroups started.old started.new) }
+    ensures restored { restored earlier.new.items started.new ≡ restored earlier.old.items started.old }
+    ensures saved { rows.new.saved ≡ rows.old.saved }
 {
     match place_of_group(started, id, number) {
-        Some(at) => run_if_buffered(alloc, plan, at, started, rows),
+        Some(at) => run_if_buffered(alloc, plan, at, started, rows, earlier),
         None => Ok(()),
     }
 }
@@ -87,16 +103,19 @@ fn run_if_buffered(
     at: usize,
     started: &mut StartedGroups,
     rows: &mut Rows,
+    earlier: &mut Vec<Earlier>,
 ) -> Result<(), NoMemory>
     requires exists { at < length started.old }
     requires fits { AreGroupsOf plan.now started.old }
-    ensures { OnOk result ((e : Group) → slice_get started.old at ≡ Some e → RunsIfBuffered plan.now e at started.old started.new rows.old.store rows.new.store) }
+    ensures runs { OnOk result ((e : Group) → slice_get started.old at ≡ Some e → RunsIfBuffered plan.now e at started.old started.new rows.old.store rows.new.store) }
+    ensures restored { restored earlier.new.items started.new ≡ restored earlier.old.items started.old }
+    ensures saved { rows.new.saved ≡ rows.old.saved }
 {
     let group = &started.as_slice()[at];
     if is_immediate(plan, group.proc, group.group) {
         return Ok(());
     }
-    run_at(alloc, plan, at, started, rows)
+    run_at(alloc, plan, at, started, rows, earlier)
 }
 
 // Runs the group at an index, and keeps with it what it gave.
@@ -106,14 +125,51 @@ fn run_at(
     at: usize,
     started: &mut StartedGroups,
     rows: &mut Rows,
+    earlier: &mut Vec<Earlier>,
 ) -> Result<(), NoMemory>
     requires exists { at < length started.old }
     requires fits { AreGroupsOf plan.now started.old }
-    ensures { OnOk result ((e : Group) → slice_get started.old at ≡ Some e → RunsAt plan.now e at started.old started.new rows.old.store rows.new.store) }
+    ensures runs { OnOk result ((e : Group) → slice_get started.old at ≡ Some e → RunsAt plan.now e at started.old started.new rows.old.store rows.new.store) }
+    ensures restored { restored earlier.new.items started.new ≡ restored earlier.old.items started.old }
+    ensures saved { rows.new.saved ≡ rows.old.saved }
 {
     let given = given_by(alloc, plan, &started.as_slice()[at], rows)?;
-    started.keep_later(at, given);
+    keep_given(at, given, started, earlier)
+}
+
+// Keeps with the group at an index what it gave, and notes what it had given before.
+fn keep_given(
+    at: usize,
+    given: Nums,
+    started: &mut StartedGroups,
+    earlier: &mut Vec<Earlier>,
+) -> Result<(), NoMemory>
+    requires { at < length started.old }
+    ensures given { OnOk result ((e : Group) → slice_get started.old at ≡ Some e → started.new ≡ slice_set started.old at (record e { later = Some given })) }
+    ensures restored { restored earlier.new.items started.new ≡ restored earlier.old.items started.old }
+{
+    earlier.reserve(1)?;
+    let later = started.keep_later(at, Some(given));
+    earlier.push(Earlier { at, later }).unwrap();
     Ok(())
+}
+
+// The groups are as they were before the runs that are noted. Takes no memory.
+pub(crate) fn put_back(started: &mut StartedGroups, mut earlier: Vec<Earlier>)
+    ensures { started.new ≡ restored earlier.items started.old }
+{
+    while let Some(Earlier { at, later }) = earlier.pop() {
+        put_later(started, at, later);
+    }
+}
+
+// Keeps something else of what the group at an index gave, where there is one.
+fn put_later(started: &mut StartedGroups, at: usize, later: Option<Nums>)
+    ensures { started.new ≡ with_later_at at later started.old }
+{
+    if at < started.as_slice().len() {
+        started.keep_later(at, later);
+    }
 }
 
 // A group runs: what it gives.
@@ -126,6 +182,7 @@ fn given_by(
     requires { IsCallOf plan.now (group_call group.now) }
     ensures store { OnOk result (rows.new.store ≡ (group_run plan.now (group_call group.now) rows.old.store).store) }
     ensures given { IfOk result (λ given. given ≡ (group_run plan.now (group_call group.now) rows.old.store).reply) }
+    ensures saved { rows.new.saved ≡ rows.old.saved }
 {
     let known = known_to(group)?;
     given_with(alloc, plan, group.proc, group.group, &known, rows)
@@ -143,6 +200,7 @@ fn given_with(
     requires { IsCallOf plan.now (call proc group known.now.args known.now.inputs) }
     ensures store { OnOk result (rows.new.store ≡ (group_run plan.now (call proc group known.now.args known.now.inputs) rows.old.store).store) }
     ensures given { IfOk result (λ given. given ≡ (group_run plan.now (call proc group known.now.args known.now.inputs) rows.old.store).reply) }
+    ensures saved { rows.new.saved ≡ rows.old.saved }
 {
     let mut out = Outputs::new(alloc);
     run_group(plan, proc, group, known, rows, &mut out)?;

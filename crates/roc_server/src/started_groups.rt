@@ -108,12 +108,13 @@ impl StartedGroups {
         first
     }
 
-    // Keeps with the group at an index what it gave.
-    pub(crate) fn keep_later(&mut self, at: usize, given: Nums)
+    // Keeps with the group at an index what it gave, where it gave something. Gives what was kept of this before.
+    pub(crate) fn keep_later(&mut self, at: usize, later: Option<Nums>) -> Option<Nums>
         requires { at < length self.old }
-        ensures { (e : Group) → slice_get self.old at ≡ Some e → self.new ≡ slice_set self.old at (record e { later = Some given }) }
+        ensures later { (e : Group) → slice_get self.old at ≡ Some e → self.new ≡ slice_set self.old at (record e { later = later }) }
+        ensures before { (e : Group) → slice_get self.old at ≡ Some e → result ≡ e.later }
     {
-        set_later(&mut self.groups, at, given);
+        set_later(&mut self.groups, at, later)
     }
 }
 
@@ -161,13 +162,18 @@ fn lesser(a: Option<usize>, b: Option<usize>) -> Option<usize>
     }
 }
 
-// Keeps with the group at an index what it gave.
-fn set_later(groups: &mut IndexMap<GroupKey, StartedGroup>, at: usize, given: Nums)
+// Keeps with the group at an index what it gave, where it gave something. Gives what was kept of this before.
+fn set_later(
+    groups: &mut IndexMap<GroupKey, StartedGroup>,
+    at: usize,
+    later: Option<Nums>,
+) -> Option<Nums>
     requires { at < index_map_len groups.old }
-    ensures later { (e : Group) → slice_get (values groups.old) at ≡ Some e → values groups.new ≡ slice_set (values groups.old) at (record e { later = Some given }) }
+    ensures later { (e : Group) → slice_get (values groups.old) at ≡ Some e → values groups.new ≡ slice_set (values groups.old) at (record e { later = later }) }
+    ensures before { (e : Group) → slice_get (values groups.old) at ≡ Some e → result ≡ e.later }
     ensures keys { keys groups.new ≡ keys groups.old }
     ensures keyed { map key_of (values groups.new) ≡ map key_of (values groups.old) }
 {
     let group = &mut groups[at];
-    group.later = Some(given);
+    std::mem::replace(&mut group.later, later)
 }

@@ -1,8 +1,9 @@
 -- A run of one group, among those that are kept
-use Rattle.std.specs.Prelude.{◌≡◌, ℕ, not, true, false, List, Some, slice_set, filter}
+use Rattle.std.specs.Prelude.{◌≡◌, ℕ, ℤ, zero, suc, not, true, false, List, [], ◌∷◌, Option, Some, slice_set, filter}
 use Rattle.roc_plan.specs.Groups.{Plan, is_immediate_of}
 use Rattle.roc_group.specs.GroupRun.{group_run}
 use Rattle.roc_rows.specs.Store.{Store}
+use Rattle.roc_server.specs.declared.runs.Earlier.{Earlier}
 use Rattle.roc_server.specs.declared.started.StartedGroup.{StartedGroup}
 use Rattle.roc_server.specs.Runs.{group_call}
 
@@ -20,3 +21,14 @@ pub record RunsIfBuffered (plan : Plan) (e : StartedGroup) (at : ℕ) (old new :
   pub runs : is_immediate_of plan e.proc e.group ≡ false → RunsAt plan e at old new before after
   pub groups : is_immediate_of plan e.proc e.group ≡ true → new ≡ old
   pub store : is_immediate_of plan e.proc e.group ≡ true → after ≡ before
+
+-- the group at a place with this for what it gave
+abbrev pub with_later_at : ℕ → Option (List ℤ) → List StartedGroup → List StartedGroup
+with_later_at at later [] = []
+with_later_at zero later (e ∷ es) = record e { later = later } ∷ es
+with_later_at (suc at) later (e ∷ es) = e ∷ with_later_at at later es
+
+-- the groups before runs, of which each is noted with what its group had given before: the last is undone first
+unfoldable pub restored : List Earlier → List StartedGroup → List StartedGroup
+restored [] es = es
+restored (w ∷ ws) es = with_later_at w.at w.later (restored ws es)

@@ -1,6 +1,11 @@
-use Rattle.std.proofs.Common.{drop}
+use Rattle.std.proofs.Common.{◌≡◌, drop}
+use Rattle.roc_server.specs.Inner.Runs.{restored}
 use Rattle.roc_server.proofs.GroupRuns.{TakesFrom}
 use Rattle.roc_server.proofs.runs.run_all.Given as goal
 
 abbrev pub invariant-loop-id : goal.invariant-loop-id
-invariant-loop-id l = TakesFrom l.plan l.ids (drop l.id-index l.ids) l.initial.started l.started l.initial.rows.store l.rows.store
+invariant-loop-id l = record {
+  takes : TakesFrom l.plan l.ids (drop l.id-index l.ids) l.initial.started l.started l.initial.rows.store l.rows.store;
+  restored : restored l.earlier.items l.started ≡ restored l.initial.earlier.items l.initial.started;
+  saved : l.rows.saved ≡ l.initial.rows.saved;
+}

@@ -1,5 +1,5 @@
 -- The group that is lent is the one that stands at the index, so its run is that one's
-use Rattle.std.proofs.Common.{◌≡◌, ◌∙◌, ℕ, ℤ, List, Some, slice_set, get_or, ap, subst, sym}
+use Rattle.std.proofs.Common.{◌≡◌, ◌∙◌, ℕ, ℤ, List, Some, slice_set, get_or, Result, Ok, Err, OnOk, ap, subst, sym}
 use Rattle.std.proofs.lemmas.Option.{get_or_from_slice_get}
 use Rattle.roc_sequence.proofs.Holds.{all_at}
 use Rattle.roc_group.specs.GroupRun.{group_run}
@@ -24,9 +24,16 @@ runs plan lent e at old new before after given same s r n = record {
   groups = n ∙ ap (λ xs. slice_set old at (record e { later = Some xs })) (r ∙ ap (λ x. (group_run plan (group_call x) before).reply) same);
 }
 
-pub returns : goal.returns
-returns c e stands =
+on_ok : {A B : Type 0} {E : Type 0} (r : Result (Unit {0}) E) → (A → B) → OnOk r A → OnOk r B
+on_ok (Ok u) f a = f a
+on_ok (Err e) f a = tt
+
+pub returns-clause-runs : goal.returns-clause-runs
+returns-clause-runs c =
+    on_ok c.keep_given.result (λ kept e stands.
     let lent = c.index-as_slice-at.result in
     let same : lent ≡ e =
     c.index-as_slice-at.is ∙ ap (λ (es : List StartedGroup). get_or es c.args.at lent) c.as_slice.ensures ∙ get_or_from_slice_get c.args.started.now c.args.at e lent stands in
-    runs c.args.plan.now lent e c.args.at c.args.started.now c.keep_later.new.self c.args.rows.now.store c.given_by.new.rows.store c.in_ok-given.given same c.in_ok-given.ensures.store c.in_ok-given.ensures.given (c.keep_later.ensures e stands)
+    runs c.args.plan.now lent e c.args.at c.args.started.now c.keep_given.new.started c.args.rows.now.store c.given_by.new.rows.store c.in_ok-given.given same c.in_ok-given.ensures.store
+    c.in_ok-given.ensures.given (kept e stands))
+    c.keep_given.ensures.given

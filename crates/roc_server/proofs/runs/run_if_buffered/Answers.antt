@@ -18,18 +18,18 @@ module _ (plan : Plan) (at : ℕ) (started slice : List StartedGroup) (lent e : 
   runs : (new : List StartedGroup) (before after : Store) → false ≡ is_immediate_of plan lent.proc lent.group → RunsAt plan e at started new before after → RunsIfBuffered plan e at started new before after
   runs new before after h ran = record { runs = λ b. ran; groups = λ b. absurd (false≢true (h ∙ tested ∙ b)); store = λ b. absurd (false≢true (h ∙ tested ∙ b)) }
 
-pub returns-then-is_immediate : goal.returns-then-is_immediate
-returns-then-is_immediate c e stands =
+pub returns-then-is_immediate-clause-runs : goal.returns-then-is_immediate-clause-runs
+returns-then-is_immediate-clause-runs c e stands =
     left_as_it_is c.args.plan.now c.args.at c.args.started.now c.as_slice.result.now c.index-as_slice-at.result e c.as_slice.ensures c.index-as_slice-at.is stands c.args.rows.now.store c.if-is_immediate.ensures
 
 on_ok : {A B : Type 0} {E : Type 0} (r : Result (Unit {0}) E) → (A → B) → OnOk r A → OnOk r B
 on_ok (Ok u) f a = f a
 on_ok (Err e) f a = tt
 
-pub returns : goal.returns
-returns c =
+pub returns-clause-runs : goal.returns-clause-runs
+returns-clause-runs c =
     on_ok c.run_at.result
     (λ ran e stands.
     runs c.args.plan.now c.args.at c.args.started.now c.as_slice.result.now c.index-as_slice-at.result e c.as_slice.ensures c.index-as_slice-at.is stands c.run_at.new.started c.args.rows.now.store c.run_at.new.rows.store c.if-is_immediate.ensures
     (ran e stands))
-    c.run_at.ensures
+    c.run_at.ensures.runs

@@ -14,11 +14,11 @@ stands c = sym c.place_of_group.ensures ∙ c.in-Some.is
 
 pub returns-in-Some-clause-runs : goal.returns-in-Some-clause-runs
 returns-in-Some-clause-runs c =
-    number_runs c.args.plan.now c.args.id c.args.number c.in-Some.at c.args.started.now c.run_if_buffered.new.started c.args.rows.now.store c.run_if_buffered.new.rows.store c.requires.once (stands c) c.run_if_buffered.result c.run_if_buffered.ensures
+    number_runs c.args.plan.now c.args.id c.args.number c.in-Some.at c.args.started.now c.run_if_buffered.new.started c.args.rows.now.store c.run_if_buffered.new.rows.store c.requires.once (stands c) c.run_if_buffered.result c.run_if_buffered.ensures.runs
 
 pub returns-in-Some-clause-groups : goal.returns-in-Some-clause-groups
 returns-in-Some-clause-groups c =
-    number_same c.args.plan.now c.args.id c.args.number c.in-Some.at c.args.started.now c.run_if_buffered.new.started c.args.rows.now.store c.run_if_buffered.new.rows.store c.requires.once (stands c) c.run_if_buffered.result c.run_if_buffered.ensures
+    number_same c.args.plan.now c.args.id c.args.number c.in-Some.at c.args.started.now c.run_if_buffered.new.started c.args.rows.now.store c.run_if_buffered.new.rows.store c.requires.once (stands c) c.run_if_buffered.result c.run_if_buffered.ensures.runs
 
 absent : (c : In-None) → position (is_group c.args.id c.args.number) c.args.started.now ≡ None
 absent c = sym c.place_of_group.ensures ∙ c.in-None.is

@@ -8,8 +8,13 @@ use Rattle.roc_server.proofs.runs.run_transaction.Goals as goal
 
 pub loop-number-preserved : goal.loop-number-preserved
 loop-number-preserved c =
-    runs_more c.args.plan.now c.args.id c.count_of_groups-count.result c.loop-number.number c.args.started.now c.loop-number.started c.run_number.new.started
-    c.args.rows.now.store c.loop-number.rows.store c.run_number.new.rows.store (omega arith) c.loop-number.invariant c.in_ok-run_number.ensures.runs c.in_ok-run_number.ensures.groups
+    record {
+      runs =
+          runs_more c.args.plan.now c.args.id c.count_of_groups-count.result c.loop-number.number c.args.started.now c.loop-number.started c.run_number.new.started
+          c.args.rows.now.store c.loop-number.rows.store c.run_number.new.rows.store (omega arith) c.loop-number.invariant.runs c.in_ok-run_number.ensures.runs c.in_ok-run_number.ensures.groups;
+      restored = c.run_number.ensures.restored ∙ c.loop-number.invariant.restored;
+      saved = c.run_number.ensures.saved ∙ c.loop-number.invariant.saved;
+    }
 
 pub returns-clause-runs : goal.returns-clause-runs
 returns-clause-runs c s =
@@ -19,5 +24,5 @@ returns-clause-runs c s =
     c.count_of_groups-count.ensures in
     let all : c.count_of_groups-count.result ≤ c.loop-number.number = omega arith in
     ap (λ es. run_groups plan (holding s c.args.rows.now.store first) (buffered plan es)) (groups_here-from plan c.args.id first c.count_of_groups-count.result counted)
-    ∙ sym (c.loop-number.invariant.runs s)
+    ∙ sym (c.loop-number.invariant.runs.runs s)
     ∙ ap (λ es. run_groups plan (holding s c.loop-number.rows.store c.loop-number.started) (buffered plan es)) (groups_from-end c.args.id first c.loop-number.number c.count_of_groups-count.result all)

@@ -1,5 +1,11 @@
+use Rattle.std.proofs.Common.{◌≡◌}
+use Rattle.roc_server.specs.Inner.Runs.{restored}
 use Rattle.roc_server.proofs.GroupRuns.{RunsFrom}
 use Rattle.roc_server.proofs.runs.run_transaction.Given as goal
 
 abbrev pub invariant-loop-number : goal.invariant-loop-number
-invariant-loop-number l = RunsFrom l.plan l.id l.count l.number l.initial.started l.started l.initial.rows.store l.rows.store
+invariant-loop-number l = record {
+  runs : RunsFrom l.plan l.id l.count l.number l.initial.started l.started l.initial.rows.store l.rows.store;
+  restored : restored l.earlier.items l.started ≡ restored l.initial.earlier.items l.initial.started;
+  saved : l.rows.saved ≡ l.initial.rows.saved;
+}

@@ -1,4 +1,4 @@
-use Rattle.std.proofs.Common.{◌≡◌, ◌∙◌, map, Some, slice_set, sym, ap, refl}
+use Rattle.std.proofs.Common.{◌≡◌, ◌∙◌, map, Some, slice_set, sym, ap, refl, rules}
 use Rattle.indexmap.proofs.CallerLemmas.{keys-with_value_at}
 use Rattle.indexmap.specs.IndexMap.{values}
 use Rattle.roc_server.specs.declared.started.StartedGroup.{StartedGroup}
@@ -10,7 +10,9 @@ pub returns-clause-later : goal.returns-clause-later
 returns-clause-later c = λ e got.
     let same : Some c.index_mut-group.result.now ≡ Some e = sym c.index_mut-group.ensures.value ∙ got in
     let is : c.index_mut-group.result.now ≡ e = cc in
-    values-set c.args.groups.now.entries c.args.at _ ∙ ap (λ (g : StartedGroup). slice_set (values c.args.groups.now) c.args.at (record g { later = Some c.args.given })) is
+    let put : c.replace.new.dest ≡ c.args.later = search rules in
+    values-set c.args.groups.now.entries c.args.at _ ∙ ap (λ later. slice_set (values c.args.groups.now) c.args.at (record c.index_mut-group.result.now { later = later })) put
+    ∙ ap (λ (g : StartedGroup). slice_set (values c.args.groups.now) c.args.at (record g { later = c.args.later })) is
 
 pub returns-clause-keys : goal.returns-clause-keys
 returns-clause-keys c = keys-with_value_at c.args.groups.now c.args.at _
