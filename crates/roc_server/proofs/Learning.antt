@@ -1,17 +1,37 @@
 -- What new lists decide, and what is decided as it is kept
-use Rattle.std.proofs.Common.{List}
+use Rattle.std.proofs.Common.{◌≡◌, List, map, sym, subst}
 use Rattle.roc_sequence.specs.Places.{IsListed}
 use Rattle.roc_base.specs.declared.id.TxnId.{TxnId}
 use Rattle.roc_base.specs.TxnId.{is_txn}
 use Rattle.roc_await.specs.Lacks.{AreDecidedBy}
+use Rattle.roc_await.specs.Learning.{AreLacksBefore}
 use Rattle.roc_depgraph.specs.declared.known.KnownList.{KnownList}
-use Rattle.roc_server_lists.specs.New.{AreAllNew}
+use Rattle.roc_depgraph.proofs.Laws.{KeepsLists}
+use Rattle.roc_server_ancestors.specs.Least.{AreRows}
+use Rattle.roc_server_ancestors.proofs.KeptRows.{rows_stay}
+use Rattle.roc_server_lists.specs.New.{AreAllNew, AreNew}
+use Rattle.roc_server_lists.proofs.Learning.{keeps_front}
 use Rattle.roc_server.specs.declared.server_data.ServerData.{ServerData}
-use Rattle.roc_server.specs.Inner.ServerData.{IsConsistent}
+use Rattle.roc_server.specs.Inner.Taught.{IsLearning}
 
--- what new lists decide was not decided before
-pub not_taken : (old : ServerData) (more : List KnownList) (ids : List TxnId) → IsConsistent old → AreDecidedBy old.deps more ids → AreAllNew (IsListed is_txn old.decided.ids) more ids
-not_taken old more ids sound d = record {
-  only = λ t l. let o = d.only t l in (o.0, λ k. o.1 (sound.decided_only t k));
-  all = λ t n. d.all t n.0 (λ before. n.1 (sound.decided_all t before));
-}
+module _ (k : ServerData) (news : List KnownList) (l : IsLearning k news) where
+  abbrev were : (of_news : List TxnId) → of_news ≡ map (λ (n : KnownList). n.of) news → AreLacksBefore k.deps of_news k.lacks
+  were of_news are = record { before = l.before; news = news; known_are = l.known_are; ids_are = are; learnable = l.learnable; lacks_were = l.lacks }
+
+  -- what the news decide was not decided before
+  not_taken : (ids : List TxnId) → AreDecidedBy l.before k.deps ids → AreAllNew (IsListed is_txn k.decided.ids) k.deps ids
+  not_taken ids d = record {
+    only = λ t i. let o = d.only t i in (o.0, λ j. o.1 (l.decided_only t j));
+    all = λ t n. d.all t n.0 (λ before. n.1 (l.decided_all t before));
+  }
+
+  -- put into order, they are what is newly decided
+  pub chosen : (of_news found lent ids : List TxnId) → of_news ≡ map (λ (n : KnownList). n.of) news → ((w : AreLacksBefore k.deps of_news k.lacks) → AreDecidedBy w.before k.deps found) → lent ≡ found
+      → ((before : List TxnId) → AreAllNew (IsListed is_txn before) k.deps lent → AreNew (IsListed is_txn before) k.deps ids) → AreNew (IsListed is_txn k.decided.ids) k.deps ids
+  chosen of_news found lent ids are decide is order =
+      order k.decided.ids (subst (AreAllNew (IsListed is_txn k.decided.ids) k.deps) (sym is) (not_taken found (decide (were of_news are))))
+
+  pub rows_now : AreRows k.deps k.ancestors.rows
+  rows_now =
+      let keeps : KeepsLists l.before k.deps = subst (KeepsLists l.before) (sym l.known_are) (keeps_front l.before news) in
+      rows_stay l.before k.deps keeps k.ancestors.rows l.rows

@@ -1,19 +1,19 @@
 -- What comes of lists that are taught
-use Rattle.std.proofs.Common.{◌≡◌, Bool, true, false, List, ◌++◌, ◌||◌, not, map, filter, refl, sym, ap, subst, ◌∙◌, append_assoc, inl, inr}
+use Rattle.std.proofs.Common.{◌≡◌, Bool, true, false, List, ◌++◌, Option, not, map, filter, refl, sym, ap, subst, ◌∙◌, inl, inr}
 use Rattle.std.specs.List.{AllByRecursion, flat_map}
 use Rattle.roc_sequence.specs.Lists.{Has}
 use Rattle.roc_sequence.proofs.Holds.{has_all}
 use Rattle.roc_sequence.proofs.Members.{has_map}
 use Rattle.roc_base.specs.Edge.{Dependency}
 use Rattle.roc_base.specs.Edges.{united}
-use Rattle.roc_await.specs.Waits.{Awaited, Waiting, was_asked_for, with_all_asked}
+use Rattle.roc_await.specs.Waits.{Waiting, was_asked_for, with_all_asked}
 use Rattle.roc_await.specs.Lacks.{AreLacks}
+use Rattle.roc_server_ancestors.specs.Least.{AreRows}
 use Rattle.roc_await.proofs.Asking.{asked_still, asked_all}
 use Rattle.roc_server_lists.proofs.Skipped.{left_still, left_by_third, passed}
 use Rattle.roc_await.proofs.OpenFetches.{some_all_asked}
 use Rattle.roc_server_lists.proofs.NotOfNews.{unknown_not_of}
-use Rattle.roc_server.proofs.LeftOut.{missing_of, missing_unknown}
-use Rattle.roc_sequence.specs.Places.{is_listed, IsListed}
+use Rattle.roc_server.proofs.LeftOut.{missing_of, missing_of_news, missing_unknown}
 use Rattle.roc_sequence.proofs.Places.{listed_or_not}
 use Rattle.roc_sequence.proofs.Appended.{listed_front, listed_behind, listed_either}
 use Rattle.roc_base.specs.declared.id.TxnId.{TxnId}
@@ -23,67 +23,64 @@ use Rattle.roc_await.specs.declared.waits.OpenFetch.{OpenFetch}
 use Rattle.roc_depgraph.specs.declared.known.KnownList.{KnownList}
 use Rattle.roc_depgraph.specs.Deps.{is_known, IsKnown, IsDecided}
 use Rattle.roc_depgraph.proofs.Laws.{decided_stays}
-use Rattle.roc_server_lists.specs.Decided.{DecidedIds}
 use Rattle.roc_server_lists.proofs.Added.{decided_test}
 use Rattle.roc_server_lists.proofs.Learning.{keeps_front}
-use Rattle.roc_msg.specs.Outbox.{Collected, HasSent}
+use Rattle.roc_msg.specs.Outbox.{Collected}
 use Rattle.roc_msg.specs.declared.outbox.Outgoing.{Outgoing}
 use Rattle.roc_plan.specs.Groups.{Plan}
 use Rattle.roc_server.specs.declared.handled.Handled.TheVariants.{Done}
 use Rattle.roc_server.specs.declared.server_data.ServerData.{ServerData}
-use Rattle.roc_server.specs.Runs.{accesses_of, all_buffered, commitok, commitok_of, take_all}
+use Rattle.roc_server.specs.Runs.{commitok, commitok_of, take_all}
 use Rattle.roc_server_lists.specs.New.{AreNew}
 use Rattle.roc_server_lists.specs.Asking.{knowns_for, asked_of, fetch_from, open_after, waiting_after}
 use Rattle.roc_server.specs.Lists.{is_missing, missing_from, lists_after, taught}
-use Rattle.roc_server.specs.Inner.Indexed.{AreOut}
-use Rattle.roc_server.specs.Inner.ServerData.{state_of, holding, is_left, AreSameGroups, IsConsistent}
-use Rattle.roc_server.specs.State.{unrun}
-use Rattle.roc_server.specs.Inner.Taught.{KnowsMore, DecidedTaken, Teaches}
-use Rattle.roc_server.specs.State.{is_here, ServerState}
+use Rattle.roc_server.specs.Inner.ServerData.{state_of, is_left, AreSameGroups, IsConsistent}
+use Rattle.roc_server.specs.Inner.Taught.{own_again, with_own, Taken, Teaches}
+use Rattle.roc_server.specs.State.{is_here, ServerState, ServerStep}
 use Rattle.roc_server.specs.Step.{Shows}
 use Rattle.roc_server.proofs.SameGroups.{once_same, here_same}
 use Rattle.roc_server.proofs.IndexSteps.{index_decided}
 
-module _ (plan : Plan) (shard : Shard) (old mid new : ServerData) (before first second after : Collected) (news : List KnownList) (ids : List TxnId) (found : List TxnId) (asks : List OpenFetch) (sound : IsConsistent old) (m : KnowsMore shard old mid before first news asks found) (h : DecidedTaken plan shard mid new first second ids) (sent : HasSent second after (map (fetch_from shard) asks)) where
+module _ (plan : Plan) (shard : Shard) (old new : ServerData) (before after : Collected) (news : List KnownList) (again : Option TxnId) (sound : IsConsistent old) (h : Taken plan shard (old.deps ++ news) old new before after news again) where
   abbrev s : ServerState
   s = state_of shard old
 
   abbrev all : List KnownList
   all = old.deps ++ news
 
-  chosen : AreNew (IsListed is_txn old.decided.ids) all ids
-  chosen =
-      let P : DecidedIds → Type 0 = λ d. AreNew (IsListed is_txn d.ids) mid.deps ids in
-      let Q : List KnownList → Type 0 = λ k. AreNew (IsListed is_txn old.decided.ids) k ids in
-      subst Q m.deps (subst P m.decided h.chosen)
+  abbrev ids : List TxnId
+  ids = h.ids
 
   new_ids : AreNew (IsDecided old.deps) all ids
   new_ids =
       record {
         members = record {
-          only = λ t l. let u = chosen.members.only t l in (u.0, λ d. u.1 (sound.decided_all t d));
-          all = λ t d. chosen.members.all t (d.0, λ l. d.1 (sound.decided_only t l));
+          only = λ t l. let u = h.chosen.members.only t l in (u.0, λ d. u.1 (sound.decided_all t d));
+          all = λ t d. h.chosen.members.all t (d.0, λ l. d.1 (sound.decided_only t l));
         };
-        ordered = chosen.ordered;
+        ordered = h.chosen.ordered;
       }
 
   abbrev knowing : ServerState
   knowing = record s { lists = lists_after s news }
 
   known_is : all ≡ new.deps
-  known_is = sym m.deps ∙ sym h.lists
+  known_is = sym h.deps
+
+  -- what is missing of the new lists is all that is
+  missing_is : h.asks ≡ missing_from s all
+  missing_is = h.missing ∙ ap (map asked_of) (missing_of_news s old.deps news (keeps_front old.deps news) sound.none_left)
 
   waiting_is : waiting_after old.waits.waiting news (missing_from s all) ≡ new.waits.waiting
-  waiting_is = ap (waiting_after old.waits.waiting news) (sym m.missing) ∙ sym m.waits ∙ ap (λ (w : Awaited). w.waiting) (sym h.waits)
+  waiting_is = ap (waiting_after old.waits.waiting news) (sym missing_is) ∙ sym h.waiting
 
   reached : take_all plan knowing ids ≡ state_of shard new
   reached =
-      (λ i. take_all plan (holding knowing (sym m.rows i).store (sym m.started i)) ids)
-      ∙ h.runs knowing
+      h.runs knowing
       ∙ (λ i. let t : ServerState = record { shard = shard; store = new.rows.store; started = new.started; lists = record { known = known_is i; waiting = waiting_is i } } in t)
 
   groups : AreSameGroups old.started new.started
-  groups = h.groups ∙ (λ i. map unrun (m.started i))
+  groups = h.groups
 
   told_here : map (commitok plan shard new.started) (filter (λ t. is_here t new.started) ids) ≡ map (commitok_of plan (take_all plan knowing ids)) (filter (λ t. is_here t old.started) ids)
   told_here i = map (commitok_of plan (sym reached i)) (filter (λ t. here_same t old.started new.started groups i) ids)
@@ -91,22 +88,16 @@ module _ (plan : Plan) (shard : Shard) (old mid new : ServerData) (before first 
   abbrev knowns : List Outgoing
   knowns = flat_map (knowns_for old.waits.waiting.askers) news
 
-  abbrev oks : List Outgoing
-  oks = map (commitok_of plan (take_all plan knowing ids)) (filter (λ t. is_here t old.started) ids)
+  abbrev step : ServerStep
+  step = with_own plan again (taught plan s news ids)
 
-  abbrev fetches : List Outgoing
-  fetches = map (fetch_from shard) (missing_from s all)
-
-  sends : after.messages ≡ before.messages ++ (knowns ++ (oks ++ fetches))
+  sends : after.messages ≡ before.messages ++ step.sends
   sends =
-      sent.0
-      ∙ (λ i. (h.sent ∙ ap (λ xs. first.messages ++ xs) told_here) i ++ map (fetch_from shard) (m.missing i))
-      ∙ ap (λ (xs : List Outgoing). (xs ++ oks) ++ fetches) m.sent.0
-      ∙ append_assoc (before.messages ++ knowns) oks fetches
-      ∙ append_assoc before.messages knowns (oks ++ fetches)
+      h.sent
+      ∙ (λ i. let t = sym reached i in before.messages ++ ((knowns ++ (told_here i ++ map (fetch_from shard) (missing_is i))) ++ own_again plan t.shard t.started again))
 
-  shown : Shows (taught plan s news ids) Done (state_of shard new) before after
-  shown = record { answers = refl; keeps = reached; sends = sends; decides = sent.1 ∙ h.told ∙ ap (λ ds. ds ++ ids) m.sent.1; ran = sent.2 ∙ h.ran ∙ (λ i. m.sent.2 i ++ accesses_of (all_buffered plan (m.started i) ids)) }
+  shown : Shows step Done (state_of shard new) before after
+  shown = record { answers = refl; keeps = reached; sends = sends; decides = h.told; ran = h.ran }
 
   stays : (t : TxnId) → IsDecided old.deps t → IsDecided all t
   stays t d = decided_stays old.deps all (keeps_front old.deps news) t d
@@ -149,9 +140,8 @@ module _ (plan : Plan) (shard : Shard) (old mid new : ServerData) (before first 
   open_now : new.waits.fetches ≡ filter (unknown new.deps) new.waits.waiting.asked
   open_now =
       let asked = missing_from s all in
-      ap (λ (w : Awaited). w.fetches) h.waits
-      ∙ m.fetches
-      ∙ (λ i. open_after (sound.open_unknown i) news (m.missing i))
+      h.fetches
+      ∙ (λ i. open_after (sound.open_unknown i) news (missing_is i))
       ∙ ap (with_all_asked asked) (unknown_not_of (λ (a : OpenFetch). a.id) old.deps news old.waits.waiting.asked)
       ∙ sym (some_all_asked (unknown all) asked old.waits.waiting.asked (missing_unknown s all))
       ∙ (λ i. filter (unknown (known_is i)) ((waiting_is i).asked))
@@ -159,26 +149,22 @@ module _ (plan : Plan) (shard : Shard) (old mid new : ServerData) (before first 
   sound_after : IsConsistent new
   sound_after =
       let Decided : (t : TxnId) → List KnownList → Type 0 = λ t k. IsDecided k t in
-      let Listed : (t : TxnId) → DecidedIds → Type 0 = λ t d. IsListed is_txn (d.ids ++ ids) t in
       record {
         groups_once = once_same old.started new.started groups sound.groups_once;
         decided_rising = h.decided.rising;
         decided_only = λ t l.
             subst (Decided t) known_is
-            (elim (listed_either is_txn old.decided.ids ids t (subst (Listed t) m.decided (h.decided.sound t l))) [ inl k ↦ stays t (sound.decided_only t k) | inr k ↦ (chosen.members.only t k.1).0 ]);
+            (elim (listed_either is_txn old.decided.ids ids t (h.decided.sound t l)) [ inl k ↦ stays t (sound.decided_only t k) | inr k ↦ (h.chosen.members.only t k.1).0 ]);
         decided_all = λ t d.
             let now = subst (Decided t) (sym known_is) d in
             h.decided.complete t
-            (subst (Listed t) (sym m.decided)
-            (elim (listed_or_not is_txn old.decided.ids t) [ inl k ↦ listed_front is_txn old.decided.ids ids t k | inr n ↦ listed_behind is_txn old.decided.ids ids t (chosen.members.all t (now, n)) ]));
-        rows = h.least;
-        lacks = subst (λ (ks : List KnownList). AreLacks ks new.lacks) (sym h.lists) (subst (AreLacks mid.deps) (sym h.lacks) m.lacks);
-        index =
-            index_decided old.index new.index old.decided.ids ids new.decided.ids old.started new.started sound.index (subst (λ i. AreOut ids i new.index) m.index h.index) groups
-            (subst (λ (d : DecidedIds). (t : TxnId) → is_listed is_txn new.decided.ids t ≡ (is_listed is_txn d.ids t || is_listed is_txn ids t)) m.decided (decided_test mid.decided.ids ids new.decided.ids h.decided));
+            (elim (listed_or_not is_txn old.decided.ids t) [ inl k ↦ listed_front is_txn old.decided.ids ids t k | inr n ↦ listed_behind is_txn old.decided.ids ids t (h.chosen.members.all t (now, n)) ]);
+        rows = subst (λ (ks : List KnownList). AreRows ks new.ancestors.rows) known_is h.least;
+        lacks = subst (λ (ks : List KnownList). AreLacks ks new.lacks) known_is h.lacks;
+        index = index_decided old.index new.index old.decided.ids ids new.decided.ids old.started new.started sound.index h.index groups (decided_test old.decided.ids ids new.decided.ids h.decided);
         none_left = subst (λ (ks : List KnownList). AllByRecursion (λ d. is_left new d ≡ false) (flat_map (λ list. list.edges) ks)) known_is left_after;
         open_unknown = open_now;
       }
 
-  pub teaches : Teaches plan shard old new before after news
+  pub teaches : Teaches plan shard old new before after news again
   teaches = record { ids = ids; new_ids = new_ids; shown = shown; groups = groups; sound = sound_after }

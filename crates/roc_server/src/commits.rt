@@ -1,14 +1,16 @@
 //! Messages that teach lists: commits, and answers to fetches.
-ghost use Rattle.std.specs.Prelude.{◌≡◌, false, IfOk, OnOk};
+ghost use Rattle.std.specs.Prelude.{◌≡◌, Some, None, if◌then◌else◌, IfOk, OnOk, OnErr};
+ghost use Rattle.roc_base.specs.TxnId.{is_txn};
 ghost use Rattle.roc_base.specs.declared.node.Shard.{Shard as At};
 ghost use Rattle.roc_msg.specs.Facts.{AreFacts};
+ghost use Rattle.roc_msg.specs.Outbox.{HoldsSame};
+ghost use Rattle.roc_sequence.specs.Places.{is_listed};
 ghost use Rattle.roc_server.specs.Fits.{AreGroupsOf};
-ghost use Rattle.roc_server.specs.Inner.ServerData.{state_of, IsConsistent};
+ghost use Rattle.roc_server.specs.Inner.ServerData.{state_of, IsConsistent, IsSame};
 ghost use Rattle.roc_server.specs.Inner.Taught.{Commits, Knows};
 ghost use Rattle.roc_server.specs.Lists.{commit_fault, known_fault};
 
 use crate::Handled;
-use crate::commitoks::send_commitok;
 use crate::groups::is_here;
 use crate::missing::was_asked_for;
 use crate::server_data::ServerData;
@@ -17,7 +19,7 @@ use roc_base::{Edges, NoMemory, Shard, TxnId};
 use roc_depgraph::KnownList;
 use roc_msg::{Outbox, Reason};
 use roc_plan::Plan;
-use roc_server_lists::{commit_differs, is_unlike, news_of_commit, news_of_known};
+use roc_server_lists::{Decided, commit_differs, is_unlike, news_of_commit, news_of_known};
 use std::alloc::Global;
 
 // Takes a commit, or ignores it.
@@ -37,17 +39,14 @@ pub(crate) fn take_commit(
     ensures step { IfOk result (Commits plan.now shard kept.old kept.new outbox.old outbox.new id edges.now facts.now) }
     ensures fits { OnOk result (AreGroupsOf plan.now kept.new.started) }
     ensures sound { OnOk result (IsConsistent kept.new) }
+    ensures err { OnErr result (IsSame kept.old kept.new × HoldsSame outbox.old outbox.new) }
 {
     if let Some(reason) = commit_fault(kept, id, edges, facts) {
         return Ok(Handled::Ignored(reason));
     }
-    let again = kept.decided.contains(id);
+    let again = if_decided(&kept.decided, id);
     let news = news_of_commit(alloc, &kept.deps, id, edges, facts)?;
-    teach(alloc, plan, shard, kept, &news, outbox)?;
-    if again {
-        send_commitok(alloc, plan, shard, &kept.started, id, outbox)?;
-        return Ok(Handled::Done);
-    }
+    teach(alloc, plan, shard, kept, &news, again, outbox)?;
     Ok(Handled::Done)
 }
 
@@ -66,13 +65,24 @@ pub(crate) fn take_known(
     ensures step { IfOk result (Knows plan.now shard kept.old kept.new outbox.old outbox.new id edges.now) }
     ensures fits { OnOk result (AreGroupsOf plan.now kept.new.started) }
     ensures sound { OnOk result (IsConsistent kept.new) }
+    ensures err { OnErr result (IsSame kept.old kept.new × HoldsSame outbox.old outbox.new) }
 {
     if let Some(reason) = known_fault(kept, id, edges) {
         return Ok(Handled::Ignored(reason));
     }
     let news = news_of_known(alloc, &kept.deps, id, edges)?;
-    teach(alloc, plan, shard, kept, &news, outbox)?;
+    teach(alloc, plan, shard, kept, &news, None, outbox)?;
     Ok(Handled::Done)
+}
+
+// A transaction, where it is decided.
+fn if_decided(decided: &Decided, id: TxnId) -> Option<TxnId>
+    ensures { result ≡ (if is_listed is_txn decided.now.ids id then Some id else None) }
+{
+    if decided.contains(id) {
+        return Some(id);
+    }
+    None
 }
 
 // Why a commit is ignored, where it is.

@@ -21,6 +21,7 @@ mod commitoks;
 mod commits;
 mod fetches;
 mod first;
+mod found;
 mod group_key;
 mod groups;
 mod handled;

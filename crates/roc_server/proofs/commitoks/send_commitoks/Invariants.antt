@@ -1,4 +1,4 @@
-use Rattle.std.proofs.Common.{◌≡◌, ◌++◌, map, filter, take}
+use Rattle.std.proofs.Common.{map, filter, take}
 use Rattle.roc_msg.specs.Outbox.{HasSent}
 use Rattle.roc_server.specs.Runs.{commitok}
 use Rattle.roc_server.specs.State.{is_here}

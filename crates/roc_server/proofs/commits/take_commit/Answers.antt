@@ -1,7 +1,7 @@
 use Rattle.std.proofs.Common.{List, sym, subst, ◌∙◌}
 use Rattle.roc_depgraph.specs.declared.known.KnownList.{KnownList}
 use Rattle.roc_await.specs.Learning.{AreLearnable}
-use Rattle.roc_server.proofs.CommitSteps.{commit_ignored, commit_taught, commit_repeated}
+use Rattle.roc_server.proofs.CommitSteps.{commit_ignored, commit_taught}
 use Rattle.roc_server_lists.proofs.Learnable.{carried_learnable}
 use Rattle.roc_server.proofs.SameGroups.{fits_same}
 use Rattle.roc_server.proofs.commits.take_commit.Goals as goal
@@ -15,25 +15,11 @@ teach-requires-clause-learnable c =
     let P : List KnownList → Type 0 = AreLearnable c.args.kept.now.deps in
     subst P (sym (c.deref.ensures.value ∙ c.in_ok-news.ensures)) (carried_learnable c.args.kept.now.deps c.args.id c.args.edges.now c.args.facts.now c.requires.facts)
 
-pub send_commitok-requires : goal.send_commitok-requires
-send_commitok-requires c =
-    fits_same c.args.plan.now c.args.kept.now.started c.teach.new.kept.started c.in_ok-teach.ensures.groups c.requires.fits
-
-pub returns-then-again-clause-step : goal.returns-then-again-clause-step
-returns-then-again-clause-step c =
-    commit_repeated c.args.plan.now c.args.shard c.args.kept.now c.args.outbox.now c.args.id c.args.edges.now c.args.facts.now c.teach.new.kept c.teach.new.outbox c.deref.result.now (sym (c.commit_fault.ensures c.args.shard) ∙ c.in_default.is)
-    (c.deref.ensures.value ∙ c.in_ok-news.ensures) c.in_ok-teach.ensures c.send_commitok.new.outbox
-    (sym c.contains-again.ensures ∙ c.if-again.true)
-    c.in_ok-send_commitok.ensures
-
-pub returns-then-again-clause-fits : goal.returns-then-again-clause-fits
-returns-then-again-clause-fits c = fits_same c.args.plan.now c.args.kept.now.started c.teach.new.kept.started c.in_ok-teach.ensures.groups c.requires.fits
-
 pub returns-clause-step : goal.returns-clause-step
 returns-clause-step c =
-    commit_taught c.args.plan.now c.args.shard c.args.kept.now c.args.outbox.now c.args.id c.args.edges.now c.args.facts.now c.teach.new.kept c.teach.new.outbox c.deref.result.now (sym (c.commit_fault.ensures c.args.shard) ∙ c.in_default.is)
-    (c.deref.ensures.value ∙ c.in_ok-news.ensures) c.in_ok-teach.ensures
-    (sym c.contains-again.ensures ∙ c.if-again.false)
+    commit_taught c.args.plan.now c.args.shard c.args.kept.now c.args.outbox.now c.args.id c.args.edges.now c.args.facts.now c.teach.new.kept c.teach.new.outbox c.deref.result.now
+    c.if_decided-again.result (sym (c.commit_fault.ensures c.args.shard) ∙ c.in_default.is)
+    (c.deref.ensures.value ∙ c.in_ok-news.ensures) c.if_decided-again.ensures c.in_ok-teach.ensures.ok
 
 pub returns-clause-fits : goal.returns-clause-fits
-returns-clause-fits c = fits_same c.args.plan.now c.args.kept.now.started c.teach.new.kept.started c.in_ok-teach.ensures.groups c.requires.fits
+returns-clause-fits c = fits_same c.args.plan.now c.args.kept.now.started c.teach.new.kept.started c.in_ok-teach.ensures.ok.groups c.requires.fits

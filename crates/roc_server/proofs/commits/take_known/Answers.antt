@@ -10,7 +10,7 @@ returns-in-Some-clause-step c =
 pub returns-clause-step : goal.returns-clause-step
 returns-clause-step c =
     known_taught c.args.plan.now c.args.shard c.args.kept.now c.args.outbox.now c.args.id c.args.edges.now c.teach.new.kept c.teach.new.outbox c.deref.result.now (sym (c.known_fault.ensures c.args.shard) ∙ c.in_default.is)
-    (c.deref.ensures.value ∙ c.in_ok-news.ensures) c.in_ok-teach.ensures
+    (c.deref.ensures.value ∙ c.in_ok-news.ensures) c.in_ok-teach.ensures.ok
 
 pub returns-clause-fits : goal.returns-clause-fits
-returns-clause-fits c = fits_same c.args.plan.now c.args.kept.now.started c.teach.new.kept.started c.in_ok-teach.ensures.groups c.requires.fits
+returns-clause-fits c = fits_same c.args.plan.now c.args.kept.now.started c.teach.new.kept.started c.in_ok-teach.ensures.ok.groups c.requires.fits

@@ -1,64 +1,35 @@
-use Rattle.std.proofs.Common.{◌++◌, List, map, sym, subst}
-use Rattle.std.proofs.lemmas.Result.{on_ok_weaker}
-use Rattle.roc_sequence.specs.Places.{NoneTwice}
-use Rattle.roc_await.specs.declared.waits.OpenFetch.{OpenFetch}
-use Rattle.roc_msg.specs.Outbox.{HasSent}
-use Rattle.roc_server.specs.declared.started.StartedGroup.{StartedGroup}
-use Rattle.roc_server.specs.Fits.{AreGroupsOf}
-use Rattle.roc_server_lists.specs.Asking.{fetch_from}
-use Rattle.roc_server.specs.Inner.ServerData.{is_same_group}
-use Rattle.roc_sequence.specs.Places.{IsListed}
-use Rattle.roc_base.specs.TxnId.{is_txn}
-use Rattle.roc_depgraph.specs.declared.known.KnownList.{KnownList}
-use Rattle.roc_server_lists.specs.Decided.{DecidedIds}
-use Rattle.roc_server_lists.specs.New.{AreAllNew}
-use Rattle.roc_server.specs.Inner.Indexed.{AreGroupRefsOf}
-use Rattle.roc_server.proofs.IndexSteps.{indexed_group_refs}
-use Rattle.roc_server.proofs.Learning.{not_taken}
-use Rattle.roc_server_ancestors.specs.Least.{AreRows, HeldRows}
-use Rattle.roc_server_ancestors.proofs.KeptRows.{rows_stay}
-use Rattle.roc_server_lists.proofs.Learning.{keeps_front}
+use Rattle.std.proofs.Common.{◌∙◌}
+use Rattle.roc_server_lists.specs.New.{AreLearntLast}
+use Rattle.roc_server.specs.Inner.ServerData.{IsSame}
+use Rattle.roc_server.proofs.Restored.{restored-none}
+use Rattle.roc_server.proofs.TaughtParts.{back_to, learning, learnt_taken, same_again}
 use Rattle.roc_server.proofs.TeachSteps.{teaches}
 use Rattle.roc_server.proofs.teach.teach.Goals as goal
 
-pub take_new-requires-clause-fits : goal.take_new-requires-clause-fits
-take_new-requires-clause-fits c =
-    let P : List StartedGroup → Type 0 = AreGroupsOf c.args.plan.now in
-    subst P (sym (c.in_ok-asks.ensures c.args.shard).started) c.requires.fits
+pub teach_learnt-done-requires-clause-learning : goal.teach_learnt-done-requires-clause-learning
+teach_learnt-done-requires-clause-learning c = learning c.args.kept.now c.args.news.now c.learn_news.new.deps c.savepoint.new.self c.requires.sound c.requires.learnable c.in_ok-learn_news.ensures.ok
 
-pub take_new-requires-clause-once : goal.take_new-requires-clause-once
-take_new-requires-clause-once c =
-    let P : List StartedGroup → Type 0 = NoneTwice is_same_group in
-    subst P (sym (c.in_ok-asks.ensures c.args.shard).started) c.requires.sound.groups_once
+pub returns-in-Ok-clause-ok : goal.returns-in-Ok-clause-ok
+returns-in-Ok-clause-ok c =
+    let end = c.teach_learnt-done.new.kept in
+    teaches c.args.plan.now c.args.shard c.args.kept.now (record end { rows = c.release.new.self }) c.args.outbox.now c.teach_learnt-done.new.outbox c.args.news.now c.args.again c.requires.sound
+    (learnt_taken c.args.plan.now c.args.shard c.args.kept.now end c.learn_news.new.deps c.savepoint.new.self c.release.new.self c.args.outbox.now c.teach_learnt-done.new.outbox
+    c.args.news.now c.args.again
+    c.in_ok-learn_news.ensures.ok c.savepoint.ensures.store c.release.ensures.store c.in-Ok.ensures.ok)
 
-pub take_new-requires-clause-new : goal.take_new-requires-clause-new
-take_new-requires-clause-new c =
-    let m = c.in_ok-asks.ensures c.args.shard in
-    let New : List KnownList → DecidedIds → Type 0 = λ ks taken. AreAllNew (IsListed is_txn taken.ids) ks c.in_ok-asks.ids.items in
-    subst (AreAllNew (IsListed is_txn c.know_more.new.kept.decided.ids) c.know_more.new.kept.deps) (sym c.deref.ensures.value)
-    (subst (λ (ks : List KnownList). New ks c.know_more.new.kept.decided) (sym m.deps)
-    (subst (New (c.args.kept.now.deps ++ c.args.news.now)) (sym m.decided) (not_taken c.args.kept.now (c.args.kept.now.deps ++ c.args.news.now) c.in_ok-asks.ids.items c.requires.sound m.news_decide)))
+pub forget_news-requires : goal.forget_news-requires
+forget_news-requires c = record { before = c.args.kept.now.deps; known_are = c.in-Err.ensures.beside.deps ∙ c.in_ok-learn_news.ensures.ok; learnable = c.requires.learnable }
 
-pub take_new-requires-clause-rows : goal.take_new-requires-clause-rows
-take_new-requires-clause-rows c =
-    let m = c.in_ok-asks.ensures c.args.shard in
+-- the cells, the groups and the lists are put back, and nothing else had changed
+pub returns-in-Err-clause-err : goal.returns-in-Err-clause-err
+returns-in-Err-clause-err c =
     let old = c.args.kept.now in
-    subst (λ (ks : List KnownList). AreRows ks c.know_more.new.kept.ancestors.rows) (sym m.deps)
-    (subst (λ (h : HeldRows). AreRows (old.deps ++ c.args.news.now) h.rows) (sym m.ancestors)
-    (rows_stay old.deps (old.deps ++ c.args.news.now) (keeps_front old.deps c.args.news.now) old.ancestors.rows c.requires.sound.rows))
-
-pub take_new-requires-clause-group_refs : goal.take_new-requires-clause-group_refs
-take_new-requires-clause-group_refs c =
-    let m = c.in_ok-asks.ensures c.args.shard in
-    let sound = c.requires.sound in
-    subst (λ es. AreGroupRefsOf es c.know_more.new.kept.index) (sym m.started) (subst (AreGroupRefsOf c.args.kept.now.started) (sym m.index) (indexed_group_refs c.args.kept.now.index c.args.kept.now.decided.ids c.args.kept.now.started sound.index))
-
-pub returns : goal.returns
-returns c =
-    let t = c.in_ok-take_new.ensures in
-    let P : List OpenFetch → Type 0 = λ xs. HasSent c.take_new.new.outbox c.send_fetches.new.outbox (map (fetch_from c.args.shard) xs) in
-    on_ok_weaker c.send_fetches.result
-    (λ sent.
-    teaches c.args.plan.now c.args.shard c.args.kept.now c.know_more.new.kept c.take_new.new.kept c.args.outbox.now c.know_more.new.outbox c.take_new.new.outbox c.send_fetches.new.outbox c.args.news.now t.0 c.in_ok-asks.ids.items c.in_ok-asks.asks.items c.requires.sound
-    (c.in_ok-asks.ensures c.args.shard) t.1 (subst P c.deref-2.ensures.value sent))
-    c.send_fetches.ensures
+    let end = c.teach_learnt-done.new.kept in
+    let b = c.in-Err.ensures.beside in
+    let were : AreLearntLast end.deps c.args.news.now = record { before = old.deps; known_are = b.deps ∙ c.in_ok-learn_news.ensures.ok; learnable = c.requires.learnable } in
+    let same : IsSame old (record end { rows = c.rollback.new.self; started = c.put_back.new.started; deps = c.forget_news.new.deps }) =
+    same_again old _ c.requires.sound
+    (c.rollback.ensures.store ∙ back_to end.rows.saved end.rows.store old.rows.store (c.in-Err.ensures.saved ∙ c.savepoint.ensures.saved))
+    (c.put_back.ensures ∙ c.in-Err.ensures.restored ∙ restored-none _ _ c.new-earlier.ensures.items)
+    (record { deps = c.forget_news.ensures were; waiting = b.waiting; fetches = b.fetches; decided = b.decided; ancestors = b.ancestors; lacks = b.lacks; index = b.index }) in
+    (same, c.in-Err.ensures.err)
