@@ -108,6 +108,7 @@ taken plan shard k acted new none sends before after news again found l f b a n 
       least = n.least k.deps (λ t row is. rows_now k news l t row (sym (b.ancestors t) ∙ is)) f.least;
       decided = subst Rising b.decided n.decided;
       index = λ c. n.index c ∙ ap (λ i. filter (λ s. not (is_listed is_txn ids s.id)) (group_refs_at c i)) b.index;
+      marks = n.marks ∙ b.marks;
       runs = λ s. a.runs s ∙ (λ i. holding s (sym n.rows i).store (sym n.started i));
       groups = ap (map unrun) n.started ∙ a.groups;
       told = sent.1 ∙ ap (λ xs. before.decided ++ xs) (a.told ∙ ap (λ xs. xs ++ ids) none_decided);
@@ -135,6 +136,7 @@ learnt_taken plan shard old new known held after_runs before after news again e 
   least = subst (λ ks. AreRows ks new.ancestors.rows) e t.least;
   decided = t.decided;
   index = t.index;
+  marks = t.marks;
   runs = λ s. (λ i. take_all plan (holding s (sym h i) old.started) t.ids) ∙ t.runs s ∙ (λ i. holding s (sym r i) new.started);
   groups = t.groups;
   told = t.told;
@@ -152,7 +154,7 @@ same_again old new sound store started k =
     let Left : List KnownList → List StartedGroup → Waiting → Type 0 =
     λ ks es w. AllByRecursion (λ d. (not (is_known ks d.from) && (not (is_here d.from es) && not (was_asked_for d.from w.asked))) ≡ false) (flat_map (λ list. list.edges) ks) in
     record {
-      state = λ shard. λ i. record { shard = shard; store = store i; started = started i; lists = record { known = k.deps i; waiting = k.waiting i } };
+      state = λ shard. λ i. record { shard = shard; store = store i; started = started i; lists = record { known = k.deps i; waiting = k.waiting i }; below = k.marks i };
       sound = record {
         groups_once = subst (NoneTwice is_same_group) (sym started) sound.groups_once;
         decided_rising = subst (IsStrictlySortedBy txn_cmp) (sym k.decided) sound.decided_rising;

@@ -77,7 +77,7 @@ module _ (plan : Plan) (shard : Shard) (old new : ServerData) (before after : Co
   reached : take_all plan knowing ids ≡ state_of shard new
   reached =
       h.runs knowing
-      ∙ (λ i. let t : ServerState = record { shard = shard; store = new.rows.store; started = new.started; lists = record { known = known_is i; waiting = waiting_is i } } in t)
+      ∙ (λ i. let t : ServerState = record { shard = shard; store = new.rows.store; started = new.started; lists = record { known = known_is i; waiting = waiting_is i }; below = sym h.marks i } in t)
 
   groups : AreSameGroups old.started new.started
   groups = h.groups

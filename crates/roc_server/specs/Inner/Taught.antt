@@ -66,6 +66,7 @@ pub record KeepsBesideRuns (old new : ServerData) : Type 0 where
   pub ancestors : AreSameRows old.ancestors.rows new.ancestors.rows
   pub lacks : new.lacks ≡ old.lacks
   pub index : new.index ≡ old.index
+  pub marks : new.marks ≡ old.marks
 
 -- these are decided, and what was buffered of them ran
 pub record RunsDecided (plan : Plan) (old new : List StartedGroup) (store after : Store) (sends more : Collected) (ids : List TxnId) : Type 0 where
@@ -116,6 +117,7 @@ pub record KeepsFound (old new : ServerData) (news : List KnownList) (found : Fo
   pub least : (known : List KnownList) → AreRows known old.ancestors.rows → AreAllRight known found.rows → AreRows known new.ancestors.rows
   pub decided : IsRisingListOf (IsListed is_txn (old.decided.ids ++ found.ids.items)) new.decided.ids
   pub index : AreOut found.ids.items old.index new.index
+  pub marks : new.marks ≡ old.marks
 
 -- lists were learnt, so that these are known, and what comes of it is done: what is kept and sent before and after
 pub record Taken (plan : Plan) (shard : Shard) (known : List KnownList) (old new : ServerData) (before after : Collected) (news : List KnownList) (again : Option TxnId) : Type 0 where
@@ -130,6 +132,7 @@ pub record Taken (plan : Plan) (shard : Shard) (known : List KnownList) (old new
   pub least : AreRows known new.ancestors.rows
   pub decided : IsRisingListOf (IsListed is_txn (old.decided.ids ++ ids)) new.decided.ids
   pub index : AreOut ids old.index new.index
+  pub marks : new.marks ≡ old.marks
   pub runs : (s : ServerState) → take_all plan (holding s old.rows.store old.started) ids ≡ holding s new.rows.store new.started
   pub groups : AreSameGroups old.started new.started
   pub told : after.decided ≡ before.decided ++ ids

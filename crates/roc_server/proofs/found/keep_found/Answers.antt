@@ -28,4 +28,5 @@ returns c =
           subst (λ (ids : List TxnId). IsRisingListOf (IsListed is_txn (old.decided.ids ++ ids)) c.take-3.new.self.ids) c.deref-3.ensures.value
           (on_done c.take-3.result decided c.take-3.ensures.ok);
       index = subst (λ (ids : List TxnId). AreOut ids old.index c.take_out.new.index) c.deref-2.ensures.value c.take_out.ensures;
+      marks = refl;
     }

@@ -31,5 +31,5 @@ returns-in-Err-clause-err c =
     same_again old _ c.requires.sound
     (c.rollback.ensures.store ∙ back_to end.rows.saved end.rows.store old.rows.store (c.in-Err.ensures.saved ∙ c.savepoint.ensures.saved))
     (c.put_back.ensures ∙ c.in-Err.ensures.restored ∙ restored-none _ _ c.new-earlier.ensures.items)
-    (record { deps = c.forget_news.ensures were; waiting = b.waiting; fetches = b.fetches; decided = b.decided; ancestors = b.ancestors; lacks = b.lacks; index = b.index }) in
+    (record { deps = c.forget_news.ensures were; waiting = b.waiting; fetches = b.fetches; decided = b.decided; ancestors = b.ancestors; lacks = b.lacks; index = b.index; marks = b.marks }) in
     (same, c.in-Err.ensures.err)
