@@ -1,5 +1,5 @@
 -- What was undone leaves the server as it was
-use Rattle.std.proofs.Common.{◌≡◌, Bool, false, not, ◌&&◌, filter, List, Some, unwrap_or, refl, sym, ap, subst, ◌∙◌}
+use Rattle.std.proofs.Common.{◌≡◌, false, not, ◌&&◌, filter, List, Some, unwrap_or, refl, sym, ap, subst, ◌∙◌}
 use Rattle.std.specs.List.{AllByRecursion, flat_map}
 use Rattle.std.specs.List.Sorted.{IsStrictlySortedBy}
 use Rattle.roc_sequence.specs.Places.{IsListed, NoneTwice}
@@ -12,7 +12,6 @@ use Rattle.roc_await.specs.Lacks.{AreLacks}
 use Rattle.roc_await.specs.Waits.{Awaited, Waiting, was_asked_for}
 use Rattle.roc_await.specs.declared.waits.OpenFetch.{OpenFetch}
 use Rattle.roc_rows.specs.Held.{Held}
-use Rattle.roc_rows.specs.Store.{Store}
 use Rattle.roc_rows.specs.declared.cell.Cell.{Cell}
 use Rattle.roc_server_ancestors.specs.Least.{AreRows}
 use Rattle.roc_server_index.specs.GroupRefs.{CellRefs, HaveSameRefs}

@@ -27,6 +27,7 @@ mod groups;
 mod handled;
 mod indexed;
 pub mod laws;
+mod lent_groups;
 mod looks;
 mod marks;
 mod missing;

@@ -9,10 +9,7 @@ ghost use Rattle.roc_server.specs.State.{find_group};
 ghost use Rattle.roc_server.specs.Inner.Indexed.{IsIndexOf, IsGroupRefWithin, is_looked_at, is_met, edge_from};
 ghost use Rattle.roc_server.specs.Start.{conflicts_before, edge_to, users};
 
-use crate::StartedGroup;
-use crate::groups::find_group;
-use crate::server_data::ServerData;
-use crate::started_groups::StartedGroups;
+use crate::lent_groups::LentGroups;
 use crate::started_now::is_immediate;
 use roc_base::{Edge, Edges, NoMemory, Shard, Steps, TxnId};
 use roc_group::{Access, conflict};
@@ -33,23 +30,22 @@ pub(crate) struct Starting {
 pub(crate) fn entries<L: Ledger>(
     alloc: Global,
     plan: &Plan,
-    kept: &ServerData,
+    groups: &LentGroups<'_, L>,
     starting: Starting,
     cells: &[Access],
     steps: &mut Steps<L>,
 ) -> Result<Edges, NoMemory>
-    requires fits { AreGroupsOf plan.now kept.now.started }
-    requires once { NoneTwice is_same_group kept.now.started }
-    requires index { IsIndexOf kept.now.index kept.now.decided.ids kept.now.started }
+    requires fits { AreGroupsOf plan.now groups.now.kept.now.started }
+    requires once { NoneTwice is_same_group groups.now.kept.now.started }
+    requires index { IsIndexOf groups.now.kept.now.index groups.now.kept.now.decided.ids groups.now.kept.now.started }
     ensures entries { IfOk result (λ edges. edges
-        ≡ united (map (edge_to starting.shard starting.immediate) (filter (conflicts_before plan.now kept.now.decided.ids starting.id starting.immediate cells.now) kept.now.started))) }
-    ensures steps { steps.new ≤ steps.old + length (users plan.now kept.now.decided.ids starting.immediate cells.now kept.now.started) }
+        ≡ united (map (edge_to starting.shard starting.immediate) (filter (conflicts_before plan.now groups.now.kept.now.decided.ids starting.id starting.immediate cells.now) groups.now.kept.now.started))) }
+    ensures steps { steps.new ≤ steps.old + length (users plan.now groups.now.kept.now.decided.ids starting.immediate cells.now groups.now.kept.now.started) }
 {
     let mut met = Vec::new(alloc);
-    let started = &kept.started;
     for access in cells {
-        let group_refs = kept.index.at(access.cell);
-        push_met(plan, started, group_refs, starting, access, &mut met, steps)?;
+        let group_refs = groups.refs_at(access.cell);
+        push_met(plan, groups, group_refs, starting, access, &mut met, steps)?;
     }
     let mut edges = Edges::new(alloc);
     edges.unite(&met)?;
@@ -59,16 +55,16 @@ pub(crate) fn entries<L: Ledger>(
 // Adds the entries for the groups of these references that come before one that makes this use.
 fn push_met<L: Ledger>(
     plan: &Plan,
-    started: &StartedGroups,
+    groups: &LentGroups<'_, L>,
     group_refs: &[GroupRef],
     starting: Starting,
     access: &Access,
     met: &mut Vec<Edge>,
     steps: &mut Steps<L>,
 ) -> Result<(), NoMemory>
-    requires { AllByRecursion (IsGroupRefWithin plan.now started.now) group_refs.now }
+    requires { AllByRecursion (IsGroupRefWithin plan.now groups.now.kept.now.started) group_refs.now }
     ensures met { OnOk result (met.new.items ≡ met.old.items
-        ++ map (edge_from starting.shard starting.immediate) (filter (is_met plan.now started.now starting.id starting.immediate access.now) group_refs.now)) }
+        ++ map (edge_from starting.shard starting.immediate) (filter (is_met plan.now groups.now.kept.now.started starting.id starting.immediate access.now) group_refs.now)) }
     ensures steps { steps.new ≤ steps.old + length (filter (is_looked_at plan.now starting.id starting.immediate) group_refs.now) }
 {
     let Starting {
@@ -77,7 +73,7 @@ fn push_met<L: Ledger>(
         immediate,
     } = starting;
     for group_ref in group_refs {
-        if is_met(plan, started, *group_ref, starting, access, steps) {
+        if is_met(plan, groups, *group_ref, starting, access, steps) {
             met.push(Edge::new(group_ref.id, immediate, !immediate, shard))?;
         }
     }
@@ -87,14 +83,14 @@ fn push_met<L: Ledger>(
 // Whether the group of a reference comes before one that makes this use.
 fn is_met<L: Ledger>(
     plan: &Plan,
-    started: &StartedGroups,
+    groups: &LentGroups<'_, L>,
     group_ref: GroupRef,
     starting: Starting,
     access: &Access,
     steps: &mut Steps<L>,
 ) -> bool
-    requires { IsGroupRefWithin plan.now started.now group_ref }
-    ensures met { result ≡ is_met plan.now started.now starting.id starting.immediate access.now group_ref }
+    requires { IsGroupRefWithin plan.now groups.now.kept.now.started group_ref }
+    ensures met { result ≡ is_met plan.now groups.now.kept.now.started starting.id starting.immediate access.now group_ref }
     ensures steps { steps.new ≡ steps.old + (if is_looked_at plan.now starting.id starting.immediate group_ref then 1 else 0) }
 {
     if group_ref.id == starting.id {
@@ -103,23 +99,6 @@ fn is_met<L: Ledger>(
     if is_immediate(plan, group_ref.proc, group_ref.group) != starting.immediate {
         return false;
     }
-    let group = look(started, group_ref, steps);
+    let group = groups.look(group_ref, steps);
     conflict(group.cells.as_slice(), &[*access])
-}
-
-// The group of a reference: a step.
-fn look<'a, L: Ledger>(
-    started: &'a StartedGroups,
-    group_ref: GroupRef,
-    steps: &mut Steps<L>,
-) -> &'a StartedGroup
-    requires { IsSome (find_group group_ref.id group_ref.group started.now) }
-    ensures group { find_group group_ref.id group_ref.group started.now ≡ Some result.now }
-    ensures steps { steps.new ≡ steps.old + 1 }
-{
-    steps.tick();
-    match find_group(started, group_ref.id, group_ref.group) {
-        Some(group) => group,
-        None => unreachable!(),
-    }
 }

@@ -20,6 +20,7 @@ use crate::Handled;
 use crate::commits::{take_commit, take_known};
 use crate::fetches::take_fetch;
 use crate::first::first_rows;
+use crate::lent_groups::LentGroups;
 use crate::looks::{Starting, entries};
 use crate::server_data::ServerData;
 use crate::starts::{Request, take_start};
@@ -143,7 +144,8 @@ impl Server {
             id,
             immediate: is_immediate(class),
         };
-        entries(self.alloc, plan, &self.kept, starting, cells, steps)
+        let groups = LentGroups::new(&self.kept);
+        entries(self.alloc, plan, &groups, starting, cells, steps)
     }
 
     /// The buffered groups of undecided transactions, in order of arrival, each as its transaction and the cells that it uses: what

@@ -12,6 +12,7 @@ ghost use Rattle.roc_server.specs.Inner.Starts.{IsNewGroup, KeepsBeside};
 ghost use Rattle.roc_server.specs.Start.{conflicts_before, edge_to};
 
 use crate::StartedGroup;
+use crate::lent_groups::LentGroups;
 use crate::looks::{Starting, entries};
 use crate::server_data::ServerData;
 use crate::starts::Request;
@@ -93,7 +94,14 @@ fn edges_for<L: Ledger>(
         ≡ united (map (edge_to starting.shard starting.immediate) (filter (conflicts_before plan.now kept.now.decided.ids starting.id starting.immediate cells.now) kept.now.started))) }
 {
     let mut steps = Steps::<L>::new(blank);
-    entries(alloc, plan, kept, starting, cells, &mut steps)
+    entries(
+        alloc,
+        plan,
+        &LentGroups::new(kept),
+        starting,
+        cells,
+        &mut steps,
+    )
 }
 
 // What is kept of a group that starts now. An immediate one runs.

@@ -16,26 +16,26 @@ use Rattle.roc_server.proofs.looks.entries.Goals as goal
 
 pub push_met-requires : goal.push_met-requires
 push_met-requires g c =
-    let k = c.args.kept.now in
+    let k = c.args.groups.now.kept.now in
     let plan = c.args.plan.now in
-    subst (AllByRecursion (IsGroupRefWithin plan k.started)) (sym c.at-group_refs.ensures)
+    subst (AllByRecursion (IsGroupRefWithin plan k.started)) (sym c.refs_at-group_refs.ensures)
     (indexed_within plan c.access-item.result.cell k.index k.decided.ids k.started c.requires.fits c.requires.once c.requires.index)
 
 pub returns-in_err-push_met-clause-steps : goal.returns-in_err-push_met-clause-steps
 returns-in_err-push_met-clause-steps g c =
-    let k = c.args.kept.now in
+    let k = c.args.groups.now.kept.now in
     let cells = c.args.cells.now in
     let a = c.access-item.result in
     let f : Access → List GroupRef = λ x. filter (is_looked_at c.args.plan.now c.args.starting.id c.args.starting.immediate) (group_refs_at x.cell k.index) in
-    let here : length (filter (is_looked_at c.args.plan.now c.args.starting.id c.args.starting.immediate) c.at-group_refs.result.now) ≡ length (f (get_or cells c.loop-access.access-index a)) =
-    ap (λ ss. length (filter (is_looked_at c.args.plan.now c.args.starting.id c.args.starting.immediate) ss)) c.at-group_refs.ensures ∙ ap (λ x. length (f x)) c.access-item.is in
+    let here : length (filter (is_looked_at c.args.plan.now c.args.starting.id c.args.starting.immediate) c.refs_at-group_refs.result.now) ≡ length (f (get_or cells c.loop-access.access-index a)) =
+    ap (λ ss. length (filter (is_looked_at c.args.plan.now c.args.starting.id c.args.starting.immediate) ss)) c.refs_at-group_refs.ensures ∙ ap (λ x. length (f x)) c.access-item.is in
     let more = length-flat_map-take f cells c.loop-access.access-index a c.loop-access-test.true in
     let all = looked_within c.args.plan.now k.decided.ids c.args.starting.id c.args.starting.immediate k.index k.started c.requires.index cells in
     omega (arith, c.push_met.ensures.steps, c.loop-access.invariant.steps, here, more, all)
 
 pub returns-in_err-unite-clause-steps : goal.returns-in_err-unite-clause-steps
 returns-in_err-unite-clause-steps g c =
-    let k = c.args.kept.now in
+    let k = c.args.groups.now.kept.now in
     let cells = c.args.cells.now in
     let f : Access → List GroupRef = λ x. filter (is_looked_at c.args.plan.now c.args.starting.id c.args.starting.immediate) (group_refs_at x.cell k.index) in
     let whole : length (flat_map f (take c.loop-access.access-index cells)) ≡ length (flat_map f cells) = ap (λ xs. length (flat_map f xs)) (take_all c.loop-access.access-index cells c.loop-access-test.false) in
@@ -44,7 +44,7 @@ returns-in_err-unite-clause-steps g c =
 
 pub returns-clause-steps : goal.returns-clause-steps
 returns-clause-steps g c =
-    let k = c.args.kept.now in
+    let k = c.args.groups.now.kept.now in
     let cells = c.args.cells.now in
     let f : Access → List GroupRef = λ x. filter (is_looked_at c.args.plan.now c.args.starting.id c.args.starting.immediate) (group_refs_at x.cell k.index) in
     let whole : length (flat_map f (take c.loop-access.access-index cells)) ≡ length (flat_map f cells) = ap (λ xs. length (flat_map f xs)) (take_all c.loop-access.access-index cells c.loop-access-test.false) in
@@ -53,7 +53,7 @@ returns-clause-steps g c =
 
 pub returns-clause-entries : goal.returns-clause-entries
 returns-clause-entries g c =
-    let k = c.args.kept.now in
+    let k = c.args.groups.now.kept.now in
     let p = c.args.starting in
     let plan = c.args.plan.now in
     let cells = c.args.cells.now in

@@ -1,7 +1,6 @@
 -- Each part is that of the run, where the group is immediate, and else what it will use
 use Rattle.std.proofs.Common.{◌≡◌, ◌++◌, Bool, true, false, if◌then◌else◌, refl, sym, ap, ◌∙◌}
 use Rattle.roc_group.specs.GroupRun.{GroupCall, call, group_run, group_uses, bound_by_run}
-use Rattle.roc_plan.specs.Groups.{is_immediate_of}
 use Rattle.roc_server.proofs.started_now.begin_group.Goals as goal
 
 chosen : {A : Type 0} (b : Bool) (x y z : A) → b ≡ true → z ≡ x → z ≡ (if b then x else y)

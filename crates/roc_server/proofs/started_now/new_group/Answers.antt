@@ -1,4 +1,4 @@
-use Rattle.std.proofs.Common.{◌≡◌, None, false, List, refl, subst, ◌∙◌}
+use Rattle.std.proofs.Common.{◌≡◌, None, List, refl, subst, ◌∙◌}
 use Rattle.roc_base.specs.Edge.{Dependency}
 use Rattle.roc_group.specs.GroupRun.{group_uses}
 use Rattle.roc_server.specs.declared.started.StartedGroup.{StartedGroup}

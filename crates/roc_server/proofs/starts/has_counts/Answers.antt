@@ -1,5 +1,5 @@
 -- The two tests of the code are the two of the definition, whose second is not read where the first fails
-use Rattle.std.proofs.Common.{◌≡◌, ◌≢◌, ◌<◌, ◌==◌, ◌&&◌, ℕ, Bool, length, sym, ap, ◌∙◌, arith}
+use Rattle.std.proofs.Common.{◌≡◌, ◌≢◌, ◌==◌, ◌&&◌, ℕ, Bool, length, sym, ap, ◌∙◌, arith}
 use Rattle.std.proofs.lemmas.Bool.{eq-eqb, ne_eqb}
 use Rattle.roc_plan.specs.Groups.{procedure_of, inputs_of}
 use Rattle.roc_server.proofs.starts.has_counts.Goals as goal

@@ -1,4 +1,4 @@
-use Rattle.std.proofs.Common.{false, sym, ap, ◌∙◌}
+use Rattle.std.proofs.Common.{sym, ap, ◌∙◌}
 use Rattle.std.specs.Option.{option_copied}
 use Rattle.roc_server.specs.Inner.ServerData.{asked, state_of}
 use Rattle.roc_server.proofs.StartSteps.{start_ignored, start_repeated, start_made, not_late}
