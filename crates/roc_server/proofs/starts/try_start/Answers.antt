@@ -1,4 +1,5 @@
 use Rattle.std.proofs.Common.{◌≡◌, ◌∙◌, false, None, List, Result, Ok, Err, OnOk, sym, ap, subst}
+use Rattle.std.proofs.lemmas.Result.{on_err_weaker}
 use Rattle.std.specs.List.{AllByRecursion}
 use Rattle.roc_rows.specs.declared.cell.Cell.{Cell}
 use Rattle.roc_server_index.specs.GroupRefs.{CellRefs, group_refs_at, is_same_ref}
@@ -8,6 +9,7 @@ use Rattle.roc_server.specs.Inner.Indexed.{group_ref_of}
 use Rattle.roc_server.specs.State.{find_group}
 use Rattle.roc_server.proofs.IndexSteps.{none_yet}
 use Rattle.roc_server.proofs.StartSteps.{start_entered, start_sound}
+use Rattle.roc_server.proofs.Undone.{beside_more}
 use Rattle.roc_server.proofs.starts.try_start.Goals as goal
 
 on_ok_both : {T E P Q R : Type 0} (r : Result T E) → (P → Q → R) → OnOk r P → OnOk r Q → OnOk r R
@@ -28,6 +30,12 @@ returns-clause-sound c =
     (λ is added. start_sound c.args.kept.now c.new_group.new.kept c.enter.new.self c.enter.new.index c.in_ok-started.started c.args.request.id c.args.request.group c.requires.sound n.started n.deps (ap (λ (d : DecidedIds). d.ids) n.decided) n.ancestors n.lacks n.waits is
     (ap (λ (e : StartedGroup). e.id) n.is) (ap (λ (e : StartedGroup). e.group) n.is) c.requires.absent n.index c.requires.unknown added)
     c.enter.ensures.groups c.enter.ensures.refs
+
+pub returns-clause-err : goal.returns-clause-err
+returns-clause-err c =
+    on_err_weaker c.enter.result
+    (λ same. (beside_more c.args.kept.now c.new_group.new.kept c.enter.new.self c.enter.new.index c.new_group.ensures.beside same.0 same.1.0, same.1.1))
+    c.enter.ensures.err
 
 pub enter-requires-clause-unmet : goal.enter-requires-clause-unmet
 enter-requires-clause-unmet c d =
