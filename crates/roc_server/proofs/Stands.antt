@@ -1,6 +1,5 @@
 -- The references of groups, and the groups that are found by them
 use Rattle.std.proofs.Common.{◌≡◌, ◌<◌, suc, Bool, true, false, cond, not, if◌then◌else◌, List, [], ◌∷◌, ◌++◌, length, map, Some, is_some, refl, sym, ap, subst, ◌∙◌, inl, inr, arith}
-use Rattle.std.proofs.lemmas.Bool.{false≢true}
 use Rattle.std.specs.Prelude.{IsSome}
 use Rattle.std.specs.List.{AllByRecursion}
 use Rattle.roc_sequence.specs.Lists.{Has}
@@ -18,7 +17,7 @@ use Rattle.roc_server.specs.declared.started.StartedGroup.{StartedGroup}
 use Rattle.roc_server.specs.Fits.{IsCallOf, AreGroupsOf}
 use Rattle.roc_server.specs.Runs.{group_call}
 use Rattle.roc_server.specs.Start.{uses_cell}
-use Rattle.roc_server.specs.State.{unrun, is_group, find_group}
+use Rattle.roc_server.specs.State.{unrun, find_group}
 use Rattle.roc_server.specs.Inner.ServerData.{is_same_group, AreSameGroups}
 use Rattle.roc_server.specs.Inner.Indexed.{group_ref_of, group_refs_of, IsIndexOf, IsGroupRefOf, IsGroupRefWithin}
 use Rattle.roc_server.proofs.SameGroups.{same_own, same_swap}
