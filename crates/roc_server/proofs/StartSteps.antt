@@ -1,5 +1,6 @@
 -- What comes of a start, case by case
-use Rattle.std.proofs.Common.{◌≡◌, ◌<◌, ◌==◌, ◌&&◌, ℕ, Bool, true, false, not, nat_lt, cond, is_none, Some, None, Option, List, [], ◌∷◌, ◌++◌, length, Result, Ok, Err, IfOk, refl, sym, ap, subst, ◌∙◌, append-nil, arith, inl, inr, filter, if◌then◌else◌}
+use Rattle.std.proofs.Common.{◌≡◌, ◌<◌, ◌==◌, ◌&&◌, ℕ, Bool, true, false, not, nat_lt, cond, is_none, Some, None, Option, List, [], ◌∷◌, ◌++◌, length, filter, if◌then◌else◌}
+use Rattle.std.proofs.Common.{Result, Ok, Err, IfOk, refl, sym, ap, subst, ◌∙◌, append-nil, arith, inl, inr}
 use Rattle.std.proofs.lemmas.Bool.{eqb-true, and_parts, false≢true}
 use Rattle.std.specs.List.Sorted.{IsStrictlySortedBy}
 use Rattle.roc_sequence.specs.Places.{place_of, is_listed, IsListed, NoneTwice}
@@ -103,7 +104,8 @@ Told plan shard e sends =
 
 module _ (plan : Plan) (shard : Shard) (k mid : ServerData) (id : TxnId) (c : GroupCall) (before after : Collected) where
   -- it stands behind the others, and what is told of it behind what was sent
-  pub start_entered : (e : StartedGroup) (started : List StartedGroup) (index : List (Cell × CellRefs)) (sends : Collected) → IsNewGroup plan shard k mid id c e → started ≡ mid.started ++ e ∷ [] → Told plan shard e sends → HoldsAlso before after sends
+  pub start_entered : (e : StartedGroup) (started : List StartedGroup) (index : List (Cell × CellRefs)) (sends : Collected) → IsNewGroup plan shard k mid id c e
+      → started ≡ mid.started ++ e ∷ [] → Told plan shard e sends → HoldsAlso before after sends
       → StartsNew plan shard k (record mid { started = started; index = index }) before after id c Done
   start_entered e started index sends n is told sent =
       record {
@@ -111,7 +113,13 @@ module _ (plan : Plan) (shard : Shard) (k mid : ServerData) (id : TxnId) (c : Gr
         led = n.led;
         shown = record {
           answers = refl;
-          keeps = λ i. record { shard = shard; store = sym n.store i; started = sym (is ∙ (λ j. n.started j ++ n.is j ∷ [])) i; lists = record { known = sym n.deps i; waiting = (sym n.waits i).waiting }; below = sym n.marks i };
+          keeps = λ i. record {
+            shard = shard;
+            store = sym n.store i;
+            started = sym (is ∙ (λ j. n.started j ++ n.is j ∷ [])) i;
+            lists = record { known = sym n.deps i; waiting = (sym n.waits i).waiting };
+            below = sym n.marks i;
+          };
           sends = sent.0 ∙ ap (λ ms. before.messages ++ ms) (told.0 ∙ ap (λ (g : StartedGroup). startok_of shard g ∷ []) n.is);
           decides = sent.1 ∙ ap (λ ids. before.decided ++ ids) told.1.0;
           ran = sent.2 ∙ ap (λ accesses. before.ran ++ accesses) (told.1.1 ∙ (λ i. accesses_of (if is_immediate_of plan (n.is i).proc (n.is i).group then n.is i ∷ [] else [])));
@@ -119,7 +127,8 @@ module _ (plan : Plan) (shard : Shard) (k mid : ServerData) (id : TxnId) (c : Gr
       }
 
   -- a savepoint before it and behind it changes no cell
-  pub start_between : (noted kept : Held) (answer : Handled) → noted.store ≡ k.rows.store → kept.store ≡ mid.rows.store → StartsNew plan shard (record k { rows = noted }) mid before after id c answer → StartsNew plan shard k (record mid { rows = kept }) before after id c answer
+  pub start_between : (noted kept : Held) (answer : Handled) → noted.store ≡ k.rows.store → kept.store ≡ mid.rows.store → StartsNew plan shard (record k { rows = noted }) mid before after id c answer
+      → StartsNew plan shard k (record mid { rows = kept }) before after id c answer
   start_between noted kept answer same same2 h =
       let from : Store → ServerState = λ store. record { shard = shard; store = store; started = k.started; lists = record { known = k.deps; waiting = k.waits.waiting }; below = k.marks } in
       let to : Store → ServerState = λ store. record { shard = shard; store = store; started = mid.started; lists = record { known = mid.deps; waiting = mid.waits.waiting }; below = mid.marks } in

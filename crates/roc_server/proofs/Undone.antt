@@ -26,7 +26,8 @@ use Rattle.roc_server.specs.State.{is_here}
 pub same_kept : (old new : ServerData) → new.rows.store ≡ old.rows.store → KeepsBeside old new → IsConsistent old → IsSame old new
 same_kept old new cells p h =
     let Left : List KnownList → List StartedGroup → List OpenFetch → Type 0 =
-    λ ks es asked. AllByRecursion (λ (d : Dependency). (not (is_known ks d.from) && (not (is_here d.from es) && not (was_asked_for d.from asked))) ≡ false) (flat_map (λ (l : KnownList). l.edges) ks) in
+    λ ks es asked. AllByRecursion (λ (d : Dependency). (not (is_known ks d.from) && (not (is_here d.from es) && not (was_asked_for d.from asked))) ≡ false)
+    (flat_map (λ (l : KnownList). l.edges) ks) in
     let Lists : List KnownList → List TxnId → Type 0 = λ ks ids. ((t : TxnId) → IsListed is_txn ids t → IsDecided ks t) × ((t : TxnId) → IsDecided ks t → IsListed is_txn ids t) in
     let both : Lists new.deps new.decided.ids = subst (λ ks. Lists ks new.decided.ids) (sym p.deps) (subst (λ ids. Lists old.deps ids) (sym p.decided) (h.decided_only, h.decided_all)) in
     record {
@@ -62,8 +63,8 @@ cells_aside k rows h =
     }
 
 -- a try behind a savepoint that was rolled back
-pub tried_in_vain : (k tried : ServerData) (noted undone : Held) → noted.saved ≡ Some k.rows.store → tried.rows.saved ≡ noted.saved → undone.store ≡ unwrap_or tried.rows.saved tried.rows.store → KeepsBeside (record k { rows = noted }) tried → IsConsistent k
-    → IsSame k (record tried { rows = undone })
+pub tried_in_vain : (k tried : ServerData) (noted undone : Held) → noted.saved ≡ Some k.rows.store → tried.rows.saved ≡ noted.saved → undone.store ≡ unwrap_or tried.rows.saved tried.rows.store
+    → KeepsBeside (record k { rows = noted }) tried → IsConsistent k → IsSame k (record tried { rows = undone })
 tried_in_vain k tried noted undone saved kept back p h =
     same_kept k (record tried { rows = undone }) (back ∙ ap (λ s. unwrap_or s tried.rows.store) (kept ∙ saved))
     (record { started = p.started; deps = p.deps; waiting = p.waiting; fetches = p.fetches; decided = p.decided; ancestors = p.ancestors; lacks = p.lacks; index = p.index; marks = p.marks }) h
@@ -75,6 +76,7 @@ waits_same k waits waiting fetches h =
     (record { started = refl; deps = refl; waiting = waiting; fetches = fetches; decided = refl; ancestors = refl; lacks = refl; index = λ c. refl; marks = refl }) h
 
 -- two steps, of which the second touches groups and index alone
-pub beside_more : (k mid : ServerData) (started : List StartedGroup) (index : List (Cell × CellRefs)) → KeepsBeside k mid → started ≡ mid.started → HaveSameRefs mid.index index → KeepsBeside k (record mid { started = started; index = index })
+pub beside_more : (k mid : ServerData) (started : List StartedGroup) (index : List (Cell × CellRefs)) → KeepsBeside k mid → started ≡ mid.started → HaveSameRefs mid.index index
+    → KeepsBeside k (record mid { started = started; index = index })
 beside_more k mid started index p same refs =
     record { started = same ∙ p.started; deps = p.deps; waiting = p.waiting; fetches = p.fetches; decided = p.decided; ancestors = p.ancestors; lacks = p.lacks; index = λ c. refs c ∙ p.index c; marks = p.marks }

@@ -39,7 +39,8 @@ pub(crate) fn entries<L: Ledger>(
     requires once { NoneTwice is_same_group groups.now.kept.now.started }
     requires index { IsIndexOf groups.now.kept.now.index groups.now.kept.now.decided.ids groups.now.kept.now.started }
     ensures entries { IfOk result (λ edges. edges
-        ≡ united (map (edge_to starting.shard starting.immediate) (filter (conflicts_before plan.now groups.now.kept.now.decided.ids starting.id starting.immediate cells.now) groups.now.kept.now.started))) }
+        ≡ united (map (edge_to starting.shard starting.immediate) (filter (conflicts_before plan.now groups.now.kept.now.decided.ids starting.id starting.immediate cells.now)
+        groups.now.kept.now.started))) }
     ensures steps { steps.new ≤ steps.old + length (users plan.now groups.now.kept.now.decided.ids starting.immediate cells.now groups.now.kept.now.started) }
 {
     let mut met = Vec::new(alloc);

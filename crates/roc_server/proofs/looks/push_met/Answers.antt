@@ -1,4 +1,4 @@
-use Rattle.std.proofs.Common.{ℕ, ◌∙◌, ◌+◌, ◌++◌, ◌∷◌, [], List, length, map, filter, sym, ap, arith}
+use Rattle.std.proofs.Common.{ℕ, Bool, ◌∙◌, ◌+◌, ◌++◌, ◌∷◌, [], List, length, map, filter, sym, ap, arith}
 use Rattle.std.proofs.lemmas.List.{take_all}
 use Rattle.std.proofs.lemmas.List.Filters.{length-filter_more}
 use Rattle.roc_sequence.proofs.Holds.{all_at}
@@ -45,12 +45,14 @@ loop-group_ref-preserved g c =
     }
 
 pub is_met-requires : goal.is_met-requires
-is_met-requires g c = all_at (IsGroupRefWithin c.args.plan.now c.args.groups.now.kept.now.started) c.args.group_refs.now c.loop-group_ref.group_ref-index no_group_ref c.requires c.loop-group_ref-test.true
+is_met-requires g c =
+    all_at (IsGroupRefWithin c.args.plan.now c.args.groups.now.kept.now.started) c.args.group_refs.now c.loop-group_ref.group_ref-index no_group_ref c.requires c.loop-group_ref-test.true
 
 pub returns-clause-met : goal.returns-clause-met
 returns-clause-met g c =
     let p = c.args.starting in
-    let all : List GroupRef → List Dependency = λ ss. c.args.met.now.items ++ map (edge_from p.shard p.immediate) (filter (is_met c.args.plan.now c.args.groups.now.kept.now.started p.id p.immediate c.args.access.now) ss) in
+    let met : GroupRef → Bool = is_met c.args.plan.now c.args.groups.now.kept.now.started p.id p.immediate c.args.access.now in
+    let all : List GroupRef → List Dependency = λ ss. c.args.met.now.items ++ map (edge_from p.shard p.immediate) (filter met ss) in
     c.loop-group_ref.invariant.met ∙ ap all (take_all c.loop-group_ref.group_ref-index c.args.group_refs.now c.loop-group_ref-test.false)
 
 pub returns-clause-steps : goal.returns-clause-steps

@@ -20,14 +20,16 @@ pub returns-clause-step : goal.returns-clause-step
 returns-clause-step c =
     let told = c.in_ok-sends.ensures in
     on_ok_both c.enter.result
-    (λ is sent. start_entered c.args.plan.now c.args.shard c.args.kept.now c.new_group.new.kept c.args.request.id _ c.args.outbox.now c.enter.new.outbox c.in_ok-started.started c.enter.new.self c.enter.new.index c.in_ok-sends.sends c.in_ok-started.ensures.new is (told.messages, (told.decided, told.ran)) sent)
+    (λ is sent. start_entered c.args.plan.now c.args.shard c.args.kept.now c.new_group.new.kept c.args.request.id _ c.args.outbox.now c.enter.new.outbox c.in_ok-started.started
+    c.enter.new.self c.enter.new.index c.in_ok-sends.sends c.in_ok-started.ensures.new is (told.messages, (told.decided, told.ran)) sent)
     c.enter.ensures.groups c.enter.ensures.sent
 
 pub returns-clause-sound : goal.returns-clause-sound
 returns-clause-sound c =
     let n = c.in_ok-started.ensures.new in
     on_ok_both c.enter.result
-    (λ is added. start_sound c.args.kept.now c.new_group.new.kept c.enter.new.self c.enter.new.index c.in_ok-started.started c.args.request.id c.args.request.group c.requires.sound n.started n.deps (ap (λ (d : DecidedIds). d.ids) n.decided) n.ancestors n.lacks n.waits is
+    (λ is added. start_sound c.args.kept.now c.new_group.new.kept c.enter.new.self c.enter.new.index c.in_ok-started.started c.args.request.id c.args.request.group c.requires.sound
+    n.started n.deps (ap (λ (d : DecidedIds). d.ids) n.decided) n.ancestors n.lacks n.waits is
     (ap (λ (e : StartedGroup). e.id) n.is) (ap (λ (e : StartedGroup). e.group) n.is) c.requires.absent n.index c.requires.unknown added)
     c.enter.ensures.groups c.enter.ensures.refs
 
@@ -43,4 +45,5 @@ enter-requires-clause-unmet c d =
     let n = c.in_ok-started.ensures.new in
     let e = c.in_ok-started.started in
     let absent : find_group e.id e.group k.started ≡ None = (λ i. find_group (n.is i).id (n.is i).group k.started) ∙ c.requires.absent in
-    subst (λ (i : List (Cell × CellRefs)). AllByRecursion (λ s. is_same_ref s (group_ref_of e) ≡ false) (group_refs_at d i)) (sym n.index) (none_yet k.index k.decided.ids k.started e c.requires.sound.index absent d)
+    subst (λ (i : List (Cell × CellRefs)). AllByRecursion (λ s. is_same_ref s (group_ref_of e) ≡ false) (group_refs_at d i)) (sym n.index)
+    (none_yet k.index k.decided.ids k.started e c.requires.sound.index absent d)

@@ -26,8 +26,10 @@ returns-clause-entries g c =
     let now = state_of c.self.inside.shard k in
     let P : ServerState → Bool → Type 0 = λ s b. IfOk c.entries.result (λ e. (left_out : List TxnId) → AreDecided s.lists.known left_out → e ≡ entries_for plan left_out s c.args.id b cells) in
     let found : IfOk c.entries.result (λ e. e ≡ entries_for plan k.decided.ids now c.args.id c.is_immediate.result cells) =
-    subst (λ (l : ServerData). IfOk c.entries.result (λ e. e ≡ entries_for plan l.decided.ids (state_of c.self.inside.shard l) c.args.id c.is_immediate.result cells)) c.new-groups.ensures c.entries.ensures.entries in
-    let here : P now c.is_immediate.result = for_each c.entries.result (λ left_out. entries_for plan left_out now c.args.id c.is_immediate.result cells) k.deps k.decided.ids (kept_decided k c.self.invariant) found in
+    subst (λ (l : ServerData). IfOk c.entries.result (λ e. e ≡ entries_for plan l.decided.ids (state_of c.self.inside.shard l) c.args.id c.is_immediate.result cells)) c.new-groups.ensures
+    c.entries.ensures.entries in
+    let here : P now c.is_immediate.result =
+    for_each c.entries.result (λ left_out. entries_for plan left_out now c.args.id c.is_immediate.result cells) k.deps k.decided.ids (kept_decided k c.self.invariant) found in
     subst (λ s. P s (is_immediate c.args.class)) c.self.view_is (subst (P now) c.is_immediate.ensures here)
 
 pub returns-clause-steps : goal.returns-clause-steps
