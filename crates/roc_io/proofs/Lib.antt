@@ -2,3 +2,4 @@ pub mod Causes
 pub mod Links
 pub mod Spawners
 pub mod Told
+pub mod Hearing

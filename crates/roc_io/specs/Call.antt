@@ -6,6 +6,7 @@ use Rattle.roc_io.specs.declared.link.Link.{Ghosts as LinkOf}
 use Rattle.roc_io.specs.declared.sink.Sink.{Ghosts as SinkOf}
 use Rattle.roc_io.specs.declared.spawner.ChildWait.{ChildWait}
 use Rattle.roc_io.specs.declared.spawner.Spawner.{Ghosts as SpawnerOf}
+use Rattle.roc_io.specs.Link.{Reception}
 use Rattle.roc_io.specs.Packet.{Packet}
 use Rattle.roc_io.specs.Start.{Start}
 
@@ -33,14 +34,16 @@ sink_call S old new = record { old = S.taken old; new = S.taken new }
 
 -- ---- a link
 
--- at one time: the datagrams that are still to arrive, those that it took for sending, and how many sends were lost
+-- at one time: the datagrams that are still to arrive, what each receive gave, the datagrams that it took for sending, and how many sends
+-- were lost
 pub record LinkView : Type 0 where
   pub arrivals : Option (List Packet)
+  pub receives : Option (List Reception)
   pub sent : Option (List Packet)
   pub lost : ℕ
 
 abbrev pub link_view : {L : Type 0} → LinkOf L → L → LinkView
-link_view L link = record { arrivals = L.arrivals link; sent = L.sent link; lost = L.lost link }
+link_view L link = record { arrivals = L.arrivals link; receives = L.receives link; sent = L.sent link; lost = L.lost link }
 
 -- the addresses that were bound, and the datagrams
 pub record LinkCall : Type 0 where
@@ -54,12 +57,14 @@ link_call L old new = record { bound_old = L.bound old; bound_new = L.bound new;
 
 -- ---- children
 
--- those that were started and awaited, and how many starts and waits failed
+-- those that were started and awaited, what a link had sent at each wait, and how many starts and waits failed
 pub record ChildrenCall : Type 0 where
   pub started_old : Option (List Start)
   pub started_new : Option (List Start)
   pub awaited_old : Option (List ChildWait)
   pub awaited_new : Option (List ChildWait)
+  pub sent_at_waits_old : Option (List (Option (List Packet)))
+  pub sent_at_waits_new : Option (List (Option (List Packet)))
   pub faults_old : ℕ
   pub faults_new : ℕ
 
@@ -69,6 +74,8 @@ children_call P old new = record {
   started_new = P.started new;
   awaited_old = P.awaited old;
   awaited_new = P.awaited new;
+  sent_at_waits_old = P.sent_at_waits old;
+  sent_at_waits_new = P.sent_at_waits new;
   faults_old = P.faults old;
   faults_new = P.faults new;
 }

@@ -1,5 +1,5 @@
 -- What a link binds, sends and receives.
-use Rattle.std.specs.Prelude.{◌≡◌, ℕ, ◌<◌, Bool, true, false, List, [], ◌∷◌, length, Option, IfSome, option_map}
+use Rattle.std.specs.Prelude.{◌≡◌, ℕ, ◌<◌, Bool, true, false, List, [], ◌∷◌, length, Option, Some, None, IfSome, option_map}
 use Rattle.roc_io.specs.declared.link.Bound.{Bound}
 use Rattle.roc_io.specs.declared.link.Bound.TheVariants.{Ok as BoundOk, Failed as BoundFailed}
 use Rattle.roc_io.specs.declared.link.Sent.{Sent}
@@ -30,3 +30,30 @@ Receives (Datagram from) old new into = old ≡ option_map (λ left. record { ad
 Receives Quiet old new into = (new ≡ old) × IfSome old (λ left. left ≡ []) × (into ≡ [])
 Receives NoMemory old new into = (new ≡ old) × IfSome old (λ left. 0 < length left) × (into ≡ [])
 Receives Failed old new into = (new ≡ old) × (into ≡ [])
+
+-- what a receive gave: a datagram; nothing, since none came in time; or nothing, since the link failed or memory was wanting
+pub data Reception : Type 0 where
+  came : Packet → Reception
+  none_came : Reception
+  vain : Reception
+
+abbrev pub reception : Arrival → (into : List ℕ) → Reception
+reception (Datagram from) into = came (record { address = from; bytes = into })
+reception Quiet into = none_came
+reception NoMemory into = vain
+reception Failed into = vain
+
+-- receives that gave this led from the first of these arrivals to the second: each datagram was the first that was left, and none came only
+-- where none was left
+abbrev pub Hears : List Reception → (old new : List Packet) → Type 0
+Hears [] old new = new ≡ old
+Hears (came packet ∷ rest) old new = (left : List Packet) × (old ≡ packet ∷ left) × Hears rest left new
+Hears (none_came ∷ rest) old new = (old ≡ []) × Hears rest old new
+Hears (vain ∷ rest) old new = Hears rest old new
+
+-- the same, where the arrivals are told
+abbrev pub HearsTold : List Reception → (old new : Option (List Packet)) → Type 0
+HearsTold given None None = Unit {0}
+HearsTold given (Some old) (Some new) = Hears given old new
+HearsTold given None (Some new) = ⊥
+HearsTold given (Some old) None = ⊥

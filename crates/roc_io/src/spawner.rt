@@ -3,11 +3,13 @@ ghost use Rattle.std.specs.Prelude.{◌≡◌, ℕ, List, [], ◌∷◌, Option,
 ghost use Rattle.roc_io.specs.Cause.{HasCause};
 ghost use Rattle.roc_io.specs.Observed.{Adds};
 ghost use Rattle.roc_io.specs.Spawner.{start_failed, Starts, all_start_failed, command_words, StartsAll};
+ghost use Rattle.roc_io.specs.Packet.{Packet};
 ghost use Rattle.roc_io.specs.Start.{Start};
 ghost use Rattle.roc_io.specs.declared.spawner.ChildWait.{ChildWait};
 
 pub mod child;
 
+use crate::Link;
 use child::Child;
 
 /// What a start answers.
@@ -56,18 +58,24 @@ pub trait Spawner {
     /// The waits, in order, where they are told.
     ghost awaited: { Self → Option (List ChildWait) };
 
+    /// What a link had sent when each wait began, in the order of the waits, where it is told.
+    ghost sent_at_waits: { Self → Option (List (Option (List Packet))) };
+
     /// Starts a child with these words, the first of which is not the program's name.
     fn start(&mut self, words: &[String]) -> Started
         ensures cause { HasCause (start_failed result) (faults self.old) (faults self.new) }
         ensures started { Starts result (started self.old) (started self.new) (map string_bytes words.now) }
-        ensures awaited { awaited self.new ≡ awaited self.old };
+        ensures awaited { awaited self.new ≡ awaited self.old }
+        ensures sent_at_waits { sent_at_waits self.new ≡ sent_at_waits self.old };
 
     /// Waits until a child ends, and answers its status. None is a failure, and is counted: the wait
-    /// failed, or the child ended without a status.
-    fn wait(&mut self, child: Child) -> Option<u8>
+    /// failed, or the child ended without a status. The link is lent for what it had sent by then: so a
+    /// contract can say what was sent before a child is awaited.
+    fn wait<L: Link>(&mut self, child: Child, link: &L) -> Option<u8>
         ensures cause { HasCause (is_none result) (faults self.old) (faults self.new) }
         ensures started { started self.new ≡ started self.old }
-        ensures awaited { Adds (awaited self.old) (awaited self.new) (record { child = child; status = result } ∷ []) };
+        ensures awaited { Adds (awaited self.old) (awaited self.new) (record { child = child; status = result } ∷ []) }
+        ensures sent_at_waits { Adds (sent_at_waits self.old) (sent_at_waits self.new) (L.sent link.now ∷ []) };
 
     /// The count of failures.
     fn faults(&self) -> u64
@@ -96,6 +104,7 @@ pub fn start_all<P: Spawner>(
     ensures started { StartsAll result (P.started spawner.old) (P.started spawner.new)
         (map command_words commands.now) children.old.items children.new.items }
     ensures awaited { P.awaited spawner.new ≡ P.awaited spawner.old }
+    ensures sent_at_waits { P.sent_at_waits spawner.new ≡ P.sent_at_waits spawner.old }
 {
     for words in commands {
         // Room first: a child that runs is then kept.

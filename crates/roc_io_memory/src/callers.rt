@@ -89,7 +89,11 @@ pub fn drain<L: Link>(alloc: Global, link: &mut L, turns: u32, into: &mut Vec<Da
 
 /// Awaits each child in order, also after one that ended badly, and answers the first wait that did not end
 /// with status 0.
-pub fn wait_all<P: Spawner>(spawner: &mut P, children: &[Child]) -> Option<ChildWait>
+pub fn wait_all<P: Spawner, L: Link>(
+    spawner: &mut P,
+    children: &[Child],
+    link: &L,
+) -> Option<ChildWait>
     ensures awaited { WaitsAll (P.awaited spawner.old) (P.awaited spawner.new) children.now result }
     ensures failed { IfSome result (λ wait. IsNone wait.status → Rose (P.faults spawner.old) (P.faults spawner.new)) }
     ensures succeeded { result ≡ None → P.faults spawner.new ≡ P.faults spawner.old }
@@ -100,7 +104,7 @@ pub fn wait_all<P: Spawner>(spawner: &mut P, children: &[Child]) -> Option<Child
     for child in children {
         let wait = ChildWait {
             child: *child,
-            status: spawner.wait(*child),
+            status: spawner.wait(*child, link),
         };
         first = first.or(wait.failure());
     }

@@ -1,5 +1,5 @@
 // Links in memory.
-ghost use Rattle.std.specs.Prelude.{◌≡◌, [], ◌∷◌, Some, true, false, option_map};
+ghost use Rattle.std.specs.Prelude.{◌≡◌, [], ◌∷◌, Some, None, true, false, option_map};
 ghost use Rattle.roc_io_memory.specs.Calls.{calls_failing, next_fails, called};
 ghost use Rattle.roc_io.specs.Cause.{HasCause};
 ghost use Rattle.roc_io.specs.Link.{bind_failed, send_failed, receive_failed, Receives};
@@ -83,6 +83,8 @@ impl Link for MemLink {
     ghost arrivals = { λ l. Some l.traffic.arrivals };
 
     ghost sent = { λ l. l.traffic.sent };
+
+    ghost receives = { λ l. None };
 
     fn bind(&mut self, addr: Addr) -> Bound
         ensures cause { HasCause (bind_failed result) self.old.calls.faults self.new.calls.faults }
@@ -203,6 +205,8 @@ impl Link for CalmLink {
     ghost arrivals = { λ l. Some l.arrivals };
 
     ghost sent = { λ l. l.sent };
+
+    ghost receives = { λ l. None };
 
     fn bind(&mut self, addr: Addr) -> Bound
         ensures bound { AddsUnless (bind_failed result) self.old.bound self.new.bound addr }

@@ -11,7 +11,7 @@ pub mod start;
 
 use crate::calls::Calls;
 use children::Children;
-use roc_io::{Child, ChildWait, Spawner, Started};
+use roc_io::{Child, ChildWait, Link, Spawner, Started};
 use start::ChildStart;
 use std::alloc::Global;
 use std::marker::Model;
@@ -80,6 +80,8 @@ impl Spawner for MemSpawner {
 
     ghost awaited = { λ s. s.children.awaited };
 
+    ghost sent_at_waits = { λ s. None };
+
     fn start(&mut self, words: &[String]) -> Started
         ensures cause { HasCause (start_failed result) self.old.calls.faults self.new.calls.faults }
         ensures started { Starts result self.old.children.started self.new.children.started (map string_bytes words.now) }
@@ -96,7 +98,7 @@ impl Spawner for MemSpawner {
         }
     }
 
-    fn wait(&mut self, child: Child) -> Option<u8>
+    fn wait<L: Link>(&mut self, child: Child, _link: &L) -> Option<u8>
         ensures cause { HasCause (is_none result) self.old.calls.faults self.new.calls.faults }
         ensures started { self.new.children.started ≡ self.old.children.started }
         ensures awaited { Adds self.old.children.awaited self.new.children.awaited (record { child = child; status = result } ∷ []) }
@@ -184,6 +186,8 @@ impl Spawner for CalmSpawner {
 
     ghost awaited = { λ s. s.children.awaited };
 
+    ghost sent_at_waits = { λ s. None };
+
     fn start(&mut self, words: &[String]) -> Started
         ensures started { Starts result self.old.children.started self.new.children.started (map string_bytes words.now) }
         ensures awaited { self.new.children.awaited ≡ self.old.children.awaited }
@@ -194,7 +198,7 @@ impl Spawner for CalmSpawner {
         self.children.start(words)
     }
 
-    fn wait(&mut self, child: Child) -> Option<u8>
+    fn wait<L: Link>(&mut self, child: Child, _link: &L) -> Option<u8>
         ensures started { self.new.children.started ≡ self.old.children.started }
         ensures awaited { Adds self.old.children.awaited self.new.children.awaited (record { child = child; status = result } ∷ []) }
         ensures running { self.new.children.running ≡ self.old.children.running }

@@ -1,7 +1,7 @@
 //! The machine's processes.
 ghost use Rattle.std.specs.Prelude.{None};
 
-use roc_io::{Child, Spawner, Started};
+use roc_io::{Child, Link, Spawner, Started};
 use std::alloc::Global;
 use std::io::ErrorKind;
 use std::process::{Command, OpenProcess, Processes, Stdio};
@@ -35,6 +35,8 @@ impl<R: Processes + Files + AllocGlobal> Spawner for RealSpawner<'_, R> {
 
     ghost awaited = { λ s. None };
 
+    ghost sent_at_waits = { λ s. None };
+
     fn start(&mut self, words: &[String]) -> Started {
         // Room first: a child that runs is then kept.
         if self.running.reserve(1).is_err() {
@@ -54,7 +56,7 @@ impl<R: Processes + Files + AllocGlobal> Spawner for RealSpawner<'_, R> {
         }
     }
 
-    fn wait(&mut self, child: Child) -> Option<u8> {
+    fn wait<L: Link>(&mut self, child: Child, _link: &L) -> Option<u8> {
         let status = match self.running.get_mut(child.number() as usize) {
             Some(running) => status_of(running),
             None => None,

@@ -58,6 +58,8 @@ impl<N: Net + Clock> Link for RealLink<'_, N> {
 
     ghost sent = { λ l. None };
 
+    ghost receives = { λ l. None };
+
     fn bind(&mut self, addr: Addr) -> Bound {
         match bound_socket(self.machine, addr) {
             Ok(socket) => {

@@ -2,6 +2,7 @@
 use Rattle.std.specs.Prelude.{ℕ, List, [], ◌∷◌}
 use Rattle.roc_base.specs.declared.node.Node.{Node}
 use Rattle.roc_io.specs.declared.link.Addr.{Addr}
+use Rattle.roc_io.specs.Link.{Reception, came, none_came}
 use Rattle.roc_io.specs.Packet.{Packet}
 use Rattle.roc_plan.specs.Groups.{Plan}
 use Rattle.roc_wire.specs.declared.header.Header.{Header}
@@ -11,11 +12,11 @@ pub data NodeEvent : Type 0 where
   took : Packet → NodeEvent
   silent : NodeEvent
 
--- the datagrams that came
-abbrev pub arrived : List NodeEvent → List Packet
-arrived [] = []
-arrived (took packet ∷ events) = packet ∷ arrived events
-arrived (silent ∷ events) = arrived events
+-- what the receives of these events gave, one receive for each
+abbrev pub receptions : List NodeEvent → List Reception
+receptions [] = []
+receptions (took packet ∷ events) = came packet ∷ receptions events
+receptions (silent ∷ events) = none_came ∷ receptions events
 
 -- what stays the same while a node runs: the plan, the addresses of the shards, and what stands before each message that it sends, which
 -- is the workload's tag and who the node is

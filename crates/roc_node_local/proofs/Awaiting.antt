@@ -1,8 +1,8 @@
 -- Children that are awaited one after another.
-use Rattle.std.proofs.Common.{◌≡◌, ℕ, ◌+◌, ◌<◌, ◌≤◌, Bool, true, false, not, nat_eq, List, [], ◌∷◌, ◌++◌, length, get_or, take, refl, sym, ◌∙◌, ap, arith}
+use Rattle.std.proofs.Common.{◌≡◌, ℕ, ◌+◌, ◌<◌, ◌≤◌, Bool, true, false, not, nat_eq, List, [], ◌∷◌, ◌++◌, length, get_or, replicate, take, refl, sym, ◌∙◌, ap, subst, arith}
 use Rattle.std.specs.Prelude.{Option, Some, None, IfSome, IsNone, is_none, if◌then◌else◌}
 use Rattle.std.specs.Option.{option_or}
-use Rattle.std.proofs.lemmas.List.{map-append, length-map, take_more, length-take-le}
+use Rattle.std.proofs.lemmas.List.{map-append, length-map, take_more, length-take-le, replicate_more}
 use Rattle.roc_io.specs.Cause.{HasCause, Rose, last_count}
 use Rattle.roc_io.specs.declared.spawner.ChildWait.{ChildWait}
 use Rattle.roc_io.specs.Observed.{Adds}
@@ -69,3 +69,7 @@ pub none_bad_next : (first : Option ChildEnd) (shard child : ℕ) (status : Opti
 none_bad_next (Some bad) shard child status start before after so_far cause none = cc
 none_bad_next None shard child None start before after so_far cause none = cc
 none_bad_next None shard child (Some status) start before after so_far cause none = cause ∙ so_far refl
+
+-- the link had sent the same at one wait more
+pub sent_again : {X : Type 0} (o p q : Option (List X)) (n : ℕ) (sent : X) → Adds o p (replicate n sent) → Adds p q (sent ∷ []) → Adds o q (replicate (n + 1) sent)
+sent_again o p q n sent so_far more = subst (Adds o q) (replicate_more n sent) (Adds-trans o p q (replicate n sent) (sent ∷ []) so_far more)

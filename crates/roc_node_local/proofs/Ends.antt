@@ -93,10 +93,6 @@ blamed asked call Failed running first bad o p children old mid new cause works 
 
 -- ---- over a link that is bound
 
-pub same_view : (a b : Option (List Packet)) (c d : Option (List Packet)) (m n : ℕ) → a ≡ b → c ≡ d → m ≡ n
-    → let left : LinkView = record { arrivals = a; sent = c; lost = m } in let right : LinkView = record { arrivals = b; sent = d; lost = n } in left ≡ right
-same_view a b c d m n e f g = rw (e, f, g) refl
-
 -- the same call from before its bind on
 pub from_bind : (asked : LocalAsk) (call : LocalCall) (end : LocalEnd) (old : LinkView) (bound_old bound_new : Option (List Addr)) → call.node.link.old ≡ old → RunsServers asked call end
     → RunsServers asked (record {
@@ -113,5 +109,6 @@ from_bind asked call end old bound_old bound_new same r = record {
   stopped = r.stopped;
   bad = r.bad;
   awaited = r.awaited;
+  stops_first = r.stops_first;
   ends = r.ends;
 }

@@ -1,5 +1,5 @@
 -- What a run does that starts the servers of its cluster, submits requests and stops them
-use Rattle.std.specs.Prelude.{◌≡◌, ◌≢◌, ℕ, ◌≤◌, Bool, true, false, List, [], ◌∷◌, length, Option, Some, None}
+use Rattle.std.specs.Prelude.{◌≡◌, ◌≢◌, ℕ, ◌≤◌, Bool, true, false, List, [], ◌∷◌, length, replicate, Option, Some, None}
 use Rattle.roc_base.specs.declared.node.Node.TheVariants.{Coord}
 use Rattle.roc_io.specs.declared.link.Addr.{Addr}
 use Rattle.roc_io.specs.declared.spawner.AllStarted.{AllStarted}
@@ -52,6 +52,7 @@ pub record IsNothing (call : LocalCall) : Type 0 where
   pub bound : call.node.link.bound_new ≡ call.node.link.bound_old
   pub started : call.children.started_new ≡ call.children.started_old
   pub awaited : call.children.awaited_new ≡ call.children.awaited_old
+  pub sent_at_waits : call.children.sent_at_waits_new ≡ call.children.sent_at_waits_old
 
 abbrev pub local_end_of : SubmitEnd → LocalEnd
 local_end_of submit.Done = Done
@@ -79,7 +80,8 @@ with_child Done None = Done
 with_child end bad = end
 
 -- Servers are started, in order, until one does not start; the requests are submitted; each server is told to stop, over the same link; and each
--- child that was started is awaited. What comes first among what went wrong is the end, and each step is made whatever went wrong before it.
+-- child that was started is awaited: at each wait, the link had sent all that it sends, the stops too. What comes first among what went wrong is
+-- the end, and each step is made whatever went wrong before it.
 pub record RunsServers (asked : LocalAsk) (call : LocalCall) (end : LocalEnd) : Type 0 where
   pub starts : AllStarted
   pub children : List ℕ
@@ -90,6 +92,7 @@ pub record RunsServers (asked : LocalAsk) (call : LocalCall) (end : LocalEnd) : 
   pub stopped : Moves middle call.node.link.new [] (stops_behind children (stop_bytes asked.setting.header.tag) asked.setting.cluster)
   pub bad : Option ChildEnd
   pub awaited : AwaitsAll call.children.awaited_old call.children.awaited_new children bad
+  pub stops_first : Adds call.children.sent_at_waits_old call.children.sent_at_waits_new (replicate (length children) call.node.link.new.sent)
   pub ends : end ≡ with_child first bad
 
 pub data RunsLocal (asked : LocalAsk) (call : LocalCall) : LocalEnd → Type 0 where

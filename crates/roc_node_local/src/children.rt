@@ -1,12 +1,13 @@
 //! The servers of a cluster as children of this process.
-ghost use Rattle.std.specs.Prelude.{◌≡◌, ◌≤◌, ◌++◌, ◌∷◌, [], ℕ, List, map, length, codes, string_bytes, Some, None, IfOk, OnOk, IsNone, IfSome, if◌then◌else◌};
+ghost use Rattle.std.specs.Prelude.{◌≡◌, ◌≤◌, ◌++◌, ◌∷◌, [], ℕ, List, map, length, replicate, codes, string_bytes, Some, None, IfOk, OnOk, IsNone, IfSome, if◌then◌else◌};
 ghost use Rattle.std.specs.Fmt.{decimal};
 ghost use Rattle.roc_io.specs.Cause.{Rose};
+ghost use Rattle.roc_io.specs.Observed.{Adds};
 ghost use Rattle.roc_io.specs.Spawner.{command_words, ended_badly};
 ghost use Rattle.roc_node_local.specs.Children.{AwaitsAll, serve_commands, serve_words};
 
 use roc_base::Shard;
-use roc_io::{Child, ChildWait, Spawner};
+use roc_io::{Child, ChildWait, Link, Spawner};
 use std::alloc::{AllocError, Global};
 
 /// A child that did not end with status 0.
@@ -70,21 +71,26 @@ pub(crate) fn serve_commands(
 }
 
 /// Awaits each child in order, also behind one that ended badly, and answers the first that did not end with status 0. The children serve the
-/// shards from the first on.
-pub(crate) fn await_all<P: Spawner>(spawner: &mut P, children: &[Child]) -> Option<ChildEnd>
+/// shards from the first on. The link is the one over which they were told to stop.
+pub(crate) fn await_all<P: Spawner, L: Link>(
+    spawner: &mut P,
+    children: &[Child],
+    link: &L,
+) -> Option<ChildEnd>
     requires { length children.now ≤ 255 }
     ensures awaited { AwaitsAll (P.awaited spawner.old) (P.awaited spawner.new) children.now result }
     ensures failed { IfSome result (λ end. IsNone end.status → Rose (P.faults spawner.old) (P.faults spawner.new)) }
     ensures succeeded { result ≡ None → P.faults spawner.new ≡ P.faults spawner.old }
     ensures never_falls { P.faults spawner.old ≤ P.faults spawner.new }
     ensures started { P.started spawner.new ≡ P.started spawner.old }
+    ensures sent_at_waits { Adds (P.sent_at_waits spawner.old) (P.sent_at_waits spawner.new) (replicate (length children.now) (L.sent link.now)) }
 {
     let mut first = None;
     let mut shard = 0;
     for child in children {
         let wait = ChildWait {
             child: *child,
-            status: spawner.wait(*child),
+            status: spawner.wait(*child, link),
         };
         first = first.or(bad_end(Shard(shard), wait));
         shard += 1;

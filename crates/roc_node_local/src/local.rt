@@ -174,7 +174,7 @@ fn run_servers<L: Link, P: Spawner, S: Sink>(
         alloc, plan, tag, cluster, requests, link, turns, out, starts, running,
     );
     stop_started(link, cluster, &orders.stop, &orders.children);
-    let bad = await_all(spawner, &orders.children);
+    let bad = await_all(spawner, &orders.children, link);
     with_child(first, bad)
 }
 

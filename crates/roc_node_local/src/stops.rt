@@ -48,6 +48,7 @@ fn send_thrice<L: Link>(link: &mut L, to: Addr, bytes: &[u8])
     ensures faults { L.faults link.new ≡ L.faults link.old }
     ensures bound { L.bound link.new ≡ L.bound link.old }
     ensures arrivals { L.arrivals link.new ≡ L.arrivals link.old }
+    ensures receives { L.receives link.new ≡ L.receives link.old }
 {
     for _ in 0..IN_A_ROW {
         link.send(to, bytes);
@@ -60,6 +61,7 @@ pub(crate) fn send_to_each<L: Link>(link: &mut L, cluster: &Cluster, bytes: &[u8
     ensures faults { L.faults link.new ≡ L.faults link.old }
     ensures bound { L.bound link.new ≡ L.bound link.old }
     ensures arrivals { L.arrivals link.new ≡ L.arrivals link.old }
+    ensures receives { L.receives link.new ≡ L.receives link.old }
 {
     for addr in cluster.addrs() {
         send_thrice(link, *addr, bytes);
@@ -73,6 +75,7 @@ pub fn send_stops<L: Link>(alloc: Global, tag: [u8; 8], cluster: &Cluster, link:
     ensures cause { HasCause (stops_failed result) (L.faults link.old) (L.faults link.new) }
     ensures bound { AddsUnless (stops_unbound result) (L.bound link.old) (L.bound link.new) any_address }
     ensures arrivals { L.arrivals link.new ≡ L.arrivals link.old }
+    ensures receives { L.receives link.new ≡ L.receives link.old }
 {
     let bytes = match stop_bytes(alloc, tag) {
         Ok(bytes) => bytes,

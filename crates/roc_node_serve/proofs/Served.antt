@@ -2,7 +2,7 @@
 use Rattle.std.proofs.Common.{◌≡◌, ℕ, Bool, List, [], ◌∷◌, sym, ◌∙◌, ap, subst, arith, Option, Some, None}
 use Rattle.roc_base.specs.declared.node.Shard.{Shard}
 use Rattle.roc_io.specs.declared.link.Addr.{Addr}
-use Rattle.roc_io.specs.Packet.{Packet}
+use Rattle.roc_io.specs.Link.{Reception, vain}
 use Rattle.roc_io.specs.Observed.{Adds, AddsFront}
 use Rattle.roc_io.proofs.Told.{Adds-trans, AddsThenFront-behind}
 use Rattle.roc_plan.specs.Groups.{Plan}
@@ -38,7 +38,7 @@ module _ (S : NodeSetting) (shard : Shard) (own found : Addr) (turns : ℕ) (cou
       → Serves S shard own turns counts call end.SinkFault
   ends_unserved piece bound moves text told = unserved (own_bound at own found _ _ is has bound) moves (subst (AddsFront call.out.old call.out.new) text told)
 
-  runs_behind : (mid : LinkView) (last : List Packet) (events : List NodeEvent) (node : ServerNodeState) → Moves call.link.old mid [] [] → RunsServer S shard turns last events node mid call.link.new
+  runs_behind : (mid : LinkView) (last : List Reception) (events : List NodeEvent) (node : ServerNodeState) → Moves call.link.old mid [] [] → RunsServer S shard turns last events node mid call.link.new
       → RunsServer S shard turns last events node call.link.old call.link.new
   runs_behind mid last events node p r = record { run = r.run; few = r.few; moves = Moves-behind call.link.old mid call.link.new _ _ p r.moves }
 
@@ -47,7 +47,7 @@ module _ (S : NodeSetting) (shard : Shard) (own found : Addr) (turns : ℕ) (cou
     first_told = subst (Adds call.out.old greeted) text first
 
     pub ends_cut : (server_node : ServerNode) → RunsTurns run.LinkFault S shard turns server_node mid call.link.new → call.out.new ≡ greeted → Serves S shard own turns counts call end.LinkFault
-    ends_cut server_node r same = cut_off r.1 r.0 (own_bound at own found _ _ is has bound) (runs_behind mid [] r.1 r.0 binds r.4) r.2 r.3 (subst (λ o. Adds call.out.old o (first_text shard)) (sym same) first_told)
+    ends_cut server_node r same = cut_off r.1 r.0 (own_bound at own found _ _ is has bound) (runs_behind mid (vain ∷ []) r.1 r.0 binds r.4) r.2 r.3 (subst (λ o. Adds call.out.old o (first_text shard)) (sym same) first_told)
 
     pub ends_wanted : (server_node : ServerNode) → RunsTurns run.NoMemory S shard turns server_node mid call.link.new → call.out.new ≡ greeted → Serves S shard own turns counts call end.NoMemory
     ends_wanted server_node r same = wanted r.1 r.0 r.2 (own_bound at own found _ _ is has bound) (runs_behind mid r.2 r.1 r.0 binds r.4) r.3 (subst (λ o. Adds call.out.old o (first_text shard)) (sym same) first_told)

@@ -1,8 +1,8 @@
 -- One turn of a server's node after another.
 use Rattle.std.proofs.Common.{◌≡◌, inl, inr, ℕ, ◌+◌, ◌<◌, Bool, true, false, List, [], ◌∷◌, ◌++◌, refl, sym, ◌∙◌, ap, subst, append-nil, length-append, arith}
-use Rattle.std.specs.Prelude.{Option, option_map}
 use Rattle.roc_base.specs.declared.node.Shard.{Shard}
 use Rattle.roc_io.specs.declared.link.Addr.{Addr}
+use Rattle.roc_io.specs.Link.{came, none_came, vain}
 use Rattle.roc_io.specs.Packet.{Packet}
 use Rattle.roc_msg.specs.declared.msg.Msg.{Msg}
 use Rattle.roc_msg.specs.declared.outbox.Outgoing.{Outgoing}
@@ -17,16 +17,17 @@ use Rattle.roc_node.specs.declared.judging.Judged.{Judged}
 use Rattle.roc_node.specs.declared.judging.Judged.TheVariants.{Delivery, Skipped}
 use Rattle.roc_io.specs.Call.{LinkView}
 use Rattle.roc_node.specs.Moves.{Moves}
-use Rattle.roc_node.proofs.Moving.{put_nothing, Moves-trans, Moves-none}
+use Rattle.roc_node.proofs.Moving.{Moves-trans, Moves-none}
 use Rattle.roc_node.specs.declared.counts.Counts.{Counts}
 use Rattle.roc_node_serve.specs.declared.server_node.ServerNode.{ServerNode}
 use Rattle.roc_node_serve.specs.declared.server_node.TurnOutput.{TurnOutput}
 use Rattle.roc_node.specs.Counts.{no_counts}
-use Rattle.roc_node.specs.NodeEvent.{NodeEvent, took, silent, arrived, NodeSetting}
+use Rattle.roc_node.specs.NodeEvent.{NodeEvent, took, silent, receptions, NodeSetting}
 use Rattle.roc_node_serve.specs.ServerRun.{ServerNodeState, TakesMessage, TakesJudged, AfterEvent, IsServerRun, begun, goes_on, is_stop, server_heard, with_answer}
-use Rattle.roc_node_serve.specs.Inner.ServerTurn.{node_of, bare, Leads, TakesEvent, TurnsOnce, Loses, RanSo, RunsTurns}
+use Rattle.roc_node_serve.specs.Inner.ServerTurn.{node_of, bare, Leads, TakesEvent, TurnsOnce, RanSo, RunsTurns}
 use Rattle.roc_node_serve.specs.declared.server_turns.RunEnd.TheVariants as run
-use Rattle.roc_node.proofs.Arrivals.{arrived-append, lost_last}
+use Rattle.roc_node.specs.Losing.{LosesOne}
+use Rattle.roc_node.proofs.Arrivals.{receptions-append, lost_last}
 
 -- ---- what a node sent before does not matter to what it does
 
@@ -68,7 +69,7 @@ ran_none S shard server_node a is = record {
   sends = [];
   counted = refl;
   run = subst (λ s. IsServerRun S shard [] (node_of s [] [] false)) (sym is) begun;
-  moves = Moves-none a a refl refl refl;
+  moves = Moves-none a a refl refl refl refl;
 }
 
 -- one more turn
@@ -80,22 +81,33 @@ ran_more S shard count stopped old new a b c r h = record {
   sends = r.sends ++ h.sends;
   counted = let e = r.counted in length-append r.events (h.event ∷ []) ∙ ap (λ n. n + 1) e;
   run = goes_on h.event (behind r.messages r.sends (node_of new h.messages h.sends stopped)) r.run refl (event_behind r.messages r.sends S old h.event _ h.leads);
-  moves = subst (λ l. Moves a c l (r.sends ++ h.sends)) (sym (arrived-append r.events (h.event ∷ []))) (Moves-trans a b c (arrived r.events) (arrived (h.event ∷ [])) r.sends h.sends r.moves h.moves);
+  moves = subst (λ l. Moves a c l (r.sends ++ h.sends)) (sym (receptions-append r.events (h.event ∷ []))) (Moves-trans a b c (receptions r.events) (receptions (h.event ∷ [])) r.sends h.sends r.moves h.moves);
 }
 
 -- ---- what one receive gives
 
-pub takes_packet : (S : NodeSetting) (old new : ServerNode) (output : TurnOutput) (from : Addr) (bytes taken : List ℕ) (before after : Option (List Packet)) → bytes ≡ taken
+pub takes_packet : (S : NodeSetting) (old new : ServerNode) (output : TurnOutput) (from : Addr) (bytes taken : List ℕ) (a b : LinkView) → bytes ≡ taken
     → Leads (AfterEvent S (bare old) (took (record { address = from; bytes = bytes }))) new output
-    → before ≡ option_map (λ left. record { address = from; bytes = taken } ∷ left) after → TakesEvent S old new output before after
-takes_packet S old new output from bytes taken before after same leads arrivals = record {
+    → Moves a b (came (record { address = from; bytes = taken }) ∷ []) [] → TakesEvent S old new output a b
+takes_packet S old new output from bytes taken a b same leads moves = record {
   event = took (record { address = from; bytes = taken });
   leads = subst (λ l. Leads (AfterEvent S (bare old) (took (record { address = from; bytes = l }))) new output) same leads;
-  arrivals = arrivals;
+  moves = moves;
 }
 
-pub takes_silence : (S : NodeSetting) (old new : ServerNode) (output : TurnOutput) (before after : Option (List Packet)) → Leads (AfterEvent S (bare old) silent) new output → after ≡ before → TakesEvent S old new output before after
-takes_silence S old new output before after leads same = record { event = silent; leads = leads; arrivals = sym same ∙ put_nothing after }
+pub takes_silence : (S : NodeSetting) (old new : ServerNode) (output : TurnOutput) (a b : LinkView) → Leads (AfterEvent S (bare old) silent) new output → Moves a b (none_came ∷ []) [] → TakesEvent S old new output a b
+takes_silence S old new output a b leads moves = record { event = silent; leads = leads; moves = moves }
+
+-- an event was taken, and then these were sent
+pub turned_once : (S : NodeSetting) (stopped : Bool) (old new : ServerNode) (output : TurnOutput) (given : List Packet) (a b c : LinkView)
+    → TakesEvent S old new output a b → output.stopped ≡ stopped → given ≡ output.sends.items → Moves b c [] given → TurnsOnce S stopped old new a c
+turned_once S stopped old new output given a b c h stops gives m = record {
+  event = h.event;
+  messages = h.leads.messages;
+  sends = output.sends.items;
+  leads = subst (λ (s : Bool). AfterEvent S (bare old) h.event (node_of new h.leads.messages output.sends.items s)) stops h.leads.is;
+  moves = subst (Moves a c (receptions (h.event ∷ []))) gives (subst (λ l. Moves a c l given) (append-nil (receptions (h.event ∷ []))) (Moves-trans a b c (receptions (h.event ∷ [])) [] [] given h.moves m));
+}
 
 -- ---- how turns end
 
@@ -104,25 +116,25 @@ pub over_stopped : (S : NodeSetting) (shard : Shard) (turns count : ℕ) (old ne
 over_stopped S shard turns count old new a b c below r h =
     let all = ran_more S shard count true old new a b c r h in
     let counted = all.counted in
-    (all.messages, all.sends, all.events, inl refl, record { run = all.run; few = omega arith; moves = subst (λ l. Moves a c l all.sends) (sym (append-nil (arrived all.events))) all.moves })
+    (all.messages, all.sends, all.events, inl refl, record { run = all.run; few = omega arith; moves = subst (λ l. Moves a c l all.sends) (sym (append-nil (receptions all.events))) all.moves })
 
 pub over_turns : (S : NodeSetting) (shard : Shard) (turns : ℕ) (server_node : ServerNode) (a b : LinkView) → RanSo S shard turns false server_node a b → RunsTurns (run.Over false) S shard turns server_node a b
 over_turns S shard turns server_node a b r =
     let counted = r.counted in
-    (r.messages, r.sends, r.events, inr counted, record { run = r.run; few = omega arith; moves = subst (λ l. Moves a b l r.sends) (sym (append-nil (arrived r.events))) r.moves })
+    (r.messages, r.sends, r.events, inr counted, record { run = r.run; few = omega arith; moves = subst (λ l. Moves a b l r.sends) (sym (append-nil (receptions r.events))) r.moves })
 
-pub wanted : (S : NodeSetting) (shard : Shard) (turns count : ℕ) (server_node now : ServerNode) (a b c : LinkView) → count < turns → RanSo S shard count false server_node a b → Loses b c
+pub wanted : (S : NodeSetting) (shard : Shard) (turns count : ℕ) (server_node now : ServerNode) (a b c : LinkView) → count < turns → RanSo S shard count false server_node a b → LosesOne b c
     → RunsTurns run.NoMemory S shard turns now a c
 wanted S shard turns count server_node now a b c below r lost =
     let counted = r.counted in
     let few = lost.1 in
-    (node_of server_node r.messages r.sends false, r.events, lost.0, few, record { run = r.run; few = omega arith; moves = lost_last a b c (arrived r.events) lost.0 r.sends r.moves lost.2 })
+    (node_of server_node r.messages r.sends false, r.events, lost.0, few, record { run = r.run; few = omega arith; moves = lost_last a b c (receptions r.events) lost.0 r.sends r.moves lost.2 })
 
-pub cut_off : (S : NodeSetting) (shard : Shard) (turns count : ℕ) (server_node now : ServerNode) (a b c : LinkView) → count < turns → RanSo S shard count false server_node a b → Moves b c [] []
+pub cut_off : (S : NodeSetting) (shard : Shard) (turns count : ℕ) (server_node now : ServerNode) (a b c : LinkView) → count < turns → RanSo S shard count false server_node a b → Moves b c (vain ∷ []) []
     → RunsTurns run.LinkFault S shard turns now a c
 cut_off S shard turns count server_node now a b c below r m =
     let counted = r.counted in
-    (node_of server_node r.messages r.sends false, r.events, refl, omega arith, record { run = r.run; few = omega arith; moves = lost_last a b c (arrived r.events) [] r.sends r.moves m })
+    (node_of server_node r.messages r.sends false, r.events, refl, omega arith, record { run = r.run; few = omega arith; moves = lost_last a b c (receptions r.events) (vain ∷ []) r.sends r.moves m })
 
 -- ---- a step of the core
 

@@ -2,14 +2,14 @@
 use Rattle.std.specs.Prelude.{◌≡◌, ◌⊎◌, ℕ, ◌+◌, ◌<◌, ◌≤◌, Bool, true, false, List, [], ◌∷◌, ◌++◌, length}
 use Rattle.roc_base.specs.declared.node.Shard.{Shard}
 use Rattle.roc_io.specs.declared.link.Addr.{Addr}
-use Rattle.roc_io.specs.Packet.{Packet}
+use Rattle.roc_io.specs.Link.{Reception, vain}
 use Rattle.roc_io.specs.Observed.{Adds, AddsFront, AddsThenFront}
 use Rattle.roc_io.specs.Call.{LinkView, NodeCall}
 use Rattle.roc_node.specs.Moves.{Moves}
 use Rattle.roc_node_serve.specs.declared.ends.ServeEnd.{ServeEnd}
 use Rattle.roc_node_serve.specs.declared.ends.ServeEnd.TheVariants.{Done, LinkFault, SinkFault, NoMemory}
 use Rattle.roc_node.specs.declared.lines.NodeLine.TheVariants.{Serving}
-use Rattle.roc_node.specs.NodeEvent.{NodeEvent, arrived, NodeSetting}
+use Rattle.roc_node.specs.NodeEvent.{NodeEvent, receptions, NodeSetting}
 use Rattle.roc_node.specs.NodeLine.{node_lines_text, end_lines}
 use Rattle.roc_node_serve.specs.ServerRun.{ServerNodeState, IsServerRun}
 
@@ -35,12 +35,12 @@ first_text shard = node_lines_text (Serving shard ∷ [])
 abbrev pub end_text : Shard → (counts : Bool) → ServerNodeState → List ℕ
 end_text shard counts node = node_lines_text (end_lines shard node.stopped counts node.counts)
 
--- A node ran over events. Their datagrams were taken off the link, and behind them those of `last`, in at most so many turns; and the link
+-- A node ran over events. The link was asked to receive once for each of them, and behind them gave `last`, in at most so many turns; and it
 -- was given the node's datagrams
-pub record RunsServer (S : NodeSetting) (shard : Shard) (turns : ℕ) (last : List Packet) (events : List NodeEvent) (node : ServerNodeState) (old new : LinkView) : Type 0 where
+pub record RunsServer (S : NodeSetting) (shard : Shard) (turns : ℕ) (last : List Reception) (events : List NodeEvent) (node : ServerNodeState) (old new : LinkView) : Type 0 where
   pub run : IsServerRun S shard events node
   pub few : length events + length last ≤ turns
-  pub moves : Moves old new (arrived events ++ last) node.sends
+  pub moves : Moves old new (receptions events ++ last) node.sends
 
 -- How a call ends, and what it did until then to its link and its sink. `own` is the shard's address.
 pub data Serves (S : NodeSetting) (shard : Shard) (own : Addr) (turns : ℕ) (counts : Bool) (call : NodeCall) : ServeEnd → Type 0 where
@@ -50,12 +50,12 @@ pub data Serves (S : NodeSetting) (shard : Shard) (own : Addr) (turns : ℕ) (co
   -- the sink failed at the first line
   unserved : Adds call.link.bound_old call.link.bound_new (own ∷ []) → Moves call.link.old call.link.new [] [] → AddsFront call.out.old call.out.new (first_text shard)
       → Serves S shard own turns counts call SinkFault
-  -- A receive failed, before the last turn
+  -- The receive of a turn failed
   cut_off : (events : List NodeEvent) (node : ServerNodeState) → Adds call.link.bound_old call.link.bound_new (own ∷ [])
-      → RunsServer S shard turns [] events node call.link.old call.link.new → node.stopped ≡ false → length events < turns → Adds call.out.old call.out.new (first_text shard)
+      → RunsServer S shard turns (vain ∷ []) events node call.link.old call.link.new → node.stopped ≡ false → length events < turns → Adds call.out.old call.out.new (first_text shard)
       → Serves S shard own turns counts call LinkFault
   -- Memory was wanting, at a receive or for what came of it, which may lose the datagram that was taken off; or for the last lines
-  wanted : (events : List NodeEvent) (node : ServerNodeState) (last : List Packet) → Adds call.link.bound_old call.link.bound_new (own ∷ [])
+  wanted : (events : List NodeEvent) (node : ServerNodeState) (last : List Reception) → Adds call.link.bound_old call.link.bound_new (own ∷ [])
       → RunsServer S shard turns last events node call.link.old call.link.new → length last ≤ 1 → Adds call.out.old call.out.new (first_text shard)
       → Serves S shard own turns counts call NoMemory
   -- all turns were taken or a stop was, and the sink failed at the last lines

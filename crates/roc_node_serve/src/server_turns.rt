@@ -38,10 +38,8 @@ fn one_event<L: Link>(
     requires header { FitsHeader setting.header.now }
     requires cluster { length setting.cluster.now ≡ setting.plan.now.program.shards }
     ensures cause { HasCause (event_failed result) (L.faults link.old) (L.faults link.new) }
-    ensures takes { TakesOne (setting_of setting.entry) result server_node.old server_node.new (L.arrivals link.old) (L.arrivals link.new) }
+    ensures takes { TakesOne (setting_of setting.entry) result server_node.old server_node.new (link_view L.Link link.old) (link_view L.Link link.new) }
     ensures fits { OnOk result (ServerFits setting.entry.plan.now server_node.new.server) }
-    ensures sent { L.sent link.new ≡ L.sent link.old }
-    ensures lost { L.lost link.new ≡ L.lost link.old }
     ensures bound { L.bound link.new ≡ L.bound link.old }
 {
     match link.receive(buffer) {

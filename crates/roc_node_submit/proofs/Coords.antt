@@ -1,7 +1,7 @@
 -- One turn of a coordinator's node after another.
 use Rattle.std.proofs.Common.{◌≡◌, ℕ, ◌+◌, false, List, [], ◌∷◌, ◌++◌, length, drop, refl, sym, ◌∙◌, ap, subst, append-nil, length-append, Option, Ok, Err}
-use Rattle.std.specs.Prelude.{option_map}
 use Rattle.roc_io.specs.declared.link.Addr.{Addr}
+use Rattle.roc_io.specs.Link.{Reception, came, none_came}
 use Rattle.roc_io.specs.Packet.{Packet}
 use Rattle.roc_io.specs.Observed.{Adds, AddsFront}
 use Rattle.roc_io.proofs.Told.{Adds-nil, Adds-trans}
@@ -16,50 +16,52 @@ use Rattle.roc_node.specs.Judgement.{judged}
 use Rattle.roc_io.specs.Call.{LinkView}
 use Rattle.roc_node.specs.Moves.{Moves}
 use Rattle.roc_node.specs.Posting.{none_heard, packets_for}
-use Rattle.roc_node.proofs.Moving.{Moves-trans, Moves-none, Moves-taken}
+use Rattle.roc_node.proofs.Moving.{Moves-trans, Moves-none}
 use Rattle.roc_node_submit.specs.declared.coord_node.CoordNode.{CoordNode}
 use Rattle.roc_node_submit.specs.declared.coord_node.TurnOutput.{TurnOutput}
 use Rattle.roc_node_submit.specs.declared.ends.SubmitEnd.{SubmitEnd}
 use Rattle.roc_node_submit.specs.declared.ends.SubmitEnd.TheVariants as end
-use Rattle.roc_node.specs.NodeEvent.{NodeEvent, took, arrived, NodeSetting}
+use Rattle.roc_node.specs.NodeEvent.{NodeEvent, took, silent, receptions, NodeSetting}
 use Rattle.roc_node_submit.specs.CoordRun.{CoordNodeState, Submissions, step_of_judged, step_of_event, reply_lines, answered_then, with_submissions, IsCoordRun, begun, goes_on, is_answered, coord_submitted, coord_took, coord_turn}
 use Rattle.roc_node_submit.specs.Inner.CoordTurn.{coord_node_state_of, TakesStep, TakesHalf, SubmitsHalf, TakesEventDue, TakesOneHalf, HalfSubmits, HalfTakes, CoordRanSo}
-use Rattle.roc_node.proofs.Arrivals.{arrived-append}
+use Rattle.roc_node.proofs.Arrivals.{receptions-append}
 
 -- ---- one receive
 
-pub due_packet : (S : NodeSetting) (old new : CoordNode) (output : TurnOutput) (from : Addr) (bytes taken : List ℕ) (before after : Option (List Packet)) → bytes ≡ taken
+pub due_packet : (S : NodeSetting) (old new : CoordNode) (output : TurnOutput) (from : Addr) (bytes taken : List ℕ) (a b : LinkView) → bytes ≡ taken
     → TakesStep S (step_of_judged S.plan old.coord (judged S.header.tag bytes)) old new output.text.items output.sends.items
-    → before ≡ option_map (λ left. record { address = from; bytes = taken } ∷ left) after → TakesEventDue S old new output before after
-due_packet S old new output from bytes taken before after same takes arrivals = record {
+    → Moves a b (came (record { address = from; bytes = taken }) ∷ []) [] → TakesEventDue S old new output a b
+due_packet S old new output from bytes taken a b same takes moves = record {
   event = took (record { address = from; bytes = taken });
   takes = subst (λ l. TakesStep S (step_of_judged S.plan old.coord (judged S.header.tag l)) old new output.text.items output.sends.items) same takes;
-  arrivals = arrivals;
+  moves = moves;
 }
 
+pub due_silence : (S : NodeSetting) (old new : CoordNode) (output : TurnOutput) (a b : LinkView) → TakesHalf S silent old new output.text.items output.sends.items → Moves a b (none_came ∷ []) [] → TakesEventDue S old new output a b
+due_silence S old new output a b takes moves = record { event = silent; takes = takes; moves = moves }
+
 -- nothing came of it
-pub half_fails : (e : SubmitEnd) (S : NodeSetting) (old new : CoordNode) (a b : LinkView) (out : Option (List ℕ)) → TakesOneHalf (Err e) S old new a.arrivals b.arrivals → b.sent ≡ a.sent → b.lost ≡ a.lost → HalfTakes (Err e) S old new a b out out
-half_fails end.NoMemory S old new a b out h sent lost = (h.0, h.1, Moves-taken a b h.0 h.2 sent lost, Adds-nil out)
-half_fails end.LinkFault S old new a b out h sent lost = (Moves-none a b h sent lost, Adds-nil out)
-half_fails end.Done S old new a b out h sent lost = absurd h
-half_fails end.Unanswered S old new a b out h sent lost = absurd h
-half_fails end.SinkFault S old new a b out h sent lost = absurd h
+pub half_fails : (e : SubmitEnd) (S : NodeSetting) (old new : CoordNode) (a b : LinkView) (out : Option (List ℕ)) → TakesOneHalf (Err e) S old new a b → HalfTakes (Err e) S old new a b out out
+half_fails end.NoMemory S old new a b out h = (h, Adds-nil out)
+half_fails end.LinkFault S old new a b out h = (h, Adds-nil out)
+half_fails end.Done S old new a b out h = absurd h
+half_fails end.Unanswered S old new a b out h = absurd h
+half_fails end.SinkFault S old new a b out h = absurd h
 
 -- an event was taken, and then these were sent
-taken_then_sent : (a b c : LinkView) (taken sends : List Packet) → a.arrivals ≡ option_map (λ left. taken ++ left) b.arrivals → b.sent ≡ a.sent → b.lost ≡ a.lost → Moves b c [] sends → Moves a c taken sends
-taken_then_sent a b c taken sends arrivals sent lost m =
-    subst (λ l. Moves a c l sends) (append-nil taken) (Moves-trans a b c taken [] [] sends (Moves-taken a b taken arrivals sent lost) m)
+taken_then_sent : (a b c : LinkView) (heard : List Reception) (sends : List Packet) → Moves a b heard [] → Moves b c [] sends → Moves a c heard sends
+taken_then_sent a b c heard sends first m = subst (λ l. Moves a c l sends) (append-nil heard) (Moves-trans a b c heard [] [] sends first m)
 
-pub half_done : (S : NodeSetting) (old new : CoordNode) (output : TurnOutput) (a b c : LinkView) (out_old out_new : Option (List ℕ)) → TakesEventDue S old new output a.arrivals b.arrivals → b.sent ≡ a.sent → b.lost ≡ a.lost
+pub half_done : (S : NodeSetting) (old new : CoordNode) (output : TurnOutput) (a b c : LinkView) (out_old out_new : Option (List ℕ)) → TakesEventDue S old new output a b
     → Moves b c [] output.sends.items → Adds out_old out_new output.text.items → HalfTakes (Ok tt) S old new a c out_old out_new
-half_done S old new output a b c out_old out_new h sent lost m told =
-    (h.event, output.text.items, output.sends.items, h.takes, taken_then_sent a b c (arrived (h.event ∷ [])) output.sends.items h.arrivals sent lost m, told)
+half_done S old new output a b c out_old out_new h m told =
+    (h.event, output.text.items, output.sends.items, h.takes, taken_then_sent a b c (receptions (h.event ∷ [])) output.sends.items h.moves m, told)
 
-pub half_untold : (S : NodeSetting) (old new : CoordNode) (output : TurnOutput) (a b c : LinkView) (out_old out_new : Option (List ℕ)) → TakesEventDue S old new output a.arrivals b.arrivals → b.sent ≡ a.sent → b.lost ≡ a.lost
+pub half_untold : (S : NodeSetting) (old new : CoordNode) (output : TurnOutput) (a b c : LinkView) (out_old out_new : Option (List ℕ)) → TakesEventDue S old new output a b
     → Moves b c [] [] → AddsFront out_old out_new output.text.items → HalfTakes (Err end.SinkFault) S old new a c out_old out_new
-half_untold S old new output a b c out_old out_new h sent lost m told =
+half_untold S old new output a b c out_old out_new h m told =
     let takes = h.takes in
-    (h.event, taken_then_sent a b c (arrived (h.event ∷ [])) [] h.arrivals sent lost m, subst (AddsFront out_old out_new) takes.shows told)
+    (h.event, taken_then_sent a b c (receptions (h.event ∷ [])) [] h.moves m, subst (AddsFront out_old out_new) takes.shows told)
 
 -- ---- a whole turn
 
@@ -74,7 +76,7 @@ coord_ran_none S number requests coord_node a out is = record {
   lines = [];
   counted = refl;
   run = subst (λ d. IsCoordRun S number requests [] (coord_node_state_of d requests [] [] [])) (sym is) begun;
-  moves = Moves-none a a refl refl refl;
+  moves = Moves-none a a refl refl refl refl;
   told = Adds-nil out;
 }
 
@@ -113,7 +115,7 @@ pub record Halved (S : NodeSetting) (number : ℕ) (requests : List Request) (co
   pub run : IsCoordRun S number requests events node
   pub goes : is_answered node ≡ false
   pub is : coord_submitted S node ≡ coord_node_state_of coord_node requests messages sends lines
-  pub moves : Moves a b (arrived events) sends
+  pub moves : Moves a b (receptions events) sends
   pub told : Adds out_old out_new (lines_text S.plan.program lines)
 
 pub halved : (S : NodeSetting) (number : ℕ) (requests : List Request) (count : ℕ) (old new : CoordNode) (a b c : LinkView) (out0 out1 out2 : Option (List ℕ))
@@ -130,7 +132,7 @@ halved S number requests count old new a b c out0 out1 out2 r goes h =
       run = r.run;
       goes = goes;
       is = submitted_node S requests old new h.0 h.1 r.messages r.sends r.lines made;
-      moves = subst (λ l. Moves a c l (r.sends ++ h.1)) (append-nil (arrived r.events)) (Moves-trans a b c (arrived r.events) [] r.sends h.1 r.moves h.3);
+      moves = subst (λ l. Moves a c l (r.sends ++ h.1)) (append-nil (receptions r.events)) (Moves-trans a b c (receptions r.events) [] r.sends h.1 r.moves h.3);
       told = subst (Adds out0 out2) (ap (λ l. lines_text S.plan.program r.lines ++ l) made.shows ∙ lines_behind S.plan.program r.lines made.lines) (Adds-trans out0 out1 out2 _ _ r.told h.4);
     }
 
@@ -149,6 +151,6 @@ coord_ran_more S number requests count old mid new a b c d out0 out1 out2 out3 r
       lines = h.lines ++ reply_lines step.answer;
       counted = let e = h.counted in length-append h.events (event ∷ []) ∙ ap (λ n. n + 1) e;
       run = subst (IsCoordRun S number requests (h.events ++ event ∷ [])) next (goes_on event h.run h.goes);
-      moves = subst (λ l. Moves a d l (h.sends ++ t.2)) (sym (arrived-append h.events (event ∷ []))) (Moves-trans a c d (arrived h.events) (arrived (event ∷ [])) h.sends t.2 h.moves t.4);
+      moves = subst (λ l. Moves a d l (h.sends ++ t.2)) (sym (receptions-append h.events (event ∷ []))) (Moves-trans a c d (receptions h.events) (receptions (event ∷ [])) h.sends t.2 h.moves t.4);
       told = subst (Adds out0 out3) (ap (λ l. lines_text S.plan.program h.lines ++ l) takes.shows ∙ lines_behind S.plan.program h.lines (reply_lines step.answer)) (Adds-trans out0 out2 out3 _ _ h.told t.5);
     }

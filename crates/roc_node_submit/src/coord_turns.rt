@@ -87,10 +87,9 @@ fn one_event<L: Link>(
     requires header { FitsHeader setting.header.now }
     requires cluster { length setting.cluster.now ≡ setting.plan.now.program.shards }
     ensures cause { HasCause (due_failed result) (L.faults link.old) (L.faults link.new) }
-    ensures takes { TakesOneHalf result (setting_of setting.entry) coord_node.old coord_node.new (L.arrivals link.old) (L.arrivals link.new) }
+    ensures takes { TakesOneHalf result (setting_of setting.entry) coord_node.old coord_node.new
+        (link_view L.Link link.old) (link_view L.Link link.new) }
     ensures fits { CoordFits setting.entry.plan.now coord_node.new.coord }
-    ensures sent { L.sent link.new ≡ L.sent link.old }
-    ensures lost { L.lost link.new ≡ L.lost link.old }
     ensures bound { L.bound link.new ≡ L.bound link.old }
 {
     match link.receive(buffer) {

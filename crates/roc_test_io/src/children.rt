@@ -2,7 +2,7 @@
 ghost use Rattle.std.specs.Prelude.{◌≡◌, ◌≢◌};
 
 use roc_io::{AllStarted, Child, ChildWait, Spawner, start_all};
-use roc_io_memory::{CalmSpawner, MemSpawner, wait_all};
+use roc_io_memory::{CalmLink, CalmSpawner, MemSpawner, wait_all};
 use std::alloc::{AllocError, Global};
 use std::process::Abort;
 use std::test::Fail;
@@ -44,13 +44,18 @@ fn a_calm_spawner_keeps_the_words_of_each_start(rt: HostRuntime) -> Result<(), F
     keeps_words(&rt, alloc, &mut spawner)
 }
 
-fn answers_the_second(rt: &impl Abort, spawner: &mut CalmSpawner) -> Result<(), Fail> {
+fn answers_the_second(
+    rt: &impl Abort,
+    alloc: Global,
+    spawner: &mut CalmSpawner,
+) -> Result<(), Fail> {
+    let link = CalmLink::new(alloc, Vec::new(alloc));
     let children = [Child::new(0), Child::new(1), Child::new(2)];
     let bad = ChildWait {
         child: Child::new(1),
         status: Some(3),
     };
-    assert_eq!(rt; wait_all(spawner, &children), Some(bad));
+    assert_eq!(rt; wait_all(spawner, &children, &link), Some(bad));
     assert_eq!(rt; spawner.awaited().ok_or("told")?.len(), 3);
     Ok(())
 }
@@ -59,7 +64,7 @@ fn answers_the_second(rt: &impl Abort, spawner: &mut CalmSpawner) -> Result<(), 
 fn the_first_child_that_ends_badly_is_answered(rt: HostRuntime) -> Result<(), Fail> {
     let alloc = rt.alloc();
     let mut spawner = CalmSpawner::new(alloc, vec![in alloc; 0, 3, 4]?);
-    answers_the_second(&rt, &mut spawner)
+    answers_the_second(&rt, alloc, &mut spawner)
 }
 
 fn fails_a_start(rt: &impl Abort, alloc: Global, spawner: &mut MemSpawner) -> Result<(), Fail> {
@@ -80,11 +85,12 @@ fn a_start_fails_where_told(rt: HostRuntime) -> Result<(), Fail> {
     fails_a_start(&rt, alloc, &mut spawner)
 }
 
-fn fails_two_waits(rt: &impl Abort, spawner: &mut MemSpawner) -> Result<(), Fail> {
+fn fails_two_waits(rt: &impl Abort, alloc: Global, spawner: &mut MemSpawner) -> Result<(), Fail> {
+    let link = CalmLink::new(alloc, Vec::new(alloc));
     let [zero, one] = [Child::new(0), Child::new(1)];
-    assert_eq!(rt; (spawner.wait(zero), spawner.faults()), (None, 1));
-    assert_eq!(rt; (spawner.wait(zero), spawner.faults()), (Some(0), 1));
-    assert_eq!(rt; (spawner.wait(one), spawner.faults()), (None, 2));
+    assert_eq!(rt; (spawner.wait(zero, &link), spawner.faults()), (None, 1));
+    assert_eq!(rt; (spawner.wait(zero, &link), spawner.faults()), (Some(0), 1));
+    assert_eq!(rt; (spawner.wait(one, &link), spawner.faults()), (None, 2));
     assert_eq!(rt; spawner.awaited().ok_or("told")?.len(), 3);
     Ok(())
 }
@@ -94,5 +100,5 @@ fn a_wait_fails_where_told_and_without_a_status(rt: HostRuntime) -> Result<(), F
     let alloc = rt.alloc();
     let statuses = vec![in alloc; Some(0), None]?;
     let mut spawner = MemSpawner::new(alloc, statuses, vec![in alloc; 1]?);
-    fails_two_waits(&rt, &mut spawner)
+    fails_two_waits(&rt, alloc, &mut spawner)
 }

@@ -1,6 +1,7 @@
 -- One turn of a server's node, and several
 use Rattle.std.specs.Prelude.{◌≡◌, ℕ, ◌<◌, ◌≤◌, Bool, true, false, List, [], ◌∷◌, ◌++◌, length, Option, option_map, Result, Ok, Err}
 use Rattle.roc_base.specs.declared.node.Shard.{Shard}
+use Rattle.roc_io.specs.Link.{Reception, vain}
 use Rattle.roc_io.specs.Packet.{Packet}
 use Rattle.roc_io.specs.Observed.{Adds, AddsFront}
 use Rattle.roc_msg.specs.declared.outbox.Outgoing.{Outgoing}
@@ -18,7 +19,7 @@ use Rattle.roc_node_serve.specs.declared.server_turns.RunEnd.TheVariants as run
 use Rattle.roc_node_serve.specs.declared.ends.ServeEnd.{ServeEnd}
 use Rattle.roc_node_serve.specs.declared.ends.ServeEnd.TheVariants as end
 use Rattle.roc_node.specs.Counts.{no_counts}
-use Rattle.roc_node.specs.NodeEvent.{NodeEvent, arrived, NodeSetting}
+use Rattle.roc_node.specs.NodeEvent.{NodeEvent, receptions, NodeSetting}
 use Rattle.roc_node.specs.Losing.{LosesOne}
 use Rattle.roc_node_serve.specs.ServeEnd.{AreTurnsOver, RunsServer}
 use Rattle.roc_node_serve.specs.ServerRun.{ServerNodeState, AfterEvent, IsServerRun}
@@ -46,18 +47,18 @@ abbrev pub event_failed : Result TurnOutput TurnEnd → Bool
 event_failed (Ok output) = false
 event_failed (Err end) = turn_failed end
 
--- an event was taken off the arrivals, and this is what the node makes of it
-pub record TakesEvent (S : NodeSetting) (old new : ServerNode) (output : TurnOutput) (arrivals_old arrivals_new : Option (List Packet)) : Type 0 where
+-- one receive gave an event, and this is what the node makes of it
+pub record TakesEvent (S : NodeSetting) (old new : ServerNode) (output : TurnOutput) (link_old link_new : LinkView) : Type 0 where
   pub event : NodeEvent
   pub leads : Leads (AfterEvent S (bare old) event) new output
-  pub arrivals : arrivals_old ≡ option_map (λ left. arrived (event ∷ []) ++ left) arrivals_new
+  pub moves : Moves link_old link_new (receptions (event ∷ [])) []
 
-abbrev pub TakesOne : NodeSetting → Result TurnOutput TurnEnd → (old new : ServerNode) → Option (List Packet) → Option (List Packet) → Type 0
-TakesOne S (Ok output) old new arrivals_old arrivals_new = TakesEvent S old new output arrivals_old arrivals_new
-TakesOne S (Err NoMemory) old new arrivals_old arrivals_new = LosesOne arrivals_old arrivals_new
-TakesOne S (Err LinkFault) old new arrivals_old arrivals_new = arrivals_new ≡ arrivals_old
-TakesOne S (Err Goes) old new arrivals_old arrivals_new = ⊥
-TakesOne S (Err Stopped) old new arrivals_old arrivals_new = ⊥
+abbrev pub TakesOne : NodeSetting → Result TurnOutput TurnEnd → (old new : ServerNode) → LinkView → LinkView → Type 0
+TakesOne S (Ok output) old new link_old link_new = TakesEvent S old new output link_old link_new
+TakesOne S (Err NoMemory) old new link_old link_new = LosesOne link_old link_new
+TakesOne S (Err LinkFault) old new link_old link_new = Moves link_old link_new (vain ∷ []) []
+TakesOne S (Err Goes) old new link_old link_new = ⊥
+TakesOne S (Err Stopped) old new link_old link_new = ⊥
 
 -- one event led from what a node kept to what it keeps
 pub record TurnsOnce (S : NodeSetting) (stopped : Bool) (old new : ServerNode) (link_old link_new : LinkView) : Type 0 where
@@ -65,17 +66,13 @@ pub record TurnsOnce (S : NodeSetting) (stopped : Bool) (old new : ServerNode) (
   pub messages : List Outgoing
   pub sends : List Packet
   pub leads : AfterEvent S (bare old) event (node_of new messages sends stopped)
-  pub moves : Moves link_old link_new (arrived (event ∷ [])) sends
-
--- nothing was taken; want of memory may lose the datagram that came
-abbrev pub Loses : LinkView → LinkView → Type 0
-Loses link_old link_new = (last : List Packet) × (length last ≤ 1) × Moves link_old link_new last []
+  pub moves : Moves link_old link_new (receptions (event ∷ [])) sends
 
 abbrev pub Turns : NodeSetting → TurnEnd → (old new : ServerNode) → LinkView → LinkView → Type 0
 Turns S Goes old new link_old link_new = TurnsOnce S false old new link_old link_new
 Turns S Stopped old new link_old link_new = TurnsOnce S true old new link_old link_new
-Turns S NoMemory old new link_old link_new = Loses link_old link_new
-Turns S LinkFault old new link_old link_new = Moves link_old link_new [] []
+Turns S NoMemory old new link_old link_new = LosesOne link_old link_new
+Turns S LinkFault old new link_old link_new = Moves link_old link_new (vain ∷ []) []
 
 -- so many events, of which none stopped the node, led from its start to this
 pub record RanSo (S : NodeSetting) (shard : Shard) (count : ℕ) (stopped : Bool) (server_node : ServerNode) (link_old link_new : LinkView) : Type 0 where
@@ -84,7 +81,7 @@ pub record RanSo (S : NodeSetting) (shard : Shard) (count : ℕ) (stopped : Bool
   pub sends : List Packet
   pub counted : length events ≡ count
   pub run : IsServerRun S shard events (node_of server_node messages sends stopped)
-  pub moves : Moves link_old link_new (arrived events) sends
+  pub moves : Moves link_old link_new (receptions events) sends
 
 -- what a node keeps before any turn
 abbrev pub first_server_node : Plan → Shard → ServerNode
@@ -101,9 +98,9 @@ RunsTurns (run.Over stopped) S shard turns server_node link_old link_new =
     (messages : List Outgoing) × (sends : List Packet) × (events : List NodeEvent)
     × AreTurnsOver turns events (node_of server_node messages sends stopped) × RunsServer S shard turns [] events (node_of server_node messages sends stopped) link_old link_new
 RunsTurns run.NoMemory S shard turns server_node link_old link_new =
-    (node : ServerNodeState) × (events : List NodeEvent) × (last : List Packet) × (length last ≤ 1) × RunsServer S shard turns last events node link_old link_new
+    (node : ServerNodeState) × (events : List NodeEvent) × (last : List Reception) × (length last ≤ 1) × RunsServer S shard turns last events node link_old link_new
 RunsTurns run.LinkFault S shard turns server_node link_old link_new =
-    (node : ServerNodeState) × (events : List NodeEvent) × (node.stopped ≡ false) × (length events < turns) × RunsServer S shard turns [] events node link_old link_new
+    (node : ServerNodeState) × (events : List NodeEvent) × (node.stopped ≡ false) × (length events < turns) × RunsServer S shard turns (vain ∷ []) events node link_old link_new
 
 -- the last lines were written, or a front of them, or nothing
 abbrev pub ClosesServe : ServeEnd → List ℕ → Option (List ℕ) → Option (List ℕ) → Type 0

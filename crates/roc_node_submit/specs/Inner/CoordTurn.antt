@@ -1,5 +1,6 @@
 -- One turn of a coordinator's node, and several
 use Rattle.std.specs.Prelude.{◌≡◌, ℕ, ◌≤◌, Bool, true, false, List, [], ◌∷◌, ◌++◌, drop, length, Option, option_map, Result, Ok, Err}
+use Rattle.roc_io.specs.Link.{vain}
 use Rattle.roc_io.specs.Packet.{Packet}
 use Rattle.roc_io.specs.Observed.{Adds, AddsFront}
 use Rattle.roc_io.specs.declared.sink.Written.{Written}
@@ -17,7 +18,7 @@ use Rattle.roc_node_submit.specs.declared.coord_node.CoordNode.{CoordNode}
 use Rattle.roc_node_submit.specs.declared.coord_node.TurnOutput.{TurnOutput}
 use Rattle.roc_node_submit.specs.declared.ends.SubmitEnd.{SubmitEnd}
 use Rattle.roc_node_submit.specs.declared.ends.SubmitEnd.TheVariants.{Done, Unanswered, LinkFault, SinkFault, NoMemory}
-use Rattle.roc_node.specs.NodeEvent.{NodeEvent, arrived, NodeSetting}
+use Rattle.roc_node.specs.NodeEvent.{NodeEvent, receptions, NodeSetting}
 use Rattle.roc_node_submit.specs.CoordRun.{CoordNodeState, none_submitted, IsCoordRun, submitted, submitted_all, step_of_event, reply_lines, answered_then, is_answered}
 use Rattle.roc_node_submit.specs.SubmitEnd.{submit_link_failed, submit_sink_failed, closing_text}
 use Rattle.roc_node.specs.Losing.{LosesOne}
@@ -87,11 +88,11 @@ HalfSubmits (Err LinkFault) S requests old new link_old link_new out_old out_new
 -- what a turn's receive did
 abbrev pub HalfTakes : Result (Unit {0}) SubmitEnd → NodeSetting → (old new : CoordNode) → (link_old link_new : LinkView) → (out_old out_new : Option (List ℕ)) → Type 0
 HalfTakes (Ok u) S old new link_old link_new out_old out_new =
-    (event : NodeEvent) × (text : List ℕ) × (sends : List Packet) × TakesHalf S event old new text sends × Moves link_old link_new (arrived (event ∷ [])) sends × Adds out_old out_new text
-HalfTakes (Err NoMemory) S old new link_old link_new out_old out_new = (last : List Packet) × (length last ≤ 1) × Moves link_old link_new last [] × Adds out_old out_new []
-HalfTakes (Err LinkFault) S old new link_old link_new out_old out_new = Moves link_old link_new [] [] × Adds out_old out_new []
+    (event : NodeEvent) × (text : List ℕ) × (sends : List Packet) × TakesHalf S event old new text sends × Moves link_old link_new (receptions (event ∷ [])) sends × Adds out_old out_new text
+HalfTakes (Err NoMemory) S old new link_old link_new out_old out_new = LosesOne link_old link_new × Adds out_old out_new []
+HalfTakes (Err LinkFault) S old new link_old link_new out_old out_new = Moves link_old link_new (vain ∷ []) [] × Adds out_old out_new []
 HalfTakes (Err SinkFault) S old new link_old link_new out_old out_new =
-    (event : NodeEvent) × Moves link_old link_new (arrived (event ∷ [])) [] × AddsFront out_old out_new (lines_text S.plan.program (reply_lines (step_of_event S old.coord event).answer))
+    (event : NodeEvent) × Moves link_old link_new (receptions (event ∷ [])) [] × AddsFront out_old out_new (lines_text S.plan.program (reply_lines (step_of_event S old.coord event).answer))
 HalfTakes (Err Done) S old new link_old link_new out_old out_new = ⊥
 HalfTakes (Err Unanswered) S old new link_old link_new out_old out_new = ⊥
 
@@ -104,20 +105,20 @@ abbrev pub due_failed : Result TurnOutput SubmitEnd → Bool
 due_failed (Ok output) = false
 due_failed (Err end) = submit_link_failed end
 
--- an event was taken off the arrivals, and this is due for it
-pub record TakesEventDue (S : NodeSetting) (old new : CoordNode) (output : TurnOutput) (arrivals_old arrivals_new : Option (List Packet)) : Type 0 where
+-- one receive gave an event, and this is due for it
+pub record TakesEventDue (S : NodeSetting) (old new : CoordNode) (output : TurnOutput) (link_old link_new : LinkView) : Type 0 where
   pub event : NodeEvent
   pub takes : TakesHalf S event old new output.text.items output.sends.items
-  pub arrivals : arrivals_old ≡ option_map (λ left. arrived (event ∷ []) ++ left) arrivals_new
+  pub moves : Moves link_old link_new (receptions (event ∷ [])) []
 
 -- what one receive gives
-abbrev pub TakesOneHalf : Result TurnOutput SubmitEnd → NodeSetting → (old new : CoordNode) → Option (List Packet) → Option (List Packet) → Type 0
-TakesOneHalf (Ok output) S old new arrivals_old arrivals_new = TakesEventDue S old new output arrivals_old arrivals_new
-TakesOneHalf (Err NoMemory) S old new arrivals_old arrivals_new = LosesOne arrivals_old arrivals_new
-TakesOneHalf (Err LinkFault) S old new arrivals_old arrivals_new = arrivals_new ≡ arrivals_old
-TakesOneHalf (Err Done) S old new arrivals_old arrivals_new = ⊥
-TakesOneHalf (Err Unanswered) S old new arrivals_old arrivals_new = ⊥
-TakesOneHalf (Err SinkFault) S old new arrivals_old arrivals_new = ⊥
+abbrev pub TakesOneHalf : Result TurnOutput SubmitEnd → NodeSetting → (old new : CoordNode) → LinkView → LinkView → Type 0
+TakesOneHalf (Ok output) S old new link_old link_new = TakesEventDue S old new output link_old link_new
+TakesOneHalf (Err NoMemory) S old new link_old link_new = LosesOne link_old link_new
+TakesOneHalf (Err LinkFault) S old new link_old link_new = Moves link_old link_new (vain ∷ []) []
+TakesOneHalf (Err Done) S old new link_old link_new = ⊥
+TakesOneHalf (Err Unanswered) S old new link_old link_new = ⊥
+TakesOneHalf (Err SinkFault) S old new link_old link_new = ⊥
 
 -- so many events led from a coordinator's start to this
 pub record CoordRanSo (S : NodeSetting) (number : ℕ) (requests : List Request) (count : ℕ) (coord_node : CoordNode) (link_old link_new : LinkView) (out_old out_new : Option (List ℕ)) : Type 0 where
@@ -127,7 +128,7 @@ pub record CoordRanSo (S : NodeSetting) (number : ℕ) (requests : List Request)
   pub lines : List Line
   pub counted : length events ≡ count
   pub run : IsCoordRun S number requests events (coord_node_state_of coord_node requests messages sends lines)
-  pub moves : Moves link_old link_new (arrived events) sends
+  pub moves : Moves link_old link_new (receptions events) sends
   pub told : Adds out_old out_new (lines_text S.plan.program lines)
 
 -- the last lines were written, or a front of them, or nothing

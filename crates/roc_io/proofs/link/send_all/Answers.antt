@@ -16,4 +16,5 @@ loop-datagram-preserved g c =
       c.send.ensures.faults ∙ so_far.2,
       c.send.ensures.bound ∙ so_far.3,
       c.send.ensures.arrivals ∙ so_far.4,
+      c.send.ensures.receives ∙ so_far.5,
     )

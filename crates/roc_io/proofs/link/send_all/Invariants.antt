@@ -12,3 +12,4 @@ invariant-loop-datagram g l =
     × (L.faults l.link ≡ L.faults l.fn.link)
     × (L.bound l.link ≡ L.bound l.fn.link)
     × (L.arrivals l.link ≡ L.arrivals l.fn.link)
+    × (L.receives l.link ≡ L.receives l.fn.link)

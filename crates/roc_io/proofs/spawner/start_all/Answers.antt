@@ -28,4 +28,5 @@ loop-words-preserved g c = (
       (rw (c.unwrap.ensures, c.reserve.ensures.items) at c.push.ensures.items),
   c.in-Running.ensures.cause ∙ c.loop-words.invariant.1,
   c.in-Running.ensures.awaited ∙ c.loop-words.invariant.2,
+  c.in-Running.ensures.sent_at_waits ∙ c.loop-words.invariant.3,
 )

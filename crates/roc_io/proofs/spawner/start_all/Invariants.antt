@@ -10,3 +10,4 @@ invariant-loop-words g l =
     StartsAll Ok (P.started l.fn.spawner) (P.started l.spawner) (map command_words (take l.words-index l.commands)) l.fn.children.items l.children.items
     × (P.faults l.spawner ≡ P.faults l.fn.spawner)
     × (P.awaited l.spawner ≡ P.awaited l.fn.spawner)
+    × (P.sent_at_waits l.spawner ≡ P.sent_at_waits l.fn.spawner)

@@ -3,7 +3,7 @@ use Rattle.std.proofs.Common.{◌≡◌, sym, ◌∙◌, ap, subst, arith}
 use Rattle.std.specs.Option.{option_or}
 use Rattle.std.specs.Prelude.{is_none}
 use Rattle.roc_io.proofs.Causes.{never_falls}
-use Rattle.roc_node_local.proofs.Awaiting.{AwaitsAll-next, bad_cause_next, none_bad_next, bad_at}
+use Rattle.roc_node_local.proofs.Awaiting.{AwaitsAll-next, bad_cause_next, none_bad_next, bad_at, sent_again}
 use Rattle.roc_node_local.proofs.children.await_all.Goals as goal
 
 pub loop-child-preserved : goal.loop-child-preserved
@@ -19,4 +19,5 @@ loop-child-preserved g c =
       λ none. none_bad_next c.loop-child.first c.loop-child.shard c.child-item.result c.wait.result _ _ _ so_far.3 cause (sym first ∙ none),
       omega arith,
       c.wait.ensures.started ∙ so_far.5,
+      sent_again _ _ _ c.loop-child.child-index _ so_far.6 c.wait.ensures.sent_at_waits,
     )

@@ -1,7 +1,8 @@
 -- The children before this one were awaited.
-use Rattle.std.proofs.Common.{◌≡◌, ◌≤◌, take}
+use Rattle.std.proofs.Common.{◌≡◌, ◌≤◌, replicate, take}
 use Rattle.std.specs.Prelude.{None, IsNone, IfSome}
 use Rattle.roc_io.specs.Cause.{Rose}
+use Rattle.roc_io.specs.Observed.{Adds}
 use Rattle.roc_node_local.specs.Children.{AwaitsAll}
 use Rattle.roc_node_local.proofs.children.await_all.Given as goal
 
@@ -14,3 +15,4 @@ invariant-loop-child g l =
     × (l.first ≡ None → P.faults l.spawner ≡ P.faults l.fn.spawner)
     × (P.faults l.fn.spawner ≤ P.faults l.spawner)
     × (P.started l.spawner ≡ P.started l.fn.spawner)
+    × Adds (P.sent_at_waits l.fn.spawner) (P.sent_at_waits l.spawner) (replicate l.child-index (g.L.Link.sent l.link))

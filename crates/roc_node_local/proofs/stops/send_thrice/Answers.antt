@@ -9,4 +9,5 @@ loop-preserved g c = (
   c.send.ensures.faults ∙ c.loop.invariant.1,
   c.send.ensures.bound ∙ c.loop.invariant.2,
   c.send.ensures.arrivals ∙ c.loop.invariant.3,
+  c.send.ensures.receives ∙ c.loop.invariant.4,
 )

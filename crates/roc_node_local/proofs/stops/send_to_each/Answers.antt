@@ -9,4 +9,5 @@ loop-addr-preserved g c = (
   c.send_thrice.ensures.faults ∙ c.loop-addr.invariant.1,
   c.send_thrice.ensures.bound ∙ c.loop-addr.invariant.2,
   c.send_thrice.ensures.arrivals ∙ c.loop-addr.invariant.3,
+  c.send_thrice.ensures.receives ∙ c.loop-addr.invariant.4,
 )
