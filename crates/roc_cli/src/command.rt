@@ -5,7 +5,7 @@ ghost use Rattle.roc_io.specs.Cause.{HasCause};
 ghost use Rattle.roc_cli_words.specs.Answer.{AreWordsOf};
 ghost use Rattle.roc_cli_words.specs.Commands.{IsWithin, command_of};
 ghost use Rattle.roc_cli_nodes.specs.Call.{run_call};
-ghost use Rattle.roc_cli_nodes.specs.Words.{IsReplay, NamesNodes, needs_nodes};
+ghost use Rattle.roc_cli_nodes.specs.Words.{AreLocalWords, IsReplay, NamesNodes, needs_nodes};
 ghost use Rattle.roc_cli_files.specs.Held.{HoldsPlan};
 ghost use Rattle.roc_cli.specs.Status.{Answers, IsQuiet};
 ghost use Rattle.roc_cli_files.specs.Fault.{blames_file, blames_sink, blames_link, Blames, ReadsBut, fails_by};
@@ -58,6 +58,8 @@ pub fn run<F: Files, S: Sink, E: Sink, L: Link, P: Spawner>(
     ensures content { (name : List ℕ) → F.content files.new name ≡ F.content files.old name }
     // The link and the children are used by commands with nodes alone, once their files were read.
     ensures quiet { IsQuiet (map string_bytes words.now) result → (link.new ≡ link.old) × (children.new ≡ children.old) }
+    // At every status: children are started and awaited by `local` alone.
+    ensures unspawned { (AreLocalWords (map string_bytes words.now) → ⊥) → children.new ≡ children.old }
 {
     fitting_calls_are_faultless();
     match perform(alloc, words, files, out, link, children) {
@@ -82,6 +84,7 @@ fn perform<'a, F: Files, S: Sink, L: Link, P: Spawner>(
     }) result }
     ensures untouched { IsTrue (fails_by precedes_loop result) → (link.new ≡ link.old) × (children.new ≡ children.old) }
     ensures quiet { (NamesNodes (map string_bytes words.entry.now) → ⊥) → (link.new ≡ link.old) × (children.new ≡ children.old) }
+    ensures unspawned { (AreLocalWords (map string_bytes words.entry.now) → ⊥) → children.new ≡ children.old }
     ensures childless { CountsChildren result (P.faults children.old) (P.faults children.new) }
     ensures failed { ReadsBut (F.failed_names files.old) (F.failed_names files.new) result }
     ensures file_faults { HasCause (fails_by blames_file result) (F.faults files.old) (F.faults files.new) }

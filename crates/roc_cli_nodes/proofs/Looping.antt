@@ -122,6 +122,7 @@ module _ (call : RunCall) (link : LinkCall) (nodes : Nodes) (middle : Option (Li
         bound = h.bound;
         sends = subst (λ (tag : List ℕ). SendsStops e tag nodes.cluster link.old.lost link.new.lost link.old.sent link.new.sent) held.2 h.sends;
         arrivals = h.arrivals;
+        receives = h.receives;
         silent = silent;
       },
     )

@@ -77,6 +77,7 @@ pub record StopEnded (call : RunCall) (link : LinkCall) (end : StopEnd) : Type 0
   pub bound : AddsUnless (stops_unbound end) link.bound_old link.bound_new any_address
   pub sends : SendsStops end (tag_of_bytes bytes) addrs link.old.lost link.new.lost link.old.sent link.new.sent
   pub arrivals : link.new.arrivals ≡ link.old.arrivals
+  pub receives : link.new.receives ≡ link.old.receives
   pub silent : TakesNothing call
 
 -- the end of a server, or of one that sends stops, as that of a coordinator

@@ -6,7 +6,7 @@ ghost use Rattle.roc_cli_words.specs.Answer.{AreWordsOf};
 ghost use Rattle.roc_cli_words.specs.Commands.{IsWithin, command_of};
 ghost use Rattle.roc_cli_files.specs.Fault.{blames_file, blames_sink, blames_link, fails_by, ReadsBut};
 ghost use Rattle.roc_cli_nodes.specs.Call.{run_call};
-ghost use Rattle.roc_cli_nodes.specs.Words.{needs_nodes};
+ghost use Rattle.roc_cli_nodes.specs.Words.{needs_nodes, AreLocalWords};
 ghost use Rattle.roc_cli_nodes.specs.Ends.{precedes_loop, IsLaunched, CountsChildren};
 
 use crate::running::{local_files, serve_files, stop_files, submit_files};
@@ -49,6 +49,8 @@ pub fn launch<'a, F: Files, S: Sink, L: Link, P: Spawner>(
     }) result }
     ensures untouched { IsTrue (fails_by precedes_loop result) → (link.new ≡ link.old) × (children.new ≡ children.old) }
     ensures childless { CountsChildren result (P.faults children.old) (P.faults children.new) }
+    // Children are the matter of `local` alone: whatever comes of another command, they are as they were.
+    ensures unspawned { (words : List (List ℕ)) → AreWordsOf words (command_of asked.entry) → (AreLocalWords words → ⊥) → children.new ≡ children.old }
     ensures failed { ReadsBut (F.failed_names files.old) (F.failed_names files.new) result }
 
     // A count of faults rises exactly at the fault that blames it.

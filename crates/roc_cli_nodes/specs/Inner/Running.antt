@@ -26,6 +26,7 @@ pub record StopsLink (tag : List ℕ) (cluster : List Addr) (link : LinkCall) (e
   pub bound : AddsUnless (stops_unbound end) link.bound_old link.bound_new any_address
   pub sends : SendsStops end tag cluster link.old.lost link.new.lost link.old.sent link.new.sent
   pub arrivals : link.new.arrivals ≡ link.old.arrivals
+  pub receives : link.new.receives ≡ link.old.receives
 
 abbrev pub StopsAs : (tag : List ℕ) → (cluster : List Addr) → LinkCall → SubmitEnd → Type 0
 StopsAs tag cluster link end = (e : StopEnd) × (stop_as_submit_end e ≡ end) × StopsLink tag cluster link e

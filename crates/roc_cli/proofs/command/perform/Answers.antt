@@ -33,7 +33,13 @@ returns-then-needs_nodes-clause-link_faults g c = c.launch.ensures.link_faults
 pub returns-then-needs_nodes-clause-content : goal.returns-then-needs_nodes-clause-content
 returns-then-needs_nodes-clause-content g c = c.launch.ensures.content
 
+pub returns-then-needs_nodes-clause-unspawned : goal.returns-then-needs_nodes-clause-unspawned
+returns-then-needs_nodes-clause-unspawned g c = c.launch.ensures.unspawned _ c.in-Ok.ensures.answers
+
 -- one without
+pub returns-else-needs_nodes-clause-unspawned : goal.returns-else-needs_nodes-clause-unspawned
+returns-else-needs_nodes-clause-unspawned g c none = refl
+
 pub returns-else-needs_nodes-clause-ends : goal.returns-else-needs_nodes-clause-ends
 returns-else-needs_nodes-clause-ends g c = inl (c.perform_alone.ensures.ends _ c.in-Ok.ensures.answers)
 
@@ -62,6 +68,9 @@ pub returns-else-needs_nodes-clause-link_faults : goal.returns-else-needs_nodes-
 returns-else-needs_nodes-clause-link_faults g c = unlinked _ _ _ (c.perform_alone.ensures.ends _ c.in-Ok.ensures.answers)
 
 -- words that ask for nothing
+pub returns-in-Err-clause-unspawned : goal.returns-in-Err-clause-unspawned
+returns-in-Err-clause-unspawned g c none = refl
+
 pub returns-in-Err-clause-ends : goal.returns-in-Err-clause-ends
 returns-in-Err-clause-ends g c = words_refused _ c.in-Err.fault _ c.refusal.ensures.is refl c.in-Err.ensures.answers
 

@@ -50,3 +50,9 @@ returns-in-Err-clause-link_faults g c = link_counted c.in-Err.fault _ _ _ _ c.te
 
 pub returns-in-Err-clause-content : goal.returns-in-Err-clause-content
 returns-in-Err-clause-content g c = c.in-Err.ensures.content
+
+pub returns-in-Ok-clause-unspawned : goal.returns-in-Ok-clause-unspawned
+returns-in-Ok-clause-unspawned g c = c.in-Ok.ensures.unspawned
+
+pub returns-in-Err-clause-unspawned : goal.returns-in-Err-clause-unspawned
+returns-in-Err-clause-unspawned g c = c.in-Err.ensures.unspawned

@@ -19,3 +19,6 @@ returns-in-Stop-clause-ends g c words given =
 pub returns-in-Local-clause-ends : goal.returns-in-Local-clause-ends
 returns-in-Local-clause-ends g c words given =
     local_among _ _ (c.local_files.ensures.ends words (subst (λ a. AreWordsOf words (command_of a)) c.in-Local.is given))
+
+pub returns-in-Local-clause-unspawned : goal.returns-in-Local-clause-unspawned
+returns-in-Local-clause-unspawned g c words given none = absurd (none (_, _, _, _, subst (λ a. AreWordsOf words (command_of a)) c.in-Local.is given))
