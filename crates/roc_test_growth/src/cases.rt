@@ -1,0 +1,176 @@
+//! Runs, with what comes of them where memory suffices.
+
+use crate::first::{Run, first_run};
+use crate::plans::{Unmade, plan_of};
+use crate::run::{Event, happen_all, post};
+use roc_base::{Node, Nums, Shard, TxnId};
+use std::alloc::Global;
+use std::process::Abort;
+use std::test::Fail;
+
+// A reply, with the transaction that it is of.
+type Reply = (TxnId, &'static [i64]);
+
+// A workload, its events, and what is to come of them: the replies, how many messages are sent, and the serial order.
+#[derive(Clone, Copy)]
+struct Case {
+    workload: &'static [u8],
+    coords: u16,
+    events: &'static [Event],
+    replies: &'static [Reply],
+    messages: usize,
+    order: &'static [TxnId],
+}
+
+fn are_replies(rt: &impl Abort, found: &[(TxnId, Nums)], wanted: &[Reply]) {
+    assert_eq!(rt; found.len(), wanted.len());
+    for ((id, reply), (wanted_id, numbers)) in found.iter().zip(wanted) {
+        assert_eq!(rt; *id, *wanted_id);
+        assert_eq!(rt; reply.as_slice(), *numbers);
+    }
+}
+
+fn is_outcome(rt: &impl Abort, run: &Run, case: &Case) {
+    are_replies(rt, &run.replies, case.replies);
+    assert_eq!(rt; run.sent.len(), case.messages);
+    assert_eq!(rt; run.order.as_slice(), case.order);
+}
+
+fn check(rt: &impl Abort, alloc: Global, case: &Case) -> Result<(), Unmade> {
+    let plan = plan_of(alloc, case.workload)?;
+    let mut run = first_run(alloc, &plan, case.coords)?;
+    happen_all(rt, &plan, &mut run, case.events);
+    post(rt, &mut run);
+    is_outcome(rt, &run, case);
+    Ok(())
+}
+
+// A test whose own memory is wanting has shown nothing, and passes: a call of a node stops it where it is not as it must be.
+fn passes(rt: &impl Abort, alloc: Global, case: &Case) {
+    if let Err(unmade) = check(rt, alloc, case) {
+        assert!(rt; unmade == Unmade::NoMemory);
+    }
+}
+
+const CROSSING: Case = Case {
+    workload: b"shards 2;
+table acct { bal }
+init acct[0,0].bal = 100;
+init acct[1,0].bal = 50;
+proc pay(f,t,n) {
+  later take at f { get b = acct[0].bal; set acct[0].bal = b - n; out b; }
+  later give at t { get d = acct[0].bal; set acct[0].bal = d + n; out d; }
+}
+",
+    coords: 2,
+    events: &[
+        Event::Submit(0, &[0, 1, 10]),
+        Event::Submit(1, &[1, 0, 5]),
+        Event::Deliver(1, 1),
+        Event::Deliver(3, 3),
+        Event::Deliver(2, 2),
+        Event::Deliver(4, 5),
+        Event::Deliver(7, 7),
+        Event::Deliver(6, 6),
+        Event::Deliver(8, 9),
+        Event::Deliver(11, 11),
+        Event::Deliver(10, 10),
+        Event::Deliver(12, 16),
+    ],
+    replies: &[(FIRST, &[100, 50]), (SECOND, &[60, 90])],
+    messages: 16,
+    order: &[FIRST, SECOND],
+};
+
+const FIRST: TxnId = TxnId { coord: 0, seq: 0 };
+
+const SECOND: TxnId = TxnId { coord: 1, seq: 0 };
+
+const THIRD: TxnId = TxnId { coord: 2, seq: 0 };
+
+#[test]
+fn crossing_transfers(rt: HostRuntime) {
+    passes(&rt, rt.alloc(), &CROSSING)
+}
+
+// Each shard lacks the list of the transaction that comes before its own, and asks for it; one asks again at a tick.
+const RING: Case = Case {
+    workload: b"shards 3;
+table acct { bal }
+init acct[0,0].bal = 100;
+init acct[1,0].bal = 100;
+init acct[2,0].bal = 100;
+proc pay(f,t,n) {
+  later take at f { get b = acct[0].bal; set acct[0].bal = b - n; out b; }
+  later give at t { get d = acct[0].bal; set acct[0].bal = d + n; out d; }
+}
+",
+    coords: 3,
+    events: &[
+        Event::Submit(0, &[0, 1, 10]),
+        Event::Submit(1, &[1, 2, 20]),
+        Event::Submit(2, &[2, 0, 30]),
+        Event::Deliver(6, 6),
+        Event::Deliver(1, 5),
+        Event::Deliver(7, 18),
+        Event::Deliver(21, 21),
+        Event::Tick(Node::Server(Shard(0))),
+        Event::Deliver(19, 20),
+        Event::Deliver(22, 22),
+        Event::Deliver(24, 31),
+    ],
+    replies: &[
+        (FIRST, &[100, 100]),
+        (SECOND, &[110, 100]),
+        (THIRD, &[120, 90]),
+    ],
+    messages: 31,
+    order: &[FIRST, SECOND, THIRD],
+};
+
+#[test]
+fn a_ring_of_transfers(rt: HostRuntime) {
+    passes(&rt, rt.alloc(), &RING)
+}
+
+const ADDITION: Event = Event::Submit(0, &[1]);
+
+// Sixteen unanswered are the most: the seventeenth is refused until one of them has its reply. Then time passes.
+const BUSY: Case = Case {
+    workload: b"shards 1;
+table t { x }
+proc add(n) { later a at 0 { get v = t[0].x; set t[0].x = v + n; out v; } }
+",
+    coords: 1,
+    events: &[
+        ADDITION,
+        ADDITION,
+        ADDITION,
+        ADDITION,
+        ADDITION,
+        ADDITION,
+        ADDITION,
+        ADDITION,
+        ADDITION,
+        ADDITION,
+        ADDITION,
+        ADDITION,
+        ADDITION,
+        ADDITION,
+        ADDITION,
+        ADDITION,
+        Event::Busy(0, &[1]),
+        Event::Deliver(1, 1),
+        Event::Deliver(17, 19),
+        ADDITION,
+        Event::Tick(Node::Coord(0)),
+    ],
+    replies: &[(FIRST, &[0])],
+    messages: 37,
+    order: &[FIRST],
+};
+
+#[test]
+fn busy_submissions(rt: HostRuntime) {
+    passes(&rt, rt.alloc(), &BUSY)
+}

@@ -1,0 +1,66 @@
+//! A run before its first event. All that it takes itself, it takes here.
+ghost use Rattle.std.specs.Prelude.{◌≡◌, IfOk};
+ghost use Rattle.std.specs.List.{AllByRecursion};
+ghost use Rattle.roc_coord.specs.Fits.{CoordFits};
+ghost use Rattle.roc_server.specs.Fits.{ServerFits};
+
+use roc_base::{NoMemory, Nums, Shard, TxnId};
+use roc_coord::Coord;
+use roc_msg::{Outbox, Outgoing};
+use roc_plan::Plan;
+use roc_server::Server;
+use std::alloc::{AllocError, Global};
+
+/// How many messages, and how many transactions, a run has room for.
+const MESSAGES: usize = 128;
+
+const TRANSACTIONS: usize = 32;
+
+/// The nodes, what they gave and what was sent: messages are numbered from 1. An outbox is taken from where its messages are needed, so that most calls
+/// find something in it.
+#[derive(Drop)]
+pub(crate) struct Run {
+    pub alloc: Global,
+    pub servers: Vec<Server>,
+    pub coords: Vec<Coord>,
+    pub outbox: Outbox,
+    pub sent: Vec<Outgoing>,
+    pub order: Vec<TxnId>,
+    pub replies: Vec<(TxnId, Nums)>,
+}
+
+fn first_servers(alloc: Global, plan: &Plan) -> Result<Vec<Server>, NoMemory>
+    ensures { IfOk result (λ servers. AllByRecursion (ServerFits plan.now) servers.items) }
+{
+    let mut servers = Vec::new(alloc);
+    for number in 0..plan.workload().shards() {
+        servers.push(Server::new(alloc, plan, Shard(number))?)?;
+    }
+    Ok(servers)
+}
+
+fn first_coords(alloc: Global, plan: &Plan, count: u16) -> Result<Vec<Coord>, AllocError>
+    ensures { IfOk result (λ coords. AllByRecursion (CoordFits plan.now) coords.items) }
+{
+    let mut coords = Vec::new(alloc);
+    for number in 0..count {
+        coords.push(Coord::new(alloc, number))?;
+    }
+    Ok(coords)
+}
+
+/// A run of a plan with so many coordinators.
+pub(crate) fn first_run(alloc: Global, plan: &Plan, coords: u16) -> Result<Run, NoMemory>
+    ensures servers { IfOk result (λ run. AllByRecursion (ServerFits plan.now) run.servers.items) }
+    ensures coords { IfOk result (λ run. AllByRecursion (CoordFits plan.now) run.coords.items) }
+{
+    Ok(Run {
+        alloc,
+        servers: first_servers(alloc, plan)?,
+        coords: first_coords(alloc, plan, coords)?,
+        outbox: Outbox::new(alloc),
+        sent: Vec::with_capacity(alloc, MESSAGES)?,
+        order: Vec::with_capacity(alloc, TRANSACTIONS)?,
+        replies: Vec::with_capacity(alloc, TRANSACTIONS)?,
+    })
+}
