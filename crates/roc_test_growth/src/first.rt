@@ -11,13 +11,14 @@ use roc_plan::Plan;
 use roc_server::Server;
 use std::alloc::{AllocError, Global};
 
-/// How many messages, and how many transactions, a run has room for.
+// How many messages a run has room for.
 const MESSAGES: usize = 128;
 
+// How many transactions a run has room for.
 const TRANSACTIONS: usize = 32;
 
-/// The nodes, what they gave and what was sent: messages are numbered from 1. An outbox is taken from where its messages are needed, so that most calls
-/// find something in it.
+/// The nodes, what is in their outbox, what was sent before, numbered from 1, and what came of it. The outbox is emptied only where a message of it is to
+/// be delivered, so that most calls find something in it.
 #[derive(Drop)]
 pub(crate) struct Run {
     pub alloc: Global,
