@@ -5,7 +5,7 @@ use std::alloc::{AllocError, Global};
 use std::test::Fail;
 
 /// One counter on one shard.
-const COUNTER: &[u8] = b"shards 1;
+pub(crate) const COUNTER: &[u8] = b"shards 1;
 table t { x }
 proc add(n) { later a at 0 { get v = t[0].x; set t[0].x = v + n; out v; } }
 ";
@@ -48,7 +48,8 @@ struct Ran {
     err: MemSink,
 }
 
-fn stored(alloc: Global, name: &str, bytes: &[u8]) -> Result<StoredFile, AllocError> {
+/// A file of this name.
+pub(crate) fn stored(alloc: Global, name: &str, bytes: &[u8]) -> Result<StoredFile, AllocError> {
     Ok(StoredFile::new(String::from_str(alloc, name)?, bytes.to_vec(alloc)?))
 }
 
@@ -60,7 +61,8 @@ fn counter(alloc: Global, reads: &[u64]) -> Result<MemFiles, AllocError> {
     Ok(MemFiles::new(alloc, files, reads.to_vec(alloc)?))
 }
 
-fn given(alloc: Global, words: &[&str]) -> Result<Vec<String>, AllocError> {
+/// The words of a run.
+pub(crate) fn given(alloc: Global, words: &[&str]) -> Result<Vec<String>, AllocError> {
     let mut given = Vec::new(alloc);
     for word in words {
         given.push(String::from_str(alloc, word)?)?;
