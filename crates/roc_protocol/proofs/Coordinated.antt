@@ -187,11 +187,13 @@ module _ (plan : Plan) (asked : TxnId → whole.Call) (S : Scheme) (start : Stor
   -- the watermark of what a coordinator holds, where these are answered
   mark_means : (log : Log) (after : CoordState) → CoordMeans plan asked S start log after → (out : Outgoing) → IsMarkOf plan after out → Means plan asked S start log out.msg out.to
   mark_means log after holds out q =
-      subst (λ (out : Outgoing). Means plan asked S start log out.msg out.to) (sym q.is)
-      (λ k l. let bound = mark_next after in elim (holds.all k (omega arith)) [
-        | inl p ↦ absurd (let least = mark_least after p.0 p.1 in let same : p.0.id.seq ≡ k = ap (λ (t : TxnId). t.seq) p.2 in omega arith)
-        | inr h ↦ h
-      ], tt)
+      subst (λ (out : Outgoing). Means plan asked S start log out.msg out.to) (sym q.is) (
+        λ k l. let bound = mark_next after in elim (holds.all k (omega arith)) [
+          | inl p ↦ absurd (let least = mark_least after p.0 p.1 in let same : p.0.id.seq ≡ k = ap (λ (t : TxnId). t.seq) p.2 in omega arith)
+          | inr h ↦ h
+        ],
+        tt,
+      )
 
   mark_starts : (after : CoordState) (out : Outgoing) → IsMarkOf plan after out → StartsAre Of out.msg
   mark_starts after out q = subst (λ (out : Outgoing). StartsAre Of out.msg) (sym q.is) tt

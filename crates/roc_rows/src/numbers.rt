@@ -16,7 +16,7 @@ pub(crate) struct Numbers {
 
 impl Model for Numbers {
     ghost use Rattle.std.specs.HashMap.{spare};
-        ghost use Rattle.roc_rows.specs.Inner.Kept.{Numbered, coded_numbered, store_of, HasNoZero};
+    ghost use Rattle.roc_rows.specs.Inner.Kept.{Numbered, coded_numbered, store_of, HasNoZero};
 
     ghost Value = { Numbered };
 

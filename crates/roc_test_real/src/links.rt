@@ -29,11 +29,7 @@ fn bound_to_free<N: Net + Clock>(rt: &impl Abort, link: &mut RealLink<N>) -> Add
 }
 
 /// Receives until a datagram comes: a receive may be quiet before it.
-fn sender<N: Net + Clock>(
-    rt: &impl Abort,
-    link: &mut RealLink<N>,
-    bytes: &mut Vec<u8>,
-) -> Addr {
+fn sender<N: Net + Clock>(rt: &impl Abort, link: &mut RealLink<N>, bytes: &mut Vec<u8>) -> Addr {
     for _ in 0..100 {
         match link.receive(bytes) {
             Arrival::Datagram { from } => return from,
