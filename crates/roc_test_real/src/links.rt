@@ -4,12 +4,27 @@ use roc_io_real::RealLink;
 use std::net::Net;
 use std::process::Abort;
 use std::test::Fail;
-use std::time::Clock;
+use std::time::{Clock, Duration, Instant};
 
 const ANY: Addr = Addr {
     host: [0, 0, 0, 0],
     port: 0,
 };
+
+/// An address that is kept for documents, and no machine's.
+const NOBODY: Addr = Addr {
+    host: [192, 0, 2, 1],
+    port: 0,
+};
+
+/// How many bytes of a datagram are kept.
+const KEPT: usize = 60_001;
+
+/// One byte more than a datagram of the Internet protocol, version 4, can carry.
+const TOO_LONG: usize = 65_508;
+
+/// How many receives there are at most before one is quiet.
+const MOST_RECEIVES: u32 = 10_000_000;
 
 /// The longest datagram that a message has here.
 const LARGE: usize = 49_184;
@@ -67,5 +82,82 @@ fn datagrams_go_there_and_back(rt: HostRuntime) -> Result<(), Fail> {
     assert_eq!(rt; far.faults(), 0);
     assert_eq!(rt; near.lost(), 0);
     assert_eq!(rt; far.lost(), 0);
+    Ok(())
+}
+
+#[test]
+fn what_is_too_long_is_cut_or_refused(rt: HostRuntime) -> Result<(), Fail> {
+    let alloc = rt.alloc();
+    let mut near = RealLink::new(&rt);
+    let mut far = RealLink::new(&rt);
+    let here = bound_to_free(&rt, &mut near);
+    assert_eq!(rt; far.bind(ANY), Bound::Ok);
+    let mut long: Vec<u8> = vec![in alloc; 7u8; TOO_LONG]?;
+    let mut bytes = Vec::new(alloc);
+
+    assert_eq!(rt; far.send(here, &long), Sent::Failed);
+    assert_eq!(rt; far.lost(), 1);
+    long.truncate(KEPT + 5);
+    assert_eq!(rt; far.send(here, &long), Sent::Ok);
+    sender(&rt, &mut near, &mut bytes);
+    long.truncate(KEPT);
+    assert!(rt; bytes.as_slice() == long.as_slice());
+    assert_eq!(rt; far.lost(), 1);
+    assert_eq!(rt; far.faults(), 0);
+    Ok(())
+}
+
+#[test]
+fn a_bind_may_fail(rt: HostRuntime) {
+    let mut near = RealLink::new(&rt);
+    let mut far = RealLink::new(&rt);
+    let here = bound_to_free(&rt, &mut near);
+    assert_eq!(rt; far.bind(here), Bound::Failed);
+    assert_eq!(rt; far.bind(NOBODY), Bound::Failed);
+    assert_eq!(rt; far.faults(), 2);
+}
+
+#[test]
+fn calls_before_a_bind_fail(rt: HostRuntime) {
+    let mut link = RealLink::new(&rt);
+    let mut bytes = Vec::new(rt.alloc());
+    assert_eq!(rt; link.receive(&mut bytes), Arrival::Failed);
+    assert_eq!(rt; link.faults(), 1);
+    assert_eq!(rt; link.send(NOBODY, b"a"), Sent::Failed);
+    assert_eq!(rt; link.lost(), 1);
+    assert_eq!(rt; link.faults(), 1);
+}
+
+/// Sends the link a datagram before each receive until one is quiet: one that begins when three times the link's wait are over has to be.
+fn send_until_quiet<N: Net + Clock + Abort>(
+    rt: &N,
+    link: &mut RealLink<N>,
+    here: Addr,
+    bytes: &mut Vec<u8>,
+    since: Instant,
+) {
+    for _ in 0..MOST_RECEIVES {
+        assert_eq!(rt; link.send(here, b"a"), Sent::Ok);
+        let passed = since.elapsed(rt);
+        match link.receive(bytes) {
+            Arrival::Datagram { .. } => {
+                assert!(rt; matches!(passed, Ok(time) if time < Duration::from_millis(60)));
+            }
+            Arrival::Quiet => return,
+            _ => panic!(rt; "no datagram"),
+        }
+    }
+    panic!(rt; "never quiet")
+}
+
+#[test]
+fn a_receive_is_quiet_though_datagrams_come(rt: HostRuntime) -> Result<(), Fail> {
+    let mut link = RealLink::new(&rt);
+    let mut bytes = Vec::new(rt.alloc());
+    let here = bound_to_free(&rt, &mut link);
+    let since = Instant::now(&rt)?;
+    send_until_quiet(&rt, &mut link, here, &mut bytes, since);
+    assert_eq!(rt; sender(&rt, &mut link, &mut bytes), here);
+    assert_eq!(rt; link.faults(), 0);
     Ok(())
 }
