@@ -1,4 +1,6 @@
 pub mod Histories
+pub mod Splits
+pub mod Once
 pub mod Replies
 pub mod Noted
 pub mod Weave

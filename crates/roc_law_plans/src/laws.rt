@@ -27,7 +27,7 @@ ghost use Rattle.roc_server.specs.declared.started.StartedGroup.{StartedGroup};
 ghost use Rattle.roc_coord.specs.declared.transaction.Transaction.{Transaction};
 ghost use Rattle.roc_coord.specs.State.{CoordState};
 ghost use Rattle.roc_audit.specs.declared.entry.Entry.TheVariants as entry;
-ghost use Rattle.roc_audit.specs.History.{WasSubmitted, WasAnswered};
+ghost use Rattle.roc_audit.specs.History.{WasSubmitted, WasAnswered, IsToldOnce};
 ghost use Rattle.roc_audit.specs.Witness.{submitted_calls, IsSerialWitness};
 ghost use Rattle.roc_protocol.specs.declared.event.Event.{Event};
 ghost use Rattle.roc_protocol.specs.declared.event.Event.TheVariants as event;
@@ -55,6 +55,7 @@ use roc_protocol::laws::{
     answered_worlds_rest as answered_worlds_rest_over_schemes,
     cells_are_in_their_place as cells_are_in_their_place_over_schemes,
     cells_are_serial as cells_are_serial_over_schemes,
+    ids_are_told_once as ids_are_told_once_over_schemes,
     left_out_is_earlier as left_out_is_earlier_over_schemes,
     lists_are_final as lists_are_final_over_schemes,
     nothing_is_refused as nothing_is_refused_over_schemes,
@@ -189,6 +190,15 @@ pub fn submissions_are_kept()
 {
     accepted_plans_have_schemes();
     submissions_are_kept_over_schemes();
+}
+
+/// Over every run of every accepted plan, of the submissions in the history no two have one id; and an id has at most one answer, which
+/// stands behind its submission.
+pub fn ids_are_told_once()
+    ensures { (plan : Plan) (coords : ℕ) (steps : List Stepped) (w : World) → IsAccepted plan → IsRun plan coords steps w → IsToldOnce w.history }
+{
+    accepted_plans_have_schemes();
+    ids_are_told_once_over_schemes();
 }
 
 /// Over every run of every accepted plan, who is answered is decided on every server where it has a group.

@@ -48,6 +48,7 @@ mod Undelivered
 mod Ongoing
 mod OngoingRuns
 mod Liveness
+mod Once
 mod Hears
 mod Takes
 mod Transactions

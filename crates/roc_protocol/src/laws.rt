@@ -30,7 +30,7 @@ ghost use Rattle.roc_protocol.specs.declared.event.Seen.TheVariants as seen;
 ghost use Rattle.roc_protocol.specs.Happens.{Outcome, Happens};
 ghost use Rattle.roc_plan.specs.Groups.{Plan, shard_of};
 ghost use Rattle.roc_audit.specs.declared.entry.Entry.TheVariants as entry;
-ghost use Rattle.roc_audit.specs.History.{WasSubmitted, WasAnswered};
+ghost use Rattle.roc_audit.specs.History.{WasSubmitted, WasAnswered, IsToldOnce};
 ghost use Rattle.roc_audit.specs.Witness.{submitted_calls, IsSerialWitness};
 ghost use Rattle.roc_rows.specs.declared.cell.Cell.{Cell};
 ghost use Rattle.roc_rows.specs.Store.{Store, read};
@@ -137,6 +137,13 @@ pub fn submissions_are_kept()
     ensures gone { (plan : Plan) (coords : ℕ) (steps : List Stepped) (w : World) → HasSchemes plan → IsRun plan coords steps w
         → (t : TxnId) (reply : List ℤ) → WasAnswered w.history t reply → (n : ℕ) (c : CoordState) → slice_get w.coords n ≡ Some c → (x : Transaction)
         → Has x c.pending → x.id ≢ t }
+{
+    machine_laws();
+}
+
+/// Of the submissions in the history no two have one id; and an id has at most one answer, which stands behind its submission.
+pub fn ids_are_told_once()
+    ensures { (plan : Plan) (coords : ℕ) (steps : List Stepped) (w : World) → HasSchemes plan → IsRun plan coords steps w → IsToldOnce w.history }
 {
     machine_laws();
 }

@@ -1,0 +1,7 @@
+use Rattle.roc_whole.specs.Serial.{start_store}
+use Rattle.roc_protocol.proofs.Once.{run_told}
+use Rattle.roc_protocol.proofs.laws.ids_are_told_once.Goals as goal
+
+pub returns : goal.returns
+returns c plan coords steps w schemes run =
+    run_told plan schemes (λ S sound. c.machine_laws.ensures.log S (start_store plan.program) sound) c.machine_laws.ensures.stores coords steps w run
