@@ -1,6 +1,7 @@
 pub mod Complete
 pub mod Exits
 pub mod Growing
+pub mod IgnoredLines
 pub mod NothingPlayed
 pub mod OneReport
 pub mod Playing

@@ -25,6 +25,7 @@ use Rattle.roc_coord.specs.State.{CoordState}
 use Rattle.roc_coord.specs.Step.{after_message}
 use Rattle.roc_audit.specs.declared.entry.Entry.{Entry}
 use Rattle.roc_audit.specs.declared.entry.Entry.TheVariants as entry
+use Rattle.roc_audit.specs.History.{IsToldOnce}
 use Rattle.roc_audit.specs.Witness.{submitted_calls, IsSerialWitness}
 use Rattle.roc_protocol.specs.declared.event.Event.{Event}
 use Rattle.roc_protocol.specs.declared.event.Event.TheVariants as event
@@ -38,16 +39,16 @@ use Rattle.roc_world.specs.Reads.{cells_of, unanswered_of}
 use Rattle.roc_report.specs.Line.{Deliver, Row, Pending}
 use Rattle.roc_replay.specs.Cells.{by_cell}
 use Rattle.roc_replay.specs.Report.{untaken_lines, first_lines, send_lines, answer_lines, step_lines, steps_lines, end_line, closing_lines, report}
-use Rattle.roc_replay.specs.Readback.{entries_in, history_in, orders_of, orders_in, pending_in, cells_in, IsExplained}
+use Rattle.roc_replay.specs.Readback.{entries_in, history_in, orders_of, orders_in, pending_in, cells_in, IgnoreOnlyStale, IsExplained}
 use Rattle.roc_replay.proofs.Growing.{run_lines}
 use Rattle.roc_replay.proofs.QuietLines.{shown_answered}
 
 -- what shows nothing in each place shows nothing
-none_in_map : {A B C : Type 0} (f : B → List C) (g : A → B) → ((a : A) → f (g a) ≡ []) → (xs : List A) → flat_map f (map g xs) ≡ []
+pub none_in_map : {A B C : Type 0} (f : B → List C) (g : A → B) → ((a : A) → f (g a) ≡ []) → (xs : List A) → flat_map f (map g xs) ≡ []
 none_in_map f g none [] = refl
 none_in_map f g none (x ∷ xs) = ap (λ (l : List _). l ++ flat_map f (map g xs)) (none x) ∙ none_in_map f g none xs
 
-none_in_both : {B C : Type 0} (f : B → List C) (xs ys : List B) → flat_map f xs ≡ [] → flat_map f ys ≡ [] → flat_map f (xs ++ ys) ≡ []
+pub none_in_both : {B C : Type 0} (f : B → List C) (xs ys : List B) → flat_map f xs ≡ [] → flat_map f ys ≡ [] → flat_map f (xs ++ ys) ≡ []
 none_in_both {B} {C} f xs ys e d = flat_map-append f xs ys ∙ ap (λ (l : List C). l ++ flat_map f ys) e ∙ d
 
 history_in-sends : (number : ℕ) (sent : List Envelope) → history_in (send_lines number sent) ≡ []
@@ -200,8 +201,9 @@ pub explained : (plan : Plan) (coords : ℕ) (steps : List Stepped) (w : World) 
     → ((t : TxnId) (proc : ℕ) (args : List ℤ) → Has (entry.Submitted t proc args) w.history → IsQuiet plan steps w t → (reply : List ℤ) × Has (entry.Answered t reply) w.history)
     → (pending_in (report steps w) ≡ [] → (x : Cell) (v : ℤ)
     → Has (x, v) (cells_in (report steps w)) ↔ ((v ≢ pos 0) × (read (serial_store plan.program (start_store plan.program) (submitted_calls w.history w.order)) x ≡ v)))
+    → IsToldOnce w.history → IgnoreOnlyStale (report steps w)
     → IsRun plan coords steps w → IsExplained plan.program (report steps w)
-explained plan coords steps w serial answers cells r = record {
+explained plan coords steps w serial answers cells told ignored r = record {
   order = w.order;
   shown = report_orders steps w;
   serial = subst (λ (h : List Entry). IsSerialWitness plan.program h w.order) (sym (report_history plan coords steps w r)) serial;
@@ -209,4 +211,6 @@ explained plan coords steps w serial answers cells r = record {
       subst (λ (h : List Entry). Has (x, v) (cells_in (report steps w)) ↔ ((v ≢ pos 0) × (read (serial_store plan.program (start_store plan.program) (submitted_calls h w.order)) x ≡ v)))
       (sym (report_history plan coords steps w r)) (cells none x v);
   answered = shown_answered plan coords steps w r (report_history plan coords steps w r) answers;
+  told = subst IsToldOnce (sym (report_history plan coords steps w r)) told;
+  ignored = ignored;
 }

@@ -1,9 +1,11 @@
 -- What a report's own lines tell: docs/FORMATS.md, "Report", and docs/PROTOCOL.md, "Serial witness"
-use Rattle.std.specs.Prelude.{◌≡◌, ◌≢◌, ◌↔◌, ℕ, ℤ, pos, List, [], ◌∷◌, Some}
+use Rattle.std.specs.Prelude.{◌≡◌, ◌≢◌, ◌↔◌, ℕ, ℤ, pos, List, [], ◌∷◌, ◌++◌, Some}
 use Rattle.std.specs.List.{flat_map}
 use Rattle.roc_sequence.specs.Lists.{Has}
 use Rattle.roc_base.specs.declared.id.TxnId.{TxnId}
 use Rattle.roc_base.specs.Edge.{Dependency}
+use Rattle.roc_msg.specs.declared.reason.Reason.{Reason}
+use Rattle.roc_msg.specs.declared.reason.Reason.TheVariants.{Stale}
 use Rattle.roc_depgraph.specs.Reach.{ReachesOrIs}
 use Rattle.roc_rows.specs.declared.cell.Cell.{Cell}
 use Rattle.roc_rows.specs.Store.{read}
@@ -11,8 +13,9 @@ use Rattle.roc_program.specs.Program.{Workload}
 use Rattle.roc_whole.specs.Serial.{serial_store, start_store}
 use Rattle.roc_audit.specs.declared.entry.Entry.{Entry}
 use Rattle.roc_audit.specs.declared.entry.Entry.TheVariants.{Submitted, Answered}
+use Rattle.roc_audit.specs.History.{IsToldOnce}
 use Rattle.roc_audit.specs.Witness.{submitted_calls, IsSerialWitness}
-use Rattle.roc_report.specs.Line.{Line, ShownMessage, id_shown, StartOk, Submit, Deliver, Send, Answer, Order, Row, Pending}
+use Rattle.roc_report.specs.Line.{Line, ShownMessage, id_shown, StartOk, Submit, Deliver, Ignored, Send, Answer, Order, Row, Pending}
 
 -- what a line tells of the history: a submission or an answer
 abbrev pub entries_in : Line → List Entry
@@ -67,11 +70,24 @@ pub record LooksQuiet (lines : List Line) (t : TxnId) : Type 0 where
       (number : ℕ) (message : ShownMessage) (u : TxnId) → Has (Send number message) lines → id_shown message ≡ Some u → ReachesOrIs (IsShownBefore lines) u t
       → Has (Deliver number) lines
 
+-- ---- ignored messages
+
+-- the last of the lines shows a delivery
+pub record EndInDelivery (lines : List Line) : Type 0 where
+  pub before : List Line
+  pub number : ℕ
+  pub is : lines ≡ before ++ Deliver number ∷ []
+
+-- each `ignored` line says that a message was stale, and stands directly behind a `deliver` line
+pub record IgnoreOnlyStale (lines : List Line) : Type 0 where
+  pub each : (front behind : List Line) (why : Reason) → lines ≡ front ++ Ignored why ∷ behind → (why ≡ Stale) × EndInDelivery front
+
 -- ---- what lines explain
 
 -- the lines explain themselves: they show one order, and it is a serial witness of the history that they show; and each submitted transaction
 -- whose messages, and those of its ancestors, they show as delivered has an answer; and where they show none as pending, the cells that they show
--- are those that are not 0, each with its number, where the order's transactions run whole, one after another
+-- are those that are not 0, each with its number, where the order's transactions run whole, one after another. No two submissions have one id, an
+-- id has at most one answer, behind its submission, and only stale messages are ignored
 pub record IsExplained (program : Workload) (lines : List Line) : Type 0 where
   pub order : List TxnId
   pub shown : orders_in lines ≡ order ∷ []
@@ -80,3 +96,5 @@ pub record IsExplained (program : Workload) (lines : List Line) : Type 0 where
       pending_in lines ≡ [] → (cell : Cell) (value : ℤ)
       → Has (cell, value) (cells_in lines) ↔ ((value ≢ pos 0) × (read (serial_store program (start_store program) (submitted_calls (history_in lines) order)) cell ≡ value))
   pub answered : (t : TxnId) (proc : ℕ) (args : List ℤ) → Has (Submit t proc args) lines → LooksQuiet lines t → (reply : List ℤ) × Has (Answer t reply) lines
+  pub told : IsToldOnce (history_in lines)
+  pub ignored : IgnoreOnlyStale lines

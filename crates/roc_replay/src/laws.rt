@@ -14,7 +14,8 @@ ghost use Rattle.roc_replay.specs.Report.{report};
 ghost use Rattle.roc_replay.specs.Readback.{IsExplained};
 
 use roc_law_plans::laws::{
-    accepted_plans_have_schemes, cells_are_serial, order_is_serial, quiet_is_answered,
+    accepted_plans_have_schemes, cells_are_serial, ids_are_told_once, nothing_is_refused,
+    order_is_serial, quiet_is_answered,
 };
 use roc_protocol::laws::{
     cells_are_in_their_place, events_have_outcomes, step_is_one, submissions_are_kept, worlds_fit,
@@ -25,7 +26,8 @@ use roc_sched::laws::{lines_are_unique, lines_fit, texts_are_right_or_wrong};
 /// The report of every run of an accepted plan explains itself: its one `order` line is a serial witness of the history
 /// that its own `submit` and `answer` lines show, and it shows an answer for each submitted transaction of which, and of
 /// whose ancestors, it shows every message as delivered. Where it has no `pending` line, its `row` lines are exactly the cells that are
-/// not 0 in that serial order, each with its number.
+/// not 0 in that serial order, each with its number. No two `submit` lines have one id, an id has at most one `answer` line, behind its
+/// `submit` line, and each `ignored` line says `stale`, directly behind a `deliver` line.
 pub fn report_explains_itself()
     ensures { (plan : Plan) (coords : ℕ) (steps : List Stepped) (w : World) → IsAccepted plan → IsRun plan coords steps w → IsExplained plan.program (report steps w) }
 {
@@ -36,6 +38,8 @@ pub fn report_explains_itself()
     cells_are_in_their_place();
     submissions_are_kept();
     entries_are_not_zero();
+    ids_are_told_once();
+    nothing_is_refused();
 }
 
 /// Lines that are played are a run of the world, so that what `roc_protocol` and `roc_law_plans` say of every run holds of it.

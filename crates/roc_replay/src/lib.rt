@@ -9,10 +9,11 @@
 //! The layers above may rely on this. If `replay` answers `Done`, the sink took the text of the report of the run of
 //! exactly that schedule, and the report explains itself: its one `order` line is a serial witness of the history that
 //! its own `submit` and `answer` lines show, each transaction that looks quiet has its answer, and if no line is
-//! `pending`, the `row` lines are the cells that the serial order leaves. Of any other end the layers above may rely on
-//! its cause, and on what the sink took: nothing, or the text of whole lines of the schedule, and if a write failed a
-//! front of the text that was due behind it. A schedule that delivers only what was sent is played whole if no failure
-//! is counted and memory suffices.
+//! `pending`, the `row` lines are the cells that the serial order leaves; each id is submitted once and answered at
+//! most once, and only stale messages are ignored. Of any other end the layers above may rely on its cause, and on what
+//! the sink took: nothing, or the text of whole lines of the schedule, and if a write failed a front of the text that
+//! was due behind it. A schedule that delivers only what was sent is played whole if no failure is counted and memory
+//! suffices.
 //!
 //! By [`laws`] the report of every run of an accepted plan explains itself, what is played is a run, schedules with the
 //! same lines have one report, and a schedule can be played exactly if it delivers only what was sent. `specs/Inner/`

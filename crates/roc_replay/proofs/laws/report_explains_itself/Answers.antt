@@ -5,6 +5,7 @@ use Rattle.roc_whole.specs.Serial.{serial_store, start_store}
 use Rattle.roc_audit.specs.Witness.{submitted_calls}
 use Rattle.roc_replay.proofs.ShownCells.{shown_cells, all_answered}
 use Rattle.roc_replay.proofs.Shows.{explained}
+use Rattle.roc_replay.proofs.IgnoredLines.{report_stale}
 use Rattle.roc_replay.proofs.laws.report_explains_itself.Goals as goal
 
 -- each place is some shard's
@@ -28,4 +29,6 @@ returns c plan coords steps w accepted run =
     (serial_store plan.program (start_store plan.program) (submitted_calls w.history w.order))
     (c.cells_are_serial.ensures plan coords steps w accepted run (all_answered steps w none (c.submissions_are_kept.ensures.submitted plan coords steps w schemes run)))
     steps)
+    (c.ids_are_told_once.ensures plan coords steps w accepted run)
+    (report_stale plan coords (λ before old reached. c.nothing_is_refused.ensures.coordinators plan coords before old accepted reached) steps w run)
     run
