@@ -48,7 +48,8 @@ of_pending plan s (StartOk id group shard bound outs edges facts) = go (find_tra
     go None = tt
     go (Some x) = refused (startok_refusal plan x (record { group = group; bound = bound; outs = outs; edges = edges; facts = facts }) shard)
       where
-        refused : (r : Option Reason) → OfPending s (unless_refused s r (startok_taken plan s (with_startok x (record { group = group; bound = bound; outs = outs; edges = edges; facts = facts })))).answer
+        refused : (r : Option Reason)
+            → OfPending s (unless_refused s r (startok_taken plan s (with_startok x (record { group = group; bound = bound; outs = outs; edges = edges; facts = facts })))).answer
         refused (Some why) = tt
         refused None = tt
 of_pending plan s (CommitOk id shard outs) = go (find_transaction id s.pending) refl

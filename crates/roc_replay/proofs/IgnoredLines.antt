@@ -87,7 +87,9 @@ first_stale plan w (Some (event.Tick node)) o stale h = quiet (first_lines (Some
 
 -- ---- a report
 
-module _ (plan : Plan) (coords : ℕ) (stale : (steps : List Stepped) (w : World) → IsRun plan coords steps w → (k : ℕ) (o : Outcome) (why : Reason) → Happens plan w (event.Deliver k) o → o.seen ≡ seen.Ignored why → why ≡ Stale) where
+module _ (plan : Plan) (coords : ℕ)
+    (stale : (steps : List Stepped) (w : World) → IsRun plan coords steps w
+    → (k : ℕ) (o : Outcome) (why : Reason) → Happens plan w (event.Deliver k) o → o.seen ≡ seen.Ignored why → why ≡ Stale) where
   run_stale : (steps : List Stepped) (w : World) → IsRun plan coords steps w → IgnoreOnlyStale (steps_lines [] steps)
   run_stale steps w begun = quiet [] refl
   run_stale steps w (goes_on {steps = before} {w = old} e o r h) =
