@@ -3,19 +3,19 @@ use Rattle.std.proofs.Common.{◌≡◌, ℕ, ◌-◌, arith, Bool, true, false,
 use Rattle.std.proofs.lemmas.List.Elements.{filter-append, filter_map-append}
 use Rattle.std.proofs.lemmas.List.{length-append}
 use Rattle.std.proofs.Math.Seq.{take-append_seam}
-use Rattle.std.specs.Prelude.{take, filter, nat_lt, option_map, if◌then◌else◌}
+use Rattle.std.specs.Prelude.{take, filter, option_map, if◌then◌else◌}
 use Rattle.std.specs.List.{cons_option}
 use Rattle.roc_msg.specs.declared.outbox.Outgoing.{Outgoing}
 use Rattle.roc_plan.specs.Groups.{Plan}
 use Rattle.roc_program.specs.LookUps.{procedure_named}
 use Rattle.roc_sched.specs.declared.line.Request.{Request}
 use Rattle.roc_coord.specs.State.{CoordState}
-use Rattle.roc_coord.specs.Submit.{after_submit, most_pending}
+use Rattle.roc_coord.specs.Submit.{after_submit}
 use Rattle.roc_node.specs.Judgement.{judged}
 use Rattle.roc_node.specs.declared.judging.Judged.{Judged}
 use Rattle.roc_node.specs.declared.judging.Judged.TheVariants.{Delivery, Skipped}
 use Rattle.roc_node.specs.NodeEvent.{NodeEvent, took, silent, NodeSetting}
-use Rattle.roc_node_submit.specs.CoordRun.{CoordNodeState, Submissions, submitted, submitted_call, submitted_all, none_submitted, submissions_of, coord_submitted, first_coord_node_state, step_of_judged, step_of_event, coord_turn, IsCoordRun, begun, goes_on}
+use Rattle.roc_node_submit.specs.CoordRun.{CoordNodeState, Submissions, accepts, submitted, submitted_call, submitted_all, none_submitted, submissions_of, coord_submitted, first_coord_node_state, step_of_judged, step_of_event, coord_turn, IsCoordRun, begun, goes_on}
 use Rattle.roc_law_nodes.specs.Own.{OwnEvent, delivered, ticked, requested}
 use Rattle.roc_law_nodes.specs.Fold.{IsCoordFold, coord_begun, coord_goes_on}
 use Rattle.roc_law_nodes.specs.Turns.{judged_brings, turn_brings, is_request, own_request, own_requests, next_requests, coord_owns, AreBrought}
@@ -68,7 +68,7 @@ module _ (plan : Plan) (number : ℕ) (before : List Outgoing) where
   unfolding submitted_all
   made [] own s fold = record { taken = []; all = refl; stands = coord_as plan fold (append-nil own) refl refl }
   made (request ∷ rest) own s fold =
-      go (nat_lt (length s.state.pending) most_pending)
+      go (accepts plan s.state request)
       (made rest (own ++ cons_option (own_request plan request) []) (submitted plan s request) (call_stands own s request fold (procedure_named plan.program request.name)))
     where
       go : (b : Bool) → Made (own ++ cons_option (own_request plan request) []) rest (submitted_all plan (submitted plan s request) rest)

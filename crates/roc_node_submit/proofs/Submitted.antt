@@ -16,6 +16,7 @@ use Rattle.roc_node_submit.specs.CoordRun.{CoordNodeState, is_answered, step_of_
 use Rattle.roc_node_submit.specs.SubmitEnd.{TurnsCall, Submits, cut_off, wanted, untold_submissions, untold_reply, untold_end, over}
 use Rattle.roc_node_submit.specs.Inner.CoordTurn.{coord_node_state_of, HalfSubmits, HalfTakes, CoordRanSo, ClosesSubmit}
 use Rattle.roc_node_submit.proofs.Coords.{Halved, halved}
+use Rattle.roc_node_submit.proofs.Runs.{each_answered}
 use Rattle.roc_node.proofs.Arrivals.{receptions-append, lost_last}
 
 abbrev pub call_of : LinkView → LinkView → Option (List ℕ) → Option (List ℕ) → TurnsCall
@@ -86,8 +87,8 @@ submit_over e S number requests turns count coord_node a b out0 out1 out2 le r e
     whole not = r.counted ∙ last ends not
 
     go : (e : SubmitEnd) → ClosesSubmit e (coord_node_state_of coord_node requests [] [] []) out1 out2 → Submits S number requests turns (call_of a b out0 out2) e
-    go end.Done c = over r.events (coord_node_state_of coord_node requests r.messages r.sends r.lines) end.Done (sym (ap (λ t. cond t end.Done end.Unanswered) c.0)) r.run few whole r.moves (Adds-trans out0 out1 out2 _ _ r.told c.1)
-    go end.Unanswered c = over r.events (coord_node_state_of coord_node requests r.messages r.sends r.lines) end.Unanswered (sym (ap (λ t. cond t end.Done end.Unanswered) c.0)) r.run few whole r.moves (Adds-trans out0 out1 out2 _ _ r.told c.1)
+    go end.Done c = over r.events (coord_node_state_of coord_node requests r.messages r.sends r.lines) end.Done (sym (ap (λ t. cond t end.Done end.Unanswered) c.0)) r.run few whole (λ done. each_answered S number requests r.events _ r.run c.0) r.moves (Adds-trans out0 out1 out2 _ _ r.told c.1)
+    go end.Unanswered c = over r.events (coord_node_state_of coord_node requests r.messages r.sends r.lines) end.Unanswered (sym (ap (λ t. cond t end.Done end.Unanswered) c.0)) r.run few whole (λ done. absurd (cc)) r.moves (Adds-trans out0 out1 out2 _ _ r.told c.1)
     go end.SinkFault c = untold_end r.events (coord_node_state_of coord_node requests r.messages r.sends r.lines) r.run few whole r.moves (AddsThenFront-behind out0 out1 out2 _ _ r.told c)
     go end.NoMemory c =
         wanted r.events (coord_node_state_of coord_node requests r.messages r.sends r.lines) false [] r.run (omega arith) (omega (arith, few))

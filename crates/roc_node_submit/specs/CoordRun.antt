@@ -1,5 +1,6 @@
 -- The run of a coordinator's node, which submits requests: docs/PROTOCOL.md, "Running nodes"
-use Rattle.std.specs.Prelude.{◌≡◌, ℕ, ℤ, Bool, false, nat_lt, ◌==◌, ◌&&◌, List, [], ◌∷◌, ◌++◌, length, Option, Some, None, Result, Ok, Err, if◌then◌else◌}
+use Rattle.std.specs.Prelude.{◌≡◌, ℕ, ℤ, Bool, false, ◌==◌, ◌&&◌, List, [], ◌∷◌, ◌++◌, length, Option, Some, None, Result, Ok, Err, if◌then◌else◌}
+use Rattle.std.specs.Result.{is_ok}
 use Rattle.roc_base.specs.declared.id.TxnId.{TxnId}
 use Rattle.roc_io.specs.Cause.{one_more}
 use Rattle.roc_io.specs.Packet.{Packet}
@@ -13,7 +14,7 @@ use Rattle.roc_coord.specs.declared.handled.Handled.TheVariants.{Done, Answered,
 use Rattle.roc_coord.specs.declared.handled.SubmitFault.{SubmitFault}
 use Rattle.roc_coord.specs.State.{CoordState, CoordStep, first_coord}
 use Rattle.roc_coord.specs.Step.{after_message}
-use Rattle.roc_coord.specs.Submit.{Submission, after_submit, most_pending}
+use Rattle.roc_coord.specs.Submit.{Submission, after_submit}
 use Rattle.roc_coord.specs.Tick.{tick_sends}
 use Rattle.roc_node.specs.Judgement.{judged}
 use Rattle.roc_node.specs.declared.judging.Judged.{Judged}
@@ -67,10 +68,19 @@ submitted_call plan s args (Some proc) = with_submission s proc args (after_subm
 abbrev pub submitted : Plan → Submissions → Request → Submissions
 submitted plan s request = submitted_call plan s request.args (procedure_named plan.program request.name)
 
--- requests, one after another, while fewer than sixteen are unanswered
+-- the coordinator accepts the call of the procedure that a request names, and gives it an id; a name of none it cannot accept
+abbrev pub accepts_call : Plan → CoordState → List ℤ → Option ℕ → Bool
+accepts_call plan s args None = false
+accepts_call plan s args (Some proc) = is_ok (after_submit plan s proc args).answer
+
+abbrev pub accepts : Plan → CoordState → Request → Bool
+accepts plan s request = accepts_call plan s request.args (procedure_named plan.program request.name)
+
+-- Requests, one after another, until the coordinator refuses one, as it does while sixteen are unanswered. That one is left, with all behind it:
+-- so none is passed over
 unfoldable pub submitted_all : Plan → Submissions → List Request → Submissions
 submitted_all plan s [] = record s { left = [] }
-submitted_all plan s (request ∷ rest) = if nat_lt (length s.state.pending) most_pending then submitted_all plan (submitted plan s request) rest else record s { left = request ∷ rest }
+submitted_all plan s (request ∷ rest) = if accepts plan s.state request then submitted_all plan (submitted plan s request) rest else record s { left = request ∷ rest }
 
 -- none of the requests was submitted
 abbrev pub none_submitted : CoordState → Submissions

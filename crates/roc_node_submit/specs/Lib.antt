@@ -1,3 +1,4 @@
 pub mod CoordRun
+pub mod EachAnswered
 pub mod SubmitEnd
 pub mod Inner

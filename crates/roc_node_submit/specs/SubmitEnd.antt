@@ -16,6 +16,7 @@ use Rattle.roc_node.specs.declared.lines.NodeLine.TheVariants.{Unanswered as Una
 use Rattle.roc_node.specs.NodeEvent.{NodeEvent, receptions, NodeSetting}
 use Rattle.roc_node.specs.NodeLine.{node_lines_text}
 use Rattle.roc_node_submit.specs.CoordRun.{CoordNodeState, IsCoordRun, is_answered, submissions_of, coord_submitted, step_of_event, reply_lines}
+use Rattle.roc_node_submit.specs.EachAnswered.{AreEachAnswered}
 
 abbrev pub submit_link_failed : SubmitEnd → Bool
 submit_link_failed LinkFault = true
@@ -91,9 +92,9 @@ pub data Submits (S : NodeSetting) (number : ℕ) (requests : List Request) (tur
       → Moves call.old call.new (receptions events) node.sends
       → AddsThenFront call.out.old call.out.new (written_text S.plan.program node) (closing_text node)
       → Submits S number requests turns call SinkFault
-  -- all were answered, or all turns were taken, and all lines were written
+  -- all were answered, and so each request has its id and its answer, or all turns were taken; and all lines were written
   over : (events : List NodeEvent) (node : CoordNodeState) (end : SubmitEnd) → end ≡ end_of node → IsCoordRun S number requests events node → length events ≤ turns
-      → AreRequestsOver turns events node
+      → AreRequestsOver turns events node → (end ≡ Done → AreEachAnswered S.plan.program number requests node)
       → Moves call.old call.new (receptions events) node.sends
       → Adds call.out.old call.out.new (written_text S.plan.program node ++ closing_text node)
       → Submits S number requests turns call end

@@ -22,9 +22,6 @@ use roc_report::{ReportLine, append};
 use roc_sched::Request;
 use std::alloc::Global;
 
-/// How many of a coordinator's transactions may be unanswered at a time.
-const MOST_PENDING: usize = 16;
-
 /// A coordinator with what its node keeps besides: how many requests it has submitted, and how many were answered.
 #[derive(Drop)]
 pub struct CoordNode {
@@ -40,7 +37,7 @@ pub struct TurnOutput {
     pub sends: Vec<Datagram>,
 }
 
-// Submits a request. One that names no procedure asks for nothing.
+// Submits a request, and answers whether the coordinator accepts it.
 fn submit_one(
     alloc: Global,
     plan: &Plan,
@@ -48,14 +45,14 @@ fn submit_one(
     request: &Request,
     outbox: &mut Outbox,
     text: &mut Vec<u8>,
-) -> Result<(), NoMemory>
+) -> Result<bool, NoMemory>
     requires { CoordFits plan.now coord.old }
-    ensures submits { OnOk result (SubmitsOne plan.now request.now coord.old coord.new outbox.old.messages outbox.new.messages text.old.items text.new.items) }
+    ensures submits { IfOk result (λ accepted. SubmitsOne accepted plan.now request.now coord.old coord.new outbox.old.messages outbox.new.messages text.old.items text.new.items) }
     ensures fits { CoordFits plan.now coord.new }
 {
     let proc = match plan.procedure_named(request.name.as_bytes()) {
         Some(proc) => proc,
-        None => return Ok(()),
+        None => return Ok(false),
     };
     match coord.submit(plan, proc, request.args.as_slice(), outbox) {
         Ok(id) => {
@@ -65,17 +62,17 @@ fn submit_one(
                 args: &request.args,
             };
             append(alloc, text, plan.workload(), &line)?;
-            Ok(())
+            Ok(true)
         }
         Err(SubmitFault::NoMemory) => Err(NoMemory),
-        Err(SubmitFault::NoProc) => Ok(()),
-        Err(SubmitFault::Args) => Ok(()),
-        Err(SubmitFault::Spent) => Ok(()),
-        Err(SubmitFault::Busy) => Ok(()),
+        Err(SubmitFault::NoProc) => Ok(false),
+        Err(SubmitFault::Args) => Ok(false),
+        Err(SubmitFault::Spent) => Ok(false),
+        Err(SubmitFault::Busy) => Ok(false),
     }
 }
 
-// The requests that are submitted before a turn, one after another, while fewer than sixteen are unanswered.
+// The requests that are submitted before a turn, one after another, until the coordinator refuses one.
 fn submit_some(
     alloc: Global,
     plan: &Plan,
@@ -91,16 +88,15 @@ fn submit_some(
     ensures next { coord_node.new.next ≤ length requests.now }
 {
     for request in &requests[coord_node.next..] {
-        if coord_node.coord.unanswered().len() >= MOST_PENDING {
+        if !submit_one(alloc, plan, &mut coord_node.coord, request, outbox, text)? {
             return Ok(());
         }
-        submit_one(alloc, plan, &mut coord_node.coord, request, outbox, text)?;
         coord_node.next += 1;
     }
     Ok(())
 }
 
-/// The submissions before a turn, one after another, while fewer than sixteen are unanswered.
+/// The submissions before a turn, one after another, until the coordinator refuses one, as it does while sixteen are unanswered.
 pub fn make_submissions(
     alloc: Global,
     setting: Setting<'_>,

@@ -4,7 +4,8 @@
 //! [`submit_all`] binds any free port and runs it, to the end that [`SubmitEnd`] tells; [`submit_turns`] is what it
 //! does over a link that is bound. Their contracts cite `specs/SubmitEnd.antt`, which says for each end what the link
 //! took and gave and what the sink took. It rests on the node's run: a fold of one event after another, a datagram that
-//! came or silence (`specs/CoordRun.antt`), whose steps are those of the core. The layers above may rely on these
+//! came or silence (`specs/CoordRun.antt`), whose steps are those of the core. No request is lost: one that the core refuses is left, and at
+//! the end `Done` each has its id and its answer (`specs/EachAnswered.antt`). The layers above may rely on these
 //! definitions; of faults, of what the link took and of what is told, the same holds as of `serve` of `roc_node_serve`.
 //! `specs/Inner/` is of this crate alone.
 #![tactic(auto)]

@@ -24,7 +24,8 @@ use roc_wire::Header;
 use std::alloc::Global;
 
 /// What submitting does over a link that is bound: before each turn it submits requests, in order, while any is left and fewer than sixteen are
-/// unanswered; it ends when all are answered, or after so many turns, and writes who is unanswered and the counts.
+/// unanswered; it ends when all are answered, or after so many turns, and writes who is unanswered and the counts. A request that the coordinator
+/// refuses is left, with all behind it, so that the end is not `Done`.
 ///
 /// A turn is one receive. What is due in a turn is written first and then sent.
 pub fn submit_turns<L: Link, S: Sink>(

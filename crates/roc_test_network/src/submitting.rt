@@ -63,7 +63,7 @@ const ANSWERS: [Packet; 3] = [
     (FIRST_SHARD, COMMITOK),
 ];
 
-const RUNS: [Case; 4] = [
+const RUNS: [Case; 5] = [
     Case {
         requests: b"add 5\n",
         arrivals: &[],
@@ -112,6 +112,23 @@ end 0 answered 1 unanswered 0 unsubmitted
             lines: b"submit 0.0 add 5
 answer 0.0 0
 end 1 answered 0 unanswered 0 unsubmitted
+",
+        },
+    },
+    // The second request has an argument too many.
+    Case {
+        requests: b"add 5\nadd 5 6\nadd 7\n",
+        arrivals: &ANSWERS,
+        failing: Failing::Nothing,
+        turns: 3,
+        end: SubmitEnd::Unanswered,
+        seen: Seen {
+            name: "refused request",
+            bound: &[ANY],
+            sent: &[(FIRST_SHARD, START), (FIRST_SHARD, COMMIT)],
+            lines: b"submit 0.0 add 5
+answer 0.0 0
+end 1 answered 0 unanswered 2 unsubmitted
 ",
         },
     },

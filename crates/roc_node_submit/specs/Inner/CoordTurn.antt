@@ -1,5 +1,5 @@
 -- One turn of a coordinator's node, and several
-use Rattle.std.specs.Prelude.{◌≡◌, ℕ, ◌≤◌, Bool, true, false, List, [], ◌∷◌, ◌++◌, drop, length, Option, option_map, Result, Ok, Err}
+use Rattle.std.specs.Prelude.{◌≡◌, ℕ, Bool, true, false, List, [], ◌∷◌, ◌++◌, drop, length, Option, Result, Ok, Err}
 use Rattle.roc_io.specs.Link.{vain}
 use Rattle.roc_io.specs.Packet.{Packet}
 use Rattle.roc_io.specs.Observed.{Adds, AddsFront}
@@ -19,7 +19,7 @@ use Rattle.roc_node_submit.specs.declared.coord_node.TurnOutput.{TurnOutput}
 use Rattle.roc_node_submit.specs.declared.ends.SubmitEnd.{SubmitEnd}
 use Rattle.roc_node_submit.specs.declared.ends.SubmitEnd.TheVariants.{Done, Unanswered, LinkFault, SinkFault, NoMemory}
 use Rattle.roc_node.specs.NodeEvent.{NodeEvent, receptions, NodeSetting}
-use Rattle.roc_node_submit.specs.CoordRun.{CoordNodeState, none_submitted, IsCoordRun, submitted, submitted_all, step_of_event, reply_lines, answered_then, is_answered}
+use Rattle.roc_node_submit.specs.CoordRun.{CoordNodeState, none_submitted, IsCoordRun, accepts, submitted, submitted_all, step_of_event, reply_lines, answered_then, is_answered}
 use Rattle.roc_node_submit.specs.SubmitEnd.{submit_link_failed, submit_sink_failed, closing_text}
 use Rattle.roc_node.specs.Losing.{LosesOne}
 
@@ -28,13 +28,25 @@ abbrev pub coord_node_state_of : CoordNode → List Request → List Outgoing �
 coord_node_state_of coord_node requests messages sends lines =
     record { state = coord_node.coord; left = drop coord_node.next requests; messages = messages; sends = sends; lines = lines; answered = coord_node.answered }
 
--- a request was submitted: an outbox gained what is sent, and a text what is written
-pub record SubmitsOne (plan : Plan) (request : Request) (old new : CoordState) (out_old out_new : List Outgoing) (text_old text_new : List ℕ) : Type 0 where
+-- a request was accepted: an outbox gained what is sent, and a text what is written
+pub record SubmitsAccepted (plan : Plan) (request : Request) (old new : CoordState) (out_old out_new : List Outgoing) (text_old text_new : List ℕ) : Type 0 where
   pub sends : List Outgoing
   pub lines : List Line
+  pub accepted : accepts plan old request ≡ true
   pub is : submitted plan (none_submitted old) request ≡ record { state = new; left = []; messages = sends; lines = lines }
   pub outbox : out_new ≡ out_old ++ sends
   pub text : text_new ≡ text_old ++ lines_text plan.program lines
+
+-- a request was refused, which changes nothing
+pub record RefusesOne (plan : Plan) (request : Request) (old new : CoordState) (out_old out_new : List Outgoing) (text_old text_new : List ℕ) : Type 0 where
+  pub refused : accepts plan old request ≡ false
+  pub state : new ≡ old
+  pub outbox : out_new ≡ out_old
+  pub text : text_new ≡ text_old
+
+abbrev pub SubmitsOne : (accepted : Bool) → Plan → Request → (old new : CoordState) → (out_old out_new : List Outgoing) → (text_old text_new : List ℕ) → Type 0
+SubmitsOne true plan request old new out_old out_new text_old text_new = SubmitsAccepted plan request old new out_old out_new text_old text_new
+SubmitsOne false plan request old new out_old out_new text_old text_new = RefusesOne plan request old new out_old out_new text_old text_new
 
 -- The submissions before a turn: an outbox gained what is sent, and a text what is written
 pub record SubmitsSome (plan : Plan) (requests : List Request) (old new : CoordNode) (out_old out_new : List Outgoing) (text_old text_new : List ℕ) : Type 0 where

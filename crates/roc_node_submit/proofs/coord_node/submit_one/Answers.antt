@@ -1,10 +1,10 @@
--- No name, no call: nothing is submitted. A call's step tells what it submits; one that is refused shows nothing. All leave a coordinator that fits.
+-- No name, no call. A call's step tells what it submits; one that is refused changes nothing. All leave a coordinator that fits.
 use Rattle.std.proofs.Common.{rules}
-use Rattle.roc_node_submit.proofs.CoordNodes.{submits_none, submits_call, submits_refused}
+use Rattle.roc_node_submit.proofs.CoordNodes.{refuses_nameless, submits_call, refuses}
 use Rattle.roc_node_submit.proofs.coord_node.submit_one.Goals as goal
 
 pub returns-in-None-clause-submits : goal.returns-in-None-clause-submits
-returns-in-None-clause-submits c = submits_none _ _ _ _ _ c.as_bytes.result.now c.as_bytes.ensures c.in-None.ensures
+returns-in-None-clause-submits c = refuses_nameless _ _ _ _ _ c.as_bytes.result.now c.as_bytes.ensures c.in-None.ensures
 
 pub returns-in_ok-append-in-Ok-clause-submits : goal.returns-in_ok-append-in-Ok-clause-submits
 returns-in_ok-append-in-Ok-clause-submits c =
@@ -24,24 +24,24 @@ returns-in-Err-NoMemory c = record { submits = tt; fits = c.submit.ensures.fits 
 
 pub returns-in-Err-NoProc : goal.returns-in-Err-NoProc
 returns-in-Err-NoProc c = record {
-  submits = submits_refused _ c.args.request.now c.in-Some.proc c.in-Err-NoProc.field-0 _ _ _ c.args.outbox.now c.submit.new.outbox _ c.as_bytes.result.now c.as_slice.result.now c.as_bytes.ensures c.in-Some.ensures c.as_slice.ensures c.in-Err-NoProc.field-0-is c.in-Err-NoProc.ensures.step (λ h. h);
+  submits = refuses _ c.args.request.now c.in-Some.proc c.in-Err-NoProc.field-0 _ _ _ c.args.outbox.now c.submit.new.outbox _ c.as_bytes.result.now c.as_slice.result.now c.as_bytes.ensures c.in-Some.ensures c.as_slice.ensures c.in-Err-NoProc.field-0-is c.in-Err-NoProc.ensures.step (λ h. h);
   fits = c.submit.ensures.fits;
 }
 
 pub returns-in-Err-Args : goal.returns-in-Err-Args
 returns-in-Err-Args c = record {
-  submits = submits_refused _ c.args.request.now c.in-Some.proc c.in-Err-Args.field-0 _ _ _ c.args.outbox.now c.submit.new.outbox _ c.as_bytes.result.now c.as_slice.result.now c.as_bytes.ensures c.in-Some.ensures c.as_slice.ensures c.in-Err-Args.field-0-is c.in-Err-Args.ensures.step (λ h. h);
+  submits = refuses _ c.args.request.now c.in-Some.proc c.in-Err-Args.field-0 _ _ _ c.args.outbox.now c.submit.new.outbox _ c.as_bytes.result.now c.as_slice.result.now c.as_bytes.ensures c.in-Some.ensures c.as_slice.ensures c.in-Err-Args.field-0-is c.in-Err-Args.ensures.step (λ h. h);
   fits = c.submit.ensures.fits;
 }
 
 pub returns-in-Err-Spent : goal.returns-in-Err-Spent
 returns-in-Err-Spent c = record {
-  submits = submits_refused _ c.args.request.now c.in-Some.proc c.in-Err-Spent.field-0 _ _ _ c.args.outbox.now c.submit.new.outbox _ c.as_bytes.result.now c.as_slice.result.now c.as_bytes.ensures c.in-Some.ensures c.as_slice.ensures c.in-Err-Spent.field-0-is c.in-Err-Spent.ensures.step (λ h. h);
+  submits = refuses _ c.args.request.now c.in-Some.proc c.in-Err-Spent.field-0 _ _ _ c.args.outbox.now c.submit.new.outbox _ c.as_bytes.result.now c.as_slice.result.now c.as_bytes.ensures c.in-Some.ensures c.as_slice.ensures c.in-Err-Spent.field-0-is c.in-Err-Spent.ensures.step (λ h. h);
   fits = c.submit.ensures.fits;
 }
 
 pub returns-in-Err-Busy : goal.returns-in-Err-Busy
 returns-in-Err-Busy c = record {
-  submits = submits_refused _ c.args.request.now c.in-Some.proc c.in-Err-Busy.field-0 _ _ _ c.args.outbox.now c.submit.new.outbox _ c.as_bytes.result.now c.as_slice.result.now c.as_bytes.ensures c.in-Some.ensures c.as_slice.ensures c.in-Err-Busy.field-0-is c.in-Err-Busy.ensures.step (λ h. h);
+  submits = refuses _ c.args.request.now c.in-Some.proc c.in-Err-Busy.field-0 _ _ _ c.args.outbox.now c.submit.new.outbox _ c.as_bytes.result.now c.as_slice.result.now c.as_bytes.ensures c.in-Some.ensures c.as_slice.ensures c.in-Err-Busy.field-0-is c.in-Err-Busy.ensures.step (λ h. h);
   fits = c.submit.ensures.fits;
 }

@@ -1,0 +1,200 @@
+-- A run keeps each id that it gives until the id is answered, and at its end each was
+use Rattle.std.proofs.Common.{◌≡◌, ℕ, ◌+◌, ◌<◌, ℤ, Bool, true, false, not, ◌&&◌, ◌==◌, nat_lt, nat_le, List, [], ◌∷◌, ◌++◌, length, Option, Some, None, refl, sym, ◌∙◌, ap, subst, append-nil, append_assoc, arith}
+use Rattle.std.proofs.lemmas.Bool.{false≢true, leb-false, lt-ltb, eq-eqb, eqb-true, and_parts}
+use Rattle.std.proofs.lemmas.Bool.Decides.{nat_tests}
+use Rattle.std.specs.Prelude.{filter, if◌then◌else◌}
+use Rattle.std.specs.Result.{is_ok}
+use Rattle.roc_sequence.proofs.Found.{found_has}
+use Rattle.roc_sequence.proofs.Members.{has_map}
+use Rattle.roc_base.specs.declared.id.TxnId.{TxnId}
+use Rattle.roc_base.specs.TxnId.{is_txn}
+use Rattle.roc_base.specs.declared.node.Shard.{Shard}
+use Rattle.roc_program.specs.LookUps.{procedure_named}
+use Rattle.roc_plan.specs.Groups.{Plan, procedure_of, is_transaction}
+use Rattle.roc_report.specs.Line.{Line, Submit}
+use Rattle.roc_sched.specs.declared.line.Request.{Request}
+use Rattle.roc_msg.specs.declared.msg.Msg.{Msg}
+use Rattle.roc_msg.specs.declared.msg.Msg.TheVariants.{StartOk, CommitOk}
+use Rattle.roc_msg.specs.declared.reason.Reason.{Reason}
+use Rattle.roc_coord.specs.declared.transaction.Transaction.{Transaction}
+use Rattle.roc_coord.specs.declared.transaction.TakenStart.{TakenStart}
+use Rattle.roc_coord.specs.declared.transaction.TakenCommit.{TakenCommit}
+use Rattle.roc_coord.specs.declared.handled.SubmitFault.{SubmitFault}
+use Rattle.roc_coord.specs.declared.handled.SubmitFault.TheVariants.{NoProc, Args, Spent, Busy}
+use Rattle.roc_coord.specs.Ids.{ids_of}
+use Rattle.roc_coord.specs.Starts.{with_starts}
+use Rattle.roc_coord.specs.State.{CoordState, CoordStep, find_transaction, with_transaction}
+use Rattle.roc_coord.specs.Step.{after_message, after_startok, after_commitok, unless_refused, startok_taken, startok_refusal, with_startok, with_commits, commitok_taken, commitok_refusal, with_commitok, reply_now}
+use Rattle.roc_coord.specs.Submit.{new_transaction, next_id, most_transactions, most_pending, refusal_of, refused_or_accepted}
+use Rattle.roc_node.specs.Judgement.{judged}
+use Rattle.roc_node.specs.declared.judging.Judged.{Judged}
+use Rattle.roc_node.specs.declared.judging.Judged.TheVariants.{Delivery, Skipped}
+use Rattle.roc_node.specs.NodeEvent.{NodeEvent, took, silent, NodeSetting}
+use Rattle.roc_node_submit.specs.CoordRun.{CoordNodeState, Submissions, accepts, accepts_call, with_submission, submitted, submitted_call, submitted_all, submissions_of, none_submitted, coord_submitted, step_of_judged, reply_lines, answered_then, coord_turn, IsCoordRun, begun, goes_on, is_answered}
+use Rattle.roc_node_submit.specs.EachAnswered.{is_submission, is_answer_to, AreGivenIds, AreEachAnswered, none_given}
+use Rattle.roc_node_submit.proofs.Counts.{one_if, waiting, waits, ids_with}
+use Rattle.roc_node_submit.proofs.Keeping.{Kept, kept_same, kept_given, kept_answered, times_given}
+
+-- a submission that is not refused has a sequence number left
+unspent : (plan : Plan) (s : CoordState) (proc : ℕ) (args : List ℤ) → refusal_of plan s proc args ≡ None → s.next < most_transactions
+unspent plan s proc args e = leb-false most_transactions s.next (go (not (is_transaction plan proc)) (not (length args == (procedure_of plan proc).arguments)) (nat_le most_transactions s.next) (nat_le most_pending (length s.pending)) e)
+  where
+    go : (a b c d : Bool) → (if a then Some NoProc else if b then Some Args else if c then Some Spent else if d then Some Busy else None) ≡ None → c ≡ false
+    go true b c d e = absurd (cc)
+    go false true c d e = absurd (cc)
+    go false false true d e = absurd (cc)
+    go false false false d e = refl
+
+module _ (plan : Plan) (number : ℕ) (before : List Line) (answered : ℕ) where
+  abbrev KeptBehind : List Request → Submissions → Type 0
+  KeptBehind taken s = Kept plan.program number taken s.state (before ++ s.lines) answered
+
+  kept_request : (taken : List Request) (s : Submissions) (request : Request) → KeptBehind taken s → (proc : Option ℕ) → procedure_named plan.program request.name ≡ proc
+      → accepts_call plan s.state request.args proc ≡ true → KeptBehind (taken ++ request ∷ []) (submitted_call plan s request.args proc)
+  kept_request taken s request k None named e = absurd (false≢true e)
+  kept_request taken s request k (Some proc) named e = go (refusal_of plan s.state proc request.args) refl e
+    where
+      go : (why : Option SubmitFault) → refusal_of plan s.state proc request.args ≡ why → is_ok (refused_or_accepted plan s.state proc request.args why).answer ≡ true
+          → KeptBehind (taken ++ request ∷ []) (with_submission s proc request.args (refused_or_accepted plan s.state proc request.args why))
+      go (Some fault) is e = absurd (false≢true e)
+      go None is e =
+          let x = with_starts plan (new_transaction s.state proc request.args) in
+          subst (λ l. Kept plan.program number (taken ++ request ∷ []) (record s.state { next = s.state.next + 1; pending = s.state.pending ++ x ∷ [] }) l answered)
+          (append_assoc before s.lines (Submit (next_id s.state) proc request.args ∷ []))
+          (kept_given plan.program number taken s.state (before ++ s.lines) answered request proc x refl named (unspent plan s.state proc request.args is) k)
+
+  -- more of the requests were given ids, and these are left
+  record KeptMore (taken requests : List Request) (after : Submissions) : Type 0 where
+    pub more : List Request
+    pub parts : requests ≡ more ++ after.left
+    pub kept : KeptBehind (taken ++ more) after
+
+  kept_all : (requests taken : List Request) (s : Submissions) → KeptBehind taken s → KeptMore taken requests (submitted_all plan s requests)
+  unfolding submitted_all
+  kept_all [] taken s k = record { more = []; parts = refl; kept = subst (λ l. KeptBehind l s) (sym (append-nil taken)) k }
+  kept_all (request ∷ rest) taken s k =
+      go (accepts plan s.state request) (λ e. kept_all rest (taken ++ request ∷ []) (submitted plan s request) (kept_request taken s request k (procedure_named plan.program request.name) refl e)) refl
+    where
+      go : (b : Bool) → (accepts plan s.state request ≡ true → KeptMore (taken ++ request ∷ []) rest (submitted_all plan (submitted plan s request) rest)) → accepts plan s.state request ≡ b
+          → KeptMore taken (request ∷ rest) (if b then submitted_all plan (submitted plan s request) rest else record s { left = request ∷ rest })
+      go true then_rest e =
+          let m = then_rest e in record {
+            more = request ∷ m.more;
+            parts = ap (λ (l : List Request). request ∷ l) m.parts;
+            kept = subst (λ l. KeptBehind l (submitted_all plan (submitted plan s request) rest)) (append_assoc taken (request ∷ []) m.more) m.kept;
+          }
+      go false then_rest e = record { more = []; parts = refl; kept = subst (λ l. KeptBehind l s) (sym (append-nil taken)) k }
+
+-- ---- events
+
+module _ (plan : Plan) (number : ℕ) (taken : List Request) (state : CoordState) (lines : List Line) (answered : ℕ) (k : Kept plan.program number taken state lines answered) where
+  abbrev KeptStep : CoordStep → Type 0
+  KeptStep r = Kept plan.program number taken r.state (lines ++ reply_lines r.answer) (answered_then answered r.answer)
+
+  nothing_new : Kept plan.program number taken state (lines ++ []) answered
+  nothing_new = kept_same plan.program number taken state state lines answered refl refl refl k
+
+  changed : (x : Transaction) → Kept plan.program number taken (with_transaction state x) (lines ++ []) answered
+  changed x = kept_same plan.program number taken state (with_transaction state x) lines answered refl refl (ids_with x state.pending) k
+
+  kept_startok : (found : Option Transaction) (ok : TakenStart) (shard : Shard) → KeptStep (after_startok plan state found ok shard)
+  kept_startok None ok shard = nothing_new
+  kept_startok (Some x) ok shard = go (startok_refusal plan x ok shard)
+    where
+      go : (why : Option Reason) → KeptStep (unless_refused state why (startok_taken plan state (with_startok x ok)))
+      go (Some reason) = nothing_new
+      go None = changed (with_commits plan (with_starts plan (with_startok x ok)))
+
+  kept_commitok : (id : TxnId) (found : Option Transaction) (ok : TakenCommit) → find_transaction id state.pending ≡ found → KeptStep (after_commitok plan state found ok)
+  kept_commitok id None ok e = nothing_new
+  kept_commitok id (Some x) ok e = go (commitok_refusal plan x ok)
+    where
+      replied : (reply : Option (List ℤ)) → KeptStep (commitok_taken plan state (with_commitok x ok) reply)
+      replied None = changed (with_commitok x ok)
+      replied (Some reply) =
+          let has = found_has (λ (y : Transaction). is_txn y.id id) state.pending x e in
+          kept_answered plan.program number taken state lines answered x.id reply (waits x.id (ids_of state.pending) (has_map (λ (y : Transaction). y.id) x state.pending has.0)) k
+
+      go : (why : Option Reason) → KeptStep (unless_refused state why (commitok_taken plan state (with_commitok x ok) (reply_now plan (with_commitok x ok))))
+      go (Some reason) = nothing_new
+      go None = replied (reply_now plan (with_commitok x ok))
+
+  kept_message : (msg : Msg) → KeptStep (after_message plan state msg)
+  kept_message (StartOk id group shard bound outs edges facts) = kept_startok (find_transaction id state.pending) _ shard
+  kept_message (CommitOk id shard outs) = kept_commitok id (find_transaction id state.pending) _ refl
+  kept_message msg = nothing_new
+
+  kept_judged : (j : Judged) → KeptStep (step_of_judged plan state j)
+  kept_judged (Delivery header msg) = kept_message msg
+  kept_judged (Skipped skip) = nothing_new
+
+-- ---- runs
+
+module _ (S : NodeSetting) (number : ℕ) where
+  record KeptRun (requests : List Request) (node : CoordNodeState) : Type 0 where
+    pub taken : List Request
+    pub parts : requests ≡ taken ++ node.left
+    pub kept : Kept S.plan.program number taken node.state node.lines node.answered
+
+  none_below : (id : TxnId) → 0 ≡ times_given number 0 id
+  none_below id = go (number == id.coord) (nat_lt id.seq 0) none
+    where
+      none : nat_lt id.seq 0 ≡ false
+      none = grind (arith, nat_tests)
+
+      go : (a b : Bool) → b ≡ false → 0 ≡ one_if (a && b)
+      go true true e = absurd (false≢true (sym e))
+      go false true e = refl
+      go true false e = refl
+      go false false e = refl
+
+  turned : (requests : List Request) (node : CoordNodeState) (event : NodeEvent) → KeptRun requests node → KeptRun requests (coord_turn S node event)
+  turned requests node event r =
+      let m = kept_all S.plan number node.lines node.answered node.left r.taken (none_submitted node.state)
+      (subst (λ l. Kept S.plan.program number r.taken node.state l node.answered) (sym (append-nil node.lines)) r.kept) in
+      record {
+        taken = r.taken ++ m.more;
+        parts = r.parts ∙ ap (λ (l : List Request). r.taken ++ l) m.parts ∙ sym (append_assoc r.taken m.more (submissions_of S node).left);
+        kept = took_event event m.more m.kept;
+      }
+    where
+      took_event : (event : NodeEvent) (more : List Request) → Kept S.plan.program number (r.taken ++ more) (coord_submitted S node).state (coord_submitted S node).lines node.answered
+          → Kept S.plan.program number (r.taken ++ more) (coord_turn S node event).state (coord_turn S node event).lines (coord_turn S node event).answered
+      took_event (took packet) more k = kept_judged S.plan number (r.taken ++ more) (coord_submitted S node).state (coord_submitted S node).lines node.answered k (judged S.header.tag packet.bytes)
+      took_event silent more k = nothing_new S.plan number (r.taken ++ more) (coord_submitted S node).state (coord_submitted S node).lines node.answered k
+
+  kept_run : {requests : List Request} {events : List NodeEvent} {node : CoordNodeState} → IsCoordRun S number requests events node → KeptRun requests node
+  kept_run begun = record {
+    taken = [];
+    parts = refl;
+    kept = record { numbered = refl; next = refl; bounded = omega arith; given = none_given; each = none_below; all = refl; counted = refl };
+  }
+  kept_run {requests} (goes_on {node = node} event run going) = turned requests node event (kept_run run)
+
+  pub each_answered : (requests : List Request) (events : List NodeEvent) (node : CoordNodeState) → IsCoordRun S number requests events node → is_answered node ≡ true → AreEachAnswered S.plan.program number requests node
+  each_answered requests events node run e = answers (kept_run run) (none_left node.left (and_parts (length node.left == 0) (length node.state.pending == 0) e).0) (none_left node.state.pending (and_parts (length node.left == 0) (length node.state.pending == 0) e).1)
+    where
+      none_left : {A : Type 0} (xs : List A) → (length xs == 0) ≡ true → xs ≡ []
+      none_left [] e = refl
+      none_left (x ∷ xs) e = absurd (let n = eqb-true (length (x ∷ xs)) 0 e in omega arith)
+
+      answers : KeptRun requests node → node.left ≡ [] → node.state.pending ≡ [] → AreEachAnswered S.plan.program number requests node
+      answers r left pending =
+          let k = r.kept in
+          let whole : requests ≡ r.taken = r.parts ∙ ap (λ (l : List Request). r.taken ++ l) left ∙ append-nil r.taken in
+          let none = ap (λ (l : List Transaction). length l) pending in
+          let total = k.all in let next = k.next in let count = ap (λ (l : List Request). length l) whole in record {
+            given = subst (λ l. AreGivenIds S.plan.program number l (filter is_submission node.lines)) (sym whole) k.given;
+            answers = λ seq below. once r.taken k pending seq (omega arith);
+            all = omega arith;
+            counted = let c = k.counted in omega arith;
+          }
+        where
+          once : (taken : List Request) → Kept S.plan.program number taken node.state node.lines node.answered → node.state.pending ≡ [] → (seq : ℕ) → seq < length taken
+              → length (filter (is_answer_to (record { coord = number; seq = seq })) node.lines) ≡ 1
+          once taken k pending seq below =
+              let id : TxnId = record { coord = number; seq = seq } in
+              let each = k.each id in
+              let none = ap (λ (l : List Transaction). waiting id (ids_of l)) pending in
+              let given = ap (λ b. one_if (b && nat_lt seq node.state.next)) (eq-eqb number number refl) ∙ ap one_if (lt-ltb seq node.state.next (let n = k.next in omega arith)) in
+              omega arith
