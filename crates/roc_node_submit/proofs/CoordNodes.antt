@@ -75,13 +75,13 @@ refuses plan request proc fault kind old new out_old out_new text name args same
     (promised (subst (λ (f : SubmitFault). UnlessNoMemory (Err f) (IsSubmitted (after_submit plan old proc args) (Err f) new out_old out_new)) is step))
 
 -- what one request did, once it is known which
-accepted_one : (plan : Plan) (request : Request) (old new : CoordState) (out0 out1 : List Outgoing) (text0 text1 : List ℕ) (accepted : Bool) → SubmitsOne accepted plan request old new out0 out1 text0 text1
-    → accepted ≡ true → SubmitsAccepted plan request old new out0 out1 text0 text1
+accepted_one : (plan : Plan) (request : Request) (old new : CoordState) (out0 out1 : List Outgoing) (text0 text1 : List ℕ) (accepted : Bool)
+    → SubmitsOne accepted plan request old new out0 out1 text0 text1 → accepted ≡ true → SubmitsAccepted plan request old new out0 out1 text0 text1
 accepted_one plan request old new out0 out1 text0 text1 true one e = one
 accepted_one plan request old new out0 out1 text0 text1 false one e = absurd (cc)
 
-refused_one : (plan : Plan) (request : Request) (old new : CoordState) (out0 out1 : List Outgoing) (text0 text1 : List ℕ) (accepted : Bool) → SubmitsOne accepted plan request old new out0 out1 text0 text1
-    → accepted ≡ false → RefusesOne plan request old new out0 out1 text0 text1
+refused_one : (plan : Plan) (request : Request) (old new : CoordState) (out0 out1 : List Outgoing) (text0 text1 : List ℕ) (accepted : Bool)
+    → SubmitsOne accepted plan request old new out0 out1 text0 text1 → accepted ≡ false → RefusesOne plan request old new out0 out1 text0 text1
 refused_one plan request old new out0 out1 text0 text1 false one e = one
 refused_one plan request old new out0 out1 text0 text1 true one e = absurd (cc)
 
@@ -169,7 +169,9 @@ submits_some plan requests items count old new out0 out1 text0 text1 from next a
 
 pub some_refused : (plan : Plan) (requests items : List Request) (count : ℕ) (request : Request) (old now new : CoordNode) (out0 out1 out2 : List Outgoing) (text0 text1 text2 : List ℕ)
     → items ≡ drop old.next requests → now.next ≡ old.next + count → now.answered ≡ old.answered → SubmittedSo plan items count old.coord now.coord out0 out1 text0 text1
-    → count < length items → request ≡ get_or items count request → (accepted : Bool) → SubmitsOne accepted plan request now.coord new.coord out1 out2 text1 text2 → accepted ≡ false → new.next ≡ now.next → new.answered ≡ now.answered
+    → count < length items → request ≡ get_or items count request
+    → (accepted : Bool) → SubmitsOne accepted plan request now.coord new.coord out1 out2 text1 text2 → accepted ≡ false
+    → new.next ≡ now.next → new.answered ≡ now.answered
     → SubmitsSome plan requests old new out0 out2 text0 text2
 some_refused plan requests items count request old now new out0 out1 out2 text0 text1 text2 from next answered so below is accepted some refused same_next same_answered =
     let one = refused_one plan request now.coord new.coord out1 out2 text1 text2 accepted some refused in

@@ -61,7 +61,9 @@ module _ (program : Workload) (number : ℕ) (taken : List Request) where
         bounded = let b = k.bounded in subst (λ n. n ≤ most_transactions) (sym same_next) b;
         given = k.given;
         each = λ id. ap (λ l. length (filter (is_answer_to id) lines) + waiting id l) same_ids ∙ k.each id ∙ ap (λ n. times_given number n id) (sym same_next);
-        all = ap (λ n. length (filter is_answer lines) + n) (sym (length-map next.pending (λ (x : Transaction). x.id)) ∙ ap length same_ids ∙ length-map state.pending (λ (x : Transaction). x.id)) ∙ k.all ∙ sym same_next;
+        all = ap (λ n. length (filter is_answer lines) + n)
+            (sym (length-map next.pending (λ (x : Transaction). x.id)) ∙ ap length same_ids ∙ length-map state.pending (λ (x : Transaction). x.id))
+            ∙ k.all ∙ sym same_next;
         counted = k.counted;
       } in
       subst (λ l. Kept program number taken next l answered) (sym (append-nil lines)) plain
@@ -78,7 +80,10 @@ module _ (program : Workload) (number : ℕ) (taken : List Request) where
         numbered = k.numbered;
         next = ap (λ n. n + 1) k.next ∙ sym (length-append taken (request ∷ []));
         bounded = omega arith;
-        given = subst (λ l. AreGivenIds program number (taken ++ request ∷ []) l) (ap (λ (id : TxnId). filter is_submission lines ++ Submit id proc request.args ∷ []) (sym place) ∙ sym (filter-append is_submission lines (line ∷ []))) (one_given request proc k.given named);
+        given = subst (λ l. AreGivenIds program number (taken ++ request ∷ []) l)
+            (ap (λ (id : TxnId). filter is_submission lines ++ Submit id proc request.args ∷ []) (sym place)
+            ∙ sym (filter-append is_submission lines (line ∷ [])))
+            (one_given request proc k.given named);
         each = λ id. each_more id mine;
         all = let n = length-append state.pending (x ∷ []) in let a = k.all in omega (arith, none_more);
         counted = k.counted ∙ sym none_more;
@@ -88,13 +93,16 @@ module _ (program : Workload) (number : ℕ) (taken : List Request) where
           → length (filter (is_answer_to id) (lines ++ Submit (next_id state) proc request.args ∷ [])) + waiting id (ids_of (state.pending ++ x ∷ [])) ≡ times_given number (state.next + 1) id
       each_more id mine =
           let none = passing_more (is_answer_to id) lines (Submit (next_id state) proc request.args) in
-          let one = ap (waiting id) (map-append (λ (y : Transaction). y.id) state.pending (x ∷ [])) ∙ passing_more (λ own. is_txn own id) (ids_of state.pending) x.id ∙ ap (λ (i : TxnId). waiting id (ids_of state.pending) + one_if (is_txn i id)) mine in
+          let one = ap (waiting id) (map-append (λ (y : Transaction). y.id) state.pending (x ∷ []))
+          ∙ passing_more (λ own. is_txn own id) (ids_of state.pending) x.id
+          ∙ ap (λ (i : TxnId). waiting id (ids_of state.pending) + one_if (is_txn i id)) mine in
           let before = k.each id in
           let more = given_one_more number state.next id in
           omega arith
 
   -- one that waited was answered
-  pub kept_answered : (state : CoordState) (lines : List Line) (answered : ℕ) (gone : TxnId) (reply : List ℤ) → 1 ≤ waiting gone (ids_of state.pending) → Kept program number taken state lines answered
+  pub kept_answered : (state : CoordState) (lines : List Line) (answered : ℕ) (gone : TxnId) (reply : List ℤ) → 1 ≤ waiting gone (ids_of state.pending)
+      → Kept program number taken state lines answered
       → Kept program number taken (without_transaction state gone) (lines ++ Answer gone reply ∷ []) (one_more answered)
   kept_answered state lines answered gone reply waited k =
       let line = Answer gone reply in
@@ -127,7 +135,8 @@ module _ (program : Workload) (number : ℕ) (taken : List Request) where
       each_then : (id : TxnId) → length (filter (is_answer_to id) (lines ++ Answer gone reply ∷ [])) + waiting id (ids_of (without_transaction state gone).pending) ≡ times_given number state.next id
       each_then id = go (is_txn gone id) refl
         where
-          go : (b : Bool) → is_txn gone id ≡ b → length (filter (is_answer_to id) (lines ++ Answer gone reply ∷ [])) + waiting id (ids_of (without_transaction state gone).pending) ≡ times_given number state.next id
+          go : (b : Bool) → is_txn gone id ≡ b
+              → length (filter (is_answer_to id) (lines ++ Answer gone reply ∷ [])) + waiting id (ids_of (without_transaction state gone).pending) ≡ times_given number state.next id
           go true e =
               let more = passing_more (is_answer_to id) lines (Answer gone reply) ∙ ap (λ b. length (filter (is_answer_to id) lines) + one_if b) e in
               let same = is_txn-true gone id e in

@@ -37,7 +37,9 @@ use Rattle.roc_node_submit.proofs.Keeping.{Kept, kept_same, kept_given, kept_ans
 
 -- a submission that is not refused has a sequence number left
 unspent : (plan : Plan) (s : CoordState) (proc : ℕ) (args : List ℤ) → refusal_of plan s proc args ≡ None → s.next < most_transactions
-unspent plan s proc args e = leb-false most_transactions s.next (go (not (is_transaction plan proc)) (not (length args == (procedure_of plan proc).arguments)) (nat_le most_transactions s.next) (nat_le most_pending (length s.pending)) e)
+unspent plan s proc args e = leb-false most_transactions s.next
+    (go (not (is_transaction plan proc)) (not (length args == (procedure_of plan proc).arguments))
+    (nat_le most_transactions s.next) (nat_le most_pending (length s.pending)) e)
   where
     go : (a b c d : Bool) → (if a then Some NoProc else if b then Some Args else if c then Some Spent else if d then Some Busy else None) ≡ None → c ≡ false
     go true b c d e = absurd (cc)
@@ -73,7 +75,8 @@ module _ (plan : Plan) (number : ℕ) (before : List Line) (answered : ℕ) wher
   unfolding submitted_all
   kept_all [] taken s k = record { more = []; parts = refl; kept = subst (λ l. KeptBehind l s) (sym (append-nil taken)) k }
   kept_all (request ∷ rest) taken s k =
-      go (accepts plan s.state request) (λ e. kept_all rest (taken ++ request ∷ []) (submitted plan s request) (kept_request taken s request k (procedure_named plan.program request.name) refl e)) refl
+      go (accepts plan s.state request)
+      (λ e. kept_all rest (taken ++ request ∷ []) (submitted plan s request) (kept_request taken s request k (procedure_named plan.program request.name) refl e)) refl
     where
       go : (b : Bool) → (accepts plan s.state request ≡ true → KeptMore (taken ++ request ∷ []) rest (submitted_all plan (submitted plan s request) rest)) → accepts plan s.state request ≡ b
           → KeptMore taken (request ∷ rest) (if b then submitted_all plan (submitted plan s request) rest else record s { left = request ∷ rest })
@@ -171,8 +174,11 @@ module _ (S : NodeSetting) (number : ℕ) where
   }
   kept_run {requests} (goes_on {node = node} event run going) = turned requests node event (kept_run run)
 
-  pub each_answered : (requests : List Request) (events : List NodeEvent) (node : CoordNodeState) → IsCoordRun S number requests events node → is_answered node ≡ true → AreEachAnswered S.plan.program number requests node
-  each_answered requests events node run e = answers (kept_run run) (none_left node.left (and_parts (length node.left == 0) (length node.state.pending == 0) e).0) (none_left node.state.pending (and_parts (length node.left == 0) (length node.state.pending == 0) e).1)
+  pub each_answered : (requests : List Request) (events : List NodeEvent) (node : CoordNodeState) → IsCoordRun S number requests events node → is_answered node ≡ true
+      → AreEachAnswered S.plan.program number requests node
+  each_answered requests events node run e =
+      let both = and_parts (length node.left == 0) (length node.state.pending == 0) e in
+      answers (kept_run run) (none_left node.left both.0) (none_left node.state.pending both.1)
     where
       none_left : {A : Type 0} (xs : List A) → (length xs == 0) ≡ true → xs ≡ []
       none_left [] e = refl
