@@ -63,6 +63,7 @@ use roc_protocol::laws::{
     quiet_is_answered as quiet_is_answered_over_schemes,
     servers_agree as servers_agree_over_schemes,
     submissions_are_kept as submissions_are_kept_over_schemes,
+    told_is_kept as told_is_kept_over_schemes,
 };
 
 /// The scheme of an accepted plan is sound.
@@ -239,6 +240,18 @@ pub fn lists_are_final()
 {
     accepted_plans_have_schemes();
     lists_are_final_over_schemes();
+}
+
+/// Over every run of every accepted plan, what a startok tells of a group is what its server keeps: a startok of a group that is found on a
+/// server tells, from that server, the bound values, outs, entries and facts that are kept of the group.
+pub fn told_is_kept()
+    ensures { (plan : Plan) (coords : ℕ) (steps : List Stepped) (w : World) → IsAccepted plan → IsRun plan coords steps w
+        → (shard : Shard) (s : ServerState) → slice_get w.servers shard.0 ≡ Some s → (t : TxnId) (g : ℕ) (e : StartedGroup) → find_group t g s.started ≡ Some e
+        → (m : Envelope) → Has m w.sent → (at : Shard) (bound outs : List ℤ) (edges : List Dependency) (facts : List KnownList)
+        → m.msg ≡ msg.StartOk t g at bound outs edges facts → m.msg ≡ msg.StartOk t g shard e.bound e.outs e.edges e.facts }
+{
+    accepted_plans_have_schemes();
+    told_is_kept_over_schemes();
 }
 
 /// Over every run of every accepted plan, no message is refused: a server takes each message that comes, and a coordinator ignores only one

@@ -1,5 +1,5 @@
 -- Lists are final in every world
-use Rattle.std.proofs.Common.{◌≡◌, ℕ, ℤ, ◌-◌, List, [], ◌∷◌, ◌++◌, Option, Some, None, length, map, refl, sym, subst, inl, inr}
+use Rattle.std.proofs.Common.{◌≡◌, ℕ, ℤ, ◌-◌, List, [], ◌∷◌, ◌++◌, Option, Some, None, length, map, refl, sym, subst, ◌∙◌, inl, inr}
 use Rattle.std.specs.Prelude.{slice_get}
 use Rattle.roc_sequence.specs.Lists.{Has}
 use Rattle.roc_sequence.proofs.Members.{has_append, has_right, has_at, from_has_map}
@@ -18,7 +18,8 @@ use Rattle.roc_whole.specs.Serial as whole
 use Rattle.roc_whole.specs.Serial.{start_store}
 use Rattle.roc_law_log.specs.Scheme.{Scheme, IsSoundScheme}
 use Rattle.roc_law_log.specs.Log.{Log}
-use Rattle.roc_server.specs.State.{answered, ServerState}
+use Rattle.roc_server.specs.declared.started.StartedGroup.{StartedGroup}
+use Rattle.roc_server.specs.State.{answered, find_group, ServerState}
 use Rattle.roc_server.specs.First.{first_server}
 use Rattle.roc_server.specs.Step as server
 use Rattle.roc_coord.specs.State.{first_coord, CoordState}
@@ -38,9 +39,9 @@ use Rattle.roc_protocol.specs.Final.{lists_in, IsUnionIn, IsFinalIn}
 use Rattle.roc_protocol.specs.Inner.Given.{LogLaws, StoreLaws}
 use Rattle.roc_protocol.proofs.Means.{run_of, Means}
 use Rattle.roc_protocol.proofs.Changed.{get-set_cases}
-use Rattle.roc_protocol.proofs.Carried.{StartsHere, message_good, tick_good}
+use Rattle.roc_protocol.proofs.Carried.{message_good, tick_good}
 use Rattle.roc_protocol.proofs.Gathered.{IsRound, KeepsGathered, Tells, message_gathered, tick_gathered, submission_gathered}
-use Rattle.roc_protocol.proofs.Networks.{Anywhere, IsToldHere, Good, Told, Calls, told_facts, IsNetworked, one_startok, gathered_good, lists_after, told_later, holds_later, served_networked}
+use Rattle.roc_protocol.proofs.Networks.{IsStartOkOf, found_is, IsToldHere, IsPlacedOn, Good, Told, Calls, told_facts, IsNetworked, one_startok, holds_there, starts_there, gathered_good, lists_after, told_later, holds_later, served_networked}
 use Rattle.roc_protocol.proofs.Firsts.{found_at}
 use Rattle.roc_protocol.proofs.Idle.{run_idle}
 use Rattle.roc_protocol.proofs.Worlds.{comes_logged, Submitting, is_refused, is_accepted, submitting, Agrees, agrees_before, IsLogged}
@@ -59,10 +60,6 @@ module _ (plan : Plan) (asked : TxnId → whole.Call) (S : Scheme) (is : IsSchem
     Keeps n s there after outs =
         KeepsGathered plan Goods (Told plan asked S is laws w.sent) (Calls plan asked S is laws) (told_facts plan asked S is laws w.sent) s (λ x h. nw.taken n s there x h) (gathered_good plan asked S is laws w log o nw) after outs
 
-    anywhere : (msg : Msg) → StartsHere (Anywhere plan asked S is laws) msg
-    anywhere (StartOk id group shard bound outs edges facts) = tt
-    anywhere msg = tt
-
     no_startok : (msg : Msg) → IsRound msg → IsToldHere w.servers msg
     no_startok (Start id proc group args inputs) k = tt
     no_startok (Commit id edges facts) k = tt
@@ -73,6 +70,8 @@ module _ (plan : Plan) (asked : TxnId → whole.Call) (S : Scheme) (is : IsSchem
     coordinated_networked n s there after outs tells k =
         let more = map (sent_by (Coord n)) outs in
         record {
+          one = λ m k h l t g a b. nw.one m k (old m t g h a) (old k t g l b) t g a b;
+          kept = λ m v at t g e f k h a. nw.kept m v at t g e f k (old k t g h a) a;
           told = λ m h. elim (has_append m w.sent more h) [
             | inl j ↦ nw.told m j
             | inr j ↦ (let q = from_has_map (sent_by (Coord n)) m outs j in subst (λ (m : Envelope). IsToldHere w.servers m.msg) (sym q.2) (no_startok q.0.msg (k.sends q.0 q.1).1))
@@ -84,13 +83,23 @@ module _ (plan : Plan) (asked : TxnId → whole.Call) (S : Scheme) (is : IsSchem
             | inr j ↦ nw.taken m c j.1 x h
           ]);
         }
+      where
+        none_sent : (msg : Msg) (t : TxnId) (g : ℕ) → IsRound msg → IsStartOkOf t g msg → ⊥
+        none_sent msg t g round a = subst IsRound a.is round
+
+        -- a coordinator sends no startok
+        old : (m : Envelope) (t : TxnId) (g : ℕ) → Has m (w.sent ++ map (sent_by (Coord n)) outs) → IsStartOkOf t g m.msg → Has m w.sent
+        old m t g h a = elim (has_append m w.sent (map (sent_by (Coord n)) outs) h) [
+          | inl j ↦ j
+          | inr j ↦ (let q = from_has_map (sent_by (Coord n)) m outs j in absurd (none_sent q.0.msg t g (k.sends q.0 q.1).1 (subst (λ (m : Envelope). IsStartOkOf t g m.msg) q.2 a)))
+        ]
 
     pub comes_networked : (k : ℕ) → IsNetworked plan asked S is laws (mark_delivered w k)
-    comes_networked k = record { told = nw.told; lists = nw.lists; servers = nw.servers; taken = nw.taken }
+    comes_networked k = record { told = nw.told; one = nw.one; kept = nw.kept; lists = nw.lists; servers = nw.servers; taken = nw.taken }
 
     tick_networked : (node : Node) (v : Outcome) → Ticks plan w node v → IsNetworked plan asked S is laws v.world
     tick_networked (Server shard) v (s, there, e) = subst (λ (v : Outcome). IsNetworked plan asked S is laws v.world) (sym e)
-        (served_networked plan asked S is laws w log o nw shard.0 s there (answered s (server.tick_sends s)) (tick_good plan Goods (Anywhere plan asked S is laws) s (nw.servers shard.0 s there)))
+        (served_networked plan asked S is laws w log o nw shard.0 s there (answered s (server.tick_sends s)) (tick_good plan Goods (IsPlacedOn plan asked S is laws log shard.0) s (holds_there plan asked S is laws w log o nw shard.0 s there)))
     tick_networked (Coord n) v (s, there, e) = subst (λ (v : Outcome). IsNetworked plan asked S is laws v.world) (sym e)
         (coordinated_networked n s there s (coord.tick_sends plan s) [] (tick_gathered plan Goods (Told plan asked S is laws w.sent) (Calls plan asked S is laws) (told_facts plan asked S is laws w.sent) s (λ x h. nw.taken n s there x h) (gathered_good plan asked S is laws w log o nw)))
 
@@ -100,10 +109,10 @@ module _ (plan : Plan) (asked : TxnId → whole.Call) (S : Scheme) (is : IsSchem
     tells m h (StartOk id group shard bound outs edges facts) e good n s there = (record { message = m; has = h; shard = shard; bound = bound; outs = outs; is = e }, good)
     tells m h msg e good n s there = tt
 
-    receive_networked : (m : Envelope) → Has m w.sent → (to : Node) (v : Outcome) → IsReceived plan w m.msg to v → IsNetworked plan asked S is laws v.world
-    receive_networked m h (Server shard) v (s, r, there, step, e) = subst (λ (v : Outcome). IsNetworked plan asked S is laws v.world) (sym e)
-        (served_networked plan asked S is laws w log o nw shard.0 s there r (message_good plan Goods (Anywhere plan asked S is laws) s (nw.servers shard.0 s there) m.msg r step (nw.lists m h) (anywhere m.msg)))
-    receive_networked m h (Coord n) v (s, there, e) = subst (λ (v : Outcome). IsNetworked plan asked S is laws v.world) (sym e)
+    receive_networked : (m : Envelope) → Has m w.sent → (to : Node) → m.to ≡ to → (v : Outcome) → IsReceived plan w m.msg to v → IsNetworked plan asked S is laws v.world
+    receive_networked m h (Server shard) to v (s, r, there, step, e) = subst (λ (v : Outcome). IsNetworked plan asked S is laws v.world) (sym e)
+        (served_networked plan asked S is laws w log o nw shard.0 s there r (message_good plan Goods (IsPlacedOn plan asked S is laws log shard.0) s (holds_there plan asked S is laws w log o nw shard.0 s there) m.msg r step (nw.lists m h) (starts_there plan asked S is laws w log o nw m h shard.0 to)))
+    receive_networked m h (Coord n) to v (s, there, e) = subst (λ (v : Outcome). IsNetworked plan asked S is laws v.world) (sym e)
         (coordinated_networked n s there (after_message plan s m.msg).state (after_message plan s m.msg).sends (answer_entries (after_message plan s m.msg).answer)
         (message_gathered plan Goods (Told plan asked S is laws w.sent) (Calls plan asked S is laws) (told_facts plan asked S is laws w.sent) s (λ x h. nw.taken n s there x h) (gathered_good plan asked S is laws w log o nw) m.msg (tells m h m.msg refl (nw.lists m h) n s there)))
 
@@ -121,7 +130,7 @@ module _ (plan : Plan) (asked : TxnId → whole.Call) (S : Scheme) (is : IsSchem
   step_networked w log o nw None v h fits = subst (λ (v : Outcome). IsNetworked plan asked S is laws v.world) (sym h) nw
   step_networked w log o nw (Some (Submit n proc args)) v (s, there, h) fits = submit_networked w log o nw n proc args s there v (submitting plan w n proc args s v h) fits
   step_networked w log o nw (Some (Deliver k)) v (m, some, there, h) fits =
-      receive_networked (mark_delivered w k) log (comes_logged plan asked S is laws w log o k) (comes_networked w log o nw k) m (has_at w.sent (k - 1) m there) m.to v h
+      receive_networked (mark_delivered w k) log (comes_logged plan asked S is laws w log o k) (comes_networked w log o nw k) m (has_at w.sent (k - 1) m there) m.to refl v h
   step_networked w log o nw (Some (Tick node)) v h fits = tick_networked w log o nw node v h
 
   module _ (stores : StoreLaws) where
@@ -129,6 +138,8 @@ module _ (plan : Plan) (asked : TxnId → whole.Call) (S : Scheme) (is : IsSchem
     run_networked coords steps w begun fits =
         record {
           told = λ m h. absurd h;
+          one = λ m k h. absurd h;
+          kept = λ n s there t g e f m h. absurd h;
           lists = λ m h. absurd h;
           servers = λ n s h. (let e = found_at (λ n. first_server plan (record { 0 = n })) 0 plan.program.shards n s h in
               record { groups = λ b j. tt; known = λ k j. elim (subst (λ (s : ServerState). Has k s.lists.known) e j) [ ]; facts = λ b j. elim (subst (λ (s : ServerState). Has b s.started) e j) [ ] });
@@ -185,5 +196,18 @@ module _ (plan : Plan) (schemes : HasSchemes plan) (laws : (S : Scheme) → IsSo
     | inl some ↦
         (let x = logged plan schemes laws stores coords steps w run some in
         one_startok plan (calls some) (T some) (serial.is plan schemes laws stores coords steps w run some) (laws (T some) (sound plan schemes laws stores coords steps w run some)) w x.0 x.1 (networked some) m other h k t g shard at bound outs values gave es ds fs hs e f)
+    | inr none ↦ absurd (subst (Has m) (run_idle plan none coords steps w run).sent h)
+  ]
+
+  -- a startok of a group that is found on a server says what is kept of it
+  pub startok_kept : (n : ℕ) (s : ServerState) → slice_get w.servers n ≡ Some s → (t : TxnId) (g : ℕ) (e : StartedGroup) → find_group t g s.started ≡ Some e → (m : Envelope) → Has m w.sent → (at : Shard) (bound outs : List ℤ) (es : List Dependency) (fs : List KnownList)
+      → m.msg ≡ StartOk t g at bound outs es fs → m.msg ≡ StartOk t g (record { 0 = n }) e.bound e.outs e.edges e.facts
+  startok_kept n s there t g e f m h at bound outs es fs is = elim (transaction_or_none plan) [
+    | inl some ↦
+        (let x = logged plan schemes laws stores coords steps w run some in
+        let k = (networked some).kept n s there t g e f m h (record { shard = at; bound = bound; outs = outs; edges = es; facts = fs; is = is }) in
+        let q = found_is t g s.started e f in
+        let number : s.shard.0 ≡ n = (x.1.means.servers n s there).number in
+        k ∙ (λ j. StartOk (q.1 j) (q.2 j) (record { 0 = number j }) e.bound e.outs e.edges e.facts))
     | inr none ↦ absurd (subst (Has m) (run_idle plan none coords steps w run).sent h)
   ]

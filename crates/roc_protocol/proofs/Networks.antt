@@ -1,6 +1,6 @@
 -- Startoks in the network, and lists made of them
-use Rattle.std.proofs.Common.{◌≡◌, ℕ, ℤ, ◌<◌, ◌==◌, true, List, [], ◌∷◌, ◌++◌, Option, Some, None, length, map, refl, sym, ap, subst, ◌∙◌, inl, inr, arith, is_some}
-use Rattle.std.proofs.lemmas.Bool.{false≢true, eqb-true, eq-eqb, cases_eq}
+use Rattle.std.proofs.Common.{◌≡◌, ◌≢◌, ℕ, ℤ, ◌<◌, ◌==◌, true, List, [], ◌∷◌, ◌++◌, Option, Some, None, length, map, refl, sym, ap, subst, ◌∙◌, inl, inr, arith, is_some}
+use Rattle.std.proofs.lemmas.Bool.{false≢true, and_parts, eqb-true, eq-eqb, cases_eq}
 use Rattle.std.specs.Prelude.{slice_get, slice_set, flat_map}
 use Rattle.std.specs.List.{range_with_len}
 use Rattle.roc_merge_groups.proofs.Elements.{has_range}
@@ -13,12 +13,14 @@ use Rattle.roc_base.specs.declared.id.TxnId.{TxnId}
 use Rattle.roc_base.specs.declared.node.Node.{Node}
 use Rattle.roc_base.specs.declared.node.Node.TheVariants.{Server}
 use Rattle.roc_base.specs.declared.node.Shard.{Shard}
+use Rattle.roc_base.specs.TxnId.{is_txn}
+use Rattle.roc_base.specs.Equalities.{is_txn-true}
 use Rattle.roc_base.specs.Edge.{Dependency}
 use Rattle.roc_base.specs.Edges.{united}
 use Rattle.roc_depgraph.specs.declared.known.KnownList.{KnownList}
 use Rattle.roc_rows.specs.Store.{Store}
 use Rattle.roc_msg.specs.declared.msg.Msg.{Msg}
-use Rattle.roc_msg.specs.declared.msg.Msg.TheVariants.{StartOk, CommitOk}
+use Rattle.roc_msg.specs.declared.msg.Msg.TheVariants.{Start, StartOk, CommitOk}
 use Rattle.roc_msg.specs.declared.msg.Envelope.{Envelope}
 use Rattle.roc_msg.specs.declared.outbox.Outgoing.{Outgoing}
 use Rattle.roc_plan.specs.Groups.{Plan, groups_of}
@@ -28,7 +30,8 @@ use Rattle.roc_law_log.specs.Scheme.{Scheme}
 use Rattle.roc_law_log.specs.Log.{Log}
 use Rattle.roc_law_log.specs.Invariants.{LogInvariants}
 use Rattle.roc_server.specs.declared.started.StartedGroup.{StartedGroup}
-use Rattle.roc_server.specs.State.{is_here, find_group, ServerState, ServerStep}
+use Rattle.roc_server.specs.Start.{startok_of}
+use Rattle.roc_server.specs.State.{is_group, is_here, find_group, unrun, ServerState, ServerStep}
 use Rattle.roc_coord.specs.declared.transaction.Transaction.{Transaction}
 use Rattle.roc_coord.specs.declared.transaction.TakenStart.{TakenStart}
 use Rattle.roc_coord.specs.State.{find_startok, CoordState}
@@ -38,12 +41,13 @@ use Rattle.roc_protocol.specs.World.{World, sent_by, at_server}
 use Rattle.roc_protocol.specs.Quiet.{IsToldIn}
 use Rattle.roc_protocol.specs.Final.{lists_in, IsUnionIn}
 use Rattle.roc_protocol.specs.Inner.Given.{LogLaws}
-use Rattle.roc_protocol.proofs.Means.{run_of, place, Means, ToldMeans}
+use Rattle.roc_protocol.proofs.Means.{run_of, place, Began, Means, StartIs, ToldMeans}
 use Rattle.roc_protocol.proofs.Changed.{get-set_here, get-set_other, get-set_cases}
-use Rattle.roc_protocol.proofs.Carried.{IsToldBy, HoldsGood, KeepsGood}
+use Rattle.roc_protocol.proofs.Carried.{IsToldBy, StartsHere, HoldsGood, KeepsGood}
 use Rattle.roc_protocol.proofs.Gathered.{IsGathered}
 use Rattle.roc_protocol.proofs.Coordinators.{there}
 use Rattle.roc_server_lists.proofs.Unions.{same_members}
+use Rattle.roc_protocol.proofs.Starting.{shard_number}
 use Rattle.roc_protocol.proofs.Worlds.{IsLogged}
 
 -- what is in the network stays there
@@ -52,6 +56,22 @@ told_more sent more t g es fs k = record { message = k.message; has = has_left k
 
 pub union_more : (sent more : List Envelope) (n : ℕ) (t : TxnId) (es : List Dependency) → IsUnionIn sent n t es → IsUnionIn (sent ++ more) n t es
 union_more sent more n t es u = record { told = u.told; in_network = λ g l. (let k = u.in_network g l in (k.0, told_more sent more t g (u.told g) k.0 k.1)); is_union = u.is_union }
+
+-- a startok of the group
+pub record IsStartOkOf (t : TxnId) (g : ℕ) (msg : Msg) : Type 0 where
+  pub shard : Shard
+  pub bound : List ℤ
+  pub outs : List ℤ
+  pub edges : List Dependency
+  pub facts : List KnownList
+  pub is : msg ≡ StartOk t g shard bound outs edges facts
+
+-- a group that is found is the one that was sought
+pub found_is : (t : TxnId) (g : ℕ) (started : List StartedGroup) (e : StartedGroup) → find_group t g started ≡ Some e → Has e started × (e.id ≡ t) × (e.group ≡ g)
+found_is t g started e f =
+    let q = found_has (is_group t g) started e f in
+    let p = and_parts (is_txn e.id t) (e.group == g) q.1 in
+    (q.0, is_txn-true e.id t p.0, eqb-true e.group g p.1)
 
 -- the server of a shard keeps what a startok told
 abbrev pub IsToldHere : List ServerState → Msg → Type 0
@@ -76,6 +96,10 @@ module _ (plan : Plan) (asked : TxnId → whole.Call) (S : Scheme) (is : IsSchem
   abbrev pub Anywhere : TxnId → ℕ → Type 0
   Anywhere t g = Unit {0}
 
+  -- the group is a shard's
+  abbrev pub IsPlacedOn : Log → (shard : ℕ) → TxnId → ℕ → Type 0
+  IsPlacedOn log shard t g = place plan asked S start log (run_of t g) ≡ shard
+
   abbrev pub Calls : TxnId → ℕ → Type 0
   Calls t proc = proc ≡ (asked t).procedure
 
@@ -87,6 +111,10 @@ module _ (plan : Plan) (asked : TxnId → whole.Call) (S : Scheme) (is : IsSchem
 
   pub record IsNetworked (w : World) : Type 0 where
     pub told : (m : Envelope) → Has m w.sent → IsToldHere w.servers m.msg
+    -- two startoks of a group are one
+    pub one : (m k : Envelope) → Has m w.sent → Has k w.sent → (t : TxnId) (g : ℕ) → IsStartOkOf t g m.msg → IsStartOkOf t g k.msg → m.msg ≡ k.msg
+    -- a startok of a group that is found on a server is that of its entry
+    pub kept : (n : ℕ) (s : ServerState) → slice_get w.servers n ≡ Some s → (t : TxnId) (g : ℕ) (e : StartedGroup) → find_group t g s.started ≡ Some e → (m : Envelope) → Has m w.sent → IsStartOkOf t g m.msg → m.msg ≡ (startok_of s.shard e).msg
     pub lists : (m : Envelope) → Has m w.sent → (k : KnownList) → Has k (lists_in m.msg) → Good w.sent k.of k.edges
     pub servers : (n : ℕ) (s : ServerState) → slice_get w.servers n ≡ Some s → HoldsGood (Good w.sent) Anywhere s
     pub taken : (n : ℕ) (c : CoordState) → slice_get w.coords n ≡ Some c → (x : Transaction) → Has x c.pending → IsTold w.sent x
@@ -105,19 +133,29 @@ module _ (plan : Plan) (asked : TxnId → whole.Call) (S : Scheme) (is : IsSchem
     pub one_startok : (m k : Envelope) → Has m w.sent → Has k w.sent → (t : TxnId) (g : ℕ) (shard other : Shard) (bound outs values gave : List ℤ) (es ds : List Dependency) (fs hs : List KnownList)
         → m.msg ≡ StartOk t g shard bound outs es fs → k.msg ≡ StartOk t g other values gave ds hs → m.msg ≡ k.msg
     one_startok m k h l t g shard other bound outs values gave es ds fs hs e f =
-        let p = (from_place m h t g shard bound outs es fs e).1 in
-        let q = (from_place k l t g other values gave ds hs f).1 in
-        let a = subst (IsToldHere w.servers) e (nw.told m h) in
-        let b = subst (IsToldHere w.servers) f (nw.told k l) in
-        let same : shard.0 ≡ other.0 = p ∙ sym q in
-        let servers : a.0 ≡ b.0 = (let x = subst (λ n. slice_get w.servers n ≡ Some a.0) same a.1 in let y = b.1 in cc) in
-        let x : find_group t g b.0.started ≡ Some a.2.1 = subst (λ (s : ServerState). find_group t g s.started ≡ Some a.2.1) servers a.2.2 in
-        let entries : a.2.1 ≡ b.2.1 = (let y = b.2.2 in cc) in
-        let to_shard : ℕ → Shard = λ n. record { 0 = n } in
-        e
-        ∙ ((λ j. StartOk t g (ap to_shard same j) ((sym a.2.3 ∙ (ap (λ (e : StartedGroup). e.bound) entries ∙ b.2.3)) j) ((sym a.2.4 ∙ (ap (λ (e : StartedGroup). e.outs) entries ∙ b.2.4)) j)
-        ((sym a.2.5 ∙ (ap (λ (e : StartedGroup). e.edges) entries ∙ b.2.5)) j) ((sym a.2.6 ∙ (ap (λ (e : StartedGroup). e.facts) entries ∙ b.2.6)) j))
-        ∙ sym f)
+        nw.one m k h l t g (record { shard = shard; bound = bound; outs = outs; edges = es; facts = fs; is = e }) (record { shard = other; bound = values; outs = gave; edges = ds; facts = hs; is = f })
+
+    -- it comes from the shard of its group, where the group began
+    began_at : (m : Envelope) → Has m w.sent → (t : TxnId) (g : ℕ) → IsStartOkOf t g m.msg → Began plan asked S start log (run_of t g)
+    began_at m h t g k = (from_place m h t g k.shard k.bound k.outs k.edges k.facts k.is).0.began
+
+    -- a group that is found is placed there
+    placed : (n : ℕ) (s : ServerState) → slice_get w.servers n ≡ Some s → (e : StartedGroup) → Has e s.started → IsPlacedOn log n e.id e.group
+    placed n s there e h = ((o.means.servers n s there).groups.entries e h).on
+
+    -- so what a server holds is where it is
+    pub holds_there : (n : ℕ) (s : ServerState) → slice_get w.servers n ≡ Some s → HoldsGood (Good w.sent) (IsPlacedOn log n) s
+    holds_there n s there = let g = nw.servers n s there in record { groups = placed n s there; known = g.known; facts = g.facts }
+
+    -- and what is asked to start there
+    pub starts_there : (m : Envelope) → Has m w.sent → (n : ℕ) → m.to ≡ Server (record { 0 = n }) → StartsHere (IsPlacedOn log n) m.msg
+    starts_there m h n to = go m.msg refl
+      where
+        go : (msg : Msg) → m.msg ≡ msg → StartsHere (IsPlacedOn log n) msg
+        go (Start id proc group args inputs) e =
+            let k : StartIs plan asked S start log id proc group args inputs m.to = subst (λ msg. Means plan asked S start log msg m.to) e (o.means.messages m h) in
+            ap shard_number (sym k.to ∙ to)
+        go msg e = tt
 
     told_one : (t : TxnId) (g : ℕ) (es ds : List Dependency) (fs hs : List KnownList) → IsToldIn w.sent t g es fs → IsToldIn w.sent t g ds hs → es ≡ ds
     told_one t g es ds fs hs a b =
@@ -204,13 +242,96 @@ module _ (plan : Plan) (asked : TxnId → whole.Call) (S : Scheme) (is : IsSchem
     pub holds_later : (more : List Envelope) (s : ServerState) → HoldsGood (Good w.sent) Anywhere s → HoldsGood (Good (w.sent ++ more)) Anywhere s
     holds_later more s g = record { groups = g.groups; known = λ k h. union_more w.sent more (count k.of) k.of k.edges (g.known k h); facts = λ e h k j. union_more w.sent more (count k.of) k.of k.edges (g.facts e h k j) }
 
-    pub served_networked : (n : ℕ) (s : ServerState) (there : slice_get w.servers n ≡ Some s) (r : ServerStep) → KeepsGood plan (Good w.sent) Anywhere s r → IsNetworked (at_server w n r)
+    pub anywhere : (s : ServerState) (n : ℕ) → HoldsGood (Good w.sent) (IsPlacedOn log n) s → HoldsGood (Good w.sent) Anywhere s
+    anywhere s n g = record { groups = λ e h. tt; known = g.known; facts = g.facts }
+
+    -- ---- startoks behind a step of a server
+
+    module _ (n : ℕ) (s : ServerState) (there : slice_get w.servers n ≡ Some s) (r : ServerStep) (g : KeepsGood plan (Good w.sent) (IsPlacedOn log n) s r) where
+      abbrev more : List Envelope
+      more = map (sent_by (Server (record { 0 = n }))) r.sends
+
+      -- one that is sent is of an entry
+      new_entry : (m : Envelope) → Has m more → (t : TxnId) (h : ℕ) → IsStartOkOf t h m.msg → (e : StartedGroup) × (find_group t h r.state.started ≡ Some e) × (m.msg ≡ (startok_of r.state.shard e).msg)
+      new_entry m j t h k =
+          let q = from_has_map (sent_by (Server (record { 0 = n }))) m r.sends j in
+          let b = subst (IsToldBy s.shard r.state.started) (ap (λ (m : Envelope). m.msg) (sym q.2) ∙ k.is) (g.told q.0 q.1) in
+          let f = found_is t h r.state.started b.1 b.2 in
+          (b.1, b.2, k.is ∙ (λ j. StartOk (sym f.1 j) (sym f.2 j) ((b.0 ∙ sym g.shard) j) (sym b.3 j) (sym b.4 j) (sym b.5 j) (sym b.6 j)))
+
+      -- what is found now is placed here
+      placed_now : (t : TxnId) (h : ℕ) (e : StartedGroup) → find_group t h r.state.started ≡ Some e → IsPlacedOn log n t h
+      placed_now t h e f = let q = found_is t h r.state.started e f in subst (λ t. IsPlacedOn log n t h) q.1 (subst (IsPlacedOn log n e.id) q.2 (g.state.groups e q.0))
+
+      -- one that was sent is of the entry that is found now: it was found before, or began now and was not told of
+      old_says : (t : TxnId) (h : ℕ) (e : StartedGroup) → find_group t h r.state.started ≡ Some e → (m : Envelope) → Has m w.sent → IsStartOkOf t h m.msg → m.msg ≡ (startok_of r.state.shard e).msg
+      old_says t h e f m j k = go (find_group t h s.started) refl
+        where
+          just : {a b : StartedGroup} → Some a ≡ Some b → a ≡ b
+          just e = cc
+
+          nothing : {a : StartedGroup} → Some a ≡ None → ⊥
+          nothing e = cc
+
+          go : (x : Option StartedGroup) → find_group t h s.started ≡ x → m.msg ≡ (startok_of r.state.shard e).msg
+          go (Some was) k2 =
+              let a = g.kept t h was k2 in
+              let same : unrun was ≡ unrun e = sym a.2 ∙ ap unrun (just (sym a.1 ∙ f)) in
+              nw.kept n s there t h was k2 m j k ∙ (ap (λ (e : StartedGroup). (startok_of s.shard e).msg) same ∙ ap (λ (at : Shard). (startok_of at e).msg) (sym g.shard))
+          go None k2 =
+              let was = (o.means.servers n s there).groups.finds (run_of t h) (began_at m j t h k) (placed_now t h e f) in
+              absurd (nothing (sym was.1 ∙ k2))
+
+      says_now : (t : TxnId) (h : ℕ) (e : StartedGroup) → find_group t h r.state.started ≡ Some e → (m : Envelope) → Has m (w.sent ++ more) → IsStartOkOf t h m.msg → m.msg ≡ (startok_of r.state.shard e).msg
+      says_now t h e f m j k = elim (has_append m w.sent more j) [
+        | inl i ↦ old_says t h e f m i k
+        | inr i ↦
+            (let q = new_entry m i t h k in
+            let same : Some q.0 ≡ Some e = sym q.1 ∙ f in
+            q.2 ∙ ap (λ (e : StartedGroup). (startok_of r.state.shard e).msg) (just same))
+      ]
+        where
+          just : {a b : StartedGroup} → Some a ≡ Some b → a ≡ b
+          just e = cc
+
+      one_now : (m k : Envelope) → Has m (w.sent ++ more) → Has k (w.sent ++ more) → (t : TxnId) (h : ℕ) → IsStartOkOf t h m.msg → IsStartOkOf t h k.msg → m.msg ≡ k.msg
+      one_now m k i j t h a b = elim (has_append m w.sent more i) [
+        | inr x ↦ (let q = new_entry m x t h a in q.2 ∙ sym (says_now t h q.0 q.1 k j b))
+        | inl x ↦ elim (has_append k w.sent more j) [
+          | inr y ↦ (let q = new_entry k y t h b in says_now t h q.0 q.1 m i a ∙ sym q.2)
+          | inl y ↦ nw.one m k x y t h a b
+        ]
+      ]
+
+      -- what another server keeps is not told here
+      kept_elsewhere : (l : ℕ) (v : ServerState) → n ≢ l → slice_get w.servers l ≡ Some v → (t : TxnId) (h : ℕ) (e : StartedGroup) → find_group t h v.started ≡ Some e → (m : Envelope) → Has m (w.sent ++ more) → IsStartOkOf t h m.msg → m.msg ≡ (startok_of v.shard e).msg
+      kept_elsewhere l v other at t h e f m j k = elim (has_append m w.sent more j) [
+        | inl i ↦ nw.kept l v at t h e f m i k
+        | inr i ↦
+            (let q = new_entry m i t h k in
+            let a = placed_now t h q.0 q.1 in
+            let x = found_is t h v.started e f in
+            let b : IsPlacedOn log l t h = subst (λ t. IsPlacedOn log l t h) x.1 (subst (IsPlacedOn log l e.id) x.2 (placed l v at e x.0)) in
+            absurd (other (sym a ∙ b)))
+      ]
+
+      kept_now : (l : ℕ) (v : ServerState) → slice_get (slice_set w.servers n r.state) l ≡ Some v → (t : TxnId) (h : ℕ) (e : StartedGroup) → find_group t h v.started ≡ Some e → (m : Envelope) → Has m (w.sent ++ more) → IsStartOkOf t h m.msg → m.msg ≡ (startok_of v.shard e).msg
+      kept_now l v at t h e f m j k = elim (get-set_cases w.servers n l s r.state v there at) [
+        | inl x ↦
+            (let f2 = subst (λ (v : ServerState). find_group t h v.started ≡ Some e) x.1 f in
+            says_now t h e f2 m j k ∙ ap (λ (v : ServerState). (startok_of v.shard e).msg) (sym x.1))
+        | inr x ↦ kept_elsewhere l v x.0 x.1 t h e f m j k
+      ]
+
+    pub served_networked : (n : ℕ) (s : ServerState) (there : slice_get w.servers n ≡ Some s) (r : ServerStep) → KeepsGood plan (Good w.sent) (IsPlacedOn log n) s r → IsNetworked (at_server w n r)
     served_networked n s there r g =
         let more = map (sent_by (Server (record { 0 = n }))) r.sends in
         record {
+          one = one_now n s there r g;
+          kept = kept_now n s there r g;
           told = λ m h. elim (has_append m w.sent more h) [ inl k ↦ still m.msg (nw.told m k) | inr k ↦ (let q = from_has_map (sent_by (Server (record { 0 = n }))) m r.sends k in subst (λ (m : Envelope). IsToldHere (slice_set w.servers n r.state) m.msg) (sym q.2) (new q.0.msg (g.told q.0 q.1))) ];
           lists = lists_after (Server (record { 0 = n })) r.sends g.sends;
-          servers = λ m v h. holds_later more v (elim (get-set_cases w.servers n m s r.state v there h) [ inl k ↦ subst (HoldsGood (Good w.sent) Anywhere) (sym k.1) g.state | inr k ↦ nw.servers m v k.1 ]);
+          servers = λ m v h. holds_later more v (elim (get-set_cases w.servers n m s r.state v there h) [ inl k ↦ subst (HoldsGood (Good w.sent) Anywhere) (sym k.1) (anywhere r.state n g.state) | inr k ↦ nw.servers m v k.1 ]);
           taken = λ m c e x h. told_later more x (nw.taken m c e x h);
         }
       where

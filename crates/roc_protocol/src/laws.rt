@@ -198,6 +198,17 @@ pub fn lists_are_final()
     machine_laws();
 }
 
+/// What a startok tells of a group is what its server keeps: a startok of a group that is found on a server tells, from that server, the
+/// bound values, outs, entries and facts that are kept of the group.
+pub fn told_is_kept()
+    ensures { (plan : Plan) (coords : ℕ) (steps : List Stepped) (w : World) → HasSchemes plan → IsRun plan coords steps w
+        → (shard : Shard) (s : ServerState) → slice_get w.servers shard.0 ≡ Some s → (t : TxnId) (g : ℕ) (e : StartedGroup) → find_group t g s.started ≡ Some e
+        → (m : Envelope) → Has m w.sent → (at : Shard) (bound outs : List ℤ) (edges : List Dependency) (facts : List KnownList)
+        → m.msg ≡ msg.StartOk t g at bound outs edges facts → m.msg ≡ msg.StartOk t g shard e.bound e.outs e.edges e.facts }
+{
+    machine_laws();
+}
+
 /// No message is refused: a server takes each message that comes, and a coordinator ignores only one that was answered before or is of a
 /// transaction that has its reply.
 pub fn nothing_is_refused()
