@@ -1,6 +1,6 @@
 -- What a server's step keeps for those who wait, and what it says
 use Rattle.std.proofs.Common.{◌≡◌, Bool, true, false, not, cond, ◌&&◌, List, [], ◌∷◌, ◌++◌, Some, map, refl, sym, ap, subst, ◌∙◌, ◌⊎◌, inl, inr, is_some}
-use Rattle.std.proofs.lemmas.Bool.{cond-true, not_from_false, and_from, false≢true}
+use Rattle.std.proofs.lemmas.Bool.{cond-true, not_from_false, not-true, and_from, false≢true}
 use Rattle.std.specs.Prelude.{filter, flat_map}
 use Rattle.std.specs.List.{list_any}
 use Rattle.roc_sequence.specs.Lists.{Has}
@@ -83,6 +83,14 @@ IsSought v u = IsKnown v.lists.known u ⊎ ((is_here u v.started ≡ true) ⊎ (
 abbrev pub SeeksAll : ServerState → Type 0
 SeeksAll v = (k : KnownList) → Has k v.lists.known → (d : Dependency) → Has d k.edges → IsSought v d.from
 
+-- who asks here waits for a list that is unknown, of a transaction that has a group here
+abbrev pub AreWaiting : ServerState → Type 0
+AreWaiting v = (a : Asker) → Has a v.lists.waiting.askers → (is_here a.id v.started ≡ true) × (¬ IsKnown v.lists.known a.id)
+
+-- what was asked for of t is known
+abbrev pub AwaitsNone : TxnId → ServerState → Type 0
+AwaitsNone t v = (a : OpenFetch) → Has a v.lists.waiting.asked → a.id ≡ t → IsKnown v.lists.known a.id
+
 -- the list goes to who asked for it
 abbrev pub IsAnswered : List Outgoing → Asker → Type 0
 IsAnswered outs a = (edges : List Dependency) × Has (known_to (list_with a.id edges) a) outs
@@ -94,8 +102,11 @@ module _ (plan : Plan) (s : ServerState) where
     pub known : (t : TxnId) → IsKnown s.lists.known t → IsKnown r.state.lists.known t
     -- what is decided now and has a group here is told of, or was decided
     pub says : (t : TxnId) → is_here t s.started ≡ true → IsDecided r.state.lists.known t → IsDecided s.lists.known t ⊎ Has (commitok_of plan r.state t) r.sends
-    pub askers : (a : Asker) → Has a s.lists.waiting.askers → ¬ IsKnown s.lists.known a.id → IsAnswered r.sends a ⊎ (Has a r.state.lists.waiting.askers × (¬ IsKnown r.state.lists.known a.id))
-    pub asked : (a : OpenFetch) → Has a r.state.lists.waiting.asked → Has a s.lists.waiting.asked ⊎ Has (fetch_from s.shard a) r.sends
+    -- who asked is answered, or asks still
+    pub askers : (a : Asker) → Has a s.lists.waiting.askers → IsAnswered r.sends a ⊎ Has a r.state.lists.waiting.askers
+    -- what is asked for was, and its list is known where it was; or it is asked for now
+    pub asked : (a : OpenFetch) → Has a r.state.lists.waiting.asked → (Has a s.lists.waiting.asked × (IsKnown s.lists.known a.id → IsKnown r.state.lists.known a.id)) ⊎ Has (fetch_from s.shard a) r.sends
+    pub waits : AreWaiting s → AreWaiting r.state
     pub seeks : SeeksAll s → SeeksAll r.state
 
   module _ (before : List TxnId) (was : AreDecided s.lists.known before) (news : List KnownList) (ts : List TxnId) (new : AreNew (IsDecided s.lists.known) (s.lists.known ++ news) ts) where
@@ -140,10 +151,14 @@ module _ (plan : Plan) (s : ServerState) where
           (has_left (commitok_of plan r.state t) commitoks fetches (has_map (commitok_of plan r.state) t (filter (λ t. is_here t s.started) ts) (has_filter (λ t. is_here t s.started) t ts (listed_has ts t l) here)))))
     ]
 
-    taught_askers : (a : Asker) → Has a s.lists.waiting.askers → ¬ IsKnown s.lists.known a.id → IsAnswered r.sends a ⊎ (Has a r.state.lists.waiting.askers × (¬ IsKnown r.state.lists.known a.id))
-    taught_askers a h n = go (list_any (λ (k : KnownList). is_txn k.of a.id) news) refl
+    -- what was known is known
+    still_known : (t : TxnId) → IsKnown s.lists.known t → IsKnown r.state.lists.known t
+    still_known t h = taught_known t (known_stays s.lists.known K (more_keeps s.lists.known news) t h)
+
+    taught_askers : (a : Asker) → Has a s.lists.waiting.askers → IsAnswered r.sends a ⊎ Has a r.state.lists.waiting.askers
+    taught_askers a h = go (list_any (λ (k : KnownList). is_txn k.of a.id) news) refl
       where
-        go : (b : Bool) → list_any (λ (k : KnownList). is_txn k.of a.id) news ≡ b → IsAnswered r.sends a ⊎ (Has a r.state.lists.waiting.askers × (¬ IsKnown r.state.lists.known a.id))
+        go : (b : Bool) → list_any (λ (k : KnownList). is_txn k.of a.id) news ≡ b → IsAnswered r.sends a ⊎ Has a r.state.lists.waiting.askers
         go true e =
             let q = any_has (λ (k : KnownList). is_txn k.of a.id) news e in
             let same = is_txn-true q.0.of a.id q.2 in
@@ -154,19 +169,23 @@ module _ (plan : Plan) (s : ServerState) where
                   (subst (λ t. Has (known_to (list_with t q.0.edges) a) (knowns_for s.lists.waiting.askers q.0)) same
                   (has_map (known_to q.0) a (askers_of q.0.of s.lists.waiting.askers) (has_filter (λ (a : Asker). is_txn a.id q.0.of) a s.lists.waiting.askers h (is_txn-eq a.id q.0.of (sym same)))))),
             )
-        go false e =
-            inr (
-              subst (λ (l : Lists). Has a l.waiting.askers) (sym lists_are) (has_filter (λ (a : Asker). not (list_any (λ (k : KnownList). is_txn k.of a.id) news)) a s.lists.waiting.askers h (not_from_false (list_any (λ (k : KnownList). is_txn k.of a.id) news) e)),
-              λ k. elim (known_either s.lists.known news a.id (from_taught a.id k)) [
-                | inl j ↦ n j
-                | inr q ↦ false≢true (sym e ∙ has_any (λ (k : KnownList). is_txn k.of a.id) news q.0 q.1 (is_txn-eq q.0.of a.id q.2))
-              ],
-            )
+        go false e = inr (subst (λ (l : Lists). Has a l.waiting.askers) (sym lists_are) (has_filter (λ (a : Asker). not (list_any (λ (k : KnownList). is_txn k.of a.id) news)) a s.lists.waiting.askers h (not_from_false (list_any (λ (k : KnownList). is_txn k.of a.id) news) e)))
 
-    taught_asked : (a : OpenFetch) → Has a r.state.lists.waiting.asked → Has a s.lists.waiting.asked ⊎ Has (fetch_from s.shard a) r.sends
+    taught_waits : AreWaiting s → AreWaiting r.state
+    taught_waits was a h =
+        let q = from_has_filter (λ (a : Asker). not (list_any (λ (k : KnownList). is_txn k.of a.id) news)) a s.lists.waiting.askers (subst (λ (l : Lists). Has a l.waiting.askers) lists_are h) in
+        let w = was a q.0 in (
+          (take_same plan ts before_run).here a.id w.0,
+          λ k. elim (known_either s.lists.known news a.id (from_taught a.id k)) [
+            | inl j ↦ w.1 j
+            | inr z ↦ false≢true (sym (not-true (list_any (λ (k : KnownList). is_txn k.of a.id) news) q.1) ∙ has_any (λ (k : KnownList). is_txn k.of a.id) news z.0 z.1 (is_txn-eq z.0.of a.id z.2))
+          ],
+        )
+
+    taught_asked : (a : OpenFetch) → Has a r.state.lists.waiting.asked → (Has a s.lists.waiting.asked × (IsKnown s.lists.known a.id → IsKnown r.state.lists.known a.id)) ⊎ Has (fetch_from s.shard a) r.sends
     taught_asked a h = elim (asked_either a (missing_from s K) s.lists.waiting.asked (subst (λ (l : Lists). Has a l.waiting.asked) lists_are h)) [
       | inl k ↦ inr (has_right (fetch_from s.shard a) knowns (commitoks ++ fetches) (has_right (fetch_from s.shard a) commitoks fetches (has_map (fetch_from s.shard) a (missing_from s K) k)))
-      | inr k ↦ inl k
+      | inr k ↦ inl (k, still_known a.id)
     ]
 
     -- an entry of a known list is sought, since what is missing is asked for
@@ -194,9 +213,10 @@ module _ (plan : Plan) (s : ServerState) where
     pub taught_hears : (more : List Outgoing) → Hears (record r { sends = r.sends ++ more })
     taught_hears more =
         record {
-          known = λ t h. taught_known t (known_stays s.lists.known K (more_keeps s.lists.known news) t h);
+          known = still_known;
           says = λ t here d. elim (taught_says t here d) [ inl k ↦ inl k | inr k ↦ inr (front more (commitok_of plan r.state t) k) ];
-          askers = λ a h n. elim (taught_askers a h n) [ inl k ↦ inl (k.0, front more (known_to (list_with a.id k.0) a) k.1) | inr k ↦ inr k ];
+          askers = λ a h. elim (taught_askers a h) [ inl k ↦ inl (k.0, front more (known_to (list_with a.id k.0) a) k.1) | inr k ↦ inr k ];
           asked = λ a h. elim (taught_asked a h) [ inl k ↦ inl k | inr k ↦ inr (front more (fetch_from s.shard a) k) ];
+          waits = taught_waits;
           seeks = λ h. taught_seeks;
         }

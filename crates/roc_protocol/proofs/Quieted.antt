@@ -22,7 +22,7 @@ use Rattle.roc_depgraph.specs.Reach.{Reaches, direct, through}
 use Rattle.roc_depgraph.proofs.Chains.{weaker_chain}
 use Rattle.roc_await.specs.declared.waits.OpenFetch.{OpenFetch}
 use Rattle.roc_msg.specs.declared.msg.Msg.{Msg}
-use Rattle.roc_msg.specs.declared.msg.Msg.TheVariants.{Start, Commit, Fetch, Known}
+use Rattle.roc_msg.specs.declared.msg.Msg.TheVariants.{Start, Commit, Fetch}
 use Rattle.roc_msg.specs.declared.msg.Envelope.{Envelope}
 use Rattle.roc_msg.specs.Msg.{id_of}
 use Rattle.roc_plan.specs.Groups.{Plan, groups_of}
@@ -43,8 +43,8 @@ use Rattle.roc_protocol.proofs.Finals.{known_final}
 use Rattle.roc_protocol.proofs.Serial as serial
 use Rattle.roc_protocol.proofs.Heard.{AreDelivered, StartsHeard, CommitsAreOut, CommitsHeard}
 use Rattle.roc_protocol.proofs.Hears.{IsSought}
-use Rattle.roc_protocol.proofs.Delivered.{At, HasCommit, HasList, IsTaken}
-use Rattle.roc_protocol.proofs.Hearing.{HasHeard, run_heard}
+use Rattle.roc_protocol.proofs.Delivered.{At, HasCommit, Tells, IsTaken}
+use Rattle.roc_protocol.proofs.Hearing.{HasCome, HasHeard, run_heard}
 use Rattle.roc_protocol.proofs.Transactions.{transaction_or_none}
 
 -- ---- lists
@@ -84,20 +84,23 @@ entry_of known u t p =
     record { list = k.0; is_known = k.1; of = k.2; entry = a.0; has = subst (Has a.0) k.3 a.1; from = is_txn-true a.0.from u a.2 }
 
 module _ (plan : Plan) (w : World) (o : HasHeard w) (finals : (n : ℕ) (s : ServerState) → slice_get w.servers n ≡ Some s → (k : KnownList) → Has k s.lists.known → IsFinalIn plan w k.of k.edges) (out : (u : TxnId) → AreDelivered w u → CommitsAreOut w u) where
-  -- a message in the network of a transaction whose messages were delivered was taken
-  taken : (u : TxnId) → AreDelivered w u → (m : Envelope) → Has m w.sent → (msg : Msg) (to : Node) → m.msg ≡ msg → m.to ≡ to → id_of msg ≡ Some u → IsTaken w.servers w.sent msg to
-  taken u d m h msg to is goes of =
-      let p = has_place w.sent m h in
-      subst (IsTaken w.servers w.sent msg) goes (subst (λ msg. IsTaken w.servers w.sent msg m.to) is (o.taken p.0 m p.1 (d.each p.0 m p.1 (ap id_of is ∙ of))))
+  -- a message in the network of a transaction whose messages were delivered came
+  came : (u : TxnId) → AreDelivered w u → (k : ℕ) (m : Envelope) → slice_get w.sent k ≡ Some m → id_of m.msg ≡ Some u → HasCome w k
+  came u d k m at of = (m, at, d.each k m at of)
+
+  -- and was taken
+  taken : (u : TxnId) → AreDelivered w u → (k : ℕ) (m : Envelope) → slice_get w.sent k ≡ Some m → (msg : Msg) (to : Node) → m.msg ≡ msg → m.to ≡ to → id_of msg ≡ Some u → IsTaken w.servers w.sent k msg to
+  taken u d k m at msg to is goes of = subst (IsTaken w.servers w.sent k msg) goes (subst (λ msg. IsTaken w.servers w.sent k msg m.to) is (o.taken k m (came u d k m at (ap id_of is ∙ of)) at))
 
   -- where it has a group its list is known
   known_here : (u : TxnId) → AreDelivered w u → (n : ℕ) (s : ServerState) → slice_get w.servers n ≡ Some s → is_here u s.started ≡ true → IsKnown s.lists.known u
   known_here u d n s there here =
       let q = any_has (λ (e : StartedGroup). is_txn e.id u) s.started here in
-      let st = (o.servers n s there).starts.groups q.0 q.1 in
+      let st = (o.awaits n s there).starts.groups q.0 q.1 in
       let start : st.3.msg ≡ Start u st.0 q.0.group st.1 st.2 = subst (λ t. st.3.msg ≡ Start t st.0 q.0.group st.1 st.2) (is_txn-true q.0.id u q.2) st.6 in
       let c = (out u d).each st.3 (record { 0 = n }) st.0 q.0.group st.1 st.2 st.4 st.5 start in
-      let a : At w.servers n (HasCommit w.sent u (record { 0 = n })) = taken u d c.2 c.3 (Commit u c.0 c.1) (Server (record { 0 = n })) c.5 c.4 refl in
+      let p = has_place w.sent c.2 c.3 in
+      let a : At w.servers n (HasCommit w.sent u (record { 0 = n })) = taken u d p.0 c.2 p.1 (Commit u c.0 c.1) (Server (record { 0 = n })) c.5 c.4 refl in
       subst (λ (v : ServerState). IsKnown v.lists.known u) (same_there w.servers n a.0 s a.1 there) a.2.1
 
   -- an entry of a known list comes from a startok in the network
@@ -119,18 +122,21 @@ module _ (plan : Plan) (w : World) (o : HasHeard w) (finals : (n : ℕ) (s : Ser
       before : (u : TxnId) → Reaches (Precedes s.lists.known) u t → AreDelivered w u
       before u p = record { each = λ k m at of. quiet.each k m u at of (inr (weaker_chain (Precedes s.lists.known) (PrecedesIn w.sent) (named_sent n s there) u t p)) }
 
-      -- what was asked for was answered
+      -- what answers a fetch is a message of its transaction
+      told_of : (u : TxnId) (m : Envelope) → Tells u (record { 0 = n }) m → id_of m.msg ≡ Some u
+      told_of u m (to, inl k) = ap id_of k.1
+      told_of u m (to, inr k) = ap id_of k.1
+
+      -- what was asked for was answered: an answer behind its fetch came, so it is known
       answered_known : (u : TxnId) → AreDelivered w u → (a : OpenFetch) → Has a s.lists.waiting.asked → a.id ≡ u → (b : Bool) → is_known s.lists.known u ≡ b → IsKnown s.lists.known u
       answered_known u d a h of true e = e
       answered_known u d a h of false e =
-          let f = (o.servers n s there).fetched a h (λ k. false≢true (sym e ∙ subst (IsKnown s.lists.known) of k)) in
+          let f = o.fresh n s there a h (λ k. false≢true (sym e ∙ subst (IsKnown s.lists.known) of k)) in
           let me : Shard = record { 0 = n } in
-          let fetch : f.0.msg ≡ Fetch u me = subst (λ u. f.0.msg ≡ Fetch u me) of f.3 in
-          elim (taken u d f.0 f.1 (Fetch u me) (Server a.at) fetch f.2 refl) [
-            | inl k ↦
-                (let v : At w.servers n (HasList u) = taken u d k.1 k.2 (Known u k.0) (Server me) k.4 k.3 refl in
-                subst (λ (v : ServerState). IsKnown v.lists.known u) (same_there w.servers n v.0 s v.1 there) v.2)
-            | inr k ↦ absurd (k.2.2 (known_here u d a.at.0 k.0 k.1 k.2.0))
+          let fetch : f.message.msg ≡ Fetch u me = subst (λ u. f.message.msg ≡ Fetch u me) of f.is in
+          elim (taken u d f.at f.message f.stands (Fetch u me) (Server a.at) fetch f.to refl) [
+            | inl k ↦ absurd (f.unanswered k.at k.message k.behind k.stands (subst (λ u. Tells u me k.message) (sym of) k.tells) (came u d k.at k.message k.stands (told_of u k.message k.tells)))
+            | inr k ↦ (let q = (o.awaits a.at.0 k.0 k.1).askers (record { id = u; shard = me }) k.2 in absurd (q.1 (known_here u d a.at.0 k.0 k.1 q.0)))
           ]
 
       -- all that precedes it is known
@@ -139,7 +145,7 @@ module _ (plan : Plan) (w : World) (o : HasHeard w) (finals : (n : ℕ) (s : Ser
           let e = first_edge (Precedes s.lists.known) u t p in
           let x = entry_of s.lists.known u e.0 e.1 in
           let d = before u p in
-          elim (subst (IsSought s) x.from ((o.servers n s there).seeks x.list x.is_known x.entry x.has)) [
+          elim (subst (IsSought s) x.from ((o.awaits n s there).seeks x.list x.is_known x.entry x.has)) [
             | inl k ↦ k
             | inr (inl here) ↦ known_here u d n s there here
             | inr (inr asked) ↦ (let a = any_has (λ (a : OpenFetch). is_txn a.id u) s.lists.waiting.asked asked in answered_known u d a.0 a.1 (is_txn-true a.0.id u a.2) (is_known s.lists.known u) refl)
@@ -151,7 +157,7 @@ module _ (plan : Plan) (w : World) (o : HasHeard w) (finals : (n : ℕ) (s : Ser
     commits_answered : CommitsHeard w t
     commits_answered = record {
       each = λ k m shard edges facts at goes is d.
-          (let a : At w.servers shard.0 (HasCommit w.sent t shard) = subst (IsTaken w.servers w.sent (Commit t edges facts)) goes (subst (λ msg. IsTaken w.servers w.sent msg m.to) is (o.taken k m at d)) in
+          (let a : At w.servers shard.0 (HasCommit w.sent t shard) = subst (IsTaken w.servers w.sent k (Commit t edges facts)) goes (subst (λ msg. IsTaken w.servers w.sent k msg m.to) is (o.taken k m (m, at, d) at)) in
           a.2.2 (decided_here shard.0 a.0 a.1 a.2.0));
     }
 
@@ -176,7 +182,7 @@ module _ (plan : Plan) (schemes : HasSchemes plan) (laws : (S : Scheme) → IsSo
   starts_heard t = record {
     each = λ k m proc group args inputs at is d.
         (let to = start_to m (has_at w.sent k m at) t proc group args inputs is in
-        subst (IsTaken w.servers w.sent (Start t proc group args inputs)) to.1 (subst (λ msg. IsTaken w.servers w.sent msg m.to) is (heard.taken k m at d)));
+        subst (IsTaken w.servers w.sent k (Start t proc group args inputs)) to.1 (subst (λ msg. IsTaken w.servers w.sent k msg m.to) is (heard.taken k m (m, at, d) at)));
   }
 
   module _ (out : (u : TxnId) → AreDelivered w u → CommitsAreOut w u) where

@@ -40,7 +40,7 @@ use Rattle.roc_server.specs.Lists.{lists_after, taught, commit_differs, commit_f
 use Rattle.roc_server.specs.Step.{Findings, AreFindings, unless_ignored, after_message, Handles}
 use Rattle.roc_protocol.proofs.Carried.{take_same}
 use Rattle.roc_protocol.proofs.Deciding.{more_keeps}
-use Rattle.roc_protocol.proofs.Hears.{in_place_has, has_known, IsAnswered, Hears, taught_known, taught_hears}
+use Rattle.roc_protocol.proofs.Hears.{from_has_in_place, in_place_has, has_known, AwaitsNone, IsAnswered, Hears, taught_known, taught_hears}
 use Rattle.roc_server.specs.declared.handled.Handled.{Handled}
 
 -- ---- who asks
@@ -70,12 +70,13 @@ asker_stays b old a h = elim (asker_cases a b) [
 
 module _ (plan : Plan) (s : ServerState) where
   -- what a message that is taken leaves: a start its startok, a commit its list and, once it is decided, its commitok, a fetch its answer
-  -- or who asks, a known its list
+  -- or who asks; and behind an answer to a fetch the server waits for none
   abbrev pub Takes : Msg → ServerStep → Type 0
   Takes (Start id proc group args inputs) r = (e : StartedGroup) × (e.id ≡ id) × (e.group ≡ group) × Has (startok_of s.shard e) r.sends
   Takes (Commit id edges facts) r = (is_here id r.state.started ≡ true) × IsKnown r.state.lists.known id × (IsDecided r.state.lists.known id → Has (commitok_of plan r.state id) r.sends)
-  Takes (Fetch id asker) r = IsAnswered r.sends (record { id = id; shard = asker }) ⊎ ((is_here id r.state.started ≡ true) × Has (record { id = id; shard = asker }) r.state.lists.waiting.askers × (¬ IsKnown r.state.lists.known id))
-  Takes (Known id edges) r = IsKnown r.state.lists.known id
+  Takes (Fetch id asker) r = IsAnswered r.sends (record { id = id; shard = asker }) ⊎ Has (record { id = id; shard = asker }) r.state.lists.waiting.askers
+  Takes (Known id edges) r = AwaitsNone id r.state
+  Takes (Settled id mark) r = AwaitsNone id r.state
   Takes msg r = Unit {0}
 
   abbrev Result : Msg → ServerStep → Type 0
@@ -83,15 +84,18 @@ module _ (plan : Plan) (s : ServerState) where
 
   -- so it is where nothing changes, whatever is sent
   pub nothing_changes : (outs : List Outgoing) → Hears plan s (answered s outs)
-  nothing_changes outs = record { known = λ t h. h; says = λ t here d. inl d; askers = λ a h n. inr (h, n); asked = λ a h. inl h; seeks = λ h. h }
+  nothing_changes outs = record { known = λ t h. h; says = λ t here d. inl d; askers = λ a h. inr h; asked = λ a h. inl (h, λ k. k); waits = λ h. h; seeks = λ h. h }
 
   ignores : (msg : Msg) (why : Reason) → Result msg (ignored s why)
-  ignores msg why = (record { known = λ t h. h; says = λ t here d. inl d; askers = λ a h n. inr (h, n); asked = λ a h. inl h; seeks = λ h. h }, λ e. absurd (cc))
+  ignores msg why = (record { known = λ t h. h; says = λ t here d. inl d; askers = λ a h. inr h; asked = λ a h. inl (h, λ k. k); waits = λ h. h; seeks = λ h. h }, λ e. absurd (cc))
 
   start_result : (f : Findings) (id : TxnId) (proc group : ℕ) (args inputs : List ℤ) (x : Option Reason) → Result (Start id proc group args inputs) (start_judged plan f.before f.reached s id (call proc group args inputs) x)
   start_result f id proc group args inputs (Some why) = ignores (Start id proc group args inputs) why
   start_result f id proc group args inputs None = taken (find_group id group s.started) refl
     where
+      here_more : (e : StartedGroup) (t : TxnId) → is_here t s.started ≡ true → is_here t (s.started ++ e ∷ []) ≡ true
+      here_more e t a = let q = any_has (λ (e : StartedGroup). is_txn e.id t) s.started a in has_any (λ (e : StartedGroup). is_txn e.id t) (s.started ++ e ∷ []) q.0 (has_left q.0 s.started (e ∷ []) q.1) q.2
+
       taken : (x : Option StartedGroup) → find_group id group s.started ≡ x → Result (Start id proc group args inputs) (start_taken plan f.before f.reached s id (call proc group args inputs) x)
       taken (Some e) k =
           let p = and_parts (is_txn e.id id) (e.group == group) (found_has (is_group id group) s.started e k).1 in
@@ -101,11 +105,12 @@ module _ (plan : Plan) (s : ServerState) where
             record {
               known = λ t h. h;
               says = λ t here d. inl d;
-              askers = λ a h n. inr (h, n);
-              asked = λ a h. inl h;
+              askers = λ a h. inr h;
+              asked = λ a h. inl (h, λ k. k);
+              waits = λ was a h. (let w = was a h in (here_more e a.id w.0, w.1));
               seeks = λ h k j d m. elim (h k j d m) [
                 | inl a ↦ inl a
-                | inr (inl a) ↦ (let q = any_has (λ (e : StartedGroup). is_txn e.id d.from) s.started a in inr (inl (has_any (λ (e : StartedGroup). is_txn e.id d.from) (s.started ++ e ∷ []) q.0 (has_left q.0 s.started (e ∷ []) q.1) q.2)))
+                | inr (inl a) ↦ inr (inl (here_more e d.from a))
                 | inr (inr a) ↦ inr (inr a)
               ];
             },
@@ -166,8 +171,18 @@ module _ (plan : Plan) (s : ServerState) where
           (nothing_changes (known_to (list_with id edges) a ∷ []), λ d. inl (edges, inl refl))
       taken h None e =
           let a : Asker = record { id = id; shard = asker } in (
-            record { known = λ t h. h; says = λ t here d. inl d; askers = λ b h n. inr (asker_stays a s.lists.waiting.askers b h, n); asked = λ b h. inl h; seeks = λ h. h },
-            λ d. inr (h, in_place_has is_asker_before a s.lists.waiting.askers, λ k. false≢true (ap is_some (sym e) ∙ k)),
+            record {
+              known = λ t h. h;
+              says = λ t here d. inl d;
+              askers = λ b h. inr (asker_stays a s.lists.waiting.askers b h);
+              asked = λ b h. inl (h, λ k. k);
+              waits = λ was b k. elim (from_has_in_place is_asker_before a s.lists.waiting.askers b k) [
+                | inl same ↦ subst (λ (b : Asker). (is_here b.id s.started ≡ true) × (¬ IsKnown s.lists.known b.id)) (sym same) (h, λ k. false≢true (ap is_some (sym e) ∙ k))
+                | inr j ↦ was b j
+              ];
+              seeks = λ h. h;
+            },
+            λ d. inr (in_place_has is_asker_before a s.lists.waiting.askers),
           )
 
       here : (b : Bool) → is_here id s.started ≡ b → Result (Fetch id asker) (if b then fetch_taken s id asker (list_of id s.lists.known) else ignored s NotHere)
@@ -181,12 +196,12 @@ module _ (plan : Plan) (s : ServerState) where
       let news = unknown_of s.lists.known (list_with id edges ∷ []) in
       let r = taught plan s news f.decided in (
         subst (λ outs. Hears plan s (record r { sends = outs })) (append-nil r.sends) (taught_hears plan s f.before found.before news f.decided new []),
-        λ done. taught_known plan s f.before found.before news f.decided new id (known_now (list_with id edges ∷ []) id edges (inl refl)),
+        λ done a h same. subst (IsKnown r.state.lists.known) (sym same) (taught_known plan s f.before found.before news f.decided new id (known_now (list_with id edges ∷ []) id edges (inl refl))),
       )
 
   -- a watermark is heard
   hears : (coord mark : ℕ) (answer : Handled) → Hears plan s (record (answered (hearing s coord mark) []) { answer = answer })
-  hears coord mark answer = record { known = λ t h. h; says = λ t here d. inl d; askers = λ a h n. inr (h, n); asked = λ a h. inl h; seeks = λ h. h }
+  hears coord mark answer = record { known = λ t h. h; says = λ t here d. inl d; askers = λ a h. inr h; asked = λ a h. inl (h, λ k. k); waits = λ h. h; seeks = λ h. h }
 
   -- any message keeps what is waited for, and leaves what it does if it is taken
   pub message_result : (msg : Msg) (r : ServerStep) → Handles plan s msg r → Hears plan s r × (r.answer ≡ Done → Takes msg r)
@@ -198,5 +213,5 @@ module _ (plan : Plan) (s : ServerState) where
       go (Fetch id asker) f found = fetch_result id asker
       go (Known id edges) f found = known_result f id edges found (known_fault s id edges) found.decided
       go (Ended coord mark) f found = (hears coord mark Done, λ d. tt)
-      go (Settled id mark) f found = (hears id.coord mark Gone, λ d. tt)
+      go (Settled id mark) f found = (hears id.coord mark Gone, λ d. absurd (cc))
       go msg f found = ignores msg Foreign
