@@ -29,6 +29,7 @@ use Rattle.roc_msg.specs.declared.msg.Msg.TheVariants.{Ended}
 use Rattle.roc_server.specs.Below.{is_ended}
 use Rattle.roc_protocol.proofs.Marks.{none_ended}
 use Rattle.roc_protocol.proofs.Means.{entry_run, Means}
+use Rattle.roc_protocol.proofs.Gone.{none_gone}
 use Rattle.roc_protocol.proofs.Submissions.{AreSubmissions}
 use Rattle.roc_protocol.proofs.Idle.{run_idle}
 use Rattle.roc_protocol.proofs.Worlds.{IsLogged}
@@ -83,7 +84,7 @@ module _ (plan : Plan) (schemes : HasSchemes plan) (laws : (S : Scheme) → IsSo
         let m = mine.groups.entries e has in
         let d = (l.1.means.answered e.id reply (subst (λ t. WasAnswered w.history t reply) (sym same) h)).throughout in
         let here = d.everywhere e.group (i.are_groups (entry_run e) m.told.began) in
-        subst (IsDecided s.lists.known) same ((mine.decided e.id).0 (subst (λ n. IsListed is_txn (l.0.decided n) e.id) m.on here)))
+        subst (IsDecided s.lists.known) same (elim (mine.decided e.id (subst (λ n. IsListed is_txn (l.0.decided n) e.id) m.on here)) [ inl k ↦ k | inr gone ↦ absurd (none_gone s e.id gone) ]))
     | inr none ↦ absurd (subst (Has (Answered t reply)) (run_idle plan none coords steps w run).history h)
   ]
 

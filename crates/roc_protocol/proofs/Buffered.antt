@@ -24,6 +24,7 @@ use Rattle.roc_server.specs.State.{is_group, find_group, ServerState}
 use Rattle.roc_server.specs.Runs.{count_of_groups, groups_here, buffered_here, outs_here}
 use Rattle.roc_protocol.specs.PlanAssumptions.{IsSchemeOf}
 use Rattle.roc_protocol.proofs.Means.{run_of, entry_run, place, Ran, Began, stage, waits_at, DoneMeans, AreGroupsHere, ServerMeans}
+use Rattle.roc_protocol.proofs.Gone.{IsGone}
 use Rattle.roc_protocol.proofs.Grows.{filter_same}
 
 filter_and : {A : Type 0} (p q : A → Bool) (xs : List A) → filter (λ x. p x && q x) xs ≡ filter q (filter p xs)
@@ -47,7 +48,7 @@ none_kept : {A B : Type 0} (f : A → Option B) (xs : List A) → ((x : A) → f
 none_kept f [] h = refl
 none_kept f (x ∷ xs) h = ap (λ o. cons_option o (filter_map f xs)) (h x) ∙ none_kept f xs h
 
-module _ (plan : Plan) (asked : TxnId → whole.Call) (S : Scheme) (start : Store) (is : IsSchemeOf plan asked S) (c : Log) (n : ℕ) (started : List StartedGroup) (here : AreGroupsHere plan asked S start c n started) (t : TxnId) (is_whole : IsWhole S c.past.started t) where
+module _ (plan : Plan) (asked : TxnId → whole.Call) (S : Scheme) (start : Store) (is : IsSchemeOf plan asked S) (c : Log) (n : ℕ) (Gone : TxnId → Type 0) (started : List StartedGroup) (here : AreGroupsHere plan asked S start c n Gone started) (t : TxnId) (is_whole : IsWhole S c.past.started t) (kept : ¬ Gone t) where
   abbrev below : List ℕ
   below = range_with_len 0 (length (groups_of plan (asked t).procedure))
 
@@ -66,7 +67,7 @@ module _ (plan : Plan) (asked : TxnId → whole.Call) (S : Scheme) (start : Stor
   found g h = go (find_group t g started) refl
     where
       go : (o : Option StartedGroup) → find_group t g started ≡ o → Found g o
-      go None e = away refl (λ p. clash (here.finds (run_of t g) (all_began g h) p))
+      go None e = away refl (λ p. elim (here.finds (run_of t g) (all_began g h) p) [ inl f ↦ clash f | inr gone ↦ kept gone ])
         where
           clash : (f : StartedGroup) × (find_group t g started ≡ Some f) → ⊥
           clash f = let a = f.1 in let b = e in cc
@@ -134,7 +135,7 @@ module _ (plan : Plan) (asked : TxnId → whole.Call) (S : Scheme) (start : Stor
           ∙ (sym (is.later t) ∙ filter_same (λ g. not (is_immediate_of plan (asked t).procedure g)) (λ g. not (S.is_immediate (run_of t g))) (S.behaviour.groups t) (λ g h. ap not (sym (is.immediate (run_of t g)))))
 
 -- what the coordinator is told of a decided transaction
-module _ (plan : Plan) (asked : TxnId → whole.Call) (S : Scheme) (start : Store) (is : IsSchemeOf plan asked S) (c : Log) (i : LogInvariants S start c) (n : ℕ) (s : ServerState) (o : ServerMeans plan asked S start c n s) (t : TxnId) (decided : IsListed is_txn (c.decided n) t) where
+module _ (plan : Plan) (asked : TxnId → whole.Call) (S : Scheme) (start : Store) (is : IsSchemeOf plan asked S) (c : Log) (i : LogInvariants S start c) (n : ℕ) (s : ServerState) (o : ServerMeans plan asked S start c n s) (t : TxnId) (decided : IsListed is_txn (c.decided n) t) (kept : ¬ IsGone s t) where
   is_whole : IsWhole S c.past.started t
   is_whole = i.whole t (i.in_order n t decided)
 
@@ -147,12 +148,12 @@ module _ (plan : Plan) (asked : TxnId → whole.Call) (S : Scheme) (start : Stor
   abbrev given : List ℕ → List ℤ
   given gs = flat_map (λ g. ((stage plan asked S start c).yielded (run_of t g)).outs) gs
 
-  outs_found : (gs : List ℕ) → ((g : ℕ) → Has g gs → Has g (below plan asked S start is c n s.started o.groups t is_whole))
+  outs_found : (gs : List ℕ) → ((g : ℕ) → Has g gs → Has g (below plan asked S start is c n (IsGone s) s.started o.groups t is_whole kept))
       → flat_map later_outs (filter_map (λ g. find_group t g s.started) gs) ≡ flat_map (λ g. ((stage plan asked S start c).yielded (run_of t g)).outs) (filter (waits_at plan asked S start c n t) gs)
   outs_found [] h = refl
-  outs_found (g ∷ gs) h = go (find_group t g s.started) (found plan asked S start is c n s.started o.groups t is_whole g (h g (inl refl))) (outs_found gs (λ k m. h k (inr m)))
+  outs_found (g ∷ gs) h = go (find_group t g s.started) (found plan asked S start is c n (IsGone s) s.started o.groups t is_whole kept g (h g (inl refl))) (outs_found gs (λ k m. h k (inr m)))
     where
-      go : (x : Option StartedGroup) → Found plan asked S start is c n s.started o.groups t is_whole g x
+      go : (x : Option StartedGroup) → Found plan asked S start is c n (IsGone s) s.started o.groups t is_whole kept g x
           → flat_map later_outs (filter_map (λ g. find_group t g s.started) gs) ≡ flat_map (λ g. ((stage plan asked S start c).yielded (run_of t g)).outs) (filter (waits_at plan asked S start c n t) gs)
           → flat_map later_outs (cons_option x (filter_map (λ g. find_group t g s.started) gs))
           ≡ flat_map (λ g. ((stage plan asked S start c).yielded (run_of t g)).outs) (cond (waits_at plan asked S start c n t g) (g ∷ filter (waits_at plan asked S start c n t) gs) (filter (waits_at plan asked S start c n t) gs))
@@ -166,11 +167,11 @@ module _ (plan : Plan) (asked : TxnId → whole.Call) (S : Scheme) (start : Stor
               ap (λ (x : Option (List ℤ)). unwrap_or x [] ++ flat_map later_outs (filter_map (λ g. find_group t g s.started) gs)) (o.part.at_once e has (ap S.is_immediate same ∙ b))
               ∙ (ih ∙ sym (ap given (cond-false (W g) (g ∷ filter W gs) (filter W gs) (ap (λ x. not x && (place plan asked S start c (run_of t g) == n)) b))))
           two false b =
-              let began = all_began plan asked S start is c n s.started o.groups t is_whole g (h g (inl refl)) in
+              let began = all_began plan asked S start is c n (IsGone s) s.started o.groups t is_whole kept g (h g (inl refl)) in
               let ran : Ran plan asked S start c (run_of t g) = i.later_ran (run_of t g) began b (subst (λ n. IsListed is_txn (c.decided n) t) (sym on) decided) in
               let gave : e.later ≡ Some ((stage plan asked S start c).yielded (run_of t g)).outs = o.part.later e has (subst (Ran plan asked S start c) (sym same) ran) (ap S.is_immediate same ∙ b) ∙ ap (λ r. Some ((stage plan asked S start c).yielded r).outs) same in
               (λ k. unwrap_or (gave k) [] ++ ih k)
               ∙ sym (ap given (cond-true (W g) (g ∷ filter W gs) (filter W gs) (and_from (not (S.is_immediate (run_of t g))) (place plan asked S start c (run_of t g) == n) (ap not b) (eq-eqb (place plan asked S start c (run_of t g)) n on))))
 
   pub outs_told : DoneMeans plan asked S start c t n (outs_here plan t s.started)
-  outs_told = record { decided = decided; is = ap (flat_map later_outs) (here_are plan asked S start is c n s.started o.groups t is_whole) ∙ outs_found (below plan asked S start is c n s.started o.groups t is_whole) (λ g h. h) }
+  outs_told = record { decided = decided; is = ap (flat_map later_outs) (here_are plan asked S start is c n (IsGone s) s.started o.groups t is_whole kept) ∙ outs_found (below plan asked S start is c n (IsGone s) s.started o.groups t is_whole kept) (λ g h. h) }

@@ -1,5 +1,5 @@
 -- Lists that servers know and messages carry come from lists that were known and carried
-use Rattle.std.proofs.Common.{◌≡◌, ℕ, ℤ, ◌==◌, Bool, true, false, not, cond, ◌||◌, List, [], ◌∷◌, ◌++◌, Option, Some, None, map, refl, sym, ap, subst, ◌∙◌, inl, inr, append-nil}
+use Rattle.std.proofs.Common.{◌≡◌, ℕ, ℤ, ◌==◌, Bool, true, false, not, cond, ◌||◌, List, [], ◌∷◌, ◌++◌, Option, Some, None, map, refl, sym, ap, subst, ◌∙◌, ◌⊎◌, inl, inr, append-nil}
 use Rattle.std.proofs.lemmas.Bool.{cond-true, cond-false, or_left, or_right, and_from, and_parts, eq-eqb, eqb-true, or_cases, false≢true}
 use Rattle.std.specs.Prelude.{filter, flat_map, find, if◌then◌else◌}
 use Rattle.roc_sequence.specs.Lists.{Has}
@@ -35,6 +35,7 @@ use Rattle.roc_protocol.specs.Final.{lists_in}
 use Rattle.roc_protocol.proofs.Facts.{facts_known}
 use Rattle.roc_protocol.proofs.Served.{list_has}
 use Rattle.roc_protocol.proofs.Deciding.{take_keeps}
+use Rattle.roc_protocol.proofs.Gone.{IsGone, gone_stays}
 use Rattle.roc_server.specs.declared.handled.Handled.{Handled}
 use Rattle.roc_server.specs.declared.handled.Handled.TheVariants.{Done, Gone}
 
@@ -134,17 +135,19 @@ module _ (plan : Plan) (Good : TxnId → List Dependency → Type 0) (Here : Txn
     pub state : HoldsGood Good Here r.state
     pub sends : (out : Outgoing) → Has out r.sends → AllGood Good (lists_in out.msg)
     pub told : (out : Outgoing) → Has out r.sends → IsToldBy s.shard r.state.started out.msg
-    pub kept : (id : TxnId) (g : ℕ) (e : StartedGroup) → find_group id g s.started ≡ Some e → (f : StartedGroup) × (find_group id g r.state.started ≡ Some f) × (unrun f ≡ unrun e)
-    pub here : (id : TxnId) → is_here id s.started ≡ true → is_here id r.state.started ≡ true
+    -- what is kept of a group stays, and who has a group here has one, but for those of transactions that are gone; and these stay gone
+    pub kept : (id : TxnId) (g : ℕ) (e : StartedGroup) → find_group id g s.started ≡ Some e → ((f : StartedGroup) × (find_group id g r.state.started ≡ Some f) × (unrun f ≡ unrun e)) ⊎ IsGone r.state id
+    pub here : (id : TxnId) → is_here id s.started ≡ true → (is_here id r.state.started ≡ true) ⊎ IsGone r.state id
+    pub gone : (id : TxnId) → IsGone s id → IsGone r.state id
     pub shard : r.state.shard ≡ s.shard
 
   module _ (holds : HoldsGood Good Here s) where
     ignores : (why : Reason) → KeepsGood (ignored s why)
-    ignores why = record { state = holds; sends = λ out h. absurd h; told = λ out h. absurd h; kept = λ id g e h. (e, h, refl); here = λ id h. h; shard = refl }
+    ignores why = record { state = holds; sends = λ out h. absurd h; told = λ out h. absurd h; kept = λ id g e h. inl (e, h, refl); here = λ id h. inl h; gone = λ id h. h; shard = refl }
 
     -- nothing changes
     answers : (outs : List Outgoing) → ((out : Outgoing) → Has out outs → AllGood Good (lists_in out.msg)) → ((out : Outgoing) → Has out outs → IsToldBy s.shard s.started out.msg) → KeepsGood (answered s outs)
-    answers outs sends told = record { state = holds; sends = sends; told = told; kept = λ id g e h. (e, h, refl); here = λ id h. h; shard = refl }
+    answers outs sends told = record { state = holds; sends = sends; told = told; kept = λ id g e h. inl (e, h, refl); here = λ id h. inl h; gone = λ id h. h; shard = refl }
 
     one_sent : (P : Msg → Type 0) (out x : Outgoing) → Has out (x ∷ []) → P x.msg → P out.msg
     one_sent P out x h k = subst (λ (out : Outgoing). P out.msg) (sym (has_one out x h)) k
@@ -208,8 +211,9 @@ module _ (plan : Plan) (Good : TxnId → List Dependency → Type 0) (Here : Txn
                 sends = λ out h. one_sent (λ m. AllGood Good (lists_in m)) out (startok_of s.shard e) h facts_good;
                 told = λ out h. one_sent (IsToldBy s.shard (s.started ++ e ∷ [])) out (startok_of s.shard e) h
                     (refl, e, find_last (is_group id c.group) s.started e k (and_from (is_txn id id) (c.group == c.group) (is_txn-same id) (eq-eqb c.group c.group refl)), refl, refl, refl, refl);
-                kept = λ u g b h. (b, find_front (is_group u g) s.started (e ∷ []) b h, refl);
-                here = λ u h. here_more s.started u h;
+                kept = λ u g b h. inl (b, find_front (is_group u g) s.started (e ∷ []) b h, refl);
+                here = λ u h. inl (here_more s.started u h);
+                gone = gone_stays s (start_taken plan f.before f.reached s id c None).state;
                 shard = refl;
               }
 
@@ -256,8 +260,9 @@ module _ (plan : Plan) (Good : TxnId → List Dependency → Type 0) (Here : Txn
               | inl k ↦ taught_sends (IsToldBy s.shard r.state.started) (λ k h. tt) (λ t n. ((take_keeps plan ts before_run).1, (take_same plan ts before_run).here t n)) (λ a. tt) out k
               | inr k ↦ only (IsToldBy s.shard r.state.started) (λ t n. ((take_keeps plan ts before_run).1, (take_same plan ts before_run).here t n)) out k
             ];
-            kept = (take_same plan ts before_run).found;
-            here = (take_same plan ts before_run).here;
+            kept = λ id g e h. inl ((take_same plan ts before_run).found id g e h);
+            here = λ id h. inl ((take_same plan ts before_run).here id h);
+            gone = gone_stays s r.state;
             shard = (take_keeps plan ts before_run).1;
           }
 
@@ -291,7 +296,16 @@ module _ (plan : Plan) (Good : TxnId → List Dependency → Type 0) (Here : Txn
             (λ out h. one_sent (λ m. AllGood Good (lists_in m)) out (known_to (list_with id edges) (record { id = id; shard = asker })) h
             (λ l j. subst (λ (l : KnownList). Good l.of l.edges) (sym (has_one l (list_with id edges) j)) (subst (Good id) k.3 (subst (λ t. Good t k.0.edges) k.2 (holds.known k.0 k.1)))))
             (λ out h. one_sent (IsToldBy s.shard s.started) out (known_to (list_with id edges) (record { id = id; shard = asker })) h tt)
-        taken None e = record { state = record { groups = holds.groups; known = holds.known; facts = holds.facts }; sends = λ out h. absurd h; told = λ out h. absurd h; kept = λ id g e h. (e, h, refl); here = λ id h. h; shard = refl }
+        taken None e =
+            record {
+              state = record { groups = holds.groups; known = holds.known; facts = holds.facts };
+              sends = λ out h. absurd h;
+              told = λ out h. absurd h;
+              kept = λ id g e h. inl (e, h, refl);
+              here = λ id h. inl h;
+              gone = gone_stays s (fetch_taken s id asker None).state;
+              shard = refl;
+            }
 
         here : (b : Bool) → KeepsGood (if b then fetch_taken s id asker (list_of id s.lists.known) else ignored s NotHere)
         here true = taken (list_of id s.lists.known) refl
@@ -307,7 +321,16 @@ module _ (plan : Plan) (Good : TxnId → List Dependency → Type 0) (Here : Txn
 
     -- a watermark is heard
     hears : (coord mark : ℕ) (answer : Handled) → KeepsGood (record (answered (hearing s coord mark) []) { answer = answer })
-    hears coord mark answer = record { state = record { groups = holds.groups; known = holds.known; facts = holds.facts }; sends = λ out h. absurd h; told = λ out h. absurd h; kept = λ id g e h. (e, h, refl); here = λ id h. h; shard = refl }
+    hears coord mark answer =
+        record {
+          state = record { groups = holds.groups; known = holds.known; facts = holds.facts };
+          sends = λ out h. absurd h;
+          told = λ out h. absurd h;
+          kept = λ id g e h. inl (e, h, refl);
+          here = λ id h. inl h;
+          gone = gone_stays s (hearing s coord mark);
+          shard = refl;
+        }
 
     pub message_good : (msg : Msg) (r : ServerStep) → Handles plan s msg r → AllGood Good (lists_in msg) → StartsHere Here msg → KeepsGood r
     message_good msg r h good starts = subst KeepsGood (sym h.is) (go msg h.findings h.found good starts)

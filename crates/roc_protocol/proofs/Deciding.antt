@@ -1,5 +1,5 @@
 -- A server is taught lists, and decides
-use Rattle.std.proofs.Common.{◌≡◌, ◌≢◌, ◌↔◌, ℕ, ◌==◌, Bool, true, false, not, cond, ◌&&◌, List, [], ◌∷◌, ◌++◌, Option, Some, None, refl, sym, ap, subst, ◌∙◌, ◌⊎◌, inl, inr, is_some, unwrap_or}
+use Rattle.std.proofs.Common.{◌≡◌, ◌≢◌, ℕ, ◌==◌, Bool, true, false, not, cond, ◌&&◌, List, [], ◌∷◌, ◌++◌, Option, Some, None, refl, sym, ap, subst, ◌∙◌, ◌⊎◌, inl, inr, is_some, unwrap_or}
 use Rattle.std.proofs.lemmas.Bool.{false≢true, and_parts, and_from, eq-eqb, eqb-true, cond-true, cond-false, not-true, not_from_false, false_from_ne_true, ne_eqb}
 use Rattle.std.specs.Prelude.{filter, flat_map, filter_map, find}
 use Rattle.std.specs.List.{list_any, cons_option, range_with_len}
@@ -51,6 +51,7 @@ use Rattle.roc_server.specs.Lists.{is_missing, missing_from, lists_after}
 use Rattle.roc_protocol.specs.PlanAssumptions.{IsSchemeOf}
 use Rattle.roc_protocol.specs.Inner.Given.{LogLaws}
 use Rattle.roc_protocol.proofs.Means.{HasBegun, run_of, entry_run, place, Ran, Began, stage, AllMean, AreGroupsHere, ServerMeans}
+use Rattle.roc_protocol.proofs.Gone.{IsGone, none_gone, gone_stays}
 use Rattle.roc_protocol.proofs.Grows.{begun_grows, place_grows, entry_grows, all_grow, answered_grows}
 use Rattle.roc_protocol.proofs.Facts.{known_has}
 use Rattle.roc_protocol.proofs.Starting.{after_append}
@@ -172,7 +173,7 @@ module _ (plan : Plan) (asked : TxnId → whole.Call) (S : Scheme) (start : Stor
   }
 
   pub are_new : (t : TxnId) → IsListed is_txn ts t → ¬ IsListed is_txn (c.decided n) t
-  are_new t h k = (new.members.only t h).1 ((o.decided t).0 k)
+  are_new t h k = elim (o.decided t k) [ inl was ↦ (new.members.only t h).1 was | inr gone ↦ none_gone s t gone ]
 
   same_new : new_in (c.decided n) ts ≡ ts
   same_new = none_new (c.decided n) ts (λ t h. are_new t (has_listed ts t h))
@@ -183,7 +184,7 @@ module _ (plan : Plan) (asked : TxnId → whole.Call) (S : Scheme) (start : Stor
     | inl k ↦ inr k
     | inr a ↦ elim (listed_or_not is_txn (c.decided n) u) [
       | inl k ↦ inl k
-      | inr b ↦ absurd (a (new.members.all u (h, λ d. b ((o.decided u).1 d))))
+      | inr b ↦ absurd (a (new.members.all u (h, λ d. b (o.back u d))))
     ]
   ]
 
@@ -251,7 +252,7 @@ module _ (plan : Plan) (asked : TxnId → whole.Call) (S : Scheme) (start : Stor
   ran_cases q h = elim (listed_either is_txn_group c.past.ran T q h) [ inl k ↦ inl k | inr k ↦ inr (groups.listed_has is_txn_group same_group is_group-same T q k.1) ]
 
   -- a buffered group of a transaction waits
-  waiting : (t : TxnId) → IsWhole S c.past.started t → (st : ServerState) → AreGroupsHere plan asked S start c n st.started → (e : StartedGroup) → Has e (buffered_here plan t st.started) → ¬ Ran plan asked S start c (entry_run e) → IsWaiting plan asked S start is laws c n e
+  waiting : (t : TxnId) → IsWhole S c.past.started t → (st : ServerState) → AreGroupsHere plan asked S start c n (IsGone s) st.started → (e : StartedGroup) → Has e (buffered_here plan t st.started) → ¬ Ran plan asked S start c (entry_run e) → IsWaiting plan asked S start is laws c n (IsGone s) e
   waiting t w st h e k fresh =
       let f = from_has_filter (λ (e : StartedGroup). not (is_immediate_of plan e.proc e.group)) e (groups_here plan t st.started) k in
       let g = from_has_filter_map (λ g. find_group t g st.started) e (range_with_len 0 (count_of_groups plan (find (λ (e : StartedGroup). is_txn e.id t) st.started))) f.0 in
@@ -269,20 +270,23 @@ module _ (plan : Plan) (asked : TxnId → whole.Call) (S : Scheme) (start : Stor
   abbrev pub after : ServerState
   after = take_all plan before_run ts
 
-  at_end : IsAt plan asked S start is laws c n (λ q. Ran plan asked S start c q ⊎ Has q T) (after_groups S.behaviour X T) after
+  at_end : IsAt plan asked S start is laws c n (IsGone s) (λ q. Ran plan asked S start c q ⊎ Has q T) (after_groups S.behaviour X T) after
   at_end =
-      take_parts plan asked S start is laws c n waiting ts (λ t h. may.whole t (has_listed ts t h)) not_ran (Ran plan asked S start c) X before_run
+      take_parts plan asked S start is laws c n (IsGone s) waiting ts (λ t h. may.whole t (has_listed ts t h)) (λ t h. none_gone s t) not_ran (Ran plan asked S start c) X before_run
       (record { keeps = λ q h. refl; groups = o.groups; part = o.part })
 
-  -- what was decided is decided still
-  decided_after : (t : TxnId) → IsListed is_txn (d.decided n) t ↔ IsDecided K t
-  decided_after t = subst (λ l. IsListed is_txn l t ↔ IsDecided K t) (sym (cond-true (n == n) (c.decided n ++ ts) (c.decided n) (eq-eqb n n refl))) (
-    λ h. elim (listed_either is_txn (c.decided n) ts t h) [
-      | inl k ↦ decided_stays s.lists.known K (more_keeps s.lists.known news) t ((o.decided t).0 k)
-      | inr k ↦ (new.members.only t k.1).0
-    ],
-    λ h. elim (new_or t h) [ inl k ↦ listed_front is_txn (c.decided n) ts t k | inr k ↦ listed_behind is_txn (c.decided n) ts t k ],
-  )
+  -- what the shard decided is decided still, or gone
+  decided_after : (t : TxnId) → IsListed is_txn (d.decided n) t → IsDecided K t ⊎ IsGone s t
+  decided_after t h = elim (listed_either is_txn (c.decided n) ts t (subst (λ l. IsListed is_txn l t) (cond-true (n == n) (c.decided n ++ ts) (c.decided n) (eq-eqb n n refl)) h)) [
+    | inl k ↦ elim (o.decided t k) [ inl was ↦ inl (decided_stays s.lists.known K (more_keeps s.lists.known news) t was) | inr gone ↦ inr gone ]
+    | inr k ↦ inl (new.members.only t k.1).0
+  ]
+
+  -- and what is decided by its lists it decided
+  back_after : (t : TxnId) → IsDecided K t → IsListed is_txn (d.decided n) t
+  back_after t h =
+      subst (λ l. IsListed is_txn l t) (sym (cond-true (n == n) (c.decided n ++ ts) (c.decided n) (eq-eqb n n refl)))
+      (elim (new_or t h) [ inl k ↦ listed_front is_txn (c.decided n) ts t k | inr k ↦ listed_behind is_txn (c.decided n) ts t k ])
 
   -- what is missing began where it is asked for
   pub missing_begun : (a : OpenFetch) → Has a (missing_from s K) → HasBegun plan asked S start c a.id a.at.0
@@ -312,7 +316,7 @@ module _ (plan : Plan) (asked : TxnId → whole.Call) (S : Scheme) (start : Stor
   ]
 
   pub taken_decided : (t : TxnId) → IsListed is_txn ts t → IsListed is_txn (d.decided n) t
-  taken_decided t h = (decided_after t).1 (new.members.only t h).0
+  taken_decided t h = back_after t (new.members.only t h).0
 
   pub server_after : ServerMeans plan asked S start d n after
   server_after =
@@ -320,7 +324,7 @@ module _ (plan : Plan) (asked : TxnId → whole.Call) (S : Scheme) (start : Stor
         number = ap (λ s. s.0) (take_keeps plan ts before_run).1 ∙ o.number;
         groups = record {
           entries = λ e h. entry_grows plan asked S start is c d i j g n (unrun e) (at_end.groups.entries e h);
-          finds = λ r b p. at_end.groups.finds r b (sym (place_grows plan asked S start is c d i j g r b) ∙ p);
+          finds = λ r b p. elim (at_end.groups.finds r b (sym (place_grows plan asked S start is c d i j g r b) ∙ p)) [ inl f ↦ inl f | inr gone ↦ inr (gone_stays s after r.txn gone) ];
         };
         part = record {
           cells = λ x e. at_end.part.cells x e ∙ ap (λ (Z : Stage). read Z.store x) (sym Y_is);
@@ -332,7 +336,8 @@ module _ (plan : Plan) (asked : TxnId → whole.Call) (S : Scheme) (start : Stor
         fetched = λ a h. begun_grows plan asked S start is c d i j g a.id a.at.0
             (elim (asked_cases a (missing_from s K) s.lists.waiting.asked (subst (λ (l : Lists). Has a l.waiting.asked) (take_keeps plan ts before_run).0 h)) [ inl k ↦ missing_begun a k | inr k ↦ o.fetched a k ]);
         ended = λ t h. answered_grows plan asked S start is c d i j g t (o.ended t (subst (λ (below : List ℕ). is_ended below t ≡ true) (take_keeps plan ts before_run).2 h));
-        decided = λ t. subst (λ (l : Lists). IsListed is_txn (d.decided n) t ↔ IsDecided l.known t) (sym (take_keeps plan ts before_run).0) (decided_after t);
+        decided = λ t h. elim (decided_after t h) [ inl k ↦ inl (subst (λ (l : Lists). IsDecided l.known t) (sym (take_keeps plan ts before_run).0) k) | inr gone ↦ inr (gone_stays s after t gone) ];
+        back = λ t h. back_after t (subst (λ (l : Lists). IsDecided l.known t) (take_keeps plan ts before_run).0 h);
       }
 
   -- groups that run here leave the cells of other shards

@@ -33,6 +33,7 @@ use Rattle.roc_protocol.proofs.Networks.{told_more}
 use Rattle.roc_protocol.proofs.Starting.{shard_number}
 use Rattle.roc_protocol.proofs.Hears.{SeeksAll, AreWaiting, AwaitsNone, IsAnswered, Hears}
 use Rattle.roc_protocol.proofs.Takes.{Takes}
+use Rattle.roc_protocol.proofs.Gone.{IsGone}
 
 -- ---- places in a network that grows
 
@@ -94,7 +95,7 @@ pub record Fresh (sent : List Envelope) (Came : ℕ → Type 0) (n : ℕ) (a : O
 
 -- a server that took a commit from the shard of this name
 abbrev pub HasCommit : List Envelope → TxnId → Shard → ServerState → Type 0
-HasCommit sent t shard v = (is_here t v.started ≡ true) × IsKnown v.lists.known t × (IsDecided v.lists.known t → IsDoneIn sent t shard)
+HasCommit sent t shard v = ((is_here t v.started ≡ true) × IsKnown v.lists.known t × (IsDecided v.lists.known t → IsDoneIn sent t shard)) ⊎ IsGone v t
 
 -- the asker waits here
 abbrev pub HasAsker : TxnId → Shard → ServerState → Type 0
@@ -158,7 +159,11 @@ module _ (sent more : List Envelope) where
 
   -- a server whose state is the same
   is_same : (n : ℕ) (v : ServerState) → IsLater sent more n v v
-  is_same n v = record { commit = λ t k. (k.0, k.1, λ d. done_more t (record { 0 = n }) (k.2 d)); asker = λ a h. inr h; asked = λ a h. inl (h, λ k. k) }
+  is_same n v = record {
+    commit = λ t k. elim k [ inl p ↦ inl (p.0, p.1, λ d. done_more t (record { 0 = n }) (p.2 d)) | inr gone ↦ inr gone ];
+    asker = λ a h. inr h;
+    asked = λ a h. inl (h, λ k. k);
+  }
 
   -- more is sent, and no server changes
   pub later_sends : (servers : List ServerState) → Later servers servers sent more
@@ -270,14 +275,17 @@ module _ (plan : Plan) (servers : List ServerState) (sent : List Envelope) (n : 
   fetched_now : (a : OpenFetch) → Has (fetch_from s.shard a) r.sends → IsFetchedIn more n a
   fetched_now a k = (sent_by (Server (record { 0 = n })) (fetch_from s.shard a), has_map (sent_by (Server (record { 0 = n }))) (fetch_from s.shard a) r.sends k, refl, ap (λ (at : Shard). Fetch a.id at) (ap to_shard number))
 
+  still_commit :
+      (t : TxnId) → is_here t s.started ≡ true → IsKnown s.lists.known t → (IsDecided s.lists.known t → IsDoneIn sent t (record { 0 = n })) → (is_here t r.state.started ≡ true) ⊎ IsGone r.state t → IsKnown r.state.lists.known t ⊎ IsGone r.state t
+      → HasCommit (sent ++ more) t (record { 0 = n }) r.state
+  still_commit t was knew done (inl here) (inl known) = inl (here, known, λ d. elim (h.says t was d) [ inl before ↦ done_more sent more t (record { 0 = n }) (done before) | inr j ↦ done_now t (record { 0 = n }) refl j ])
+  still_commit t was knew done (inr gone) known = inr gone
+  still_commit t was knew done (inl here) (inr gone) = inr gone
+
   its_later : IsLater sent more n s r.state
   its_later =
       record {
-        commit = λ t p. (
-          g.here t p.0,
-          h.known t p.1,
-          λ d. elim (h.says t p.0 d) [ inl was ↦ done_more sent more t (record { 0 = n }) (p.2 was) | inr j ↦ done_now t (record { 0 = n }) refl j ],
-        );
+        commit = λ t k. elim k [ inl p ↦ still_commit t p.0 p.1 p.2 (g.here t p.0) (h.known t p.1) | inr gone ↦ inr (g.gone t gone) ];
         asker = λ a k. elim (h.askers a k) [ inl told ↦ inl (answered_now a told) | inr j ↦ inr j ];
         asked = λ a k. elim (h.asked a k) [ inl was ↦ inl was | inr new ↦ inr (fetched_now a new) ];
       }
@@ -315,7 +323,8 @@ module _ (plan : Plan) (servers : List ServerState) (sent : List Envelope) (n : 
           is = λ j. StartOk (t.1 j) (t.2 j) s.shard e.bound e.outs e.edges e.facts;
         },
       )
-  taken_now k (Commit id edges facts) shard b same t = (r.state, now_there shard same, (t.0, t.1, λ d. done_now id shard same (t.2 d)))
+  taken_now k (Commit id edges facts) shard b same (inl t) = (r.state, now_there shard same, inl (t.0, t.1, λ d. done_now id shard same (t.2 d)))
+  taken_now k (Commit id edges facts) shard b same (inr gone) = (r.state, now_there shard same, inr gone)
   taken_now k (Fetch id asker) shard b same (inl t) = let q = answered_now (record { id = id; shard = asker }) t in let p = place_behind q.0 sent more q.1 in inl (record { at = p.0; message = q.0; stands = p.1; tells = q.2; behind = (let far = p.2 in omega arith) })
   taken_now k (Fetch id asker) shard b same (inr t) = inr (r.state, now_there shard same, t)
   taken_now k msg shard b same t = tt

@@ -26,6 +26,7 @@ use Rattle.roc_protocol.specs.Happens.{Outcome, IsReceived}
 use Rattle.roc_protocol.specs.Run.{Stepped, Transition, IsRun}
 use Rattle.roc_protocol.specs.Inner.Given.{LogLaws, StoreLaws}
 use Rattle.roc_protocol.proofs.Means.{run_of, Means}
+use Rattle.roc_protocol.proofs.Gone.{none_gone}
 use Rattle.roc_protocol.proofs.Starting.{shard_number}
 use Rattle.roc_protocol.proofs.Idle.{run_idle}
 use Rattle.roc_protocol.proofs.Worlds.{Submitting, is_refused, is_accepted, submitting}
@@ -67,7 +68,7 @@ module _ (plan : Plan) (schemes : HasSchemes plan) (laws : (S : Scheme) → IsSo
     | inl some ↦
         (let x = logged plan schemes laws stores coords steps w run some in
         let i = (laws (S plan schemes laws stores coords steps w run some) (sound plan schemes laws stores coords steps w run some)).holds x.0 x.1.means.reached in
-        subst (λ l. IsListed is_txn l t) (sym x.1.means.order) (i.in_order n t (((x.1.means.servers n s there).decided t).1 d)))
+        subst (λ l. IsListed is_txn l t) (sym x.1.means.order) (i.in_order n t ((x.1.means.servers n s there).back t d)))
     | inr none ↦ absurd (nothing s.lists.known ((run_idle plan none coords steps w run).known n s there) d)
   ]
     where
@@ -83,8 +84,7 @@ module _ (plan : Plan) (schemes : HasSchemes plan) (laws : (S : Scheme) → IsSo
         let i = (laws T (sound plan schemes laws stores coords steps w run some)).holds x.0 x.1.means.reached in
         let k = subst (λ msg. Means plan (asked plan schemes laws stores coords steps w run some) T (start_store plan.program) x.0 msg m.to) msg (x.1.means.messages m has) in
         let began = i.whole id (subst (λ l. IsListed is_txn l id) x.1.means.order h) group k.means.listed in
-        let f = (x.1.means.servers n s there).groups.finds (run_of id group) began (ap shard_number (sym k.to ∙ to)) in
-        clash f.0 f.1)
+        elim ((x.1.means.servers n s there).groups.finds (run_of id group) began (ap shard_number (sym k.to ∙ to))) [ inl f ↦ clash f.0 f.1 | inr gone ↦ none_gone s id gone ])
     | inr none ↦ subst (Has m) (run_idle plan none coords steps w run).sent has
   ]
     where

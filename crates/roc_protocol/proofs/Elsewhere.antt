@@ -1,11 +1,10 @@
 -- A server on which a step of the log does nothing
-use Rattle.std.proofs.Common.{◌≡◌, ◌↔◌, ℕ, false, Some, sym, ap, subst, ◌∙◌}
+use Rattle.std.proofs.Common.{◌≡◌, ℕ, false, Some, sym, ap, subst, ◌∙◌}
 use Rattle.roc_sequence.specs.Places.{IsListed}
 use Rattle.roc_base.specs.declared.id.TxnId.{TxnId}
 use Rattle.roc_base.specs.TxnId.{is_txn}
 use Rattle.roc_rows.specs.declared.cell.Cell.{Cell}
 use Rattle.roc_rows.specs.Store.{Store, read}
-use Rattle.roc_depgraph.specs.Deps.{IsDecided}
 use Rattle.roc_plan.specs.Groups.{Plan}
 use Rattle.roc_whole.specs.Serial as whole
 use Rattle.roc_law_orders.specs.Behaviour.{TxnGroup, Yield}
@@ -46,5 +45,6 @@ module _ (plan : Plan) (asked : TxnId → whole.Call) (S : Scheme) (start : Stor
         known = all_grow plan asked S start is c d i j g s.lists.known o.known;
         fetched = λ a h. begun_grows plan asked S start is c d i j g a.id a.at.0 (o.fetched a h);
         ended = λ t h. answered_grows plan asked S start is c d i j g t (o.ended t h);
-        decided = λ t. subst (λ l. IsListed is_txn l t ↔ IsDecided s.lists.known t) (sym q.decided) (o.decided t);
+        decided = λ t h. o.decided t (subst (λ l. IsListed is_txn l t) q.decided h);
+        back = λ t h. subst (λ l. IsListed is_txn l t) (sym q.decided) (o.back t h);
       }

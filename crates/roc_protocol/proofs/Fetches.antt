@@ -43,6 +43,7 @@ use Rattle.roc_audit.specs.declared.entry.Entry.{Entry}
 use Rattle.roc_protocol.specs.World.{World, sent_by, mark_delivered, at_server, at_coord}
 use Rattle.roc_protocol.proofs.Gathered.{IsRound}
 use Rattle.roc_protocol.proofs.Changed.{get-set_here, get-set_other, get-set_cases}
+use Rattle.roc_protocol.proofs.Gone.{IsGone, gone_stays}
 use Rattle.roc_server.specs.declared.handled.Handled.{Handled}
 use Rattle.roc_server.specs.declared.handled.Handled.TheVariants.{Done, Gone}
 
@@ -54,13 +55,17 @@ FetchedFor For (Known id edges) (Server shard) = For id shard.0
 FetchedFor For (Known id edges) (Coord number) = Unit {0}
 FetchedFor For msg to = Unit {0}
 
--- the one is asked for here, or the other was asked for by that shard
+-- the list of id was asked for here, or it is gone
+abbrev pub WasAskedFor : TxnId → ServerState → Type 0
+WasAskedFor id v = (was_asked_for id v.lists.waiting.asked ≡ true) ⊎ IsGone v id
+
+-- the one is asked for here, or was and is gone; or it was asked for by that shard
 abbrev pub IsFor : (For : TxnId → ℕ → Type 0) → ServerState → TxnId → ℕ → Type 0
-IsFor For s id shard = ((shard ≡ s.shard.0) × (was_asked_for id s.lists.waiting.asked ≡ true)) ⊎ For id shard
+IsFor For s id shard = ((shard ≡ s.shard.0) × WasAskedFor id s) ⊎ For id shard
 
 module _ (plan : Plan) (For : TxnId → ℕ → Type 0) (s : ServerState) (waits : (a : Asker) → Has a s.lists.waiting.askers → For a.id a.shard.0) where
   pub record KeepsFetches (r : ServerStep) : Type 0 where
-    pub asked : (id : TxnId) → was_asked_for id s.lists.waiting.asked ≡ true → was_asked_for id r.state.lists.waiting.asked ≡ true
+    pub asked : (id : TxnId) → WasAskedFor id s → WasAskedFor id r.state
     pub askers : (a : Asker) → Has a r.state.lists.waiting.askers → For a.id a.shard.0
     pub sends : (out : Outgoing) → Has out r.sends → FetchedFor (IsFor For r.state) out.msg out.to
     pub shard : r.state.shard ≡ s.shard
@@ -68,13 +73,25 @@ module _ (plan : Plan) (For : TxnId → ℕ → Type 0) (s : ServerState) (waits
   ignores : (why : Reason) → KeepsFetches (ignored s why)
   ignores why = record { asked = λ id h. h; askers = waits; sends = λ out h. absurd h; shard = refl }
 
+  -- what was asked for stays so in another state that asks for it
+  asked_kept : (z : ServerState) (id : TxnId) → (was_asked_for id s.lists.waiting.asked ≡ true → was_asked_for id z.lists.waiting.asked ≡ true) → WasAskedFor id s → WasAskedFor id z
+  asked_kept z id still (inl h) = inl (still h)
+  asked_kept z id still (inr gone) = inr (gone_stays s z id gone)
+
   start_fetches : (f : Findings) (id : TxnId) (c : GroupCall) (x : Option Reason) → KeepsFetches (start_judged plan f.before f.reached s id c x)
   start_fetches f id c (Some why) = ignores why
   start_fetches f id c None = taken (find_group id c.group s.started)
     where
       taken : (x : Option StartedGroup) → KeepsFetches (start_taken plan f.before f.reached s id c x)
       taken (Some e) = record { asked = λ id h. h; askers = waits; sends = λ out h. subst (λ (out : Outgoing). FetchedFor (IsFor For s) out.msg out.to) (sym (has_one out (startok_of s.shard e) h)) tt; shard = refl }
-      taken None = record { asked = λ id h. h; askers = waits; sends = λ out h. subst (λ (out : Outgoing). FetchedFor (IsFor For s) out.msg out.to) (sym (has_one out (startok_of s.shard (new_group plan f.before f.reached s id c)) h)) tt; shard = refl }
+      taken None =
+          let r = start_taken plan f.before f.reached s id c None in
+          record {
+            asked = λ id. asked_kept r.state id (λ h. h);
+            askers = waits;
+            sends = λ out h. subst (λ (out : Outgoing). FetchedFor (IsFor For r.state) out.msg out.to) (sym (has_one out (startok_of s.shard (new_group plan f.before f.reached s id c)) h)) tt;
+            shard = refl;
+          }
 
   module _ (news : List KnownList) (ts : List TxnId) where
     abbrev before_run : ServerState
@@ -89,7 +106,7 @@ module _ (plan : Plan) (For : TxnId → ℕ → Type 0) (s : ServerState) (waits
     taught_fetches : (more : List Outgoing) → ((out : Outgoing) → Has out more → FetchedFor (IsFor For r.state) out.msg out.to) → KeepsFetches (record r { sends = r.sends ++ more })
     taught_fetches more others =
         record {
-          asked = λ id h. subst (λ (l : Lists). was_asked_for id l.waiting.asked ≡ true) (sym lists_are) (asked_still id (missing_from s (s.lists.known ++ news)) s.lists.waiting.asked h);
+          asked = λ id. asked_kept r.state id (λ h. subst (λ (l : Lists). was_asked_for id l.waiting.asked ≡ true) (sym lists_are) (asked_still id (missing_from s (s.lists.known ++ news)) s.lists.waiting.asked h));
           askers = λ a h. waits a (from_has_filter (λ (a : Asker). not (list_any (λ (k : KnownList). is_txn k.of a.id) news)) a s.lists.waiting.askers (subst (λ (l : Lists). Has a l.waiting.askers) lists_are h)).0;
           sends = λ out h. elim (has_append out r.sends more h) [ inl k ↦ mine out k | inr k ↦ others out k ];
           shard = (take_keeps plan ts before_run).1;
@@ -108,7 +125,7 @@ module _ (plan : Plan) (For : TxnId → ℕ → Type 0) (s : ServerState) (waits
                 | inr l ↦
                     (let q = from_has_map (fetch_from s.shard) out (missing_from s (s.lists.known ++ news)) l in
                     subst (λ (out : Outgoing). FetchedFor (IsFor For r.state) out.msg out.to) (sym q.2)
-                    (inl (ap (λ (s : Shard). s.0) (sym (take_keeps plan ts before_run).1), subst (λ (l : Lists). was_asked_for q.0.id l.waiting.asked ≡ true) (sym lists_are) (asked_all q.0 (missing_from s (s.lists.known ++ news)) s.lists.waiting.asked q.1))))
+                    (inl (ap (λ (s : Shard). s.0) (sym (take_keeps plan ts before_run).1), inl (subst (λ (l : Lists). was_asked_for q.0.id l.waiting.asked ≡ true) (sym lists_are) (asked_all q.0 (missing_from s (s.lists.known ++ news)) s.lists.waiting.asked q.1)))))
               ]
             ]
 
@@ -130,7 +147,7 @@ module _ (plan : Plan) (For : TxnId → ℕ → Type 0) (s : ServerState) (waits
       taken None =
           let a : Asker = record { id = id; shard = asker } in
           record {
-            asked = λ id h. h;
+            asked = λ t. asked_kept (fetch_taken s id asker None).state t (λ h. h);
             askers = λ b h. elim (has_append b (filter (λ x. is_asker_before x a) s.lists.waiting.askers) (a ∷ filter (λ x. is_asker_before a x) s.lists.waiting.askers) h) [
               | inl l ↦ waits b (from_has_filter (λ x. is_asker_before x a) b s.lists.waiting.askers l).0
               | inr l ↦ elim l [ inl e ↦ subst (λ (b : Asker). For b.id b.shard.0) (sym e) k | inr j ↦ waits b (from_has_filter (λ x. is_asker_before a x) b s.lists.waiting.askers j).0 ]
@@ -151,7 +168,7 @@ module _ (plan : Plan) (For : TxnId → ℕ → Type 0) (s : ServerState) (waits
 
   -- a watermark is heard
   hears : (coord mark : ℕ) (answer : Handled) → KeepsFetches (record (answered (hearing s coord mark) []) { answer = answer })
-  hears coord mark answer = record { asked = λ id h. h; askers = waits; sends = λ out h. absurd h; shard = refl }
+  hears coord mark answer = record { asked = λ id. asked_kept (hearing s coord mark) id (λ h. h); askers = waits; sends = λ out h. absurd h; shard = refl }
 
   pub message_fetches : (msg : Msg) (to : Node) (r : ServerStep) → Handles plan s msg r → FetchedFor For msg to → KeepsFetches r
   message_fetches msg to r h k = subst KeepsFetches (sym h.is) (go msg k)
@@ -173,17 +190,17 @@ module _ (plan : Plan) (For : TxnId → ℕ → Type 0) (s : ServerState) (waits
         sends = λ out h.
             (let q = from_has_map (fetch_from s.shard) out (filter (λ (a : OpenFetch). not (is_known s.lists.known a.id)) s.lists.waiting.asked) h in
             let a = (from_has_filter (λ (a : OpenFetch). not (is_known s.lists.known a.id)) q.0 s.lists.waiting.asked q.1).0 in
-            subst (λ (out : Outgoing). FetchedFor (IsFor For s) out.msg out.to) (sym q.2) (inl (refl, has_any (λ (x : OpenFetch). is_txn x.id q.0.id) s.lists.waiting.asked q.0 a (is_txn-eq q.0.id q.0.id refl))));
+            subst (λ (out : Outgoing). FetchedFor (IsFor For s) out.msg out.to) (sym q.2) (inl (refl, inl (has_any (λ (x : OpenFetch). is_txn x.id q.0.id) s.lists.waiting.asked q.0 a (is_txn-eq q.0.id q.0.id refl)))));
         shard = refl;
       }
 
 -- ---- worlds
 
--- shard n asked for the list of t
+-- shard n asked for the list of t, or it is gone there
 pub record IsAskedFor (servers : List ServerState) (t : TxnId) (n : ℕ) : Type 0 where
   pub server : ServerState
   pub there : slice_get servers n ≡ Some server
-  pub was : was_asked_for t server.lists.waiting.asked ≡ true
+  pub was : WasAskedFor t server
 
 pub record HasAsked (w : World) : Type 0 where
   pub numbers : (n : ℕ) (s : ServerState) → slice_get w.servers n ≡ Some s → s.shard.0 ≡ n
@@ -214,7 +231,7 @@ module _ (plan : Plan) (w : World) (o : HasAsked w) where
       later t m a = elim (cases_eq n m) [
         | inl e ↦
             (let same : a.server ≡ s = (let x = subst (λ m. slice_get w.servers m ≡ Some a.server) (sym e) a.there in let y = there in cc) in
-            record { server = r.state; there = subst (λ m. slice_get (slice_set w.servers n r.state) m ≡ Some r.state) e (get-set_here w.servers n s r.state there); was = k.asked t (subst (λ (s : ServerState). was_asked_for t s.lists.waiting.asked ≡ true) same a.was) })
+            record { server = r.state; there = subst (λ m. slice_get (slice_set w.servers n r.state) m ≡ Some r.state) e (get-set_here w.servers n s r.state there); was = k.asked t (subst (WasAskedFor t) same a.was) })
         | inr e ↦ record { server = a.server; there = get-set_other w.servers n m r.state e ∙ a.there; was = a.was }
       ]
 

@@ -75,7 +75,8 @@ module _ (laws : StoreLaws) (plan : Plan) (asked : TxnId → whole.Call) (S : Sc
         known = λ k h. absurd h;
         fetched = λ a h. absurd h;
         ended = λ t h. absurd (false≢true (sym (none_ended t) ∙ h));
-        decided = λ t. (λ h. absurd (omega arith), λ d. absurd (false≢true d.own));
+        decided = λ t h. absurd (omega arith);
+        back = λ t d. absurd (false≢true d.own);
       }
 
   first_pending : (n : ℕ) (c : CoordState) → slice_get (first_world plan coords).coords n ≡ Some c → c.pending ≡ []

@@ -34,6 +34,7 @@ use Rattle.roc_protocol.proofs.Facts.{known_has}
 use Rattle.roc_await.proofs.Asking.{asked_still, asked_all}
 use Rattle.roc_protocol.proofs.Carried.{take_same}
 use Rattle.roc_protocol.proofs.Deciding.{more_keeps, take_keeps}
+use Rattle.roc_protocol.proofs.Gone.{IsGone}
 
 -- ---- lists
 
@@ -75,9 +76,9 @@ asked_either a (b ∷ more) old h = elim (asked_either a more (with_asked b old)
 
 -- ---- what a server seeks
 
--- the list of u is known, or a group of it is here, or its list was asked for
+-- the list of u is known, or a group of it is here, or its list was asked for, or it is gone
 abbrev pub IsSought : ServerState → TxnId → Type 0
-IsSought v u = IsKnown v.lists.known u ⊎ ((is_here u v.started ≡ true) ⊎ (was_asked_for u v.lists.waiting.asked ≡ true))
+IsSought v u = IsKnown v.lists.known u ⊎ ((is_here u v.started ≡ true) ⊎ ((was_asked_for u v.lists.waiting.asked ≡ true) ⊎ IsGone v u))
 
 -- so it is of each that a known list names
 abbrev pub SeeksAll : ServerState → Type 0
@@ -99,7 +100,7 @@ IsAnswered outs a = (edges : List Dependency) × Has (known_to (list_with a.id e
 
 module _ (plan : Plan) (s : ServerState) where
   pub record Hears (r : ServerStep) : Type 0 where
-    pub known : (t : TxnId) → IsKnown s.lists.known t → IsKnown r.state.lists.known t
+    pub known : (t : TxnId) → IsKnown s.lists.known t → IsKnown r.state.lists.known t ⊎ IsGone r.state t
     -- what is decided now and has a group here is told of, or was decided
     pub says : (t : TxnId) → is_here t s.started ≡ true → IsDecided r.state.lists.known t → IsDecided s.lists.known t ⊎ Has (commitok_of plan r.state t) r.sends
     -- who asked is answered, or asks still
@@ -202,18 +203,18 @@ module _ (plan : Plan) (s : ServerState) where
         sought : (z : Dependency) → Has z (united (flat_map (λ (k : KnownList). k.edges) K)) → (a b c : Bool) → is_known K z.from ≡ a → is_here z.from s.started ≡ b → was_asked_for z.from s.lists.waiting.asked ≡ c → IsSought r.state z.from
         sought z h true b c e f g = inl (taught_known z.from e)
         sought z h false true c e f g = inr (inl ((take_same plan ts before_run).here z.from f))
-        sought z h false false true e f g = inr (inr (asked_later z.from (asked_still z.from (missing_from s K) s.lists.waiting.asked g)))
+        sought z h false false true e f g = inr (inr (inl (asked_later z.from (asked_still z.from (missing_from s K) s.lists.waiting.asked g))))
         sought z h false false false e f g =
             let is = has_filter (is_missing s K) z (united (flat_map (λ (k : KnownList). k.edges) K)) h
             (and_from (not (is_known K z.from)) (not (is_here z.from s.started) && not (was_asked_for z.from s.lists.waiting.asked)) (not_from_false (is_known K z.from) e)
             (and_from (not (is_here z.from s.started)) (not (was_asked_for z.from s.lists.waiting.asked)) (not_from_false (is_here z.from s.started) f) (not_from_false (was_asked_for z.from s.lists.waiting.asked) g))) in
-            inr (inr (asked_later z.from (asked_all (asked_of z) (missing_from s K) s.lists.waiting.asked (has_map asked_of z (filter (is_missing s K) (united (flat_map (λ (k : KnownList). k.edges) K))) is))))
+            inr (inr (inl (asked_later z.from (asked_all (asked_of z) (missing_from s K) s.lists.waiting.asked (has_map asked_of z (filter (is_missing s K) (united (flat_map (λ (k : KnownList). k.edges) K))) is)))))
 
     -- lists that are taught keep what is waited for, whatever else is sent
     pub taught_hears : (more : List Outgoing) → Hears (record r { sends = r.sends ++ more })
     taught_hears more =
         record {
-          known = still_known;
+          known = λ t h. inl (still_known t h);
           says = λ t here d. elim (taught_says t here d) [ inl k ↦ inl k | inr k ↦ inr (front more (commitok_of plan r.state t) k) ];
           askers = λ a h. elim (taught_askers a h) [ inl k ↦ inl (k.0, front more (known_to (list_with a.id k.0) a) k.1) | inr k ↦ inr k ];
           asked = λ a h. elim (taught_asked a h) [ inl k ↦ inl k | inr k ↦ inr (front more (fetch_from s.shard a) k) ];

@@ -1,4 +1,5 @@
 mod Marks
+mod Gone
 mod Means
 mod Grows
 pub mod Meets

@@ -36,6 +36,7 @@ use Rattle.roc_audit.specs.declared.entry.Entry.TheVariants.{Answered}
 use Rattle.roc_protocol.specs.PlanAssumptions.{picked, use_of}
 use Rattle.roc_protocol.specs.World.{World}
 use Rattle.roc_server.specs.Below.{is_ended}
+use Rattle.roc_protocol.proofs.Gone.{IsGone}
 
 abbrev pub run_of : TxnId → ℕ → TxnGroup
 run_of t g = record { txn = t; group = g }
@@ -162,10 +163,10 @@ module _ (plan : Plan) (asked : TxnId → whole.Call) (S : Scheme) (start : Stor
     pub cells : map use_of e.cells ≡ uses_in S.behaviour start log.past.ran (entry_run e)
     pub told : ToldMeans (entry_run e) e.bound e.outs e.edges e.facts
 
-  -- the groups of a shard
-  pub record AreGroupsHere (shard : ℕ) (started : List StartedGroup) : Type 0 where
+  -- the groups of a shard; each that began there is found, but for those of transactions that are gone
+  pub record AreGroupsHere (shard : ℕ) (Gone : TxnId → Type 0) (started : List StartedGroup) : Type 0 where
     pub entries : (e : StartedGroup) → Has e started → EntryMeans shard (unrun e)
-    pub finds : (r : TxnGroup) → Began r → place r ≡ shard → (e : StartedGroup) × (find_group r.txn r.group started ≡ Some e)
+    pub finds : (r : TxnGroup) → Began r → place r ≡ shard → ((e : StartedGroup) × (find_group r.txn r.group started ≡ Some e)) ⊎ Gone r.txn
 
   -- it holds its own cells, as the one store does; and its groups that ran later gave what they gave on the one store
   pub record IsPart (shard : ℕ) (now : Stage) (ran : TxnGroup → Type 0) (store : Store) (started : List StartedGroup) : Type 0 where
@@ -176,10 +177,12 @@ module _ (plan : Plan) (asked : TxnId → whole.Call) (S : Scheme) (start : Stor
 
   pub record ServerMeans (shard : ℕ) (s : ServerState) : Type 0 where
     pub number : s.shard.0 ≡ shard
-    pub groups : AreGroupsHere shard s.started
+    pub groups : AreGroupsHere shard (IsGone s) s.started
     pub part : IsPart shard stage Ran s.store s.started
     pub known : AllMean s.lists.known
-    pub decided : (t : TxnId) → IsListed is_txn (log.decided shard) t ↔ IsDecided s.lists.known t
+    -- what the shard ever decided is decided by its lists, or gone; and what is decided by its lists it decided
+    pub decided : (t : TxnId) → IsListed is_txn (log.decided shard) t → IsDecided s.lists.known t ⊎ IsGone s t
+    pub back : (t : TxnId) → IsDecided s.lists.known t → IsListed is_txn (log.decided shard) t
     pub fetched : (a : OpenFetch) → Has a s.lists.waiting.asked → HasBegun a.id a.at.0
     -- what is below a watermark was answered
     pub ended : (t : TxnId) → is_ended s.below t ≡ true → IsListed is_txn log.answered t

@@ -1,5 +1,5 @@
 -- Startoks in the network, and lists made of them
-use Rattle.std.proofs.Common.{◌≡◌, ◌≢◌, ℕ, ℤ, ◌<◌, ◌==◌, true, List, [], ◌∷◌, ◌++◌, Option, Some, None, length, map, refl, sym, ap, subst, ◌∙◌, inl, inr, arith, is_some}
+use Rattle.std.proofs.Common.{◌≡◌, ◌≢◌, ℕ, ℤ, ◌<◌, ◌==◌, true, List, [], ◌∷◌, ◌++◌, Option, Some, None, length, map, refl, sym, ap, subst, ◌∙◌, ◌⊎◌, inl, inr, arith, is_some}
 use Rattle.std.proofs.lemmas.Bool.{false≢true, and_parts, eqb-true, eq-eqb, cases_eq}
 use Rattle.std.specs.Prelude.{slice_get, slice_set, flat_map}
 use Rattle.std.specs.List.{range_with_len}
@@ -8,7 +8,7 @@ use Rattle.roc_sequence.specs.Lists.{Has}
 use Rattle.roc_sequence.proofs.Holds.{every_has, all_has}
 use Rattle.roc_sequence.proofs.Ranges.{range_below}
 use Rattle.roc_sequence.proofs.Found.{found_has, none_found}
-use Rattle.roc_sequence.proofs.Members.{has_append, has_left, from_has_map, has_flat_map, from_has_flat_map}
+use Rattle.roc_sequence.proofs.Members.{has_append, has_left, from_has_map, has_flat_map, from_has_flat_map, same_there}
 use Rattle.roc_base.specs.declared.id.TxnId.{TxnId}
 use Rattle.roc_base.specs.declared.node.Node.{Node}
 use Rattle.roc_base.specs.declared.node.Node.TheVariants.{Server}
@@ -49,6 +49,7 @@ use Rattle.roc_protocol.proofs.Coordinators.{there}
 use Rattle.roc_server_lists.proofs.Unions.{same_members}
 use Rattle.roc_protocol.proofs.Starting.{shard_number}
 use Rattle.roc_protocol.proofs.Worlds.{IsLogged}
+use Rattle.roc_protocol.proofs.Gone.{IsGone, none_gone}
 
 -- what is in the network stays there
 pub told_more : (sent more : List Envelope) (t : TxnId) (g : ℕ) (es : List Dependency) (fs : List KnownList) → IsToldIn sent t g es fs → IsToldIn (sent ++ more) t g es fs
@@ -73,10 +74,10 @@ found_is t g started e f =
     let p = and_parts (is_txn e.id t) (e.group == g) q.1 in
     (q.0, is_txn-true e.id t p.0, eqb-true e.group g p.1)
 
--- the server of a shard keeps what a startok told
+-- the server of a shard keeps a group of which a startok told, and one of a transaction of which a commitok told, unless it is gone
 abbrev pub IsToldHere : List ServerState → Msg → Type 0
-IsToldHere servers (StartOk id group at bound outs edges facts) = (s : ServerState) × (slice_get servers at.0 ≡ Some s) × IsToldBy at s.started (StartOk id group at bound outs edges facts)
-IsToldHere servers (CommitOk id at outs) = (s : ServerState) × (slice_get servers at.0 ≡ Some s) × (is_here id s.started ≡ true)
+IsToldHere servers (StartOk id group at bound outs edges facts) = (s : ServerState) × (slice_get servers at.0 ≡ Some s) × (((e : StartedGroup) × (find_group id group s.started ≡ Some e)) ⊎ IsGone s id)
+IsToldHere servers (CommitOk id at outs) = (s : ServerState) × (slice_get servers at.0 ≡ Some s) × ((is_here id s.started ≡ true) ⊎ IsGone s id)
 IsToldHere servers msg = Unit {0}
 
 module _ (plan : Plan) (asked : TxnId → whole.Call) (S : Scheme) (is : IsSchemeOf plan asked S) (laws : LogLaws S (start_store plan.program)) where
@@ -274,13 +275,16 @@ module _ (plan : Plan) (asked : TxnId → whole.Call) (S : Scheme) (is : IsSchem
           nothing e = cc
 
           go : (x : Option StartedGroup) → find_group t h s.started ≡ x → m.msg ≡ (startok_of r.state.shard e).msg
-          go (Some was) k2 =
-              let a = g.kept t h was k2 in
-              let same : unrun was ≡ unrun e = sym a.2 ∙ ap unrun (just (sym a.1 ∙ f)) in
-              nw.kept n s there t h was k2 m j k ∙ (ap (λ (e : StartedGroup). (startok_of s.shard e).msg) same ∙ ap (λ (at : Shard). (startok_of at e).msg) (sym g.shard))
-          go None k2 =
-              let was = (o.means.servers n s there).groups.finds (run_of t h) (began_at m j t h k) (placed_now t h e f) in
-              absurd (nothing (sym was.1 ∙ k2))
+          go (Some was) k2 = elim (g.kept t h was k2) [
+            | inl a ↦
+                (let same : unrun was ≡ unrun e = sym a.2 ∙ ap unrun (just (sym a.1 ∙ f)) in
+                nw.kept n s there t h was k2 m j k ∙ (ap (λ (e : StartedGroup). (startok_of s.shard e).msg) same ∙ ap (λ (at : Shard). (startok_of at e).msg) (sym g.shard)))
+            | inr gone ↦ absurd (none_gone r.state t gone)
+          ]
+          go None k2 = elim ((o.means.servers n s there).groups.finds (run_of t h) (began_at m j t h k) (placed_now t h e f)) [
+            | inl was ↦ absurd (nothing (sym was.1 ∙ k2))
+            | inr gone ↦ absurd (none_gone s t gone)
+          ]
 
       says_now : (t : TxnId) (h : ℕ) (e : StartedGroup) → find_group t h r.state.started ≡ Some e → (m : Envelope) → Has m (w.sent ++ more) → IsStartOkOf t h m.msg → m.msg ≡ (startok_of r.state.shard e).msg
       says_now t h e f m j k = elim (has_append m w.sent more j) [
@@ -339,22 +343,31 @@ module _ (plan : Plan) (asked : TxnId → whole.Call) (S : Scheme) (is : IsSchem
         number = (o.means.servers n s there).number
 
         new : (msg : Msg) → IsToldBy s.shard r.state.started msg → IsToldHere (slice_set w.servers n r.state) msg
-        new (StartOk id group at bound outs edges facts) k = (r.state, subst (λ m. slice_get (slice_set w.servers n r.state) m ≡ Some r.state) (sym (ap (λ (s : Shard). s.0) k.0 ∙ number)) (get-set_here w.servers n s r.state there), (refl, k.1, k.2, k.3, k.4, k.5, k.6))
-        new (CommitOk id at outs) k = (r.state, subst (λ m. slice_get (slice_set w.servers n r.state) m ≡ Some r.state) (sym (ap (λ (s : Shard). s.0) k.0 ∙ number)) (get-set_here w.servers n s r.state there), k.1)
+        new (StartOk id group at bound outs edges facts) k = (r.state, subst (λ m. slice_get (slice_set w.servers n r.state) m ≡ Some r.state) (sym (ap (λ (s : Shard). s.0) k.0 ∙ number)) (get-set_here w.servers n s r.state there), inl (k.1, k.2))
+        new (CommitOk id at outs) k = (r.state, subst (λ m. slice_get (slice_set w.servers n r.state) m ≡ Some r.state) (sym (ap (λ (s : Shard). s.0) k.0 ∙ number)) (get-set_here w.servers n s r.state there), inl k.1)
         new msg k = tt
+
+        still_found : (id : TxnId) (group : ℕ) → ((e : StartedGroup) × (find_group id group s.started ≡ Some e)) ⊎ IsGone s id → ((e : StartedGroup) × (find_group id group r.state.started ≡ Some e)) ⊎ IsGone r.state id
+        still_found id group (inl k) = elim (g.kept id group k.0 k.1) [ inl f ↦ inl (f.0, f.1) | inr gone ↦ inr gone ]
+        still_found id group (inr gone) = inr (g.gone id gone)
 
         still : (msg : Msg) → IsToldHere w.servers msg → IsToldHere (slice_set w.servers n r.state) msg
         still (StartOk id group at bound outs edges facts) (v, e, k) = elim (cases_eq n at.0) [
           | inl same ↦
-              (let mine : v ≡ s = (let a = subst (λ m. slice_get w.servers m ≡ Some v) (sym same) e in let b = there in cc) in
-              let f = g.kept id group k.1 (subst (λ (v : ServerState). find_group id group v.started ≡ Some k.1) mine k.2) in
-              (r.state, subst (λ m. slice_get (slice_set w.servers n r.state) m ≡ Some r.state) same (get-set_here w.servers n s r.state there), (refl, f.0, f.1, ap (λ (e : StartedGroup). e.bound) f.2 ∙ k.3, ap (λ (e : StartedGroup). e.outs) f.2 ∙ k.4, ap (λ (e : StartedGroup). e.edges) f.2 ∙ k.5, ap (λ (e : StartedGroup). e.facts) f.2 ∙ k.6)))
+              (let mine = same_there w.servers n v s (subst (λ m. slice_get w.servers m ≡ Some v) (sym same) e) there in (
+                r.state,
+                subst (λ m. slice_get (slice_set w.servers n r.state) m ≡ Some r.state) same (get-set_here w.servers n s r.state there),
+                still_found id group (subst (λ (v : ServerState). ((e : StartedGroup) × (find_group id group v.started ≡ Some e)) ⊎ IsGone v id) mine k),
+              ))
           | inr other ↦ (v, get-set_other w.servers n at.0 r.state other ∙ e, k)
         ]
         still (CommitOk id at outs) (v, e, k) = elim (cases_eq n at.0) [
           | inl same ↦
-              (let mine : v ≡ s = (let a = subst (λ m. slice_get w.servers m ≡ Some v) (sym same) e in let b = there in cc) in
-              (r.state, subst (λ m. slice_get (slice_set w.servers n r.state) m ≡ Some r.state) same (get-set_here w.servers n s r.state there), g.here id (subst (λ (v : ServerState). is_here id v.started ≡ true) mine k)))
+              (let mine = same_there w.servers n v s (subst (λ m. slice_get w.servers m ≡ Some v) (sym same) e) there in (
+                r.state,
+                subst (λ m. slice_get (slice_set w.servers n r.state) m ≡ Some r.state) same (get-set_here w.servers n s r.state there),
+                elim (subst (λ (v : ServerState). (is_here id v.started ≡ true) ⊎ IsGone v id) mine k) [ inl here ↦ g.here id here | inr gone ↦ inr (g.gone id gone) ],
+              ))
           | inr other ↦ (v, get-set_other w.servers n at.0 r.state other ∙ e, k)
         ]
         still msg k = tt

@@ -103,7 +103,7 @@ module _ (plan : Plan) (schemes : HasSchemes plan) (laws : (S : Scheme) → IsSo
         let linked = elim related as (λ z. Reaches (PrecedesTxn S (start_store plan.program) y.log.past) a b ⊎ Reaches (PrecedesTxn S (start_store plan.program) y.log.past) b a) [ inl p ↦ inl (up a b p) | inr p ↦ inr (up b a p) ] in
         let mine = x.1.means.servers at_shard.0 u there in
         let decided_now : o.decided ≡ r.decided = ap (λ (o : Outcome). o.decided) e in
-        let before : IsDecided s.lists.known a → IsListed is_txn (x.0.decided at_shard.0) a = λ d. (mine.decided a).1 (subst (λ (z : ServerState). IsDecided z.lists.known a) (sym u_is) d) in
+        let before : IsDecided s.lists.known a → IsListed is_txn (x.0.decided at_shard.0) a = λ d. mine.back a (subst (λ (z : ServerState). IsDecided z.lists.known a) (sym u_is) d) in
         let places = in_list (x.0.decided at_shard.0) r.decided a b (subst (NoneTwice is_txn) y.decides (i.decided at_shard.0).once)
         (elim taken as (λ z. (IsListed is_txn (x.0.decided at_shard.0) a × IsListed is_txn r.decided b) ⊎ (IsListed is_txn r.decided b × IsListedBefore is_txn r.decided a b)) [
           | inl p ↦ inl (before p.0, subst (λ l. IsListed is_txn l b) decided_now p.1)

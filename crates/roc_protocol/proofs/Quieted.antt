@@ -46,6 +46,7 @@ use Rattle.roc_protocol.proofs.Hears.{IsSought}
 use Rattle.roc_protocol.proofs.Delivered.{At, HasCommit, Tells, IsTaken}
 use Rattle.roc_protocol.proofs.Hearing.{HasCome, HasHeard, run_heard}
 use Rattle.roc_protocol.proofs.Transactions.{transaction_or_none}
+use Rattle.roc_protocol.proofs.Gone.{none_gone}
 
 -- ---- lists
 
@@ -101,7 +102,7 @@ module _ (plan : Plan) (w : World) (o : HasHeard w) (finals : (n : ℕ) (s : Ser
       let c = (out u d).each st.3 (record { 0 = n }) st.0 q.0.group st.1 st.2 st.4 st.5 start in
       let p = has_place w.sent c.2 c.3 in
       let a : At w.servers n (HasCommit w.sent u (record { 0 = n })) = taken u d p.0 c.2 p.1 (Commit u c.0 c.1) (Server (record { 0 = n })) c.5 c.4 refl in
-      subst (λ (v : ServerState). IsKnown v.lists.known u) (same_there w.servers n a.0 s a.1 there) a.2.1
+      subst (λ (v : ServerState). IsKnown v.lists.known u) (same_there w.servers n a.0 s a.1 there) (elim a.2 [ inl k ↦ k.1 | inr gone ↦ absurd (none_gone a.0 u gone) ])
 
   -- an entry of a known list comes from a startok in the network
   named_sent : (n : ℕ) (s : ServerState) → slice_get w.servers n ≡ Some s → (u t : TxnId) → Precedes s.lists.known u t → PrecedesIn w.sent u t
@@ -148,7 +149,8 @@ module _ (plan : Plan) (w : World) (o : HasHeard w) (finals : (n : ℕ) (s : Ser
           elim (subst (IsSought s) x.from ((o.awaits n s there).seeks x.list x.is_known x.entry x.has)) [
             | inl k ↦ k
             | inr (inl here) ↦ known_here u d n s there here
-            | inr (inr asked) ↦ (let a = any_has (λ (a : OpenFetch). is_txn a.id u) s.lists.waiting.asked asked in answered_known u d a.0 a.1 (is_txn-true a.0.id u a.2) (is_known s.lists.known u) refl)
+            | inr (inr (inr gone)) ↦ absurd (none_gone s u gone)
+            | inr (inr (inl asked)) ↦ (let a = any_has (λ (a : OpenFetch). is_txn a.id u) s.lists.waiting.asked asked in answered_known u d a.0 a.1 (is_txn-true a.0.id u a.2) (is_known s.lists.known u) refl)
           ]
 
       decided_here : is_here t s.started ≡ true → IsDecided s.lists.known t
@@ -158,7 +160,7 @@ module _ (plan : Plan) (w : World) (o : HasHeard w) (finals : (n : ℕ) (s : Ser
     commits_answered = record {
       each = λ k m shard edges facts at goes is d.
           (let a : At w.servers shard.0 (HasCommit w.sent t shard) = subst (IsTaken w.servers w.sent k (Commit t edges facts)) goes (subst (λ msg. IsTaken w.servers w.sent k msg m.to) is (o.taken k m (m, at, d) at)) in
-          a.2.2 (decided_here shard.0 a.0 a.1 a.2.0));
+          elim a.2 [ inl k ↦ k.2 (decided_here shard.0 a.0 a.1 k.0) | inr gone ↦ absurd (none_gone a.0 t gone) ]);
     }
 
 -- ---- every run

@@ -46,6 +46,7 @@ use Rattle.roc_protocol.specs.Final.{lists_in}
 use Rattle.roc_protocol.specs.World.{World}
 use Rattle.roc_protocol.specs.Inner.Given.{LogLaws}
 use Rattle.roc_protocol.proofs.Means.{run_of, stage, place, Began, HasBegun, Means, StartIs, ServerMeans}
+use Rattle.roc_protocol.proofs.Gone.{none_gone}
 use Rattle.roc_protocol.proofs.Starting.{shard_number}
 use Rattle.roc_protocol.proofs.Served.{list_has, StartsAre}
 use Rattle.roc_protocol.proofs.Facts.{known_has}
@@ -68,10 +69,12 @@ module _ (plan : Plan) (asked : TxnId → whole.Call) (S : Scheme) (is : IsSchem
 
   -- who has begun here is found here
   begun_here : (t : TxnId) → HasBegun plan asked S (start_store plan.program) log t n → is_here t s.started ≡ true
-  begun_here t b =
-      let f = mine.groups.finds (run_of t b.group) b.began b.on in
-      let q = found_has (is_group t b.group) s.started f.0 f.1 in
-      has_any (λ (e : StartedGroup). is_txn e.id t) s.started f.0 q.0 (and_parts (is_txn f.0.id t) (f.0.group == b.group) q.1).0
+  begun_here t b = elim (mine.groups.finds (run_of t b.group) b.began b.on) [
+    | inl f ↦
+        (let q = found_has (is_group t b.group) s.started f.0 f.1 in
+        has_any (λ (e : StartedGroup). is_txn e.id t) s.started f.0 q.0 (and_parts (is_txn f.0.id t) (f.0.group == b.group) q.1).0)
+    | inr gone ↦ absurd (none_gone s t gone)
+  ]
 
   -- ---- a start
 
@@ -120,8 +123,7 @@ module _ (plan : Plan) (asked : TxnId → whole.Call) (S : Scheme) (is : IsSchem
         let p = and_parts (is_none (find_group id group s.started)) (is_known s.lists.known id) h in
         let l = known_has s.lists.known id p.1 in
         let began = subst (λ t. Began plan asked S (start_store plan.program) log (run_of t group)) l.2 ((mine.known l.0 l.1).is_whole group (subst (λ t. IsListed is_group_number (S.behaviour.groups t) group) (sym l.2) k.means.listed)) in
-        let f = mine.groups.finds r began on in
-        clash f.0 f.1 p.0)
+        elim (mine.groups.finds r began on) [ inl f ↦ clash f.0 f.1 p.0 | inr gone ↦ none_gone s id gone ])
       where
         clash : (e : StartedGroup) → find_group id group s.started ≡ Some e → is_none (find_group id group s.started) ≡ true → ⊥
         clash e f h = false≢true (sym (ap is_none f) ∙ h)
@@ -166,7 +168,7 @@ module _ (plan : Plan) (asked : TxnId → whole.Call) (S : Scheme) (is : IsSchem
   known_taken-here : (m : Envelope) → Has m w.sent → (id : TxnId) (edges : List Dependency) → m.msg ≡ Known id edges → m.to ≡ Server (record { 0 = n }) → known_fault s id edges ≡ None
   known_taken-here m has id edges msg to =
       let f = subst (λ to. FetchedFor (IsAskedFor w.servers) (Known id edges) to) to (subst (λ msg. FetchedFor (IsAskedFor w.servers) msg m.to) msg (ha.sent m has)) in
-      let a : was_asked_for id s.lists.waiting.asked ≡ true = subst (λ (v : ServerState). was_asked_for id v.lists.waiting.asked ≡ true) (same f.server f.there) f.was in
+      let a : was_asked_for id s.lists.waiting.asked ≡ true = subst (λ (v : ServerState). was_asked_for id v.lists.waiting.asked ≡ true) (same f.server f.there) (elim f.was [ inl k ↦ k | inr gone ↦ absurd (none_gone f.server id gone) ]) in
       let b = alike (list_with id edges) (nw.lists m has (list_with id edges) (subst (λ msg. Has (list_with id edges) (lists_in msg)) (sym msg) (inl refl))) in
       rw (a, b) refl
     where

@@ -42,7 +42,7 @@ find_under f p h (x ∷ xs) = go (p x) (h x) (find_under f p h xs)
     go true e ih = cond-true (p (f x)) (Some (f x)) (find p (map f xs)) e
     go false e ih = cond-false (p (f x)) (Some (f x)) (find p (map f xs)) e ∙ ih
 
-module _ (plan : Plan) (asked : TxnId → whole.Call) (S : Scheme) (start : Store) (is : IsSchemeOf plan asked S) (laws : LogLaws S start) (c : Log) (n : ℕ) where
+module _ (plan : Plan) (asked : TxnId → whole.Call) (S : Scheme) (start : Store) (is : IsSchemeOf plan asked S) (laws : LogLaws S start) (c : Log) (n : ℕ) (Gone : TxnId → Type 0) where
   abbrev X : Stage
   X = stage plan asked S start c
 
@@ -61,11 +61,14 @@ module _ (plan : Plan) (asked : TxnId → whole.Call) (S : Scheme) (start : Stor
   later_if e outs g = if is_group e.id e.group g then record g { later = Some outs } else g
 
   -- groups are the same whatever they gave
-  pub groups_later : (e : StartedGroup) (outs : List ℤ) (started : List StartedGroup) → AreGroupsHere plan asked S start c n started → AreGroupsHere plan asked S start c n (with_later e outs started)
+  pub groups_later : (e : StartedGroup) (outs : List ℤ) (started : List StartedGroup) → AreGroupsHere plan asked S start c n Gone started → AreGroupsHere plan asked S start c n Gone (with_later e outs started)
   groups_later e outs started h =
       record {
         entries = λ f k. (let g = from_has_map (later_if e outs) f started k in entry f g.0 (h.entries g.0 g.1) (is_group e.id e.group g.0) g.2);
-        finds = λ r b p. (let f = h.finds r b p in (later_if e outs f.0, find_under (later_if e outs) (is_group r.txn r.group) (λ g. same r g (is_group e.id e.group g)) started ∙ ap (option_map (later_if e outs)) f.1));
+        finds = λ r b p. elim (h.finds r b p) [
+          | inl f ↦ inl (later_if e outs f.0, find_under (later_if e outs) (is_group r.txn r.group) (λ g. same r g (is_group e.id e.group g)) started ∙ ap (option_map (later_if e outs)) f.1)
+          | inr gone ↦ inr gone
+        ];
       }
     where
       entry : (f g : StartedGroup) → EntryMeans plan asked S start c n (unrun g) → (b : Bool) → f ≡ cond b (record g { later = Some outs }) g → EntryMeans plan asked S start c n (unrun f)
@@ -138,7 +141,7 @@ module _ (plan : Plan) (asked : TxnId → whole.Call) (S : Scheme) (start : Stor
   -- a state that is the shard's part of a stage
   pub record IsAt (Before : TxnGroup → Type 0) (Z : Stage) (st : ServerState) : Type 0 where
     pub keeps : Keeps Z
-    pub groups : AreGroupsHere plan asked S start c n st.started
+    pub groups : AreGroupsHere plan asked S start c n Gone st.started
     pub part : IsPart plan asked S start c n Z Before st.store st.started
 
   weaker : (P Q : TxnGroup → Type 0) → ((q : TxnGroup) → Q q → P q) → (Z : Stage) (st : ServerState) → IsAt P Z st → IsAt Q Z st
@@ -159,20 +162,20 @@ module _ (plan : Plan) (asked : TxnId → whole.Call) (S : Scheme) (start : Stor
       (run_parts es (λ f h. w f (inr h)) (λ q. Before q ⊎ (q ≡ entry_run e)) (after_group S.behaviour Z (entry_run e)) (run_group plan st e) first)
 
   -- the transactions are taken one after another
-  module _ (is_whole : (t : TxnId) → IsWhole S c.past.started t → (st : ServerState) → AreGroupsHere plan asked S start c n st.started → (e : StartedGroup) → Has e (buffered_here plan t st.started) → ¬ Ran plan asked S start c (entry_run e) → IsWaiting e) where
-    pub take_parts : (ts : List TxnId) → ((t : TxnId) → Has t ts → IsWhole S c.past.started t) → ((r : TxnGroup) → Has r (waiting_here S start c.past.ran n ts) → ¬ Ran plan asked S start c r) → (Before : TxnGroup → Type 0) (Z : Stage) (st : ServerState) → IsAt Before Z st
+  module _ (is_whole : (t : TxnId) → IsWhole S c.past.started t → (st : ServerState) → AreGroupsHere plan asked S start c n Gone st.started → (e : StartedGroup) → Has e (buffered_here plan t st.started) → ¬ Ran plan asked S start c (entry_run e) → IsWaiting e) where
+    pub take_parts : (ts : List TxnId) → ((t : TxnId) → Has t ts → IsWhole S c.past.started t) → ((t : TxnId) → Has t ts → ¬ Gone t) → ((r : TxnGroup) → Has r (waiting_here S start c.past.ran n ts) → ¬ Ran plan asked S start c r) → (Before : TxnGroup → Type 0) (Z : Stage) (st : ServerState) → IsAt Before Z st
         → IsAt (λ q. Before q ⊎ Has q (waiting_here S start c.past.ran n ts)) (after_groups S.behaviour Z (waiting_here S start c.past.ran n ts)) (take_all plan st ts)
-    take_parts [] all new Before Z st a = weaker Before (λ q. Before q ⊎ ⊥) (λ q h. elim h [ inl k ↦ k | inr k ↦ absurd k ]) Z st a
-    take_parts (t ∷ ts) all new Before Z st a =
+    take_parts [] all kept new Before Z st a = weaker Before (λ q. Before q ⊎ ⊥) (λ q h. elim h [ inl k ↦ k | inr k ↦ absurd k ]) Z st a
+    take_parts (t ∷ ts) all kept new Before Z st a =
         let es = buffered_here plan t st.started in
         let mine = filter (waits_here S start c.past.ran n) (all_groups S.behaviour t) in
         let rest = waiting_here S start c.past.ran n ts in
-        let same : map entry_run es ≡ mine = buffered_runs plan asked S start is c n st.started a.groups t (all t (inl refl)) in
+        let same : map entry_run es ≡ mine = buffered_runs plan asked S start is c n Gone st.started a.groups t (all t (inl refl)) (kept t (inl refl)) in
         let split : waiting_here S start c.past.ran n (t ∷ ts) ≡ mine ++ rest = filter-append (waits_here S start c.past.ran n) (all_groups S.behaviour t) (one_by_one S.behaviour ts) in
         let here : (q : TxnGroup) → Has q (mine ++ rest) → Has q (waiting_here S start c.past.ran n (t ∷ ts)) = λ q h. subst (Has q) (sym split) h in
         let first = run_parts es (λ e h. is_whole t (all t (inl refl)) st a.groups e h (new (entry_run e) (here (entry_run e) (has_left (entry_run e) mine rest (subst (Has (entry_run e)) same (has_map entry_run e es h)))))) Before Z st a in
         let first2 : IsAt (λ q. Before q ⊎ Has q mine) (after_groups S.behaviour Z mine) (run_groups plan st es) = subst (λ l. IsAt (λ q. Before q ⊎ Has q l) (after_groups S.behaviour Z l) (run_groups plan st es)) same first in
-        let more = take_parts ts (λ u h. all u (inr h)) (λ r h. new r (here r (has_right r mine rest h))) (λ q. Before q ⊎ Has q mine) (after_groups S.behaviour Z mine) (run_groups plan st es) first2 in
+        let more = take_parts ts (λ u h. all u (inr h)) (λ u h. kept u (inr h)) (λ r h. new r (here r (has_right r mine rest h))) (λ q. Before q ⊎ Has q mine) (after_groups S.behaviour Z mine) (run_groups plan st es) first2 in
         subst (λ l. IsAt (λ q. Before q ⊎ Has q l) (after_groups S.behaviour Z l) (take_all plan (run_groups plan st es) ts)) (sym split)
         (subst (λ Y. IsAt (λ q. Before q ⊎ Has q (mine ++ rest)) Y (take_all plan (run_groups plan st es) ts)) (sym (after_append S.behaviour Z mine rest))
         (weaker (λ q. (Before q ⊎ Has q mine) ⊎ Has q rest) (λ q. Before q ⊎ Has q (mine ++ rest)) (λ q h. elim h [ inl k ↦ inl (inl k) | inr k ↦ elim (has_append q mine rest k) [ inl m ↦ inl (inr m) | inr m ↦ inr m ] ])

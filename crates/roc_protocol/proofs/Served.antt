@@ -46,7 +46,8 @@ use Rattle.roc_audit.specs.Order.{noted}
 use Rattle.roc_protocol.specs.PlanAssumptions.{IsSchemeOf}
 use Rattle.roc_protocol.specs.World.{World, at_server}
 use Rattle.roc_protocol.specs.Inner.Given.{LogLaws}
-use Rattle.roc_protocol.proofs.Means.{Began, Means, ListMeans, AllMean, StartIs, DoneMeans, ServerMeans, WorldMeans, AreEnded}
+use Rattle.roc_protocol.proofs.Means.{Began, Means, ListMeans, AllMean, StartIs, DoneMeans, AreGroupsHere, ServerMeans, WorldMeans, AreEnded}
+use Rattle.roc_protocol.proofs.Gone.{IsGone, none_gone, gone_stays}
 use Rattle.roc_protocol.proofs.Grows.{begun_grows, list_grows, decided_grows}
 use Rattle.roc_protocol.proofs.Buffered.{outs_told}
 use Rattle.roc_protocol.proofs.Changed.{noted-new, server_means}
@@ -85,6 +86,13 @@ module _ (plan : Plan) (asked : TxnId → whole.Call) (S : Scheme) (start : Stor
 
   i : LogInvariants S start c
   i = laws.holds c o.reached
+
+  -- the groups are those of a state with the same ones, and what was decided is
+  groups_kept : (z : ServerState) → AreGroupsHere plan asked S start c n (IsGone z) s.started
+  groups_kept z = record { entries = mine.groups.entries; finds = λ r b p. elim (mine.groups.finds r b p) [ inl f ↦ inl f | inr gone ↦ inr (gone_stays s z r.txn gone) ] }
+
+  decided_kept : (z : ServerState) (t : TxnId) → IsListed is_txn (c.decided n) t → IsDecided s.lists.known t ⊎ IsGone z t
+  decided_kept z t h = elim (mine.decided t h) [ inl k ↦ inl k | inr gone ↦ inr (gone_stays s z t gone) ]
 
   -- the log does nothing
   still : (r : ServerStep) → ServerMeans plan asked S start c n r.state → ((out : Outgoing) → Has out r.sends → Means plan asked S start c out.msg out.to) → r.decided ≡ [] → IsExplained r
@@ -174,7 +182,7 @@ module _ (plan : Plan) (asked : TxnId → whole.Call) (S : Scheme) (start : Stor
     server2 = deciding.server_after plan asked S start is laws c o.reached n s mine news lists ts new
 
     commitok_means : (t : TxnId) → IsListed is_txn (d2.decided n) t → Means plan asked S start d2 (commitok_of plan after t).msg (commitok_of plan after t).to
-    commitok_means t h = (subst (λ k. DoneMeans plan asked S start d2 t k (outs_here plan t after.started)) (sym server2.number) (outs_told plan asked S start is d2 j2 n after server2 t h), refl)
+    commitok_means t h = (subst (λ k. DoneMeans plan asked S start d2 t k (outs_here plan t after.started)) (sym server2.number) (outs_told plan asked S start is d2 j2 n after server2 t h (none_gone after t)), refl)
 
     taught_mean : (out : Outgoing) → Has out (taught plan s news ts).sends → Means plan asked S start d2 out.msg out.to
     taught_mean out h = elim (has_append out (flat_map (knowns_for s.lists.waiting.askers) news) (map (commitok_of plan after) (filter (λ t. is_here t s.started) ts) ++ map (fetch_from s.shard) (missing_from s (s.lists.known ++ news))) h) [
@@ -233,7 +241,7 @@ module _ (plan : Plan) (asked : TxnId → whole.Call) (S : Scheme) (start : Stor
           again lists new out true e k =
               let known = unknown_of s.lists.known (carried id edges facts) in
               subst (λ (out : Outgoing). Means plan asked S start (d2 known lists f.decided new) out.msg out.to) (sym (has_one out (commitok_of plan (taught plan s known f.decided).state id) k))
-              (commitok_means known lists f.decided new id (decided_grows plan asked S start is c (d2 known lists f.decided new) i (j2 known lists f.decided new) (g2 known lists f.decided new) n id ((mine.decided id).1 (found.before.sound id (listed_true is_txn f.before id e)))))
+              (commitok_means known lists f.decided new id (decided_grows plan asked S start is c (d2 known lists f.decided new) i (j2 known lists f.decided new) (g2 known lists f.decided new) n id (mine.back id (found.before.sound id (listed_true is_txn f.before id e)))))
           again lists new out false e k = absurd k
 
   fetch_explained : (id : TxnId) (asker : Shard) → IsExplained (after_fetch s id asker)
@@ -245,7 +253,18 @@ module _ (plan : Plan) (asked : TxnId → whole.Call) (S : Scheme) (start : Stor
           still (answered s (known_to (list_with id edges) (record { id = id; shard = asker }) ∷ [])) mine
           (λ out h. subst (λ (out : Outgoing). Means plan asked S start c out.msg out.to) (sym (has_one out (known_to (list_with id edges) (record { id = id; shard = asker })) h)) (subst (λ es. ListMeans plan asked S start c id es) k.3 (subst (λ t. ListMeans plan asked S start c t k.0.edges) k.2 (mine.known k.0 k.1)), tt))
           refl
-      taken None e = still (fetch_taken s id asker None) (record { number = mine.number; groups = mine.groups; part = mine.part; known = mine.known; decided = mine.decided; fetched = mine.fetched; ended = mine.ended }) (λ out h. absurd h) refl
+      taken None e =
+          still (fetch_taken s id asker None)
+          (record {
+            number = mine.number;
+            groups = groups_kept (fetch_taken s id asker None).state;
+            part = mine.part;
+            known = mine.known;
+            decided = decided_kept (fetch_taken s id asker None).state;
+            back = mine.back;
+            fetched = mine.fetched;
+            ended = mine.ended;
+          }) (λ out h. absurd h) refl
 
       here : (b : Bool) → IsExplained (if b then fetch_taken s id asker (list_of id s.lists.known) else ignored s NotHere)
       here true = taken (list_of id s.lists.known) refl
@@ -266,10 +285,11 @@ module _ (plan : Plan) (asked : TxnId → whole.Call) (S : Scheme) (start : Stor
       still (answered (hearing s coord mark) [])
       (record {
         number = mine.number;
-        groups = mine.groups;
+        groups = groups_kept (hearing s coord mark);
         part = mine.part;
         known = mine.known;
-        decided = mine.decided;
+        decided = decided_kept (hearing s coord mark);
+        back = mine.back;
         fetched = mine.fetched;
         ended = λ t h. elim (ended_cases s.below coord mark t h) [ inl k ↦ mine.ended t k | inr k ↦ subst (IsListed is_txn c.answered) (λ i. record { coord = sym k.0 i; seq = t.seq }) (m t.seq k.1) ];
       })

@@ -1,5 +1,5 @@
 -- A coordinator ignores only what is stale
-use Rattle.std.proofs.Common.{◌≡◌, ℕ, ℤ, ◌<◌, ◌==◌, Bool, true, false, not, ◌&&◌, List, Option, Some, None, length, refl, sym, ap, subst, ◌∙◌, is_some}
+use Rattle.std.proofs.Common.{◌≡◌, ℕ, ℤ, ◌<◌, ◌==◌, Bool, true, false, not, ◌&&◌, List, Option, Some, None, length, refl, sym, ap, subst, ◌∙◌, inl, inr, is_some}
 use Rattle.std.proofs.lemmas.Bool.{false≢true, and_parts, and_from, eq-eqb, eqb-true}
 use Rattle.std.proofs.lemmas.List.{length-map}
 use Rattle.std.specs.Prelude.{slice_get, filter, if◌then◌else◌}
@@ -15,6 +15,7 @@ use Rattle.roc_base.specs.TxnId.{is_txn}
 use Rattle.roc_base.specs.Equalities.{is_txn-true}
 use Rattle.roc_base.specs.Edge.{Dependency}
 use Rattle.roc_program.specs.Values.{value_of_name}
+use Rattle.roc_depgraph.specs.Deps.{IsDecided}
 use Rattle.roc_depgraph.specs.declared.known.KnownList.{KnownList}
 use Rattle.roc_msg.specs.declared.msg.Msg.{Msg}
 use Rattle.roc_msg.specs.declared.msg.Msg.TheVariants.{Start, StartOk, Commit, CommitOk, Known, Ended}
@@ -49,6 +50,7 @@ use Rattle.roc_protocol.proofs.Replies.{count_given, places_are, counts_at, leng
 use Rattle.roc_protocol.proofs.Networks.{IsToldHere, IsNetworked}
 use Rattle.roc_protocol.proofs.Pending.{AskedBy, IsWholeAt, IsPending}
 use Rattle.roc_protocol.proofs.Worlds.{IsLogged}
+use Rattle.roc_protocol.proofs.Gone.{none_gone}
 
 module _ (plan : Plan) (asked : TxnId → whole.Call) (S : Scheme) (is : IsSchemeOf plan asked S) (laws : LogLaws S (start_store plan.program)) (w : World) (log : Log) (l : IsLogged plan asked S is laws w log) (nw : IsNetworked plan asked S is laws w) (o : IsPending plan w) (n : ℕ) (s : CoordState) (there : slice_get w.coords n ≡ Some s) where
   i : LogInvariants S (start_store plan.program) log
@@ -82,10 +84,14 @@ module _ (plan : Plan) (asked : TxnId → whole.Call) (S : Scheme) (is : IsSchem
     was : was_asked x g shard ≡ true
     was =
         let h = subst (IsToldHere w.servers) msg (nw.told m has) in
-        let f = found_has (is_group id g) h.0.started h.2.1 h.2.2 in
-        let p = and_parts (is_txn h.2.1.id id) (h.2.1.group == g) f.1 in
-        let k = (o.servers shard.0 h.0 h.1).groups h.2.1 f.0 in
-        (subst (λ t. AskedBy w.coords t g shard.0) (is_txn-true h.2.1.id id p.0) (subst (λ g. AskedBy w.coords h.2.1.id g shard.0) (eqb-true h.2.1.group g p.1) k)) s x at pending same
+        elim h.2 [
+          | inl e ↦
+              (let f = found_has (is_group id g) h.0.started e.0 e.1 in
+              let p = and_parts (is_txn e.0.id id) (e.0.group == g) f.1 in
+              let k = (o.servers shard.0 h.0 h.1).groups e.0 f.0 in
+              (subst (λ t. AskedBy w.coords t g shard.0) (is_txn-true e.0.id id p.0) (subst (λ g. AskedBy w.coords e.0.id g shard.0) (eqb-true e.0.group g p.1) k)) s x at pending same)
+          | inr gone ↦ absurd (none_gone h.0 id gone)
+        ]
 
     proc : x.proc ≡ (asked id).procedure
     proc = mine.proc ∙ ap (λ t. (asked t).procedure) same
@@ -123,12 +129,13 @@ module _ (plan : Plan) (asked : TxnId → whole.Call) (S : Scheme) (is : IsSchem
         number (Coord n) = n
 
     from : (v : ServerState) × (slice_get w.servers shard.0 ≡ Some v) × (is_here id v.started ≡ true)
-    from = subst (IsToldHere w.servers) msg (nw.told m has)
+    from = let h = subst (IsToldHere w.servers) msg (nw.told m has) in (h.0, h.1, elim h.2 [ inl here ↦ here | inr gone ↦ absurd (none_gone h.0 id gone) ])
 
     is_whole : (all_started plan x ≡ true) × (x.asked ≡ shards_of x)
     is_whole =
         let v = l.means.servers shard.0 from.0 from.1 in
-        let k = known_has from.0.lists.known id ((v.decided id).0 done.0.decided).own in
+        let d : IsDecided from.0.lists.known id = elim (v.decided id done.0.decided) [ inl k ↦ k | inr gone ↦ absurd (none_gone from.0 id gone) ] in
+        let k = known_has from.0.lists.known id d.own in
         (subst (IsWholeAt plan w.coords) k.2 ((o.servers shard.0 from.0 from.1).known k.0 k.1)) s x found_at pending same
 
     asked_shard : is_asked x shard ≡ true

@@ -42,6 +42,7 @@ use Rattle.roc_server.specs.State.{unrun}
 use Rattle.roc_protocol.specs.PlanAssumptions.{called, use_of, IsSchemeOf}
 use Rattle.roc_protocol.specs.Inner.Given.{LogLaws}
 use Rattle.roc_protocol.proofs.Means.{run_of, entry_run, place, Precedes, Ran, Began, stage, EdgesMean, ListMeans, ToldMeans, StartIs, EntryMeans, ServerMeans}
+use Rattle.roc_protocol.proofs.Gone.{none_gone, gone_stays}
 use Rattle.roc_protocol.proofs.Grows.{begun_grows, place_grows, values_grow, entry_grows, list_grows, all_grow, answered_grows}
 use Rattle.roc_protocol.proofs.Meets.{meet_of, of_meet}
 use Rattle.roc_protocol.proofs.Facts.{facts_known}
@@ -77,7 +78,7 @@ module _ (plan : Plan) (asked : TxnId → whole.Call) (S : Scheme) (start : Stor
     on = ap shard_number (sym m.to)
 
     pub new : ¬ Began plan asked S start c r
-    new h = go (o.groups.finds r h on)
+    new h = elim (o.groups.finds r h on) [ inl f ↦ go f | inr gone ↦ none_gone s id gone ]
       where
         go : (e : StartedGroup) × (find_group id group s.started ≡ Some e) → ⊥
         go f = let a = f.1 in let b = none in cc
@@ -88,7 +89,7 @@ module _ (plan : Plan) (asked : TxnId → whole.Call) (S : Scheme) (start : Stor
           new = new;
           listed = m.means.listed;
           needs_ran = m.means.needs_ran;
-          out_decided = λ t h. subst (λ s. IsListed is_txn (c.decided s) t) (sym on) ((o.decided t).1 (left t h));
+          out_decided = λ t h. subst (λ s. IsListed is_txn (c.decided s) t) (sym on) (o.back t (left t h));
         }
 
     abbrev pub d : Log
@@ -223,7 +224,7 @@ module _ (plan : Plan) (asked : TxnId → whole.Call) (S : Scheme) (start : Stor
           complete = λ u p.
               (let was = earlier p in
               let same_place : place plan asked S start c p.first ≡ n = sym (place_grows plan asked S start is c d i j g p.first was) ∙ (laws.one_shard d j p.first r p.conflict ∙ place_new) in
-              let f = o.groups.finds p.first was same_place in
+              let f = still_found p.first was same_place in
               let e = f.0 in
               let found = found_has (is_group p.first.txn p.first.group) s.started e f.1 in
               let same : entry_run e ≡ p.first = entry_is p.first e found.1 in
@@ -242,6 +243,10 @@ module _ (plan : Plan) (asked : TxnId → whole.Call) (S : Scheme) (start : Stor
               (y.0, y.1, y.2.from ∙ from));
         }
       where
+        -- a group that began here is found
+        still_found : (q : TxnGroup) → Began plan asked S start c q → place plan asked S start c q ≡ n → (e : StartedGroup) × (find_group q.txn q.group s.started ≡ Some e)
+        still_found q was here = elim (o.groups.finds q was here) [ inl f ↦ f | inr gone ↦ absurd (none_gone s q.txn gone) ]
+
         same_tag-from : (a b : Bool) → a ≡ b → same_tag a b ≡ true
         same_tag-from true b e = sym e
         same_tag-from false true e = absurd (false≢true e)
@@ -289,8 +294,11 @@ module _ (plan : Plan) (asked : TxnId → whole.Call) (S : Scheme) (start : Stor
               | inr k ↦ subst (λ (e : StartedGroup). EntryMeans plan asked S start d n (unrun e)) (sym (has_one e entry k)) entry_start
             ];
             finds = λ q h p. elim (begun_cases q h) [
-              | inl k ↦ (let f = o.groups.finds q k (sym (place_grows plan asked S start is c d i j g q k) ∙ p) in (f.0, find_front (is_group q.txn q.group) s.started (entry ∷ []) f.0 f.1))
-              | inr k ↦ (entry, subst (λ (q : TxnGroup). find_group q.txn q.group (s.started ++ entry ∷ []) ≡ Some entry) (sym k) (find_last (is_group id group) s.started entry none (and_from (is_txn id id) (group == group) (is_txn-same id) (eq-eqb group group refl))))
+              | inl k ↦ elim (o.groups.finds q k (sym (place_grows plan asked S start is c d i j g q k) ∙ p)) [
+                | inl f ↦ inl (f.0, find_front (is_group q.txn q.group) s.started (entry ∷ []) f.0 f.1)
+                | inr gone ↦ inr (gone_stays s (start_new plan s this entry).state q.txn gone)
+              ]
+              | inr k ↦ inl (entry, subst (λ (q : TxnGroup). find_group q.txn q.group (s.started ++ entry ∷ []) ≡ Some entry) (sym k) (find_last (is_group id group) s.started entry none (and_from (is_txn id id) (group == group) (is_txn-same id) (eq-eqb group group refl))))
             ];
           };
           part = record {
@@ -312,7 +320,8 @@ module _ (plan : Plan) (asked : TxnId → whole.Call) (S : Scheme) (start : Stor
             ];
           };
           known = all_grow plan asked S start is c d i j g s.lists.known o.known;
-          decided = o.decided;
+          decided = λ t h. elim (o.decided t h) [ inl k ↦ inl k | inr gone ↦ inr (gone_stays s (start_new plan s this entry).state t gone) ];
+          back = o.back;
           fetched = λ a h. begun_grows plan asked S start is c d i j g a.id a.at.0 (o.fetched a h);
           ended = λ t h. answered_grows plan asked S start is c d i j g t (o.ended t h);
         }

@@ -19,7 +19,7 @@ use Rattle.roc_depgraph.specs.declared.known.KnownList.{KnownList}
 use Rattle.roc_depgraph.specs.Deps.{list_of, is_known, IsKnown, IsDecided}
 use Rattle.roc_depgraph.proofs.Laws.{known_stays}
 use Rattle.roc_await.specs.declared.waits.Asker.{Asker}
-use Rattle.roc_await.specs.Waits.{is_asker_before, with_asker}
+use Rattle.roc_await.specs.Waits.{is_asker_before, was_asked_for, with_asker}
 use Rattle.roc_msg.specs.declared.msg.Msg.{Msg}
 use Rattle.roc_msg.specs.declared.msg.Msg.TheVariants.{Start, Commit, Fetch, Known, Ended, Settled}
 use Rattle.roc_msg.specs.declared.outbox.Outgoing.{Outgoing}
@@ -31,7 +31,7 @@ use Rattle.roc_group.specs.GroupRun.{call}
 use Rattle.roc_server.specs.declared.handled.Handled.TheVariants.{Done, Gone}
 use Rattle.roc_server.specs.declared.started.StartedGroup.{StartedGroup}
 use Rattle.roc_server_lists.specs.New.{AreNew}
-use Rattle.roc_server.specs.State.{ignored, answered, is_here, is_group, find_group, ServerState, ServerStep, hearing}
+use Rattle.roc_server.specs.State.{ignored, answered, is_here, is_group, find_group, Lists, ServerState, ServerStep, hearing}
 use Rattle.roc_server.specs.Start.{start_fault, start_taken, start_judged, startok_of, new_group}
 use Rattle.roc_server.specs.Runs.{commitok_of}
 use Rattle.roc_server_lists.specs.Carried.{list_with, carried, unknown_of}
@@ -40,7 +40,8 @@ use Rattle.roc_server.specs.Lists.{lists_after, taught, commit_differs, commit_f
 use Rattle.roc_server.specs.Step.{Findings, AreFindings, unless_ignored, after_message, Handles}
 use Rattle.roc_protocol.proofs.Carried.{take_same}
 use Rattle.roc_protocol.proofs.Deciding.{more_keeps}
-use Rattle.roc_protocol.proofs.Hears.{from_has_in_place, in_place_has, has_known, AwaitsNone, IsAnswered, Hears, taught_known, taught_hears}
+use Rattle.roc_protocol.proofs.Hears.{from_has_in_place, in_place_has, has_known, IsSought, AwaitsNone, IsAnswered, Hears, taught_known, taught_hears}
+use Rattle.roc_protocol.proofs.Gone.{IsGone, gone_stays}
 use Rattle.roc_server.specs.declared.handled.Handled.{Handled}
 
 -- ---- who asks
@@ -69,11 +70,11 @@ asker_stays b old a h = elim (asker_cases a b) [
 -- ---- a step
 
 module _ (plan : Plan) (s : ServerState) where
-  -- what a message that is taken leaves: a start its startok, a commit its list and, once it is decided, its commitok, a fetch its answer
-  -- or who asks; and behind an answer to a fetch the server waits for none
+  -- what a message that is taken leaves: a start its startok, a commit its list and, once it is decided, its commitok, or it is gone, a fetch
+  -- its answer or who asks; and behind an answer to a fetch the server waits for none
   abbrev pub Takes : Msg → ServerStep → Type 0
   Takes (Start id proc group args inputs) r = (e : StartedGroup) × (e.id ≡ id) × (e.group ≡ group) × Has (startok_of s.shard e) r.sends
-  Takes (Commit id edges facts) r = (is_here id r.state.started ≡ true) × IsKnown r.state.lists.known id × (IsDecided r.state.lists.known id → Has (commitok_of plan r.state id) r.sends)
+  Takes (Commit id edges facts) r = ((is_here id r.state.started ≡ true) × IsKnown r.state.lists.known id × (IsDecided r.state.lists.known id → Has (commitok_of plan r.state id) r.sends)) ⊎ IsGone r.state id
   Takes (Fetch id asker) r = IsAnswered r.sends (record { id = id; shard = asker }) ⊎ Has (record { id = id; shard = asker }) r.state.lists.waiting.askers
   Takes (Known id edges) r = AwaitsNone id r.state
   Takes (Settled id mark) r = AwaitsNone id r.state
@@ -82,12 +83,19 @@ module _ (plan : Plan) (s : ServerState) where
   abbrev Result : Msg → ServerStep → Type 0
   Result msg r = Hears plan s r × (r.answer ≡ Done → Takes msg r)
 
+  -- what is sought is sought in another state with the same lists, and at least the groups
+  sought_kept : (z : ServerState) → z.lists ≡ s.lists → ((t : TxnId) → is_here t s.started ≡ true → is_here t z.started ≡ true) → (u : TxnId) → IsSought s u → IsSought z u
+  sought_kept z lists here u (inl k) = inl (subst (λ (l : Lists). IsKnown l.known u) (sym lists) k)
+  sought_kept z lists here u (inr (inl k)) = inr (inl (here u k))
+  sought_kept z lists here u (inr (inr (inl k))) = inr (inr (inl (subst (λ (l : Lists). was_asked_for u l.waiting.asked ≡ true) (sym lists) k)))
+  sought_kept z lists here u (inr (inr (inr k))) = inr (inr (inr (gone_stays s z u k)))
+
   -- so it is where nothing changes, whatever is sent
   pub nothing_changes : (outs : List Outgoing) → Hears plan s (answered s outs)
-  nothing_changes outs = record { known = λ t h. h; says = λ t here d. inl d; askers = λ a h. inr h; asked = λ a h. inl (h, λ k. k); waits = λ h. h; seeks = λ h. h }
+  nothing_changes outs = record { known = λ t h. inl h; says = λ t here d. inl d; askers = λ a h. inr h; asked = λ a h. inl (h, λ k. k); waits = λ h. h; seeks = λ h. h }
 
   ignores : (msg : Msg) (why : Reason) → Result msg (ignored s why)
-  ignores msg why = (record { known = λ t h. h; says = λ t here d. inl d; askers = λ a h. inr h; asked = λ a h. inl (h, λ k. k); waits = λ h. h; seeks = λ h. h }, λ e. absurd (cc))
+  ignores msg why = (record { known = λ t h. inl h; says = λ t here d. inl d; askers = λ a h. inr h; asked = λ a h. inl (h, λ k. k); waits = λ h. h; seeks = λ h. h }, λ e. absurd (cc))
 
   start_result : (f : Findings) (id : TxnId) (proc group : ℕ) (args inputs : List ℤ) (x : Option Reason) → Result (Start id proc group args inputs) (start_judged plan f.before f.reached s id (call proc group args inputs) x)
   start_result f id proc group args inputs (Some why) = ignores (Start id proc group args inputs) why
@@ -103,16 +111,12 @@ module _ (plan : Plan) (s : ServerState) where
       taken None k =
           let e = new_group plan f.before f.reached s id (call proc group args inputs) in (
             record {
-              known = λ t h. h;
+              known = λ t h. inl h;
               says = λ t here d. inl d;
               askers = λ a h. inr h;
               asked = λ a h. inl (h, λ k. k);
               waits = λ was a h. (let w = was a h in (here_more e a.id w.0, w.1));
-              seeks = λ h k j d m. elim (h k j d m) [
-                | inl a ↦ inl a
-                | inr (inl a) ↦ inr (inl (here_more e d.from a))
-                | inr (inr a) ↦ inr (inr a)
-              ];
+              seeks = λ h k j d m. sought_kept (start_taken plan f.before f.reached s id (call proc group args inputs) None).state refl (here_more e) d.from (h k j d m);
             },
             λ d. (e, refl, refl, inl refl),
           )
@@ -141,7 +145,7 @@ module _ (plan : Plan) (s : ServerState) where
     commit_result (Some why) fault new = ignores (Commit id edges facts) why
     commit_result None fault new = (
       taught_hears plan s f.before found.before news f.decided new again,
-      λ done. (
+      λ done. inl (
         (take_same plan f.decided (record s { lists = lists_after s news })).here id here,
         taught_known plan s f.before found.before news f.decided new id (known_now (carried id edges facts) id edges (in_place_has is_fact_before (list_with id edges) facts)),
         λ d. elim ((taught_hears plan s f.before found.before news f.decided new again).says id here d) [
@@ -172,7 +176,7 @@ module _ (plan : Plan) (s : ServerState) where
       taken h None e =
           let a : Asker = record { id = id; shard = asker } in (
             record {
-              known = λ t h. h;
+              known = λ t h. inl h;
               says = λ t here d. inl d;
               askers = λ b h. inr (asker_stays a s.lists.waiting.askers b h);
               asked = λ b h. inl (h, λ k. k);
@@ -180,7 +184,12 @@ module _ (plan : Plan) (s : ServerState) where
                 | inl same ↦ subst (λ (b : Asker). (is_here b.id s.started ≡ true) × (¬ IsKnown s.lists.known b.id)) (sym same) (h, λ k. false≢true (ap is_some (sym e) ∙ k))
                 | inr j ↦ was b j
               ];
-              seeks = λ h. h;
+              seeks = λ h k j d m. elim (h k j d m) [
+                | inl l ↦ inl l
+                | inr (inl l) ↦ inr (inl l)
+                | inr (inr (inl l)) ↦ inr (inr (inl l))
+                | inr (inr (inr gone)) ↦ inr (inr (inr (gone_stays s (fetch_taken s id asker None).state d.from gone)))
+              ];
             },
             λ d. inr (in_place_has is_asker_before a s.lists.waiting.askers),
           )
@@ -201,7 +210,7 @@ module _ (plan : Plan) (s : ServerState) where
 
   -- a watermark is heard
   hears : (coord mark : ℕ) (answer : Handled) → Hears plan s (record (answered (hearing s coord mark) []) { answer = answer })
-  hears coord mark answer = record { known = λ t h. h; says = λ t here d. inl d; askers = λ a h. inr h; asked = λ a h. inl (h, λ k. k); waits = λ h. h; seeks = λ h. h }
+  hears coord mark answer = record { known = λ t h. inl h; says = λ t here d. inl d; askers = λ a h. inr h; asked = λ a h. inl (h, λ k. k); waits = λ h. h; seeks = λ h k j d m. sought_kept (hearing s coord mark) refl (λ t k. k) d.from (h k j d m) }
 
   -- any message keeps what is waited for, and leaves what it does if it is taken
   pub message_result : (msg : Msg) (r : ServerStep) → Handles plan s msg r → Hears plan s r × (r.answer ≡ Done → Takes msg r)
