@@ -1,10 +1,12 @@
 -- Who is pending, and who was answered
-use Rattle.std.proofs.Common.{◌≡◌, ℕ, ℤ, ◌<◌, true, ap, List, Some, sym, subst, ◌∙◌, ◌⊎◌, inl, inr, arith}
+use Rattle.std.proofs.Common.{◌≡◌, ℕ, ℤ, ◌<◌, true, ap, List, Some, refl, sym, subst, ◌∙◌, ◌⊎◌, inl, inr, arith}
 use Rattle.std.specs.Prelude.{slice_get}
 use Rattle.roc_sequence.specs.Lists.{Has}
+use Rattle.roc_sequence.proofs.Holds.{has_any}
 use Rattle.roc_sequence.specs.Places.{IsListed}
 use Rattle.roc_base.specs.declared.id.TxnId.{TxnId}
 use Rattle.roc_base.specs.TxnId.{is_txn}
+use Rattle.roc_base.proofs.Ids.{is_txn-eq}
 use Rattle.roc_depgraph.specs.Deps.{IsDecided}
 use Rattle.roc_plan.specs.Groups.{Plan}
 use Rattle.roc_whole.specs.Serial as whole
@@ -29,7 +31,7 @@ use Rattle.roc_msg.specs.declared.msg.Msg.TheVariants.{Ended}
 use Rattle.roc_server.specs.Below.{is_ended}
 use Rattle.roc_protocol.proofs.Marks.{none_ended}
 use Rattle.roc_protocol.proofs.Means.{entry_run, Means}
-use Rattle.roc_protocol.proofs.Gone.{none_gone}
+use Rattle.roc_protocol.proofs.Gone.{here_stays}
 use Rattle.roc_protocol.proofs.Submissions.{AreSubmissions}
 use Rattle.roc_protocol.proofs.Idle.{run_idle}
 use Rattle.roc_protocol.proofs.Worlds.{IsLogged}
@@ -84,7 +86,7 @@ module _ (plan : Plan) (schemes : HasSchemes plan) (laws : (S : Scheme) → IsSo
         let m = mine.groups.entries e has in
         let d = (l.1.means.answered e.id reply (subst (λ t. WasAnswered w.history t reply) (sym same) h)).throughout in
         let here = d.everywhere e.group (i.are_groups (entry_run e) m.told.began) in
-        subst (IsDecided s.lists.known) same (elim (mine.decided e.id (subst (λ n. IsListed is_txn (l.0.decided n) e.id) m.on here)) [ inl k ↦ k | inr gone ↦ absurd (none_gone s e.id gone) ]))
+        subst (IsDecided s.lists.known) same (elim (mine.decided e.id (subst (λ n. IsListed is_txn (l.0.decided n) e.id) m.on here)) [ inl k ↦ k | inr gone ↦ absurd (here_stays s e.id (has_any (λ (f : StartedGroup). is_txn f.id e.id) s.started e has (is_txn-eq e.id e.id refl)) gone) ]))
     | inr none ↦ absurd (subst (Has (Answered t reply)) (run_idle plan none coords steps w run).history h)
   ]
 

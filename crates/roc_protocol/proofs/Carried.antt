@@ -1,6 +1,6 @@
 -- Lists that servers know and messages carry come from lists that were known and carried
-use Rattle.std.proofs.Common.{◌≡◌, ℕ, ℤ, ◌==◌, Bool, true, false, not, cond, ◌||◌, List, [], ◌∷◌, ◌++◌, Option, Some, None, map, refl, sym, ap, subst, ◌∙◌, ◌⊎◌, inl, inr, append-nil}
-use Rattle.std.proofs.lemmas.Bool.{cond-true, cond-false, or_left, or_right, and_from, and_parts, eq-eqb, eqb-true, or_cases, false≢true}
+use Rattle.std.proofs.Common.{◌≡◌, ℕ, ◌==◌, Bool, true, false, not, cond, List, [], ◌∷◌, ◌++◌, Option, Some, None, map, refl, sym, subst, ◌∙◌, ◌⊎◌, inl, inr, append-nil}
+use Rattle.std.proofs.lemmas.Bool.{cond-true, or_left, or_right, and_from, and_parts, eq-eqb, eqb-true, or_cases, false≢true}
 use Rattle.std.specs.Prelude.{filter, flat_map, find, if◌then◌else◌}
 use Rattle.roc_sequence.specs.Lists.{Has}
 use Rattle.roc_sequence.specs.Places.{IsListed, is_listed}
@@ -22,11 +22,11 @@ use Rattle.roc_msg.specs.declared.reason.Reason.{Reason}
 use Rattle.roc_msg.specs.declared.reason.Reason.TheVariants.{NotHere, Foreign, Differs}
 use Rattle.roc_msg.specs.Facts.{is_fact_before}
 use Rattle.roc_plan.specs.Groups.{Plan}
-use Rattle.roc_group.specs.GroupRun.{GroupCall, call, group_run}
+use Rattle.roc_group.specs.GroupRun.{GroupCall, call}
 use Rattle.roc_server.specs.declared.started.StartedGroup.{StartedGroup}
 use Rattle.roc_server.specs.State.{ignored, answered, is_here, is_group, find_group, Lists, ServerState, ServerStep, unrun, hearing}
 use Rattle.roc_server.specs.Start.{start_fault, start_taken, start_judged, startok_of, new_group}
-use Rattle.roc_server.specs.Runs.{group_call, with_later, run_group, run_groups, buffered_here, take_all, commitok_of, outs_here}
+use Rattle.roc_server.specs.Runs.{commitok_of, outs_here}
 use Rattle.roc_server_lists.specs.Carried.{list_with, carried, unknown_of}
 use Rattle.roc_server_lists.specs.Asking.{known_to, knowns_for, fetch_from}
 use Rattle.roc_server.specs.Lists.{commit_differs, lists_after, missing_from, taught, commit_fault, after_commit, fetch_taken, after_fetch, known_fault, after_known}
@@ -34,79 +34,10 @@ use Rattle.roc_server.specs.Step.{Findings, AreFindings, Handles, after_message,
 use Rattle.roc_protocol.specs.Final.{lists_in}
 use Rattle.roc_protocol.proofs.Facts.{facts_known}
 use Rattle.roc_protocol.proofs.Served.{list_has}
-use Rattle.roc_protocol.proofs.Deciding.{take_keeps}
-use Rattle.roc_protocol.proofs.Gone.{IsGone, gone_stays}
+use Rattle.roc_protocol.proofs.KeptGroups.{take_keeps, take_same}
+use Rattle.roc_protocol.proofs.Gone.{IsGone, gone_same, gone_hears, gone_begins, gone_taught}
 use Rattle.roc_server.specs.declared.handled.Handled.{Handled}
 use Rattle.roc_server.specs.declared.handled.Handled.TheVariants.{Done, Gone}
-
--- ---- what is kept of a started group stays, but what it gave later
-
-abbrev later_if : StartedGroup → List ℤ → StartedGroup → StartedGroup
-later_if e outs g = if is_group e.id e.group g then record g { later = Some outs } else g
-
-later_same : (e : StartedGroup) (outs : List ℤ) (g : StartedGroup) → unrun (later_if e outs g) ≡ unrun g
-later_same e outs g = go (is_group e.id e.group g)
-  where
-    go : (b : Bool) → unrun (if b then record g { later = Some outs } else g) ≡ unrun g
-    go true = refl
-    go false = refl
-
--- the groups of the one list are those of the other
-pub record SameGroups (old new : List StartedGroup) : Type 0 where
-  pub from : (e : StartedGroup) → Has e new → (f : StartedGroup) × Has f old × (unrun e ≡ unrun f)
-  pub found : (id : TxnId) (g : ℕ) (e : StartedGroup) → find_group id g old ≡ Some e → (f : StartedGroup) × (find_group id g new ≡ Some f) × (unrun f ≡ unrun e)
-  pub here : (id : TxnId) → is_here id old ≡ true → is_here id new ≡ true
-
-pub same_itself : (es : List StartedGroup) → SameGroups es es
-same_itself es = record { from = λ e h. (e, h, refl); found = λ id g e h. (e, h, refl); here = λ id h. h }
-
-pub same_chain : (a b c : List StartedGroup) → SameGroups a b → SameGroups b c → SameGroups a c
-same_chain a b c p q =
-    record {
-      from = λ e h. (let x = q.from e h in let y = p.from x.0 x.1 in (y.0, y.1, x.2 ∙ y.2));
-      found = λ id g e h. (let x = p.found id g e h in let y = q.found id g x.0 x.1 in (y.0, y.1, y.2 ∙ x.2));
-      here = λ id h. q.here id (p.here id h);
-    }
-
-with_later_same : (e : StartedGroup) (outs : List ℤ) (es : List StartedGroup) → SameGroups es (with_later e outs es)
-with_later_same e outs es =
-    record {
-      from = λ f h. (let g = from_has_map (later_if e outs) f es h in (g.0, g.1, ap unrun g.2 ∙ later_same e outs g.0));
-      found = λ id g f h. (later_if e outs f, find_it es id g f h, later_same e outs f);
-      here = λ id h. here_it es id h;
-    }
-  where
-    same_test : (id : TxnId) (g : ℕ) (f : StartedGroup) → is_group id g (later_if e outs f) ≡ is_group id g f
-    same_test id g f = ap (λ (f : StartedGroup). is_group id g f) (later_same e outs f)
-
-    find_it : (es : List StartedGroup) (id : TxnId) (g : ℕ) (f : StartedGroup) → find_group id g es ≡ Some f → find_group id g (with_later e outs es) ≡ Some (later_if e outs f)
-    find_it [] id g f h = absurd (cc)
-    find_it (x ∷ es) id g f h = go (is_group id g x) (same_test id g x) h (find_it es id g f)
-      where
-        go : (b : Bool) → is_group id g (later_if e outs x) ≡ b → cond b (Some x) (find_group id g es) ≡ Some f → (find_group id g es ≡ Some f → find_group id g (with_later e outs es) ≡ Some (later_if e outs f)) → cond (is_group id g (later_if e outs x)) (Some (later_if e outs x)) (find_group id g (with_later e outs es)) ≡ Some (later_if e outs f)
-        go true t k ih = cond-true (is_group id g (later_if e outs x)) (Some (later_if e outs x)) (find_group id g (with_later e outs es)) t ∙ ap (λ y. Some (later_if e outs y)) (just k)
-          where
-            just : Some x ≡ Some f → x ≡ f
-            just k = cc
-        go false t k ih = cond-false (is_group id g (later_if e outs x)) (Some (later_if e outs x)) (find_group id g (with_later e outs es)) t ∙ ih k
-
-    here_it : (es : List StartedGroup) (id : TxnId) → is_here id es ≡ true → is_here id (with_later e outs es) ≡ true
-    here_it [] id h = h
-    here_it (x ∷ es) id h = go (is_txn x.id id) (ap (λ (f : StartedGroup). is_txn f.id id) (later_same e outs x)) h (here_it es id)
-      where
-        go : (b : Bool) → is_txn (later_if e outs x).id id ≡ b → (b || is_here id es) ≡ true → (is_here id es ≡ true → is_here id (with_later e outs es) ≡ true) → (is_txn (later_if e outs x).id id || is_here id (with_later e outs es)) ≡ true
-        go true t k ih = or_left (is_txn (later_if e outs x).id id) (is_here id (with_later e outs es)) t
-        go false t k ih = or_right (is_txn (later_if e outs x).id id) (is_here id (with_later e outs es)) (ih k)
-
-groups_same : (plan : Plan) (es : List StartedGroup) (st : ServerState) → SameGroups st.started (run_groups plan st es).started
-groups_same plan [] st = same_itself st.started
-groups_same plan (e ∷ es) st = same_chain st.started (run_group plan st e).started (run_groups plan (run_group plan st e) es).started (with_later_same e (group_run plan (group_call e) st.store).reply st.started) (groups_same plan es (run_group plan st e))
-
-pub take_same : (plan : Plan) (ts : List TxnId) (st : ServerState) → SameGroups st.started (take_all plan st ts).started
-take_same plan [] st = same_itself st.started
-take_same plan (t ∷ ts) st =
-    let es = buffered_here plan t st.started in
-    same_chain st.started (run_groups plan st es).started (take_all plan (run_groups plan st es) ts).started (groups_same plan es st) (take_same plan ts (run_groups plan st es))
 
 -- ---- a step of a server
 
@@ -213,7 +144,7 @@ module _ (plan : Plan) (Good : TxnId → List Dependency → Type 0) (Here : Txn
                     (refl, e, find_last (is_group id c.group) s.started e k (and_from (is_txn id id) (c.group == c.group) (is_txn-same id) (eq-eqb c.group c.group refl)), refl, refl, refl, refl);
                 kept = λ u g b h. inl (b, find_front (is_group u g) s.started (e ∷ []) b h, refl);
                 here = λ u h. inl (here_more s.started u h);
-                gone = gone_stays s (start_taken plan f.before f.reached s id c None).state;
+                gone = λ t. gone_begins s (start_taken plan f.before f.reached s id c None).state e t refl refl;
                 shard = refl;
               }
 
@@ -262,7 +193,7 @@ module _ (plan : Plan) (Good : TxnId → List Dependency → Type 0) (Here : Txn
             ];
             kept = λ id g e h. inl ((take_same plan ts before_run).found id g e h);
             here = λ id h. inl ((take_same plan ts before_run).here id h);
-            gone = gone_stays s r.state;
+            gone = gone_taught plan s (lists_after s news) ts;
             shard = (take_keeps plan ts before_run).1;
           }
 
@@ -303,7 +234,7 @@ module _ (plan : Plan) (Good : TxnId → List Dependency → Type 0) (Here : Txn
               told = λ out h. absurd h;
               kept = λ id g e h. inl (e, h, refl);
               here = λ id h. inl h;
-              gone = gone_stays s (fetch_taken s id asker None).state;
+              gone = λ t. gone_same s (fetch_taken s id asker None).state t refl refl;
               shard = refl;
             }
 
@@ -328,7 +259,7 @@ module _ (plan : Plan) (Good : TxnId → List Dependency → Type 0) (Here : Txn
           told = λ out h. absurd h;
           kept = λ id g e h. inl (e, h, refl);
           here = λ id h. inl h;
-          gone = gone_stays s (hearing s coord mark);
+          gone = gone_hears s coord mark;
           shard = refl;
         }
 

@@ -40,7 +40,7 @@ use Rattle.roc_law_log.specs.Invariants.{LogInvariants, LogGrows}
 use Rattle.roc_server.specs.declared.started.StartedGroup.{StartedGroup}
 use Rattle.roc_server.specs.State.{is_group, find_group, ServerState, Lists, unrun}
 use Rattle.roc_server_lists.specs.New.{AreNew}
-use Rattle.roc_server.specs.Runs.{count_of_groups, groups_here, buffered_here, run_group, run_groups, take_all}
+use Rattle.roc_server.specs.Runs.{count_of_groups, groups_here, buffered_here, take_all}
 use Rattle.roc_base.specs.Edges.{united}
 use Rattle.roc_base.specs.declared.node.Shard.{Shard}
 use Rattle.roc_base.proofs.Members.{IsAllOf-united}
@@ -51,7 +51,8 @@ use Rattle.roc_server.specs.Lists.{is_missing, missing_from, lists_after}
 use Rattle.roc_protocol.specs.PlanAssumptions.{IsSchemeOf}
 use Rattle.roc_protocol.specs.Inner.Given.{LogLaws}
 use Rattle.roc_protocol.proofs.Means.{HasBegun, run_of, entry_run, place, Ran, Began, stage, AllMean, AreGroupsHere, ServerMeans}
-use Rattle.roc_protocol.proofs.Gone.{IsGone, none_gone, gone_stays}
+use Rattle.roc_protocol.proofs.KeptGroups.{take_keeps}
+use Rattle.roc_protocol.proofs.Gone.{IsGone, none_gone, gone_taught}
 use Rattle.roc_protocol.proofs.Grows.{begun_grows, place_grows, entry_grows, all_grow, answered_grows}
 use Rattle.roc_protocol.proofs.Facts.{known_has}
 use Rattle.roc_protocol.proofs.Starting.{after_append}
@@ -91,18 +92,6 @@ none_new old [] h = refl
 none_new old (t ∷ ts) h =
     cond-true (not (is_listed is_txn old t)) (t ∷ new_in old ts) (new_in old ts) (not_from_false (is_listed is_txn old t) (unlisted_test is_txn old t (h t (inl refl))))
     ∙ ap (λ l. t ∷ l) (none_new old ts (λ u k. h u (inr k)))
-
--- running groups leaves the lists, the number and the watermarks alone
-groups_keep : (plan : Plan) (es : List StartedGroup) (st : ServerState) → ((run_groups plan st es).lists ≡ st.lists) × ((run_groups plan st es).shard ≡ st.shard) × ((run_groups plan st es).below ≡ st.below)
-groups_keep plan [] st = (refl, refl, refl)
-groups_keep plan (e ∷ es) st = groups_keep plan es (run_group plan st e)
-
-pub take_keeps : (plan : Plan) (ts : List TxnId) (st : ServerState) → ((take_all plan st ts).lists ≡ st.lists) × ((take_all plan st ts).shard ≡ st.shard) × ((take_all plan st ts).below ≡ st.below)
-take_keeps plan [] st = (refl, refl, refl)
-take_keeps plan (t ∷ ts) st =
-    let a = take_keeps plan ts (run_groups plan st (buffered_here plan t st.started)) in
-    let b = groups_keep plan (buffered_here plan t st.started) st in
-    (a.0 ∙ b.0, a.1 ∙ b.1, a.2 ∙ b.2)
 
 module _ (plan : Plan) (asked : TxnId → whole.Call) (S : Scheme) (start : Store) (is : IsSchemeOf plan asked S) (laws : LogLaws S start) (c : Log) (reached : IsReachedLog S start c) (n : ℕ) (s : ServerState) (o : ServerMeans plan asked S start c n s) (news : List KnownList) (lists : AllMean plan asked S start c news) (ts : List TxnId) (new : AreNew (IsDecided s.lists.known) (s.lists.known ++ news) ts) where
   abbrev pub K : List KnownList
@@ -324,7 +313,7 @@ module _ (plan : Plan) (asked : TxnId → whole.Call) (S : Scheme) (start : Stor
         number = ap (λ s. s.0) (take_keeps plan ts before_run).1 ∙ o.number;
         groups = record {
           entries = λ e h. entry_grows plan asked S start is c d i j g n (unrun e) (at_end.groups.entries e h);
-          finds = λ r b p. elim (at_end.groups.finds r b (sym (place_grows plan asked S start is c d i j g r b) ∙ p)) [ inl f ↦ inl f | inr gone ↦ inr (gone_stays s after r.txn gone) ];
+          finds = λ r b p. elim (at_end.groups.finds r b (sym (place_grows plan asked S start is c d i j g r b) ∙ p)) [ inl f ↦ inl f | inr gone ↦ inr (gone_taught plan s (lists_after s news) ts r.txn gone) ];
         };
         part = record {
           cells = λ x e. at_end.part.cells x e ∙ ap (λ (Z : Stage). read Z.store x) (sym Y_is);
@@ -336,7 +325,7 @@ module _ (plan : Plan) (asked : TxnId → whole.Call) (S : Scheme) (start : Stor
         fetched = λ a h. begun_grows plan asked S start is c d i j g a.id a.at.0
             (elim (asked_cases a (missing_from s K) s.lists.waiting.asked (subst (λ (l : Lists). Has a l.waiting.asked) (take_keeps plan ts before_run).0 h)) [ inl k ↦ missing_begun a k | inr k ↦ o.fetched a k ]);
         ended = λ t h. answered_grows plan asked S start is c d i j g t (o.ended t (subst (λ (below : List ℕ). is_ended below t ≡ true) (take_keeps plan ts before_run).2 h));
-        decided = λ t h. elim (decided_after t h) [ inl k ↦ inl (subst (λ (l : Lists). IsDecided l.known t) (sym (take_keeps plan ts before_run).0) k) | inr gone ↦ inr (gone_stays s after t gone) ];
+        decided = λ t h. elim (decided_after t h) [ inl k ↦ inl (subst (λ (l : Lists). IsDecided l.known t) (sym (take_keeps plan ts before_run).0) k) | inr gone ↦ inr (gone_taught plan s (lists_after s news) ts t gone) ];
         back = λ t h. back_after t (subst (λ (l : Lists). IsDecided l.known t) (take_keeps plan ts before_run).0 h);
       }
 

@@ -37,13 +37,13 @@ use Rattle.roc_server_lists.specs.Carried.{list_with, carried, unknown_of}
 use Rattle.roc_server_lists.specs.Asking.{known_to, knowns_for, fetch_from}
 use Rattle.roc_server.specs.Lists.{lists_after, missing_from, taught, commit_fault, after_commit, fetch_taken, after_fetch, known_fault, after_known}
 use Rattle.roc_server.specs.Step.{Findings, Handles, after_message, tick_sends}
-use Rattle.roc_protocol.proofs.Deciding.{take_keeps}
+use Rattle.roc_protocol.proofs.KeptGroups.{take_keeps}
 use Rattle.roc_coord.specs.State.{CoordState}
 use Rattle.roc_audit.specs.declared.entry.Entry.{Entry}
 use Rattle.roc_protocol.specs.World.{World, sent_by, mark_delivered, at_server, at_coord}
 use Rattle.roc_protocol.proofs.Gathered.{IsRound}
 use Rattle.roc_protocol.proofs.Changed.{get-set_here, get-set_other, get-set_cases}
-use Rattle.roc_protocol.proofs.Gone.{IsGone, gone_stays}
+use Rattle.roc_protocol.proofs.Gone.{IsGone, gone_same, gone_hears, gone_begins, gone_taught}
 use Rattle.roc_server.specs.declared.handled.Handled.{Handled}
 use Rattle.roc_server.specs.declared.handled.Handled.TheVariants.{Done, Gone}
 
@@ -74,9 +74,9 @@ module _ (plan : Plan) (For : TxnId → ℕ → Type 0) (s : ServerState) (waits
   ignores why = record { asked = λ id h. h; askers = waits; sends = λ out h. absurd h; shard = refl }
 
   -- what was asked for stays so in another state that asks for it
-  asked_kept : (z : ServerState) (id : TxnId) → (was_asked_for id s.lists.waiting.asked ≡ true → was_asked_for id z.lists.waiting.asked ≡ true) → WasAskedFor id s → WasAskedFor id z
-  asked_kept z id still (inl h) = inl (still h)
-  asked_kept z id still (inr gone) = inr (gone_stays s z id gone)
+  asked_kept : (z : ServerState) (id : TxnId) → (was_asked_for id s.lists.waiting.asked ≡ true → was_asked_for id z.lists.waiting.asked ≡ true) → (IsGone s id → IsGone z id) → WasAskedFor id s → WasAskedFor id z
+  asked_kept z id still stay (inl h) = inl (still h)
+  asked_kept z id still stay (inr gone) = inr (stay gone)
 
   start_fetches : (f : Findings) (id : TxnId) (c : GroupCall) (x : Option Reason) → KeepsFetches (start_judged plan f.before f.reached s id c x)
   start_fetches f id c (Some why) = ignores why
@@ -87,7 +87,7 @@ module _ (plan : Plan) (For : TxnId → ℕ → Type 0) (s : ServerState) (waits
       taken None =
           let r = start_taken plan f.before f.reached s id c None in
           record {
-            asked = λ id. asked_kept r.state id (λ h. h);
+            asked = λ t. asked_kept r.state t (λ h. h) (gone_begins s r.state (new_group plan f.before f.reached s id c) t refl refl);
             askers = waits;
             sends = λ out h. subst (λ (out : Outgoing). FetchedFor (IsFor For r.state) out.msg out.to) (sym (has_one out (startok_of s.shard (new_group plan f.before f.reached s id c)) h)) tt;
             shard = refl;
@@ -106,7 +106,7 @@ module _ (plan : Plan) (For : TxnId → ℕ → Type 0) (s : ServerState) (waits
     taught_fetches : (more : List Outgoing) → ((out : Outgoing) → Has out more → FetchedFor (IsFor For r.state) out.msg out.to) → KeepsFetches (record r { sends = r.sends ++ more })
     taught_fetches more others =
         record {
-          asked = λ id. asked_kept r.state id (λ h. subst (λ (l : Lists). was_asked_for id l.waiting.asked ≡ true) (sym lists_are) (asked_still id (missing_from s (s.lists.known ++ news)) s.lists.waiting.asked h));
+          asked = λ id. asked_kept r.state id (λ h. subst (λ (l : Lists). was_asked_for id l.waiting.asked ≡ true) (sym lists_are) (asked_still id (missing_from s (s.lists.known ++ news)) s.lists.waiting.asked h)) (gone_taught plan s (lists_after s news) ts id);
           askers = λ a h. waits a (from_has_filter (λ (a : Asker). not (list_any (λ (k : KnownList). is_txn k.of a.id) news)) a s.lists.waiting.askers (subst (λ (l : Lists). Has a l.waiting.askers) lists_are h)).0;
           sends = λ out h. elim (has_append out r.sends more h) [ inl k ↦ mine out k | inr k ↦ others out k ];
           shard = (take_keeps plan ts before_run).1;
@@ -147,7 +147,7 @@ module _ (plan : Plan) (For : TxnId → ℕ → Type 0) (s : ServerState) (waits
       taken None =
           let a : Asker = record { id = id; shard = asker } in
           record {
-            asked = λ t. asked_kept (fetch_taken s id asker None).state t (λ h. h);
+            asked = λ t. asked_kept (fetch_taken s id asker None).state t (λ h. h) (gone_same s (fetch_taken s id asker None).state t refl refl);
             askers = λ b h. elim (has_append b (filter (λ x. is_asker_before x a) s.lists.waiting.askers) (a ∷ filter (λ x. is_asker_before a x) s.lists.waiting.askers) h) [
               | inl l ↦ waits b (from_has_filter (λ x. is_asker_before x a) b s.lists.waiting.askers l).0
               | inr l ↦ elim l [ inl e ↦ subst (λ (b : Asker). For b.id b.shard.0) (sym e) k | inr j ↦ waits b (from_has_filter (λ x. is_asker_before a x) b s.lists.waiting.askers j).0 ]
@@ -168,7 +168,7 @@ module _ (plan : Plan) (For : TxnId → ℕ → Type 0) (s : ServerState) (waits
 
   -- a watermark is heard
   hears : (coord mark : ℕ) (answer : Handled) → KeepsFetches (record (answered (hearing s coord mark) []) { answer = answer })
-  hears coord mark answer = record { asked = λ id. asked_kept (hearing s coord mark) id (λ h. h); askers = waits; sends = λ out h. absurd h; shard = refl }
+  hears coord mark answer = record { asked = λ id. asked_kept (hearing s coord mark) id (λ h. h) (gone_hears s coord mark id); askers = waits; sends = λ out h. absurd h; shard = refl }
 
   pub message_fetches : (msg : Msg) (to : Node) (r : ServerStep) → Handles plan s msg r → FetchedFor For msg to → KeepsFetches r
   message_fetches msg to r h k = subst KeepsFetches (sym h.is) (go msg k)

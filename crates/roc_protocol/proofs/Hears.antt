@@ -32,8 +32,8 @@ use Rattle.roc_server_lists.specs.Asking.{known_to, knowns_for, fetch_from, aske
 use Rattle.roc_server.specs.Lists.{lists_after, is_missing, missing_from, taught}
 use Rattle.roc_protocol.proofs.Facts.{known_has}
 use Rattle.roc_await.proofs.Asking.{asked_still, asked_all}
-use Rattle.roc_protocol.proofs.Carried.{take_same}
-use Rattle.roc_protocol.proofs.Deciding.{more_keeps, take_keeps}
+use Rattle.roc_protocol.proofs.KeptGroups.{take_keeps, take_same}
+use Rattle.roc_protocol.proofs.Deciding.{more_keeps}
 use Rattle.roc_protocol.proofs.Gone.{IsGone}
 
 -- ---- lists

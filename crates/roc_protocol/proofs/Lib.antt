@@ -1,4 +1,5 @@
 mod Marks
+mod KeptGroups
 mod Gone
 mod Means
 mod Grows

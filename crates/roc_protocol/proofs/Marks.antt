@@ -79,6 +79,18 @@ ended_cases below coord mark t h = elim (set_cases below coord t.coord (max (mar
         let above : nat_lt t.seq (mark_of below coord) ≡ false = ap (λ c. nat_lt t.seq (mark_of below c)) (sym same) ∙ e in
         inr (same, grind (arith, nat_tests))
 
+-- and what was below one is so still
+pub ended_still : (below : List ℕ) (coord mark : ℕ) (t : TxnId) → is_ended below t ≡ true → is_ended (raised below coord mark) t ≡ true
+ended_still below coord mark t h = elim (set_cases below coord t.coord (max (mark_of below coord) mark)) [
+  | inl same ↦ ap (nat_lt t.seq) same ∙ h
+  | inr new ↦
+      (let was : nat_lt t.seq (mark_of below coord) ≡ true = ap (λ c. nat_lt t.seq (mark_of below c)) (sym new.0) ∙ h in
+      ap (nat_lt t.seq) new.1 ∙ higher was)
+]
+  where
+    higher : nat_lt t.seq (mark_of below coord) ≡ true → nat_lt t.seq (max (mark_of below coord) mark) ≡ true
+    higher was = grind (arith, nat_tests)
+
 all_zero : (n c : ℕ) → ◌≡◌ {A = ℕ} (slice_index_or {A = ℕ} (replicate n 0) c 0) 0
 all_zero zero c = refl
 all_zero (suc n) zero = refl

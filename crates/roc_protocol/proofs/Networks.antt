@@ -5,7 +5,7 @@ use Rattle.std.specs.Prelude.{slice_get, slice_set, flat_map}
 use Rattle.std.specs.List.{range_with_len}
 use Rattle.roc_merge_groups.proofs.Elements.{has_range}
 use Rattle.roc_sequence.specs.Lists.{Has}
-use Rattle.roc_sequence.proofs.Holds.{every_has, all_has}
+use Rattle.roc_sequence.proofs.Holds.{every_has, all_has, has_any}
 use Rattle.roc_sequence.proofs.Ranges.{range_below}
 use Rattle.roc_sequence.proofs.Found.{found_has, none_found}
 use Rattle.roc_sequence.proofs.Members.{has_append, has_left, from_has_map, has_flat_map, from_has_flat_map, same_there}
@@ -49,7 +49,7 @@ use Rattle.roc_protocol.proofs.Coordinators.{there}
 use Rattle.roc_server_lists.proofs.Unions.{same_members}
 use Rattle.roc_protocol.proofs.Starting.{shard_number}
 use Rattle.roc_protocol.proofs.Worlds.{IsLogged}
-use Rattle.roc_protocol.proofs.Gone.{IsGone, none_gone}
+use Rattle.roc_protocol.proofs.Gone.{IsGone, here_stays}
 
 -- what is in the network stays there
 pub told_more : (sent more : List Envelope) (t : TxnId) (g : ℕ) (es : List Dependency) (fs : List KnownList) → IsToldIn sent t g es fs → IsToldIn (sent ++ more) t g es fs
@@ -73,6 +73,10 @@ found_is t g started e f =
     let q = found_has (is_group t g) started e f in
     let p = and_parts (is_txn e.id t) (e.group == g) q.1 in
     (q.0, is_txn-true e.id t p.0, eqb-true e.group g p.1)
+
+-- so its transaction has a group here
+found_here : (t : TxnId) (g : ℕ) (started : List StartedGroup) (e : StartedGroup) → find_group t g started ≡ Some e → is_here t started ≡ true
+found_here t g started e f = let q = found_has (is_group t g) started e f in has_any (λ (e : StartedGroup). is_txn e.id t) started e q.0 (and_parts (is_txn e.id t) (e.group == g) q.1).0
 
 -- the server of a shard keeps a group of which a startok told, and one of a transaction of which a commitok told, unless it is gone
 abbrev pub IsToldHere : List ServerState → Msg → Type 0
@@ -279,11 +283,11 @@ module _ (plan : Plan) (asked : TxnId → whole.Call) (S : Scheme) (is : IsSchem
             | inl a ↦
                 (let same : unrun was ≡ unrun e = sym a.2 ∙ ap unrun (just (sym a.1 ∙ f)) in
                 nw.kept n s there t h was k2 m j k ∙ (ap (λ (e : StartedGroup). (startok_of s.shard e).msg) same ∙ ap (λ (at : Shard). (startok_of at e).msg) (sym g.shard)))
-            | inr gone ↦ absurd (none_gone r.state t gone)
+            | inr gone ↦ absurd (here_stays r.state t (found_here t h r.state.started e f) gone)
           ]
           go None k2 = elim ((o.means.servers n s there).groups.finds (run_of t h) (began_at m j t h k) (placed_now t h e f)) [
             | inl was ↦ absurd (nothing (sym was.1 ∙ k2))
-            | inr gone ↦ absurd (none_gone s t gone)
+            | inr gone ↦ absurd (here_stays r.state t (found_here t h r.state.started e f) (g.gone t gone))
           ]
 
       says_now : (t : TxnId) (h : ℕ) (e : StartedGroup) → find_group t h r.state.started ≡ Some e → (m : Envelope) → Has m (w.sent ++ more) → IsStartOkOf t h m.msg → m.msg ≡ (startok_of r.state.shard e).msg

@@ -46,7 +46,7 @@ use Rattle.roc_protocol.proofs.Hears.{IsSought}
 use Rattle.roc_protocol.proofs.Delivered.{At, HasCommit, Tells, IsTaken}
 use Rattle.roc_protocol.proofs.Hearing.{HasCome, HasHeard, run_heard}
 use Rattle.roc_protocol.proofs.Transactions.{transaction_or_none}
-use Rattle.roc_protocol.proofs.Gone.{none_gone}
+use Rattle.roc_protocol.proofs.Gone.{IsGone, none_gone, here_stays}
 
 -- ---- lists
 
@@ -102,7 +102,7 @@ module _ (plan : Plan) (w : World) (o : HasHeard w) (finals : (n : ℕ) (s : Ser
       let c = (out u d).each st.3 (record { 0 = n }) st.0 q.0.group st.1 st.2 st.4 st.5 start in
       let p = has_place w.sent c.2 c.3 in
       let a : At w.servers n (HasCommit w.sent u (record { 0 = n })) = taken u d p.0 c.2 p.1 (Commit u c.0 c.1) (Server (record { 0 = n })) c.5 c.4 refl in
-      subst (λ (v : ServerState). IsKnown v.lists.known u) (same_there w.servers n a.0 s a.1 there) (elim a.2 [ inl k ↦ k.1 | inr gone ↦ absurd (none_gone a.0 u gone) ])
+      subst (λ (v : ServerState). IsKnown v.lists.known u) (same_there w.servers n a.0 s a.1 there) (elim a.2 [ inl k ↦ k.1 | inr gone ↦ absurd (here_stays s u here (subst (λ (v : ServerState). IsGone v u) (same_there w.servers n a.0 s a.1 there) gone)) ])
 
   -- an entry of a known list comes from a startok in the network
   named_sent : (n : ℕ) (s : ServerState) → slice_get w.servers n ≡ Some s → (u t : TxnId) → Precedes s.lists.known u t → PrecedesIn w.sent u t

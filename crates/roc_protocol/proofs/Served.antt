@@ -23,7 +23,7 @@ use Rattle.roc_msg.specs.declared.msg.Msg.{Msg}
 use Rattle.roc_msg.specs.declared.msg.Msg.TheVariants.{Start, Commit, Fetch, Known, Ended, Settled}
 use Rattle.roc_msg.specs.declared.outbox.Outgoing.{Outgoing}
 use Rattle.roc_msg.specs.declared.reason.Reason.{Reason}
-use Rattle.roc_msg.specs.declared.reason.Reason.TheVariants.{NotHere, Foreign}
+use Rattle.roc_msg.specs.declared.reason.Reason.TheVariants.{NotHere, Foreign, Differs}
 use Rattle.roc_msg.specs.Facts.{is_fact_before}
 use Rattle.roc_plan.specs.Groups.{Plan}
 use Rattle.roc_whole.specs.Serial as whole
@@ -40,14 +40,15 @@ use Rattle.roc_server.specs.Start.{start_fault, start_taken, start_judged, start
 use Rattle.roc_server.specs.Runs.{commitok_of, outs_here}
 use Rattle.roc_server_lists.specs.Carried.{list_with, carried, unknown_of}
 use Rattle.roc_server_lists.specs.Asking.{known_to, knowns_for, fetch_from}
-use Rattle.roc_server.specs.Lists.{missing_from, taught, commit_fault, commit_taken, after_commit, fetch_taken, after_fetch, known_fault, after_known}
+use Rattle.roc_server.specs.Lists.{commit_differs, lists_after, missing_from, taught, commit_fault, commit_taken, after_commit, fetch_taken, after_fetch, known_fault, after_known}
 use Rattle.roc_server.specs.Step.{Findings, AreFindings, unless_ignored, after_message, Handles, tick_sends}
 use Rattle.roc_audit.specs.Order.{noted}
 use Rattle.roc_protocol.specs.PlanAssumptions.{IsSchemeOf}
 use Rattle.roc_protocol.specs.World.{World, at_server}
 use Rattle.roc_protocol.specs.Inner.Given.{LogLaws}
 use Rattle.roc_protocol.proofs.Means.{Began, Means, ListMeans, AllMean, StartIs, DoneMeans, AreGroupsHere, ServerMeans, WorldMeans, AreEnded}
-use Rattle.roc_protocol.proofs.Gone.{IsGone, none_gone, gone_stays}
+use Rattle.roc_protocol.proofs.KeptGroups.{take_same}
+use Rattle.roc_protocol.proofs.Gone.{IsGone, here_stays, gone_same, gone_hears}
 use Rattle.roc_protocol.proofs.Grows.{begun_grows, list_grows, decided_grows}
 use Rattle.roc_protocol.proofs.Buffered.{outs_told}
 use Rattle.roc_protocol.proofs.Changed.{noted-new, server_means}
@@ -88,11 +89,11 @@ module _ (plan : Plan) (asked : TxnId → whole.Call) (S : Scheme) (start : Stor
   i = laws.holds c o.reached
 
   -- the groups are those of a state with the same ones, and what was decided is
-  groups_kept : (z : ServerState) → AreGroupsHere plan asked S start c n (IsGone z) s.started
-  groups_kept z = record { entries = mine.groups.entries; finds = λ r b p. elim (mine.groups.finds r b p) [ inl f ↦ inl f | inr gone ↦ inr (gone_stays s z r.txn gone) ] }
+  groups_kept : (z : ServerState) → ((t : TxnId) → IsGone s t → IsGone z t) → AreGroupsHere plan asked S start c n (IsGone z) s.started
+  groups_kept z stay = record { entries = mine.groups.entries; finds = λ r b p. elim (mine.groups.finds r b p) [ inl f ↦ inl f | inr gone ↦ inr (stay r.txn gone) ] }
 
-  decided_kept : (z : ServerState) (t : TxnId) → IsListed is_txn (c.decided n) t → IsDecided s.lists.known t ⊎ IsGone z t
-  decided_kept z t h = elim (mine.decided t h) [ inl k ↦ inl k | inr gone ↦ inr (gone_stays s z t gone) ]
+  decided_kept : (z : ServerState) → ((t : TxnId) → IsGone s t → IsGone z t) → (t : TxnId) → IsListed is_txn (c.decided n) t → IsDecided s.lists.known t ⊎ IsGone z t
+  decided_kept z stay t h = elim (mine.decided t h) [ inl k ↦ inl k | inr gone ↦ inr (stay t gone) ]
 
   -- the log does nothing
   still : (r : ServerStep) → ServerMeans plan asked S start c n r.state → ((out : Outgoing) → Has out r.sends → Means plan asked S start c out.msg out.to) → r.decided ≡ [] → IsExplained r
@@ -181,8 +182,8 @@ module _ (plan : Plan) (asked : TxnId → whole.Call) (S : Scheme) (start : Stor
     server2 : ServerMeans plan asked S start d2 n after
     server2 = deciding.server_after plan asked S start is laws c o.reached n s mine news lists ts new
 
-    commitok_means : (t : TxnId) → IsListed is_txn (d2.decided n) t → Means plan asked S start d2 (commitok_of plan after t).msg (commitok_of plan after t).to
-    commitok_means t h = (subst (λ k. DoneMeans plan asked S start d2 t k (outs_here plan t after.started)) (sym server2.number) (outs_told plan asked S start is d2 j2 n after server2 t h (none_gone after t)), refl)
+    commitok_means : (t : TxnId) → is_here t s.started ≡ true → IsListed is_txn (d2.decided n) t → Means plan asked S start d2 (commitok_of plan after t).msg (commitok_of plan after t).to
+    commitok_means t here h = (subst (λ k. DoneMeans plan asked S start d2 t k (outs_here plan t after.started)) (sym server2.number) (outs_told plan asked S start is d2 j2 n after server2 t h (here_stays after t ((take_same plan ts (record s { lists = lists_after s news })).here t here))), refl)
 
     taught_mean : (out : Outgoing) → Has out (taught plan s news ts).sends → Means plan asked S start d2 out.msg out.to
     taught_mean out h = elim (has_append out (flat_map (knowns_for s.lists.waiting.askers) news) (map (commitok_of plan after) (filter (λ t. is_here t s.started) ts) ++ map (fetch_from s.shard) (missing_from s (s.lists.known ++ news))) h) [
@@ -194,7 +195,7 @@ module _ (plan : Plan) (asked : TxnId → whole.Call) (S : Scheme) (start : Stor
         | inl l ↦
             (let q = from_has_map (commitok_of plan after) out (filter (λ t. is_here t s.started) ts) l in
             let f = from_has_filter (λ t. is_here t s.started) q.0 ts q.1 in
-            subst (λ (out : Outgoing). Means plan asked S start d2 out.msg out.to) (sym q.2) (commitok_means q.0 (deciding.taken_decided plan asked S start is laws c o.reached n s mine news lists ts new q.0 (has_listed ts q.0 f.0))))
+            subst (λ (out : Outgoing). Means plan asked S start d2 out.msg out.to) (sym q.2) (commitok_means q.0 f.1 (deciding.taken_decided plan asked S start is laws c o.reached n s mine news lists ts new q.0 (has_listed ts q.0 f.0))))
         | inr l ↦ (let q = from_has_map (fetch_from s.shard) out (missing_from s (s.lists.known ++ news)) l in subst (λ (out : Outgoing). Means plan asked S start d2 out.msg out.to) (sym q.2) (begun_grows plan asked S start is c d2 i j2 g2 q.0.id q.0.at.0 (deciding.missing_begun plan asked S start is laws c o.reached n s mine news lists ts new q.0 q.1)))
       ]
     ]
@@ -216,16 +217,20 @@ module _ (plan : Plan) (asked : TxnId → whole.Call) (S : Scheme) (start : Stor
   -- ---- any message
 
   commit_explained : (f : Findings) (id : TxnId) (edges : List Dependency) (facts : List KnownList) → AreFindings plan s (Commit id edges facts) f → AllMean plan asked S start c (list_with id edges ∷ facts) → IsExplained (after_commit plan f.before f.decided s id edges facts (commit_fault s id edges facts))
-  commit_explained f id edges facts found m = judged (commit_fault s id edges facts) found.decided
+  commit_explained f id edges facts found m = judged (commit_fault s id edges facts) refl found.decided
     where
-      judged : (x : Option Reason) → AreNew (IsDecided s.lists.known) (s.lists.known ++ unless_ignored x (unknown_of s.lists.known (carried id edges facts))) f.decided → IsExplained (after_commit plan f.before f.decided s id edges facts x)
-      judged (Some why) new = ignores why
-      judged None new =
+      was_here : (b : Bool) → (if not b then Some NotHere else (if commit_differs s id edges facts then Some Differs else None)) ≡ None → b ≡ true
+      was_here true e = refl
+      was_here false e = absurd (cc)
+
+      judged : (x : Option Reason) → commit_fault s id edges facts ≡ x → AreNew (IsDecided s.lists.known) (s.lists.known ++ unless_ignored x (unknown_of s.lists.known (carried id edges facts))) f.decided → IsExplained (after_commit plan f.before f.decided s id edges facts x)
+      judged (Some why) fault new = ignores why
+      judged None fault new =
           let lists : AllMean plan asked S start c (unknown_of s.lists.known (carried id edges facts)) = λ k h. m k (from_carried k (from_has_filter (λ k. not (is_known s.lists.known k.of)) k (carried id edges facts) h).0) in
           taught_explained (unknown_of s.lists.known (carried id edges facts)) lists f.decided new (commit_taken plan f.before s id (taught plan s (unknown_of s.lists.known (carried id edges facts)) f.decided)) refl refl
           (λ out h. elim (has_append out (taught plan s (unknown_of s.lists.known (carried id edges facts)) f.decided).sends (if is_listed is_txn f.before id then commitok_of plan (taught plan s (unknown_of s.lists.known (carried id edges facts)) f.decided).state id ∷ [] else []) h) [
             | inl k ↦ taught_mean (unknown_of s.lists.known (carried id edges facts)) lists f.decided new out k
-            | inr k ↦ again lists new out (is_listed is_txn f.before id) refl k
+            | inr k ↦ again lists new (was_here (is_here id s.started) fault) out (is_listed is_txn f.before id) refl k
           ])
         where
           from_carried : (k : KnownList) → Has k (carried id edges facts) → Has k (list_with id edges ∷ facts)
@@ -235,14 +240,14 @@ module _ (plan : Plan) (asked : TxnId → whole.Call) (S : Scheme) (start : Stor
           ]
 
           again :
-              (lists : AllMean plan asked S start c (unknown_of s.lists.known (carried id edges facts))) (new : AreNew (IsDecided s.lists.known) (s.lists.known ++ unknown_of s.lists.known (carried id edges facts)) f.decided)
+              (lists : AllMean plan asked S start c (unknown_of s.lists.known (carried id edges facts))) (new : AreNew (IsDecided s.lists.known) (s.lists.known ++ unknown_of s.lists.known (carried id edges facts)) f.decided) (here : is_here id s.started ≡ true)
               (out : Outgoing) (b : Bool) → is_listed is_txn f.before id ≡ b → Has out (cond b (commitok_of plan (taught plan s (unknown_of s.lists.known (carried id edges facts)) f.decided).state id ∷ []) [])
               → Means plan asked S start (d2 (unknown_of s.lists.known (carried id edges facts)) lists f.decided new) out.msg out.to
-          again lists new out true e k =
+          again lists new here out true e k =
               let known = unknown_of s.lists.known (carried id edges facts) in
               subst (λ (out : Outgoing). Means plan asked S start (d2 known lists f.decided new) out.msg out.to) (sym (has_one out (commitok_of plan (taught plan s known f.decided).state id) k))
-              (commitok_means known lists f.decided new id (decided_grows plan asked S start is c (d2 known lists f.decided new) i (j2 known lists f.decided new) (g2 known lists f.decided new) n id (mine.back id (found.before.sound id (listed_true is_txn f.before id e)))))
-          again lists new out false e k = absurd k
+              (commitok_means known lists f.decided new id here (decided_grows plan asked S start is c (d2 known lists f.decided new) i (j2 known lists f.decided new) (g2 known lists f.decided new) n id (mine.back id (found.before.sound id (listed_true is_txn f.before id e)))))
+          again lists new here out false e k = absurd k
 
   fetch_explained : (id : TxnId) (asker : Shard) → IsExplained (after_fetch s id asker)
   fetch_explained id asker = here (is_here id s.started)
@@ -257,10 +262,10 @@ module _ (plan : Plan) (asked : TxnId → whole.Call) (S : Scheme) (start : Stor
           still (fetch_taken s id asker None)
           (record {
             number = mine.number;
-            groups = groups_kept (fetch_taken s id asker None).state;
+            groups = groups_kept (fetch_taken s id asker None).state (λ t. gone_same s (fetch_taken s id asker None).state t refl refl);
             part = mine.part;
             known = mine.known;
-            decided = decided_kept (fetch_taken s id asker None).state;
+            decided = decided_kept (fetch_taken s id asker None).state (λ t. gone_same s (fetch_taken s id asker None).state t refl refl);
             back = mine.back;
             fetched = mine.fetched;
             ended = mine.ended;
@@ -285,10 +290,10 @@ module _ (plan : Plan) (asked : TxnId → whole.Call) (S : Scheme) (start : Stor
       still (answered (hearing s coord mark) [])
       (record {
         number = mine.number;
-        groups = groups_kept (hearing s coord mark);
+        groups = groups_kept (hearing s coord mark) (gone_hears s coord mark);
         part = mine.part;
         known = mine.known;
-        decided = decided_kept (hearing s coord mark);
+        decided = decided_kept (hearing s coord mark) (gone_hears s coord mark);
         back = mine.back;
         fetched = mine.fetched;
         ended = λ t h. elim (ended_cases s.below coord mark t h) [ inl k ↦ mine.ended t k | inr k ↦ subst (IsListed is_txn c.answered) (λ i. record { coord = sym k.0 i; seq = t.seq }) (m t.seq k.1) ];

@@ -41,8 +41,7 @@ use Rattle.roc_server.specs.Lists.{commit_differs, lists_after, is_missing, miss
 use Rattle.roc_server.specs.Step.{Findings, AreFindings, Handles, after_message, tick_sends}
 use Rattle.roc_server.specs.State.{unrun}
 use Rattle.roc_protocol.specs.Fits.{AreSeenHere, AreListsHere, NamesNodes, IsStartedHere, IsServerHere}
-use Rattle.roc_protocol.proofs.Carried.{take_same}
-use Rattle.roc_protocol.proofs.Deciding.{take_keeps}
+use Rattle.roc_protocol.proofs.KeptGroups.{take_keeps, take_same}
 use Rattle.roc_protocol.proofs.Facts.{facts_known}
 use Rattle.roc_protocol.proofs.Served.{list_has}
 use Rattle.roc_protocol.proofs.Named.{all_filter, all_in_place, all_flat, seen_united, IsOutHere}

@@ -38,10 +38,10 @@ use Rattle.roc_server_lists.specs.Carried.{list_with, carried, unknown_of}
 use Rattle.roc_server_lists.specs.Asking.{known_to}
 use Rattle.roc_server.specs.Lists.{lists_after, taught, commit_differs, commit_fault, after_commit, fetch_taken, after_fetch, known_fault, after_known}
 use Rattle.roc_server.specs.Step.{Findings, AreFindings, unless_ignored, after_message, Handles}
-use Rattle.roc_protocol.proofs.Carried.{take_same}
+use Rattle.roc_protocol.proofs.KeptGroups.{take_same}
 use Rattle.roc_protocol.proofs.Deciding.{more_keeps}
 use Rattle.roc_protocol.proofs.Hears.{from_has_in_place, in_place_has, has_known, IsSought, AwaitsNone, IsAnswered, Hears, taught_known, taught_hears}
-use Rattle.roc_protocol.proofs.Gone.{IsGone, gone_stays}
+use Rattle.roc_protocol.proofs.Gone.{IsGone, gone_same, gone_hears, gone_begins}
 use Rattle.roc_server.specs.declared.handled.Handled.{Handled}
 
 -- ---- who asks
@@ -84,11 +84,11 @@ module _ (plan : Plan) (s : ServerState) where
   Result msg r = Hears plan s r × (r.answer ≡ Done → Takes msg r)
 
   -- what is sought is sought in another state with the same lists, and at least the groups
-  sought_kept : (z : ServerState) → z.lists ≡ s.lists → ((t : TxnId) → is_here t s.started ≡ true → is_here t z.started ≡ true) → (u : TxnId) → IsSought s u → IsSought z u
-  sought_kept z lists here u (inl k) = inl (subst (λ (l : Lists). IsKnown l.known u) (sym lists) k)
-  sought_kept z lists here u (inr (inl k)) = inr (inl (here u k))
-  sought_kept z lists here u (inr (inr (inl k))) = inr (inr (inl (subst (λ (l : Lists). was_asked_for u l.waiting.asked ≡ true) (sym lists) k)))
-  sought_kept z lists here u (inr (inr (inr k))) = inr (inr (inr (gone_stays s z u k)))
+  sought_kept : (z : ServerState) → z.lists ≡ s.lists → ((t : TxnId) → is_here t s.started ≡ true → is_here t z.started ≡ true) → (u : TxnId) → (IsGone s u → IsGone z u) → IsSought s u → IsSought z u
+  sought_kept z lists here u stay (inl k) = inl (subst (λ (l : Lists). IsKnown l.known u) (sym lists) k)
+  sought_kept z lists here u stay (inr (inl k)) = inr (inl (here u k))
+  sought_kept z lists here u stay (inr (inr (inl k))) = inr (inr (inl (subst (λ (l : Lists). was_asked_for u l.waiting.asked ≡ true) (sym lists) k)))
+  sought_kept z lists here u stay (inr (inr (inr k))) = inr (inr (inr (stay k)))
 
   -- so it is where nothing changes, whatever is sent
   pub nothing_changes : (outs : List Outgoing) → Hears plan s (answered s outs)
@@ -116,7 +116,7 @@ module _ (plan : Plan) (s : ServerState) where
               askers = λ a h. inr h;
               asked = λ a h. inl (h, λ k. k);
               waits = λ was a h. (let w = was a h in (here_more e a.id w.0, w.1));
-              seeks = λ h k j d m. sought_kept (start_taken plan f.before f.reached s id (call proc group args inputs) None).state refl (here_more e) d.from (h k j d m);
+              seeks = λ h k j d m. sought_kept (start_taken plan f.before f.reached s id (call proc group args inputs) None).state refl (here_more e) d.from (gone_begins s (start_taken plan f.before f.reached s id (call proc group args inputs) None).state e d.from refl refl) (h k j d m);
             },
             λ d. (e, refl, refl, inl refl),
           )
@@ -188,7 +188,7 @@ module _ (plan : Plan) (s : ServerState) where
                 | inl l ↦ inl l
                 | inr (inl l) ↦ inr (inl l)
                 | inr (inr (inl l)) ↦ inr (inr (inl l))
-                | inr (inr (inr gone)) ↦ inr (inr (inr (gone_stays s (fetch_taken s id asker None).state d.from gone)))
+                | inr (inr (inr gone)) ↦ inr (inr (inr (gone_same s (fetch_taken s id asker None).state d.from refl refl gone)))
               ];
             },
             λ d. inr (in_place_has is_asker_before a s.lists.waiting.askers),
@@ -210,7 +210,7 @@ module _ (plan : Plan) (s : ServerState) where
 
   -- a watermark is heard
   hears : (coord mark : ℕ) (answer : Handled) → Hears plan s (record (answered (hearing s coord mark) []) { answer = answer })
-  hears coord mark answer = record { known = λ t h. inl h; says = λ t here d. inl d; askers = λ a h. inr h; asked = λ a h. inl (h, λ k. k); waits = λ h. h; seeks = λ h k j d m. sought_kept (hearing s coord mark) refl (λ t k. k) d.from (h k j d m) }
+  hears coord mark answer = record { known = λ t h. inl h; says = λ t here d. inl d; askers = λ a h. inr h; asked = λ a h. inl (h, λ k. k); waits = λ h. h; seeks = λ h k j d m. sought_kept (hearing s coord mark) refl (λ t k. k) d.from (gone_hears s coord mark d.from) (h k j d m) }
 
   -- any message keeps what is waited for, and leaves what it does if it is taken
   pub message_result : (msg : Msg) (r : ServerStep) → Handles plan s msg r → Hears plan s r × (r.answer ≡ Done → Takes msg r)
