@@ -35,7 +35,7 @@ use Rattle.roc_protocol.specs.Final.{lists_in}
 use Rattle.roc_protocol.proofs.Facts.{facts_known}
 use Rattle.roc_protocol.proofs.Served.{list_has}
 use Rattle.roc_protocol.proofs.KeptGroups.{take_keeps, take_same}
-use Rattle.roc_protocol.proofs.Gone.{IsGone, gone_same, gone_hears, gone_begins, gone_taught}
+use Rattle.roc_protocol.proofs.Gone.{IsGone, none_gone, gone_same, gone_hears, gone_begins, gone_taught}
 use Rattle.roc_server.specs.declared.handled.Handled.{Handled}
 use Rattle.roc_server.specs.declared.handled.Handled.TheVariants.{Done, Gone}
 
@@ -144,7 +144,7 @@ module _ (plan : Plan) (Good : TxnId → List Dependency → Type 0) (Here : Txn
                     (refl, e, find_last (is_group id c.group) s.started e k (and_from (is_txn id id) (c.group == c.group) (is_txn-same id) (eq-eqb c.group c.group refl)), refl, refl, refl, refl);
                 kept = λ u g b h. inl (b, find_front (is_group u g) s.started (e ∷ []) b h, refl);
                 here = λ u h. inl (here_more s.started u h);
-                gone = λ t. gone_begins s (start_taken plan f.before f.reached s id c None).state e t refl refl;
+                gone = λ t. gone_begins s (start_taken plan f.before f.reached s id c None).state e (none_gone s id) t refl refl;
                 shard = refl;
               }
 

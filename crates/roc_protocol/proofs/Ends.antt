@@ -28,6 +28,7 @@ use Rattle.roc_coord.specs.declared.handled.Handled.{Handled as CoordHandled}
 use Rattle.roc_coord.specs.declared.handled.Handled.TheVariants as coord_answer
 use Rattle.roc_coord.specs.Step.{after_message}
 use Rattle.roc_protocol.proofs.PendingRuns.{run_pending}
+use Rattle.roc_protocol.proofs.OngoingRuns.{run_ongoing}
 use Rattle.roc_protocol.proofs.Staleness.{message_stale}
 use Rattle.roc_protocol.proofs.Refusals.{message_taken}
 use Rattle.roc_protocol.proofs.Idle.{run_idle}
@@ -111,5 +112,5 @@ module _ (plan : Plan) (schemes : HasSchemes plan) (laws : (S : Scheme) → IsSo
           let asked = serial.asked plan schemes laws stores coords steps w run some in
           let is = serial.is plan schemes laws stores coords steps w run some in
           let l = laws S (serial.sound plan schemes laws stores coords steps w run some) in
-          message_stale plan asked S is l w x.0 x.1 (networked plan schemes laws stores coords steps w run some) (run_pending plan asked S is l stores coords steps w run (serial.agrees plan some.0 w subs)) n s found b (has_at w.sent (k - 1) b at) to why
+          message_stale plan asked S is l w x.0 x.1 (networked plan schemes laws stores coords steps w run some) (run_pending plan asked S is l stores coords steps w run (serial.agrees plan some.0 w subs)) (run_ongoing plan asked S is l stores coords steps w run (serial.agrees plan some.0 w subs)).0.gone n s found b (has_at w.sent (k - 1) b at) to why
           (was_ignored (after_message plan s b.msg).answer (sym (ap (λ (o : Outcome). o.seen) e) ∙ ignored))

@@ -43,7 +43,7 @@ use Rattle.roc_audit.specs.declared.entry.Entry.{Entry}
 use Rattle.roc_protocol.specs.World.{World, sent_by, mark_delivered, at_server, at_coord}
 use Rattle.roc_protocol.proofs.Gathered.{IsRound}
 use Rattle.roc_protocol.proofs.Changed.{get-set_here, get-set_other, get-set_cases}
-use Rattle.roc_protocol.proofs.Gone.{IsGone, gone_same, gone_hears, gone_begins, gone_taught}
+use Rattle.roc_protocol.proofs.Gone.{IsGone, none_gone, gone_same, gone_hears, gone_begins, gone_taught}
 use Rattle.roc_server.specs.declared.handled.Handled.{Handled}
 use Rattle.roc_server.specs.declared.handled.Handled.TheVariants.{Done, Gone}
 
@@ -87,7 +87,7 @@ module _ (plan : Plan) (For : TxnId → ℕ → Type 0) (s : ServerState) (waits
       taken None =
           let r = start_taken plan f.before f.reached s id c None in
           record {
-            asked = λ t. asked_kept r.state t (λ h. h) (gone_begins s r.state (new_group plan f.before f.reached s id c) t refl refl);
+            asked = λ t. asked_kept r.state t (λ h. h) (gone_begins s r.state (new_group plan f.before f.reached s id c) (none_gone s id) t refl refl);
             askers = waits;
             sends = λ out h. subst (λ (out : Outgoing). FetchedFor (IsFor For r.state) out.msg out.to) (sym (has_one out (startok_of s.shard (new_group plan f.before f.reached s id c)) h)) tt;
             shard = refl;

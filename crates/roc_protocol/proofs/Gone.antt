@@ -1,10 +1,11 @@
 -- What a server has forgotten
-use Rattle.std.proofs.Common.{◌≡◌, ℕ, true, false, List, [], ◌∷◌, ◌++◌, sym, subst, ◌∙◌, inl, inr}
+use Rattle.std.proofs.Common.{◌≡◌, ℕ, true, false, List, [], ◌∷◌, ◌++◌, sym, ap, subst, ◌∙◌, inl, inr}
 use Rattle.std.proofs.lemmas.Bool.{false≢true, false_from_ne_true}
 use Rattle.roc_sequence.proofs.Holds.{any_has, has_any}
-use Rattle.roc_sequence.proofs.Members.{has_append}
+use Rattle.roc_sequence.proofs.Members.{has_append, has_one}
 use Rattle.roc_base.specs.declared.id.TxnId.{TxnId}
 use Rattle.roc_base.specs.TxnId.{is_txn}
+use Rattle.roc_base.specs.Equalities.{is_txn-true}
 use Rattle.roc_plan.specs.Groups.{Plan}
 use Rattle.roc_server.specs.declared.started.StartedGroup.{StartedGroup}
 use Rattle.roc_server.specs.State.{is_here, Lists, ServerState, hearing}
@@ -40,12 +41,17 @@ gone_same v z t started below = gone_later v z t (λ h. subst (λ es. is_here t 
 pub gone_hears : (v : ServerState) (coord mark : ℕ) (t : TxnId) → IsGone v t → IsGone (hearing v coord mark) t
 gone_hears v coord mark t = gone_later v (hearing v coord mark) t (λ h. h) (ended_still v.below coord mark t)
 
--- where a group begins: it is of none that is gone
-pub gone_begins : (v z : ServerState) (e : StartedGroup) (t : TxnId) → z.started ≡ v.started ++ e ∷ [] → z.below ≡ v.below → IsGone v t → IsGone z t
-gone_begins v z e t started below g =
-    gone_later v z t (λ h.
-    let q = any_has (λ (e : StartedGroup). is_txn e.id t) (v.started ++ e ∷ []) (subst (λ es. is_here t es ≡ true) started h) in
-    elim (has_append q.0 v.started (e ∷ []) q.1) [ inl was ↦ has_any (λ (e : StartedGroup). is_txn e.id t) v.started q.0 was q.2 | inr new ↦ absurd (none_gone v t g) ]) (λ h. subst (λ marks. is_ended marks t ≡ true) (sym below) h) g
+-- where a group begins of a transaction that is not gone
+pub gone_begins : (v z : ServerState) (e : StartedGroup) → ¬ IsGone v e.id → (t : TxnId) → z.started ≡ v.started ++ e ∷ [] → z.below ≡ v.below → IsGone v t → IsGone z t
+gone_begins v z e kept t started below g = gone_later v z t was_here (λ h. subst (λ marks. is_ended marks t ≡ true) (sym below) h) g
+  where
+    was_here : is_here t z.started ≡ true → is_here t v.started ≡ true
+    was_here h =
+        let q = any_has (λ (e : StartedGroup). is_txn e.id t) (v.started ++ e ∷ []) (subst (λ es. is_here t es ≡ true) started h) in
+        elim (has_append q.0 v.started (e ∷ []) q.1) [
+          | inl was ↦ has_any (λ (e : StartedGroup). is_txn e.id t) v.started q.0 was q.2
+          | inr new ↦ absurd (kept (subst (IsGone v) (sym (ap (λ (e : StartedGroup). e.id) (sym (has_one q.0 e new)) ∙ is_txn-true q.0.id t q.2)) g))
+        ]
 
 -- where lists are taught, and buffered groups run
 pub gone_taught : (plan : Plan) (v : ServerState) (lists : Lists) (ts : List TxnId) (t : TxnId) → IsGone v t → IsGone (take_all plan (record v { lists = lists }) ts) t

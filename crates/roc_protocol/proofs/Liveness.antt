@@ -146,12 +146,12 @@ module _ (plan : Plan) (asked : TxnId → whole.Call) (S : Scheme) (is : IsSchem
       }
 
   -- no transaction waits for ever, so it was answered
-  all_answered : (t : TxnId) (proc : ℕ) (args : List ℤ) → Has (Submitted t proc args) w.history → StartsHeard w t → CommitsHeard w t → AreDelivered w t → (reply : List ℤ) × Has (Answered t reply) w.history
+  all_answered : (t : TxnId) (proc : ℕ) (args : List ℤ) → Has (Submitted t proc args) w.history → StartsHeard w t → (((reply : List ℤ) → ¬ Has (Answered t reply) w.history) → CommitsHeard w t) → AreDelivered w t → (reply : List ℤ) × Has (Answered t reply) w.history
   all_answered t proc args h heard said delivered = elim (g.submitted t proc args h) [
     | inl k ↦ k
     | inr p ↦
         absurd (never_done p.coord p.transaction (subst (λ t. slice_get w.coords t.coord ≡ Some p.coord) (sym p.is) p.there) p.has
-        (subst (StartsHeard w) (sym p.is) heard) (subst (AreDelivered w) (sym p.is) delivered) (subst (CommitsHeard w) (sym p.is) said))
+        (subst (StartsHeard w) (sym p.is) heard) (subst (AreDelivered w) (sym p.is) delivered) (subst (CommitsHeard w) (sym p.is) (said (λ reply k. g.gone t reply k p.coord p.transaction p.there p.has p.is))))
   ]
 
 -- ---- every run
@@ -185,8 +185,8 @@ module _ (plan : Plan) (schemes : HasSchemes plan) (laws : (S : Scheme) → IsSo
     | inr none ↦ record { each = λ m shard proc group args inputs h. absurd (subst (Has m) (run_idle plan none coords steps w run).sent h) }
   ]
 
-  -- and where each delivered commit has its commitok too, it is answered
-  pub heard_is_answered : (t : TxnId) (proc : ℕ) (args : List ℤ) → Has (Submitted t proc args) w.history → StartsHeard w t → CommitsHeard w t → AreDelivered w t → (reply : List ℤ) × Has (Answered t reply) w.history
+  -- and where, unless it is answered, each delivered commit has its commitok too, it is answered
+  pub heard_is_answered : (t : TxnId) (proc : ℕ) (args : List ℤ) → Has (Submitted t proc args) w.history → StartsHeard w t → (((reply : List ℤ) → ¬ Has (Answered t reply) w.history) → CommitsHeard w t) → AreDelivered w t → (reply : List ℤ) × Has (Answered t reply) w.history
   heard_is_answered t proc args h heard said delivered = elim (transaction_or_none plan) [
     | inl some ↦
         (let x = serial.logged plan schemes laws stores coords steps w run some in

@@ -39,7 +39,7 @@ use Rattle.roc_protocol.proofs.Replies.{few_place, shard_listed}
 use Rattle.roc_protocol.proofs.Served.{StartsAre}
 use Rattle.roc_protocol.proofs.Submissions.{AreSubmissions, unused}
 use Rattle.roc_protocol.proofs.Worlds.{IsLogged, ordered_submitted}
-use Rattle.roc_protocol.proofs.Pending.{StartsOn, IsPending}
+use Rattle.roc_protocol.proofs.Pending.{AnsweredAreDone, StartsOn, IsPending}
 use Rattle.roc_protocol.proofs.Taken.{TakesMore, IsTakenBy}
 use Rattle.roc_protocol.proofs.Outstanding.{IsOutstanding, outstanding_stays}
 use Rattle.roc_protocol.proofs.OutstandingSteps.{Proceeds}
@@ -58,7 +58,7 @@ pub record IsOngoing (plan : Plan) (w : World) : Type 0 where
   pub submitted : (t : TxnId) (proc : ℕ) (args : List ℤ) → Has (Submitted t proc args) w.history → ((reply : List ℤ) × Has (Answered t reply) w.history) ⊎ IsPendingAt w.coords t
   pub holds : (n : ℕ) (c : CoordState) → slice_get w.coords n ≡ Some c → (x : Transaction) → Has x c.pending → IsOutstanding plan w.sent x
   -- an answered transaction is pending no longer, and its commits were sent
-  pub gone : (t : TxnId) (reply : List ℤ) → Has (Answered t reply) w.history → (c : CoordState) (x : Transaction) → slice_get w.coords t.coord ≡ Some c → Has x c.pending → x.id ≢ t
+  pub gone : AnsweredAreDone w
   pub out : (t : TxnId) (reply : List ℤ) → Has (Answered t reply) w.history → CommitsAreOut w t
 
 -- where no start of t is sent, what holds of its commits holds still

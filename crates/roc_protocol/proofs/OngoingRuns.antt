@@ -231,7 +231,7 @@ module _ (plan : Plan) (asked : TxnId → whole.Call) (S : Scheme) (is : IsSchem
           let means = subst (Means plan asked S (start_store plan.program) log m.msg) to (l.means.messages m has) in
           let after = (after_message plan s m.msg).state in
           let goes = message_goes u log on_way subs pending ongoing n s at m.msg means in
-          let taken = message_taken plan s (o.once n s at) m.msg (message_stale plan asked S is laws u log on_way (comes_networked plan asked S is laws w log l nw k) pending n s at m has to) in
+          let taken = message_taken plan s (o.once n s at) m.msg (message_stale plan asked S is laws u log on_way (comes_networked plan asked S is laws w log l nw k) pending ongoing.gone n s at m has to) in
           subst (λ (v : Outcome). Goes v.world) (sym e) (
             message_ongoing u log on_way subs pending ongoing n s at m.msg means,
             coordinated_taken u n after (after_message plan s m.msg).sends (answer_entries (after_message plan s m.msg).answer)

@@ -1,5 +1,5 @@
 -- Pending transactions in every world: what started was asked for, and whose list is known is asked to commit
-use Rattle.std.proofs.Common.{◌≡◌, ℕ, true, List, Some, map, refl, sym, subst, ◌∙◌, inl, inr}
+use Rattle.std.proofs.Common.{◌≡◌, ◌≢◌, ℕ, ℤ, true, List, Some, map, refl, sym, subst, ◌∙◌, inl, inr}
 use Rattle.std.specs.Prelude.{slice_get, slice_set}
 use Rattle.roc_sequence.specs.Lists.{Has}
 use Rattle.roc_sequence.proofs.Members.{has_append, has_one, from_has_map}
@@ -22,7 +22,7 @@ use Rattle.roc_coord.specs.declared.transaction.Transaction.{Transaction}
 use Rattle.roc_coord.specs.State.{was_asked, CoordState}
 use Rattle.roc_coord.specs.Starts.{all_started, shards_of}
 use Rattle.roc_audit.specs.declared.entry.Entry.{Entry}
-use Rattle.roc_audit.specs.declared.entry.Entry.TheVariants.{Submitted}
+use Rattle.roc_audit.specs.declared.entry.Entry.TheVariants.{Submitted, Answered}
 use Rattle.roc_audit.specs.History.{WasSubmitted}
 use Rattle.roc_protocol.specs.PlanAssumptions.{IsSchemeOf}
 use Rattle.roc_protocol.specs.Final.{lists_in}
@@ -43,6 +43,10 @@ AskedBy coords t g n = (c : CoordState) (x : Transaction) → slice_get coords t
 -- and has started whole, and asked its shards to commit
 abbrev pub IsWholeAt : Plan → List CoordState → TxnId → Type 0
 IsWholeAt plan coords t = (c : CoordState) (x : Transaction) → slice_get coords t.coord ≡ Some c → Has x c.pending → x.id ≡ t → (all_started plan x ≡ true) × (x.asked ≡ shards_of x)
+
+-- who was answered is not pending
+abbrev pub AnsweredAreDone : World → Type 0
+AnsweredAreDone w = (t : TxnId) (reply : List ℤ) → Has (Answered t reply) w.history → (c : CoordState) (x : Transaction) → slice_get w.coords t.coord ≡ Some c → Has x c.pending → x.id ≢ t
 
 abbrev pub StartsOn : List CoordState → Msg → Node → Type 0
 StartsOn coords (Start id proc group args inputs) (Server shard) = AskedBy coords id group shard.0

@@ -30,6 +30,8 @@ use Rattle.roc_whole.specs.Serial.{start_store}
 use Rattle.roc_law_log.specs.Scheme.{Scheme, IsSoundScheme}
 use Rattle.roc_server.specs.declared.started.StartedGroup.{StartedGroup}
 use Rattle.roc_server.specs.State.{is_here, ServerState}
+use Rattle.roc_server.specs.Below.{is_ended}
+use Rattle.roc_audit.specs.History.{WasAnswered}
 use Rattle.roc_protocol.specs.PlanAssumptions.{HasSchemes}
 use Rattle.roc_protocol.specs.World.{World}
 use Rattle.roc_protocol.specs.Run.{Stepped, IsRun}
@@ -40,6 +42,7 @@ use Rattle.roc_protocol.proofs.Means.{Means}
 use Rattle.roc_protocol.proofs.Idle.{run_idle}
 use Rattle.roc_protocol.proofs.Facts.{known_has}
 use Rattle.roc_protocol.proofs.Finals.{known_final}
+use Rattle.roc_protocol.proofs.Answered.{heard_answered}
 use Rattle.roc_protocol.proofs.Serial as serial
 use Rattle.roc_protocol.proofs.Heard.{AreDelivered, StartsHeard, CommitsAreOut, CommitsHeard}
 use Rattle.roc_protocol.proofs.Hears.{IsSought}
@@ -84,7 +87,7 @@ entry_of known u t p =
     let k = known_has known t (entry_known known t a.0 a.1) in
     record { list = k.0; is_known = k.1; of = k.2; entry = a.0; has = subst (Has a.0) k.3 a.1; from = is_txn-true a.0.from u a.2 }
 
-module _ (plan : Plan) (w : World) (o : HasHeard w) (finals : (n : ℕ) (s : ServerState) → slice_get w.servers n ≡ Some s → (k : KnownList) → Has k s.lists.known → IsFinalIn plan w k.of k.edges) (out : (u : TxnId) → AreDelivered w u → CommitsAreOut w u) where
+module _ (plan : Plan) (w : World) (o : HasHeard w) (finals : (n : ℕ) (s : ServerState) → slice_get w.servers n ≡ Some s → (k : KnownList) → Has k s.lists.known → IsFinalIn plan w k.of k.edges) (out : (u : TxnId) → AreDelivered w u → CommitsAreOut w u) (ended : (n : ℕ) (s : ServerState) → slice_get w.servers n ≡ Some s → (t : TxnId) → is_ended s.below t ≡ true → (reply : List ℤ) × WasAnswered w.history t reply) where
   -- a message in the network of a transaction whose messages were delivered came
   came : (u : TxnId) → AreDelivered w u → (k : ℕ) (m : Envelope) → slice_get w.sent k ≡ Some m → id_of m.msg ≡ Some u → HasCome w k
   came u d k m at of = (m, at, d.each k m at of)
@@ -156,11 +159,12 @@ module _ (plan : Plan) (w : World) (o : HasHeard w) (finals : (n : ℕ) (s : Ser
       decided_here : is_here t s.started ≡ true → IsDecided s.lists.known t
       decided_here here = record { own = known_here t own n s there here; ancestors = known_before }
 
-    commits_answered : CommitsHeard w t
-    commits_answered = record {
+    -- unless it is answered
+    commits_answered : ((reply : List ℤ) → ¬ WasAnswered w.history t reply) → CommitsHeard w t
+    commits_answered unanswered = record {
       each = λ k m shard edges facts at goes is d.
           (let a : At w.servers shard.0 (HasCommit w.sent t shard) = subst (IsTaken w.servers w.sent k (Commit t edges facts)) goes (subst (λ msg. IsTaken w.servers w.sent k msg m.to) is (o.taken k m (m, at, d) at)) in
-          elim a.2 [ inl k ↦ k.2 (decided_here shard.0 a.0 a.1 k.0) | inr gone ↦ absurd (none_gone a.0 t gone) ]);
+          elim a.2 [ inl k ↦ k.2 (decided_here shard.0 a.0 a.1 k.0) | inr gone ↦ absurd (let answer = ended shard.0 a.0 a.1 t gone.ended in unanswered answer.0 answer.1) ]);
     }
 
 -- ---- every run
@@ -191,10 +195,13 @@ module _ (plan : Plan) (schemes : HasSchemes plan) (laws : (S : Scheme) → IsSo
     finals : (n : ℕ) (s : ServerState) → slice_get w.servers n ≡ Some s → (k : KnownList) → Has k s.lists.known → IsFinalIn plan w k.of k.edges
     finals = known_final plan schemes laws stores coords steps w run
 
+    ended : (n : ℕ) (s : ServerState) → slice_get w.servers n ≡ Some s → (t : TxnId) → is_ended s.below t ≡ true → (reply : List ℤ) × WasAnswered w.history t reply
+    ended = heard_answered plan schemes laws stores coords steps w run
+
     -- a quiet transaction is decided wherever it has a group
     pub quiet_is_decided : (t : TxnId) → IsQuiet plan steps w t → (shard : Shard) (s : ServerState) → slice_get w.servers shard.0 ≡ Some s → (e : StartedGroup) → Has e s.started → e.id ≡ t → IsDecided s.lists.known t
-    quiet_is_decided t quiet shard s there e h of = decided_here plan w heard finals out steps t quiet shard.0 s there (has_any (λ (e : StartedGroup). is_txn e.id t) s.started e h (is_txn-eq e.id t of))
+    quiet_is_decided t quiet shard s there e h of = decided_here plan w heard finals out ended steps t quiet shard.0 s there (has_any (λ (e : StartedGroup). is_txn e.id t) s.started e h (is_txn-eq e.id t of))
 
-    -- each commit of it that was delivered has a commitok in the network
-    pub commits_heard : (t : TxnId) → IsQuiet plan steps w t → CommitsHeard w t
-    commits_heard t quiet = commits_answered plan w heard finals out steps t quiet
+    -- and each commit of it that was delivered has a commitok in the network, unless it is answered
+    pub commits_heard : (t : TxnId) → IsQuiet plan steps w t → ((reply : List ℤ) → ¬ WasAnswered w.history t reply) → CommitsHeard w t
+    commits_heard t quiet = commits_answered plan w heard finals out ended steps t quiet

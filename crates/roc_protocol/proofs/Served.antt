@@ -48,7 +48,7 @@ use Rattle.roc_protocol.specs.World.{World, at_server}
 use Rattle.roc_protocol.specs.Inner.Given.{LogLaws}
 use Rattle.roc_protocol.proofs.Means.{Began, Means, ListMeans, AllMean, StartIs, DoneMeans, AreGroupsHere, ServerMeans, WorldMeans, AreEnded}
 use Rattle.roc_protocol.proofs.KeptGroups.{take_same}
-use Rattle.roc_protocol.proofs.Gone.{IsGone, here_stays, gone_same, gone_hears}
+use Rattle.roc_protocol.proofs.Gone.{IsGone, none_gone, here_stays, gone_same, gone_hears}
 use Rattle.roc_protocol.proofs.Grows.{begun_grows, list_grows, decided_grows}
 use Rattle.roc_protocol.proofs.Buffered.{outs_told}
 use Rattle.roc_protocol.proofs.Changed.{noted-new, server_means}
@@ -120,37 +120,37 @@ module _ (plan : Plan) (asked : TxnId → whole.Call) (S : Scheme) (start : Stor
     led : (u : TxnId) → IsListed is_txn f.reached u → IsKnown s.lists.known u
     led u h = (found.reached.sound u h).0
 
-    module _ (none : find_group id group s.started ≡ None) where
+    module _ (none : find_group id group s.started ≡ None) (kept : ¬ IsGone s id) where
       abbrev d : Log
-      d = starting.d plan asked S start is laws c o.reached n s mine id proc group args inputs m none f.before f.reached found.before.sound led
+      d = starting.d plan asked S start is laws c o.reached n s mine id proc group args inputs m none kept f.before f.reached found.before.sound led
 
       abbrev e : StartedGroup
       e = new_group plan f.before f.reached s id (call proc group args inputs)
 
       j : LogInvariants S start d
-      j = starting.j plan asked S start is laws c o.reached n s mine id proc group args inputs m none f.before f.reached found.before.sound led
+      j = starting.j plan asked S start is laws c o.reached n s mine id proc group args inputs m none kept f.before f.reached found.before.sound led
 
       g : LogGrows S start c d
-      g = starting.g plan asked S start is laws c o.reached n s mine id proc group args inputs m none f.before f.reached found.before.sound led
+      g = starting.g plan asked S start is laws c o.reached n s mine id proc group args inputs m none kept f.before f.reached found.before.sound led
 
       started_explained : IsExplained (start_new plan s (call proc group args inputs) e)
       started_explained =
           record {
             log = d;
-            steps = one_step_more no_steps (starting.step plan asked S start is laws c o.reached n s mine id proc group args inputs m none f.before f.reached found.before.sound led);
+            steps = one_step_more no_steps (starting.step plan asked S start is laws c o.reached n s mine id proc group args inputs m none kept f.before f.reached found.before.sound led);
             means = server_means plan asked S start is c d i j g
-                (starting.reached_after plan asked S start is laws c o.reached n s mine id proc group args inputs m none f.before f.reached found.before.sound led)
+                (starting.reached_after plan asked S start is laws c o.reached n s mine id proc group args inputs m none kept f.before f.reached found.before.sound led)
                 w o n s (start_new plan s (call proc group args inputs) e) there
-                (starting.server_start plan asked S start is laws c o.reached n s mine id proc group args inputs m none f.before f.reached found.before.sound led)
-                (λ k apart v h. server_elsewhere plan asked S start is c d i j g k (starting.quiet_elsewhere plan asked S start is laws c o.reached n s mine id proc group args inputs m none f.before f.reached found.before.sound led k apart) v (o.servers k v h))
+                (starting.server_start plan asked S start is laws c o.reached n s mine id proc group args inputs m none kept f.before f.reached found.before.sound led)
+                (λ k apart v h. server_elsewhere plan asked S start is c d i j g k (starting.quiet_elsewhere plan asked S start is laws c o.reached n s mine id proc group args inputs m none kept f.before f.reached found.before.sound led k apart) v (o.servers k v h))
                 (λ out h. subst (λ (out : Outgoing). Means plan asked S start d out.msg out.to) (sym (has_one out (startok_of s.shard e) h)) (
-                  starting.told_start plan asked S start is laws c o.reached n s mine id proc group args inputs m none f.before f.reached found.before.sound led,
-                  mine.number ∙ sym (starting.place_new plan asked S start is laws c o.reached n s mine id proc group args inputs m none f.before f.reached found.before.sound led),
+                  starting.told_start plan asked S start is laws c o.reached n s mine id proc group args inputs m none kept f.before f.reached found.before.sound led,
+                  mine.number ∙ sym (starting.place_new plan asked S start is laws c o.reached n s mine id proc group args inputs m none kept f.before f.reached found.before.sound led),
                   refl,
                 ))
                 o.order refl;
             decides = sym (append-nil (c.decided n));
-            began = λ q h. elim (starting.begun_cases plan asked S start is laws c o.reached n s mine id proc group args inputs m none f.before f.reached found.before.sound led q h) [ inl k ↦ inl k | inr k ↦ inr (subst (λ (q : TxnGroup). Fresh q.txn) (sym k) fresh) ];
+            began = λ q h. elim (starting.begun_cases plan asked S start is laws c o.reached n s mine id proc group args inputs m none kept f.before f.reached found.before.sound led q h) [ inl k ↦ inl k | inr k ↦ inr (subst (λ (q : TxnGroup). Fresh q.txn) (sym k) fresh) ];
           }
 
     start_explained : IsExplained (start_judged plan f.before f.reached s id (call proc group args inputs) (start_fault plan s id (call proc group args inputs)))
@@ -158,7 +158,7 @@ module _ (plan : Plan) (asked : TxnId → whole.Call) (S : Scheme) (start : Stor
       where
         taken : (x : Option StartedGroup) → find_group id group s.started ≡ x → IsExplained (start_taken plan f.before f.reached s id (call proc group args inputs) x)
         taken (Some e) k = still (answered s (startok_of s.shard e ∷ [])) mine (startok_means e (found_has (is_group id group) s.started e k).0) refl
-        taken None k = started_explained k
+        taken None k = started_explained k (none_gone s id)
 
         judged : (x : Option Reason) → IsExplained (start_judged plan f.before f.reached s id (call proc group args inputs) x)
         judged (Some why) = ignores why

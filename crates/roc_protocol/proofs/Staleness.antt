@@ -48,11 +48,11 @@ use Rattle.roc_protocol.proofs.Means.{run_of, Ran, stage, Means, DoneMeans, TxnM
 use Rattle.roc_protocol.proofs.Facts.{known_has}
 use Rattle.roc_protocol.proofs.Replies.{count_given, places_are, counts_at, lengths_of_flat, few_place, shard_listed}
 use Rattle.roc_protocol.proofs.Networks.{IsToldHere, IsNetworked}
-use Rattle.roc_protocol.proofs.Pending.{AskedBy, IsWholeAt, IsPending}
+use Rattle.roc_protocol.proofs.Pending.{AnsweredAreDone, AskedBy, IsWholeAt, IsPending}
 use Rattle.roc_protocol.proofs.Worlds.{IsLogged}
-use Rattle.roc_protocol.proofs.Gone.{none_gone}
+use Rattle.roc_protocol.proofs.Gone.{IsGone}
 
-module _ (plan : Plan) (asked : TxnId → whole.Call) (S : Scheme) (is : IsSchemeOf plan asked S) (laws : LogLaws S (start_store plan.program)) (w : World) (log : Log) (l : IsLogged plan asked S is laws w log) (nw : IsNetworked plan asked S is laws w) (o : IsPending plan w) (n : ℕ) (s : CoordState) (there : slice_get w.coords n ≡ Some s) where
+module _ (plan : Plan) (asked : TxnId → whole.Call) (S : Scheme) (is : IsSchemeOf plan asked S) (laws : LogLaws S (start_store plan.program)) (w : World) (log : Log) (l : IsLogged plan asked S is laws w log) (nw : IsNetworked plan asked S is laws w) (o : IsPending plan w) (done_with : AnsweredAreDone w) (n : ℕ) (s : CoordState) (there : slice_get w.coords n ≡ Some s) where
   i : LogInvariants S (start_store plan.program) log
   i = laws.holds log l.means.reached
 
@@ -64,6 +64,12 @@ module _ (plan : Plan) (asked : TxnId → whole.Call) (S : Scheme) (is : IsSchem
       ap (λ (y : Yield). length y.bound) (yielded_at S.behaviour log.past.ran (first_stage (start_store plan.program)) r i.ran_once h)
       ∙ (ap (λ (y : Yield). length y.bound) (is.yields r given before.store)
       ∙ length-map (bound_of plan (asked r.txn).procedure r.group) (value_of_name (group_run plan (called plan asked r given) before.store).environment))
+
+  -- who is pending is gone nowhere, since who is gone was answered
+  not_gone : (x : Transaction) → slice_get w.coords x.id.coord ≡ Some s → Has x s.pending → (m : ℕ) (v : ServerState) → slice_get w.servers m ≡ Some v → ¬ IsGone v x.id
+  not_gone x at pending m v there gone =
+      let a = (l.means.answers x.id).0 ((l.means.servers m v there).ended x.id gone.ended) in
+      done_with x.id a.0 a.1 s x at pending refl
 
   -- ---- a startok
 
@@ -90,7 +96,7 @@ module _ (plan : Plan) (asked : TxnId → whole.Call) (S : Scheme) (is : IsSchem
               let p = and_parts (is_txn e.0.id id) (e.0.group == g) f.1 in
               let k = (o.servers shard.0 h.0 h.1).groups e.0 f.0 in
               (subst (λ t. AskedBy w.coords t g shard.0) (is_txn-true e.0.id id p.0) (subst (λ g. AskedBy w.coords e.0.id g shard.0) (eqb-true e.0.group g p.1) k)) s x at pending same)
-          | inr gone ↦ absurd (none_gone h.0 id gone)
+          | inr gone ↦ absurd (not_gone x (subst (λ t. slice_get w.coords t.coord ≡ Some s) (sym same) at) pending shard.0 h.0 h.1 (subst (IsGone h.0) (sym same) gone))
         ]
 
     proc : x.proc ≡ (asked id).procedure
@@ -128,13 +134,16 @@ module _ (plan : Plan) (asked : TxnId → whole.Call) (S : Scheme) (is : IsSchem
         number (Server shard) = 0
         number (Coord n) = n
 
+    gone_nowhere : (v : ServerState) → slice_get w.servers shard.0 ≡ Some v → ¬ IsGone v id
+    gone_nowhere v at gone = not_gone x (subst (λ t. slice_get w.coords t.coord ≡ Some s) (sym same) found_at) pending shard.0 v at (subst (IsGone v) (sym same) gone)
+
     from : (v : ServerState) × (slice_get w.servers shard.0 ≡ Some v) × (is_here id v.started ≡ true)
-    from = let h = subst (IsToldHere w.servers) msg (nw.told m has) in (h.0, h.1, elim h.2 [ inl here ↦ here | inr gone ↦ absurd (none_gone h.0 id gone) ])
+    from = let h = subst (IsToldHere w.servers) msg (nw.told m has) in (h.0, h.1, elim h.2 [ inl here ↦ here | inr gone ↦ absurd (gone_nowhere h.0 h.1 gone) ])
 
     is_whole : (all_started plan x ≡ true) × (x.asked ≡ shards_of x)
     is_whole =
         let v = l.means.servers shard.0 from.0 from.1 in
-        let d : IsDecided from.0.lists.known id = elim (v.decided id done.0.decided) [ inl k ↦ k | inr gone ↦ absurd (none_gone from.0 id gone) ] in
+        let d : IsDecided from.0.lists.known id = elim (v.decided id done.0.decided) [ inl k ↦ k | inr gone ↦ absurd (gone_nowhere from.0 from.1 gone) ] in
         let k = known_has from.0.lists.known id d.own in
         (subst (IsWholeAt plan w.coords) k.2 ((o.servers shard.0 from.0 from.1).known k.0 k.1)) s x found_at pending same
 

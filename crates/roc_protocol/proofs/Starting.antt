@@ -42,7 +42,7 @@ use Rattle.roc_server.specs.State.{unrun}
 use Rattle.roc_protocol.specs.PlanAssumptions.{called, use_of, IsSchemeOf}
 use Rattle.roc_protocol.specs.Inner.Given.{LogLaws}
 use Rattle.roc_protocol.proofs.Means.{run_of, entry_run, place, Precedes, Ran, Began, stage, EdgesMean, ListMeans, ToldMeans, StartIs, EntryMeans, ServerMeans}
-use Rattle.roc_protocol.proofs.Gone.{none_gone, gone_begins}
+use Rattle.roc_protocol.proofs.Gone.{IsGone, none_gone, gone_begins}
 use Rattle.roc_protocol.proofs.Grows.{begun_grows, place_grows, values_grow, entry_grows, list_grows, all_grow, answered_grows}
 use Rattle.roc_protocol.proofs.Meets.{meet_of, of_meet}
 use Rattle.roc_protocol.proofs.Facts.{facts_known}
@@ -58,7 +58,7 @@ shard_number (Server s) = s.0
 shard_number (Coord n) = 0
 
 module _ (plan : Plan) (asked : TxnId → whole.Call) (S : Scheme) (start : Store) (is : IsSchemeOf plan asked S) (laws : LogLaws S start) (c : Log) (reached : IsReachedLog S start c) (n : ℕ) (s : ServerState) (o : ServerMeans plan asked S start c n s) where
-  module _ (id : TxnId) (proc group : ℕ) (args inputs : List ℤ) (m : StartIs plan asked S start c id proc group args inputs (Server (record { 0 = n }))) (none : find_group id group s.started ≡ None) (left_out ids : List TxnId) (left : (t : TxnId) → IsListed is_txn left_out t → IsDecided s.lists.known t) (led : (u : TxnId) → IsListed is_txn ids u → IsKnown s.lists.known u) where
+  module _ (id : TxnId) (proc group : ℕ) (args inputs : List ℤ) (m : StartIs plan asked S start c id proc group args inputs (Server (record { 0 = n }))) (none : find_group id group s.started ≡ None) (kept : ¬ IsGone s id) (left_out ids : List TxnId) (left : (t : TxnId) → IsListed is_txn left_out t → IsDecided s.lists.known t) (led : (u : TxnId) → IsListed is_txn ids u → IsKnown s.lists.known u) where
     abbrev r : TxnGroup
     r = run_of id group
 
@@ -78,7 +78,7 @@ module _ (plan : Plan) (asked : TxnId → whole.Call) (S : Scheme) (start : Stor
     on = ap shard_number (sym m.to)
 
     pub new : ¬ Began plan asked S start c r
-    new h = elim (o.groups.finds r h on) [ inl f ↦ go f | inr gone ↦ none_gone s id gone ]
+    new h = elim (o.groups.finds r h on) [ inl f ↦ go f | inr gone ↦ kept gone ]
       where
         go : (e : StartedGroup) × (find_group id group s.started ≡ Some e) → ⊥
         go f = let a = f.1 in let b = none in cc
@@ -296,7 +296,7 @@ module _ (plan : Plan) (asked : TxnId → whole.Call) (S : Scheme) (start : Stor
             finds = λ q h p. elim (begun_cases q h) [
               | inl k ↦ elim (o.groups.finds q k (sym (place_grows plan asked S start is c d i j g q k) ∙ p)) [
                 | inl f ↦ inl (f.0, find_front (is_group q.txn q.group) s.started (entry ∷ []) f.0 f.1)
-                | inr gone ↦ inr (gone_begins s (start_new plan s this entry).state entry q.txn refl refl gone)
+                | inr gone ↦ inr (gone_begins s (start_new plan s this entry).state entry kept q.txn refl refl gone)
               ]
               | inr k ↦ inl (entry, subst (λ (q : TxnGroup). find_group q.txn q.group (s.started ++ entry ∷ []) ≡ Some entry) (sym k) (find_last (is_group id group) s.started entry none (and_from (is_txn id id) (group == group) (is_txn-same id) (eq-eqb group group refl))))
             ];
@@ -320,7 +320,7 @@ module _ (plan : Plan) (asked : TxnId → whole.Call) (S : Scheme) (start : Stor
             ];
           };
           known = all_grow plan asked S start is c d i j g s.lists.known o.known;
-          decided = λ t h. elim (o.decided t h) [ inl k ↦ inl k | inr gone ↦ inr (gone_begins s (start_new plan s this entry).state entry t refl refl gone) ];
+          decided = λ t h. elim (o.decided t h) [ inl k ↦ inl k | inr gone ↦ inr (gone_begins s (start_new plan s this entry).state entry kept t refl refl gone) ];
           back = o.back;
           fetched = λ a h. begun_grows plan asked S start is c d i j g a.id a.at.0 (o.fetched a h);
           ended = λ t h. answered_grows plan asked S start is c d i j g t (o.ended t h);

@@ -41,7 +41,7 @@ use Rattle.roc_server.specs.Step.{Findings, AreFindings, unless_ignored, after_m
 use Rattle.roc_protocol.proofs.KeptGroups.{take_same}
 use Rattle.roc_protocol.proofs.Deciding.{more_keeps}
 use Rattle.roc_protocol.proofs.Hears.{from_has_in_place, in_place_has, has_known, IsSought, AwaitsNone, IsAnswered, Hears, taught_known, taught_hears}
-use Rattle.roc_protocol.proofs.Gone.{IsGone, gone_same, gone_hears, gone_begins}
+use Rattle.roc_protocol.proofs.Gone.{IsGone, none_gone, gone_same, gone_hears, gone_begins}
 use Rattle.roc_server.specs.declared.handled.Handled.{Handled}
 
 -- ---- who asks
@@ -116,7 +116,7 @@ module _ (plan : Plan) (s : ServerState) where
               askers = λ a h. inr h;
               asked = λ a h. inl (h, λ k. k);
               waits = λ was a h. (let w = was a h in (here_more e a.id w.0, w.1));
-              seeks = λ h k j d m. sought_kept (start_taken plan f.before f.reached s id (call proc group args inputs) None).state refl (here_more e) d.from (gone_begins s (start_taken plan f.before f.reached s id (call proc group args inputs) None).state e d.from refl refl) (h k j d m);
+              seeks = λ h k j d m. sought_kept (start_taken plan f.before f.reached s id (call proc group args inputs) None).state refl (here_more e) d.from (gone_begins s (start_taken plan f.before f.reached s id (call proc group args inputs) None).state e (none_gone s id) d.from refl refl) (h k j d m);
             },
             λ d. (e, refl, refl, inl refl),
           )
