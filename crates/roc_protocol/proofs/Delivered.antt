@@ -93,7 +93,7 @@ pub record Fresh (sent : List Envelope) (Came : ℕ → Type 0) (n : ℕ) (a : O
   pub is : message.msg ≡ Fetch a.id (record { 0 = n })
   pub unanswered : (k : ℕ) (m : Envelope) → at < k → slice_get sent k ≡ Some m → Tells a.id (record { 0 = n }) m → ¬ Came k
 
--- a server that took a commit from the shard of this name
+-- a server that took a commit from the shard of this name, or has forgotten its transaction
 abbrev pub HasCommit : List Envelope → TxnId → Shard → ServerState → Type 0
 HasCommit sent t shard v = ((is_here t v.started ≡ true) × IsKnown v.lists.known t × (IsDecided v.lists.known t → IsDoneIn sent t shard)) ⊎ IsGone v t
 

@@ -14,7 +14,7 @@ use Rattle.roc_server.specs.Runs.{take_all}
 use Rattle.roc_protocol.proofs.Marks.{ended_still}
 use Rattle.roc_protocol.proofs.KeptGroups.{take_keeps, take_same}
 
--- the server forgot the transaction, which is below a watermark, and so has no group of it. A server forgets none
+-- the server has forgotten the transaction: it has no group here, and is below a watermark. A server forgets none
 pub record IsGone (v : ServerState) (t : TxnId) : Type 0 where
   pub nowhere : is_here t v.started ≡ false
   pub ended : is_ended v.below t ≡ true
