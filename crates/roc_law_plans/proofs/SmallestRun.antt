@@ -20,7 +20,7 @@ use Rattle.roc_protocol.specs.declared.event.Event.TheVariants.{Submit, Deliver}
 use Rattle.roc_protocol.specs.declared.event.Seen.TheVariants as seen
 use Rattle.roc_protocol.specs.World.{World, first_world}
 use Rattle.roc_protocol.specs.Quiet.{IsQuiet}
-use Rattle.roc_protocol.specs.Happens.{undecided, Happens}
+use Rattle.roc_protocol.specs.Happens.{ran_at, undecided, Happens}
 use Rattle.roc_protocol.specs.Run.{Stepped, IsRun, begun, goes_on}
 use Rattle.roc_law_plans.specs.Smallest.{smallest}
 use Rattle.roc_law_plans.proofs.Alone.{decided_of_none, led_to_none, new_of_none, new_alone}
@@ -79,7 +79,7 @@ start_handled =
       is = refl;
     }
 
-starts : Happens smallest submitted_world (Deliver 1) (record { seen = seen.Done; decided = []; world = started_world })
+starts : Happens smallest submitted_world (Deliver 1) (record { seen = seen.Done; decided = []; ran = []; world = started_world })
 starts = (start, omega arith, refl, (first_server smallest shard, started_step, refl, start_handled, refl))
 
 -- ---- its commit is asked for
@@ -123,7 +123,7 @@ commit_handled =
       is = refl;
     }
 
-runs : Happens smallest asked_world (Deliver 3) (record { seen = seen.Done; decided = id ∷ []; world = decided_world })
+runs : Happens smallest asked_world (Deliver 3) (record { seen = seen.Done; decided = id ∷ []; ran = ran_at 0 started_group ∷ []; world = decided_world })
 runs = (commit, omega arith, refl, (started_server, decided_step, refl, commit_handled, refl))
 
 -- ---- and it is answered

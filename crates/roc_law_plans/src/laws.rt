@@ -27,14 +27,15 @@ ghost use Rattle.roc_server.specs.declared.started.StartedGroup.{StartedGroup};
 ghost use Rattle.roc_coord.specs.declared.transaction.Transaction.{Transaction};
 ghost use Rattle.roc_coord.specs.State.{CoordState};
 ghost use Rattle.roc_audit.specs.declared.entry.Entry.TheVariants as entry;
-ghost use Rattle.roc_audit.specs.History.{WasSubmitted, WasAnswered, IsToldOnce};
-ghost use Rattle.roc_audit.specs.Witness.{submitted_calls, IsSerialWitness};
+ghost use Rattle.roc_audit.specs.History.{WasSubmitted, WasAnswered, IsAnsweredBefore, IsToldOnce};
+ghost use Rattle.roc_audit.specs.Witness.{submitted_calls, serial_reply, IsSerialWitness};
 ghost use Rattle.roc_protocol.specs.declared.event.Event.{Event};
 ghost use Rattle.roc_protocol.specs.declared.event.Event.TheVariants as event;
 ghost use Rattle.roc_protocol.specs.declared.event.Seen.TheVariants as seen;
 ghost use Rattle.roc_protocol.specs.Happens.{Outcome, Happens};
 ghost use Rattle.roc_protocol.specs.PlanAssumptions.{HasSchemes, IsSchemeOf, IsWholeReply};
 ghost use Rattle.roc_protocol.specs.Final.{lists_in, IsFinalIn};
+ghost use Rattle.roc_protocol.specs.Kept.{KeepsWhatRan};
 ghost use Rattle.roc_protocol.specs.Quiet.{IsQuiet};
 ghost use Rattle.roc_protocol.specs.Run.{Stepped, Transition, IsRun};
 ghost use Rattle.roc_protocol.specs.World.{World};
@@ -56,10 +57,12 @@ use roc_protocol::laws::{
     cells_are_in_their_place as cells_are_in_their_place_over_schemes,
     cells_are_serial as cells_are_serial_over_schemes,
     ids_are_told_once as ids_are_told_once_over_schemes,
+    kept_orders_are_serial as kept_orders_are_serial_over_schemes,
     left_out_is_earlier as left_out_is_earlier_over_schemes,
     lists_are_final as lists_are_final_over_schemes,
     nothing_is_refused as nothing_is_refused_over_schemes,
     order_is_serial as order_is_serial_over_schemes,
+    order_keeps_what_ran as order_keeps_what_ran_over_schemes,
     quiet_is_answered as quiet_is_answered_over_schemes,
     servers_agree as servers_agree_over_schemes,
     submissions_are_kept as submissions_are_kept_over_schemes,
@@ -119,6 +122,30 @@ pub fn order_is_serial()
 {
     accepted_plans_have_schemes();
     order_is_serial_over_schemes();
+}
+
+/// Over every run of every accepted plan, what ran is in the serial order: of two transactions with groups in conflict on one server, the one
+/// whose group ran first there, or ran while the other's is yet to run, stands first. So the order is one that keeps what ran.
+pub fn order_keeps_what_ran()
+    ensures { (plan : Plan) (coords : ℕ) (steps : List Stepped) (w : World) → IsAccepted plan → IsRun plan coords steps w → KeepsWhatRan plan steps w w.order }
+{
+    accepted_plans_have_schemes();
+    order_keeps_what_ran_over_schemes();
+}
+
+/// Over every run of every accepted plan, any order of the same transactions that keeps what ran explains as much as the serial order: in it
+/// each answered transaction has the reply that it had; and it is a serial witness where who was answered before another's submission stands
+/// before it.
+pub fn kept_orders_are_serial()
+    ensures replies { (plan : Plan) (coords : ℕ) (steps : List Stepped) (w : World) → IsAccepted plan → IsRun plan coords steps w
+        → (O : List TxnId) → KeepsWhatRan plan steps w O
+        → (t : TxnId) (reply : List ℤ) → WasAnswered w.history t reply → serial_reply plan.program w.history O t ≡ Some reply }
+    ensures witness { (plan : Plan) (coords : ℕ) (steps : List Stepped) (w : World) → IsAccepted plan → IsRun plan coords steps w
+        → (O : List TxnId) → KeepsWhatRan plan steps w O
+        → ((t u : TxnId) → IsAnsweredBefore w.history t u → IsListed is_txn O u → IsListedBefore is_txn O t u) → IsSerialWitness plan.program w.history O }
+{
+    accepted_plans_have_schemes();
+    kept_orders_are_serial_over_schemes();
 }
 
 /// Over every run of every accepted plan, where each submitted transaction is answered, the servers hold what the serial order leaves: the

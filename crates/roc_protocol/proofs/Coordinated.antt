@@ -65,6 +65,8 @@ module _ (plan : Plan) (asked : TxnId → whole.Call) (S : Scheme) (start : Stor
     pub steps : LogSteps S start c log
     pub means : WorldMeans plan asked S start log (at_coord w n after outs tells)
     pub began : (q : TxnGroup) → Began plan asked S start log q → Began plan asked S start c q
+    -- nothing runs
+    pub ran : log.past.ran ≡ c.past.ran
     pub starts : (out : Outgoing) → Has out outs → StartsAre Of out.msg
     pub pending : (x : Transaction) → Has x after.pending → Of x.id
 
@@ -89,6 +91,7 @@ module _ (plan : Plan) (asked : TxnId → whole.Call) (S : Scheme) (start : Stor
               λ k. elim (has_append (entry.Answered t k.0) w.history tells k.1) [ inl h ↦ (o.answers t).1 (k.0, h) | inr h ↦ absurd (none t k.0 h) ],
             ));
         began = λ q h. h;
+        ran = refl;
         starts = starts;
         pending = pending;
       }
@@ -264,6 +267,7 @@ module _ (plan : Plan) (asked : TxnId → whole.Call) (S : Scheme) (start : Stor
                 ],
               ));
           began = λ q h. h;
+          ran = refl;
           starts = λ out k. mark_starts (without_transaction s t) out (mark_told plan s (without_transaction s t) out k);
           pending = λ z k. of z (rest z k);
         }

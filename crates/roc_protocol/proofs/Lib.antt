@@ -22,8 +22,10 @@ mod Submissions
 pub mod Firsts
 pub mod Worlds
 mod Witness
+mod WhatRan
 mod Idle
 mod Serial
+mod KeptOrders
 mod Answered
 mod Cells
 mod Resting

@@ -35,6 +35,7 @@ use Rattle.roc_coord.specs.Starts.{is_ready, all_started, shards_of}
 use Rattle.roc_audit.specs.declared.entry.Entry.TheVariants.{Answered}
 use Rattle.roc_protocol.specs.PlanAssumptions.{picked, use_of}
 use Rattle.roc_protocol.specs.World.{World}
+use Rattle.roc_protocol.specs.Happens.{RanAt}
 use Rattle.roc_server.specs.Below.{is_ended}
 use Rattle.roc_protocol.proofs.Gone.{IsGone}
 
@@ -162,6 +163,16 @@ module _ (plan : Plan) (asked : TxnId → whole.Call) (S : Scheme) (start : Stor
     pub inputs : e.inputs ≡ values_for (entry_run e)
     pub cells : map use_of e.cells ≡ uses_in S.behaviour start log.past.ran (entry_run e)
     pub told : ToldMeans (entry_run e) e.bound e.outs e.edges e.facts
+
+  -- a group that ran on a shard: it is on it, and used there what it kept
+  pub record RanMeans (r : RanAt) : Type 0 where
+    pub on : place (entry_run r.group) ≡ r.shard
+    pub cells : map use_of r.group.cells ≡ uses_in S.behaviour start log.past.ran (entry_run r.group)
+
+  -- what servers tell as run, one after another, is what ran in the log
+  pub record AreRan (ran : List RanAt) : Type 0 where
+    pub groups : log.past.ran ≡ map (λ r. entry_run r.group) ran
+    pub each : (r : RanAt) → Has r ran → RanMeans r
 
   -- the groups of a shard; each that began there is found, but for those of transactions that are gone
   pub record AreGroupsHere (shard : ℕ) (Gone : TxnId → Type 0) (started : List StartedGroup) : Type 0 where

@@ -16,8 +16,10 @@ use Rattle.roc_base.specs.Equalities.{is_txn-true}
 use Rattle.roc_protocol.specs.PlanAssumptions.{IsSchemeOf, HasSchemes}
 use Rattle.roc_protocol.specs.World.{World}
 use Rattle.roc_protocol.specs.Run.{Stepped, IsRun}
+use Rattle.roc_protocol.specs.Kept.{ran_in}
 use Rattle.roc_protocol.specs.Inner.Given.{LogLaws}
 use Rattle.roc_protocol.specs.Inner.Given.{SerialLaws, StoreLaws}
+use Rattle.roc_protocol.proofs.Means.{AreRan}
 use Rattle.roc_protocol.proofs.Submissions.{AreSubmissions}
 use Rattle.roc_protocol.proofs.Idle.{IsIdle, run_idle}
 use Rattle.roc_protocol.proofs.Worlds.{run_submissions, Agrees, IsLogged}
@@ -79,7 +81,7 @@ module _ (plan : Plan) (schemes : HasSchemes plan) (laws : (S : Scheme) → IsSo
   pub sound : IsSoundScheme S
   sound = schemes.sound asked known
 
-  pub logged : (log : Log) × IsLogged plan asked S is (laws S sound) w log
+  pub logged : (log : Log) × IsLogged plan asked S is (laws S sound) w log × AreRan plan asked S (start_store plan.program) log (ran_in steps)
   logged = run_logged plan asked S is (laws S sound) stores coords steps w run (agrees plan some.0 w submissions)
 
   pub serial : ((S : Scheme) → IsSoundScheme S → SerialLaws S (start_store plan.program)) → IsSerialWitness plan.program w.history w.order

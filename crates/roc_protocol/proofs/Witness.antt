@@ -2,7 +2,11 @@
 use Rattle.std.proofs.Common.{◌≡◌, ℕ, ℤ, pos, suc, ◌<◌, List, [], ◌∷◌, ◌++◌, Option, Some, None, length, map, refl, sym, ap, subst, ◌∙◌, inl, inr, arith, append-nil}
 use Rattle.std.specs.Prelude.{slice_get, slice_index_or, zip}
 use Rattle.std.specs.List.{cons_option}
+use Rattle.std.proofs.lemmas.List.{map-append}
+use Rattle.std.proofs.lemmas.List.Concat.{flat_map-append}
 use Rattle.roc_sequence.specs.Lists.{Has}
+use Rattle.roc_sequence.proofs.Members.{has_append, has_map}
+use Rattle.roc_sequence.proofs.Places.{listed_head, listed_tail}
 use Rattle.roc_sequence.specs.Places.{IsListed, NoneTwice}
 use Rattle.roc_base.specs.declared.id.TxnId.{TxnId}
 use Rattle.roc_base.specs.declared.node.Node.{Node}
@@ -13,17 +17,19 @@ use Rattle.roc_rows.specs.Store.{Store}
 use Rattle.roc_plan.specs.Groups.{Plan, outs_of}
 use Rattle.roc_whole.specs.Serial as whole
 use Rattle.roc_whole.specs.Serial.{start_store, serial_run}
-use Rattle.roc_law_orders.specs.Behaviour.{TxnGroup, Yield}
+use Rattle.roc_law_orders.specs.Behaviour.{TxnGroup, is_txn_group, Yield}
 use Rattle.roc_law_orders.specs.Runs.{first_stage, stage_behind, account_at, Account}
 use Rattle.roc_law_orders.specs.Orders.{one_by_one}
 use Rattle.roc_law_orders.proofs.Stages.{yielded_at}
+use Rattle.roc_law_orders.proofs.SameGroups.{is_group-same}
 use Rattle.roc_law_log.specs.Scheme.{Scheme}
 use Rattle.roc_law_log.specs.Log.{Log, first_log}
+use Rattle.roc_law_log.specs.Kept.{KeepsRan}
 use Rattle.roc_law_log.specs.Invariants.{LogInvariants}
 use Rattle.roc_audit.specs.declared.entry.Entry.{Entry}
 use Rattle.roc_audit.specs.declared.entry.Entry.TheVariants.{Submitted}
-use Rattle.roc_audit.specs.History.{WasSubmitted}
-use Rattle.roc_audit.specs.Witness.{submitted_call, submitted_calls, reply_in, IsSerialWitness}
+use Rattle.roc_audit.specs.History.{WasSubmitted, WasAnswered}
+use Rattle.roc_audit.specs.Witness.{submitted_call, submitted_calls, reply_in, serial_reply, IsSerialWitness}
 use Rattle.roc_coord.specs.State.{CoordState}
 use Rattle.roc_coord.specs.Step.{after_message}
 use Rattle.roc_coord.specs.Submit.{next_id}
@@ -31,13 +37,14 @@ use Rattle.roc_protocol.specs.declared.event.Event.{Event}
 use Rattle.roc_protocol.specs.declared.event.Event.TheVariants.{Submit, Deliver, Tick}
 use Rattle.roc_protocol.specs.PlanAssumptions.{IsSchemeOf, IsWholeReply}
 use Rattle.roc_protocol.specs.World.{World, first_world, mark_delivered}
-use Rattle.roc_protocol.specs.Happens.{Outcome, IsReceived, answer_entries}
+use Rattle.roc_protocol.specs.Happens.{RanAt, Outcome, IsReceived, answer_entries}
 use Rattle.roc_protocol.specs.Run.{Stepped, Transition, IsRun, begun, goes_on}
+use Rattle.roc_protocol.specs.Kept.{ran_in}
 use Rattle.roc_protocol.specs.Inner.Given.{LogLaws}
-use Rattle.roc_protocol.proofs.Means.{run_of, Ran, stage, AnswerMeans}
+use Rattle.roc_protocol.proofs.Means.{run_of, entry_run, RanMeans, AreRan, Ran, stage, AnswerMeans}
 use Rattle.roc_protocol.specs.Inner.Given.{SerialLaws, StoreLaws}
 use Rattle.roc_protocol.proofs.Firsts.{first_means, found_at}
-use Rattle.roc_protocol.proofs.Worlds.{Submitting, is_refused, is_accepted, submitting, run_submissions, Agrees, agrees_before, IsLogged, step_logged, ordered_submitted}
+use Rattle.roc_protocol.proofs.Worlds.{Submitting, is_refused, is_accepted, submitting, run_submissions, Agrees, agrees_before, IsLogged, RunsOn, step_logged, ordered_submitted}
 
 -- ---- a history grows at its end
 
@@ -63,8 +70,35 @@ step_extends plan w (Some (Deliver k)) o (m, some, there, h) = go m.to h
 step_extends plan w (Some (Tick (Server shard))) o (s, there, e) = subst (λ (o : Outcome). Extends w.history o.world.history) (sym e) (by_none w.history)
 step_extends plan w (Some (Tick (Coord n))) o (s, there, e) = subst (λ (o : Outcome). Extends w.history o.world.history) (sym e) (record { more = []; is = refl })
 
+-- ---- what ran
+
+-- what is in a list is listed there
+pub run_listed : (rs : List TxnGroup) (r : TxnGroup) → Has r rs → IsListed is_txn_group rs r
+run_listed [] r h = absurd h
+run_listed (q ∷ rs) r (inl e) = subst (IsListed is_txn_group (q ∷ rs)) (sym e) (listed_head is_txn_group q rs (is_group-same q))
+run_listed (q ∷ rs) r (inr h) = listed_tail is_txn_group q rs r (run_listed rs r h)
+
+pub ran_more : (steps : List Stepped) (s : Stepped) → ran_in (steps ++ s ∷ []) ≡ ran_in steps ++ s.outcome.ran
+ran_more steps s = flat_map-append (λ (s : Stepped). s.outcome.ran) steps (s ∷ []) ∙ ap (λ l. ran_in steps ++ l) (append-nil s.outcome.ran)
+
 module _ (plan : Plan) (asked : TxnId → whole.Call) (S : Scheme) (is : IsSchemeOf plan asked S) (laws : LogLaws S (start_store plan.program)) (stores : StoreLaws) where
-  pub run_logged : (coords : ℕ) (steps : List Stepped) (w : World) → IsRun plan coords steps w → Agrees asked w.history → (log : Log) × IsLogged plan asked S is laws w log
+  -- what ran goes on
+  ran_on : (log later : Log) → LogInvariants S (start_store plan.program) log → (ran more : List RanAt) → AreRan plan asked S (start_store plan.program) log ran → RunsOn plan asked S is laws log later more → AreRan plan asked S (start_store plan.program) later (ran ++ more)
+  ran_on log later i ran more a b =
+      record {
+        groups = b.groups ∙ (ap (λ l. l ++ map (λ r. entry_run r.group) more) a.groups ∙ sym (map-append (λ (r : RanAt). entry_run r.group) ran more));
+        each = λ r h. elim (has_append r ran more h) [ inl k ↦ kept r k | inr k ↦ b.each r k ];
+      }
+    where
+      kept : (r : RanAt) → Has r ran → RanMeans plan asked S (start_store plan.program) later r
+      kept r h =
+          let m = a.each r h in
+          let q = entry_run r.group in
+          let listed : IsListed is_txn_group log.past.ran q = subst (λ l. IsListed is_txn_group l q) (sym a.groups) (run_listed (map (λ (r : RanAt). entry_run r.group) ran) q (has_map (λ (r : RanAt). entry_run r.group) r ran h)) in
+          let began = i.ran_started q listed in
+          record { on = ap (S.group_shard q) (b.grows.inputs q (i.needs_ran q began)) ∙ m.on; cells = m.cells ∙ sym (b.grows.uses q began) }
+
+  pub run_logged : (coords : ℕ) (steps : List Stepped) (w : World) → IsRun plan coords steps w → Agrees asked w.history → (log : Log) × IsLogged plan asked S is laws w log × AreRan plan asked S (start_store plan.program) log (ran_in steps)
   run_logged coords steps w begun agrees = (
     first_log,
     record {
@@ -74,14 +108,16 @@ module _ (plan : Plan) (asked : TxnId → whole.Call) (S : Scheme) (is : IsSchem
       pending = λ n c e x h. elim (nothing n c e x h) [ ];
       in_time = λ t u b l. absurd b;
     },
+    record { groups = refl; each = λ r h. absurd h },
   )
     where
       nothing : (n : ℕ) (c : CoordState) → slice_get (first_world plan coords).coords n ≡ Some c → (x : _) → Has x c.pending → ⊥
       nothing n c e x h = subst (λ (c : CoordState). Has x c.pending) (found_at _ 0 coords n c e) h
-  run_logged coords steps w (goes_on {w = v} e o r h) agrees =
+  run_logged coords steps w (goes_on {steps = front} {w = v} e o r h) agrees =
       let x = step_extends plan v e o h in
-      let before = run_logged coords _ v r (agrees_before asked v.history x.more (subst (Agrees asked) x.is agrees)) in
-      step_logged plan asked S is laws v before.0 (run_submissions plan coords _ v r) before.1 e o h agrees
+      let before = run_logged coords front v r (agrees_before asked v.history x.more (subst (Agrees asked) x.is agrees)) in
+      let now = step_logged plan asked S is laws v before.0 (run_submissions plan coords front v r) before.1 e o h agrees in
+      (now.0, now.1, subst (AreRan plan asked S (start_store plan.program) now.0) (sym (ran_more front (record { event = e; outcome = o }))) (ran_on before.0 now.0 (laws.holds before.0 before.1.means.reached) (ran_in front) o.ran before.2 now.2))
 
 -- ---- replies
 
@@ -103,23 +139,41 @@ module _ (plan : Plan) (asked : TxnId → whole.Call) (S : Scheme) (is : IsSchem
     i : LogInvariants S start log
     i = laws.holds log o.means.reached
 
-    gave_same : (r : TxnGroup) → Ran plan asked S start log r → IsListed is_txn log.order r.txn → (stage_behind S.behaviour start (one_by_one S.behaviour log.order)).yielded r ≡ (stage plan asked S start log).yielded r
-    unfolding account_at
-    gave_same r h l =
-        let once = (serials.stand log.order).once i.order.once in
-        let in_turn = (serials.stand log.order).all r l (i.are_groups r (i.ran_started r h)) in
-        yielded_at S.behaviour (one_by_one S.behaviour log.order) (first_stage start) r once in_turn
-        ∙ (ap (λ (a : Account). a.yield) (serials.serial log o.means.reached r h l)
-        ∙ sym (yielded_at S.behaviour log.past.ran (first_stage start) r i.ran_once h))
+    -- ---- in a list that keeps what ran
 
-    reply_same : (t : TxnId) (reply : List ℤ) → AnswerMeans plan asked S start log t reply → (other : List ℤ) → IsWholeReply plan asked S log.order t other → other ≡ reply
-    reply_same t reply a other x =
-        same_list other reply (x.count ∙ sym a.count)
-        (λ at l.
-        let g = a.given at (subst (λ n. at < n) (x.count ∙ sym a.count) l) in
-        let r = run_of t g.group in
-        x.given g.group at (slice_index_or reply at (pos 0)) ((is.groups t g.group).0 (i.are_groups r (i.ran_started r g.ran)))
-        (subst (λ (y : Yield). Has (at, slice_index_or reply at (pos 0)) (zip (outs_of plan (asked t).procedure g.group) y.outs)) (sym (gave_same r g.ran a.throughout.in_order)) g.gave))
+    module _ (O : List TxnId) (keeps : KeepsRan S start log O) where
+      gave_same : (r : TxnGroup) → Ran plan asked S start log r → IsListed is_txn O r.txn → (stage_behind S.behaviour start (one_by_one S.behaviour O)).yielded r ≡ (stage plan asked S start log).yielded r
+      unfolding account_at
+      gave_same r h l =
+          let once = (serials.stand O).once keeps.once in
+          let in_turn = (serials.stand O).all r l (i.are_groups r (i.ran_started r h)) in
+          yielded_at S.behaviour (one_by_one S.behaviour O) (first_stage start) r once in_turn
+          ∙ (ap (λ (a : Account). a.yield) (serials.same log o.means.reached O keeps r h l)
+          ∙ sym (yielded_at S.behaviour log.past.ran (first_stage start) r i.ran_once h))
+
+      reply_same : (t : TxnId) (reply : List ℤ) → AnswerMeans plan asked S start log t reply → (other : List ℤ) → IsWholeReply plan asked S O t other → other ≡ reply
+      reply_same t reply a other x =
+          same_list other reply (x.count ∙ sym a.count)
+          (λ at l.
+          let g = a.given at (subst (λ n. at < n) (x.count ∙ sym a.count) l) in
+          let r = run_of t g.group in
+          x.given g.group at (slice_index_or reply at (pos 0)) ((is.groups t g.group).0 (i.are_groups r (i.ran_started r g.ran)))
+          (subst (λ (y : Yield). Has (at, slice_index_or reply at (pos 0)) (zip (outs_of plan (asked t).procedure g.group) y.outs)) (sym (gave_same r g.ran (keeps.all t a.throughout.in_order))) g.gave))
+
+      pub ordered : (t : TxnId) → IsListed is_txn O t → IsListed is_txn w.order t
+      ordered t h = subst (λ l. IsListed is_txn l t) (sym o.means.order) (keeps.from t h)
+
+      -- each answered transaction has its reply
+      pub replies : (calls : (t : TxnId) → WasSubmitted w.history t → submitted_call t w.history ≡ Some (asked t))
+          → ((t : TxnId) → IsListed is_txn O t → (reply : List ℤ) × IsWholeReply plan asked S O t reply)
+          → (t : TxnId) (reply : List ℤ) → WasAnswered w.history t reply → serial_reply plan.program w.history O t ≡ Some reply
+      replies calls wholes t reply h =
+          let a = o.means.answered t reply h in
+          let x = wholes t (keeps.all t a.throughout.in_order) in
+          let same = reply_same t reply a x.0 x.1 in
+          let l : submitted_calls w.history O ≡ map asked O =
+          calls_are asked w.history O (λ u k. calls u (ordered_submitted plan asked S is laws w log o u (ordered u (has_listed O u k)))) in
+          ap (λ cs. reply_in t (serial_run plan.program cs)) l ∙ (x.1.is ∙ ap (λ r. Some r) same)
 
     pub witness : (calls : (t : TxnId) → WasSubmitted w.history t → submitted_call t w.history ≡ Some (asked t))
         → ((t : TxnId) → IsListed is_txn log.order t → (reply : List ℤ) × IsWholeReply plan asked S log.order t reply)
@@ -129,12 +183,6 @@ module _ (plan : Plan) (asked : TxnId → whole.Call) (S : Scheme) (is : IsSchem
           once = subst (NoneTwice is_txn) (sym o.means.order) i.order.once;
           submitted = ordered_submitted plan asked S is laws w log o;
           answered = λ t reply h. subst (λ l. IsListed is_txn l t) (sym o.means.order) (o.means.answered t reply h).throughout.in_order;
-          replies = λ t reply h.
-              (let a = o.means.answered t reply h in
-              let x = wholes t a.throughout.in_order in
-              let same = reply_same t reply a x.0 x.1 in
-              let l : submitted_calls w.history w.order ≡ map asked log.order =
-              calls_are asked w.history w.order (λ u k. calls u (ordered_submitted plan asked S is laws w log o u (has_listed w.order u k))) ∙ ap (map asked) o.means.order in
-              ap (λ cs. reply_in t (serial_run plan.program cs)) l ∙ (x.1.is ∙ ap (λ r. Some r) same));
+          replies = λ t reply h. subst (λ order. serial_reply plan.program w.history order t ≡ Some reply) (sym o.means.order) (replies log.order (serials.order log o.means.reached) calls wholes t reply h);
           real_time = o.in_time;
         }

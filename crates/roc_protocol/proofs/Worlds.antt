@@ -1,5 +1,5 @@
 -- Each event keeps what holds in every world
-use Rattle.std.proofs.Common.{◌≡◌, ℕ, ℤ, ◌-◌, ◌==◌, Bool, true, false, not, List, [], ◌∷◌, ◌++◌, Option, Some, None, length, map, refl, sym, ap, subst, ◌∙◌, ◌⊎◌, inl, inr, arith, append-nil}
+use Rattle.std.proofs.Common.{◌≡◌, ℕ, ℤ, ◌-◌, ◌==◌, Bool, true, false, not, List, [], ◌∷◌, ◌++◌, Option, Some, None, Result, Ok, Err, length, map, refl, sym, ap, subst, ◌∙◌, ◌⊎◌, inl, inr, arith, append-nil}
 use Rattle.std.proofs.lemmas.Bool.{eqb-true}
 use Rattle.std.specs.Prelude.{slice_get, if◌then◌else◌, nat_le}
 use Rattle.roc_sequence.specs.Lists.{Has}
@@ -22,11 +22,14 @@ use Rattle.roc_whole.specs.Serial.{start_store}
 use Rattle.roc_law_orders.specs.Behaviour.{TxnGroup}
 use Rattle.roc_law_log.specs.Scheme.{Scheme}
 use Rattle.roc_law_log.specs.Log.{Log}
+use Rattle.roc_law_log.specs.Steps.{no_steps}
 use Rattle.roc_law_log.specs.Invariants.{LogInvariants, LogGrows}
+use Rattle.roc_server.specs.declared.started.StartedGroup.{StartedGroup}
 use Rattle.roc_server.specs.State.{answered, ServerState, ServerStep}
 use Rattle.roc_server.specs.Step as server
 use Rattle.roc_coord.specs.declared.handled.Handled.{Handled}
 use Rattle.roc_coord.specs.declared.handled.Handled.TheVariants as answer
+use Rattle.roc_coord.specs.declared.handled.SubmitFault.{SubmitFault}
 use Rattle.roc_coord.specs.declared.handled.SubmitFault.TheVariants as fault
 use Rattle.roc_coord.specs.declared.transaction.Transaction.{Transaction}
 use Rattle.roc_coord.specs.State.{CoordState}
@@ -42,10 +45,10 @@ use Rattle.roc_protocol.specs.declared.event.Event.{Event}
 use Rattle.roc_protocol.specs.declared.event.Event.TheVariants.{Submit, Deliver, Tick}
 use Rattle.roc_protocol.specs.PlanAssumptions.{IsSchemeOf}
 use Rattle.roc_protocol.specs.World.{World, sent_by, mark_delivered, at_server, at_coord}
-use Rattle.roc_protocol.specs.Happens.{Outcome, IsSubmissionOf, answer_entries, IsReceived, Ticks}
+use Rattle.roc_protocol.specs.Happens.{RanAt, ran_at, Outcome, Submits, IsSubmissionOf, answer_entries, IsReceived, Ticks}
 use Rattle.roc_protocol.specs.Run.{Stepped, Transition, IsRun, begun, goes_on}
 use Rattle.roc_protocol.specs.Inner.Given.{LogLaws}
-use Rattle.roc_protocol.proofs.Means.{run_of, Began, Means, WorldMeans}
+use Rattle.roc_protocol.proofs.Means.{run_of, entry_run, RanMeans, Began, Means, WorldMeans}
 use Rattle.roc_protocol.proofs.Changed.{get-set_cases, comes_means}
 use Rattle.roc_protocol.proofs.Served.{StartsAre, IsExplained, message_explained, tick_explained}
 use Rattle.roc_protocol.proofs.NoStarts.{no_starts, no_starts_at_tick}
@@ -81,6 +84,15 @@ submitting plan w n proc args s o h = procedure (is_transaction plan proc) refl 
         → IsSubmissionOf w n proc args (refused_or_accepted plan s proc args (if not b then Some fault.NoProc else if not (length args == (procedure_of plan proc).arguments) then Some fault.Args else if nat_le most_transactions s.next then Some fault.Spent else if nat_le most_pending (length s.pending) then Some fault.Busy else None)) o → Submitting plan w n proc args s o
     procedure true e r = arguments (length args == (procedure_of plan proc).arguments) refl e r
     procedure false e r = elim r [ ]
+
+-- where something is submitted, nothing runs
+pub submission_ran : (w : World) (n proc : ℕ) (args : List ℤ) (after : CoordState) (outs : List Outgoing) (answer : Result TxnId SubmitFault) (o : Outcome) → Submits w n proc args after outs answer o → o.ran ≡ []
+submission_ran w n proc args after outs (Ok id) o h = ap (λ (o : Outcome). o.ran) h
+submission_ran w n proc args after outs (Err fault.Spent) o h = ap (λ (o : Outcome). o.ran) h
+submission_ran w n proc args after outs (Err fault.Busy) o h = ap (λ (o : Outcome). o.ran) h
+submission_ran w n proc args after outs (Err fault.NoProc) o h = absurd h
+submission_ran w n proc args after outs (Err fault.Args) o h = absurd h
+submission_ran w n proc args after outs (Err fault.NoMemory) o h = absurd h
 
 -- ---- submissions
 
@@ -126,6 +138,16 @@ module _ (plan : Plan) (asked : TxnId → whole.Call) (S : Scheme) (is : IsSchem
     -- who was answered before another's submission stands before it
     pub in_time : (t u : TxnId) → IsAnsweredBefore w.history t u → IsListed is_txn w.order u → IsListedBefore is_txn w.order t u
 
+  -- from a log to a later one these groups run
+  pub record RunsOn (log later : Log) (ran : List RanAt) : Type 0 where
+    pub grows : LogGrows S start log later
+    pub groups : later.past.ran ≡ log.past.ran ++ map (λ r. entry_run r.group) ran
+    pub each : (r : RanAt) → Has r ran → RanMeans plan asked S start later r
+
+  -- none do
+  rests : (log : Log) → LogInvariants S start log → RunsOn log log []
+  rests log i = record { grows = laws.grows log log i no_steps; groups = sym (append-nil log.past.ran); each = λ r h. absurd h }
+
   -- the order has only submitted ones
   pub ordered_submitted : (w : World) (log : Log) → IsLogged w log → (t : TxnId) → IsListed is_txn w.order t → WasSubmitted w.history t
   ordered_submitted w log o t h =
@@ -155,7 +177,7 @@ module _ (plan : Plan) (asked : TxnId → whole.Call) (S : Scheme) (is : IsSchem
 
     served_logged : (n : ℕ) (s : ServerState) (there : slice_get w.servers n ≡ Some s) (r : ServerStep)
         → IsExplained plan asked S start is laws log w o.means n s there (WasSubmitted w.history) r → ((out : Outgoing) → Has out r.sends → StartsAre (WasSubmitted w.history) out.msg)
-        → (later : Log) × IsLogged (at_server w n r) later
+        → (later : Log) × IsLogged (at_server w n r) later × RunsOn log later (map (ran_at n) r.ran)
     served_logged n s there r x none = (
       x.log,
       record {
@@ -165,10 +187,19 @@ module _ (plan : Plan) (asked : TxnId → whole.Call) (S : Scheme) (is : IsSchem
         pending = o.pending;
         in_time = λ t u b l. later t u b (listed_or_not is_txn w.order u);
       },
+      record {
+        grows = g;
+        groups = x.ran ∙ ap (λ l. log.past.ran ++ l) (told r.ran);
+        each = λ q h. (let e = from_has_map (ran_at n) q r.ran h in subst (RanMeans plan asked S start x.log) (sym e.2) (x.each e.0 e.1));
+      },
     )
       where
         g : LogGrows S start log x.log
         g = laws.grows log x.log i x.steps
+
+        told : (es : List StartedGroup) → map entry_run es ≡ map (λ r. entry_run r.group) (map (ran_at n) es)
+        told [] = refl
+        told (e ∷ es) = ap (λ l. entry_run e ∷ l) (told es)
 
         grown : noted w.order r.decided ≡ w.order ++ g.order.0
         grown = x.means.order ∙ (g.order.1 ∙ ap (λ l. l ++ g.order.0) (sym o.means.order))
@@ -184,7 +215,7 @@ module _ (plan : Plan) (asked : TxnId → whole.Call) (S : Scheme) (is : IsSchem
     coordinated_logged : (n : ℕ) (s : CoordState) (there : slice_get w.coords n ≡ Some s) (after : CoordState) (outs : List Outgoing) (tells : List Entry)
         → (x : IsCoordinated plan asked S start is laws log i w o.means n s there (WasSubmitted (w.history ++ tells)) (λ x h. submitted_front w.history tells x.id (o.pending n s there x h)) after outs tells)
         → ((t u : TxnId) → IsAnsweredBefore (w.history ++ tells) t u → IsListed is_txn w.order u → IsListedBefore is_txn w.order t u)
-        → (later : Log) × IsLogged (at_coord w n after outs tells) later
+        → (later : Log) × IsLogged (at_coord w n after outs tells) later × RunsOn log later []
     coordinated_logged n s there after outs tells x time = (
       x.log,
       record {
@@ -197,6 +228,7 @@ module _ (plan : Plan) (asked : TxnId → whole.Call) (S : Scheme) (is : IsSchem
         ];
         in_time = time;
       },
+      record { grows = laws.grows log x.log i x.steps; groups = x.ran ∙ sym (append-nil log.past.ran); each = λ r h. absurd h },
     )
 
     -- an answer at the end is before no submission
@@ -223,31 +255,31 @@ module _ (plan : Plan) (asked : TxnId → whole.Call) (S : Scheme) (is : IsSchem
     pub comes_logged : (k : ℕ) → IsLogged (mark_delivered w k) log
     comes_logged k = record { means = comes_means plan asked S start is log w k o.means; began = o.began; starts = o.starts; pending = o.pending; in_time = o.in_time }
 
-    tick_logged : (node : Node) (v : Outcome) → Ticks plan w node v → (later : Log) × IsLogged v.world later
-    tick_logged (Server shard) v (s, there, e) = subst (λ (v : Outcome). (later : Log) × IsLogged v.world later) (sym e)
+    tick_logged : (node : Node) (v : Outcome) → Ticks plan w node v → (later : Log) × IsLogged v.world later × RunsOn log later v.ran
+    tick_logged (Server shard) v (s, there, e) = subst (λ (v : Outcome). (later : Log) × IsLogged v.world later × RunsOn log later v.ran) (sym e)
         (served_logged shard.0 s there (answered s (server.tick_sends s)) (tick_explained plan asked S start is laws log w o.means shard.0 s there (WasSubmitted w.history)) (no_starts_at_tick plan s (WasSubmitted w.history)))
-    tick_logged (Coord n) v (s, there, e) = subst (λ (v : Outcome). (later : Log) × IsLogged v.world later) (sym e)
+    tick_logged (Coord n) v (s, there, e) = subst (λ (v : Outcome). (later : Log) × IsLogged v.world later × RunsOn log later v.ran) (sym e)
         (coordinated_logged n s there s (coord.tick_sends plan s) [] (tick_coordinated plan asked S start is laws log i w o.means n s there (WasSubmitted (w.history ++ [])) (λ x h. submitted_front w.history [] x.id (o.pending n s there x h))) (λ t u b. o.in_time t u (subst (λ h. IsAnsweredBefore h t u) (append-nil w.history) b)))
 
-    receive_logged : (m : Msg) (to : Node) (v : Outcome) → Means plan asked S start log m to → StartsAre (WasSubmitted w.history) m → IsReceived plan w m to v → (later : Log) × IsLogged v.world later
-    receive_logged m (Server shard) v k f (s, r, there, step, e) = subst (λ (v : Outcome). (later : Log) × IsLogged v.world later) (sym e)
+    receive_logged : (m : Msg) (to : Node) (v : Outcome) → Means plan asked S start log m to → StartsAre (WasSubmitted w.history) m → IsReceived plan w m to v → (later : Log) × IsLogged v.world later × RunsOn log later v.ran
+    receive_logged m (Server shard) v k f (s, r, there, step, e) = subst (λ (v : Outcome). (later : Log) × IsLogged v.world later × RunsOn log later v.ran) (sym e)
         (served_logged shard.0 s there r (message_explained plan asked S start is laws log w o.means shard.0 s there (WasSubmitted w.history) m r step k f)
         (subst (λ (r : ServerStep). (out : Outgoing) → Has out r.sends → StartsAre (WasSubmitted w.history) out.msg) (sym step.is) (no_starts plan s (WasSubmitted w.history) step.findings m)))
     receive_logged m (Coord n) v k f (s, there, e) =
         let a = (after_message plan s m).answer in
-        subst (λ (v : Outcome). (later : Log) × IsLogged v.world later) (sym e)
+        subst (λ (v : Outcome). (later : Log) × IsLogged v.world later × RunsOn log later v.ran) (sym e)
         (coordinated_logged n s there (after_message plan s m).state (after_message plan s m).sends (answer_entries a)
         (message_coordinated plan asked S start is laws log i w o.means n s there (WasSubmitted (w.history ++ answer_entries a)) (λ x h. submitted_front w.history (answer_entries a) x.id (o.pending n s there x h)) m (Coord n) k)
         (λ t u b l. o.in_time t u (answers_last a t u b) l))
 
-    submit_logged : AreSubmissions plan w.history w.coords → (n proc : ℕ) (args : List ℤ) (s : CoordState) → slice_get w.coords n ≡ Some s → (v : Outcome) → Submitting plan w n proc args s v → Agrees asked v.world.history → (later : Log) × IsLogged v.world later
-    submit_logged a n proc args s there v (is_refused e) agrees = subst (λ (v : World). (later : Log) × IsLogged v later) (sym e) (log, o)
+    submit_logged : AreSubmissions plan w.history w.coords → (n proc : ℕ) (args : List ℤ) (s : CoordState) → slice_get w.coords n ≡ Some s → (v : Outcome) → Submitting plan w n proc args s v → Agrees asked v.world.history → (later : Log) × IsLogged v.world later × RunsOn log later []
+    submit_logged a n proc args s there v (is_refused e) agrees = subst (λ (v : World). (later : Log) × IsLogged v later × RunsOn log later []) (sym e) (log, o, rests log i)
     submit_logged a n proc args s there v (is_accepted known counted e) agrees =
         let more = Submitted (next_id s) proc args ∷ [] in
         let mine : Has (Submitted (next_id s) proc args) (w.history ++ more) = has_right (Submitted (next_id s) proc args) w.history more (inl refl) in
         let g : Agrees asked (w.history ++ more) = subst (λ (v : World). Agrees asked v.history) e agrees in
         let x = new_transaction s proc args in
-        subst (λ (v : World). (later : Log) × IsLogged v later) (sym e)
+        subst (λ (v : World). (later : Log) × IsLogged v later × RunsOn log later []) (sym e)
         (coordinated_logged n s there (accepted plan s x).state (accepted plan s x).sends more
         (submission_coordinated plan asked S start is laws log i w o.means n s there (WasSubmitted (w.history ++ more)) (λ y h. submitted_front w.history more y.id (o.pending n s there y h)) proc args more (none (next_id s) proc args) (g.proc (next_id s) proc args mine) (g.args (next_id s) proc args mine) (proc, args, mine))
         (λ t u b l. time t u l (before_cases w.history more t u b)))
@@ -268,9 +300,11 @@ module _ (plan : Plan) (asked : TxnId → whole.Call) (S : Scheme) (is : IsSchem
         time t u l (inr (inr (inl (reply, e, was)))) = absurd (was.2)
         time t u l (inr (inr (inr b))) = absurd b
 
-  pub step_logged : (w : World) (log : Log) → AreSubmissions plan w.history w.coords → IsLogged w log → (e : Option Event) (v : Outcome) → Transition plan w e v → Agrees asked v.world.history → (later : Log) × IsLogged v.world later
-  step_logged w log a o None v h agrees = subst (λ (v : Outcome). (later : Log) × IsLogged v.world later) (sym h) (log, o)
-  step_logged w log a o (Some (Submit n proc args)) v (s, there, h) agrees = submit_logged w log o a n proc args s there v (submitting plan w n proc args s v h) agrees
+  pub step_logged : (w : World) (log : Log) → AreSubmissions plan w.history w.coords → IsLogged w log → (e : Option Event) (v : Outcome) → Transition plan w e v → Agrees asked v.world.history → (later : Log) × IsLogged v.world later × RunsOn log later v.ran
+  step_logged w log a o None v h agrees = subst (λ (v : Outcome). (later : Log) × IsLogged v.world later × RunsOn log later v.ran) (sym h) (log, o, rests log (laws.holds log o.means.reached))
+  step_logged w log a o (Some (Submit n proc args)) v (s, there, h) agrees =
+      let x = submit_logged w log o a n proc args s there v (submitting plan w n proc args s v h) agrees in
+      (x.0, x.1, subst (RunsOn log x.0) (sym (submission_ran w n proc args (after_submit plan s proc args).state (after_submit plan s proc args).sends (after_submit plan s proc args).answer v h)) x.2)
   step_logged w log a o (Some (Deliver k)) v (m, some, there, h) agrees =
       let has = has_at w.sent (k - 1) m there in
       receive_logged (mark_delivered w k) log (comes_logged w log o k) m.msg m.to v (o.means.messages m has) (o.starts m has) h

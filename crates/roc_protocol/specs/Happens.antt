@@ -1,5 +1,5 @@
 -- What comes of an event: docs/PROTOCOL.md, "World"
-use Rattle.std.specs.Prelude.{◌≡◌, ℕ, ℤ, ◌-◌, ◌<◌, List, [], ◌∷◌, Some, Result, Ok, Err, slice_get}
+use Rattle.std.specs.Prelude.{◌≡◌, ℕ, ℤ, ◌-◌, ◌<◌, List, [], ◌∷◌, Some, Result, Ok, Err, map, slice_get}
 use Rattle.roc_base.specs.declared.id.TxnId.{TxnId}
 use Rattle.roc_base.specs.declared.node.Node.{Node}
 use Rattle.roc_base.specs.declared.node.Node.TheVariants.{Server, Coord}
@@ -9,6 +9,7 @@ use Rattle.roc_msg.specs.declared.outbox.Outgoing.{Outgoing}
 use Rattle.roc_plan.specs.Groups.{Plan}
 use Rattle.roc_server.specs.declared.handled.Handled.{Handled as ServerHandled}
 use Rattle.roc_server.specs.declared.handled.Handled.TheVariants as server_answer
+use Rattle.roc_server.specs.declared.started.StartedGroup.{StartedGroup}
 use Rattle.roc_server.specs.State.{answered, ServerState, ServerStep}
 use Rattle.roc_server.specs.Step as server
 use Rattle.roc_coord.specs.declared.handled.Handled.{Handled as CoordHandled}
@@ -27,15 +28,25 @@ use Rattle.roc_protocol.specs.declared.event.Seen.{Seen}
 use Rattle.roc_protocol.specs.declared.event.Seen.TheVariants as seen
 use Rattle.roc_protocol.specs.World.{World, mark_delivered, at_server, at_coord}
 
--- what is seen of an event, the transactions newly decided, in the order in which they were taken, and the world after it
+-- a group that ran, and the shard on which it did
+pub record RanAt : Type 0 where
+  pub shard : ℕ
+  pub group : StartedGroup
+
+abbrev pub ran_at : (shard : ℕ) → StartedGroup → RanAt
+ran_at shard e = record { shard = shard; group = e }
+
+-- what is seen of an event, the transactions newly decided, in the order in which they were taken, the groups that ran, in the order in
+-- which they did, and the world after it
 pub record Outcome : Type 0 where
   pub seen : Seen
   pub decided : List TxnId
+  pub ran : List RanAt
   pub world : World
 
--- a node of which nothing was decided
+-- a node of which nothing was decided, and on which nothing ran
 abbrev pub undecided : Seen → World → Outcome
-undecided what w = record { seen = what; decided = []; world = w }
+undecided what w = record { seen = what; decided = []; ran = []; world = w }
 
 -- ---- a submission
 
@@ -71,7 +82,7 @@ answer_entries (coord_answer.Ignored reason) = []
 
 -- a server took a message in this world
 abbrev pub served : World → (shard : ℕ) → ServerStep → Outcome
-served w shard r = record { seen = server_seen r.answer; decided = r.decided; world = at_server w shard r }
+served w shard r = record { seen = server_seen r.answer; decided = r.decided; ran = map (ran_at shard) r.ran; world = at_server w shard r }
 
 -- a coordinator did
 abbrev pub coordinated : World → (number : ℕ) → CoordStep → Outcome

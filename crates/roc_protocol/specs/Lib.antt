@@ -2,6 +2,7 @@ pub mod World
 pub mod Happens
 pub mod Run
 pub mod Fits
+pub mod Kept
 pub mod Quiet
 pub mod Final
 pub mod PlanAssumptions

@@ -30,8 +30,8 @@ ghost use Rattle.roc_protocol.specs.declared.event.Seen.TheVariants as seen;
 ghost use Rattle.roc_protocol.specs.Happens.{Outcome, Happens};
 ghost use Rattle.roc_plan.specs.Groups.{Plan, shard_of};
 ghost use Rattle.roc_audit.specs.declared.entry.Entry.TheVariants as entry;
-ghost use Rattle.roc_audit.specs.History.{WasSubmitted, WasAnswered, IsToldOnce};
-ghost use Rattle.roc_audit.specs.Witness.{submitted_calls, IsSerialWitness};
+ghost use Rattle.roc_audit.specs.History.{WasSubmitted, WasAnswered, IsAnsweredBefore, IsToldOnce};
+ghost use Rattle.roc_audit.specs.Witness.{submitted_calls, serial_reply, IsSerialWitness};
 ghost use Rattle.roc_rows.specs.declared.cell.Cell.{Cell};
 ghost use Rattle.roc_rows.specs.Store.{Store, read};
 ghost use Rattle.roc_whole.specs.Serial.{serial_store, start_store};
@@ -39,6 +39,7 @@ ghost use Rattle.roc_law_log.specs.Scheme.{Scheme, IsSoundScheme};
 ghost use Rattle.roc_protocol.specs.Inner.Given.{LogLaws, SerialLaws, StoreLaws};
 ghost use Rattle.roc_protocol.specs.PlanAssumptions.{HasSchemes};
 ghost use Rattle.roc_protocol.specs.Final.{lists_in, IsFinalIn};
+ghost use Rattle.roc_protocol.specs.Kept.{KeepsWhatRan};
 ghost use Rattle.roc_protocol.specs.Quiet.{IsQuiet};
 ghost use Rattle.roc_protocol.specs.World.{World, first_world};
 ghost use Rattle.roc_protocol.specs.Fits.{FitsWorld};
@@ -46,7 +47,7 @@ ghost use Rattle.roc_protocol.specs.Run.{Stepped, Transition, IsRun, IsEventOf, 
 
 use roc_component::laws::{order_exists, order_is_one};
 use roc_law_log::laws::{
-    component_order_is_taken, conflicts_are_on_one_shard, executions_are_serial, logs_follow,
+    component_order_is_taken, conflicts_are_on_one_shard, lists_that_keep_follow, logs_follow,
     logs_grow, logs_keep_invariants, shards_agree, stores_are_shared_out,
 };
 use roc_law_orders::laws::{groups_stand_one_by_one, last_values_are_serial};
@@ -64,7 +65,7 @@ fn machine_laws()
     conflicts_are_on_one_shard();
     stores_are_shared_out();
     component_order_is_taken();
-    executions_are_serial();
+    lists_that_keep_follow();
     shards_agree();
     groups_stand_one_by_one();
     logs_follow();
@@ -79,6 +80,28 @@ pub fn order_is_serial()
     ensures { (plan : Plan) (coords : ℕ) (steps : List Stepped) (w : World) → HasSchemes plan → IsRun plan coords steps w → IsSerialWitness plan.program w.history w.order }
 {
     machine_laws();
+}
+
+/// What ran is in the serial order: of two transactions with groups in conflict on one server, the one whose group ran first there, or ran
+/// while the other's is yet to run, stands first. So the order is one that keeps what ran.
+pub fn order_keeps_what_ran()
+    ensures { (plan : Plan) (coords : ℕ) (steps : List Stepped) (w : World) → HasSchemes plan → IsRun plan coords steps w → KeepsWhatRan plan steps w w.order }
+{
+    machine_laws();
+}
+
+/// And any order of the same transactions that keeps what ran explains as much: in it each answered transaction has the reply that it had;
+/// and it is a serial witness where who was answered before another's submission stands before it.
+pub fn kept_orders_are_serial()
+    ensures replies { (plan : Plan) (coords : ℕ) (steps : List Stepped) (w : World) → HasSchemes plan → IsRun plan coords steps w
+        → (O : List TxnId) → KeepsWhatRan plan steps w O
+        → (t : TxnId) (reply : List ℤ) → WasAnswered w.history t reply → serial_reply plan.program w.history O t ≡ Some reply }
+    ensures witness { (plan : Plan) (coords : ℕ) (steps : List Stepped) (w : World) → HasSchemes plan → IsRun plan coords steps w
+        → (O : List TxnId) → KeepsWhatRan plan steps w O
+        → ((t u : TxnId) → IsAnsweredBefore w.history t u → IsListed is_txn O u → IsListedBefore is_txn O t u) → IsSerialWitness plan.program w.history O }
+{
+    machine_laws();
+    order_is_serial();
 }
 
 /// Where each submitted transaction is answered, the servers hold what the serial order leaves: the server of a cell's place holds of it

@@ -4,15 +4,17 @@
 //! `specs/World.antt` has the world: servers, coordinators, every message ever sent, the history and the serial order.
 //! `specs/Happens.antt` has what comes of an event: one event changes one node, by that node's own step.
 //! `specs/Run.antt` has runs, `specs/Fits.antt` worlds that fit a plan, `specs/Final.antt` lists as startoks make them,
-//! `specs/Quiet.antt` transactions whose messages were all delivered, and `specs/PlanAssumptions.antt` what the laws ask of a
-//! plan: schemes of the log machine (`HasSchemes`), which every accepted plan has (`roc_law_plans`).
+//! `specs/Quiet.antt` transactions whose messages were all delivered, `specs/Kept.antt` orders that keep what ran, and
+//! `specs/PlanAssumptions.antt` what the laws ask of a plan: schemes of the log machine (`HasSchemes`), which every accepted
+//! plan has (`roc_law_plans`).
 //!
 //! The layers above may rely on [`laws`]. Of every run of a plan with schemes, whatever is lost, repeated or reordered:
-//! the serial order explains the history; what a start leaves out is earlier in it; lists are final; what a startok
-//! tells is what its server keeps of the group; servers agree; no server ignores a message, and a coordinator only stale
-//! ones; what is quiet is answered; who is answered is decided wherever it has a group; each submitted transaction is
-//! pending or answered; no id is submitted twice, and an id has at most one answer, behind its submission; and once each
-//! is answered, the cells are those that the serial order leaves, and stay. Of every plan: a submission is refused
+//! the serial order explains the history, and so does any order that keeps what ran and real time; what a start leaves out
+//! is earlier in it; lists are final; what a startok tells is what its server keeps of the group; servers agree; no server
+//! ignores a message, and a coordinator only stale ones; what is quiet is answered; who is answered is decided wherever it
+//! has a group; each submitted transaction is pending or answered; no id is submitted twice, and an id has at most one
+//! answer, behind its submission; and once each is answered, the cells are those that the serial order leaves, and stay.
+//! Of every plan: a submission is refused
 //! exactly as spent or busy, and what comes of an event, or of a list of events, is one; and of every plan with a shard,
 //! whatever may happen in a world that fits has an outcome, so a list of such events has a run.
 #![tactic(auto)]

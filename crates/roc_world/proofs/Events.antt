@@ -1,5 +1,5 @@
 -- What an event leaves in the fields of a world is what the definitions say
-use Rattle.std.proofs.Common.{◌≡◌, ℕ, ℤ, zero, suc, ◌-◌, ◌<◌, ◌==◌, not, List, [], ◌∷◌, ◌++◌, Option, Some, None, Result, Err, length, filter, get_or, slice_get, slice_set, refl, sym, ap, subst, ◌∙◌}
+use Rattle.std.proofs.Common.{◌≡◌, ℕ, ℤ, zero, suc, ◌-◌, ◌<◌, ◌==◌, not, List, [], ◌∷◌, ◌++◌, Option, Some, None, Result, Err, length, map, filter, get_or, slice_get, slice_set, refl, sym, ap, subst, ◌∙◌}
 use Rattle.std.proofs.lemmas.Option.{slice_get-get_or}
 use Rattle.roc_base.specs.declared.id.TxnId.{TxnId}
 use Rattle.roc_base.specs.declared.node.Node.{Node}
@@ -22,7 +22,7 @@ use Rattle.roc_protocol.specs.declared.event.Event.TheVariants.{Submit, Deliver,
 use Rattle.roc_protocol.specs.declared.event.Seen.{Seen}
 use Rattle.roc_protocol.specs.declared.event.Seen.TheVariants as seen
 use Rattle.roc_protocol.specs.World.{World, sends, mark_delivered, at_server, at_coord}
-use Rattle.roc_protocol.specs.Happens.{Outcome, undecided, Submits, server_seen, coord_seen, answer_entries, served, coordinated, IsReceived}
+use Rattle.roc_protocol.specs.Happens.{ran_at, Outcome, undecided, Submits, server_seen, coord_seen, answer_entries, served, coordinated, IsReceived}
 use Rattle.roc_world.specs.Inner.Messages.{Messages}
 use Rattle.roc_world.specs.Inner.Nodes.{ServerTakes, CoordTakes, CoordSubmits, ServerTicks}
 use Rattle.roc_world.specs.Inner.Parts.{Leads}
@@ -51,8 +51,9 @@ module _ (plan : Plan) (w : World) where
         let others = takes.others in
         let world_is : after ≡ at_server (mark_delivered w k) shard.0 r =
         after_is ∙ (λ i. record (sends (record w { servers = others i; sent = (network_is i).sent; undelivered = (network_is i).undelivered }) (Server shard) (outs i)) { order = noted w.order (ids i) }) in
-        let is : record { seen = what; decided = r.decided; world = after } ≡ served (mark_delivered w k) shard.0 r = λ i. record { seen = sees i; decided = r.decided; world = world_is i } in
-        (r.decided, (m, some, there, subst (λ (node : Node). IsReceived plan (mark_delivered w k) m.msg node (record { seen = what; decided = r.decided; world = after })) (sym to) (takes.server, r, takes.there, takes.handles, is)))
+        let ran = map (ran_at shard.0) r.ran in
+        let is : record { seen = what; decided = r.decided; ran = ran; world = after } ≡ served (mark_delivered w k) shard.0 r = λ i. record { seen = sees i; decided = r.decided; ran = ran; world = world_is i } in
+        (r.decided, ran, (m, some, there, subst (λ (node : Node). IsReceived plan (mark_delivered w k) m.msg node (record { seen = what; decided = r.decided; ran = ran; world = after })) (sym to) (takes.server, r, takes.there, takes.handles, is)))
 
     pub coord_comes :
         (number : ℕ) → m.to ≡ Coord number → (answer : CoordHandled) (what : Seen) (coords : List CoordState) (noted_in : Messages) (before out : Collected) (after : World)
@@ -67,9 +68,9 @@ module _ (plan : Plan) (w : World) where
         let others = takes.others in
         let world_is : after ≡ at_coord (mark_delivered w k) number r.state r.sends (answer_entries r.answer) =
         after_is ∙ (λ i. record (sends (record w { coords = others i; sent = (network_is i).sent; undelivered = (network_is i).undelivered }) (Coord number) (outs i)) { history = w.history ++ answer_entries (told i) }) in
-        let o : Outcome = record { seen = what; decided = []; world = after } in
-        let is : o ≡ coordinated (mark_delivered w k) number r = λ i. record { seen = sees i; decided = []; world = world_is i } in
-        ([], (m, some, there, subst (λ (node : Node). IsReceived plan (mark_delivered w k) m.msg node o) (sym to) (takes.coord, takes.there, is)))
+        let o : Outcome = record { seen = what; decided = []; ran = []; world = after } in
+        let is : o ≡ coordinated (mark_delivered w k) number r = λ i. record { seen = sees i; decided = []; ran = []; world = world_is i } in
+        ([], [], (m, some, there, subst (λ (node : Node). IsReceived plan (mark_delivered w k) m.msg node o) (sym to) (takes.coord, takes.there, is)))
 
   -- ---- a tick
 
@@ -82,9 +83,9 @@ module _ (plan : Plan) (w : World) where
       let outs : out.messages ≡ tells = ticks.sent.0 ∙ ap (λ xs. xs ++ tells) none in
       let others = ticks.others in
       let world_is : after ≡ at_server w shard.0 (answered ticks.server tells) = after_is ∙ (λ i. sends (record w { servers = others i }) (Server shard) (outs i)) in
-      let o : Outcome = record { seen = what; decided = []; world = after } in
-      let is : o ≡ served w shard.0 (answered ticks.server tells) = λ i. record { seen = sees i; decided = []; world = world_is i } in
-      ([], (ticks.server, ticks.there, is))
+      let o : Outcome = record { seen = what; decided = []; ran = []; world = after } in
+      let is : o ≡ served w shard.0 (answered ticks.server tells) = λ i. record { seen = sees i; decided = []; ran = []; world = world_is i } in
+      ([], [], (ticks.server, ticks.there, is))
 
   -- ---- a submission
 
@@ -112,17 +113,17 @@ module _ (plan : Plan) (w : World) where
     spent s =
         let r = after_submit plan s.coord proc args in
         let same = coords_same fault.Spent s in
-        let o : Outcome = record { seen = seen.Spent; decided = []; world = record w { coords = coords } } in
-        let is : o ≡ undecided seen.Spent w = λ i. record { seen = seen.Spent; decided = []; world = record w { coords = same i } } in
-        ([], (s.coord, s.there, subst (λ answer. Submits w number proc args r.state r.sends answer o) s.submitted.answer is))
+        let o : Outcome = record { seen = seen.Spent; decided = []; ran = []; world = record w { coords = coords } } in
+        let is : o ≡ undecided seen.Spent w = λ i. record { seen = seen.Spent; decided = []; ran = []; world = record w { coords = same i } } in
+        ([], [], (s.coord, s.there, subst (λ answer. Submits w number proc args r.state r.sends answer o) s.submitted.answer is))
 
     busy : Submitting (Err fault.Busy) → Leads plan w (Submit number proc args) seen.Busy (record w { coords = coords })
     busy s =
         let r = after_submit plan s.coord proc args in
         let same = coords_same fault.Busy s in
-        let o : Outcome = record { seen = seen.Busy; decided = []; world = record w { coords = coords } } in
-        let is : o ≡ undecided seen.Busy w = λ i. record { seen = seen.Busy; decided = []; world = record w { coords = same i } } in
-        ([], (s.coord, s.there, subst (λ answer. Submits w number proc args r.state r.sends answer o) s.submitted.answer is))
+        let o : Outcome = record { seen = seen.Busy; decided = []; ran = []; world = record w { coords = coords } } in
+        let is : o ≡ undecided seen.Busy w = λ i. record { seen = seen.Busy; decided = []; ran = []; world = record w { coords = same i } } in
+        ([], [], (s.coord, s.there, subst (λ answer. Submits w number proc args r.state r.sends answer o) s.submitted.answer is))
 
     -- the same of arguments that are these
     module _ (given : List ℤ) (same : given ≡ args) (why : SubmitFault) (submits : UnlessNoMemory (Err why) (CoordSubmits plan number proc given (Err why) w.coords coords before out)) where

@@ -2,7 +2,7 @@
 ghost use Rattle.std.specs.Prelude.{◌≡◌, ◌≤◌, List, length, IfOk, OnOk};
 ghost use Rattle.roc_base.specs.declared.id.TxnId.{TxnId};
 ghost use Rattle.roc_protocol.specs.Fits.{FitsWorld};
-ghost use Rattle.roc_protocol.specs.Happens.{Happens};
+ghost use Rattle.roc_protocol.specs.Happens.{RanAt, Happens};
 ghost use Rattle.roc_protocol.specs.Run.{IsEventOf};
 ghost use Rattle.roc_protocol.specs.World.{first_world};
 ghost use Rattle.roc_world.specs.Reads.{cells_of, unanswered_of};
@@ -71,8 +71,9 @@ impl World {
         requires fits { FitsWorld plan.now self.old }
         requires event { IsEventOf plan.now self.old event.now }
 
-        // The step that the definitions fix, with what it newly decides.
-        ensures step { IfOk result (λ seen. (decided : List TxnId) × Happens plan.now self.old event.now (record { seen = seen; decided = decided; world = self.new })) }
+        // The step that the definitions fix, with what it newly decides and what runs.
+        ensures step { IfOk result (λ seen. (decided : List TxnId) × (ran : List RanAt)
+            × Happens plan.now self.old event.now (record { seen = seen; decided = decided; ran = ran; world = self.new })) }
         ensures fits { OnOk result (FitsWorld plan.now self.new) }
         ensures coords { OnOk result (length self.new.coords ≡ length self.old.coords) }
     {

@@ -16,6 +16,7 @@ use Rattle.roc_law_log.specs.Taking.{RespectsPrecedence}
 use Rattle.roc_law_log.specs.Edges.{AreEdges}
 use Rattle.roc_law_log.specs.Steps.{LogSteps, IsReachedLog, IsWaived, new_in}
 use Rattle.roc_law_log.specs.Invariants.{LogInvariants, LogGrows}
+use Rattle.roc_law_log.specs.Kept.{KeepsRan}
 
 pub record LogLaws (S : Scheme) (start : Store) : Type 0 where
   pub holds : (log : Log) → IsReachedLog S start log → LogInvariants S start log
@@ -40,8 +41,11 @@ pub record SerialLaws (S : Scheme) (start : Store) : Type 0 where
   pub agree :
       (log : Log) → IsReachedLog S start log → (s : ℕ) (a b : TxnId) → Reaches (PrecedesTxn S start log.past) a b ⊎ Reaches (PrecedesTxn S start log.past) b a
       → IsListed is_txn (log.decided s) a → IsListed is_txn (log.decided s) b → IsListedBefore is_txn (log.decided s) a b → IsListedBefore is_txn log.order a b
-  pub serial : (log : Log) → IsReachedLog S start log → (r : TxnGroup) → IsListed is_txn_group log.past.ran r → IsListed is_txn log.order r.txn
-      → account S.behaviour start (one_by_one S.behaviour log.order) r ≡ account S.behaviour start log.past.ran r
+  pub order : (log : Log) → IsReachedLog S start log → KeepsRan S start log log.order
+  pub same :
+      (log : Log) → IsReachedLog S start log → (O : List TxnId) → KeepsRan S start log O
+      → (r : TxnGroup) → IsListed is_txn_group log.past.ran r → IsListed is_txn O r.txn
+      → account S.behaviour start (one_by_one S.behaviour O) r ≡ account S.behaviour start log.past.ran r
   pub stand : (order : List TxnId) → StandOneByOne S.behaviour order
   -- where all groups of the order's transactions ran, and no others
   pub last :

@@ -4,7 +4,7 @@ use Rattle.roc_base.specs.declared.id.TxnId.{TxnId}
 use Rattle.roc_plan.specs.Groups.{Plan}
 use Rattle.roc_protocol.specs.declared.event.Event.{Event}
 use Rattle.roc_protocol.specs.declared.event.Seen.{Seen}
-use Rattle.roc_protocol.specs.Happens.{Happens}
+use Rattle.roc_protocol.specs.Happens.{RanAt, Happens}
 use Rattle.roc_protocol.specs.World.{World}
 use Rattle.roc_world.specs.declared.parts.Parts.{Parts}
 
@@ -13,4 +13,4 @@ world_of p = record { servers = p.servers.items; coords = p.coords.items; sent =
 
 -- the event leads from the one world to the other, and this is seen of it
 abbrev pub Leads : Plan → World → Event → Seen → World → Type 0
-Leads plan w e seen after = (decided : List TxnId) × Happens plan w e (record { seen = seen; decided = decided; world = after })
+Leads plan w e seen after = (decided : List TxnId) × (ran : List RanAt) × Happens plan w e (record { seen = seen; decided = decided; ran = ran; world = after })

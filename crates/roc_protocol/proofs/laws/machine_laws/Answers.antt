@@ -17,7 +17,8 @@ pub returns-clause-serial : goal.returns-clause-serial
 returns-clause-serial c S start sound =
     record {
       agree = λ log r. c.shards_agree.ensures.order S start log sound r;
-      serial = λ log r. c.executions_are_serial.ensures S start log sound r;
+      order = λ log r. c.lists_that_keep_follow.ensures.order S start log sound (c.logs_keep_invariants.ensures.reached S start log sound r);
+      same = λ log r O keeps. c.lists_that_keep_follow.ensures.same S start log sound (c.logs_keep_invariants.ensures.reached S start log sound r) O keeps;
       stand = λ order. c.groups_stand_one_by_one.ensures S.behaviour order sound.lawful;
       last = λ log r x of_order ran.
           (let i = c.logs_keep_invariants.ensures.reached S start log sound r in

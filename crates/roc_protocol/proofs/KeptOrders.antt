@@ -1,0 +1,132 @@
+-- The order keeps what ran, and any order that keeps it explains the replies
+use Rattle.std.proofs.Common.{◌≡◌, ℕ, ℤ, List, Option, Some, None, sym, subst, ◌∙◌, inl, inr, arith}
+use Rattle.std.proofs.lemmas.Bool.{cases_eq}
+use Rattle.std.specs.Prelude.{slice_get, slice_set}
+use Rattle.roc_sequence.specs.Lists.{Has}
+use Rattle.roc_sequence.specs.Places.{IsListed, IsListedBefore}
+use Rattle.roc_sequence.proofs.Members.{has_append, from_has_map}
+use Rattle.roc_base.specs.declared.id.TxnId.{TxnId}
+use Rattle.roc_base.specs.declared.node.Node.{Node}
+use Rattle.roc_base.specs.declared.node.Node.TheVariants.{Server, Coord}
+use Rattle.roc_base.specs.TxnId.{is_txn}
+use Rattle.roc_plan.specs.Groups.{Plan}
+use Rattle.roc_whole.specs.Serial.{start_store}
+use Rattle.roc_law_log.specs.Scheme.{Scheme, IsSoundScheme}
+use Rattle.roc_law_log.specs.Kept.{KeepsRan}
+use Rattle.roc_server.specs.State.{ServerState}
+use Rattle.roc_coord.specs.Submit.{after_submit}
+use Rattle.roc_audit.specs.History.{WasAnswered, IsAnsweredBefore}
+use Rattle.roc_audit.specs.Witness.{serial_reply, IsSerialWitness}
+use Rattle.roc_protocol.specs.declared.event.Event.{Event}
+use Rattle.roc_protocol.specs.declared.event.Event.TheVariants.{Submit, Deliver, Tick}
+use Rattle.roc_protocol.specs.PlanAssumptions.{HasSchemes}
+use Rattle.roc_protocol.specs.World.{World, mark_delivered}
+use Rattle.roc_protocol.specs.Happens.{RanAt, ran_at, Outcome, IsReceived}
+use Rattle.roc_protocol.specs.Run.{Stepped, Transition, IsRun, begun, goes_on}
+use Rattle.roc_protocol.specs.Kept.{ran_in, KeepsWhatRan}
+use Rattle.roc_protocol.specs.Inner.Given.{LogLaws, SerialLaws, StoreLaws}
+use Rattle.roc_protocol.proofs.Changed.{get-set_here, get-set_other}
+use Rattle.roc_protocol.proofs.Idle.{run_idle}
+use Rattle.roc_protocol.proofs.Worlds.{Submitting, is_refused, is_accepted, submitting, submission_ran}
+use Rattle.roc_protocol.proofs.Witness.{ran_more, replies}
+use Rattle.roc_protocol.proofs.WhatRan.{from_log, to_log}
+use Rattle.roc_protocol.proofs.Serial as serial
+use Rattle.roc_protocol.proofs.Transactions.{transaction_or_none}
+
+-- ---- what ran has its server
+
+abbrev HasServer : World → ℕ → Type 0
+HasServer w n = (s : ServerState) × (slice_get w.servers n ≡ Some s)
+
+set_there : (xs : List ServerState) (at n : ℕ) (a b c : ServerState) → slice_get xs at ≡ Some a → slice_get xs n ≡ Some c → (s : ServerState) × (slice_get (slice_set xs at b) n ≡ Some s)
+set_there xs at n a b c e h = elim (cases_eq at n) [
+  | inl same ↦ (b, subst (λ n. slice_get (slice_set xs at b) n ≡ Some b) same (get-set_here xs at a b e))
+  | inr other ↦ (c, get-set_other xs at n b other ∙ h)
+]
+
+server_stays : (plan : Plan) (w : World) (e : Option Event) (o : Outcome) → Transition plan w e o → (n : ℕ) → HasServer w n → HasServer o.world n
+server_stays plan w None o c n h = subst (λ (o : Outcome). HasServer o.world n) (sym c) h
+server_stays plan w (Some (Submit k proc args)) o (s, there, c) n h = go (submitting plan w k proc args s o c)
+  where
+    go : Submitting plan w k proc args s o → HasServer o.world n
+    go (is_refused e) = subst (λ (v : World). HasServer v n) (sym e) h
+    go (is_accepted known counted e) = subst (λ (v : World). HasServer v n) (sym e) h
+server_stays plan w (Some (Deliver k)) o (m, some, there, c) n h = go m.to c
+  where
+    go : (to : Node) → IsReceived plan (mark_delivered w k) m.msg to o → HasServer o.world n
+    go (Server shard) (s, r, at, step, e) = subst (λ (o : Outcome). HasServer o.world n) (sym e) (set_there w.servers shard.0 n s r.state h.0 at h.1)
+    go (Coord k) (s, at, e) = subst (λ (o : Outcome). HasServer o.world n) (sym e) h
+server_stays plan w (Some (Tick (Server shard))) o (s, there, e) n h = subst (λ (o : Outcome). HasServer o.world n) (sym e) (set_there w.servers shard.0 n s s h.0 there h.1)
+server_stays plan w (Some (Tick (Coord k))) o (s, there, e) n h = subst (λ (o : Outcome). HasServer o.world n) (sym e) h
+
+ran_here : (plan : Plan) (w : World) (e : Option Event) (o : Outcome) → Transition plan w e o → (q : RanAt) → Has q o.ran → HasServer w q.shard
+ran_here plan w None o c q h = absurd (subst (λ (o : Outcome). Has q o.ran) c h)
+ran_here plan w (Some (Submit k proc args)) o (s, there, c) q h =
+    absurd (subst (Has q) (submission_ran w k proc args (after_submit plan s proc args).state (after_submit plan s proc args).sends (after_submit plan s proc args).answer o c) h)
+ran_here plan w (Some (Deliver k)) o (m, some, there, c) q h = go m.to c
+  where
+    go : (to : Node) → IsReceived plan (mark_delivered w k) m.msg to o → HasServer w q.shard
+    go (Server shard) (s, r, at, step, e) =
+        let x = from_has_map (ran_at shard.0) q r.ran (subst (λ (o : Outcome). Has q o.ran) e h) in
+        (s, subst (λ (q : RanAt). slice_get w.servers q.shard ≡ Some s) (sym x.2) at)
+    go (Coord k) (s, at, e) = absurd (subst (λ (o : Outcome). Has q o.ran) e h)
+ran_here plan w (Some (Tick (Server shard))) o (s, there, e) q h = absurd (subst (λ (o : Outcome). Has q o.ran) e h)
+ran_here plan w (Some (Tick (Coord k))) o (s, there, e) q h = absurd (subst (λ (o : Outcome). Has q o.ran) e h)
+
+ran_there : (plan : Plan) (coords : ℕ) (steps : List Stepped) (w : World) → IsRun plan coords steps w → (q : RanAt) → Has q (ran_in steps) → HasServer w q.shard
+ran_there plan coords steps w begun q h = absurd h
+ran_there plan coords steps w (goes_on {steps = front} {w = v} e o r c) q h =
+    elim (has_append q (ran_in front) o.ran (subst (Has q) (ran_more front (record { event = e; outcome = o })) h)) [
+      | inl k ↦ server_stays plan v e o c q.shard (ran_there plan coords front v r q k)
+      | inr k ↦ server_stays plan v e o c q.shard (ran_here plan v e o c q k)
+    ]
+
+-- ---- orders
+
+module _ (plan : Plan) (schemes : HasSchemes plan) (laws : (S : Scheme) → IsSoundScheme S → LogLaws S (start_store plan.program)) (serials : (S : Scheme) → IsSoundScheme S → SerialLaws S (start_store plan.program)) (stores : StoreLaws) (coords : ℕ) (steps : List Stepped) (w : World) (run : IsRun plan coords steps w) where
+  pub order_keeps : KeepsWhatRan plan steps w w.order
+  order_keeps = elim (transaction_or_none plan) [
+    | inl some ↦
+        (let asked = serial.asked plan schemes laws stores coords steps w run some in
+        let S = serial.S plan schemes laws stores coords steps w run some in
+        let sound = serial.sound plan schemes laws stores coords steps w run some in
+        let l = serial.logged plan schemes laws stores coords steps w run some in
+        subst (KeepsWhatRan plan steps w) (sym l.1.means.order)
+        (from_log plan asked S (serial.is plan schemes laws stores coords steps w run some) (laws S sound) steps w l.0 l.1 l.2 l.0.order ((serials S sound).order l.0 l.1.means.reached)))
+    | inr none ↦
+        subst (KeepsWhatRan plan steps w) (sym (run_idle plan none coords steps w run).order)
+        (record {
+          once = tt;
+          from = λ t h. absurd (omega (arith, h));
+          all = λ t h. subst (λ l. IsListed is_txn l t) (run_idle plan none coords steps w run).order h;
+          ran_first = λ q r b c. absurd (let h = c.first in omega (arith, h));
+          ran_alone = λ q e h y c. absurd (let h = c.first in omega (arith, h));
+        })
+  ]
+
+  pub kept_replies : (O : List TxnId) → KeepsWhatRan plan steps w O → (t : TxnId) (reply : List ℤ) → WasAnswered w.history t reply → serial_reply plan.program w.history O t ≡ Some reply
+  kept_replies O k t reply h = elim (transaction_or_none plan) [
+    | inl some ↦
+        (let asked = serial.asked plan schemes laws stores coords steps w run some in
+        let S = serial.S plan schemes laws stores coords steps w run some in
+        let is = serial.is plan schemes laws stores coords steps w run some in
+        let sound = serial.sound plan schemes laws stores coords steps w run some in
+        let l = serial.logged plan schemes laws stores coords steps w run some in
+        let known = serial.known plan schemes laws stores coords steps w run some in
+        let submissions = serial.submissions plan schemes laws stores coords steps w run some in
+        let keeps : KeepsRan S (start_store plan.program) l.0 O = to_log plan asked S is (laws S sound) steps w l.0 l.1 l.2 (ran_there plan coords steps w run) O k in
+        replies plan asked S is (laws S sound) (serials S sound) w l.0 l.1 O keeps (serial.calls plan some.0 w submissions)
+        (λ u listed. schemes.replies asked known O keeps.once (λ u m. serial.ids plan some.0 w submissions u) u listed) t reply h)
+    | inr none ↦ absurd (subst (Has _) (run_idle plan none coords steps w run).history h)
+  ]
+
+  pub kept_witness : (O : List TxnId) → KeepsWhatRan plan steps w O → IsSerialWitness plan.program w.history w.order
+      → ((t u : TxnId) → IsAnsweredBefore w.history t u → IsListed is_txn O u → IsListedBefore is_txn O t u) → IsSerialWitness plan.program w.history O
+  kept_witness O k s time =
+      record {
+        once = k.once;
+        submitted = λ t h. s.submitted t (k.from t h);
+        answered = λ t reply h. k.all t (s.answered t reply h);
+        replies = kept_replies O k;
+        real_time = time;
+      }
