@@ -1,4 +1,5 @@
 pub mod Causes
+pub mod Events
 pub mod Links
 pub mod Spawners
 pub mod Told

@@ -6,7 +6,7 @@ use Rattle.roc_io.specs.declared.link.Link.{Ghosts as LinkOf}
 use Rattle.roc_io.specs.declared.sink.Sink.{Ghosts as SinkOf}
 use Rattle.roc_io.specs.declared.spawner.ChildWait.{ChildWait}
 use Rattle.roc_io.specs.declared.spawner.Spawner.{Ghosts as SpawnerOf}
-use Rattle.roc_io.specs.Link.{Reception}
+use Rattle.roc_io.specs.Link.{LinkEvent}
 use Rattle.roc_io.specs.Packet.{Packet}
 use Rattle.roc_io.specs.Start.{Start}
 
@@ -34,16 +34,16 @@ sink_call S old new = record { old = S.taken old; new = S.taken new }
 
 -- ---- a link
 
--- at one time: the datagrams that are still to arrive, what each receive gave, the datagrams that it took for sending, and how many sends
--- were lost
+-- at one time: the datagrams that are still to arrive, those that it took for sending, how many sends were lost, and what went over it, sends
+-- and receives in one order
 pub record LinkView : Type 0 where
   pub arrivals : Option (List Packet)
-  pub receives : Option (List Reception)
   pub sent : Option (List Packet)
   pub lost : ℕ
+  pub events : Option (List LinkEvent)
 
 abbrev pub link_view : {L : Type 0} → LinkOf L → L → LinkView
-link_view L link = record { arrivals = L.arrivals link; receives = L.receives link; sent = L.sent link; lost = L.lost link }
+link_view L link = record { arrivals = L.arrivals link; sent = L.sent link; lost = L.lost link; events = L.events link }
 
 -- the addresses that were bound, and the datagrams
 pub record LinkCall : Type 0 where

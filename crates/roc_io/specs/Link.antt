@@ -1,5 +1,7 @@
 -- What a link binds, sends and receives.
-use Rattle.std.specs.Prelude.{◌≡◌, ℕ, ◌<◌, Bool, true, false, List, [], ◌∷◌, length, Option, Some, None, IfSome, option_map}
+use Rattle.std.specs.Prelude.{◌≡◌, ℕ, ◌-◌, ◌<◌, Bool, true, false, List, [], ◌∷◌, length, Option, Some, None, IfSome, option_map}
+use Rattle.roc_io.specs.Cause.{last_count}
+use Rattle.roc_io.specs.Observed.{Adds, AllBut}
 use Rattle.roc_io.specs.declared.link.Bound.{Bound}
 use Rattle.roc_io.specs.declared.link.Bound.TheVariants.{Ok as BoundOk, Failed as BoundFailed}
 use Rattle.roc_io.specs.declared.link.Sent.{Sent}
@@ -57,3 +59,31 @@ HearsTold given None None = Unit {0}
 HearsTold given (Some old) (Some new) = Hears given old new
 HearsTold given None (Some new) = ⊥
 HearsTold given (Some old) None = ⊥
+
+-- ---- what goes over a link, in order
+
+-- a datagram that a link took for sending, or what a receive gave
+pub data LinkEvent : Type 0 where
+  sending : Packet → LinkEvent
+  receiving : Reception → LinkEvent
+
+-- the datagrams among events, in order
+abbrev pub sends_of : List LinkEvent → List Packet
+sends_of [] = []
+sends_of (sending packet ∷ events) = packet ∷ sends_of events
+sends_of (receiving given ∷ events) = sends_of events
+
+-- what the receives among them gave, in order
+abbrev pub receives_of : List LinkEvent → List Reception
+receives_of [] = []
+receives_of (sending packet ∷ events) = receives_of events
+receives_of (receiving given ∷ events) = given ∷ receives_of events
+
+-- A link was asked for these events, in this order, while its count of lost sends went from the first number to the second. Where new is told,
+-- it is old with the same events behind it, in the same order: each receive, and all sends but at most as many as were counted as lost, as
+-- long as that count stays below its last value. So each send stands behind the receives that it was asked for behind, and before the others.
+pub record AddsEvents (lost_old lost_new : ℕ) (old new : Option (List LinkEvent)) (asked : List LinkEvent) : Type 0 where
+  pub told : List LinkEvent
+  pub adds : Adds old new told
+  pub each_receive : receives_of told ≡ receives_of asked
+  pub all_but_lost : lost_new < last_count → AllBut (lost_new - lost_old) asked told

@@ -1,7 +1,7 @@
 // Where a node's datagrams come from and go to.
-ghost use Rattle.std.specs.Prelude.{◌≡◌, ℕ, ◌-◌, ◌<◌, ◌≤◌, List, [], ◌∷◌, Option};
+ghost use Rattle.std.specs.Prelude.{◌≡◌, ℕ, ◌-◌, ◌<◌, ◌≤◌, List, [], ◌∷◌, map, Option};
 ghost use Rattle.roc_io.specs.Cause.{HasCause, last_count};
-ghost use Rattle.roc_io.specs.Link.{bind_failed, send_failed, receive_failed, Receives, Reception, reception};
+ghost use Rattle.roc_io.specs.Link.{bind_failed, send_failed, receive_failed, Receives, reception, LinkEvent, sending, receiving, AddsEvents};
 ghost use Rattle.roc_io.specs.Observed.{Adds, AddsUnless, AddsAllBut};
 ghost use Rattle.roc_io.specs.Packet.{Packet};
 ghost use Rattle.roc_io.specs.declared.link.Addr.{Addr};
@@ -70,8 +70,8 @@ pub trait Link {
     /// The datagrams taken so far for sending, in order, where they are told.
     ghost sent: { Self → Option (List Packet) };
 
-    /// What each receive so far gave, in order, where it is told.
-    ghost receives: { Self → Option (List Reception) };
+    /// What went over the link so far, in order, where it is told: each datagram taken for sending, and what each receive gave.
+    ghost events: { Self → Option (List LinkEvent) };
 
     /// Binds the link to an address of its own.
     fn bind(&mut self, addr: Addr) -> Bound
@@ -80,7 +80,7 @@ pub trait Link {
         ensures bound { AddsUnless (bind_failed result) (bound self.old) (bound self.new) addr }
         ensures arrivals { arrivals self.new ≡ arrivals self.old }
         ensures sent { sent self.new ≡ sent self.old }
-        ensures receives { receives self.new ≡ receives self.old };
+        ensures events { events self.new ≡ events self.old };
 
     /// Sends a datagram to an address.
     fn send(&mut self, to: Addr, bytes: &[u8]) -> Sent
@@ -89,7 +89,7 @@ pub trait Link {
         ensures bound { bound self.new ≡ bound self.old }
         ensures arrivals { arrivals self.new ≡ arrivals self.old }
         ensures sent { AddsUnless (send_failed result) (sent self.old) (sent self.new) (record { address = to; bytes = bytes.now }) }
-        ensures receives { receives self.new ≡ receives self.old };
+        ensures events { AddsUnless (send_failed result) (events self.old) (events self.new) (sending (record { address = to; bytes = bytes.now })) };
 
     /// Receives one datagram into a buffer, which is cleared first. Any other answer leaves the buffer empty.
     fn receive(&mut self, into: &mut Vec<u8>) -> Arrival
@@ -98,7 +98,7 @@ pub trait Link {
         ensures bound { bound self.new ≡ bound self.old }
         ensures arrivals { Receives result (arrivals self.old) (arrivals self.new) into.new.items }
         ensures sent { sent self.new ≡ sent self.old }
-        ensures receives { Adds (receives self.old) (receives self.new) (reception result into.new.items ∷ []) };
+        ensures events { Adds (events self.old) (events self.new) (receiving (reception result into.new.items) ∷ []) };
 
     /// The count of failed binds and receives.
     fn faults(&self) -> u64
@@ -117,7 +117,7 @@ pub fn send_all<L: Link>(link: &mut L, datagrams: &[Datagram])
     ensures faults { L.faults link.new ≡ L.faults link.old }
     ensures bound { L.bound link.new ≡ L.bound link.old }
     ensures arrivals { L.arrivals link.new ≡ L.arrivals link.old }
-    ensures receives { L.receives link.new ≡ L.receives link.old }
+    ensures events { AddsEvents (L.lost link.old) (L.lost link.new) (L.events link.old) (L.events link.new) (map sending datagrams.now) }
 {
     for datagram in datagrams {
         link.send(datagram.address(), datagram.bytes());

@@ -2,10 +2,11 @@
 ghost use Rattle.std.specs.Prelude.{◌≡◌, [], ◌∷◌, Some, None, true, false, option_map};
 ghost use Rattle.roc_io_memory.specs.Calls.{calls_failing, next_fails, called};
 ghost use Rattle.roc_io.specs.Cause.{HasCause};
-ghost use Rattle.roc_io.specs.Link.{bind_failed, send_failed, receive_failed, Receives};
+ghost use Rattle.roc_io.specs.Link.{bind_failed, send_failed, receive_failed, Receives, reception, sending, receiving};
 ghost use Rattle.roc_io_memory.specs.Link.{unused};
 ghost use Rattle.roc_io.specs.Observed.{Adds, AddsUnless};
 
+mod passed;
 mod traffic;
 
 use crate::calls::Calls;
@@ -17,8 +18,8 @@ use traffic::Traffic;
 /// A link that gives stored arrivals and then Quiet for ever, keeps what is bound and sent, and fails at
 /// the calls that it was told to fail at.
 ///
-/// Once there is no memory for a datagram that is sent, or for an address, the link tells no datagrams
-/// sent, or no addresses, any more; what it answers does not change by that.
+/// Once there is no memory to keep an address, a datagram that is sent, or a send or receive in their order, the
+/// link tells no addresses, no datagrams sent, or no order any more; what it answers does not change by that.
 #[derive(Drop)]
 pub struct MemLink {
     traffic: Traffic,
@@ -84,13 +85,14 @@ impl Link for MemLink {
 
     ghost sent = { λ l. l.traffic.sent };
 
-    ghost receives = { λ l. None };
+    ghost events = { λ l. l.traffic.events };
 
     fn bind(&mut self, addr: Addr) -> Bound
         ensures cause { HasCause (bind_failed result) self.old.calls.faults self.new.calls.faults }
         ensures bound { AddsUnless (bind_failed result) self.old.traffic.bound self.new.traffic.bound addr }
         ensures arrivals { Some self.new.traffic.arrivals ≡ Some self.old.traffic.arrivals }
         ensures sent { self.new.traffic.sent ≡ self.old.traffic.sent }
+        ensures events { self.new.traffic.events ≡ self.old.traffic.events }
         ensures failed { bind_failed result ≡ next_fails false self.old.calls }
         ensures calls { self.new.calls ≡ called false self.old.calls }
         ensures sends { self.new.sends ≡ self.old.sends }
@@ -108,6 +110,7 @@ impl Link for MemLink {
         ensures bound { self.new.traffic.bound ≡ self.old.traffic.bound }
         ensures arrivals { Some self.new.traffic.arrivals ≡ Some self.old.traffic.arrivals }
         ensures sent { AddsUnless (send_failed result) self.old.traffic.sent self.new.traffic.sent (record { address = to; bytes = bytes.now }) }
+        ensures events { AddsUnless (send_failed result) self.old.traffic.events self.new.traffic.events (sending (record { address = to; bytes = bytes.now })) }
         ensures failed { send_failed result ≡ next_fails false self.old.sends }
         ensures calls { self.new.calls ≡ self.old.calls }
         ensures sends { self.new.sends ≡ called false self.old.sends }
@@ -125,12 +128,14 @@ impl Link for MemLink {
         ensures bound { self.new.traffic.bound ≡ self.old.traffic.bound }
         ensures arrivals { Receives result (Some self.old.traffic.arrivals) (Some self.new.traffic.arrivals) into.new.items }
         ensures sent { self.new.traffic.sent ≡ self.old.traffic.sent }
+        ensures events { Adds self.old.traffic.events self.new.traffic.events (receiving (reception result into.new.items) ∷ []) }
         ensures failed { receive_failed result ≡ next_fails false self.old.calls }
         ensures calls { self.new.calls ≡ called false self.old.calls }
         ensures sends { self.new.sends ≡ self.old.sends }
     {
         into.clear();
         if self.calls.next_fails(false) {
+            self.traffic.give_nothing();
             Arrival::Failed
         } else {
             self.traffic.give(into)
@@ -148,8 +153,8 @@ impl Link for MemLink {
 
 /// A link that gives stored arrivals and then Quiet for ever, keeps what is bound and sent, and never fails.
 ///
-/// Once there is no memory for a datagram that is sent, or for an address, it tells no datagrams sent, or
-/// no addresses, any more, and goes on to answer Ok.
+/// Once there is no memory to keep an address, a datagram that is sent, or a send or receive in their order, it
+/// tells no addresses, no datagrams sent, or no order any more, and goes on to answer as before.
 #[derive(Drop)]
 pub struct CalmLink {
     traffic: Traffic,
@@ -206,12 +211,13 @@ impl Link for CalmLink {
 
     ghost sent = { λ l. l.sent };
 
-    ghost receives = { λ l. None };
+    ghost events = { λ l. l.events };
 
     fn bind(&mut self, addr: Addr) -> Bound
         ensures bound { AddsUnless (bind_failed result) self.old.bound self.new.bound addr }
         ensures arrivals { Some self.new.arrivals ≡ Some self.old.arrivals }
         ensures sent { self.new.sent ≡ self.old.sent }
+        ensures events { self.new.events ≡ self.old.events }
         ensures never_fails { result ≡ Bound.Ok }
     {
         self.traffic.bind(addr);
@@ -222,6 +228,7 @@ impl Link for CalmLink {
         ensures bound { self.new.bound ≡ self.old.bound }
         ensures arrivals { Some self.new.arrivals ≡ Some self.old.arrivals }
         ensures sent { AddsUnless (send_failed result) self.old.sent self.new.sent (record { address = to; bytes = bytes.now }) }
+        ensures events { AddsUnless (send_failed result) self.old.events self.new.events (sending (record { address = to; bytes = bytes.now })) }
         ensures never_fails { result ≡ Sent.Ok }
     {
         self.traffic.send(to, bytes);
@@ -232,6 +239,7 @@ impl Link for CalmLink {
         ensures bound { self.new.bound ≡ self.old.bound }
         ensures arrivals { Receives result (Some self.old.arrivals) (Some self.new.arrivals) into.new.items }
         ensures sent { self.new.sent ≡ self.old.sent }
+        ensures events { Adds self.old.events self.new.events (receiving (reception result into.new.items) ∷ []) }
         ensures never_fails { receive_failed result ≡ false }
     {
         into.clear();

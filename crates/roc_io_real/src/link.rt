@@ -58,7 +58,7 @@ impl<N: Net + Clock> Link for RealLink<'_, N> {
 
     ghost sent = { λ l. None };
 
-    ghost receives = { λ l. None };
+    ghost events = { λ l. None };
 
     fn bind(&mut self, addr: Addr) -> Bound {
         match bound_socket(self.machine, addr) {

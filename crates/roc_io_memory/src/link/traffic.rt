@@ -1,9 +1,10 @@
-// What a link in memory keeps: the addresses bound, the arrivals left and the datagrams sent.
+// What a link in memory keeps: the addresses bound, the arrivals left, the datagrams sent, and its sends and receives in one order.
 ghost use Rattle.std.specs.Prelude.{◌≡◌, ◌≤◌, [], ◌∷◌, Some, false, option_map};
-ghost use Rattle.roc_io.specs.Link.{receive_failed, Receives};
+ghost use Rattle.roc_io.specs.Link.{receive_failed, Receives, reception, sending, receiving, vain};
 ghost use Rattle.roc_io.specs.Observed.{Adds};
 ghost use Rattle.roc_io_memory.specs.Link.{unused};
 
+use super::passed::Passed;
 use crate::kept::Kept;
 use roc_io::{Addr, Arrival, Datagram};
 use std::alloc::Global;
@@ -66,6 +67,7 @@ pub struct Traffic {
     bound: Kept<Addr>,
     arrivals: Arrivals,
     sent: Kept<Datagram>,
+    events: Kept<Passed>,
 }
 
 impl Model for Traffic {
@@ -73,7 +75,7 @@ impl Model for Traffic {
 
     ghost Value = { Traffic };
 
-    ghost view = { λ t. record { bound = t.bound; arrivals = t.arrivals; sent = t.sent } };
+    ghost view = { λ t. record { bound = t.bound; arrivals = t.arrivals; sent = t.sent; events = t.events } };
 }
 
 impl Traffic {
@@ -85,6 +87,7 @@ impl Traffic {
             bound: Kept::new(alloc),
             arrivals: Arrivals::new(arrivals),
             sent: Kept::new(alloc),
+            events: Kept::new(alloc),
         }
     }
 
@@ -110,6 +113,7 @@ impl Traffic {
         ensures bound { Adds self.old.bound self.new.bound (addr ∷ []) }
         ensures arrivals { self.new.arrivals ≡ self.old.arrivals }
         ensures sent { self.new.sent ≡ self.old.sent }
+        ensures events { self.new.events ≡ self.old.events }
     {
         self.bound.push(addr);
     }
@@ -118,9 +122,12 @@ impl Traffic {
         ensures bound { self.new.bound ≡ self.old.bound }
         ensures arrivals { self.new.arrivals ≡ self.old.arrivals }
         ensures sent { Adds self.old.sent self.new.sent (record { address = to; bytes = bytes.now } ∷ []) }
+        ensures events { Adds self.old.events self.new.events (sending (record { address = to; bytes = bytes.now }) ∷ []) }
     {
         let datagram = Datagram::copied(self.alloc, to, bytes);
         self.sent.push_made(datagram);
+        let passed = Passed::sent(self.alloc, to, bytes);
+        self.events.push_made(passed);
     }
 
     pub fn give(&mut self, into: &mut Vec<u8>) -> Arrival
@@ -129,7 +136,21 @@ impl Traffic {
         ensures bound { self.new.bound ≡ self.old.bound }
         ensures arrivals { Receives result (Some self.old.arrivals) (Some self.new.arrivals) into.new.items }
         ensures sent { self.new.sent ≡ self.old.sent }
+        ensures events { Adds self.old.events self.new.events (receiving (reception result into.new.items) ∷ []) }
     {
-        self.arrivals.give(into)
+        let answer = self.arrivals.give(into);
+        let passed = Passed::received(self.alloc, answer, into);
+        self.events.push_made(passed);
+        answer
+    }
+
+    /// A receive failed.
+    pub fn give_nothing(&mut self)
+        ensures bound { self.new.bound ≡ self.old.bound }
+        ensures arrivals { self.new.arrivals ≡ self.old.arrivals }
+        ensures sent { self.new.sent ≡ self.old.sent }
+        ensures events { Adds self.old.events self.new.events (receiving vain ∷ []) }
+    {
+        self.events.push(Passed::in_vain());
     }
 }

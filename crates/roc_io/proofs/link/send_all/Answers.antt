@@ -2,6 +2,7 @@
 use Rattle.std.proofs.Common.{◌∙◌, arith}
 use Rattle.roc_io.specs.Link.{send_failed}
 use Rattle.roc_io.proofs.Causes.{never_falls}
+use Rattle.roc_io.proofs.Events.{AddsEvents-next}
 use Rattle.roc_io.proofs.Links.{AddsAllBut-next}
 use Rattle.roc_io.proofs.link.send_all.Goals as goal
 
@@ -16,5 +17,7 @@ loop-datagram-preserved g c =
       c.send.ensures.faults ∙ so_far.2,
       c.send.ensures.bound ∙ so_far.3,
       c.send.ensures.arrivals ∙ so_far.4,
-      c.send.ensures.receives ∙ so_far.5,
+      AddsEvents-next (send_failed c.send.result) _ _ _ _ _ _ c.args.datagrams.now _ c.datagram-item.result
+          c.loop-datagram-test.true c.datagram-item.is so_far.5 c.send.ensures.cause so_far.1
+          (rw (c.address.ensures, c.bytes.ensures) at c.send.ensures.events),
     )
