@@ -120,9 +120,8 @@ module _ (call : RunCall) (link : LinkCall) (nodes : Nodes) (middle : Option (Li
         addrs = nodes.cluster;
         held = without_requests call.files.content workload cluster None held.0 nodes.plan nodes.cluster nodes.requests.items held.1;
         bound = h.bound;
-        sends = subst (λ (tag : List ℕ). SendsStops e tag nodes.cluster link.old.lost link.new.lost link.old.sent link.new.sent) held.2 h.sends;
+        sends = subst (λ (tag : List ℕ). SendsStops e tag nodes.cluster link.old link.new) held.2 h.sends;
         arrivals = h.arrivals;
-        receives = h.receives;
         silent = silent;
       },
     )

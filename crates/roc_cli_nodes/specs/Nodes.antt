@@ -75,9 +75,8 @@ pub record StopEnded (call : RunCall) (link : LinkCall) (end : StopEnd) : Type 0
   pub addrs : List Addr
   pub held : HoldNodes call.files.content (record { workload = workload; cluster = cluster; requests = None; shard = None }) bytes plan addrs []
   pub bound : AddsUnless (stops_unbound end) link.bound_old link.bound_new any_address
-  pub sends : SendsStops end (tag_of_bytes bytes) addrs link.old.lost link.new.lost link.old.sent link.new.sent
+  pub sends : SendsStops end (tag_of_bytes bytes) addrs link.old link.new
   pub arrivals : link.new.arrivals ≡ link.old.arrivals
-  pub receives : link.new.receives ≡ link.old.receives
   pub silent : TakesNothing call
 
 -- the end of a server, or of one that sends stops, as that of a coordinator

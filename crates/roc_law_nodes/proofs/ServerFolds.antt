@@ -14,7 +14,7 @@ use Rattle.roc_node.specs.Judgement.{judged}
 use Rattle.roc_node.specs.declared.judging.Judged.{Judged}
 use Rattle.roc_node.specs.declared.judging.Judged.TheVariants.{Delivery, Skipped}
 use Rattle.roc_node.specs.NodeEvent.{NodeEvent, took, silent, NodeSetting}
-use Rattle.roc_node_serve.specs.ServerRun.{ServerNodeState, is_stop, server_heard, TakesMessage, TakesJudged, AfterEvent, IsServerRun, begun, goes_on}
+use Rattle.roc_node_serve.specs.ServerRun.{ServerNodeState, is_stop, server_heard, server_received, TakesMessage, TakesJudged, AfterEvent, IsServerRun, begun, goes_on}
 use Rattle.roc_law_nodes.specs.Own.{OwnEvent, delivered, ticked, requested}
 use Rattle.roc_law_nodes.specs.Fold.{ServerSteps, IsServerFold, server_begun, server_goes_on}
 use Rattle.roc_law_nodes.specs.Turns.{judged_brings, turn_brings, turns_bring, is_for_core}
@@ -67,7 +67,7 @@ module _ (S : NodeSetting) (shard : Shard) where
   pub run_folds : {events : List NodeEvent} {node : ServerNodeState} → IsServerRun S shard events node → IsServerFold S.plan shard (filter is_for_core (turns_bring S.header.tag events)) node.state node.messages
   run_folds begun = server_begun
   run_folds (goes_on {events = events} {node = node} event next r going after) =
-      server_as S.plan (event_folds (for_core (turns_bring S.header.tag events)) node (run_folds r) event next after) (core_more S.header.tag events event) refl refl
+      server_as S.plan (event_folds (for_core (turns_bring S.header.tag events)) (server_received node event) (run_folds r) event next after) (core_more S.header.tag events event) refl refl
 
 -- ---- a stop changes nothing
 

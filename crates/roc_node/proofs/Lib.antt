@@ -1,4 +1,3 @@
-pub mod Arrivals
 mod Texts
 pub mod Moving
 mod Ranges

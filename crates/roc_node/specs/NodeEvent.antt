@@ -1,8 +1,8 @@
 -- What a turn of a node takes: docs/PROTOCOL.md, "Running nodes"
-use Rattle.std.specs.Prelude.{ℕ, List, [], ◌∷◌}
+use Rattle.std.specs.Prelude.{ℕ, List}
 use Rattle.roc_base.specs.declared.node.Node.{Node}
 use Rattle.roc_io.specs.declared.link.Addr.{Addr}
-use Rattle.roc_io.specs.Link.{Reception, came, none_came}
+use Rattle.roc_io.specs.Link.{LinkEvent, receiving, came, none_came}
 use Rattle.roc_io.specs.Packet.{Packet}
 use Rattle.roc_plan.specs.Groups.{Plan}
 use Rattle.roc_wire.specs.declared.header.Header.{Header}
@@ -12,11 +12,10 @@ pub data NodeEvent : Type 0 where
   took : Packet → NodeEvent
   silent : NodeEvent
 
--- what the receives of these events gave, one receive for each
-abbrev pub receptions : List NodeEvent → List Reception
-receptions [] = []
-receptions (took packet ∷ events) = came packet ∷ receptions events
-receptions (silent ∷ events) = none_came ∷ receptions events
+-- the one receive that gave an event
+abbrev pub receive_of : NodeEvent → LinkEvent
+receive_of (took packet) = receiving (came packet)
+receive_of silent = receiving none_came
 
 -- what stays the same while a node runs: the plan, the addresses of the shards, and what stands before each message that it sends, which
 -- is the workload's tag and who the node is

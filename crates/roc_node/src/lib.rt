@@ -4,7 +4,8 @@
 //! (`specs/Judgement.antt`). [`Heard`] keeps where each of sixteen coordinators was last heard, and takes no memory.
 //! [`post`] spells messages and addresses them, in order (`specs/Posting.antt`); one that has no spelling, as
 //! [`has_spelling`] tells (`specs/Spellable.antt`), is not sent. `specs/Moves.antt` has the words in which a node's
-//! loop says what it took off its link and gave to it, and `specs/Losing.antt` what is said of one that ends early.
+//! loop says what it received over its link and sent over it, in order, and `specs/Losing.antt` what is said of one that
+//! ends early.
 //!
 //! [`NodeLine`] is a line that a node writes besides those of reports, and [`append_line`] adds its text to one;
 //! [`Counts`] is what a server counts, and [`append_end`] adds its last lines. [`Setting`] is what stays the same while a

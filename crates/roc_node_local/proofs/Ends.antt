@@ -9,7 +9,6 @@ use Rattle.roc_io.specs.declared.spawner.AllStarted.{AllStarted}
 use Rattle.roc_io.specs.declared.spawner.AllStarted.TheVariants.{Ok, NoMemory as NoRoom, Failed}
 use Rattle.roc_io.specs.declared.spawner.ChildWait.{ChildWait}
 use Rattle.roc_io.specs.Cause.{HasCause, Rose}
-use Rattle.roc_io.specs.Packet.{Packet}
 use Rattle.roc_io.specs.Spawner.{StartsAll, EndsStarts, all_start_failed, ended_badly}
 use Rattle.roc_io.specs.Start.{Start}
 use Rattle.roc_io.specs.Call.{LinkView}

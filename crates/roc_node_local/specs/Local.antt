@@ -1,10 +1,11 @@
 -- What a run does that starts the servers of its cluster, submits requests and stops them
-use Rattle.std.specs.Prelude.{◌≡◌, ◌≢◌, ℕ, ◌≤◌, Bool, true, false, List, [], ◌∷◌, length, replicate, Option, Some, None}
+use Rattle.std.specs.Prelude.{◌≡◌, ◌≢◌, ℕ, ◌≤◌, Bool, true, false, List, [], ◌∷◌, length, map, replicate, Option, Some, None}
 use Rattle.roc_base.specs.declared.node.Node.TheVariants.{Coord}
 use Rattle.roc_io.specs.declared.link.Addr.{Addr}
 use Rattle.roc_io.specs.declared.spawner.AllStarted.{AllStarted}
 use Rattle.roc_io.specs.declared.spawner.AllStarted.TheVariants.{Ok, NoMemory as NoRoom, Failed}
 use Rattle.roc_io.specs.Cause.{Rose}
+use Rattle.roc_io.specs.Link.{sending}
 use Rattle.roc_io.specs.Packet.{Packet}
 use Rattle.roc_io.specs.Spawner.{StartsAll}
 use Rattle.roc_io.specs.Observed.{Adds}
@@ -89,7 +90,7 @@ pub record RunsServers (asked : LocalAsk) (call : LocalCall) (end : LocalEnd) : 
   pub middle : LinkView
   pub first : LocalEnd
   pub works : Works asked (record { old = call.node.link.old; new = middle; out = call.node.out }) starts (length children) first
-  pub stopped : Moves middle call.node.link.new [] (stops_behind children (stop_bytes asked.setting.header.tag) asked.setting.cluster)
+  pub stopped : Moves middle call.node.link.new (map sending (stops_behind children (stop_bytes asked.setting.header.tag) asked.setting.cluster))
   pub bad : Option ChildEnd
   pub awaited : AwaitsAll call.children.awaited_old call.children.awaited_new children bad
   pub stops_first : Adds call.children.sent_at_waits_old call.children.sent_at_waits_new (replicate (length children) call.node.link.new.sent)

@@ -1,12 +1,13 @@
 -- The datagrams that stop the servers of a cluster
-use Rattle.std.specs.Prelude.{◌≡◌, ℕ, ◌-◌, ◌<◌, ◌≤◌, Bool, true, false, List, replicate, Option}
+use Rattle.std.specs.Prelude.{◌≡◌, ℕ, Bool, true, false, List, map, replicate}
 use Rattle.std.specs.List.{flat_map}
-use Rattle.roc_io.specs.Cause.{last_count}
-use Rattle.roc_io.specs.Observed.{AddsAllBut}
+use Rattle.roc_io.specs.Call.{LinkView}
+use Rattle.roc_io.specs.Link.{sending}
 use Rattle.roc_io.specs.Packet.{Packet}
 use Rattle.roc_io.specs.declared.link.Addr.{Addr}
 use Rattle.roc_base.specs.declared.node.Node.TheVariants.{Coord}
 use Rattle.roc_msg.specs.declared.msg.Msg.TheVariants.{Stop}
+use Rattle.roc_node.specs.Moves.{Moves}
 use Rattle.roc_wire.specs.Spelling.{spelling}
 use Rattle.roc_node_local.specs.declared.stops.StopEnd.{StopEnd}
 use Rattle.roc_node_local.specs.declared.stops.StopEnd.TheVariants.{Done, LinkFault, NoMemory}
@@ -23,11 +24,6 @@ thrice_to bytes address = replicate 3 (record { address = address; bytes = bytes
 abbrev pub thrice_to_each : (bytes : List ℕ) → (cluster : List Addr) → List Packet
 thrice_to_each bytes cluster = flat_map (thrice_to bytes) cluster
 
--- a link took these datagrams in order, all but those that it counted as lost, as long as that count stays below its last value
-pub record TakesInOrder (lost_old lost_new : ℕ) (old new : Option (List Packet)) (given : List Packet) : Type 0 where
-  pub never_falls : lost_old ≤ lost_new
-  pub taken : lost_new < last_count → AddsAllBut (lost_new - lost_old) old new given
-
 abbrev pub stops_failed : StopEnd → Bool
 stops_failed LinkFault = true
 stops_failed Done = false
@@ -39,7 +35,7 @@ stops_unbound Done = false
 stops_unbound LinkFault = true
 stops_unbound NoMemory = true
 
--- the stops were sent, or nothing was
-abbrev pub SendsStops : StopEnd → (tag : List ℕ) → (cluster : List Addr) → (lost_old lost_new : ℕ) → (old new : Option (List Packet)) → Type 0
-SendsStops Done tag cluster lost_old lost_new old new = TakesInOrder lost_old lost_new old new (thrice_to_each (stop_bytes tag) cluster)
-SendsStops end tag cluster lost_old lost_new old new = (lost_new ≡ lost_old) × (new ≡ old)
+-- the stops were sent, or nothing was; and nothing was received
+abbrev pub SendsStops : StopEnd → (tag : List ℕ) → (cluster : List Addr) → (old new : LinkView) → Type 0
+SendsStops Done tag cluster old new = Moves old new (map sending (thrice_to_each (stop_bytes tag) cluster))
+SendsStops end tag cluster old new = new ≡ old

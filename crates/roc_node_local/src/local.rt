@@ -2,6 +2,7 @@
 ghost use Rattle.std.specs.Prelude.{◌≡◌, ◌≤◌, ℕ, List, [], length, map, string_bytes, None, IfOk};
 ghost use Rattle.roc_io.specs.Call.{children_call, link_call, link_view, sink_call};
 ghost use Rattle.roc_io.specs.Cause.{HasCause};
+ghost use Rattle.roc_io.specs.Link.{sending};
 ghost use Rattle.roc_io.specs.Spawner.{command_words};
 ghost use Rattle.roc_node.specs.Moves.{Moves};
 ghost use Rattle.roc_node_local.specs.Stops.{stop_bytes};
@@ -118,7 +119,7 @@ fn work<L: Link, S: Sink>(
 }
 
 fn stop_started<L: Link>(link: &mut L, cluster: &Cluster, stop: &[u8], children: &[Child])
-    ensures moves { Moves (link_view L.Link link.old) (link_view L.Link link.new) [] (stops_behind children.now stop.now cluster.now) }
+    ensures moves { Moves (link_view L.Link link.old) (link_view L.Link link.new) (map sending (stops_behind children.now stop.now cluster.now)) }
     ensures faults { L.faults link.new ≡ L.faults link.old }
     ensures bound { L.bound link.new ≡ L.bound link.old }
 {

@@ -34,15 +34,15 @@ pub ends_headed : (plan : Plan) (cluster : List Addr) (h k : Header) (shard : Sh
 ends_headed plan cluster h k shard own turns counts call e same = subst (λ v. Serves (record { plan = plan; header = v; cluster = cluster }) shard own turns counts call e) same
 
 module _ (S : NodeSetting) (shard : Shard) (own found : Addr) (turns : ℕ) (counts : Bool) (call : NodeCall) (at : Option Addr) (is : at ≡ Some own) (has : at ≡ Some found) where
-  pub ends_unserved : (piece : List ℕ) → Adds call.link.bound_old call.link.bound_new (found ∷ []) → Moves call.link.old call.link.new [] [] → piece ≡ first_text shard → AddsFront call.out.old call.out.new piece
+  pub ends_unserved : (piece : List ℕ) → Adds call.link.bound_old call.link.bound_new (found ∷ []) → Moves call.link.old call.link.new [] → piece ≡ first_text shard → AddsFront call.out.old call.out.new piece
       → Serves S shard own turns counts call end.SinkFault
   ends_unserved piece bound moves text told = unserved (own_bound at own found _ _ is has bound) moves (subst (AddsFront call.out.old call.out.new) text told)
 
-  runs_behind : (mid : LinkView) (last : List Reception) (events : List NodeEvent) (node : ServerNodeState) → Moves call.link.old mid [] [] → RunsServer S shard turns last events node mid call.link.new
+  runs_behind : (mid : LinkView) (last : List Reception) (events : List NodeEvent) (node : ServerNodeState) → Moves call.link.old mid [] → RunsServer S shard turns last events node mid call.link.new
       → RunsServer S shard turns last events node call.link.old call.link.new
-  runs_behind mid last events node p r = record { run = r.run; few = r.few; moves = Moves-behind call.link.old mid call.link.new _ _ p r.moves }
+  runs_behind mid last events node p r = record { run = r.run; few = r.few; moves = Moves-behind call.link.old mid call.link.new _ p r.moves }
 
-  module _ (mid : LinkView) (greeted : Option (List ℕ)) (piece : List ℕ) (bound : Adds call.link.bound_old call.link.bound_new (found ∷ [])) (binds : Moves call.link.old mid [] []) (text : piece ≡ first_text shard) (first : Adds call.out.old greeted piece) where
+  module _ (mid : LinkView) (greeted : Option (List ℕ)) (piece : List ℕ) (bound : Adds call.link.bound_old call.link.bound_new (found ∷ [])) (binds : Moves call.link.old mid []) (text : piece ≡ first_text shard) (first : Adds call.out.old greeted piece) where
     first_told : Adds call.out.old greeted (first_text shard)
     first_told = subst (Adds call.out.old greeted) text first
 

@@ -1,8 +1,8 @@
 -- One turn of a server's node after another.
-use Rattle.std.proofs.Common.{◌≡◌, inl, inr, ℕ, ◌+◌, ◌<◌, Bool, true, false, List, [], ◌∷◌, ◌++◌, refl, sym, ◌∙◌, ap, subst, append-nil, length-append, arith}
+use Rattle.std.proofs.Common.{◌≡◌, inl, inr, ℕ, ◌+◌, ◌<◌, Bool, true, false, List, [], ◌∷◌, ◌++◌, map, refl, sym, ◌∙◌, ap, subst, append-nil, append_assoc, length-append, arith}
 use Rattle.roc_base.specs.declared.node.Shard.{Shard}
 use Rattle.roc_io.specs.declared.link.Addr.{Addr}
-use Rattle.roc_io.specs.Link.{came, none_came, vain}
+use Rattle.roc_io.specs.Link.{LinkEvent, sending, receiving, came, none_came, vain}
 use Rattle.roc_io.specs.Packet.{Packet}
 use Rattle.roc_msg.specs.declared.msg.Msg.{Msg}
 use Rattle.roc_msg.specs.declared.outbox.Outgoing.{Outgoing}
@@ -22,42 +22,41 @@ use Rattle.roc_node.specs.declared.counts.Counts.{Counts}
 use Rattle.roc_node_serve.specs.declared.server_node.ServerNode.{ServerNode}
 use Rattle.roc_node_serve.specs.declared.server_node.TurnOutput.{TurnOutput}
 use Rattle.roc_node.specs.Counts.{no_counts}
-use Rattle.roc_node.specs.NodeEvent.{NodeEvent, took, silent, receptions, NodeSetting}
+use Rattle.roc_node.specs.NodeEvent.{NodeEvent, took, silent, receive_of, NodeSetting}
 use Rattle.roc_node_serve.specs.ServerRun.{ServerNodeState, TakesMessage, TakesJudged, AfterEvent, IsServerRun, begun, goes_on, is_stop, server_heard, with_answer}
 use Rattle.roc_node_serve.specs.Inner.ServerTurn.{node_of, bare, Leads, TakesEvent, TurnsOnce, RanSo, RunsTurns}
 use Rattle.roc_node_serve.specs.declared.server_turns.RunEnd.TheVariants as run
 use Rattle.roc_node.specs.Losing.{LosesOne}
-use Rattle.roc_node.proofs.Arrivals.{receptions-append, lost_last}
 
--- ---- what a node sent before does not matter to what it does
+-- ---- what a node asked of its link before does not matter to what it does
 
--- the same, with these messages and datagrams before its own
-abbrev pub behind : List Outgoing → List Packet → ServerNodeState → ServerNodeState
-behind messages sends node = record node { messages = messages ++ node.messages; sends = sends ++ node.sends }
+-- the same, with these messages and this traffic before its own
+abbrev pub behind : List Outgoing → List LinkEvent → ServerNodeState → ServerNodeState
+behind messages traffic node = record node { messages = messages ++ node.messages; traffic = traffic ++ node.traffic }
 
-module _ (messages : List Outgoing) (sends : List Packet) where
+module _ (messages : List Outgoing) (traffic : List LinkEvent) where
   of_none : (state : ServerState) (heard : Hearsay) (counts : Counts) (stopped : Bool)
-      → behind messages sends (record { state = state; messages = []; sends = []; heard = heard; counts = counts; stopped = stopped })
-      ≡ record { state = state; messages = messages; sends = sends; heard = heard; counts = counts; stopped = stopped }
+      → behind messages traffic (record { state = state; messages = []; traffic = []; heard = heard; counts = counts; stopped = stopped })
+      ≡ record { state = state; messages = messages; traffic = traffic; heard = heard; counts = counts; stopped = stopped }
   of_none state heard counts stopped =
-      ap (λ l. record { state = state; messages = l; sends = sends ++ []; heard = heard; counts = counts; stopped = stopped }) (append-nil messages)
-      ∙ ap (λ l. record { state = state; messages = messages; sends = l; heard = heard; counts = counts; stopped = stopped }) (append-nil sends)
+      ap (λ l. record { state = state; messages = l; traffic = traffic ++ []; heard = heard; counts = counts; stopped = stopped }) (append-nil messages)
+      ∙ ap (λ l. record { state = state; messages = messages; traffic = l; heard = heard; counts = counts; stopped = stopped }) (append-nil traffic)
 
   message_behind : (S : NodeSetting) (server_node : ServerNode) (stops : Bool) (msg : Msg) (next : ServerNodeState)
-      → TakesMessage S (bare server_node) stops msg next → TakesMessage S (node_of server_node messages sends false) stops msg (behind messages sends next)
-  message_behind S server_node true msg next h = ap (behind messages sends) h ∙ of_none server_node.server server_node.heard _ true
-  message_behind S server_node false msg next h = (h.0, h.1, ap (behind messages sends) h.2)
+      → TakesMessage S (bare server_node) stops msg next → TakesMessage S (node_of server_node messages traffic false) stops msg (behind messages traffic next)
+  message_behind S server_node true msg next h = ap (behind messages traffic) h ∙ of_none server_node.server server_node.heard _ true
+  message_behind S server_node false msg next h = (h.0, h.1, ap (behind messages traffic) h.2)
 
   judged_behind : (S : NodeSetting) (server_node : ServerNode) (from : Addr) (j : Judged) (next : ServerNodeState)
-      → TakesJudged S (bare server_node) from j next → TakesJudged S (node_of server_node messages sends false) from j (behind messages sends next)
+      → TakesJudged S (bare server_node) from j next → TakesJudged S (node_of server_node messages traffic false) from j (behind messages traffic next)
   judged_behind S server_node from (Delivery header msg) next h =
       message_behind S (record server_node { heard = (server_heard (bare server_node) header from).heard }) (is_stop msg) msg next h
-  judged_behind S server_node from (Skipped skip) next h = ap (behind messages sends) h ∙ of_none server_node.server server_node.heard _ false
+  judged_behind S server_node from (Skipped skip) next h = ap (behind messages traffic) h ∙ of_none server_node.server server_node.heard _ false
 
   event_behind : (S : NodeSetting) (server_node : ServerNode) (event : NodeEvent) (next : ServerNodeState)
-      → AfterEvent S (bare server_node) event next → AfterEvent S (node_of server_node messages sends false) event (behind messages sends next)
+      → AfterEvent S (bare server_node) event next → AfterEvent S (node_of server_node messages traffic false) event (behind messages traffic next)
   event_behind S server_node (took packet) next h = judged_behind S server_node packet.address (judged S.header.tag packet.bytes) next h
-  event_behind S server_node silent next h = ap (behind messages sends) h
+  event_behind S server_node silent next h = ap (behind messages traffic) h
 
 -- ---- several turns
 
@@ -66,7 +65,7 @@ pub ran_none : (S : NodeSetting) (shard : Shard) (server_node : ServerNode) (a :
 ran_none S shard server_node a is = record {
   events = [];
   messages = [];
-  sends = [];
+  traffic = [];
   counted = refl;
   run = subst (λ s. IsServerRun S shard [] (node_of s [] [] false)) (sym is) begun;
   moves = Moves-none a a refl refl refl refl;
@@ -78,35 +77,36 @@ pub ran_more : (S : NodeSetting) (shard : Shard) (count : ℕ) (stopped : Bool) 
 ran_more S shard count stopped old new a b c r h = record {
   events = r.events ++ h.event ∷ [];
   messages = r.messages ++ h.messages;
-  sends = r.sends ++ h.sends;
+  traffic = (r.traffic ++ receive_of h.event ∷ []) ++ map sending h.sends;
   counted = let e = r.counted in length-append r.events (h.event ∷ []) ∙ ap (λ n. n + 1) e;
-  run = goes_on h.event (behind r.messages r.sends (node_of new h.messages h.sends stopped)) r.run refl (event_behind r.messages r.sends S old h.event _ h.leads);
-  moves = subst (λ l. Moves a c l (r.sends ++ h.sends)) (sym (receptions-append r.events (h.event ∷ []))) (Moves-trans a b c (receptions r.events) (receptions (h.event ∷ [])) r.sends h.sends r.moves h.moves);
+  run = goes_on h.event (behind r.messages (r.traffic ++ receive_of h.event ∷ []) (node_of new h.messages (map sending h.sends) stopped)) r.run refl
+      (event_behind r.messages (r.traffic ++ receive_of h.event ∷ []) S old h.event _ h.leads);
+  moves = subst (Moves a c) (sym (append_assoc r.traffic (receive_of h.event ∷ []) (map sending h.sends))) (Moves-trans a b c r.traffic (receive_of h.event ∷ map sending h.sends) r.moves h.moves);
 }
 
 -- ---- what one receive gives
 
 pub takes_packet : (S : NodeSetting) (old new : ServerNode) (output : TurnOutput) (from : Addr) (bytes taken : List ℕ) (a b : LinkView) → bytes ≡ taken
     → Leads (AfterEvent S (bare old) (took (record { address = from; bytes = bytes }))) new output
-    → Moves a b (came (record { address = from; bytes = taken }) ∷ []) [] → TakesEvent S old new output a b
+    → Moves a b (receiving (came (record { address = from; bytes = taken })) ∷ []) → TakesEvent S old new output a b
 takes_packet S old new output from bytes taken a b same leads moves = record {
   event = took (record { address = from; bytes = taken });
   leads = subst (λ l. Leads (AfterEvent S (bare old) (took (record { address = from; bytes = l }))) new output) same leads;
   moves = moves;
 }
 
-pub takes_silence : (S : NodeSetting) (old new : ServerNode) (output : TurnOutput) (a b : LinkView) → Leads (AfterEvent S (bare old) silent) new output → Moves a b (none_came ∷ []) [] → TakesEvent S old new output a b
+pub takes_silence : (S : NodeSetting) (old new : ServerNode) (output : TurnOutput) (a b : LinkView) → Leads (AfterEvent S (bare old) silent) new output → Moves a b (receiving none_came ∷ []) → TakesEvent S old new output a b
 takes_silence S old new output a b leads moves = record { event = silent; leads = leads; moves = moves }
 
 -- an event was taken, and then these were sent
 pub turned_once : (S : NodeSetting) (stopped : Bool) (old new : ServerNode) (output : TurnOutput) (given : List Packet) (a b c : LinkView)
-    → TakesEvent S old new output a b → output.stopped ≡ stopped → given ≡ output.sends.items → Moves b c [] given → TurnsOnce S stopped old new a c
+    → TakesEvent S old new output a b → output.stopped ≡ stopped → given ≡ output.sends.items → Moves b c (map sending given) → TurnsOnce S stopped old new a c
 turned_once S stopped old new output given a b c h stops gives m = record {
   event = h.event;
   messages = h.leads.messages;
   sends = output.sends.items;
-  leads = subst (λ (s : Bool). AfterEvent S (bare old) h.event (node_of new h.leads.messages output.sends.items s)) stops h.leads.is;
-  moves = subst (Moves a c (receptions (h.event ∷ []))) gives (subst (λ l. Moves a c l given) (append-nil (receptions (h.event ∷ []))) (Moves-trans a b c (receptions (h.event ∷ [])) [] [] given h.moves m));
+  leads = subst (λ (s : Bool). AfterEvent S (bare old) h.event (node_of new h.leads.messages (map sending output.sends.items) s)) stops h.leads.is;
+  moves = subst (λ (l : List Packet). Moves a c (receive_of h.event ∷ map sending l)) gives (Moves-trans a b c (receive_of h.event ∷ []) (map sending given) h.moves m);
 }
 
 -- ---- how turns end
@@ -116,32 +116,32 @@ pub over_stopped : (S : NodeSetting) (shard : Shard) (turns count : ℕ) (old ne
 over_stopped S shard turns count old new a b c below r h =
     let all = ran_more S shard count true old new a b c r h in
     let counted = all.counted in
-    (all.messages, all.sends, all.events, inl refl, record { run = all.run; few = omega arith; moves = subst (λ l. Moves a c l all.sends) (sym (append-nil (receptions all.events))) all.moves })
+    (all.messages, all.traffic, all.events, inl refl, record { run = all.run; few = omega arith; moves = subst (Moves a c) (sym (append-nil all.traffic)) all.moves })
 
 pub over_turns : (S : NodeSetting) (shard : Shard) (turns : ℕ) (server_node : ServerNode) (a b : LinkView) → RanSo S shard turns false server_node a b → RunsTurns (run.Over false) S shard turns server_node a b
 over_turns S shard turns server_node a b r =
     let counted = r.counted in
-    (r.messages, r.sends, r.events, inr counted, record { run = r.run; few = omega arith; moves = subst (λ l. Moves a b l r.sends) (sym (append-nil (receptions r.events))) r.moves })
+    (r.messages, r.traffic, r.events, inr counted, record { run = r.run; few = omega arith; moves = subst (Moves a b) (sym (append-nil r.traffic)) r.moves })
 
 pub wanted : (S : NodeSetting) (shard : Shard) (turns count : ℕ) (server_node now : ServerNode) (a b c : LinkView) → count < turns → RanSo S shard count false server_node a b → LosesOne b c
     → RunsTurns run.NoMemory S shard turns now a c
 wanted S shard turns count server_node now a b c below r lost =
     let counted = r.counted in
     let few = lost.1 in
-    (node_of server_node r.messages r.sends false, r.events, lost.0, few, record { run = r.run; few = omega arith; moves = lost_last a b c (receptions r.events) lost.0 r.sends r.moves lost.2 })
+    (node_of server_node r.messages r.traffic false, r.events, lost.0, few, record { run = r.run; few = omega arith; moves = Moves-trans a b c r.traffic (map receiving lost.0) r.moves lost.2 })
 
-pub cut_off : (S : NodeSetting) (shard : Shard) (turns count : ℕ) (server_node now : ServerNode) (a b c : LinkView) → count < turns → RanSo S shard count false server_node a b → Moves b c (vain ∷ []) []
+pub cut_off : (S : NodeSetting) (shard : Shard) (turns count : ℕ) (server_node now : ServerNode) (a b c : LinkView) → count < turns → RanSo S shard count false server_node a b → Moves b c (receiving vain ∷ [])
     → RunsTurns run.LinkFault S shard turns now a c
 cut_off S shard turns count server_node now a b c below r m =
     let counted = r.counted in
-    (node_of server_node r.messages r.sends false, r.events, refl, omega arith, record { run = r.run; few = omega arith; moves = lost_last a b c (receptions r.events) (vain ∷ []) r.sends r.moves m })
+    (node_of server_node r.messages r.traffic false, r.events, refl, omega arith, record { run = r.run; few = omega arith; moves = Moves-trans a b c r.traffic (receiving vain ∷ []) r.moves m })
 
 -- ---- a step of the core
 
-abbrev made : List Outgoing → ServerState → List Packet → Hearsay → Counts → Bool → ServerNodeState
-made messages s p h c b = record { state = s; messages = messages; sends = p; heard = h; counts = c; stopped = b }
+abbrev made : List Outgoing → ServerState → List LinkEvent → Hearsay → Counts → Bool → ServerNodeState
+made messages s p h c b = record { state = s; messages = messages; traffic = p; heard = h; counts = c; stopped = b }
 
-same_node : (messages : List Outgoing) (s t : ServerState) (p q : List Packet) (h i : Hearsay) (c d : Counts) (b e : Bool) → s ≡ t → p ≡ q → h ≡ i → c ≡ d → b ≡ e
+same_node : (messages : List Outgoing) (s t : ServerState) (p q : List LinkEvent) (h i : Hearsay) (c d : Counts) (b e : Bool) → s ≡ t → p ≡ q → h ≡ i → c ≡ d → b ≡ e
     → made messages s p h c b ≡ made messages t q i d e
 same_node messages s t p q h i c d b e s1 p1 h1 c1 b1 =
     ap (λ x. made messages x p h c b) s1 ∙ ap (λ x. made messages t x h c b) p1 ∙ ap (λ x. made messages t q x c b) h1 ∙ ap (λ x. made messages t q i x b) c1 ∙ ap (made messages t q i d) b1
@@ -153,5 +153,5 @@ stepped S old new output msg answer out_old out_new step none heard counts stopp
     let r = step.0 in let shows = step.2 in
     let gained : out_new.messages ≡ r.sends = shows.sends ∙ ap (λ l. l ++ r.sends) none in record {
       messages = r.sends;
-      is = (r, step.1, same_node r.sends _ _ _ _ _ _ _ _ _ _ (sym shows.keeps) (sends ∙ ap (packets_for S.header S.cluster old.heard) gained) heard (counts ∙ ap (with_answer old.counts) (sym shows.answers)) stopped);
+      is = (r, step.1, same_node r.sends _ _ _ _ _ _ _ _ _ _ (sym shows.keeps) (ap (map sending) (sends ∙ ap (packets_for S.header S.cluster old.heard) gained)) heard (counts ∙ ap (with_answer old.counts) (sym shows.answers)) stopped);
     }

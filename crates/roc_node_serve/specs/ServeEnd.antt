@@ -1,15 +1,15 @@
 -- How serving ends, what the link took and the sink: docs/PROTOCOL.md, "Running nodes"
-use Rattle.std.specs.Prelude.{◌≡◌, ◌⊎◌, ℕ, ◌+◌, ◌<◌, ◌≤◌, Bool, true, false, List, [], ◌∷◌, ◌++◌, length}
+use Rattle.std.specs.Prelude.{◌≡◌, ◌⊎◌, ℕ, ◌+◌, ◌<◌, ◌≤◌, Bool, true, false, List, [], ◌∷◌, ◌++◌, length, map}
 use Rattle.roc_base.specs.declared.node.Shard.{Shard}
 use Rattle.roc_io.specs.declared.link.Addr.{Addr}
-use Rattle.roc_io.specs.Link.{Reception, vain}
+use Rattle.roc_io.specs.Link.{Reception, receiving, vain}
 use Rattle.roc_io.specs.Observed.{Adds, AddsFront, AddsThenFront}
 use Rattle.roc_io.specs.Call.{LinkView, NodeCall}
 use Rattle.roc_node.specs.Moves.{Moves}
 use Rattle.roc_node_serve.specs.declared.ends.ServeEnd.{ServeEnd}
 use Rattle.roc_node_serve.specs.declared.ends.ServeEnd.TheVariants.{Done, LinkFault, SinkFault, NoMemory}
 use Rattle.roc_node.specs.declared.lines.NodeLine.TheVariants.{Serving}
-use Rattle.roc_node.specs.NodeEvent.{NodeEvent, receptions, NodeSetting}
+use Rattle.roc_node.specs.NodeEvent.{NodeEvent, NodeSetting}
 use Rattle.roc_node.specs.NodeLine.{node_lines_text, end_lines}
 use Rattle.roc_node_serve.specs.ServerRun.{ServerNodeState, IsServerRun}
 
@@ -35,20 +35,20 @@ first_text shard = node_lines_text (Serving shard ∷ [])
 abbrev pub end_text : Shard → (counts : Bool) → ServerNodeState → List ℕ
 end_text shard counts node = node_lines_text (end_lines shard node.stopped counts node.counts)
 
--- A node ran over events. The link was asked to receive once for each of them, and behind them gave `last`, in at most so many turns; and it
--- was given the node's datagrams
+-- A node ran over events. The link was asked for the node's traffic: to receive once for each event, with the datagrams that come of it behind
+-- that receive and before the next one. Behind all that a receive may have given `last`. There was at most one receive for each of so many turns
 pub record RunsServer (S : NodeSetting) (shard : Shard) (turns : ℕ) (last : List Reception) (events : List NodeEvent) (node : ServerNodeState) (old new : LinkView) : Type 0 where
   pub run : IsServerRun S shard events node
   pub few : length events + length last ≤ turns
-  pub moves : Moves old new (receptions events ++ last) node.sends
+  pub moves : Moves old new (node.traffic ++ map receiving last)
 
 -- How a call ends, and what it did until then to its link and its sink. `own` is the shard's address.
 pub data Serves (S : NodeSetting) (shard : Shard) (own : Addr) (turns : ℕ) (counts : Bool) (call : NodeCall) : ServeEnd → Type 0 where
   -- Nothing was bound, sent, taken or written: the link was not bound, or memory was wanting before
-  unbound : (end : ServeEnd) → (end ≡ LinkFault) ⊎ (end ≡ NoMemory) → call.link.bound_new ≡ call.link.bound_old → Moves call.link.old call.link.new [] []
+  unbound : (end : ServeEnd) → (end ≡ LinkFault) ⊎ (end ≡ NoMemory) → call.link.bound_new ≡ call.link.bound_old → Moves call.link.old call.link.new []
       → call.out.new ≡ call.out.old → Serves S shard own turns counts call end
   -- the sink failed at the first line
-  unserved : Adds call.link.bound_old call.link.bound_new (own ∷ []) → Moves call.link.old call.link.new [] [] → AddsFront call.out.old call.out.new (first_text shard)
+  unserved : Adds call.link.bound_old call.link.bound_new (own ∷ []) → Moves call.link.old call.link.new [] → AddsFront call.out.old call.out.new (first_text shard)
       → Serves S shard own turns counts call SinkFault
   -- The receive of a turn failed
   cut_off : (events : List NodeEvent) (node : ServerNodeState) → Adds call.link.bound_old call.link.bound_new (own ∷ [])

@@ -1,10 +1,10 @@
 -- The run of a server's node: what its core does with what comes to it, what the node sends, and what it counts:
 -- docs/PROTOCOL.md, "Running nodes"
-use Rattle.std.specs.Prelude.{◌≡◌, Bool, true, false, List, [], ◌∷◌, ◌++◌}
+use Rattle.std.specs.Prelude.{◌≡◌, Bool, true, false, List, [], ◌∷◌, ◌++◌, map}
 use Rattle.roc_base.specs.declared.node.Shard.{Shard}
 use Rattle.roc_io.specs.declared.link.Addr.{Addr}
 use Rattle.roc_io.specs.Cause.{one_more}
-use Rattle.roc_io.specs.Packet.{Packet}
+use Rattle.roc_io.specs.Link.{LinkEvent, sending}
 use Rattle.roc_msg.specs.declared.msg.Msg.{Msg}
 use Rattle.roc_msg.specs.declared.msg.Msg.TheVariants.{Stop}
 use Rattle.roc_msg.specs.declared.outbox.Outgoing.{Outgoing}
@@ -22,15 +22,17 @@ use Rattle.roc_node.specs.declared.judging.Skip.{Skip}
 use Rattle.roc_node.specs.Posting.{Hearsay, none_heard, heard_of, packets_for}
 use Rattle.roc_node.specs.declared.counts.Counts.{Counts}
 use Rattle.roc_node.specs.Counts.{no_counts, one_ignore_more, with_skip, with_taken}
-use Rattle.roc_node.specs.NodeEvent.{NodeEvent, took, silent, NodeSetting}
+use Rattle.roc_node.specs.NodeEvent.{NodeEvent, took, silent, receive_of, NodeSetting}
 
 -- a server's node so far
 pub record ServerNodeState : Type 0 where
   -- its core
   pub state : ServerState
-  -- all messages that the core sent, and the datagrams that went out for them
+  -- all messages that the core sent
   pub messages : List Outgoing
-  pub sends : List Packet
+  -- what it asked of its link, in order: the receive of each turn, and behind it, before the next one, the datagrams that went out for the
+  -- messages of that turn
+  pub traffic : List LinkEvent
   -- where it last heard each coordinator
   pub heard : Hearsay
   pub counts : Counts
@@ -39,11 +41,11 @@ pub record ServerNodeState : Type 0 where
 
 -- before any turn
 abbrev pub first_server_node_state : Plan → Shard → ServerNodeState
-first_server_node_state plan shard = record { state = first_server plan shard; messages = []; sends = []; heard = none_heard; counts = no_counts; stopped = false }
+first_server_node_state plan shard = record { state = first_server plan shard; messages = []; traffic = []; heard = none_heard; counts = no_counts; stopped = false }
 
 -- its core sends messages
 abbrev pub server_sends : NodeSetting → ServerNodeState → List Outgoing → ServerNodeState
-server_sends S node outs = record node { messages = node.messages ++ outs; sends = node.sends ++ packets_for S.header S.cluster node.heard outs }
+server_sends S node outs = record node { messages = node.messages ++ outs; traffic = node.traffic ++ map sending (packets_for S.header S.cluster node.heard outs) }
 
 -- a delivery more was taken, and this is what the core answered to it
 abbrev pub with_answer : Counts → Handled → Counts
@@ -54,6 +56,10 @@ with_answer c (Ignored reason) = record c { taken = one_more c.taken; ignores = 
 -- its core takes a step for a delivery
 abbrev pub server_took : NodeSetting → ServerNodeState → ServerStep → ServerNodeState
 server_took S node r = record (server_sends S node r.sends) { state = r.state; counts = with_answer node.counts r.answer }
+
+-- one receive gave an event
+abbrev pub server_received : ServerNodeState → NodeEvent → ServerNodeState
+server_received node event = record node { traffic = node.traffic ++ receive_of event ∷ [] }
 
 abbrev pub server_stopped : ServerNodeState → ServerNodeState
 server_stopped node = record node { counts = with_taken node.counts; stopped = true }
@@ -84,8 +90,12 @@ abbrev pub AfterEvent : NodeSetting → ServerNodeState → NodeEvent → Server
 AfterEvent S node (took packet) next = TakesJudged S node packet.address (judged S.header.tag packet.bytes) next
 AfterEvent S node silent next = next ≡ server_sends S node (tick_sends node.state)
 
--- the events, one by one, lead from the first node to this one
+-- a turn: one receive gives the event, and all that comes of it stands behind that receive
+abbrev pub AfterTurn : NodeSetting → ServerNodeState → NodeEvent → ServerNodeState → Type 0
+AfterTurn S node event next = AfterEvent S (server_received node event) event next
+
+-- the turns of these events, one by one, lead from the first node to this one
 pub data IsServerRun (S : NodeSetting) (shard : Shard) : List NodeEvent → ServerNodeState → Type 0 where
   begun : IsServerRun S shard [] (first_server_node_state S.plan shard)
   goes_on : {events : List NodeEvent} {node : ServerNodeState} (event : NodeEvent) (next : ServerNodeState)
-      → IsServerRun S shard events node → node.stopped ≡ false → AfterEvent S node event next → IsServerRun S shard (events ++ event ∷ []) next
+      → IsServerRun S shard events node → node.stopped ≡ false → AfterTurn S node event next → IsServerRun S shard (events ++ event ∷ []) next

@@ -7,8 +7,9 @@
 //! are those of the core.
 //!
 //! The layers above may rely on these definitions. A fault of link or sink comes only if its count rose, and no other
-//! end if a count did; the link took the node's datagrams in order, all but at most as many as its `lost` rose by. What
-//! arrived and was sent is spoken of as far as the link tells it, and what was written as far as the sink does.
+//! end if a count did; a turn is one receive, and the link took the node's datagrams in order, those of a turn behind
+//! its receive and before the next one, all but at most as many as its `lost` rose by. What arrived and was sent is
+//! spoken of as far as the link tells it, and what was written as far as the sink does.
 //! `specs/Inner/` is of this crate alone.
 #![tactic(auto)]
 

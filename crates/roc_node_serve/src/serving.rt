@@ -27,7 +27,7 @@ use std::alloc::Global;
 /// Serves a shard: binds its address, writes that it serves, takes turns until a stop comes or so many were taken, and writes what came of
 /// them; with `counts` also how often each word was the cause to skip a datagram or to ignore a message.
 ///
-/// A turn is one receive. The datagrams of a turn are sent behind it.
+/// A turn is one receive. The datagrams of a turn are sent behind it, and before the next one.
 pub fn serve<L: Link, S: Sink>(
     alloc: Global,
     plan: &Plan,

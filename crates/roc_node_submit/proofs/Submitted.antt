@@ -1,23 +1,22 @@
 -- How submitting ends.
-use Rattle.std.proofs.Common.{◌≡◌, ◌⊎◌, inl, inr, T, ℕ, ◌<◌, ◌≤◌, true, false, List, [], ◌∷◌, ◌++◌, length, sym, ◌∙◌, ap, subst, append-nil, arith, cond, Option, Ok, Err}
-use Rattle.roc_io.specs.Link.{vain}
+use Rattle.std.proofs.Common.{◌≡◌, ◌⊎◌, inl, inr, T, ℕ, ◌<◌, ◌≤◌, true, false, List, [], ◌∷◌, ◌++◌, length, map, sym, ◌∙◌, ap, subst, append-nil, arith, cond, Option, Ok, Err}
+use Rattle.roc_io.specs.Link.{receiving, vain}
 use Rattle.roc_io.specs.Observed.{Adds, AddsThenFront}
 use Rattle.roc_io.proofs.Told.{Adds-trans, AddsThenFront-behind}
 use Rattle.roc_report.specs.Text.{lines_text}
 use Rattle.roc_sched.specs.declared.line.Request.{Request}
 use Rattle.roc_io.specs.Call.{LinkView}
 use Rattle.roc_node.specs.Moves.{Moves}
-use Rattle.roc_node.proofs.Moving.{Moves-before}
+use Rattle.roc_node.proofs.Moving.{Moves-trans, Moves-before}
 use Rattle.roc_node_submit.specs.declared.coord_node.CoordNode.{CoordNode}
 use Rattle.roc_node_submit.specs.declared.ends.SubmitEnd.{SubmitEnd}
 use Rattle.roc_node_submit.specs.declared.ends.SubmitEnd.TheVariants as end
-use Rattle.roc_node.specs.NodeEvent.{receptions, NodeSetting}
+use Rattle.roc_node.specs.NodeEvent.{receive_of, NodeSetting}
 use Rattle.roc_node_submit.specs.CoordRun.{CoordNodeState, is_answered, step_of_event, reply_lines}
 use Rattle.roc_node_submit.specs.SubmitEnd.{TurnsCall, Submits, cut_off, wanted, untold_submissions, untold_reply, untold_end, over}
 use Rattle.roc_node_submit.specs.Inner.CoordTurn.{coord_node_state_of, HalfSubmits, HalfTakes, CoordRanSo, ClosesSubmit}
 use Rattle.roc_node_submit.proofs.Coords.{Halved, halved}
 use Rattle.roc_node_submit.proofs.Runs.{each_answered}
-use Rattle.roc_node.proofs.Arrivals.{receptions-append, lost_last}
 
 abbrev pub call_of : LinkView → LinkView → Option (List ℕ) → Option (List ℕ) → TurnsCall
 call_of a b out0 out1 = record { old = a; new = b; out = record { old = out0; new = out1 } }
@@ -31,10 +30,10 @@ pub submit_half_ends : (e : SubmitEnd) (S : NodeSetting) (number : ℕ) (request
     → Submits S number requests turns (call_of a c out0 out2) e
 submit_half_ends end.NoMemory S number requests turns count old new a b c out0 out1 out2 below r goes h =
     let counted = r.counted in
-    wanted r.events (coord_node_state_of old requests r.messages r.sends r.lines) false [] r.run (omega arith) (omega arith) (lost_last a b c (receptions r.events) [] r.sends r.moves h.0) (still out0 out1 out2 _ r.told h.1)
+    wanted r.events (coord_node_state_of old requests r.messages r.traffic r.lines) false [] r.run (omega arith) (omega arith) (Moves-trans a b c r.traffic [] r.moves h.0) (still out0 out1 out2 _ r.told h.1)
 submit_half_ends end.SinkFault S number requests turns count old new a b c out0 out1 out2 below r goes h =
     let counted = r.counted in
-    untold_submissions r.events (coord_node_state_of old requests r.messages r.sends r.lines) r.run goes (omega arith) (Moves-before a b c (receptions r.events) r.sends r.moves h.0) (AddsThenFront-behind out0 out1 out2 _ _ r.told h.1)
+    untold_submissions r.events (coord_node_state_of old requests r.messages r.traffic r.lines) r.run goes (omega arith) (Moves-before a b c r.traffic r.moves h.0) (AddsThenFront-behind out0 out1 out2 _ _ r.told h.1)
 submit_half_ends end.Done S number requests turns count old new a b c out0 out1 out2 below r goes h = absurd h
 submit_half_ends end.Unanswered S number requests turns count old new a b c out0 out1 out2 below r goes h = absurd h
 submit_half_ends end.LinkFault S number requests turns count old new a b c out0 out1 out2 below r goes h = absurd h
@@ -47,18 +46,17 @@ half_ends end.NoMemory S number requests turns count mid new a c d out0 out2 out
     let lost = t.0 in
     let few = lost.1 in
     wanted h.events h.node true lost.0 h.run few (omega arith)
-    (subst (Moves a d (receptions h.events ++ lost.0)) (sym (ap (λ (n : CoordNodeState). n.sends) h.is)) (lost_last a c d (receptions h.events) lost.0 h.sends h.moves lost.2))
+    (subst (λ l. Moves a d (l ++ map receiving lost.0)) (sym (ap (λ (n : CoordNodeState). n.traffic) h.is)) (Moves-trans a c d h.traffic (map receiving lost.0) h.moves lost.2))
     (subst (λ l. Adds out0 out3 (lines_text S.plan.program l)) (sym (ap (λ (n : CoordNodeState). n.lines) h.is)) (still out0 out2 out3 _ h.told t.1))
 half_ends end.LinkFault S number requests turns count mid new a c d out0 out2 out3 below h t =
     let counted = h.counted in
     cut_off h.events h.node h.run h.goes (omega arith)
-    (subst (Moves a d (receptions h.events ++ vain ∷ [])) (sym (ap (λ (n : CoordNodeState). n.sends) h.is)) (lost_last a c d (receptions h.events) (vain ∷ []) h.sends h.moves t.0))
+    (subst (λ l. Moves a d (l ++ receiving vain ∷ [])) (sym (ap (λ (n : CoordNodeState). n.traffic) h.is)) (Moves-trans a c d h.traffic (receiving vain ∷ []) h.moves t.0))
     (subst (λ l. Adds out0 out3 (lines_text S.plan.program l)) (sym (ap (λ (n : CoordNodeState). n.lines) h.is)) (still out0 out2 out3 _ h.told t.1))
 half_ends end.SinkFault S number requests turns count mid new a c d out0 out2 out3 below h t =
     let counted = h.counted in
     untold_reply h.events h.node t.0 h.run h.goes (omega arith)
-    (subst (Moves a d (receptions (h.events ++ t.0 ∷ []))) (sym (ap (λ (n : CoordNodeState). n.sends) h.is))
-    (subst (λ l. Moves a d l h.sends) (sym (receptions-append h.events (t.0 ∷ []))) (lost_last a c d (receptions h.events) (receptions (t.0 ∷ [])) h.sends h.moves t.1)))
+    (subst (λ l. Moves a d (l ++ receive_of t.0 ∷ [])) (sym (ap (λ (n : CoordNodeState). n.traffic) h.is)) (Moves-trans a c d h.traffic (receive_of t.0 ∷ []) h.moves t.1))
     (subst (λ (n : CoordNodeState). AddsThenFront out0 out3 (lines_text S.plan.program n.lines) (lines_text S.plan.program (reply_lines (step_of_event S n.state t.0).answer))) (sym h.is)
     (AddsThenFront-behind out0 out2 out3 _ _ h.told t.2))
 half_ends end.Done S number requests turns count mid new a c d out0 out2 out3 below h t = absurd t
@@ -83,14 +81,14 @@ submit_over e S number requests turns count coord_node a b out0 out1 out2 le r e
     last (inl met) not = absurd (subst T (met ∙ not) tt)
     last (inr all) not = all
 
-    whole : is_answered (coord_node_state_of coord_node requests r.messages r.sends r.lines) ≡ false → length r.events ≡ turns
+    whole : is_answered (coord_node_state_of coord_node requests r.messages r.traffic r.lines) ≡ false → length r.events ≡ turns
     whole not = r.counted ∙ last ends not
 
     go : (e : SubmitEnd) → ClosesSubmit e (coord_node_state_of coord_node requests [] [] []) out1 out2 → Submits S number requests turns (call_of a b out0 out2) e
-    go end.Done c = over r.events (coord_node_state_of coord_node requests r.messages r.sends r.lines) end.Done (sym (ap (λ t. cond t end.Done end.Unanswered) c.0)) r.run few whole (λ done. each_answered S number requests r.events _ r.run c.0) r.moves (Adds-trans out0 out1 out2 _ _ r.told c.1)
-    go end.Unanswered c = over r.events (coord_node_state_of coord_node requests r.messages r.sends r.lines) end.Unanswered (sym (ap (λ t. cond t end.Done end.Unanswered) c.0)) r.run few whole (λ done. absurd (cc)) r.moves (Adds-trans out0 out1 out2 _ _ r.told c.1)
-    go end.SinkFault c = untold_end r.events (coord_node_state_of coord_node requests r.messages r.sends r.lines) r.run few whole r.moves (AddsThenFront-behind out0 out1 out2 _ _ r.told c)
+    go end.Done c = over r.events (coord_node_state_of coord_node requests r.messages r.traffic r.lines) end.Done (sym (ap (λ t. cond t end.Done end.Unanswered) c.0)) r.run few whole (λ done. each_answered S number requests r.events _ r.run c.0) r.moves (Adds-trans out0 out1 out2 _ _ r.told c.1)
+    go end.Unanswered c = over r.events (coord_node_state_of coord_node requests r.messages r.traffic r.lines) end.Unanswered (sym (ap (λ t. cond t end.Done end.Unanswered) c.0)) r.run few whole (λ done. absurd (cc)) r.moves (Adds-trans out0 out1 out2 _ _ r.told c.1)
+    go end.SinkFault c = untold_end r.events (coord_node_state_of coord_node requests r.messages r.traffic r.lines) r.run few whole r.moves (AddsThenFront-behind out0 out1 out2 _ _ r.told c)
     go end.NoMemory c =
-        wanted r.events (coord_node_state_of coord_node requests r.messages r.sends r.lines) false [] r.run (omega arith) (omega (arith, few))
-        (subst (λ l. Moves a b l r.sends) (sym (append-nil (receptions r.events))) r.moves) (subst (λ o. Adds out0 o (lines_text S.plan.program r.lines)) (sym c) r.told)
+        wanted r.events (coord_node_state_of coord_node requests r.messages r.traffic r.lines) false [] r.run (omega arith) (omega (arith, few))
+        (subst (Moves a b) (sym (append-nil r.traffic)) r.moves) (subst (λ o. Adds out0 o (lines_text S.plan.program r.lines)) (sym c) r.told)
     go end.LinkFault c = absurd c

@@ -1,9 +1,9 @@
 -- The run of a coordinator's node, which submits requests: docs/PROTOCOL.md, "Running nodes"
-use Rattle.std.specs.Prelude.{◌≡◌, ℕ, ℤ, Bool, false, ◌==◌, ◌&&◌, List, [], ◌∷◌, ◌++◌, length, Option, Some, None, Result, Ok, Err, if◌then◌else◌}
+use Rattle.std.specs.Prelude.{◌≡◌, ℕ, ℤ, Bool, false, ◌==◌, ◌&&◌, List, [], ◌∷◌, ◌++◌, length, map, Option, Some, None, Result, Ok, Err, if◌then◌else◌}
 use Rattle.std.specs.Result.{is_ok}
 use Rattle.roc_base.specs.declared.id.TxnId.{TxnId}
 use Rattle.roc_io.specs.Cause.{one_more}
-use Rattle.roc_io.specs.Packet.{Packet}
+use Rattle.roc_io.specs.Link.{LinkEvent, sending}
 use Rattle.roc_msg.specs.declared.outbox.Outgoing.{Outgoing}
 use Rattle.roc_plan.specs.Groups.{Plan}
 use Rattle.roc_program.specs.LookUps.{procedure_named}
@@ -20,7 +20,7 @@ use Rattle.roc_node.specs.Judgement.{judged}
 use Rattle.roc_node.specs.declared.judging.Judged.{Judged}
 use Rattle.roc_node.specs.declared.judging.Judged.TheVariants.{Delivery, Skipped}
 use Rattle.roc_node.specs.Posting.{none_heard, packets_for}
-use Rattle.roc_node.specs.NodeEvent.{NodeEvent, took, silent, NodeSetting}
+use Rattle.roc_node.specs.NodeEvent.{NodeEvent, took, silent, receive_of, NodeSetting}
 
 -- a coordinator's node so far
 pub record CoordNodeState : Type 0 where
@@ -28,9 +28,11 @@ pub record CoordNodeState : Type 0 where
   pub state : CoordState
   -- the requests that were not submitted yet
   pub left : List Request
-  -- all messages that the core sent, and the datagrams that went out for them: a coordinator answers nobody, so it keeps no addresses
+  -- all messages that the core sent
   pub messages : List Outgoing
-  pub sends : List Packet
+  -- What it asked of its link, in order: in each turn the datagrams that went out for its submissions, then the receive, and behind that, before
+  -- the next turn, the datagrams for what came of the receive. A coordinator answers nobody, so it keeps no addresses
+  pub traffic : List LinkEvent
   -- what it wrote: submissions and answers
   pub lines : List line.Line
   -- how many transactions have their reply
@@ -38,7 +40,7 @@ pub record CoordNodeState : Type 0 where
 
 -- before any turn
 abbrev pub first_coord_node_state : (number : ℕ) → List Request → CoordNodeState
-first_coord_node_state number requests = record { state = first_coord number; left = requests; messages = []; sends = []; lines = []; answered = 0 }
+first_coord_node_state number requests = record { state = first_coord number; left = requests; messages = []; traffic = []; lines = []; answered = 0 }
 
 -- no request is left, and none is unanswered
 abbrev pub is_answered : CoordNodeState → Bool
@@ -96,7 +98,7 @@ with_submissions S node s =
       state = s.state;
       left = s.left;
       messages = node.messages ++ s.messages;
-      sends = node.sends ++ packets_for S.header S.cluster none_heard s.messages;
+      traffic = node.traffic ++ map sending (packets_for S.header S.cluster none_heard s.messages);
       lines = node.lines ++ s.lines;
     }
 
@@ -130,18 +132,22 @@ with_step S node r =
     record node {
       state = r.state;
       messages = node.messages ++ r.sends;
-      sends = node.sends ++ packets_for S.header S.cluster none_heard r.sends;
+      traffic = node.traffic ++ map sending (packets_for S.header S.cluster none_heard r.sends);
       lines = node.lines ++ reply_lines r.answer;
       answered = answered_then node.answered r.answer;
     }
 
--- a node, its submissions made, that takes an event
+-- one receive gave an event
+abbrev pub coord_received : CoordNodeState → NodeEvent → CoordNodeState
+coord_received node event = record node { traffic = node.traffic ++ receive_of event ∷ [] }
+
+-- a node, its submissions made, that takes an event: all that comes of it stands behind its receive
 abbrev pub coord_took : NodeSetting → CoordNodeState → NodeEvent → CoordNodeState
-coord_took S node event = with_step S node (step_of_event S node.state event)
+coord_took S node event = with_step S (coord_received node event) (step_of_event S node.state event)
 
 -- ---- runs
 
--- a turn: the submissions before it, then its event
+-- a turn: the submissions before it, then the receive of its event and what comes of that
 abbrev pub coord_turn : NodeSetting → CoordNodeState → NodeEvent → CoordNodeState
 coord_turn S node event = coord_took S (coord_submitted S node) event
 

@@ -2,7 +2,7 @@
 use Rattle.std.specs.Prelude.{◌≡◌, ℕ, ◌+◌, ◌<◌, ◌≤◌, Bool, true, false, List, [], ◌∷◌, ◌++◌, length, map, if◌then◌else◌}
 use Rattle.roc_coord.specs.Ids.{ids_of}
 use Rattle.roc_io.specs.declared.link.Addr.{Addr}
-use Rattle.roc_io.specs.Link.{Reception, vain}
+use Rattle.roc_io.specs.Link.{Reception, receiving, vain}
 use Rattle.roc_io.specs.Observed.{Adds, AddsThenFront}
 use Rattle.roc_program.specs.Program.{Workload}
 use Rattle.roc_report.specs.Text.{lines_text}
@@ -13,7 +13,7 @@ use Rattle.roc_node_submit.specs.declared.ends.SubmitEnd.{SubmitEnd}
 use Rattle.roc_node_submit.specs.declared.ends.SubmitEnd.TheVariants.{Done, Unanswered, LinkFault, SinkFault, NoMemory}
 use Rattle.roc_node.specs.declared.lines.NodeLine.{NodeLine}
 use Rattle.roc_node.specs.declared.lines.NodeLine.TheVariants.{Unanswered as UnansweredLine, EndSubmit}
-use Rattle.roc_node.specs.NodeEvent.{NodeEvent, receptions, NodeSetting}
+use Rattle.roc_node.specs.NodeEvent.{NodeEvent, receive_of, NodeSetting}
 use Rattle.roc_node.specs.NodeLine.{node_lines_text}
 use Rattle.roc_node_submit.specs.CoordRun.{CoordNodeState, IsCoordRun, is_answered, submissions_of, coord_submitted, step_of_event, reply_lines}
 use Rattle.roc_node_submit.specs.EachAnswered.{AreEachAnswered}
@@ -65,37 +65,38 @@ end_of node = if is_answered node then Done else Unanswered
 abbrev pub AreRequestsOver : (turns : ℕ) → List NodeEvent → CoordNodeState → Type 0
 AreRequestsOver turns events node = is_answered node ≡ false → length events ≡ turns
 
--- Turns end, and what they did until then. Each time the link has taken the datagrams of the node as far as it got, and the sink its lines.
+-- Turns end, and what they did until then. Each time the link was asked for the traffic of the node as far as it got, in its order, and the sink
+-- for its lines.
 pub data Submits (S : NodeSetting) (number : ℕ) (requests : List Request) (turns : ℕ) (call : TurnsCall) : SubmitEnd → Type 0 where
   -- the receive of a turn failed, behind its submissions
   cut_off : (events : List NodeEvent) (node : CoordNodeState) → IsCoordRun S number requests events node → is_answered node ≡ false → length events < turns
-      → Moves call.old call.new (receptions events ++ vain ∷ []) (coord_submitted S node).sends → Adds call.out.old call.out.new (written_text S.plan.program (coord_submitted S node))
+      → Moves call.old call.new ((coord_submitted S node).traffic ++ receiving vain ∷ []) → Adds call.out.old call.out.new (written_text S.plan.program (coord_submitted S node))
       → Submits S number requests turns call LinkFault
   -- Memory was wanting; it may lose the datagram that was taken off last
   wanted : (events : List NodeEvent) (node : CoordNodeState) (half : Bool) (last : List Reception) → IsCoordRun S number requests events node
       → length last ≤ 1 → length events + length last ≤ turns
-      → Moves call.old call.new (receptions events ++ last) (coord_half S node half).sends → Adds call.out.old call.out.new (written_text S.plan.program (coord_half S node half))
+      → Moves call.old call.new ((coord_half S node half).traffic ++ map receiving last) → Adds call.out.old call.out.new (written_text S.plan.program (coord_half S node half))
       → Submits S number requests turns call NoMemory
   -- the sink failed at the lines of the submissions before a turn, which then sent nothing
   untold_submissions : (events : List NodeEvent) (node : CoordNodeState) → IsCoordRun S number requests events node → is_answered node ≡ false → length events < turns
-      → Moves call.old call.new (receptions events) node.sends
+      → Moves call.old call.new node.traffic
       → AddsThenFront call.out.old call.out.new (written_text S.plan.program node) (lines_text S.plan.program (submissions_of S node).lines)
       → Submits S number requests turns call SinkFault
   -- the sink failed at the reply of a turn's event, which then sent nothing
   untold_reply : (events : List NodeEvent) (node : CoordNodeState) (event : NodeEvent) → IsCoordRun S number requests events node → is_answered node ≡ false → length events < turns
-      → Moves call.old call.new (receptions (events ++ event ∷ [])) (coord_submitted S node).sends
+      → Moves call.old call.new ((coord_submitted S node).traffic ++ receive_of event ∷ [])
       → AddsThenFront call.out.old call.out.new (written_text S.plan.program (coord_submitted S node))
       (lines_text S.plan.program (reply_lines (step_of_event S (coord_submitted S node).state event).answer))
       → Submits S number requests turns call SinkFault
   -- all were answered or all turns were taken, and the sink failed at the last lines
   untold_end : (events : List NodeEvent) (node : CoordNodeState) → IsCoordRun S number requests events node → length events ≤ turns → AreRequestsOver turns events node
-      → Moves call.old call.new (receptions events) node.sends
+      → Moves call.old call.new node.traffic
       → AddsThenFront call.out.old call.out.new (written_text S.plan.program node) (closing_text node)
       → Submits S number requests turns call SinkFault
   -- all were answered, and so each request has its id and its answer, or all turns were taken; and all lines were written
   over : (events : List NodeEvent) (node : CoordNodeState) (end : SubmitEnd) → end ≡ end_of node → IsCoordRun S number requests events node → length events ≤ turns
       → AreRequestsOver turns events node → (end ≡ Done → AreEachAnswered S.plan.program number requests node)
-      → Moves call.old call.new (receptions events) node.sends
+      → Moves call.old call.new node.traffic
       → Adds call.out.old call.out.new (written_text S.plan.program node ++ closing_text node)
       → Submits S number requests turns call end
 
@@ -106,6 +107,6 @@ any_address = record { host = 0 ∷ 0 ∷ 0 ∷ 0 ∷ []; port = 0 }
 -- the same, behind a bind
 pub data BindsAndSubmits (S : NodeSetting) (number : ℕ) (requests : List Request) (turns : ℕ) (call : NodeCall) : SubmitEnd → Type 0 where
   -- the link was not bound, and nothing was sent, taken or written
-  unbound : call.link.bound_new ≡ call.link.bound_old → Moves call.link.old call.link.new [] [] → call.out.new ≡ call.out.old → BindsAndSubmits S number requests turns call LinkFault
+  unbound : call.link.bound_new ≡ call.link.bound_old → Moves call.link.old call.link.new [] → call.out.new ≡ call.out.old → BindsAndSubmits S number requests turns call LinkFault
   bound : (end : SubmitEnd) → Adds call.link.bound_old call.link.bound_new (any_address ∷ []) → Submits S number requests turns (turns_of call) end
       → BindsAndSubmits S number requests turns call end

@@ -1,7 +1,8 @@
 //! The turns of a coordinator's node.
-ghost use Rattle.std.specs.Prelude.{◌≡◌, ◌≤◌, [], length, OnOk};
+ghost use Rattle.std.specs.Prelude.{◌≡◌, ◌≤◌, length, map, OnOk};
 ghost use Rattle.roc_io.specs.Call.{link_view};
 ghost use Rattle.roc_io.specs.Cause.{HasCause};
+ghost use Rattle.roc_io.specs.Link.{sending};
 ghost use Rattle.roc_io.specs.Sink.{write_failed, Takes};
 ghost use Rattle.roc_node.specs.Moves.{Moves};
 ghost use Rattle.roc_coord.specs.Fits.{CoordFits};
@@ -31,7 +32,7 @@ fn write_text<S: Sink>(out: &mut S, text: &[u8]) -> Written
 fn put_out<L: Link, S: Sink>(output: &TurnOutput, link: &mut L, out: &mut S) -> Written
     ensures cause { HasCause (write_failed result) (S.faults out.old) (S.faults out.new) }
     ensures taken { Takes result (S.taken out.old) (S.taken out.new) output.now.text.items }
-    ensures moves { Moves (link_view L.Link link.old) (link_view L.Link link.new) [] (unless_failed result output.now.sends.items) }
+    ensures moves { Moves (link_view L.Link link.old) (link_view L.Link link.new) (map sending (unless_failed result output.now.sends.items)) }
     ensures faults { L.faults link.new ≡ L.faults link.old }
     ensures bound { L.bound link.new ≡ L.bound link.old }
 {

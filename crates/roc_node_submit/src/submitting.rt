@@ -27,7 +27,8 @@ use std::alloc::Global;
 /// unanswered; it ends when all are answered, or after so many turns, and writes who is unanswered and the counts. A request that the coordinator
 /// refuses is left, with all behind it, so that the end is not `Done`.
 ///
-/// A turn is one receive. What is due in a turn is written first and then sent.
+/// A turn is one receive. What its submissions send goes out before that, and what comes of the receive behind it, before the next turn. What is due is
+/// written first and then sent.
 pub fn submit_turns<L: Link, S: Sink>(
     alloc: Global,
     plan: &Plan,

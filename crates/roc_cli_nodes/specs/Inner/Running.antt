@@ -24,9 +24,8 @@ ServesAs S shard own turns counts call end = (e : ServeEnd) × (as_submit_end e 
 -- what sending stops does to a link
 pub record StopsLink (tag : List ℕ) (cluster : List Addr) (link : LinkCall) (end : StopEnd) : Type 0 where
   pub bound : AddsUnless (stops_unbound end) link.bound_old link.bound_new any_address
-  pub sends : SendsStops end tag cluster link.old.lost link.new.lost link.old.sent link.new.sent
+  pub sends : SendsStops end tag cluster link.old link.new
   pub arrivals : link.new.arrivals ≡ link.old.arrivals
-  pub receives : link.new.receives ≡ link.old.receives
 
 abbrev pub StopsAs : (tag : List ℕ) → (cluster : List Addr) → LinkCall → SubmitEnd → Type 0
 StopsAs tag cluster link end = (e : StopEnd) × (stop_as_submit_end e ≡ end) × StopsLink tag cluster link e

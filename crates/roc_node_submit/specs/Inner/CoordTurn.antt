@@ -1,6 +1,6 @@
 -- One turn of a coordinator's node, and several
-use Rattle.std.specs.Prelude.{◌≡◌, ℕ, Bool, true, false, List, [], ◌∷◌, ◌++◌, drop, length, Option, Result, Ok, Err}
-use Rattle.roc_io.specs.Link.{vain}
+use Rattle.std.specs.Prelude.{◌≡◌, ℕ, Bool, true, false, List, [], ◌∷◌, ◌++◌, drop, length, map, Option, Result, Ok, Err}
+use Rattle.roc_io.specs.Link.{LinkEvent, sending, receiving, vain}
 use Rattle.roc_io.specs.Packet.{Packet}
 use Rattle.roc_io.specs.Observed.{Adds, AddsFront}
 use Rattle.roc_io.specs.declared.sink.Written.{Written}
@@ -18,15 +18,15 @@ use Rattle.roc_node_submit.specs.declared.coord_node.CoordNode.{CoordNode}
 use Rattle.roc_node_submit.specs.declared.coord_node.TurnOutput.{TurnOutput}
 use Rattle.roc_node_submit.specs.declared.ends.SubmitEnd.{SubmitEnd}
 use Rattle.roc_node_submit.specs.declared.ends.SubmitEnd.TheVariants.{Done, Unanswered, LinkFault, SinkFault, NoMemory}
-use Rattle.roc_node.specs.NodeEvent.{NodeEvent, receptions, NodeSetting}
+use Rattle.roc_node.specs.NodeEvent.{NodeEvent, receive_of, NodeSetting}
 use Rattle.roc_node_submit.specs.CoordRun.{CoordNodeState, none_submitted, IsCoordRun, accepts, submitted, submitted_all, step_of_event, reply_lines, answered_then, is_answered}
 use Rattle.roc_node_submit.specs.SubmitEnd.{submit_link_failed, submit_sink_failed, closing_text}
 use Rattle.roc_node.specs.Losing.{LosesOne}
 
--- a node that keeps this, sent these and wrote these lines
-abbrev pub coord_node_state_of : CoordNode → List Request → List Outgoing → List Packet → List Line → CoordNodeState
-coord_node_state_of coord_node requests messages sends lines =
-    record { state = coord_node.coord; left = drop coord_node.next requests; messages = messages; sends = sends; lines = lines; answered = coord_node.answered }
+-- a node that keeps this, sent these messages, asked this of its link and wrote these lines
+abbrev pub coord_node_state_of : CoordNode → List Request → List Outgoing → List LinkEvent → List Line → CoordNodeState
+coord_node_state_of coord_node requests messages traffic lines =
+    record { state = coord_node.coord; left = drop coord_node.next requests; messages = messages; traffic = traffic; lines = lines; answered = coord_node.answered }
 
 -- a request was accepted: an outbox gained what is sent, and a text what is written
 pub record SubmitsAccepted (plan : Plan) (request : Request) (old new : CoordState) (out_old out_new : List Outgoing) (text_old text_new : List ℕ) : Type 0 where
@@ -89,10 +89,10 @@ half_sink_failed (Err end) = submit_sink_failed end
 -- what the submissions before a turn did to the link and the sink
 abbrev pub HalfSubmits : Result (Unit {0}) SubmitEnd → NodeSetting → List Request → (old new : CoordNode) → (link_old link_new : LinkView) → (out_old out_new : Option (List ℕ)) → Type 0
 HalfSubmits (Ok u) S requests old new link_old link_new out_old out_new =
-    (text : List ℕ) × (sends : List Packet) × SubmitsHalf S requests old new text sends × Moves link_old link_new [] sends × Adds out_old out_new text
-HalfSubmits (Err NoMemory) S requests old new link_old link_new out_old out_new = Moves link_old link_new [] [] × Adds out_old out_new []
+    (text : List ℕ) × (sends : List Packet) × SubmitsHalf S requests old new text sends × Moves link_old link_new (map sending sends) × Adds out_old out_new text
+HalfSubmits (Err NoMemory) S requests old new link_old link_new out_old out_new = Moves link_old link_new [] × Adds out_old out_new []
 HalfSubmits (Err SinkFault) S requests old new link_old link_new out_old out_new =
-    Moves link_old link_new [] [] × AddsFront out_old out_new (lines_text S.plan.program (submitted_all S.plan (none_submitted old.coord) (drop old.next requests)).lines)
+    Moves link_old link_new [] × AddsFront out_old out_new (lines_text S.plan.program (submitted_all S.plan (none_submitted old.coord) (drop old.next requests)).lines)
 HalfSubmits (Err Done) S requests old new link_old link_new out_old out_new = ⊥
 HalfSubmits (Err Unanswered) S requests old new link_old link_new out_old out_new = ⊥
 HalfSubmits (Err LinkFault) S requests old new link_old link_new out_old out_new = ⊥
@@ -100,11 +100,11 @@ HalfSubmits (Err LinkFault) S requests old new link_old link_new out_old out_new
 -- what a turn's receive did
 abbrev pub HalfTakes : Result (Unit {0}) SubmitEnd → NodeSetting → (old new : CoordNode) → (link_old link_new : LinkView) → (out_old out_new : Option (List ℕ)) → Type 0
 HalfTakes (Ok u) S old new link_old link_new out_old out_new =
-    (event : NodeEvent) × (text : List ℕ) × (sends : List Packet) × TakesHalf S event old new text sends × Moves link_old link_new (receptions (event ∷ [])) sends × Adds out_old out_new text
+    (event : NodeEvent) × (text : List ℕ) × (sends : List Packet) × TakesHalf S event old new text sends × Moves link_old link_new (receive_of event ∷ map sending sends) × Adds out_old out_new text
 HalfTakes (Err NoMemory) S old new link_old link_new out_old out_new = LosesOne link_old link_new × Adds out_old out_new []
-HalfTakes (Err LinkFault) S old new link_old link_new out_old out_new = Moves link_old link_new (vain ∷ []) [] × Adds out_old out_new []
+HalfTakes (Err LinkFault) S old new link_old link_new out_old out_new = Moves link_old link_new (receiving vain ∷ []) × Adds out_old out_new []
 HalfTakes (Err SinkFault) S old new link_old link_new out_old out_new =
-    (event : NodeEvent) × Moves link_old link_new (receptions (event ∷ [])) [] × AddsFront out_old out_new (lines_text S.plan.program (reply_lines (step_of_event S old.coord event).answer))
+    (event : NodeEvent) × Moves link_old link_new (receive_of event ∷ []) × AddsFront out_old out_new (lines_text S.plan.program (reply_lines (step_of_event S old.coord event).answer))
 HalfTakes (Err Done) S old new link_old link_new out_old out_new = ⊥
 HalfTakes (Err Unanswered) S old new link_old link_new out_old out_new = ⊥
 
@@ -121,13 +121,13 @@ due_failed (Err end) = submit_link_failed end
 pub record TakesEventDue (S : NodeSetting) (old new : CoordNode) (output : TurnOutput) (link_old link_new : LinkView) : Type 0 where
   pub event : NodeEvent
   pub takes : TakesHalf S event old new output.text.items output.sends.items
-  pub moves : Moves link_old link_new (receptions (event ∷ [])) []
+  pub moves : Moves link_old link_new (receive_of event ∷ [])
 
 -- what one receive gives
 abbrev pub TakesOneHalf : Result TurnOutput SubmitEnd → NodeSetting → (old new : CoordNode) → LinkView → LinkView → Type 0
 TakesOneHalf (Ok output) S old new link_old link_new = TakesEventDue S old new output link_old link_new
 TakesOneHalf (Err NoMemory) S old new link_old link_new = LosesOne link_old link_new
-TakesOneHalf (Err LinkFault) S old new link_old link_new = Moves link_old link_new (vain ∷ []) []
+TakesOneHalf (Err LinkFault) S old new link_old link_new = Moves link_old link_new (receiving vain ∷ [])
 TakesOneHalf (Err Done) S old new link_old link_new = ⊥
 TakesOneHalf (Err Unanswered) S old new link_old link_new = ⊥
 TakesOneHalf (Err SinkFault) S old new link_old link_new = ⊥
@@ -136,11 +136,11 @@ TakesOneHalf (Err SinkFault) S old new link_old link_new = ⊥
 pub record CoordRanSo (S : NodeSetting) (number : ℕ) (requests : List Request) (count : ℕ) (coord_node : CoordNode) (link_old link_new : LinkView) (out_old out_new : Option (List ℕ)) : Type 0 where
   pub events : List NodeEvent
   pub messages : List Outgoing
-  pub sends : List Packet
+  pub traffic : List LinkEvent
   pub lines : List Line
   pub counted : length events ≡ count
-  pub run : IsCoordRun S number requests events (coord_node_state_of coord_node requests messages sends lines)
-  pub moves : Moves link_old link_new (receptions events) sends
+  pub run : IsCoordRun S number requests events (coord_node_state_of coord_node requests messages traffic lines)
+  pub moves : Moves link_old link_new traffic
   pub told : Adds out_old out_new (lines_text S.plan.program lines)
 
 -- the last lines were written, or a front of them, or nothing

@@ -17,9 +17,9 @@ returns-in-Ok-bind-clause-runs g c =
     let shards = c.shards-shards.ensures.value ∙ ap (λ (p : Workload). p.shards) c.workload.ensures.program ∙ sym c.requires in
     let commands = c.in-Ok.ensures.commands ∙ ap (serve_commands c.args.workload_name.now c.args.cluster_name.now c.args.turns) shards in
     bound c.run_servers.result (subst (λ o. Adds (g.L.Link.bound c.args.link.now) o (any_address ∷ [])) (sym c.run_servers.ensures.bound) made.bound)
-    (from_bind _ _ _ _ _ _ (same_view _ _ _ _ _ _ _ _ made.arrivals made.sent made.lost made.receives) (c.run_servers.ensures.runs c.args.workload_name.now c.args.cluster_name.now commands))
+    (from_bind _ _ _ _ _ _ (same_view _ _ _ _ _ _ _ _ made.arrivals made.sent made.lost made.events) (c.run_servers.ensures.runs c.args.workload_name.now c.args.cluster_name.now commands))
 
 pub returns-clause-runs : goal.returns-clause-runs
 returns-clause-runs g c =
     let same = c.in-Failed.ensures in
-    unbound (record { idle = record { link = same_view _ _ _ _ _ _ _ _ same.arrivals same.sent same.lost same.receives; out = refl }; bound = same.bound; started = refl; awaited = refl; sent_at_waits = refl })
+    unbound (record { idle = record { link = same_view _ _ _ _ _ _ _ _ same.arrivals same.sent same.lost same.events; out = refl }; bound = same.bound; started = refl; awaited = refl; sent_at_waits = refl })
