@@ -1,5 +1,5 @@
 -- A count rises exactly where the status is its own
-use Rattle.std.proofs.Common.{◌≡◌, ◌⊎◌, inl, inr, ℕ, ◌≤◌, ◌==◌, Bool, IsTrue, true, false, List, Option, Result, Ok, Err, refl, sym, ap, subst, ◌∙◌, arith}
+use Rattle.std.proofs.Common.{◌≡◌, ◌⊎◌, inl, inr, ℕ, ◌≤◌, ◌==◌, Bool, IsTrue, true, false, List, [], ◌∷◌, Option, Result, Ok, Err, refl, sym, ap, subst, ◌∙◌, arith}
 use Rattle.roc_io.specs.Cause.{HasCause}
 use Rattle.roc_cli_files.specs.declared.fault.Fault.{Fault}
 use Rattle.roc_cli_files.specs.declared.fault.Fault.TheVariants.{Rejected, Refused, Value, NoShard, Memory, Unanswered, File, Sink, Link, Child}
@@ -7,7 +7,7 @@ use Rattle.roc_cli_files.specs.Says.{Errors}
 use Rattle.roc_cli_words.specs.declared.value.Part.{Part}
 use Rattle.roc_cli_nodes.specs.Call.{RunCall}
 use Rattle.roc_cli_nodes.specs.Words.{NamesNodes}
-use Rattle.roc_cli.specs.Status.{IsQuiet}
+use Rattle.roc_cli.specs.Status.{IsOneOf, IsQuiet}
 use Rattle.roc_cli_files.specs.Fault.{IsTold, EndsWith, line_of, blames_file, blames_sink, blames_link, fails_by, ReadsBut}
 use Rattle.roc_cli_nodes.specs.Ends.{precedes_loop, CountsChildren}
 use Rattle.roc_cli.specs.Inner.Ends.{Ends, GenEnds}
@@ -68,13 +68,14 @@ link_counted fault status err old new told h = refusal_counted (line_of fault) s
 
 -- ---- statuses that come before any node runs
 
-early_is_not : (n status : ℕ) → (4 ≤ n) × (n ≡ 6 → ⊥) → status ≡ n → (status ≡ 1) ⊎ ((status ≡ 2) ⊎ ((status ≡ 3) ⊎ (status ≡ 6))) → ⊥
+early_is_not : (n status : ℕ) → (4 ≤ n) × (n ≡ 6 → ⊥) → status ≡ n → IsOneOf (1 ∷ 2 ∷ 3 ∷ 6 ∷ []) status → ⊥
 early_is_not n status late e (inl f) = let most = late.0 in absurd (omega arith)
 early_is_not n status late e (inr (inl f)) = let most = late.0 in absurd (omega arith)
 early_is_not n status late e (inr (inr (inl f))) = let most = late.0 in absurd (omega arith)
-early_is_not n status late e (inr (inr (inr f))) = late.1 (sym e ∙ f)
+early_is_not n status late e (inr (inr (inr (inl f)))) = late.1 (sym e ∙ f)
+early_is_not n status late e (inr (inr (inr (inr none)))) = none
 
-pub told_early : (fault : Fault) (status : ℕ) (err : Errors) → IsTold fault status err → (status ≡ 1) ⊎ ((status ≡ 2) ⊎ ((status ≡ 3) ⊎ (status ≡ 6))) → IsTrue (precedes_loop fault)
+pub told_early : (fault : Fault) (status : ℕ) (err : Errors) → IsTold fault status err → IsOneOf (1 ∷ 2 ∷ 3 ∷ 6 ∷ []) status → IsTrue (precedes_loop fault)
 told_early Memory status err (e, says) h = absurd (early_is_not 4 status (omega arith, λ f. absurd (omega arith)) e h)
 told_early Unanswered status err e h = absurd (early_is_not 5 status (omega arith, λ f. absurd (omega arith)) e h)
 told_early Sink status err (e, says) h = absurd (early_is_not 7 status (omega arith, λ f. absurd (omega arith)) e h)
@@ -89,7 +90,8 @@ quiet_done words P without (inl none) = without none
 quiet_done words P without (inr (inl e)) = absurd (omega arith)
 quiet_done words P without (inr (inr (inl e))) = absurd (omega arith)
 quiet_done words P without (inr (inr (inr (inl e)))) = absurd (omega arith)
-quiet_done words P without (inr (inr (inr (inr e)))) = absurd (omega arith)
+quiet_done words P without (inr (inr (inr (inr (inl e))))) = absurd (omega arith)
+quiet_done words P without (inr (inr (inr (inr (inr none))))) = absurd none
 
 -- what holds of words without nodes, and of all that comes before nodes run, holds where all is quiet
 pub quiet_told : (words : List (List ℕ)) (fault : Fault) (status : ℕ) (err : Errors) (P : Type 0) → IsTold fault status err → ((NamesNodes words → ⊥) → P) → (IsTrue (precedes_loop fault) → P)

@@ -11,18 +11,20 @@ use Rattle.roc_program.specs.Program.{Workload}
 use Rattle.roc_lang_resolve.specs.Resolve.{resolved}
 use Rattle.roc_plan.specs.Groups.{Plan}
 use Rattle.roc_io.specs.declared.link.Addr.{Addr}
+use Rattle.roc_protocol.specs.World.{World}
+use Rattle.roc_protocol.specs.Run.{Stepped}
 use Rattle.roc_cluster.specs.declared.fault.ClusterFault.{ClusterFault}
 use Rattle.roc_cluster.specs.declared.fault.ClusterFault.TheVariants as cluster_fault
 use Rattle.roc_cluster.specs.File.{IsClusterFile}
 use Rattle.roc_cluster.specs.Answer.{IsClusterFault}
 use Rattle.roc_report.specs.Line.{Line}
-use Rattle.roc_check.specs.Checked.{IsPlanOf, IsPlanOfText, IsRefusedBy, IsRefusedText}
+use Rattle.roc_check.specs.Checked.{IsTextOf, IsPlanOf, IsPlanOfText, IsRefusedBy, IsRefusedText}
 use Rattle.roc_sched.specs.declared.fault.What.{What as ScheduleWhat}
 use Rattle.roc_sched.specs.declared.line.Request.{Request}
 use Rattle.roc_replay.specs.declared.asked.BoundLine.{BoundLine}
 use Rattle.roc_sched.specs.Schedule.{most_bytes, AreRequests, IsRequestFault}
 use Rattle.roc_replay.specs.BoundLine.{IsScheduleOf}
-use Rattle.roc_replay.specs.Played.{DeliversOnlySent}
+use Rattle.roc_replay.specs.Played.{IsPlayed, DeliversOnlySent}
 use Rattle.roc_replay.specs.Ended.{IsTextFault}
 use Rattle.roc_cli_words.specs.declared.value.Part.{Part}
 use Rattle.roc_cli_words.specs.declared.value.ValueName.{ValueName}
@@ -61,6 +63,7 @@ pub record TextLaws : Type 0 where
   pub no_text_fault :
       (plan : Plan) (text : List ℕ) (lines : List BoundLine) → IsScheduleOf plan.program text lines → DeliversOnlySent plan lines
       → (number : ℕ) (fault : ScheduleWhat) (old new : Option (List ℕ)) → IsTextFault plan text number fault old new → ⊥
+  pub sent : (plan : Plan) (lines : List BoundLine) (steps : List Stepped) (w : World) → IsPlayed plan lines steps w → DeliversOnlySent plan lines
 
 -- ---- words
 
@@ -69,7 +72,7 @@ pub no_such_value : (words : List (List ℕ)) (c : Command) (value : ValueName) 
 no_such_value words c value is none = let both : Some (Ok c) ≡ Some (Err value) = sym is.asked ∙ none.asked in absurd (cc)
 
 -- words of a command without nodes are not refused
-words_taken : (call : RunCall) (c : Command) → AreWordsOf call.words c → ((files : NodeFiles) → NamesNodeFiles call.words files → ⊥) → (line : List ℕ) → AreRefusedWords call line → ⊥
+pub words_taken : (call : RunCall) (c : Command) → AreWordsOf call.words c → ((files : NodeFiles) → NamesNodeFiles call.words files → ⊥) → (line : List ℕ) → AreRefusedWords call line → ⊥
 words_taken call c is alone line (by_clap text not) = not is.taken
 words_taken call c is alone line (no_value value none) = no_such_value call.words c value is none
 words_taken call c is alone line (no_shard files names lacks) = alone files names
@@ -89,14 +92,15 @@ module _ (laws : TextLaws) (content : List ℕ → Option (List ℕ)) (workload 
     same_tree name other same h =
         laws.one_tree bytes other tree (subst (λ b. IsWorkloadText b other) (sym (told content workload name bytes h.bytes held same h.held)) h.is) text
 
+  module _ (program : Workload) (text : IsTextOf bytes program) where
+    pub in_scope : (name : List ℕ) (fault : Fault) → name ≡ workload → HoldsMisuse content name fault → ⊥
+    in_scope name fault same h =
+        let e : faults h.tree ≡ [] = ap faults (same_tree text.tree text.text name h.tree same h.of) ∙ text.in_scope in
+        absurd (none-some fault (sym (ap first e) ∙ h.is))
+
   module _ (plan : Plan) (planned : IsPlanOfText bytes plan) where
     abbrev tree : Tree
     tree = planned.text.tree
-
-    pub in_scope : (name : List ℕ) (fault : Fault) → name ≡ workload → HoldsMisuse content name fault → ⊥
-    in_scope name fault same h =
-        let e : faults h.tree ≡ [] = ap faults (same_tree tree planned.text.text name h.tree same h.of) ∙ planned.text.in_scope in
-        absurd (none-some fault (sym (ap first e) ∙ h.is))
 
     pub same_plan : (name : List ℕ) (other : Plan) → name ≡ workload → HoldsPlan content name other → other ≡ plan
     same_plan name other same h =
@@ -131,7 +135,7 @@ module _ (laws : TextLaws) (call : RunCall) where
     replay_right : (line : List ℕ) → IsRefused call line → ⊥
     replay_right _ (long_workload workload names more same) = not_long laws call.files.content fit.workload fit.bytes fit.held fit.planned.text.tree fit.planned.text.text workload (the_workload workload names) more
     replay_right _ (no_text workload line what names held same) = not_faulty laws call.files.content fit.workload fit.bytes fit.held fit.planned.text.tree fit.planned.text.text workload line what (the_workload workload names) held
-    replay_right _ (out_of_scope workload fault names held same) = in_scope laws call.files.content fit.workload fit.bytes fit.held fit.plan fit.planned workload fault (the_program workload names) held
+    replay_right _ (out_of_scope workload fault names held same) = in_scope laws call.files.content fit.workload fit.bytes fit.held fit.plan.program fit.planned.text workload fault (the_program workload names) held
     replay_right _ (long_schedule workload schedule plan given planned more same) =
         let past = told_more call.files.content fit.schedule schedule fit.text most_bytes fit.scheduled (the_schedule workload schedule given) more in
         let size = fit.of_text.schedule.size in
@@ -168,7 +172,7 @@ module _ (laws : TextLaws) (call : RunCall) where
     check_right : (line : List ℕ) → IsRefused call line → ⊥
     check_right _ (long_workload workload names more same) = not_long laws call.files.content fit.workload fit.bytes fit.held fit.planned.text.tree fit.planned.text.text workload (checked_workload workload names) more
     check_right _ (no_text workload line what names held same) = not_faulty laws call.files.content fit.workload fit.bytes fit.held fit.planned.text.tree fit.planned.text.text workload line what (checked_workload workload names) held
-    check_right _ (out_of_scope workload fault names held same) = in_scope laws call.files.content fit.workload fit.bytes fit.held fit.plan fit.planned workload fault (checked_program workload names) held
+    check_right _ (out_of_scope workload fault names held same) = in_scope laws call.files.content fit.workload fit.bytes fit.held fit.plan.program fit.planned.text workload fault (checked_program workload names) held
     check_right _ (long_schedule workload schedule plan given planned more same) = unlike ⊥ call.words (replay workload schedule) (check fit.workload) given fit.given refl
     check_right _ (bad_schedule plan bytes asked number what h) = unlike ⊥ call.words (replay asked.workload asked.schedule) (check fit.workload) asked.given fit.given refl
     check_right _ (long_cluster files plan names planned more same) = checked_alone files names

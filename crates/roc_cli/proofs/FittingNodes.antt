@@ -84,7 +84,7 @@ module _ (laws : TextLaws) (call : RunCall) where
     nodes_right : (line : List ℕ) → IsRefused call line → ⊥
     nodes_right _ (long_workload workload names more same) = not_long laws call.files.content fit.files.workload fit.bytes fit.held fit.planned.text.tree fit.planned.text.text workload (their_workload workload names) more
     nodes_right _ (no_text workload line what names held same) = not_faulty laws call.files.content fit.files.workload fit.bytes fit.held fit.planned.text.tree fit.planned.text.text workload line what (their_workload workload names) held
-    nodes_right _ (out_of_scope workload fault names held same) = in_scope laws call.files.content fit.files.workload fit.bytes fit.held fit.plan fit.planned workload fault (their_program workload names) held
+    nodes_right _ (out_of_scope workload fault names held same) = in_scope laws call.files.content fit.files.workload fit.bytes fit.held fit.plan.program fit.planned.text workload fault (their_program workload names) held
     nodes_right _ (long_schedule workload schedule plan given planned more same) = no_replay workload schedule given
     nodes_right _ (bad_schedule plan bytes asked number what h) = no_replay asked.workload asked.schedule asked.given
     nodes_right _ (long_cluster files plan names planned more same) =

@@ -6,3 +6,4 @@ pub mod FittingNodes
 pub mod Loads
 pub mod Counts
 pub mod Told
+pub mod Unfitting

@@ -1,5 +1,5 @@
 -- What the status says, where a fault was told
-use Rattle.std.proofs.Common.{◌≡◌, ◌⊎◌, inl, inr, ℕ, ◌≤◌, List, Option, codes, refl, sym, subst, ◌∙◌, arith, ◌∷◌, Ok, Err}
+use Rattle.std.proofs.Common.{◌≡◌, ◌⊎◌, inl, inr, ℕ, ◌≤◌, List, Option, codes, refl, sym, subst, ◌∙◌, arith, [], ◌∷◌, Ok, Err}
 use Rattle.roc_replay.specs.Ended.{no_schedule, unfit, unsent, behind_lines}
 use Rattle.roc_replay.specs.Report.{report}
 use Rattle.roc_node_serve.specs.declared.ends.ServeEnd.TheVariants as serve_end
@@ -17,8 +17,8 @@ use Rattle.roc_cli.specs.Done.{Replays, Explains, Prints, Checks, Generates, Rej
 use Rattle.roc_cli_nodes.specs.Nodes.{ServeEnded, SubmitEnded, StopEnded, LocalEnded, AreNodesEnded, IsChildBlamed, BlamesAnyChild}
 use Rattle.roc_cli.specs.Stopped.{IsUnread, RunsOut, with_nothing, with_lines, CutsOutput}
 use Rattle.roc_cli.specs.Refused.{AreRefusedWords, IsRefused, long_workload, no_text, out_of_scope, long_schedule, bad_schedule, long_cluster, bad_cluster, long_requests, bad_requests}
-use Rattle.roc_cli.specs.Status.{Answers}
-use Rattle.roc_cli.specs.Inner.Faultless.{IsFaultless, IsShardless, AreFitting}
+use Rattle.roc_cli.specs.Status.{IsOneOf, Answers}
+use Rattle.roc_cli.specs.Inner.Faultless.{IsFaultless, IsShardless, IsUndone, IsUnplanned, IsUnwritten, IsUnplayed, AreFitting}
 use Rattle.roc_cli_files.specs.Fault.{IsTold, EndsWith, line_of, Blames}
 use Rattle.roc_cli.specs.Inner.Ends.{RefusesWords, Fails, Ends, WholeEnds}
 use Rattle.roc_cli_nodes.proofs.Naming.{unlike, no_name}
@@ -129,14 +129,14 @@ module _ (call : WholeCall) (err : Errors) where
 
   -- where nothing is wrong with the call
   at_fitting : (status : ℕ) (line : List ℕ) → IsFailure call status line → (NamesNodes call.run.words → ⊥) → IsFaultless call.run
-      → (status ≡ 0) ⊎ ((status ≡ 4) ⊎ ((status ≡ 6) ⊎ (status ≡ 7)))
+      → IsOneOf (0 ∷ 4 ∷ 6 ∷ 7 ∷ []) status
   at_fitting _ _ (rejected h read) none is = absurd (is.acceptable h)
   at_fitting _ _ (no_words said refuses read) none is = absurd (is.taken said refuses.1)
   at_fitting _ _ (refused line h read) none is = absurd (is.right line h)
   at_fitting _ _ (memory h read) none is = inr (inl refl)
   at_fitting _ _ (unanswered h read) none is = absurd (none (nodes_named call submit_end.Unanswered h))
   at_fitting _ _ (unread name h) none is = inr (inr (inl refl))
-  at_fitting _ _ (cut h read) none is = inr (inr (inr refl))
+  at_fitting _ _ (cut h read) none is = inr (inr (inr (inl refl)))
   at_fitting _ _ (cut_off h read) none is = absurd (none (nodes_named call submit_end.LinkFault h))
   at_fitting _ _ (child shard own h read) none is = absurd (none (child_named call shard own h))
 
@@ -203,11 +203,11 @@ module _ (call : WholeCall) (err : Errors) where
   at_others _ _ (child shard own h read) other = read
 
   -- words that are none of a command's: only refused words and want of memory
-  of_words : (status : ℕ) (line : List ℕ) → IsFailure call status line → (AreCommandWords call.run.words → ⊥) → (status ≡ 2) ⊎ (status ≡ 4)
+  of_words : (status : ℕ) (line : List ℕ) → IsFailure call status line → (AreCommandWords call.run.words → ⊥) → IsOneOf (2 ∷ 4 ∷ []) status
   of_words _ _ (rejected h read) none = absurd (none (of_program call.run.words h.workload h.named))
   of_words _ _ (no_words said h read) none = inl refl
   of_words _ _ (refused line h read) none = absurd (none (refused_words call.run line h))
-  of_words _ _ (memory h read) none = inr refl
+  of_words _ _ (memory h read) none = inr (inl refl)
   of_words _ _ (unanswered h read) none = absurd (none (nodes_words call submit_end.Unanswered h))
   of_words _ _ (unread name h) none = absurd (none (input_words call.run name h.input))
   of_words _ _ (cut (inl h) read) none = absurd (none (cut_words call.run h))
@@ -216,17 +216,44 @@ module _ (call : WholeCall) (err : Errors) where
   of_words _ _ (child shard own h read) none = let named = child_named call shard own h in absurd (none (named.1.0, named.1.1))
 
   -- a shard that the workload lacks
-  of_missing : (status : ℕ) (line : List ℕ) → IsFailure call status line → IsShardless call → (status ≡ 2) ⊎ ((status ≡ 4) ⊎ (status ≡ 6))
+  of_missing : (status : ℕ) (line : List ℕ) → IsFailure call status line → IsShardless call → IsOneOf (2 ∷ 4 ∷ 6 ∷ []) status
   of_missing _ _ (rejected h read) is = absurd (is.acceptable h)
   of_missing _ _ (no_words said h read) is = inl refl
   of_missing _ _ (refused line h read) is = absurd (is.right line h)
   of_missing _ _ (memory h read) is = inr (inl refl)
   of_missing _ _ (unanswered h read) is = absurd (is.unrun submit_end.Unanswered h)
-  of_missing _ _ (unread name h) is = inr (inr refl)
+  of_missing _ _ (unread name h) is = inr (inr (inl refl))
   of_missing _ _ (cut (inl h) read) is = absurd (is.uncut h)
   of_missing _ _ (cut (inr h) read) is = absurd (is.unrun submit_end.SinkFault h)
   of_missing _ _ (cut_off h read) is = absurd (is.unrun submit_end.LinkFault h)
   of_missing _ _ (child shard own h read) is = absurd (is.no_child shard own h)
+
+  -- where nothing was done, the statuses that may come of a workload that is rejected, of a file that is refused and of what could not be written
+  of_undone : (allowed : List ℕ) (status : ℕ) (line : List ℕ) → IsFailure call status line → IsUndone call
+      → (Rejects call.run → IsOneOf allowed 1) → ((said : List ℕ) → IsRefused call.run said → IsOneOf allowed 3) → (CutsOutput call.run → IsOneOf allowed 7)
+      → IsOneOf allowed 4 → IsOneOf allowed 6 → IsOneOf allowed status
+  of_undone allowed _ _ (rejected h read) is one three seven four six = one h
+  of_undone allowed _ _ (no_words said h read) is one three seven four six = absurd (is.taken said h.1)
+  of_undone allowed _ _ (refused line h read) is one three seven four six = three line h
+  of_undone allowed _ _ (memory h read) is one three seven four six = four
+  of_undone allowed _ _ (unanswered h read) is one three seven four six = absurd (is.unrun submit_end.Unanswered h)
+  of_undone allowed _ _ (unread name h) is one three seven four six = six
+  of_undone allowed _ _ (cut (inl h) read) is one three seven four six = seven h
+  of_undone allowed _ _ (cut (inr h) read) is one three seven four six = absurd (is.unrun submit_end.SinkFault h)
+  of_undone allowed _ _ (cut_off h read) is one three seven four six = absurd (is.unrun submit_end.LinkFault h)
+  of_undone allowed _ _ (child shard own h read) is one three seven four six = absurd (is.no_child shard own h)
+
+  of_planless : (status : ℕ) (line : List ℕ) → IsFailure call status line → IsUnplanned call → IsOneOf (1 ∷ 4 ∷ 6 ∷ 7 ∷ []) status
+  of_planless status line h lacks =
+      of_undone (1 ∷ 4 ∷ 6 ∷ 7 ∷ []) status line h lacks.is (λ r. inl refl) (λ said r. absurd (lacks.right said r)) (λ c. inr (inr (inr (inl refl)))) (inr (inl refl)) (inr (inr (inl refl)))
+
+  of_workloadless : (status : ℕ) (line : List ℕ) → IsFailure call status line → IsUnwritten call → IsOneOf (3 ∷ 4 ∷ 6 ∷ []) status
+  of_workloadless status line h lacks =
+      of_undone (3 ∷ 4 ∷ 6 ∷ []) status line h lacks.is (λ r. absurd (lacks.acceptable r)) (λ said r. inl refl) (λ c. absurd (lacks.uncut c)) (inr (inl refl)) (inr (inr (inl refl)))
+
+  of_scheduleless : (status : ℕ) (line : List ℕ) → IsFailure call status line → IsUnplayed call → IsOneOf (3 ∷ 4 ∷ 6 ∷ 7 ∷ []) status
+  of_scheduleless status line h lacks =
+      of_undone (3 ∷ 4 ∷ 6 ∷ 7 ∷ []) status line h lacks.is (λ r. absurd (lacks.acceptable r)) (λ said r. inl refl) (λ c. inr (inr (inr (inl refl)))) (inr (inl refl)) (inr (inr (inl refl)))
 
   pub fault_answers : (fault : Fault) (status : ℕ) → AreFitting call → WholeEnds call (Err fault) → Blames call.run.files.failed_old call.run.files.failed_new fault → IsTold fault status err → Answers call err status
   fault_answers fault status laws fails blames told =
@@ -246,10 +273,13 @@ module _ (call : WholeCall) (err : Errors) where
         complete = λ fit. at_fitting status h.line h.is (fit_names_no_nodes call.run fit) (laws.files fit);
         complete_nodes = λ fit. at_fitting_nodes status h.line h.is (laws.nodes fit);
         rejected = at_rejected status h.line h.is;
+        no_plan = λ lacks. of_planless status h.line h.is (laws.planless lacks);
         no_words = at_words status h.line h.is h.says;
         words = of_words status h.line h.is;
         no_shard = λ missing. of_missing status h.line h.is (laws.shardless missing);
         refused = at_refused status h.line h.is h.says;
+        no_workload = λ lacks. of_workloadless status h.line h.is (laws.workloadless lacks);
+        no_schedule = λ lacks. of_scheduleless status h.line h.is (laws.scheduleless lacks);
         memory = at_memory status h.line h.is h.says;
         unanswered = at_unanswered status h.line h.is;
         unread = at_unread status h.line h.is h.says;
@@ -330,6 +360,10 @@ module _ (call : WholeCall) where
   shardless_undone is (inl h) = is.undone h
   shardless_undone is (inr h) = is.unrun submit_end.Done h
 
+  not_undone : IsUndone call → WholeEnds call (Ok tt) → ⊥
+  not_undone is (inl h) = is.undone h
+  not_undone is (inr h) = is.unrun submit_end.Done h
+
   pub done_answers : (err : Errors) → AreFitting call → WholeEnds call (Ok tt) → ReadsAll call.run → call.children.faults_new ≡ call.children.faults_old → Answers call err 0
   done_answers err laws done read childless = record {
     statuses = omega arith;
@@ -346,10 +380,13 @@ module _ (call : WholeCall) where
     complete = λ _. inl refl;
     complete_nodes = λ _. inl refl;
     rejected = λ e. absurd (omega arith);
+    no_plan = λ lacks. absurd (not_undone (laws.planless lacks).is done);
     no_words = λ e. absurd (omega arith);
     words = λ none. absurd (none (done_words done));
     no_shard = λ missing. absurd (shardless_undone (laws.shardless missing) done);
     refused = λ e. absurd (omega arith);
+    no_workload = λ lacks. absurd (not_undone (laws.workloadless lacks).is done);
+    no_schedule = λ lacks. absurd (not_undone (laws.scheduleless lacks).is done);
     memory = λ e. absurd (omega arith);
     unanswered = λ e. absurd (omega arith);
     unread = λ e. absurd (omega arith);

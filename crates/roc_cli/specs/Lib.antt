@@ -2,6 +2,7 @@ pub mod Done
 pub mod Refused
 pub mod Stopped
 pub mod Fit
+pub mod Unfit
 pub mod Status
 pub mod Inner
 pub use Rattle.roc_cli_files.specs.Held

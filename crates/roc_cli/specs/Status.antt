@@ -1,5 +1,5 @@
 -- What each status of `run` says: docs/FORMATS.md, "The program"
-use Rattle.std.specs.Prelude.{◌≡◌, ◌≤◌, ◌⊎◌, ℕ, List, Option, codes}
+use Rattle.std.specs.Prelude.{◌≡◌, ◌≤◌, ◌⊎◌, ℕ, List, [], ◌∷◌, Option, codes}
 use Rattle.roc_node_serve.specs.declared.ends.ServeEnd.TheVariants as serve_end
 use Rattle.roc_node_submit.specs.declared.ends.SubmitEnd.TheVariants as submit_end
 use Rattle.roc_base.specs.declared.node.Shard.{Shard}
@@ -11,8 +11,14 @@ use Rattle.roc_cli_nodes.specs.Words.{AreReplayWords, ArePrintWords, AreCheckWor
 use Rattle.roc_cli.specs.Done.{Replays, Explains, Prints, Checks, Generates, Rejects}
 use Rattle.roc_cli_nodes.specs.Nodes.{ServeEnded, SubmitEnded, StopEnded, LocalEnded, AreNodesEnded, IsChildBlamed, BlamesAnyChild}
 use Rattle.roc_cli.specs.Fit.{IsFit, NodesFit, MissesShard}
+use Rattle.roc_cli.specs.Unfit.{LacksPlan, LacksWorkload, LacksSchedule}
 use Rattle.roc_cli.specs.Refused.{AreRefusedWords, IsRefused}
 use Rattle.roc_cli.specs.Stopped.{IsUnread, RunsOut, CutsOutput}
+
+-- the status is one of these
+abbrev pub IsOneOf : List ℕ → (status : ℕ) → Type 0
+IsOneOf [] status = ⊥
+IsOneOf (s ∷ statuses) status = (status ≡ s) ⊎ IsOneOf statuses status
 
 -- what the call did, by the status with which it answers
 pub record Answers (call : WholeCall) (err : Errors) (status : ℕ) : Type 0 where
@@ -35,18 +41,22 @@ pub record Answers (call : WholeCall) (err : Errors) (status : ℕ) : Type 0 whe
   pub ran : status ≡ 0 → AreLocalWords call.run.words → LocalEnded call.run call.link call.children local_end.Done
   pub childless : status ≡ 0 → call.children.faults_new ≡ call.children.faults_old
   -- a command whose words and files fit is done, unless memory, a file or standard output failed it
-  pub complete : IsFit call.run → (status ≡ 0) ⊎ ((status ≡ 4) ⊎ ((status ≡ 6) ⊎ (status ≡ 7)))
+  pub complete : IsFit call.run → IsOneOf (0 ∷ 4 ∷ 6 ∷ 7 ∷ []) status
   -- ..and one with nodes is done, or as far as its turns led, unless the link failed it too
   pub complete_nodes : NodesFit call.run → (status ≡ 0) ⊎ (4 ≤ status)
-  -- 1: the workload is not acceptable, and the line that says why was written
+  -- 1: exactly where the workload is not acceptable, unless memory, a file or standard output failed it; and the line that says why was written
   pub rejected : status ≡ 1 → Rejects call.run
+  pub no_plan : LacksPlan call.run → IsOneOf (1 ∷ 4 ∷ 6 ∷ 7 ∷ []) status
   -- 2: exactly where the words are not those of a command, or the files are right and the words ask for a shard that the workload lacks, unless memory or
   -- the reading of a file failed it before
   pub no_words : status ≡ 2 → TakesNothing call.run × (line : List ℕ) × AreRefusedWords call.run line × Says err line
-  pub words : (AreCommandWords call.run.words → ⊥) → (status ≡ 2) ⊎ (status ≡ 4)
-  pub no_shard : MissesShard call.run → (status ≡ 2) ⊎ ((status ≡ 4) ⊎ (status ≡ 6))
-  -- 3: a file is too long, no text of its grammar, out of scope, or does not fit the plan or the run
+  pub words : (AreCommandWords call.run.words → ⊥) → IsOneOf (2 ∷ 4 ∷ []) status
+  pub no_shard : MissesShard call.run → IsOneOf (2 ∷ 4 ∷ 6 ∷ []) status
+  -- 3: a file is too long, no text of its grammar, out of scope, or does not fit the plan or the run. Exactly so for the workload of any command and
+  -- the schedule of a replay, unless memory or a file failed it before, or standard output at the lines before that of a message that was not sent
   pub refused : status ≡ 3 → (line : List ℕ) × IsRefused call.run line × Says err line
+  pub no_workload : LacksWorkload call.run → IsOneOf (3 ∷ 4 ∷ 6 ∷ []) status
+  pub no_schedule : LacksSchedule call.run → IsOneOf (3 ∷ 4 ∷ 6 ∷ 7 ∷ []) status
   -- 4: no memory, if only for the line of status 3 or 9
   pub memory : status ≡ 4 → (RunsOut call.run ⊎ (AreNodesEnded call submit_end.NoMemory ⊎ BlamesAnyChild call)) × Says err (word_line (codes "memory"))
   -- 5: all turns were taken, and a request is unanswered or was not submitted
@@ -63,4 +73,4 @@ pub record Answers (call : WholeCall) (err : Errors) (status : ℕ) : Type 0 whe
 
 -- the words are not those of a command with nodes, or it ended before any of these ran
 abbrev pub IsQuiet : List (List ℕ) → (status : ℕ) → Type 0
-IsQuiet words status = (NamesNodes words → ⊥) ⊎ ((status ≡ 1) ⊎ ((status ≡ 2) ⊎ ((status ≡ 3) ⊎ (status ≡ 6))))
+IsQuiet words status = (NamesNodes words → ⊥) ⊎ IsOneOf (1 ∷ 2 ∷ 3 ∷ 6 ∷ []) status

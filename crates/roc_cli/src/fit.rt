@@ -1,14 +1,14 @@
-//! Why a command whose words and files fit is done.
+//! Why a command whose words and files fit is done, and one whose files are none is not.
 ghost use Rattle.roc_cli_nodes.specs.Call.{WholeCall};
 ghost use Rattle.roc_cli.specs.Inner.Faultless.{AreFitting};
 
 use roc_check::laws::{plans_are_unique, refusals_are_unique};
 use roc_cluster::laws::cluster_files_keep_the_rules;
 use roc_lang_parse::laws::{text_has_no_fault, tree_is_unique};
-use roc_replay::laws::sent_schedules_have_no_fault;
+use roc_replay::laws::{sent_schedules_are_played, sent_schedules_have_no_fault};
 use roc_sched::laws::{lines_are_unique, texts_are_right_or_wrong};
 
-/// Nothing is wrong with a call whose words and files fit.
+/// Nothing is wrong with a call whose words and files fit, and nothing is done for one whose workload or schedule is none.
 pub(crate) fn fitting_calls_are_faultless()
     ensures { (call : WholeCall) → AreFitting call }
 {
@@ -17,6 +17,7 @@ pub(crate) fn fitting_calls_are_faultless()
     plans_are_unique();
     refusals_are_unique();
     sent_schedules_have_no_fault();
+    sent_schedules_are_played();
     cluster_files_keep_the_rules();
     lines_are_unique();
     texts_are_right_or_wrong();

@@ -1,4 +1,4 @@
--- Calls that nothing is wrong with, and calls for a shard that the workload lacks
+-- Calls that nothing is wrong with, calls for a shard that the workload lacks, and calls that cannot be done
 use Rattle.std.specs.Prelude.{ℕ, List, Option, Ok}
 use Rattle.roc_base.specs.declared.node.Shard.{Shard}
 use Rattle.roc_node_submit.specs.declared.ends.SubmitEnd.{SubmitEnd}
@@ -8,6 +8,7 @@ use Rattle.roc_cli_nodes.specs.Nodes.{AreNodesEnded, IsChildBlamed}
 use Rattle.roc_cli.specs.Refused.{AreRefusedWords, IsRefused}
 use Rattle.roc_cli.specs.Stopped.{CutsOutput}
 use Rattle.roc_cli.specs.Fit.{IsFit, NodesFit, MissesShard}
+use Rattle.roc_cli.specs.Unfit.{LacksPlan, LacksWorkload, LacksSchedule}
 use Rattle.roc_cli.specs.Inner.Ends.{Ends}
 
 -- the words are taken, and no file is to blame
@@ -25,8 +26,34 @@ pub record IsShardless (call : WholeCall) : Type 0 where
   pub no_child : (shard : Shard) (status : Option ℕ) → IsChildBlamed call shard status → ⊥
   pub undone : Ends call.run (Ok tt) → ⊥
 
--- what is known of calls that fit, and of those for a shard that is missing
+-- the words are taken, and nothing was done
+pub record IsUndone (call : WholeCall) : Type 0 where
+  pub taken : (line : List ℕ) → AreRefusedWords call.run line → ⊥
+  pub unrun : (end : SubmitEnd) → AreNodesEnded call end → ⊥
+  pub no_child : (shard : Shard) (status : Option ℕ) → IsChildBlamed call shard status → ⊥
+  pub undone : Ends call.run (Ok tt) → ⊥
+
+-- ..and no file is refused
+pub record IsUnplanned (call : WholeCall) : Type 0 where
+  pub is : IsUndone call
+  pub right : (line : List ℕ) → IsRefused call.run line → ⊥
+
+-- ..or none is rejected, and nothing was due to be written
+pub record IsUnwritten (call : WholeCall) : Type 0 where
+  pub is : IsUndone call
+  pub acceptable : Rejects call.run → ⊥
+  pub uncut : CutsOutput call.run → ⊥
+
+-- ..or none is rejected
+pub record IsUnplayed (call : WholeCall) : Type 0 where
+  pub is : IsUndone call
+  pub acceptable : Rejects call.run → ⊥
+
+-- what is known of calls that fit, of those for a shard that is missing, and of those that cannot be done
 pub record AreFitting (call : WholeCall) : Type 0 where
   pub files : IsFit call.run → IsFaultless call.run
   pub nodes : NodesFit call.run → IsFaultless call.run
   pub shardless : MissesShard call.run → IsShardless call
+  pub planless : LacksPlan call.run → IsUnplanned call
+  pub workloadless : LacksWorkload call.run → IsUnwritten call
+  pub scheduleless : LacksSchedule call.run → IsUnplayed call

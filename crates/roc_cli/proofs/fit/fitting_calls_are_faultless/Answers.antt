@@ -1,5 +1,6 @@
 use Rattle.roc_cli.proofs.Fitting.{TextLaws, faultless}
 use Rattle.roc_cli.proofs.FittingNodes.{only_memory, nodes_faultless, shardless}
+use Rattle.roc_cli.proofs.Unfitting.{unplanned, unwritten, unplayed}
 use Rattle.roc_cli.proofs.fit.fitting_calls_are_faultless.Goals as goal
 
 pub returns : goal.returns
@@ -13,5 +14,13 @@ returns c call =
       one_list = c.lines_are_unique.ensures.requests;
       no_list_fault = c.texts_are_right_or_wrong.ensures.one_of_each;
       no_text_fault = c.sent_schedules_have_no_fault.ensures;
+      sent = c.sent_schedules_are_played.ensures.sent;
     } in
-    record { files = faultless laws call.run; nodes = nodes_faultless laws call.run; shardless = shardless laws call }
+    record {
+      files = faultless laws call.run;
+      nodes = nodes_faultless laws call.run;
+      shardless = shardless laws call;
+      planless = unplanned laws call;
+      workloadless = unwritten call;
+      scheduleless = unplayed laws call;
+    }

@@ -1,0 +1,201 @@
+-- Why a call is not done whose workload or schedule is none
+use Rattle.std.proofs.Common.{◌≡◌, inl, inr, ℕ, List, Option, Some, Ok, refl, sym, ap, subst, ◌∙◌}
+use Rattle.roc_base.specs.declared.node.Shard.{Shard}
+use Rattle.roc_lang.specs.Syntax.{Tree}
+use Rattle.roc_lang_parse.specs.Fault.{IsWorkloadText}
+use Rattle.roc_program.specs.Program.{Workload}
+use Rattle.roc_lang_resolve.specs.Resolve.{resolved}
+use Rattle.roc_plan.specs.Groups.{Plan}
+use Rattle.roc_report.specs.Line.{Line}
+use Rattle.roc_check.specs.Checked.{IsTextOf, IsPlanOf, IsPlanOfText}
+use Rattle.roc_node_submit.specs.declared.ends.SubmitEnd.{SubmitEnd}
+use Rattle.roc_replay.specs.declared.asked.BoundLine.{BoundLine}
+use Rattle.roc_replay.specs.BoundLine.{IsScheduleOf}
+use Rattle.roc_replay.specs.Played.{DeliversOnlySent}
+use Rattle.roc_cli_words.specs.declared.value.Part.{Part}
+use Rattle.roc_cli_words.specs.Commands.{Command, check, print, replay, serve, submit, stop, local, gen}
+use Rattle.roc_cli_words.specs.Answer.{AreWordsOf}
+use Rattle.roc_cli_nodes.specs.Call.{RunCall, WholeCall}
+use Rattle.roc_cli_nodes.specs.Words.{IsReplay, IsPrint, IsGen, node_files, program_of, workload_of, NamesProgram, NamesWorkload, NamesNodeFiles}
+use Rattle.roc_cli_nodes.specs.Nodes.{AreNodesEnded, IsChildBlamed}
+use Rattle.roc_cli_files.specs.Held.{NodeFiles, Holds, HoldsPlan, HoldsText, HoldsRejected}
+use Rattle.roc_cli.specs.Stopped.{CutsOutput, in_report, in_text, in_check, in_rejection, in_generated}
+use Rattle.roc_cli.specs.Refused.{AreRefusedWords, by_clap, no_value, no_shard, IsRefused, long_workload, no_text, out_of_scope, long_schedule, bad_schedule, long_cluster, bad_cluster, long_requests, bad_requests}
+use Rattle.roc_cli.specs.Unfit as unfit
+use Rattle.roc_cli.specs.Unfit.{LacksPlan, LacksWorkload, LacksSchedule}
+use Rattle.roc_cli.specs.Inner.Ends.{Ends}
+use Rattle.roc_cli.specs.Inner.Faultless.{IsUndone, IsUnplanned, IsUnwritten, IsUnplayed}
+use Rattle.roc_cli_nodes.proofs.Naming.{unlike, same_name, no_name, as_workload, as_program, replay_schedule}
+use Rattle.roc_cli_nodes.proofs.Named.{nodes_named, child_named}
+use Rattle.roc_cli.proofs.Fitting.{TextLaws, told, not_long, not_faulty, in_scope, same_plan, not_rejected, no_such_value, words_taken}
+
+-- ---- no plan of the named workload
+
+-- the words are taken; no plan of a named workload is held; and neither is one printed, nor anything generated
+record HoldsNoPlan (call : RunCall) : Type 0 where
+  command : Command
+  given : AreWordsOf call.words command
+  planless : (name : List ℕ) (plan : Plan) → NamesProgram call.words name → HoldsPlan call.files.content name plan → ⊥
+  unprinted : (name : List ℕ) (tree : Tree) → IsPrint call.words name → HoldsText call.files.content name tree → ⊥
+  ungenerated : (seed shards txns : ℕ) (part : Part) → IsGen call.words seed shards txns part → ⊥
+
+module _ (call : WholeCall) (no : HoldsNoPlan call.run) where
+  planless_taken : (line : List ℕ) → AreRefusedWords call.run line → ⊥
+  planless_taken _ (by_clap text not) = not no.given.taken
+  planless_taken _ (no_value value none) = no_such_value call.run.words no.command value no.given none
+  planless_taken _ (no_shard files names lacks) = no.planless files.workload lacks.plan (as_program call.run.words files names) lacks.of_workload
+
+  of_nodes : (workload bytes : List ℕ) (plan : Plan) → NamesProgram call.run.words workload → Holds call.run.files.content workload bytes → IsPlanOfText bytes plan → ⊥
+  of_nodes workload bytes plan named held planned = no.planless workload plan named (record { bytes = bytes; held = held; is = planned })
+
+  planless_unrun : (end : SubmitEnd) → AreNodesEnded call end → ⊥
+  planless_unrun end (inl (own, e, h)) = of_nodes h.workload h.bytes h.plan (serve h.workload h.cluster h.shard h.turns h.counts, h.given, refl) h.held.of_workload h.held.planned
+  planless_unrun end (inr (inl h)) = of_nodes h.workload h.bytes h.plan (submit h.workload h.cluster h.listed h.coord h.turns, h.given, refl) h.held.of_workload h.held.planned
+  planless_unrun end (inr (inr (inl (own, e, h)))) = of_nodes h.workload h.bytes h.plan (stop h.workload h.cluster, h.given, refl) h.held.of_workload h.held.planned
+  planless_unrun end (inr (inr (inr h))) = of_nodes h.workload h.bytes h.plan (local h.workload h.cluster h.listed h.turns, h.given, refl) h.held.of_workload h.held.planned
+
+  planless_child : (shard : Shard) (status : Option ℕ) → IsChildBlamed call shard status → ⊥
+  planless_child shard status h =
+      let end = h.ended in
+      of_nodes end.workload end.bytes end.plan (local end.workload end.cluster end.listed end.turns, end.given, refl) end.held.of_workload end.held.planned
+
+  planless_undone : Ends call.run (Ok tt) → ⊥
+  planless_undone (inl done) = no.planless done.asked.workload done.plan (replay done.asked.workload done.asked.schedule, done.asked.given, refl) done.asked.of_workload
+  planless_undone (inr (inl done)) = no.unprinted done.workload done.tree done.given done.held
+  planless_undone (inr (inr (inl done))) = no.planless done.workload done.plan (check done.workload, done.given, refl) done.held
+  planless_undone (inr (inr (inr done))) = no.ungenerated done.seed done.shards done.txns done.part done.given
+
+  without_plan : IsUndone call
+  without_plan = record { taken = planless_taken; unrun = planless_unrun; no_child = planless_child; undone = planless_undone }
+
+  -- where nothing is rejected either, nothing was due to be written
+  without_text : ((name : List ℕ) (program : Workload) (said : Line) → NamesProgram call.run.words name → HoldsRejected call.run.files.content name program said → ⊥) → IsUnwritten call
+  without_text unrejected = record { is = without_plan; acceptable = λ h. unrejected h.workload h.program h.said h.named h.held; uncut = uncut }
+    where
+      uncut : CutsOutput call.run → ⊥
+      uncut (in_report plan bytes asked h) = no.planless asked.workload plan (replay asked.workload asked.schedule, asked.given, refl) asked.of_workload
+      uncut (in_text workload tree given held front) = no.unprinted workload tree given held
+      uncut (in_check workload plan given held front) = no.planless workload plan (check workload, given, refl) held
+      uncut (in_rejection workload program said names held front) = unrejected workload program said names held
+      uncut (in_generated seed shards txns part text given generated front) = no.ungenerated seed shards txns part given
+
+-- ---- a workload that is not acceptable
+
+module _ (laws : TextLaws) (call : WholeCall) (lacks : LacksPlan call.run) where
+  that_program : (name : List ℕ) → NamesProgram call.run.words name → name ≡ lacks.workload
+  that_program name names = same_name program_of call.run.words name lacks.workload names lacks.named
+
+  that_workload : (name : List ℕ) → NamesWorkload call.run.words name → name ≡ lacks.workload
+  that_workload name names = same_name workload_of call.run.words name lacks.workload names (as_workload call.run.words lacks.workload lacks.named)
+
+  no_plan_held : (name : List ℕ) (plan : Plan) → NamesProgram call.run.words name → HoldsPlan call.run.files.content name plan → ⊥
+  no_plan_held name plan names h =
+      let planned : IsPlanOfText lacks.bytes plan =
+      subst (λ b. IsPlanOfText b plan) (sym (told call.run.files.content lacks.workload name lacks.bytes h.bytes lacks.held (that_program name names) h.held)) h.is in
+      let same : plan.program ≡ lacks.program =
+      planned.text.is ∙ ap resolved (laws.one_tree lacks.bytes planned.text.tree lacks.text.tree planned.text.text lacks.text.text) ∙ sym lacks.text.is in
+      lacks.planless plan (subst (λ p. IsPlanOf p plan) same planned.has)
+
+  no_plan : HoldsNoPlan call.run
+  no_plan = record {
+    command = lacks.named.0;
+    given = lacks.named.1;
+    planless = no_plan_held;
+    unprinted = λ name tree is held. no_name program_of call.run.words (print name) is refl lacks.workload lacks.named;
+    ungenerated = λ seed shards txns part is. no_name program_of call.run.words (gen seed shards txns part) is refl lacks.workload lacks.named;
+  }
+
+  unrefused : (line : List ℕ) → IsRefused call.run line → ⊥
+  unrefused _ (long_workload workload names more same) = not_long laws call.run.files.content lacks.workload lacks.bytes lacks.held lacks.text.tree lacks.text.text workload (that_workload workload names) more
+  unrefused _ (no_text workload line what names held same) =
+      not_faulty laws call.run.files.content lacks.workload lacks.bytes lacks.held lacks.text.tree lacks.text.text workload line what (that_workload workload names) held
+  unrefused _ (out_of_scope workload fault names held same) = in_scope laws call.run.files.content lacks.workload lacks.bytes lacks.held lacks.program lacks.text workload fault (that_program workload names) held
+  unrefused _ (long_schedule workload schedule plan given planned more same) = no_plan_held workload plan (replay workload schedule, given, refl) planned
+  unrefused _ (bad_schedule plan bytes asked number what h) = no_plan_held asked.workload plan (replay asked.workload asked.schedule, asked.given, refl) asked.of_workload
+  unrefused _ (long_cluster files plan names planned more same) = no_plan_held files.workload plan (as_program call.run.words files names) planned
+  unrefused _ (bad_cluster files plan fault names planned held same) = no_plan_held files.workload plan (as_program call.run.words files names) planned
+  unrefused _ (long_requests files plan addrs name names planned held is more same) = no_plan_held files.workload plan (as_program call.run.words files names) planned
+  unrefused _ (bad_requests files plan addrs name number what names planned held is not same) = no_plan_held files.workload plan (as_program call.run.words files names) planned
+
+  pub unplanned : IsUnplanned call
+  unplanned = record { is = without_plan call no_plan; right = unrefused }
+
+-- ---- bytes that are no workload
+
+module _ (call : WholeCall) (workload bytes : List ℕ) (held : call.run.files.content workload ≡ Some bytes) where
+  -- no text
+  module _ (named : NamesWorkload call.run.words workload) (none : (tree : Tree) → IsWorkloadText bytes tree → ⊥) where
+    textless : (name other : List ℕ) (tree : Tree) → NamesWorkload call.run.words name → Holds call.run.files.content name other → IsWorkloadText other tree → ⊥
+    textless name other tree names h is =
+        let same = same_name workload_of call.run.words name workload names named in
+        none tree (subst (λ b. IsWorkloadText b tree) (sym (told call.run.files.content workload name bytes other held same h)) is)
+
+    without_words : IsUnwritten call
+    without_words =
+        without_text call
+        (record {
+          command = named.0;
+          given = named.1;
+          planless = λ name plan names h. textless name h.bytes h.is.text.tree (as_workload call.run.words name names) h.held h.is.text.text;
+          unprinted = λ name tree is h. textless name h.bytes tree (print name, is, refl) h.held h.is;
+          ungenerated = λ seed shards txns part is. no_name workload_of call.run.words (gen seed shards txns part) is refl workload named;
+        })
+        (λ name program said names h. textless name h.bytes h.is.text.tree (as_workload call.run.words name names) h.held h.is.text.text)
+
+  -- none in scope
+  module _ (named : NamesProgram call.run.words workload) (none : (program : Workload) → IsTextOf bytes program → ⊥) where
+    programless : (name other : List ℕ) (program : Workload) → NamesProgram call.run.words name → Holds call.run.files.content name other → IsTextOf other program → ⊥
+    programless name other program names h is =
+        let same = same_name program_of call.run.words name workload names named in
+        none program (subst (λ b. IsTextOf b program) (sym (told call.run.files.content workload name bytes other held same h)) is)
+
+    without_scope : IsUnwritten call
+    without_scope =
+        without_text call
+        (record {
+          command = named.0;
+          given = named.1;
+          planless = λ name plan names h. programless name h.bytes plan.program names h.held h.is.text;
+          unprinted = λ name tree is h. no_name program_of call.run.words (print name) is refl workload named;
+          ungenerated = λ seed shards txns part is. no_name program_of call.run.words (gen seed shards txns part) is refl workload named;
+        })
+        (λ name program said names h. programless name h.bytes program names h.held h.is.text)
+
+pub unwritten : (call : WholeCall) → LacksWorkload call.run → IsUnwritten call
+unwritten call (unfit.no_text workload bytes named held none) = without_words call workload bytes held named none
+unwritten call (unfit.no_program workload bytes named held none) = without_scope call workload bytes held named none
+
+-- ---- bytes that are no schedule of the plan
+
+module _ (laws : TextLaws) (call : WholeCall) (lacks : LacksSchedule call.run) where
+  alone : (files : NodeFiles) → NamesNodeFiles call.run.words files → ⊥
+  alone = no_name node_files call.run.words (replay lacks.workload lacks.schedule) lacks.given refl
+
+  its_workload : (name : List ℕ) → NamesProgram call.run.words name → name ≡ lacks.workload
+  its_workload name names = same_name program_of call.run.words name lacks.workload names (replay lacks.workload lacks.schedule, lacks.given, refl)
+
+  unplayed_undone : Ends call.run (Ok tt) → ⊥
+  unplayed_undone (inl done) =
+      let asked = done.asked in
+      let lines : List BoundLine = done.replayed.lines in
+      let e : done.plan ≡ lacks.plan = same_plan laws call.run.files.content lacks.workload lacks.bytes lacks.held lacks.plan lacks.planned asked.workload done.plan
+      (its_workload asked.workload (replay asked.workload asked.schedule, asked.given, refl)) asked.of_workload in
+      let f : lacks.text ≡ done.bytes = told call.run.files.content lacks.schedule asked.schedule lacks.text done.bytes lacks.scheduled
+      (replay_schedule call.run.words lacks.workload lacks.schedule asked.workload asked.schedule lacks.given asked.given) asked.of_schedule in
+      lacks.unplayed lines
+      (subst (λ (p : Plan). IsScheduleOf p.program lacks.text lines) e (subst (λ b. IsScheduleOf done.plan.program b lines) (sym f) done.replayed.of_schedule))
+      (subst (λ (p : Plan). DeliversOnlySent p lines) e (laws.sent done.plan lines done.replayed.steps done.replayed.world done.replayed.played))
+  unplayed_undone (inr (inl done)) = unlike ⊥ call.run.words (print done.workload) (replay lacks.workload lacks.schedule) done.given lacks.given refl
+  unplayed_undone (inr (inr (inl done))) = unlike ⊥ call.run.words (check done.workload) (replay lacks.workload lacks.schedule) done.given lacks.given refl
+  unplayed_undone (inr (inr (inr done))) = unlike ⊥ call.run.words (gen done.seed done.shards done.txns done.part) (replay lacks.workload lacks.schedule) done.given lacks.given refl
+
+  pub unplayed : IsUnplayed call
+  unplayed = record {
+    is = record {
+      taken = words_taken call.run (replay lacks.workload lacks.schedule) lacks.given alone;
+      unrun = λ end h. (let named = nodes_named call end h in alone named.0 named.1);
+      no_child = λ shard status h. (let named = child_named call shard status h in alone named.0 named.1);
+      undone = unplayed_undone;
+    };
+    acceptable = λ h. not_rejected laws call.run.files.content lacks.workload lacks.bytes lacks.held lacks.plan lacks.planned h.workload h.program h.said (its_workload h.workload h.named) h.held;
+  }
