@@ -3,3 +3,4 @@ pub mod Distinct
 pub mod Parts
 pub mod Lines
 pub mod Named
+pub mod Worded

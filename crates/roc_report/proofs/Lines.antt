@@ -10,7 +10,7 @@ use Rattle.roc_program.specs.LookUps.{procedure_name, table_name, columns_of, co
 use Rattle.roc_rows.specs.declared.cell.Cell.{Cell}
 use Rattle.roc_msg.specs.Reason.{reason_text}
 use Rattle.roc_report.specs.Line.{Line, Submit, Busy, Spent, Deliver, Nothing, Tick, Gone, Ignored, Send, Answer, Order, Row, Pending, End}
-use Rattle.roc_report.specs.ReportLine.{AreNames, HasNames, IsSmallCell, IsReportLine}
+use Rattle.roc_report.specs.ReportLine.{AreNames, HasNames, IsSmallCell, IsCellOf, IsReportLine}
 use Rattle.roc_report.specs.Text.{numbers_text, message_text, key_text, cell_text, words_of, lines_text}
 use Rattle.roc_report.proofs.Apart.{numbers_apart, integers_apart}
 use Rattle.roc_report.proofs.Parts.{Digits, Letters, tail_of, cons_append, ids_apart, id_lists_apart, number_lists_apart, keys_apart, nodes_apart, names_apart, reasons_apart, messages_apart}
@@ -87,7 +87,7 @@ module _ (program : Workload) (names : HasNames program) where
   formed (Row cell value) r is = refl
   formed (Pending id) r is = refl
   formed (End answered pending messages) r is = refl
-  formed _ r is = absurd is
+  formed _ r is = absurd is.small
 
   -- what is left of a line's text behind so many bytes, where both lines have them
   abbrev Same : Line → Line → List ℕ → List ℕ → Type 0
@@ -99,18 +99,18 @@ module _ (program : Workload) (names : HasNames program) where
       let p = names_apart _ _ r s (are.words n there) (are.words m also) stop end e in
       (are.once n m there also p.0, p.1)
 
-  rows_apart : (a b : Cell) (v w : ℤ) (r s : List ℕ) → IsSmallCell program a → IsSmallCell program b → FitsSigned w64 v → FitsSigned w64 w
+  rows_apart : (a b : Cell) (v w : ℤ) (r s : List ℕ) → IsCellOf program a → IsCellOf program b → IsSmallCell a → IsSmallCell b → FitsSigned w64 v → FitsSigned w64 w
       → (cell_text program a ++ (32 ∷ signed_decimal v)) ++ (10 ∷ r) ≡ (cell_text program b ++ (32 ∷ signed_decimal w)) ++ (10 ∷ s) → (Row a v ≡ Row b w) × (r ≡ s)
-  rows_apart a b v w r s small also fits other e =
+  rows_apart a b v w r s of_program here_too small also fits other e =
       let whole = sym (parts_of_row (table_name program a.table) (signed_decimal a.place) (key_text a.id) (column_name program a.table a.column) (signed_decimal v) (10 ∷ r)) ∙ e
       ∙ parts_of_row (table_name program b.table) (signed_decimal b.place) (key_text b.id) (column_name program b.table b.column) (signed_decimal w) (10 ∷ s) in
-      let table = same_part names.tables a.table b.table _ _ small.table also.table refl refl whole in
+      let table = same_part names.tables a.table b.table _ _ of_program.table here_too.table refl refl whole in
       let place = integers_apart a.place b.place _ _ small.place also.place (key_digits a.id _) (key_digits b.id _) (tail_of table.1) in
       let id = keys_apart a.id b.id _ _ small.id also.id (_, refl) (_, refl) place.1 in
       let here : column_name program b.table b.column ++ (32 ∷ (signed_decimal w ++ (10 ∷ s))) ≡ column_name program a.table b.column ++ (32 ∷ (signed_decimal w ++ (10 ∷ s))) =
       ap (λ t. column_name program t b.column ++ (32 ∷ (signed_decimal w ++ (10 ∷ s)))) (sym table.0) in
-      let within : b.column < length (columns_of program a.table) = subst (λ t. b.column < length (columns_of program t)) (sym table.0) also.column in
-      let column = same_part (names.columns a.table small.table) a.column b.column (32 ∷ (signed_decimal v ++ (10 ∷ r))) (32 ∷ (signed_decimal w ++ (10 ∷ s))) small.column within refl refl (tail_of (tail_of id.1) ∙ here) in
+      let within : b.column < length (columns_of program a.table) = subst (λ t. b.column < length (columns_of program t)) (sym table.0) here_too.column in
+      let column = same_part (names.columns a.table of_program.table) a.column b.column (32 ∷ (signed_decimal v ++ (10 ∷ r))) (32 ∷ (signed_decimal w ++ (10 ∷ s))) of_program.column within refl refl (tail_of (tail_of id.1) ∙ here) in
       let value = integers_apart v w (10 ∷ r) (10 ∷ s) fits other refl refl (tail_of column.1) in
       ((λ i. Row (record { table = table.0 i; place = place.0 i; id = id.0 i; column = column.0 i }) (value.0 i)), tail_of value.1)
 
@@ -119,20 +119,20 @@ module _ (program : Workload) (names : HasNames program) where
   one_line (Submit id proc args) (Submit id2 proc2 args2) r s is also f e =
       let behind = sym (parts_of_three (txn_text id) (procedure_name program proc) (numbers_text args) (10 ∷ r)) ∙ ap (drop 7) e
       ∙ parts_of_three (txn_text id2) (procedure_name program proc2) (numbers_text args2) (10 ∷ s) in
-      let ids = ids_apart id id2 _ _ is.0 also.0 refl refl behind in
-      let procs = same_part names.procedures proc proc2 _ _ is.1 also.1 (numbers_letters args r) (numbers_letters args2 s) (tail_of ids.1) in
-      let numbers = number_lists_apart args args2 (10 ∷ r) (10 ∷ s) is.2 also.2 (r, refl) (s, refl) procs.1 in
+      let ids = ids_apart id id2 _ _ is.small.0 also.small.0 refl refl behind in
+      let procs = same_part names.procedures proc proc2 _ _ is.parts also.parts (numbers_letters args r) (numbers_letters args2 s) (tail_of ids.1) in
+      let numbers = number_lists_apart args args2 (10 ∷ r) (10 ∷ s) is.small.1 also.small.1 (r, refl) (s, refl) procs.1 in
       ((λ i. Submit (ids.0 i) (procs.0 i) (numbers.0 i)), tail_of numbers.1)
   one_line (Submit id proc args) b r s is also f e = absurd (unlike 117 (form b) refl f)
-  one_line (Busy m) (Busy n) r s is also f e = let p = numbers_apart m n (10 ∷ r) (10 ∷ s) is also refl refl (ap (drop 5) e) in (ap Busy p.0, tail_of p.1)
+  one_line (Busy m) (Busy n) r s is also f e = let p = numbers_apart m n (10 ∷ r) (10 ∷ s) is.small also.small refl refl (ap (drop 5) e) in (ap Busy p.0, tail_of p.1)
   one_line (Busy m) b r s is also f e = absurd (unlike 298 (form b) refl f)
-  one_line (Spent m) (Spent n) r s is also f e = let p = numbers_apart m n (10 ∷ r) (10 ∷ s) is also refl refl (ap (drop 6) e) in (ap Spent p.0, tail_of p.1)
+  one_line (Spent m) (Spent n) r s is also f e = let p = numbers_apart m n (10 ∷ r) (10 ∷ s) is.small also.small refl refl (ap (drop 6) e) in (ap Spent p.0, tail_of p.1)
   one_line (Spent m) b r s is also f e = absurd (unlike 112 (form b) refl f)
-  one_line (Deliver m) (Deliver n) r s is also f e = let p = numbers_apart m n (10 ∷ r) (10 ∷ s) is also refl refl (ap (drop 8) e) in (ap Deliver p.0, tail_of p.1)
+  one_line (Deliver m) (Deliver n) r s is also f e = let p = numbers_apart m n (10 ∷ r) (10 ∷ s) is.small also.small refl refl (ap (drop 8) e) in (ap Deliver p.0, tail_of p.1)
   one_line (Deliver m) b r s is also f e = absurd (unlike 300 (form b) refl f)
   one_line Nothing Nothing r s is also f e = (refl, ap (drop 5) e)
   one_line Nothing b r s is also f e = absurd (unlike 310 (form b) refl f)
-  one_line (Tick n) (Tick m) r s is also f e = let p = nodes_apart n m (10 ∷ r) (10 ∷ s) is also refl refl (ap (drop 5) e) in (ap Tick p.0, tail_of p.1)
+  one_line (Tick n) (Tick m) r s is also f e = let p = nodes_apart n m (10 ∷ r) (10 ∷ s) is.small also.small refl refl (ap (drop 5) e) in (ap Tick p.0, tail_of p.1)
   one_line (Tick n) b r s is also f e = absurd (unlike 316 (form b) refl f)
   one_line Gone Gone r s is also f e = (refl, ap (drop 5) e)
   one_line Gone b r s is also f e = absurd (unlike 303 (form b) refl f)
@@ -143,30 +143,30 @@ module _ (program : Workload) (names : HasNames program) where
   one_line (Ignored a) b r s is also f e = absurd (unlike 305 (form b) refl f)
   one_line (Send number m) (Send number2 n) r s is also f e =
       let behind = sym (append_assoc (decimal number) (32 ∷ message_text m) (10 ∷ r)) ∙ ap (drop 5) e ∙ append_assoc (decimal number2) (32 ∷ message_text n) (10 ∷ s) in
-      let numbers = numbers_apart number number2 _ _ is.0 also.0 refl refl behind in
-      let messages = messages_apart m n (10 ∷ r) (10 ∷ s) is.1 also.1 (r, refl) (s, refl) (tail_of numbers.1) in
+      let numbers = numbers_apart number number2 _ _ is.small.0 also.small.0 refl refl behind in
+      let messages = messages_apart m n (10 ∷ r) (10 ∷ s) is.small.1 also.small.1 (r, refl) (s, refl) (tail_of numbers.1) in
       ((λ i. Send (numbers.0 i) (messages.0 i)), tail_of messages.1)
   one_line (Send number m) b r s is also f e = absurd (unlike 101 (form b) refl f)
   one_line (Answer id reply) (Answer id2 reply2) r s is also f e =
       let behind = sym (append_assoc (txn_text id) (numbers_text reply) (10 ∷ r)) ∙ ap (drop 7) e ∙ append_assoc (txn_text id2) (numbers_text reply2) (10 ∷ s) in
-      let ids = ids_apart id id2 _ _ is.0 also.0 (numbers_digits reply r) (numbers_digits reply2 s) behind in
-      let numbers = number_lists_apart reply reply2 (10 ∷ r) (10 ∷ s) is.1 also.1 (r, refl) (s, refl) ids.1 in
+      let ids = ids_apart id id2 _ _ is.small.0 also.small.0 (numbers_digits reply r) (numbers_digits reply2 s) behind in
+      let numbers = number_lists_apart reply reply2 (10 ∷ r) (10 ∷ s) is.small.1 also.small.1 (r, refl) (s, refl) ids.1 in
       ((λ i. Answer (ids.0 i) (numbers.0 i)), tail_of numbers.1)
   one_line (Answer id reply) b r s is also f e = absurd (unlike 297 (form b) refl f)
-  one_line (Order ids) (Order ids2) r s is also f e = let p = id_lists_apart ids ids2 (10 ∷ r) (10 ∷ s) is also (r, refl) (s, refl) (ap (drop 5) e) in (ap Order p.0, tail_of p.1)
+  one_line (Order ids) (Order ids2) r s is also f e = let p = id_lists_apart ids ids2 (10 ∷ r) (10 ∷ s) is.small also.small (r, refl) (s, refl) (ap (drop 5) e) in (ap Order p.0, tail_of p.1)
   one_line (Order ids) b r s is also f e = absurd (unlike 311 (form b) refl f)
-  one_line (Row cell value) (Row cell2 value2) r s is also f e = rows_apart cell cell2 value value2 r s is.0 also.0 is.1 also.1 (ap (drop 4) e)
+  one_line (Row cell value) (Row cell2 value2) r s is also f e = rows_apart cell cell2 value value2 r s is.parts also.parts is.small.0 also.small.0 is.small.1 also.small.1 (ap (drop 4) e)
   one_line (Row cell value) b r s is also f e = absurd (unlike 314 (form b) refl f)
-  one_line (Pending id) (Pending id2) r s is also f e = let p = ids_apart id id2 (10 ∷ r) (10 ∷ s) is also refl refl (ap (drop 8) e) in (ap Pending p.0, tail_of p.1)
+  one_line (Pending id) (Pending id2) r s is also f e = let p = ids_apart id id2 (10 ∷ r) (10 ∷ s) is.small also.small refl refl (ap (drop 8) e) in (ap Pending p.0, tail_of p.1)
   one_line (Pending id) b r s is also f e = absurd (unlike 312 (form b) refl f)
   one_line (End a p m) (End a2 p2 m2) r s is also f e =
       let behind = sym (parts_of_end (decimal a) (decimal p) (decimal m) (10 ∷ r)) ∙ ap (drop 4) e ∙ parts_of_end (decimal a2) (decimal p2) (decimal m2) (10 ∷ s) in
-      let answered = numbers_apart a a2 _ _ is.0 also.0 refl refl behind in
-      let pending = numbers_apart p p2 _ _ is.1 also.1 refl refl (ap (drop 10) answered.1) in
-      let messages = numbers_apart m m2 _ _ is.2 also.2 refl refl (ap (drop 9) pending.1) in
+      let answered = numbers_apart a a2 _ _ is.small.0 also.small.0 refl refl behind in
+      let pending = numbers_apart p p2 _ _ is.small.1 also.small.1 refl refl (ap (drop 10) answered.1) in
+      let messages = numbers_apart m m2 _ _ is.small.2 also.small.2 refl refl (ap (drop 9) pending.1) in
       ((λ i. End (answered.0 i) (pending.0 i) (messages.0 i)), ap (drop 10) messages.1)
   one_line (End a p m) b r s is also f e = absurd (unlike 301 (form b) refl f)
-  one_line _ b r s is also f e = absurd is
+  one_line _ b r s is also f e = absurd is.small
 
   -- ---- lists of lines
 

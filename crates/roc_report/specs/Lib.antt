@@ -4,3 +4,4 @@ pub mod Shown
 pub mod Text
 pub mod ReportLine
 pub mod Names
+pub mod Reading

@@ -50,29 +50,45 @@ pub record IsSmallMessage (m : ShownMessage) : Type 0 where
   pub edges : AllByRecursion IsSmallEdge m.edges
   pub facts : AllByRecursion IsSmallId m.facts
 
--- a column that the program has, of a row with such numbers
-pub record IsSmallCell (program : Workload) (cell : Cell) : Type 0 where
-  pub table : cell.table < length program.tables
-  pub column : cell.column < length (columns_of program cell.table)
+pub record IsSmallCell (cell : Cell) : Type 0 where
   pub place : FitsSigned w64 cell.place
   pub id : AreSmallIntegers cell.id
 
+-- the numbers of a line of a report have at most 64 bits. No line of the text of `check` is one
+abbrev pub HasSmallNumbers : Line → Type 0
+HasSmallNumbers (Submit id proc args) = IsSmallId id × AreSmallIntegers args
+HasSmallNumbers (Busy coord) = IsSmall coord
+HasSmallNumbers (Spent coord) = IsSmall coord
+HasSmallNumbers (Deliver number) = IsSmall number
+HasSmallNumbers Nothing = Unit {0}
+HasSmallNumbers (Tick node) = IsSmallNode node
+HasSmallNumbers Gone = Unit {0}
+HasSmallNumbers (Ignored reason) = Unit {0}
+HasSmallNumbers (Send number message) = IsSmall number × IsSmallMessage message
+HasSmallNumbers (Answer id reply) = IsSmallId id × AreSmallIntegers reply
+HasSmallNumbers (Order ids) = AllByRecursion IsSmallId ids
+HasSmallNumbers (Row cell value) = IsSmallCell cell × FitsSigned w64 value
+HasSmallNumbers (Pending id) = IsSmallId id
+HasSmallNumbers (End answered pending messages) = IsSmall answered × IsSmall pending × IsSmall messages
+HasSmallNumbers _ = ⊥
+
+abbrev pub HaveSmallNumbers : List Line → Type 0
+HaveSmallNumbers lines = AllByRecursion HasSmallNumbers lines
+
 -- ---- lines
 
--- a line of a report: what it names is in the program, and its numbers have at most 64 bits. No line of the text of `check` is one
-abbrev pub IsReportLine : Workload → Line → Type 0
-IsReportLine program (Submit id proc args) = IsSmallId id × (proc < length program.procedures) × AreSmallIntegers args
-IsReportLine program (Busy coord) = IsSmall coord
-IsReportLine program (Spent coord) = IsSmall coord
-IsReportLine program (Deliver number) = IsSmall number
-IsReportLine program Nothing = Unit {0}
-IsReportLine program (Tick node) = IsSmallNode node
-IsReportLine program Gone = Unit {0}
-IsReportLine program (Ignored reason) = Unit {0}
-IsReportLine program (Send number message) = IsSmall number × IsSmallMessage message
-IsReportLine program (Answer id reply) = IsSmallId id × AreSmallIntegers reply
-IsReportLine program (Order ids) = AllByRecursion IsSmallId ids
-IsReportLine program (Row cell value) = IsSmallCell program cell × FitsSigned w64 value
-IsReportLine program (Pending id) = IsSmallId id
-IsReportLine program (End answered pending messages) = IsSmall answered × IsSmall pending × IsSmall messages
-IsReportLine program _ = ⊥
+-- the program has the cell's table, and this the cell's column
+pub record IsCellOf (program : Workload) (cell : Cell) : Type 0 where
+  pub table : cell.table < length program.tables
+  pub column : cell.column < length (columns_of program cell.table)
+
+-- the procedure or the cell that a line names is the program's
+abbrev pub NamesPartsOf : Workload → Line → Type 0
+NamesPartsOf program (Submit id proc args) = proc < length program.procedures
+NamesPartsOf program (Row cell value) = IsCellOf program cell
+NamesPartsOf program _ = Unit {0}
+
+-- a line of a report of the program
+pub record IsReportLine (program : Workload) (line : Line) : Type 0 where
+  pub small : HasSmallNumbers line
+  pub parts : NamesPartsOf program line

@@ -1,8 +1,10 @@
 //! Laws of reports, over all lines. Each is the contract of a function that does nothing.
-ghost use Rattle.std.specs.Prelude.{◌≡◌, List, []};
+ghost use Rattle.std.specs.Prelude.{◌≡◌, ℕ, List, []};
 ghost use Rattle.std.specs.List.{AllByRecursion};
 ghost use Rattle.roc_lang.specs.Syntax.{Tree};
 ghost use Rattle.roc_lang.specs.Scope.{faults};
+ghost use Rattle.roc_lang.specs.Tokens.{Token, IsTokens};
+ghost use Rattle.roc_lang.specs.Grammar.{standard, IsText};
 ghost use Rattle.roc_program.specs.Program.{Workload};
 ghost use Rattle.roc_lang_resolve.specs.Resolve.{resolved};
 ghost use Rattle.roc_report.specs.Line.{Line};
@@ -20,4 +22,9 @@ pub fn lines_are_unique()
 /// The program of a tree in scope is such a program, where the tree's names are words.
 pub fn programs_have_names()
     ensures { (t : Tree) → HasWords t → faults t ≡ [] → HasNames (resolved t) }
+{}
+
+/// The names of the tree of a text are words.
+pub fn texts_have_words()
+    ensures { (bytes : List ℕ) (tokens : List Token) (t : Tree) → IsTokens 1 bytes tokens → IsText standard tokens t → HasWords t }
 {}

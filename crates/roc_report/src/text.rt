@@ -4,10 +4,12 @@ ghost use Rattle.std.specs.Fmt.{decimal};
 ghost use Rattle.std.specs.String.{string_bytes};
 ghost use Rattle.roc_program.specs.LookUps.{procedure_name, table_name, column_name};
 ghost use Rattle.roc_report.specs.Line.{Row};
+ghost use Rattle.roc_report.specs.ReportLine.{HasSmallNumbers};
 ghost use Rattle.roc_report.specs.Shown.{message_kind, named_by, edges_of, facts_of, shown_message, shown};
 ghost use Rattle.roc_report.specs.Text.{numbers_text, ids_text, tags_text, edges_text, facts_text, message_kind_text, spaced, message_text, key_text, cell_text, words_of, line_text};
 
 use crate::ReportLine;
+use crate::small::has_small_numbers;
 use roc_base::{Edge, NoMemory, Shard, TxnId};
 use roc_depgraph::KnownList;
 use roc_msg::{Envelope, Msg};
@@ -17,6 +19,7 @@ use std::alloc::{AllocError, Global};
 
 /// Adds a line of a report, with a line feed at its end. Numbers of procedures, tables and columns
 /// that the workload does not have are shown as no name. `NoMemory` leaves the text as it was.
+/// The numbers of a line have at most 64 bits.
 pub fn append(
     alloc: Global,
     into: &mut Vec<u8>,
@@ -25,7 +28,9 @@ pub fn append(
 ) -> Result<(), NoMemory>
     ensures ok { OnOk result (into.new.items ≡ into.old.items ++ line_text workload.now (shown line.now)) }
     ensures err { OnErr result (into.new.items ≡ into.old.items) }
+    ensures small { HasSmallNumbers (shown line.now) }
 {
+    has_small_numbers(line);
     let mut text = String::new(alloc);
     push_words(&mut text, workload, line)?;
     text.push('\n')?;
@@ -146,8 +151,8 @@ fn message_kind_text(msg: &Msg) -> &'static str
     }
 }
 
-// What stands in the id's place: the transaction that a message is of, or the mark that it tells.
-fn named_by(msg: &Msg) -> Option<TxnId>
+/// What stands in the id's place: the transaction that a message is of, or the mark that it tells.
+pub(crate) fn named_by(msg: &Msg) -> Option<TxnId>
     ensures { result ≡ named_by msg.now }
 {
     match msg {
@@ -169,8 +174,8 @@ fn named_by(msg: &Msg) -> Option<TxnId>
     }
 }
 
-// The predecessors that a message tells of its own transaction.
-fn edges_of(msg: &Msg) -> &[Edge]
+/// The predecessors that a message tells of its own transaction.
+pub(crate) fn edges_of(msg: &Msg) -> &[Edge]
     ensures { result.now ≡ edges_of msg.now }
 {
     match msg {
@@ -190,8 +195,8 @@ fn edges_of(msg: &Msg) -> &[Edge]
     }
 }
 
-// The lists that travel along with a message.
-fn facts_of(msg: &Msg) -> &[KnownList]
+/// The lists that travel along with a message.
+pub(crate) fn facts_of(msg: &Msg) -> &[KnownList]
     ensures { map (λ fact. fact.of) result.now ≡ facts_of msg.now }
 {
     match msg {
