@@ -4,7 +4,9 @@ use Rattle.std.proofs.lemmas.Bool.{ltb-true, false≢true}
 use Rattle.std.proofs.lemmas.Grind.{flat_map-append}
 use Rattle.std.proofs.lemmas.List.{append-nil}
 use Rattle.std.specs.Prelude.{Option, count_by, fold}
+use Rattle.std.specs.List.{AllByRecursion}
 use Rattle.roc_sequence.proofs.Fronts.{parts_at}
+use Rattle.roc_sequence.proofs.Holds.{all_append}
 use Rattle.roc_io.specs.Observed.{Adds, AddsFront}
 use Rattle.roc_io.proofs.Told.{Adds-trans, AddsThenFront-behind}
 use Rattle.roc_plan.specs.Groups.{Plan}
@@ -12,7 +14,8 @@ use Rattle.roc_protocol.specs.Run.{Stepped, IsRun}
 use Rattle.roc_protocol.specs.World.{World}
 use Rattle.roc_protocol.specs.declared.event.Event.TheVariants as event
 use Rattle.roc_world.specs.Reads.{cells_of, unanswered_of}
-use Rattle.roc_report.specs.Line.{Row, Pending}
+use Rattle.roc_report.specs.Line.{Line, Row, Pending}
+use Rattle.roc_report.specs.ReportLine.{HasSmallNumbers, HaveSmallNumbers, NamesPartsOf, IsReportLine}
 use Rattle.roc_report.specs.Text.{line_text, lines_text}
 use Rattle.roc_replay.specs.declared.ended.Ended.{Ended}
 use Rattle.roc_replay.specs.declared.ended.Ended.TheVariants.{Done, Text, SinkFault, NoMemory}
@@ -85,23 +88,29 @@ module _ (plan : Plan) (schedule : List ℕ) (lines : List BoundLine) (of : IsSc
       let four = none_counted is_busy Pending (λ id. refl) (unanswered_of w) in
       omega arith
 
-  -- where each run of the plan explains itself
+  -- lines with small numbers that name parts of the program are lines of a report
+  report_lines : (ls : List Line) → HaveSmallNumbers ls → AllByRecursion (NamesPartsOf plan.program) ls → AllByRecursion (IsReportLine plan.program) ls
+  report_lines [] small parts = tt
+  report_lines (l ∷ ls) small parts = (record { small = small.0; parts = parts.0 }, report_lines ls small.1 parts.1)
+
+  -- where each run of the plan explains itself, and its lines name parts of the program
   pub closed_end : (explains : (coords : ℕ) (steps : List Stepped) (w : World) → IsRun plan coords steps w → IsExplained plan.program (report steps w))
+      → (names : (coords : ℕ) (steps : List Stepped) (w : World) → IsRun plan coords steps w → AllByRecursion (NamesPartsOf plan.program) (report steps w))
       → (w : World) (busy : ℕ) (old now then : Option (List ℕ)) → IsSoFar plan lines w busy old now → (e : Ended)
       → IsClosed plan.program w busy e now then → IsEnd plan schedule e old then
-  closed_end explains w busy old now then so (Done summary) (adds, end, refused) = record {
-    lines = lines;
-    of_schedule = of;
-    steps = so.steps;
-    world = w;
-    played = so.played;
-    taken = subst (Adds old then) (sym (flat_map-append (line_text plan.program) (steps_lines [] so.steps) (closing_lines w))) (Adds-trans old now then _ _ so.taken adds);
-    explained = explains coordinators so.steps w (played_run plan lines so.steps w so.played);
-    end = end;
-    busy = (let all = count_by-append is_busy (steps_lines [] so.steps) (closing_lines w) in let none = busy_in-closing w in let before = so.refused in omega arith);
-  }
-  closed_end explains w busy old now then so SinkFault front = at_end lines so.steps w of so.played (AddsThenFront-behind old now then _ _ so.taken front)
-  closed_end explains w busy old now then so NoMemory same =
+  closed_end explains names w busy old now then so (Done summary) (adds, end, refused, small) =
+      let run = played_run plan lines so.steps w so.played in
+      record {
+        lines = report so.steps w;
+        taken = subst (Adds old then) (sym (flat_map-append (line_text plan.program) (steps_lines [] so.steps) (closing_lines w))) (Adds-trans old now then _ _ so.taken adds);
+        are = report_lines (report so.steps w) (all_append HasSmallNumbers (steps_lines [] so.steps) (closing_lines w) so.small small) (names coordinators so.steps w run);
+        explained = explains coordinators so.steps w run;
+        run = record { asked = lines; of_schedule = of; steps = so.steps; world = w; played = so.played; is = refl };
+        end = end;
+        busy = (let all = count_by-append is_busy (steps_lines [] so.steps) (closing_lines w) in let none = busy_in-closing w in let before = so.refused in omega arith);
+      }
+  closed_end explains names w busy old now then so SinkFault front = at_end lines so.steps w of so.played (AddsThenFront-behind old now then _ _ so.taken front)
+  closed_end explains names w busy old now then so NoMemory same =
       behind_lines lines [] so.steps w (subst (IsScheduleOf plan.program schedule) (sym (append-nil lines)) of) so.played
       (subst (λ (x : Option (List ℕ)). Adds old x (lines_text plan.program (steps_lines [] so.steps))) (sym same) so.taken)
-  closed_end explains w busy old now then so (Text line what) never = absurd never
+  closed_end explains names w busy old now then so (Text line what) never = absurd never

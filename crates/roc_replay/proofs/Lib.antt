@@ -13,3 +13,6 @@ pub mod SoFar
 pub mod Sorted
 pub mod LinesLeft
 pub mod Sendable
+pub mod OwnCells
+pub mod NamedParts
+pub mod SmallLines

@@ -1,5 +1,5 @@
 -- A choice that finds no message changes nothing
-use Rattle.std.proofs.Common.{◌≡◌, ℕ, ◌+◌, List, [], ◌∷◌, ◌++◌, length, None, refl, sym, ap, ◌∙◌, arith}
+use Rattle.std.proofs.Common.{◌≡◌, ℕ, ◌+◌, List, [], ◌∷◌, ◌++◌, length, None, refl, sym, ap, subst, ◌∙◌, arith}
 use Rattle.roc_sequence.proofs.Fronts.{no_rest}
 use Rattle.roc_msg.specs.declared.msg.Envelope.{Envelope}
 use Rattle.roc_plan.specs.Groups.{Plan}
@@ -7,6 +7,7 @@ use Rattle.roc_protocol.specs.Happens.{undecided}
 use Rattle.roc_protocol.specs.World.{World}
 use Rattle.roc_protocol.specs.declared.event.Seen.TheVariants as seen
 use Rattle.roc_report.specs.Line.{Nothing}
+use Rattle.roc_report.specs.ReportLine.{HaveSmallNumbers}
 use Rattle.roc_report.specs.Text.{lines_text}
 use Rattle.roc_replay.specs.Played.{IsPlayedLine}
 use Rattle.roc_replay.specs.Report.{send_lines}
@@ -17,5 +18,6 @@ nothing_played plan w text is = record {
   transition = refl;
   world = refl;
   shows = is ∙ ap (λ (rest : List Envelope). lines_text plan.program (Nothing ∷ (send_lines (length w.sent + 1) rest ++ []))) (sym (no_rest w.sent (length w.sent) (omega arith)));
+  small = subst (λ (rest : List Envelope). HaveSmallNumbers (Nothing ∷ (send_lines (length w.sent + 1) rest ++ []))) (sym (no_rest w.sent (length w.sent) (omega arith))) (tt, tt);
   refused = refl;
 }

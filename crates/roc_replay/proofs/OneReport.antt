@@ -37,7 +37,9 @@ same_summary s t e f =
 
 -- two replays with the same steps to the same world
 pub one_report : (plan : Plan) (some other : List ℕ) (s t : Summary) (o n p q : Option (List ℕ)) (r : IsReplayed plan some s o n) (z : IsReplayed plan other t p q)
-    → (r.steps ≡ z.steps) × (r.world ≡ z.world) → (report r.steps r.world ≡ report z.steps z.world) × (s ≡ t)
+    → (r.run.steps ≡ z.run.steps) × (r.run.world ≡ z.run.world) → (r.lines ≡ z.lines) × (s ≡ t)
 one_report plan some other s t o n p q r z one =
-    let reports : report r.steps r.world ≡ report z.steps z.world = ap (λ (steps : List Stepped). report steps r.world) one.0 ∙ ap (λ (w : World). report z.steps w) one.1 in
-    (reports, same_summary s t (sym r.end ∙ ap end_line one.1 ∙ z.end) (r.busy ∙ ap busy_in reports ∙ sym z.busy))
+    let reports : report r.run.steps r.run.world ≡ report z.run.steps z.run.world =
+    ap (λ (steps : List Stepped). report steps r.run.world) one.0 ∙ ap (λ (w : World). report z.run.steps w) one.1 in
+    let lines : r.lines ≡ z.lines = r.run.is ∙ (reports ∙ sym z.run.is) in
+    (lines, same_summary s t (sym r.end ∙ ap end_line one.1 ∙ z.end) (r.busy ∙ ap busy_in lines ∙ sym z.busy))

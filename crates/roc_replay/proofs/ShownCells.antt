@@ -39,7 +39,7 @@ contains_has [] a (k, l, e) = absurd (omega (arith, l))
 contains_has (x ∷ xs) a (zero, l, e) = inl (sym e)
 contains_has (x ∷ xs) a (suc k, l, e) = inr (contains_has xs a (k, omega (arith, l), e))
 
-has_contains : {A : Type 0} (xs : List A) (a : A) → Has a xs → Contains xs a
+pub has_contains : {A : Type 0} (xs : List A) (a : A) → Has a xs → Contains xs a
 has_contains [] a h = absurd h
 has_contains (x ∷ xs) a (inl e) = (0, omega arith, sym e)
 has_contains (x ∷ xs) a (inr h) = let q = has_contains xs a h in (suc q.0, let l = q.1 in omega (arith, l), q.2)
@@ -63,7 +63,7 @@ has_put e f (g ∷ rest) h = go (is_gt (cell_cmp e.0 g.0)) h (has_put e f rest)
     go true (inr (inr k)) ih = inr (ih (inr k))
     go false k ih = k
 
-from_by_cell : (f : Cell × ℤ) (cells : List (Cell × ℤ)) → Has f (by_cell cells) → Has f cells
+pub from_by_cell : (f : Cell × ℤ) (cells : List (Cell × ℤ)) → Has f (by_cell cells) → Has f cells
 from_by_cell f [] h = h
 from_by_cell f (e ∷ rest) h = elim (from_has_put e f (by_cell rest) h) [ inl k ↦ inl k | inr k ↦ inr (from_by_cell f rest k) ]
 

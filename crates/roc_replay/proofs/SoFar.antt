@@ -3,6 +3,7 @@ use Rattle.std.proofs.Common.{◌≡◌, ℕ, ◌+◌, ◌≤◌, List, [], ◌�
 use Rattle.std.proofs.lemmas.Grind.{flat_map-append}
 use Rattle.std.proofs.lemmas.List.Sums.{sum_by-append}
 use Rattle.std.specs.Prelude.{Option, count_by, drop}
+use Rattle.roc_sequence.proofs.Holds.{all_append}
 use Rattle.roc_io.specs.Observed.{Adds}
 use Rattle.roc_io.proofs.Told.{Adds-nil, Adds-trans}
 use Rattle.roc_plan.specs.Groups.{Plan}
@@ -12,6 +13,7 @@ use Rattle.roc_protocol.specs.declared.event.Seen.TheVariants as seen
 use Rattle.roc_protocol.specs.World.{World, first_world}
 use Rattle.roc_protocol.specs.Fits.{FitsWorld}
 use Rattle.roc_protocol.specs.Run.{Stepped}
+use Rattle.roc_report.specs.ReportLine.{HasSmallNumbers, HaveSmallNumbers}
 use Rattle.roc_report.specs.Text.{line_text, lines_text}
 use Rattle.roc_replay.specs.declared.asked.BoundLine.{BoundLine}
 use Rattle.roc_replay.specs.BoundLine.{coordinators, event_in}
@@ -27,6 +29,7 @@ pub record IsSoFar (plan : Plan) (lines : List BoundLine) (w : World) (busy : �
   pub fits : FitsWorld plan w
   pub coords : length w.coords ≡ coordinators
   pub taken : Adds old now (lines_text plan.program (steps_lines [] steps))
+  pub small : HaveSmallNumbers (steps_lines [] steps)
   pub refused : busy ≡ busy_in (steps_lines [] steps)
   pub few : busy ≤ length lines
 
@@ -37,6 +40,7 @@ nothing_so_far plan w old is fits = record {
   fits = fits;
   coords = ap (λ (x : World). length x.coords) is;
   taken = Adds-nil old;
+  small = tt;
   refused = refl;
   few = omega arith;
 }
@@ -88,6 +92,10 @@ module _ (plan : Plan) (lines : List BoundLine) (line : BoundLine) (steps : List
       ∙ flat_map-append (line_text plan.program) (steps_lines [] steps) (step_lines w.sent step)
       ∙ ap (λ (t : List ℕ). lines_text plan.program (steps_lines [] steps) ++ t) (sym next.shows)
 
+  pub small_more : HaveSmallNumbers (steps_lines [] steps) → HaveSmallNumbers (steps_lines [] (steps ++ step ∷ []))
+  unfolding step
+  small_more small = subst HaveSmallNumbers (sym lines_more) (all_append HasSmallNumbers (steps_lines [] steps) (step_lines w.sent step) small next.small)
+
   pub busy_more : busy_in (steps_lines [] (steps ++ step ∷ [])) ≡ busy_in (steps_lines [] steps) + more
   unfolding step
   busy_more =
@@ -106,6 +114,7 @@ one_more plan lines line w after text busy more old now then so next fits coords
       fits = fits;
       coords = coords;
       taken = subst (Adds old then) (sym (text_more plan lines line so.steps w after text more so.played next)) (Adds-trans old now then _ text so.taken adds);
+      small = small_more plan lines line so.steps w after text more so.played next so.small;
       refused = ap (λ (n : ℕ). n + more) so.refused ∙ sym (busy_more plan lines line so.steps w after text more so.played next);
       few = (let counted = length-append lines (line ∷ []) in let before = so.few in omega arith);
     }

@@ -1,5 +1,6 @@
 -- How a replay ends, and what the sink took: docs/FORMATS.md, "Report"
 use Rattle.std.specs.Prelude.{◌≡◌, ℕ, ◌<◌, Bool, true, false, List, [], ◌∷◌, ◌++◌, Option, length}
+use Rattle.std.specs.List.{AllByRecursion}
 use Rattle.roc_io.specs.Observed.{Adds, AddsThenFront}
 use Rattle.roc_plan.specs.Groups.{Plan}
 use Rattle.roc_protocol.specs.World.{World}
@@ -8,7 +9,8 @@ use Rattle.roc_protocol.specs.declared.event.Event.TheVariants as event
 use Rattle.roc_sched.specs.declared.fault.What.{What}
 use Rattle.roc_sched.specs.declared.fault.What.TheVariants as what
 use Rattle.roc_sched.specs.Schedule.{IsScheduleFault}
-use Rattle.roc_report.specs.Line.{End}
+use Rattle.roc_report.specs.Line.{Line, End}
+use Rattle.roc_report.specs.ReportLine.{IsReportLine}
 use Rattle.roc_report.specs.Text.{lines_text}
 use Rattle.roc_replay.specs.declared.asked.BoundLine.{BoundLine}
 use Rattle.roc_replay.specs.declared.asked.Wanted.TheVariants as wanted
@@ -55,17 +57,25 @@ is_sink_fault _ = false
 
 -- ---- what the sink took
 
--- the sink took the report of the run of exactly this schedule, which explains itself, and the summary has the numbers of its end line
-pub record IsReplayed (plan : Plan) (schedule : List ℕ) (summary : Summary) (old new : Option (List ℕ)) : Type 0 where
-  pub lines : List BoundLine
-  pub of_schedule : IsScheduleOf plan.program schedule lines
+-- the lines are the report of the run of exactly this schedule
+pub record IsReportOf (plan : Plan) (schedule : List ℕ) (lines : List Line) : Type 0 where
+  pub asked : List BoundLine
+  pub of_schedule : IsScheduleOf plan.program schedule asked
   pub steps : List Stepped
   pub world : World
-  pub played : IsPlayed plan lines steps world
-  pub taken : Adds old new (lines_text plan.program (report steps world))
-  pub explained : IsExplained plan.program (report steps world)
-  pub end : end_line world ≡ End summary.answered summary.pending summary.messages
-  pub busy : summary.busy ≡ busy_in (report steps world)
+  pub played : IsPlayed plan asked steps world
+  pub is : lines ≡ report steps world
+
+-- the sink took the text of lines of a report, which explain themselves: the report of the run of exactly this schedule; and the summary has the
+-- numbers of its end line
+pub record IsReplayed (plan : Plan) (schedule : List ℕ) (summary : Summary) (old new : Option (List ℕ)) : Type 0 where
+  pub lines : List Line
+  pub taken : Adds old new (lines_text plan.program lines)
+  pub are : AllByRecursion (IsReportLine plan.program) lines
+  pub explained : IsExplained plan.program lines
+  pub run : IsReportOf plan schedule lines
+  pub end : end_line run.world ≡ End summary.answered summary.pending summary.messages
+  pub busy : summary.busy ≡ busy_in lines
 
 -- the line of this number is the first that asks for a message that was not sent yet, and the sink took the lines of what was before it
 pub record IsUnsent (plan : Plan) (schedule : List ℕ) (number : ℕ) (old new : Option (List ℕ)) : Type 0 where

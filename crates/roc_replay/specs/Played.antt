@@ -6,6 +6,7 @@ use Rattle.roc_protocol.specs.Happens.{Outcome}
 use Rattle.roc_protocol.specs.Run.{Stepped, Transition}
 use Rattle.roc_protocol.specs.declared.event.Event.{Event}
 use Rattle.roc_protocol.specs.declared.event.Event.TheVariants as event
+use Rattle.roc_report.specs.ReportLine.{HaveSmallNumbers}
 use Rattle.roc_report.specs.Text.{lines_text}
 use Rattle.roc_replay.specs.declared.asked.BoundLine.{BoundLine}
 use Rattle.roc_replay.specs.declared.asked.Wanted.TheVariants as wanted
@@ -25,11 +26,12 @@ pub record DeliversOnlySent (plan : Plan) (lines : List BoundLine) : Type 0 wher
       (before : List BoundLine) (line : BoundLine) (behind : List BoundLine) (steps : List Stepped) (w : World) (message : ℕ) → lines ≡ before ++ line ∷ behind
       → IsPlayed plan before steps w → line.wanted ≡ wanted.Event (event.Deliver message) → message ≤ length w.sent
 
--- one line was played: its event, or none, led from the world before to the world after, and this is the text of its lines, so many of
--- which say that a submission was refused as busy
+-- one line was played: its event, or none, led from the world before to the world after, and this is the text of its lines, whose numbers have
+-- at most 64 bits, and so many of which say that a submission was refused as busy
 pub record IsPlayedLine (plan : Plan) (e : Option Event) (before after : World) (text : List ℕ) (busy : ℕ) : Type 0 where
   pub outcome : Outcome
   pub transition : Transition plan before e outcome
   pub world : outcome.world ≡ after
   pub shows : text ≡ lines_text plan.program (step_lines before.sent (record { event = e; outcome = outcome }))
+  pub small : HaveSmallNumbers (step_lines before.sent (record { event = e; outcome = outcome }))
   pub refused : busy ≡ busy_in (first_lines e outcome.seen)

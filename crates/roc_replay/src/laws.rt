@@ -1,10 +1,13 @@
 //! What holds of the report of every run. Each law is the contract of a function that does nothing.
 ghost use Rattle.std.specs.Prelude.{◌≡◌, ℕ, ◌<◌, List, Option, map};
+ghost use Rattle.std.specs.List.{AllByRecursion};
 ghost use Rattle.roc_plan.specs.Accepted.{IsAccepted};
 ghost use Rattle.roc_plan.specs.Groups.{Plan};
 ghost use Rattle.roc_protocol.specs.Run.{Stepped, IsRun};
 ghost use Rattle.roc_protocol.specs.World.{World};
 ghost use Rattle.roc_sched.specs.declared.fault.What.{What};
+ghost use Rattle.roc_report.specs.ReportLine.{HasNames, NamesPartsOf};
+ghost use Rattle.roc_report.specs.Reading.{IsReadInOneWay};
 ghost use Rattle.roc_replay.specs.declared.asked.BoundLine.{BoundLine};
 ghost use Rattle.roc_replay.specs.declared.ended.Summary.{Summary};
 ghost use Rattle.roc_replay.specs.BoundLine.{IsScheduleOf, coordinators};
@@ -20,7 +23,7 @@ use roc_law_plans::laws::{
 use roc_protocol::laws::{
     cells_are_in_their_place, events_have_outcomes, step_is_one, submissions_are_kept, worlds_fit,
 };
-use roc_rows::laws::entries_are_not_zero;
+use roc_rows::laws::{entries_are_not_zero, reads_after_writes};
 use roc_sched::laws::{lines_are_unique, lines_fit, texts_are_right_or_wrong};
 
 /// The report of every run of an accepted plan explains itself: its one `order` line is a serial witness of the history
@@ -42,6 +45,24 @@ pub fn report_explains_itself()
     nothing_is_refused();
 }
 
+/// Each line of the report of every run of an accepted plan names a procedure or a cell that the program has, or none.
+pub fn lines_name_parts()
+    ensures { (plan : Plan) (coords : ℕ) (steps : List Stepped) (w : World) → IsAccepted plan → IsRun plan coords steps w
+        → AllByRecursion (NamesPartsOf plan.program) (report steps w) }
+{
+    reads_after_writes();
+    entries_are_not_zero();
+}
+
+/// Whoever reads the bytes of a report as lines of a report reads the lines of the run's report and no others, where names tell the parts
+/// of the program apart.
+pub fn reports_are_read_in_one_way()
+    ensures { (plan : Plan) (schedule : List ℕ) (summary : Summary) (old new : Option (List ℕ)) → HasNames plan.program
+        → (r : IsReplayed plan schedule summary old new) → IsReadInOneWay plan.program r.lines }
+{
+    roc_report::laws::lines_are_unique();
+}
+
 /// Lines that are played are a run of the world, so that what `roc_protocol` and `roc_law_plans` say of every run holds of it.
 pub fn played_is_a_run()
     ensures { (plan : Plan) (lines : List BoundLine) (steps : List Stepped) (w : World) → IsPlayed plan lines steps w → IsRun plan coordinators steps w }
@@ -54,7 +75,7 @@ pub fn report_is_one()
         → map (λ l. l.wanted) lines ≡ map (λ l. l.wanted) others → IsPlayed plan lines steps w → IsPlayed plan others same v → (steps ≡ same) × (w ≡ v) }
     ensures schedules { (plan : Plan) (some other : List ℕ) (lines : List BoundLine) → IsScheduleOf plan.program some lines → IsScheduleOf plan.program other lines
         → (s t : Summary) (o n p q : Option (List ℕ)) (r : IsReplayed plan some s o n) (z : IsReplayed plan other t p q)
-        → (report r.steps r.world ≡ report z.steps z.world) × (s ≡ t) }
+        → (r.lines ≡ z.lines) × (s ≡ t) }
 {
     step_is_one();
     lines_are_unique();

@@ -15,9 +15,9 @@
 //! was due behind it. A schedule that delivers only what was sent is played whole if no failure is counted and memory
 //! suffices.
 //!
-//! By [`laws`] the report of every run of an accepted plan explains itself, what is played is a run, schedules with the
-//! same lines have one report, and a schedule can be played exactly if it delivers only what was sent. `specs/Inner/`
-//! is of this crate alone.
+//! By [`laws`] the report of every run of an accepted plan explains itself, whoever reads the text of a replay's report
+//! as lines of a report reads its lines, what is played is a run, schedules with the same lines have one report, and a
+//! schedule can be played exactly if it delivers only what was sent. `specs/Inner/` is of this crate alone.
 #![tactic(auto)]
 
 mod asked;

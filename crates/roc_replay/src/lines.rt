@@ -1,6 +1,7 @@
 //! The text of an event's lines, and of a choice that found none.
 ghost use Rattle.std.specs.Prelude.{◌≡◌, ◌+◌, ◌^◌, ◌<◌, ◌≤◌, ◌++◌, [], ◌∷◌, drop, length, Some, IfOk, OnOk};
 ghost use Rattle.roc_report.specs.Line as line;
+ghost use Rattle.roc_report.specs.ReportLine.{HaveSmallNumbers};
 ghost use Rattle.roc_report.specs.Text.{lines_text};
 ghost use Rattle.roc_replay.specs.Report.{first_lines, untaken_lines, send_lines, answer_lines};
 
@@ -22,8 +23,9 @@ pub fn event_text(
     before: usize,
 ) -> Result<Vec<u8>, NoMemory>
     requires { before ≤ length sent.now }
-    ensures { IfOk result (λ text. text.items
+    ensures text { IfOk result (λ text. text.items
         ≡ lines_text (workload.now) (first_lines (Some event.now) seen.now ++ (send_lines (before + 1) (drop before sent.now) ++ answer_lines seen.now))) }
+    ensures small { OnOk result (HaveSmallNumbers (first_lines (Some event.now) seen.now ++ (send_lines (before + 1) (drop before sent.now) ++ answer_lines seen.now))) }
 {
     let mut text = Vec::new(alloc);
     push_first(alloc, &mut text, workload, event, seen)?;
@@ -56,7 +58,8 @@ fn push_first(
     event: &Event,
     seen: &Seen,
 ) -> Result<(), NoMemory>
-    ensures { OnOk result (text.new.items ≡ text.old.items ++ lines_text (workload.now) (first_lines (Some event.now) seen.now)) }
+    ensures text { OnOk result (text.new.items ≡ text.old.items ++ lines_text (workload.now) (first_lines (Some event.now) seen.now)) }
+    ensures small { OnOk result (HaveSmallNumbers (first_lines (Some event.now) seen.now)) }
 {
     match event {
         Event::Submit { coord, proc, args } => {
@@ -89,7 +92,8 @@ fn push_untaken(
     workload: &Workload,
     seen: &Seen,
 ) -> Result<(), NoMemory>
-    ensures { OnOk result (text.new.items ≡ text.old.items ++ lines_text (workload.now) (untaken_lines seen.now)) }
+    ensures text { OnOk result (text.new.items ≡ text.old.items ++ lines_text (workload.now) (untaken_lines seen.now)) }
+    ensures small { OnOk result (HaveSmallNumbers (untaken_lines seen.now)) }
 {
     match seen {
         Seen::Ignored(reason) => append(alloc, text, workload, &ReportLine::Ignored(*reason)),
@@ -109,7 +113,8 @@ fn push_sends(
     sent: &[Envelope],
 ) -> Result<(), NoMemory>
     requires { first + length sent.now < 2 ^ 64 }
-    ensures { OnOk result (text.new.items ≡ text.old.items ++ lines_text (workload.now) (send_lines first sent.now)) }
+    ensures text { OnOk result (text.new.items ≡ text.old.items ++ lines_text (workload.now) (send_lines first sent.now)) }
+    ensures small { OnOk result (HaveSmallNumbers (send_lines first sent.now)) }
 {
     for (index, sent) in sent.iter().enumerate() {
         let number = first + index as u64;
@@ -125,7 +130,8 @@ fn push_answer(
     workload: &Workload,
     seen: &Seen,
 ) -> Result<(), NoMemory>
-    ensures { OnOk result (text.new.items ≡ text.old.items ++ lines_text (workload.now) (answer_lines seen.now)) }
+    ensures text { OnOk result (text.new.items ≡ text.old.items ++ lines_text (workload.now) (answer_lines seen.now)) }
+    ensures small { OnOk result (HaveSmallNumbers (answer_lines seen.now)) }
 {
     match seen {
         Seen::Answered { id, reply } => append(

@@ -13,7 +13,7 @@ ghost use Rattle.roc_replay.specs.Played.{IsPlayedLine};
 ghost use Rattle.roc_replay.specs.Report.{first_lines, busy_in};
 
 use crate::closing::last_lines;
-use crate::laws::report_explains_itself;
+use crate::laws::{lines_name_parts, report_explains_itself};
 use crate::lines::{event_text, nothing_text};
 use crate::{BoundLine, Ended, Wanted};
 use roc_base::NoMemory;
@@ -55,6 +55,7 @@ fn play_lines<S: Sink>(
     ensures sink { HasCause (is_sink_fault result) (S.faults sink.old) (S.faults sink.new) }
 {
     report_explains_itself();
+    lines_name_parts();
     let mut busy = 0;
     for line in lines {
         if is_unsent(&line.wanted, world.sent().len()) {

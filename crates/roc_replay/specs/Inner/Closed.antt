@@ -6,6 +6,7 @@ use Rattle.roc_protocol.specs.World.{World}
 use Rattle.roc_protocol.specs.declared.event.Event.{Event}
 use Rattle.roc_protocol.specs.declared.event.Event.TheVariants as event
 use Rattle.roc_report.specs.Line.{End}
+use Rattle.roc_report.specs.ReportLine.{HaveSmallNumbers}
 use Rattle.roc_report.specs.Text.{lines_text}
 use Rattle.roc_replay.specs.declared.asked.Wanted.{Wanted}
 use Rattle.roc_replay.specs.declared.asked.Wanted.TheVariants as wanted
@@ -17,6 +18,7 @@ use Rattle.roc_replay.specs.Report.{end_line, closing_lines}
 abbrev pub IsClosed : Workload → World → ℕ → Ended → (old new : Option (List ℕ)) → Type 0
 IsClosed program w busy (Done summary) old new =
     Adds old new (lines_text program (closing_lines w)) × (end_line w ≡ End summary.answered summary.pending summary.messages) × (summary.busy ≡ busy)
+    × HaveSmallNumbers (closing_lines w)
 IsClosed program w busy SinkFault old new = AddsFront old new (lines_text program (closing_lines w))
 IsClosed program w busy NoMemory old new = new ≡ old
 IsClosed program w busy (Text line what) old new = ⊥

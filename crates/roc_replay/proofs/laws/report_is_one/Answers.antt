@@ -11,5 +11,5 @@ returns-clause-run c plan lines others steps same w v asks p q = one_played plan
 pub returns-clause-schedules : goal.returns-clause-schedules
 returns-clause-schedules c plan some other lines of_some of_other s t o n p q r z =
     let one = one_schedule plan.program c.lines_are_unique.ensures.schedules in
-    let alike = one some r.lines lines r.of_schedule of_some ∙ sym (one other z.lines lines z.of_schedule of_other) in
-    one_report plan some other s t o n p q r z (one_played plan (c.step_is_one.ensures plan) r.played z.played (ap (λ (ls : List BoundLine). map (λ l. l.wanted) ls) alike))
+    let alike = one some r.run.asked lines r.run.of_schedule of_some ∙ sym (one other z.run.asked lines z.run.of_schedule of_other) in
+    one_report plan some other s t o n p q r z (one_played plan (c.step_is_one.ensures plan) r.run.played z.run.played (ap (λ (ls : List BoundLine). map (λ l. l.wanted) ls) alike))

@@ -1,0 +1,202 @@
+-- Servers hold only cells that the program has
+use Rattle.std.proofs.Common.{◌≡◌, ◌≢◌, ℕ, ℤ, pos, zero, suc, ◌+◌, Bool, true, false, cond, List, [], ◌∷◌, ◌++◌, length, map, filter, Option, Some, None, sym, subst, ◌∙◌, ◌⊎◌, inl, inr, arith}
+use Rattle.std.proofs.lemmas.Bool.{cases_lt}
+use Rattle.std.specs.Prelude.{slice_index_or, if◌then◌else◌}
+use Rattle.std.specs.List.{AllByRecursion, range_with_len}
+use Rattle.roc_sequence.proofs.Members.{has_at}
+use Rattle.roc_sequence.proofs.Holds.{all_has, all_set}
+use Rattle.roc_base.specs.declared.node.Node.{Node}
+use Rattle.roc_base.specs.declared.node.Node.TheVariants.{Server, Coord}
+use Rattle.roc_rows.specs.declared.cell.Cell.{Cell}
+use Rattle.roc_rows.specs.Store.{Store, read, write, empty}
+use Rattle.roc_program.specs.Program.{Statement, Get, Set, Out, Piece, Procedure, Init, Workload}
+use Rattle.roc_program.specs.WellFormed.{IsColumn, IsBody, IsPiece, ArePieces, IsProcedure, IsInit, IsProgram, known_behind}
+use Rattle.roc_program.specs.LookUps.{no_piece, no_procedure, columns_of}
+use Rattle.roc_program.specs.Values.{value}
+use Rattle.roc_plan.specs.Groups.{Plan, pieces_at, group_of}
+use Rattle.roc_whole.specs.Run.{Progress, access_cell, after_statement, after_statements, after_piece, after_pieces}
+use Rattle.roc_whole.specs.Serial.{init_cell, after_inits}
+use Rattle.roc_group.specs.GroupRun.{GroupCall, call, begin, group_run}
+use Rattle.roc_base.specs.declared.id.TxnId.{TxnId}
+use Rattle.roc_base.specs.Edge.{Dependency}
+use Rattle.roc_depgraph.specs.Deps.{list_of}
+use Rattle.roc_msg.specs.declared.msg.Msg.{Msg}
+use Rattle.roc_msg.specs.declared.msg.Msg.TheVariants as msg
+use Rattle.roc_msg.specs.declared.reason.Reason.{Reason}
+use Rattle.roc_msg.specs.declared.reason.Reason.TheVariants.{NotHere}
+use Rattle.roc_server.specs.declared.started.StartedGroup.{StartedGroup}
+use Rattle.roc_server.specs.State.{ServerState, ServerStep, find_group, is_here, ignored}
+use Rattle.roc_server.specs.First.{first_server}
+use Rattle.roc_server.specs.Start.{start_fault, start_judged, start_taken, is_immediate_group}
+use Rattle.roc_server.specs.Runs.{group_call, buffered_here, run_group, run_groups, take_all}
+use Rattle.roc_server.specs.Lists.{commit_fault, after_commit, fetch_taken, known_fault, after_known}
+use Rattle.roc_server.specs.Step as server
+use Rattle.roc_server.specs.Step.{Findings}
+use Rattle.roc_protocol.specs.declared.event.Event.{Event}
+use Rattle.roc_protocol.specs.declared.event.Event.TheVariants.{Submit, Deliver, Tick}
+use Rattle.roc_protocol.specs.World.{World, mark_delivered}
+use Rattle.roc_protocol.specs.Happens.{Outcome, IsReceived}
+use Rattle.roc_protocol.specs.Run.{Stepped, Transition, IsRun, begun, goes_on}
+use Rattle.roc_protocol.proofs.Worlds.{Submitting, is_refused, is_accepted, submitting}
+use Rattle.roc_report.specs.ReportLine.{IsCellOf}
+
+-- what is read of stores
+pub record ReadLaws : Type 0 where
+  pub nothing : (c : Cell) → read empty c ≡ pos 0
+  pub other : (s : Store) (c : Cell) (v : ℤ) (d : Cell) → c ≢ d → read (write s c v) d ≡ read s d
+
+-- each cell that the program does not have is 0
+abbrev pub HoldsOwn : Workload → Store → Type 0
+HoldsOwn program store = (c : Cell) → (IsCellOf program c → ⊥) → read store c ≡ pos 0
+
+-- a cell is the program's, or not
+own_or_not : (program : Workload) (c : Cell) → IsCellOf program c ⊎ (IsCellOf program c → ⊥)
+own_or_not program c = elim (cases_lt c.table (length program.tables)) [
+  | inl table ↦ elim (cases_lt c.column (length (columns_of program c.table))) [
+    | inl column ↦ inl (record { table = table; column = column })
+    | inr past ↦ inr (λ is. let column = is.column in absurd (omega (arith, past, column)))
+  ]
+  | inr past ↦ inr (λ is. let table = is.table in absurd (omega (arith, past, table)))
+]
+
+pub own_cell : (program : Workload) (store : Store) (c : Cell) → HoldsOwn program store → read store c ≢ pos 0 → IsCellOf program c
+own_cell program store c own some = elim (own_or_not program c) [
+  | inl is ↦ is
+  | inr not ↦ absurd (some (own c not))
+]
+
+-- ---- programs
+
+column_cell : (program : Workload) (table integers column : ℕ) (place : ℤ) (id : List ℤ) → IsColumn program.tables table integers column
+    → IsCellOf program (record { table = table; place = place; id = id; column = column })
+column_cell program table integers column place id is = record { table = is.has_table; column = is.has_column }
+
+module _ (laws : ReadLaws) (program : Workload) where
+  written_own : (store : Store) (cell : Cell) (v : ℤ) → IsCellOf program cell → HoldsOwn program store → HoldsOwn program (write store cell v)
+  written_own store cell v of own c not = laws.other store cell v c (λ e. not (subst (IsCellOf program) e of)) ∙ own c not
+
+  body_own : (known own : List ℕ) (place : ℤ) (body : List Statement) (p : Progress) → IsBody program.tables known own body → HoldsOwn program p.store
+      → HoldsOwn program (after_statements place p body).store
+  body_own known own place [] p is h = h
+  body_own known own place (Get number from ∷ rest) p is h = body_own known (own ++ number ∷ []) place rest (after_statement place p (Get number from)) is.1 h
+  body_own known own place (Set to v ∷ rest) p is h =
+      body_own known own place rest (after_statement place p (Set to v)) is.2
+      (written_own p.store (access_cell place p.environment to) (value v p.environment) (column_cell program _ _ _ _ _ is.0.column) h)
+  body_own known own place (Out v ∷ rest) p is h = body_own known own place rest (after_statement place p (Out v)) is.1 h
+
+  abbrev KeepsOwn : Piece → Type 0
+  KeepsOwn piece = (p : Progress) → HoldsOwn program p.store → HoldsOwn program (after_piece p piece).store
+
+  piece_keeps : (known : List ℕ) (piece : Piece) → IsPiece program.tables known piece → KeepsOwn piece
+  piece_keeps known piece is p h = body_own known [] (value piece.place p.environment) piece.body p is.body h
+
+  piece_at_keeps : (known : List ℕ) (pieces : List Piece) (k : ℕ) → ArePieces program.tables known pieces → KeepsOwn (slice_index_or pieces k no_piece)
+  piece_at_keeps known [] k are p h = h
+  piece_at_keeps known (piece ∷ rest) zero are p h = piece_keeps known piece are.0 p h
+  piece_at_keeps known (piece ∷ rest) (suc k) are p h = piece_at_keeps (known_behind known piece) rest k are.1 p h
+
+  pieces_keep : (known : List ℕ) (pieces : List Piece) → ArePieces program.tables known pieces → (numbers : List ℕ) (p : Progress) → HoldsOwn program p.store
+      → HoldsOwn program (after_pieces p (map (λ k. slice_index_or pieces k no_piece) numbers)).store
+  pieces_keep known pieces are [] p h = h
+  pieces_keep known pieces are (k ∷ ks) p h = pieces_keep known pieces are ks (after_piece p (slice_index_or pieces k no_piece)) (piece_at_keeps known pieces k are p h)
+
+  procedures_keep : (procedures : List Procedure) (proc : ℕ) → AllByRecursion (IsProcedure program.tables) procedures → (numbers : List ℕ) (p : Progress) → HoldsOwn program p.store
+      → HoldsOwn program (after_pieces p (pieces_at (slice_index_or procedures proc no_procedure) numbers)).store
+  procedures_keep [] proc all numbers p h = pieces_keep [] [] tt numbers p h
+  procedures_keep (x ∷ xs) zero all numbers p h = pieces_keep (range_with_len 0 x.arguments) x.pieces all.0.pieces numbers p h
+  procedures_keep (x ∷ xs) (suc n) all numbers p h = procedures_keep xs n all.1 numbers p h
+
+  inits_own : (chosen : Init → Bool) (inits : List Init) (store : Store) → AllByRecursion (IsInit program.tables) inits → HoldsOwn program store
+      → HoldsOwn program (after_inits store (filter chosen inits))
+  inits_own chosen [] store all h = h
+  inits_own chosen (i ∷ inits) store all h = go (chosen i) (inits_own chosen inits)
+    where
+      go : (b : Bool) → ((s : Store) → AllByRecursion (IsInit program.tables) inits → HoldsOwn program s → HoldsOwn program (after_inits s (filter chosen inits)))
+          → HoldsOwn program (after_inits store (cond b (i ∷ filter chosen inits) (filter chosen inits)))
+      go true ih = ih (write store (init_cell i) i.value) all.1 (written_own store (init_cell i) i.value (column_cell program _ _ _ _ _ all.0.column) h)
+      go false ih = ih store all.1 h
+
+-- ---- servers
+
+module _ (laws : ReadLaws) (plan : Plan) (ok : IsProgram plan.program) where
+  group_own : (c : GroupCall) (store : Store) → HoldsOwn plan.program store → HoldsOwn plan.program (group_run plan c store).store
+  group_own c store h = procedures_keep laws plan.program plan.program.procedures c.proc ok.procedures (group_of plan c.proc c.group).pieces (begin plan c store) h
+
+  groups_own : (es : List StartedGroup) (s : ServerState) → HoldsOwn plan.program s.store → HoldsOwn plan.program (run_groups plan s es).store
+  groups_own [] s h = h
+  groups_own (e ∷ es) s h = groups_own es (run_group plan s e) (group_own (group_call e) s.store h)
+
+  taken_own : (ts : List TxnId) (s : ServerState) → HoldsOwn plan.program s.store → HoldsOwn plan.program (take_all plan s ts).store
+  taken_own [] s h = h
+  taken_own (t ∷ ts) s h = taken_own ts (run_groups plan s (buffered_here plan t s.started)) (groups_own (buffered_here plan t s.started) s h)
+
+  either_own : (b : Bool) (s t : Store) → HoldsOwn plan.program s → HoldsOwn plan.program t → HoldsOwn plan.program (if b then s else t)
+  either_own true s t h k = h
+  either_own false s t h k = k
+
+  start_own : (left_out reached : List TxnId) (s : ServerState) (id : TxnId) (c : GroupCall) (fault : Option Reason) → HoldsOwn plan.program s.store
+      → HoldsOwn plan.program (start_judged plan left_out reached s id c fault).state.store
+  start_own left_out reached s id c (Some reason) h = h
+  start_own left_out reached s id c None h = go (find_group id c.group s.started)
+    where
+      go : (here : Option StartedGroup) → HoldsOwn plan.program (start_taken plan left_out reached s id c here).state.store
+      go (Some e) = h
+      go None = either_own (is_immediate_group plan c) (group_run plan c s.store).store s.store (group_own c s.store h) h
+
+  message_own : (s : ServerState) (f : Findings) (m : Msg) → HoldsOwn plan.program s.store → HoldsOwn plan.program (server.after_message plan s f m).state.store
+  message_own s f (msg.Start id proc group args inputs) h = start_own f.before f.reached s id (call proc group args inputs) (start_fault plan s id (call proc group args inputs)) h
+  message_own s f (msg.Commit id edges facts) h = go (commit_fault s id edges facts)
+    where
+      go : (fault : Option Reason) → HoldsOwn plan.program (after_commit plan f.before f.decided s id edges facts fault).state.store
+      go (Some reason) = h
+      go None = taken_own f.decided _ h
+  message_own s f (msg.Fetch id asker) h = here (is_here id s.started)
+    where
+      found : (list : Option (List Dependency)) → HoldsOwn plan.program (fetch_taken s id asker list).state.store
+      found (Some edges) = h
+      found None = h
+
+      here : (b : Bool) → HoldsOwn plan.program (if b then fetch_taken s id asker (list_of id s.lists.known) else ignored s NotHere).state.store
+      here true = found (list_of id s.lists.known)
+      here false = h
+  message_own s f (msg.Known id edges) h = go (known_fault s id edges)
+    where
+      go : (fault : Option Reason) → HoldsOwn plan.program (after_known plan f.decided s id edges fault).state.store
+      go (Some reason) = h
+      go None = taken_own f.decided _ h
+  message_own s f (msg.Ended coord below) h = h
+  message_own s f (msg.Settled id below) h = h
+  message_own s f m h = h
+
+  -- ---- worlds
+
+  abbrev OwnServers : List ServerState → Type 0
+  OwnServers servers = AllByRecursion (λ s. HoldsOwn plan.program s.store) servers
+
+  first_own : (a n : ℕ) → OwnServers (map (λ n. first_server plan (record { 0 = n })) (range_with_len a n))
+  first_own a zero = tt
+  first_own a (suc n) = (inits_own laws plan.program _ plan.program.inits empty ok.inits (λ c not. laws.nothing c), first_own (a + 1) n)
+
+  step_own : (w : World) → OwnServers w.servers → (e : Option Event) (o : Outcome) → Transition plan w e o → OwnServers o.world.servers
+  step_own w h None o c = subst (λ (o : Outcome). OwnServers o.world.servers) (sym c) h
+  step_own w h (Some (Submit n proc args)) o (s, there, c) = go (submitting plan w n proc args s o c)
+    where
+      go : Submitting plan w n proc args s o → OwnServers o.world.servers
+      go (is_refused e) = subst (λ (v : World). OwnServers v.servers) (sym e) h
+      go (is_accepted known counted e) = subst (λ (v : World). OwnServers v.servers) (sym e) h
+  step_own w h (Some (Deliver k)) o (m, some, there, c) = go m.to c
+    where
+      go : (to : Node) → IsReceived plan (mark_delivered w k) m.msg to o → OwnServers o.world.servers
+      go (Server shard) (s, r, at, step, e) =
+          let own : HoldsOwn plan.program s.store = all_has (λ (s : ServerState). HoldsOwn plan.program s.store) s w.servers h (has_at w.servers shard.0 s at) in
+          let after : HoldsOwn plan.program r.state.store = subst (λ (r : ServerStep). HoldsOwn plan.program r.state.store) (sym step.is) (message_own s step.findings m.msg own) in
+          subst (λ (o : Outcome). OwnServers o.world.servers) (sym e) (all_set (λ (s : ServerState). HoldsOwn plan.program s.store) w.servers shard.0 r.state h after)
+      go (Coord n) (s, at, e) = subst (λ (o : Outcome). OwnServers o.world.servers) (sym e) h
+  step_own w h (Some (Tick (Server shard))) o (s, there, e) =
+      let own : HoldsOwn plan.program s.store = all_has (λ (s : ServerState). HoldsOwn plan.program s.store) s w.servers h (has_at w.servers shard.0 s there) in
+      subst (λ (o : Outcome). OwnServers o.world.servers) (sym e) (all_set (λ (s : ServerState). HoldsOwn plan.program s.store) w.servers shard.0 s h own)
+  step_own w h (Some (Tick (Coord n))) o (s, there, e) = subst (λ (o : Outcome). OwnServers o.world.servers) (sym e) h
+
+  pub run_own : (coords : ℕ) (steps : List Stepped) (w : World) → IsRun plan coords steps w → OwnServers w.servers
+  run_own coords steps w begun = first_own 0 plan.program.shards
+  run_own coords steps w (goes_on {steps = before} {w = v} e o r h) = step_own v (run_own coords before v r) e o h
