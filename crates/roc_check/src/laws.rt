@@ -5,10 +5,12 @@ ghost use Rattle.roc_program.specs.WellFormed.{IsProgram};
 ghost use Rattle.roc_plan.specs.Groups.{Plan};
 ghost use Rattle.roc_plan.specs.Accepted.{IsAccepted};
 ghost use Rattle.roc_report.specs.Line.{Line};
+ghost use Rattle.roc_report.specs.ReportLine.{HasNames};
 ghost use Rattle.roc_check.specs.Lines.{check_lines};
-ghost use Rattle.roc_check.specs.Checked.{IsPlanOf, IsPlanOfText, IsRefusedBy};
+ghost use Rattle.roc_check.specs.Checked.{IsPlanOf, IsPlanOfText, IsRefusedBy, IsTextOf};
 
 use roc_merge_groups::laws::merged_groups_are_one;
+use roc_report::laws::{programs_have_names, texts_have_words};
 
 /// A text has at most one plan, and so one text of `check`.
 pub fn plans_are_unique()
@@ -29,3 +31,11 @@ pub fn refusals_are_unique()
 pub fn plans_are_accepted()
     ensures { (bytes : List ℕ) (plan : Plan) → IsPlanOfText bytes plan → IsAccepted plan }
 {}
+
+/// Names tell the parts of the program of a text apart, so that the text of a report of it is read in one way.
+pub fn programs_of_texts_have_names()
+    ensures { (bytes : List ℕ) (program : Workload) → IsTextOf bytes program → HasNames program }
+{
+    programs_have_names();
+    texts_have_words();
+}

@@ -8,7 +8,8 @@
 //!
 //! The layers above may rely on this: a plan comes exactly of a text in scope whose pieces may be merged, unless memory
 //! runs out, and is accepted, as each plan of a text is; a text has at most one plan and one text of `check`, and a program at
-//! most one line that refuses it, and no such line if it has a plan; a well-formed program has one of the two ([`laws`]).
+//! most one line that refuses it, and no such line if it has a plan; a well-formed program has one of the two; names tell
+//! the parts of a text's program apart ([`laws`]).
 #![tactic(auto)]
 
 mod checking;
