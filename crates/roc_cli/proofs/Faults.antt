@@ -8,6 +8,9 @@ use Rattle.roc_sched.specs.FaultText.{what_text as schedule_text}
 use Rattle.roc_lang_scope.specs.Fault.{kind}
 use Rattle.roc_plan.specs.Groups.{Plan}
 use Rattle.roc_sched.specs.Schedule.{most_bytes}
+use Rattle.roc_report.specs.Reading.{IsReadInOneWay}
+use Rattle.roc_replay.specs.declared.ended.Summary.{Summary}
+use Rattle.roc_replay.specs.Ended.{IsReplayed}
 use Rattle.roc_cli_files.specs.declared.fault.Fault.{Fault}
 use Rattle.roc_cli_files.specs.declared.fault.Fault.TheVariants.{TooLong, At, Scope, Rejected, Memory, File, Sink}
 use Rattle.roc_cli_nodes.specs.Call.{RunCall, WholeCall, TakesNothing}
@@ -74,24 +77,28 @@ module _ (call : RunCall) where
 
   -- ---- replay
 
-  -- the replay ended
+  -- the replay ended; whatever was replayed is read in one way
   replay_ends : (plan : Plan) (bytes : List ℕ) (result : Result Unit Fault) → (asked : IsReplayOf call plan bytes)
+      → ((summary : Summary) (h : IsReplayed plan bytes summary call.out.old call.out.new) → IsReadInOneWay plan.program h.lines)
       → ReplayEnds plan bytes asked.schedule call.out.old call.out.new result → Ends call result
-  replay_ends plan bytes (Ok done) asked (summary, h) = inl (record { plan = plan; bytes = bytes; asked = asked; summary = summary; replayed = h })
-  replay_ends plan bytes (Err (At file line what)) asked (e, (w, g, h)) =
+  replay_ends plan bytes (Ok done) asked reads (summary, h) =
+      inl (record { plan = plan; bytes = bytes; asked = asked; lines = h.lines; taken = h.taken; explained = h.explained; read = reads summary h; run = h.run })
+  replay_ends plan bytes (Err (At file line what)) asked reads (e, (w, g, h)) =
       line_known file.now asked.schedule line line what.now (schedule_text w) e refl g (bad_schedule plan bytes asked line w h)
-  replay_ends plan bytes (Err Memory) asked h = with_lines plan bytes asked h
-  replay_ends plan bytes (Err Sink) asked h = in_report plan bytes asked h
-  replay_ends plan bytes (Err _) asked h = absurd h
+  replay_ends plan bytes (Err Memory) asked reads h = with_lines plan bytes asked h
+  replay_ends plan bytes (Err Sink) asked reads h = in_report plan bytes asked h
+  replay_ends plan bytes (Err _) asked reads h = absurd h
 
   -- both files were read, and the replay ended
   pub files_end : (workload schedule : List ℕ) (plan : Plan) (bytes taken : List ℕ) (result : Result Unit Fault)
       → IsReplay call.words workload schedule → HoldsPlan call.files.content workload plan
-      → HoldsWithin call.files.content schedule most_bytes bytes → taken ≡ bytes → ReplayEnds plan taken schedule call.out.old call.out.new result → Ends call result
-  files_end workload schedule plan bytes taken result given planned held e ends =
+      → HoldsWithin call.files.content schedule most_bytes bytes → taken ≡ bytes
+      → ((summary : Summary) (h : IsReplayed plan taken summary call.out.old call.out.new) → IsReadInOneWay plan.program h.lines)
+      → ReplayEnds plan taken schedule call.out.old call.out.new result → Ends call result
+  files_end workload schedule plan bytes taken result given planned held e reads ends =
       let is_held : Holds call.files.content schedule taken = subst (Holds call.files.content schedule) (sym e) held.held in
       let is_few : length taken ≤ most_bytes = subst (λ n. n ≤ most_bytes) (sym (ap length e)) held.few in
-      replay_ends plan taken result (record { workload = workload; schedule = schedule; given = given; of_workload = planned; of_schedule = is_held; size = is_few }) ends
+      replay_ends plan taken result (record { workload = workload; schedule = schedule; given = given; of_workload = planned; of_schedule = is_held; size = is_few }) reads ends
 
   -- ---- print and check
 

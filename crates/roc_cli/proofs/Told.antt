@@ -1,7 +1,6 @@
 -- What the status says, where a fault was told
 use Rattle.std.proofs.Common.{◌≡◌, ◌⊎◌, inl, inr, ℕ, ◌≤◌, List, Option, codes, refl, sym, subst, ◌∙◌, arith, [], ◌∷◌, Ok, Err}
 use Rattle.roc_replay.specs.Ended.{no_schedule, unfit, unsent, behind_lines}
-use Rattle.roc_replay.specs.Report.{report}
 use Rattle.roc_node_serve.specs.declared.ends.ServeEnd.TheVariants as serve_end
 use Rattle.roc_node_submit.specs.declared.ends.SubmitEnd.TheVariants as submit_end
 use Rattle.roc_base.specs.declared.node.Shard.{Shard}
@@ -13,7 +12,7 @@ use Rattle.roc_cli_files.specs.declared.fault.Fault.TheVariants.{Rejected, Refus
 use Rattle.roc_cli_nodes.specs.Call.{RunCall, WholeCall, TakesNothing, ReadsAll}
 use Rattle.roc_cli_files.specs.Says.{Errors, Says, word_line, file_line, child_line}
 use Rattle.roc_cli_nodes.specs.Words.{AreReplayWords, ArePrintWords, AreCheckWords, AreGenWords, AreServeWords, AreSubmitWords, AreStopWords, AreLocalWords, AreCommandWords, NamesNodes, node_files}
-use Rattle.roc_cli.specs.Done.{Replays, Explains, Prints, Checks, Generates, Rejects}
+use Rattle.roc_cli.specs.Done.{Replays, Prints, Checks, Generates, Rejects}
 use Rattle.roc_cli_nodes.specs.Nodes.{ServeEnded, SubmitEnded, StopEnded, LocalEnded, AreNodesEnded, IsChildBlamed, BlamesAnyChild}
 use Rattle.roc_cli.specs.Stopped.{IsUnread, RunsOut, with_nothing, with_lines, CutsOutput}
 use Rattle.roc_cli.specs.Refused.{AreRefusedWords, IsRefused, long_workload, no_text, out_of_scope, long_schedule, bad_schedule, long_cluster, bad_cluster, long_requests, bad_requests}
@@ -261,7 +260,6 @@ module _ (call : WholeCall) (err : Errors) where
       record {
         statuses = at_most status h.line h.is;
         replayed = not_done (AreReplayWords call.run.words → Replays call.run) status h.line h.is;
-        explained = not_done (AreReplayWords call.run.words → Explains call.run) status h.line h.is;
         printed = not_done (ArePrintWords call.run.words → Prints call.run) status h.line h.is;
         checked = not_done (AreCheckWords call.run.words → Checks call.run) status h.line h.is;
         generated = not_done (AreGenWords call.run.words → Generates call.run) status h.line h.is;
@@ -344,11 +342,6 @@ module _ (call : WholeCall) where
   ran (inl h) (workload, cluster, requests, turns, given) = not_without (LocalEnded call.run call.link call.children local_end.Done) h (_, (local workload cluster requests turns, given, refl))
   ran (inr h) are = local_done call h are
 
-  -- what was replayed explains itself
-  replay_explains : Replays call.run → Explains call.run
-  replay_explains done =
-      record { plan = done.plan; bytes = done.bytes; asked = done.asked; lines = report done.replayed.steps done.replayed.world; taken = done.replayed.taken; explained = done.replayed.explained }
-
   done_words : WholeEnds call (Ok tt) → AreCommandWords call.run.words
   done_words (inl (inl done)) = (replay done.asked.workload done.asked.schedule, done.asked.given)
   done_words (inl (inr (inl done))) = (print done.workload, done.given)
@@ -368,7 +361,6 @@ module _ (call : WholeCall) where
   done_answers err laws done read childless = record {
     statuses = omega arith;
     replayed = λ _ are. replay_done done are;
-    explained = λ _ are. replay_explains (replay_done done are);
     printed = λ _ are. print_done done are;
     checked = λ _ are. check_done done are;
     generated = λ _ are. gen_done done are;

@@ -16,7 +16,7 @@ use Rattle.roc_cli_words.specs.declared.value.Part.{Part}
 use Rattle.roc_cli_words.specs.Commands.{Command, check, print, replay, serve, submit, stop, local, gen}
 use Rattle.roc_cli_words.specs.Answer.{AreWordsOf}
 use Rattle.roc_cli_nodes.specs.Call.{RunCall, WholeCall}
-use Rattle.roc_cli_nodes.specs.Words.{IsReplay, IsPrint, IsGen, node_files, program_of, workload_of, NamesProgram, NamesWorkload, NamesNodeFiles}
+use Rattle.roc_cli_nodes.specs.Words.{IsPrint, IsGen, node_files, program_of, workload_of, NamesProgram, NamesWorkload, NamesNodeFiles}
 use Rattle.roc_cli_nodes.specs.Nodes.{AreNodesEnded, IsChildBlamed}
 use Rattle.roc_cli_files.specs.Held.{NodeFiles, Holds, HoldsPlan, HoldsText, HoldsRejected}
 use Rattle.roc_cli.specs.Stopped.{CutsOutput, in_report, in_text, in_check, in_rejection, in_generated}
@@ -177,14 +177,14 @@ module _ (laws : TextLaws) (call : WholeCall) (lacks : LacksSchedule call.run) w
   unplayed_undone : Ends call.run (Ok tt) → ⊥
   unplayed_undone (inl done) =
       let asked = done.asked in
-      let lines : List BoundLine = done.replayed.lines in
+      let lines : List BoundLine = done.run.asked in
       let e : done.plan ≡ lacks.plan = same_plan laws call.run.files.content lacks.workload lacks.bytes lacks.held lacks.plan lacks.planned asked.workload done.plan
       (its_workload asked.workload (replay asked.workload asked.schedule, asked.given, refl)) asked.of_workload in
       let f : lacks.text ≡ done.bytes = told call.run.files.content lacks.schedule asked.schedule lacks.text done.bytes lacks.scheduled
       (replay_schedule call.run.words lacks.workload lacks.schedule asked.workload asked.schedule lacks.given asked.given) asked.of_schedule in
       lacks.unplayed lines
-      (subst (λ (p : Plan). IsScheduleOf p.program lacks.text lines) e (subst (λ b. IsScheduleOf done.plan.program b lines) (sym f) done.replayed.of_schedule))
-      (subst (λ (p : Plan). DeliversOnlySent p lines) e (laws.sent done.plan lines done.replayed.steps done.replayed.world done.replayed.played))
+      (subst (λ (p : Plan). IsScheduleOf p.program lacks.text lines) e (subst (λ b. IsScheduleOf done.plan.program b lines) (sym f) done.run.of_schedule))
+      (subst (λ (p : Plan). DeliversOnlySent p lines) e (laws.sent done.plan lines done.run.steps done.run.world done.run.played))
   unplayed_undone (inr (inl done)) = unlike ⊥ call.run.words (print done.workload) (replay lacks.workload lacks.schedule) done.given lacks.given refl
   unplayed_undone (inr (inr (inl done))) = unlike ⊥ call.run.words (check done.workload) (replay lacks.workload lacks.schedule) done.given lacks.given refl
   unplayed_undone (inr (inr (inr done))) = unlike ⊥ call.run.words (gen done.seed done.shards done.txns done.part) (replay lacks.workload lacks.schedule) done.given lacks.given refl

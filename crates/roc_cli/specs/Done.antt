@@ -7,6 +7,7 @@ use Rattle.roc_program.specs.Program.{Workload}
 use Rattle.roc_plan.specs.Groups.{Plan}
 use Rattle.roc_report.specs.Line.{Line}
 use Rattle.roc_report.specs.Text.{line_text, lines_text}
+use Rattle.roc_report.specs.Reading.{IsReadInOneWay}
 use Rattle.roc_check.specs.Checked.{IsPlanOfText}
 use Rattle.roc_sched.specs.Schedule.{most_bytes}
 use Rattle.roc_generate.specs.WorkloadText.{generated_workload}
@@ -14,7 +15,7 @@ use Rattle.roc_generate.specs.ScheduleText.{generated_schedule}
 use Rattle.roc_generate.specs.SummaryText.{load_summary_text}
 use Rattle.roc_replay.specs.declared.ended.Summary.{Summary}
 use Rattle.roc_replay.specs.Readback.{IsExplained}
-use Rattle.roc_replay.specs.Ended.{IsReplayed}
+use Rattle.roc_replay.specs.Ended.{IsReportOf, IsReplayed}
 use Rattle.roc_cli_words.specs.declared.value.Part.{Part}
 use Rattle.roc_cli_words.specs.declared.value.Part.TheVariants as part
 use Rattle.roc_cli_nodes.specs.Call.{RunCall}
@@ -33,22 +34,18 @@ pub record IsReplayOf (call : RunCall) (plan : Plan) (bytes : List ℕ) : Type 0
   pub of_schedule : Holds call.files.content schedule bytes
   pub size : length bytes ≤ most_bytes
 
--- standard output took the report of the run of exactly the named schedule, under the plan of the named workload
+-- standard output took the text of lines that explain themselves: the one order that they show is a serial witness of the history that they show;
+-- whoever reads that text as a report's lines reads these; and they are the report of the run of exactly the named schedule, under the plan of
+-- exactly the named workload
 pub record Replays (call : RunCall) : Type 0 where
-  pub plan : Plan
-  pub bytes : List ℕ
-  pub asked : IsReplayOf call plan bytes
-  pub summary : Summary
-  pub replayed : IsReplayed plan bytes summary call.out.old call.out.new
-
--- standard output took lines that explain themselves: the one order that they show is a serial witness of the history that they show
-pub record Explains (call : RunCall) : Type 0 where
   pub plan : Plan
   pub bytes : List ℕ
   pub asked : IsReplayOf call plan bytes
   pub lines : List Line
   pub taken : Adds call.out.old call.out.new (lines_text plan.program lines)
   pub explained : IsExplained plan.program lines
+  pub read : IsReadInOneWay plan.program lines
+  pub run : IsReportOf plan bytes lines
 
 -- ---- print
 

@@ -8,7 +8,7 @@ use Rattle.roc_node_local.specs.declared.local.LocalEnd.TheVariants as local_end
 use Rattle.roc_cli_nodes.specs.Call.{WholeCall, TakesNothing, ReadsAll}
 use Rattle.roc_cli_files.specs.Says.{Errors, Says, word_line, file_line, child_line}
 use Rattle.roc_cli_nodes.specs.Words.{AreReplayWords, ArePrintWords, AreCheckWords, AreGenWords, AreServeWords, AreSubmitWords, AreStopWords, AreLocalWords, AreCommandWords, NamesNodes}
-use Rattle.roc_cli.specs.Done.{Replays, Explains, Prints, Checks, Generates, Rejects}
+use Rattle.roc_cli.specs.Done.{Replays, Prints, Checks, Generates, Rejects}
 use Rattle.roc_cli_nodes.specs.Nodes.{ServeEnded, SubmitEnded, StopEnded, LocalEnded, AreNodesEnded, IsChildBlamed, BlamesAnyChild}
 use Rattle.roc_cli.specs.Fit.{IsFit, NodesFit, MissesShard}
 use Rattle.roc_cli.specs.Unfit.{LacksPlan, LacksWorkload, LacksSchedule}
@@ -23,10 +23,9 @@ IsOneOf (s ∷ statuses) status = (status ≡ s) ⊎ IsOneOf statuses status
 -- what the call did, by the status with which it answers
 pub record Answers (call : WholeCall) (err : Errors) (status : ℕ) : Type 0 where
   pub statuses : status ≤ 9
-  -- 0: the schedule was replayed, and its report was written
+  -- 0: the schedule was replayed, and its report was written, which explains itself: every reply that it shows is the one that the serial order
+  -- which it shows gives, in real-time order
   pub replayed : status ≡ 0 → AreReplayWords call.run.words → Replays call.run
-  -- ..and the report explains itself: every reply that it shows is the one that the serial order which it shows gives, in real-time order
-  pub explained : status ≡ 0 → AreReplayWords call.run.words → Explains call.run
   -- ..or the workload's canonical text was written, or the text of its check, which is acceptable
   pub printed : status ≡ 0 → ArePrintWords call.run.words → Prints call.run
   pub checked : status ≡ 0 → AreCheckWords call.run.words → Checks call.run

@@ -15,11 +15,13 @@ ghost use Rattle.roc_cli.specs.Inner.Ends.{Ends, WholeEnds, ReplayEnds, fault_of
 
 use crate::fit::fitting_calls_are_faultless;
 use crate::generated::write_generated;
+use roc_check::laws::programs_of_texts_have_names;
 use roc_cli_files::{Fault, MOST_LISTED_BYTES, bytes_of, check_file, plan_of, print_file};
 use roc_cli_nodes::{launch, needs_nodes};
 use roc_cli_words::{Ask, WordsFault, ask};
 use roc_io::{Files, Link, Sink, Spawner};
 use roc_plan::Plan;
+use roc_replay::laws::reports_are_read_in_one_way;
 use roc_replay::{Ended, replay};
 use std::alloc::Global;
 
@@ -188,6 +190,8 @@ fn replay_schedule<'a, F: Files, S: Sink>(
     ensures sink_faults { HasCause (fails_by blames_sink result) (S.faults out.old) (S.faults out.new) }
     ensures content { (name : List ℕ) → F.content files.new name ≡ F.content files.old name }
 {
+    programs_of_texts_have_names();
+    reports_are_read_in_one_way();
     match bytes_of(alloc, files, schedule, MOST_LISTED_BYTES) {
         Ok(bytes) => replay_file(alloc, plan, schedule, &bytes, out),
         Err(fault) => Err(fault),
