@@ -27,7 +27,7 @@ use Rattle.roc_protocol.proofs.Means.{run_of, entry_run, place, Ran, Began, stag
 use Rattle.roc_protocol.proofs.Gone.{IsGone}
 use Rattle.roc_protocol.proofs.Grows.{filter_same}
 
-filter_and : {A : Type 0} (p q : A → Bool) (xs : List A) → filter (λ x. p x && q x) xs ≡ filter q (filter p xs)
+pub filter_and : {A : Type 0} (p q : A → Bool) (xs : List A) → filter (λ x. p x && q x) xs ≡ filter q (filter p xs)
 filter_and p q [] = refl
 filter_and p q (x ∷ xs) = go (p x) (q x) refl (filter_and p q xs)
   where
@@ -36,7 +36,7 @@ filter_and p q (x ∷ xs) = go (p x) (q x) refl (filter_and p q xs)
     go true false e ih = ih ∙ sym (cond-false (q x) (x ∷ filter q (filter p xs)) (filter q (filter p xs)) e)
     go false b e ih = ih
 
-filter_map_under : {A B : Type 0} (f : A → B) (p : B → Bool) (xs : List A) → filter p (map f xs) ≡ map f (filter (λ x. p (f x)) xs)
+pub filter_map_under : {A B : Type 0} (f : A → B) (p : B → Bool) (xs : List A) → filter p (map f xs) ≡ map f (filter (λ x. p (f x)) xs)
 filter_map_under f p [] = refl
 filter_map_under f p (x ∷ xs) = go (p (f x)) (filter_map_under f p xs)
   where

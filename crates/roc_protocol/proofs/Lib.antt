@@ -53,6 +53,8 @@ mod Ongoing
 mod OngoingRuns
 mod Liveness
 mod Once
+mod Tells
+mod Counted
 mod Hears
 mod Takes
 mod Transactions

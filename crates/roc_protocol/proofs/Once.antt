@@ -36,12 +36,12 @@ use Rattle.roc_protocol.proofs.Liveness.{answered_gone}
 use Rattle.roc_protocol.proofs.Transactions.{transaction_or_none}
 
 -- only what is pending is answered
-abbrev OfPending : CoordState → Handled → Type 0
+abbrev pub OfPending : CoordState → Handled → Type 0
 OfPending s (answer.Answered id reply) = (x : Transaction) × Has x s.pending × (x.id ≡ id)
 OfPending s answer.Done = Unit {0}
 OfPending s (answer.Ignored why) = Unit {0}
 
-of_pending : (plan : Plan) (s : CoordState) (msg : Msg) → OfPending s (after_message plan s msg).answer
+pub of_pending : (plan : Plan) (s : CoordState) (msg : Msg) → OfPending s (after_message plan s msg).answer
 of_pending plan s (StartOk id group shard bound outs edges facts) = go (find_transaction id s.pending)
   where
     go : (x : Option Transaction) → OfPending s (after_startok plan s x (record { group = group; bound = bound; outs = outs; edges = edges; facts = facts }) shard).answer

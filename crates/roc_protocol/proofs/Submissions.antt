@@ -36,11 +36,11 @@ pub record AreSubmissions (plan : Plan) (h : List Entry) (coords : List CoordSta
 
 -- ---- a step that submits nothing
 
-record KeepsNumber (s after : CoordState) : Type 0 where
-  number : after.number ≡ s.number
-  next : after.next ≡ s.next
+pub record KeepsNumber (s after : CoordState) : Type 0 where
+  pub number : after.number ≡ s.number
+  pub next : after.next ≡ s.next
 
-keeps_number : (plan : Plan) (s : CoordState) (msg : Msg) → KeepsNumber s (after_message plan s msg).state
+pub keeps_number : (plan : Plan) (s : CoordState) (msg : Msg) → KeepsNumber s (after_message plan s msg).state
 keeps_number plan s (StartOk id group shard bound outs edges facts) = go (find_transaction id s.pending)
   where
     go : (x : Option Transaction) → KeepsNumber s (after_startok plan s x (record { group = group; bound = bound; outs = outs; edges = edges; facts = facts }) shard).state

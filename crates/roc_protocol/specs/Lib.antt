@@ -3,6 +3,7 @@ pub mod Happens
 pub mod Run
 pub mod Fits
 pub mod Kept
+pub mod Unanswered
 pub mod Quiet
 pub mod Final
 pub mod PlanAssumptions

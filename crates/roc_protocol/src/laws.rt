@@ -1,6 +1,6 @@
 //! What holds in every world of every run, whatever the network loses, repeats or reorders. Each law is the contract of a function that
 //! does nothing.
-ghost use Rattle.std.specs.Prelude.{◌≡◌, ◌≢◌, ◌⊎◌, ℕ, ℤ, pos, ◌-◌, ◌<◌, ◌≤◌, true, List, [], Option, Some, None, length, map, slice_get};
+ghost use Rattle.std.specs.Prelude.{◌≡◌, ◌≢◌, ◌↔◌, ◌⊎◌, ℕ, ℤ, pos, ◌-◌, ◌<◌, ◌≤◌, true, List, [], Option, Some, None, length, map, slice_get};
 ghost use Rattle.roc_sequence.specs.Lists.{Has};
 ghost use Rattle.roc_sequence.specs.Places.{IsListed, IsListedBefore};
 ghost use Rattle.roc_base.specs.declared.id.TxnId.{TxnId};
@@ -12,6 +12,7 @@ ghost use Rattle.roc_depgraph.specs.declared.known.KnownList.{KnownList};
 ghost use Rattle.roc_depgraph.specs.Deps.{Precedes, IsAncestor, IsDecided};
 ghost use Rattle.roc_component.specs.Components.{Mates};
 ghost use Rattle.roc_coord.specs.declared.transaction.Transaction.{Transaction};
+ghost use Rattle.roc_coord.specs.Ids.{ids_of};
 ghost use Rattle.roc_coord.specs.State.{CoordState};
 ghost use Rattle.roc_coord.specs.Submit.{most_transactions, most_pending};
 ghost use Rattle.roc_msg.specs.declared.msg.Envelope.{Envelope};
@@ -40,6 +41,7 @@ ghost use Rattle.roc_protocol.specs.Inner.Given.{LogLaws, SerialLaws, StoreLaws}
 ghost use Rattle.roc_protocol.specs.PlanAssumptions.{HasSchemes};
 ghost use Rattle.roc_protocol.specs.Final.{lists_in, IsFinalIn};
 ghost use Rattle.roc_protocol.specs.Kept.{KeepsWhatRan};
+ghost use Rattle.roc_protocol.specs.Unanswered.{submitted_at, unanswered_at};
 ghost use Rattle.roc_protocol.specs.Quiet.{IsQuiet};
 ghost use Rattle.roc_protocol.specs.World.{World, first_world};
 ghost use Rattle.roc_protocol.specs.Fits.{FitsWorld};
@@ -268,6 +270,23 @@ pub fn submissions_are_taken()
     ensures taken { (plan : Plan) (w : World) (coord proc : ℕ) (args : List ℤ) (c : CoordState) (o : Outcome) → slice_get w.coords coord ≡ Some c
         → Happens plan w (event.Submit coord proc args) o
         → c.next < most_transactions → length c.pending < most_pending → o.seen ≡ seen.Submitted (record { coord = c.number; seq = c.next }) }
+{}
+
+/// What a coordinator keeps is what the history tells of it: it has submitted as many transactions as the history has submissions of it,
+/// and those that are pending are those that the history leaves unanswered, in their order. So a submission is refused as spent exactly
+/// where the history has as many of its coordinator as may be, and as busy exactly where it has not and as many of them are unanswered as may be.
+pub fn refusals_are_told()
+    ensures kept { (plan : Plan) (coords : ℕ) (steps : List Stepped) (w : World) → IsRun plan coords steps w
+        → (coord : ℕ) (c : CoordState) → slice_get w.coords coord ≡ Some c
+        → (c.next ≡ length (submitted_at coord w.history)) × (ids_of c.pending ≡ unanswered_at coord w.history) }
+    ensures few { (plan : Plan) (coords : ℕ) (steps : List Stepped) (w : World) → IsRun plan coords steps w
+        → (coord : ℕ) (c : CoordState) → slice_get w.coords coord ≡ Some c → (c.next ≤ most_transactions) × (length c.pending ≤ most_pending) }
+    ensures spent { (plan : Plan) (coords : ℕ) (steps : List Stepped) (w : World) → IsRun plan coords steps w
+        → (coord proc : ℕ) (args : List ℤ) (o : Outcome) → Happens plan w (event.Submit coord proc args) o
+        → (o.seen ≡ seen.Spent) ↔ (length (submitted_at coord w.history) ≡ most_transactions) }
+    ensures busy { (plan : Plan) (coords : ℕ) (steps : List Stepped) (w : World) → IsRun plan coords steps w
+        → (coord proc : ℕ) (args : List ℤ) (o : Outcome) → Happens plan w (event.Submit coord proc args) o
+        → (o.seen ≡ seen.Busy) ↔ ((length (submitted_at coord w.history) < most_transactions) × (length (unanswered_at coord w.history) ≡ most_pending)) }
 {}
 
 /// Two servers that both decided a transaction know the same ancestors and the same component of it. And each server takes transactions

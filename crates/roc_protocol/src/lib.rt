@@ -14,9 +14,10 @@
 //! ignores a message, and a coordinator only stale ones; what is quiet is answered; who is answered is decided wherever it
 //! has a group; each submitted transaction is pending or answered; no id is submitted twice, and an id has at most one
 //! answer, behind its submission; and once each is answered, the cells are those that the serial order leaves, and stay.
-//! Of every plan: a submission is refused
-//! exactly as spent or busy, and what comes of an event, or of a list of events, is one; and of every plan with a shard,
-//! whatever may happen in a world that fits has an outcome, so a list of such events has a run.
+//! Of every plan: a submission is refused exactly as spent or busy, and so exactly where the history tells of too many
+//! submissions or too many without an answer (`specs/Unanswered.antt`); what comes of an event, or of a list of events, is
+//! one; and of every plan with a shard, whatever may happen in a world that fits has an outcome, so a list of such events
+//! has a run.
 #![tactic(auto)]
 
 mod event;
