@@ -1,5 +1,5 @@
 -- One turn of a server's node after another.
-use Rattle.std.proofs.Common.{◌≡◌, inl, inr, ℕ, ◌+◌, ◌<◌, Bool, true, false, List, [], ◌∷◌, ◌++◌, map, refl, sym, ◌∙◌, ap, subst, append-nil, append_assoc, length-append, arith}
+use Rattle.std.proofs.Common.{◌≡◌, inl, inr, None, ℕ, ◌+◌, ◌<◌, Bool, true, false, List, [], ◌∷◌, ◌++◌, map, refl, sym, ◌∙◌, ap, subst, append-nil, append_assoc, length-append, arith}
 use Rattle.roc_base.specs.declared.node.Shard.{Shard}
 use Rattle.roc_io.specs.declared.link.Addr.{Addr}
 use Rattle.roc_io.specs.Link.{LinkEvent, sending, receiving, came, none_came, vain}
@@ -44,14 +44,14 @@ module _ (messages : List Outgoing) (traffic : List LinkEvent) where
 
   message_behind : (S : NodeSetting) (server_node : ServerNode) (stops : Bool) (msg : Msg) (next : ServerNodeState)
       → TakesMessage S (bare server_node) stops msg next → TakesMessage S (node_of server_node messages traffic false) stops msg (behind messages traffic next)
-  message_behind S server_node true msg next h = ap (behind messages traffic) h ∙ of_none server_node.server server_node.heard _ true
+  message_behind S server_node true msg next h = ap (behind messages traffic) h ∙ of_none server_node.server.state server_node.heard _ true
   message_behind S server_node false msg next h = (h.0, h.1, ap (behind messages traffic) h.2)
 
   judged_behind : (S : NodeSetting) (server_node : ServerNode) (from : Addr) (j : Judged) (next : ServerNodeState)
       → TakesJudged S (bare server_node) from j next → TakesJudged S (node_of server_node messages traffic false) from j (behind messages traffic next)
   judged_behind S server_node from (Delivery header msg) next h =
       message_behind S (record server_node { heard = (server_heard (bare server_node) header from).heard }) (is_stop msg) msg next h
-  judged_behind S server_node from (Skipped skip) next h = ap (behind messages traffic) h ∙ of_none server_node.server server_node.heard _ false
+  judged_behind S server_node from (Skipped skip) next h = ap (behind messages traffic) h ∙ of_none server_node.server.state server_node.heard _ false
 
   event_behind : (S : NodeSetting) (server_node : ServerNode) (event : NodeEvent) (next : ServerNodeState)
       → AfterEvent S (bare server_node) event next → AfterEvent S (node_of server_node messages traffic false) event (behind messages traffic next)
@@ -61,7 +61,7 @@ module _ (messages : List Outgoing) (traffic : List LinkEvent) where
 -- ---- several turns
 
 -- no turn so far
-pub ran_none : (S : NodeSetting) (shard : Shard) (server_node : ServerNode) (a : LinkView) → server_node ≡ record { server = first_server S.plan shard; heard = none_heard; counts = no_counts } → RanSo S shard 0 false server_node a a
+pub ran_none : (S : NodeSetting) (shard : Shard) (server_node : ServerNode) (a : LinkView) → server_node ≡ record { server = record { state = first_server S.plan shard; ahead = None }; heard = none_heard; counts = no_counts } → RanSo S shard 0 false server_node a a
 ran_none S shard server_node a is = record {
   events = [];
   messages = [];
@@ -146,7 +146,7 @@ same_node : (messages : List Outgoing) (s t : ServerState) (p q : List LinkEvent
 same_node messages s t p q h i c d b e s1 p1 h1 c1 b1 =
     ap (λ x. made messages x p h c b) s1 ∙ ap (λ x. made messages t x h c b) p1 ∙ ap (λ x. made messages t q x c b) h1 ∙ ap (λ x. made messages t q i x b) c1 ∙ ap (made messages t q i d) b1
 
-pub stepped : (S : NodeSetting) (old new : ServerNode) (output : TurnOutput) (msg : Msg) (answer : Handled) (out_old out_new : Collected) → (r : ServerStep) × Handles S.plan old.server msg r × Shows r answer new.server out_old out_new
+pub stepped : (S : NodeSetting) (old new : ServerNode) (output : TurnOutput) (msg : Msg) (answer : Handled) (out_old out_new : Collected) → (r : ServerStep) × Handles S.plan old.server.state msg r × Shows r answer new.server.state out_old out_new
     → out_old.messages ≡ [] → new.heard ≡ old.heard → new.counts ≡ with_answer old.counts answer → output.stopped ≡ false → output.sends.items ≡ packets_for S.header S.cluster old.heard out_new.messages
     → Leads (TakesMessage S (bare old) false msg) new output
 stepped S old new output msg answer out_old out_new step none heard counts stopped sends =

@@ -1,6 +1,6 @@
 //! What a server's node makes of one event.
 ghost use Rattle.std.specs.Prelude.{◌≡◌, false, length, IfOk, OnOk};
-ghost use Rattle.roc_server.specs.Fits.{ServerFits};
+ghost use Rattle.roc_server.specs.Ahead.{ServingFits};
 ghost use Rattle.roc_wire.specs.Fits.{FitsHeader};
 ghost use Rattle.roc_node.specs.NodeEvent.{took, silent};
 ghost use Rattle.roc_node_serve.specs.ServerRun.{TakesMessage, AfterEvent, is_stop, with_answer};
@@ -67,11 +67,11 @@ fn take_step(
     server_node: &mut ServerNode,
     msg: &Msg,
 ) -> Result<TurnOutput, NoMemory>
-    requires fits { ServerFits setting.plan.now server_node.old.server }
+    requires fits { ServingFits setting.plan.now server_node.old.server }
     requires header { FitsHeader setting.header.now }
     requires cluster { length setting.cluster.now ≡ setting.plan.now.program.shards }
     ensures leads { IfOk result (Leads (TakesMessage (setting_of setting.entry) (bare server_node.old) false msg.now) server_node.new) }
-    ensures fits { OnOk result (ServerFits setting.entry.plan.now server_node.new.server) }
+    ensures fits { OnOk result (ServingFits setting.entry.plan.now server_node.new.server) }
 {
     let mut outbox = Outbox::new(alloc);
     let answer = match server_node.server.handle(setting.plan, msg, &mut outbox) {
@@ -101,11 +101,11 @@ fn take_message(
     server_node: &mut ServerNode,
     msg: &Msg,
 ) -> Result<TurnOutput, NoMemory>
-    requires fits { ServerFits setting.plan.now server_node.old.server }
+    requires fits { ServingFits setting.plan.now server_node.old.server }
     requires header { FitsHeader setting.header.now }
     requires cluster { length setting.cluster.now ≡ setting.plan.now.program.shards }
     ensures leads { IfOk result (Leads (TakesMessage (setting_of setting.entry) (bare server_node.old) (is_stop msg.now) msg.now) server_node.new) }
-    ensures fits { OnOk result (ServerFits setting.entry.plan.now server_node.new.server) }
+    ensures fits { OnOk result (ServingFits setting.entry.plan.now server_node.new.server) }
 {
     if is_stop(msg) {
         server_node.counts.take();
@@ -125,12 +125,12 @@ pub fn take_datagram(
     from: Addr,
     bytes: &[u8],
 ) -> Result<TurnOutput, NoMemory>
-    requires fits { ServerFits setting.plan.now server_node.old.server }
+    requires fits { ServingFits setting.plan.now server_node.old.server }
     requires header { FitsHeader setting.header.now }
     requires cluster { length setting.cluster.now ≡ setting.plan.now.program.shards }
     ensures leads { IfOk result (Leads (AfterEvent (setting_of setting.entry) (bare server_node.old)
         (took (record { address = from; bytes = bytes.now }))) server_node.new) }
-    ensures fits { OnOk result (ServerFits setting.entry.plan.now server_node.new.server) }
+    ensures fits { OnOk result (ServingFits setting.entry.plan.now server_node.new.server) }
 {
     match judge(alloc, setting.header.tag, bytes) {
         Ok(Judged::Delivery(sender, msg)) => {
@@ -154,11 +154,11 @@ pub fn take_silence(
     setting: Setting<'_>,
     server_node: &mut ServerNode,
 ) -> Result<TurnOutput, NoMemory>
-    requires fits { ServerFits setting.plan.now server_node.old.server }
+    requires fits { ServingFits setting.plan.now server_node.old.server }
     requires header { FitsHeader setting.header.now }
     requires cluster { length setting.cluster.now ≡ setting.plan.now.program.shards }
     ensures leads { IfOk result (Leads (AfterEvent (setting_of setting.entry) (bare server_node.old) silent) server_node.new) }
-    ensures fits { OnOk result (ServerFits setting.entry.plan.now server_node.new.server) }
+    ensures fits { OnOk result (ServingFits setting.entry.plan.now server_node.new.server) }
 {
     let mut outbox = Outbox::new(alloc);
     if server_node.server.tick(&mut outbox).is_err() {

@@ -2,7 +2,7 @@
 ghost use Rattle.std.specs.Prelude.{◌≡◌, length, OnOk, if◌then◌else◌};
 ghost use Rattle.roc_io.specs.Call.{link_view};
 ghost use Rattle.roc_io.specs.Cause.{HasCause};
-ghost use Rattle.roc_server.specs.Fits.{ServerFits};
+ghost use Rattle.roc_server.specs.Ahead.{ServingFits};
 ghost use Rattle.roc_wire.specs.Fits.{FitsHeader};
 ghost use Rattle.roc_node.specs.Setting.{setting_of};
 ghost use Rattle.roc_node_serve.specs.Inner.ServerTurn.{TakesOne, Turns, RunsTurns, event_failed, first_server_node, run_failed, turn_failed};
@@ -34,12 +34,12 @@ fn one_event<L: Link>(
     link: &mut L,
     buffer: &mut Vec<u8>,
 ) -> Result<TurnOutput, TurnEnd>
-    requires fits { ServerFits setting.plan.now server_node.old.server }
+    requires fits { ServingFits setting.plan.now server_node.old.server }
     requires header { FitsHeader setting.header.now }
     requires cluster { length setting.cluster.now ≡ setting.plan.now.program.shards }
     ensures cause { HasCause (event_failed result) (L.faults link.old) (L.faults link.new) }
     ensures takes { TakesOne (setting_of setting.entry) result server_node.old server_node.new (link_view L.Link link.old) (link_view L.Link link.new) }
-    ensures fits { OnOk result (ServerFits setting.entry.plan.now server_node.new.server) }
+    ensures fits { OnOk result (ServingFits setting.entry.plan.now server_node.new.server) }
     ensures bound { L.bound link.new ≡ L.bound link.old }
 {
     match link.receive(buffer) {
@@ -66,12 +66,12 @@ pub fn take_turn<L: Link>(
     link: &mut L,
     buffer: &mut Vec<u8>,
 ) -> TurnEnd
-    requires fits { ServerFits setting.plan.now server_node.old.server }
+    requires fits { ServingFits setting.plan.now server_node.old.server }
     requires header { FitsHeader setting.header.now }
     requires cluster { length setting.cluster.now ≡ setting.plan.now.program.shards }
     ensures cause { HasCause (turn_failed result) (L.faults link.old) (L.faults link.new) }
     ensures turns { Turns (setting_of setting.entry) result server_node.old server_node.new (link_view L.Link link.old) (link_view L.Link link.new) }
-    ensures fits { result ≡ TurnEnd.Goes → ServerFits setting.entry.plan.now server_node.new.server }
+    ensures fits { result ≡ TurnEnd.Goes → ServingFits setting.entry.plan.now server_node.new.server }
     ensures bound { L.bound link.new ≡ L.bound link.old }
 {
     match one_event(alloc, setting, server_node, link, buffer) {
@@ -108,7 +108,7 @@ pub fn run_turns<L: Link>(
     turns: u32,
 ) -> RunEnd
     requires first { server_node.old ≡ first_server_node setting.plan.now shard }
-    requires fits { ServerFits setting.plan.now server_node.old.server }
+    requires fits { ServingFits setting.plan.now server_node.old.server }
     requires header { FitsHeader setting.header.now }
     requires cluster { length setting.cluster.now ≡ setting.plan.now.program.shards }
     ensures cause { HasCause (run_failed result) (L.faults link.old) (L.faults link.new) }

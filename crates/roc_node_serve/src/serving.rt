@@ -4,7 +4,7 @@ ghost use Rattle.roc_base.specs.declared.node.Node.TheVariants as node;
 ghost use Rattle.roc_io.specs.declared.link.Addr.{Addr};
 ghost use Rattle.roc_io.specs.Call.{link_call, sink_call};
 ghost use Rattle.roc_io.specs.Cause.{HasCause};
-ghost use Rattle.roc_server.specs.Fits.{ServerFits};
+ghost use Rattle.roc_server.specs.Ahead.{ServingFits};
 ghost use Rattle.roc_wire.specs.Fits.{FitsHeader};
 ghost use Rattle.roc_node.specs.NodeEvent.{node_setting};
 ghost use Rattle.roc_node.specs.NodeLine.{node_lines_text, end_lines};
@@ -86,7 +86,7 @@ fn serve_from<L: Link, S: Sink>(
     requires shard { shard.0 < setting.plan.now.program.shards }
     requires header { FitsHeader setting.header.now }
     requires first { server_node.old ≡ first_server_node setting.plan.now shard }
-    requires fits { ServerFits setting.plan.now server_node.old.server }
+    requires fits { ServingFits setting.plan.now server_node.old.server }
     ensures link_cause { HasCause (serve_link_failed result) (L.faults link.old) (L.faults link.new) }
     ensures sink_cause { HasCause (serve_sink_failed result) (S.faults out.old) (S.faults out.new) }
     ensures serves { (own : Addr) → slice_get setting.entry.cluster.now shard.0 ≡ Some own
@@ -129,7 +129,7 @@ fn own_header(plan: &Plan, tag: [u8; 8], shard: Shard) -> Header
 // What a server keeps before any turn.
 fn open_server_node(alloc: Global, plan: &Plan, shard: Shard) -> Result<ServerNode, NoMemory>
     ensures first { IfOk result (λ server_node. server_node ≡ first_server_node plan.now shard) }
-    ensures fits { IfOk result (λ server_node. ServerFits plan.now server_node.server) }
+    ensures fits { IfOk result (λ server_node. ServingFits plan.now server_node.server) }
 {
     let server = Server::new(alloc, plan, shard)?;
     Ok(ServerNode {

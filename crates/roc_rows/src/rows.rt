@@ -1,6 +1,6 @@
 //! The numbers of the cells.
 ghost use Rattle.std.specs.Prelude.{◌≡◌, ◌+◌, ◌<◌, ◌≤◌, Some, None, unwrap_or, vec_len, vec_capacity, IsOk, IfOk, OnOk, OnErr};
-ghost use Rattle.roc_rows.specs.Store.{read, write};
+ghost use Rattle.roc_rows.specs.Store.{entries, read, write};
 ghost use Rattle.roc_rows.specs.Inner.Kept.{undone};
 
 use crate::Cell;
@@ -32,7 +32,7 @@ impl Model for Rows {
 }
 
 impl Rows {
-    ghost use Rattle.roc_rows.specs.Store.{empty, entries};
+    ghost use Rattle.roc_rows.specs.Store.{empty};
 
     /// All cells 0, and no savepoint. Takes no memory.
     pub fn new(alloc: Global) -> Rows
@@ -129,6 +129,16 @@ impl Rows {
         self.numbers.nonzero()
     }
 
+    /// The same of the cells as they were at the savepoint, where there is one.
+    pub fn nonzero_saved(&self) -> Result<Vec<(Cell, i64)>, NoMemory>
+        ensures { IfOk result (λ listed. listed.items ≡ entries (unwrap_or self.now.saved self.now.store)) }
+    {
+        match &self.notes {
+            Some(notes) => before(&self.numbers, notes),
+            None => self.numbers.nonzero(),
+        }
+    }
+
     /// A copy of all cells, on the same allocator, without a savepoint.
     pub fn try_clone(&self) -> Result<Rows, NoMemory>
         ensures store { IfOk result (λ copy. copy.store ≡ self.now.store) }
@@ -208,4 +218,14 @@ fn undo(numbers: &mut Numbers, mut notes: Vec<(Cell, i64)>)
     while let Some((cell, number)) = notes.pop() {
         numbers.set(cell, number).unwrap();
     }
+}
+
+// The cells that are not 0 where what is noted is undone, on a copy.
+fn before(numbers: &Numbers, notes: &Vec<(Cell, i64)>) -> Result<Vec<(Cell, i64)>, NoMemory>
+    ensures { IfOk result (λ listed. listed.items ≡ entries (undone notes.now.items numbers.now.store)) }
+{
+    let mut copy = numbers.try_clone()?;
+    copy.reserve(notes.len())?;
+    undo(&mut copy, notes.clone()?);
+    copy.nonzero()
 }

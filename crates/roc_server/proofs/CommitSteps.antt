@@ -12,7 +12,8 @@ use Rattle.roc_msg.specs.Outbox.{Collected}
 use Rattle.roc_msg.specs.declared.reason.Reason.{Reason}
 use Rattle.roc_msg.specs.declared.reason.Reason.TheVariants.{NotHere, Differs}
 use Rattle.roc_plan.specs.Groups.{Plan}
-use Rattle.roc_server.specs.declared.handled.Handled.TheVariants.{Done, Ignored}
+use Rattle.roc_server.specs.declared.handled.Handled.{Handled}
+use Rattle.roc_server.specs.declared.handled.Handled.TheVariants.{Ignored}
 use Rattle.roc_server.specs.declared.server_data.ServerData.{ServerData}
 use Rattle.roc_server.specs.Runs.{commitok_of}
 use Rattle.roc_server_lists.specs.New.{AreNew}
@@ -41,7 +42,7 @@ module _ (plan : Plan) (shard : Shard) (old : ServerData) (before : Collected) (
     abbrev lists : List KnownList
     lists = unknown_of old.deps (carried id edges facts)
 
-    pub commit_ignored : (reason : Reason) → fault ≡ Some reason → Commits plan shard old old before before id edges facts (Ignored reason)
+    pub commit_ignored : (reason : Reason) → fault ≡ Some reason → Commits plan shard old s before before id edges facts (Ignored reason)
     commit_ignored reason e =
         let P : Option Reason → Type 0 = λ f. AreNew (IsDecided old.deps) (old.deps ++ unless_ignored f lists) [] in
         let Q : Option Reason → Type 0 = λ f. Shows (after_commit plan old.decided.ids [] s id edges facts f) (Ignored reason) s before before in
@@ -52,18 +53,18 @@ module _ (plan : Plan) (shard : Shard) (old : ServerData) (before : Collected) (
     own_if true r = refl
     own_if false r = refl
 
-    pub commit_taught : (new : ServerData) (after : Collected) (news : List KnownList) (again : Option TxnId) → fault ≡ None → news ≡ lists
+    pub commit_taught : (state : ServerState) (after : Collected) (news : List KnownList) (again : Option TxnId) (answer : Handled) → fault ≡ None → news ≡ lists
         → again ≡ cond (is_listed is_txn old.decided.ids id) (Some id) None
-        → Teaches plan shard old new before after news again → Commits plan shard old new before after id edges facts Done
-    commit_taught new after news again none is own t =
+        → Teaches plan shard old state before after news again answer → Commits plan shard old state before after id edges facts answer
+    commit_taught state after news again answer none is own t =
         let decided : Bool = is_listed is_txn old.decided.ids id in
-        let u : Teaches plan shard old new before after lists (cond decided (Some id) None) =
-        subst (Teaches plan shard old new before after lists) own (subst (λ ks. Teaches plan shard old new before after ks again) is t) in
+        let u : Teaches plan shard old state before after lists (cond decided (Some id) None) answer =
+        subst (λ a. Teaches plan shard old state before after lists a answer) own (subst (λ ks. Teaches plan shard old state before after ks again answer) is t) in
         let step : ServerStep = taught plan s lists u.ids in
         let ends : with_own plan (cond decided (Some id) None) step ≡ commit_taken plan old.decided.ids s id step = λ i. record step { sends = step.sends ++ own_if decided step i } in
         let P : Option Reason → Type 0 = λ f. AreNew (IsDecided old.deps) (old.deps ++ unless_ignored f lists) u.ids in
-        let Q : Option Reason → Type 0 = λ f. Shows (after_commit plan old.decided.ids u.ids s id edges facts f) Done (state_of shard new) before after in
-        record { ids = u.ids; new_ids = subst P (sym none) u.new_ids; shown = subst Q (sym none) (subst (λ (r : ServerStep). Shows r Done (state_of shard new) before after) ends u.shown) }
+        let Q : Option Reason → Type 0 = λ f. Shows (after_commit plan old.decided.ids u.ids s id edges facts f) answer state before after in
+        record { ids = u.ids; new_ids = subst P (sym none) u.new_ids; shown = subst Q (sym none) (subst (λ (r : ServerStep). Shows r answer state before after) ends u.shown) }
 
   abbrev known_why : Option Reason
   known_why = known_fault s id edges
@@ -71,18 +72,18 @@ module _ (plan : Plan) (shard : Shard) (old : ServerData) (before : Collected) (
   abbrev one : List KnownList
   one = unknown_of old.deps (list_with id edges ∷ [])
 
-  pub known_ignored : (reason : Reason) → known_why ≡ Some reason → Knows plan shard old old before before id edges (Ignored reason)
+  pub known_ignored : (reason : Reason) → known_why ≡ Some reason → Knows plan shard old s before before id edges (Ignored reason)
   known_ignored reason e =
       let P : Option Reason → Type 0 = λ f. AreNew (IsDecided old.deps) (old.deps ++ unless_ignored f one) [] in
       let Q : Option Reason → Type 0 = λ f. Shows (after_known plan [] s id edges f) (Ignored reason) s before before in
       record { ids = []; new_ids = subst P (sym e) (nothing_new old.deps); shown = subst Q (sym e) (ignored_shown reason) }
 
-  pub known_taught : (new : ServerData) (after : Collected) (news : List KnownList) → known_why ≡ None → news ≡ one → Teaches plan shard old new before after news None
-      → Knows plan shard old new before after id edges Done
-  known_taught new after news none is t =
-      let u : Teaches plan shard old new before after one None = subst (λ ks. Teaches plan shard old new before after ks None) is t in
+  pub known_taught : (state : ServerState) (after : Collected) (news : List KnownList) (answer : Handled) → known_why ≡ None → news ≡ one → Teaches plan shard old state before after news None answer
+      → Knows plan shard old state before after id edges answer
+  known_taught state after news answer none is t =
+      let u : Teaches plan shard old state before after one None answer = subst (λ ks. Teaches plan shard old state before after ks None answer) is t in
       let step : ServerStep = taught plan s one u.ids in
       let ends : with_own plan None step ≡ step = λ i. record step { sends = append-nil step.sends i } in
       let P : Option Reason → Type 0 = λ f. AreNew (IsDecided old.deps) (old.deps ++ unless_ignored f one) u.ids in
-      let Q : Option Reason → Type 0 = λ f. Shows (after_known plan u.ids s id edges f) Done (state_of shard new) before after in
-      record { ids = u.ids; new_ids = subst P (sym none) u.new_ids; shown = subst Q (sym none) (subst (λ (r : ServerStep). Shows r Done (state_of shard new) before after) ends u.shown) }
+      let Q : Option Reason → Type 0 = λ f. Shows (after_known plan u.ids s id edges f) answer state before after in
+      record { ids = u.ids; new_ids = subst P (sym none) u.new_ids; shown = subst Q (sym none) (subst (λ (r : ServerStep). Shows r answer state before after) ends u.shown) }

@@ -15,6 +15,8 @@ use Rattle.roc_server.specs.declared.server_data.ServerData.{ServerData}
 use Rattle.roc_server_lists.specs.Carried.{list_with}
 use Rattle.roc_server_lists.specs.Asking.{known_to}
 use Rattle.roc_server.specs.Lists.{fetch_taken, after_fetch}
+use Rattle.roc_server.specs.declared.planned.Change.TheVariants.{Asker}
+use Rattle.roc_server.specs.Inner.Planned.{after}
 use Rattle.roc_server.specs.Inner.ServerData.{state_of, IsConsistent}
 use Rattle.roc_server.specs.State.{ignored, is_here, ServerState, ServerStep}
 use Rattle.roc_server.specs.Step.{Shows}
@@ -27,12 +29,12 @@ module _ (shard : Shard) (k : ServerData) (id : TxnId) (asker : Shard) where
   abbrev step : Bool → Option (List Dependency) → ServerStep
   step here list = if here then fetch_taken s id asker list else ignored s NotHere
 
-  pub fetch_ignored : (out : Collected) → is_here id k.started ≡ false → Shows (after_fetch s id asker) (Ignored NotHere) s out out
+  pub fetch_ignored : (out : Collected) → is_here id k.started.groups ≡ false → Shows (after_fetch s id asker) (Ignored NotHere) s out out
   fetch_ignored out away =
       let P : Bool → Type 0 = λ here. Shows (step here (list_of id k.deps)) (Ignored NotHere) s out out in
       subst P (sym away) (record { answers = refl; keeps = refl; sends = sym (append-nil out.messages); decides = sym (append-nil out.decided); ran = sym (append-nil out.ran) })
 
-  module _ (here : is_here id k.started ≡ true) where
+  module _ (here : is_here id k.started.groups ≡ true) where
     found : (list : Option (List Dependency)) (new : ServerState) (before after : Collected) → list ≡ list_of id k.deps → Shows (step true list) Done new before after → Shows (after_fetch s id asker) Done new before after
     found list new before after e shown =
         let P : Bool → Type 0 = λ b. Shows (step b (list_of id k.deps)) Done new before after in
@@ -43,10 +45,18 @@ module _ (shard : Shard) (k : ServerData) (id : TxnId) (asker : Shard) where
     fetch_told edges before after e sent =
         found (Some edges) s before after e (record { answers = refl; keeps = refl; sends = sent.0; decides = sent.1 ∙ sym (append-nil before.decided); ran = sent.2 ∙ sym (append-nil before.ran) })
 
-    pub fetch_kept : (waits : Awaited) (out : Collected) → None ≡ list_of id k.deps → waits.waiting ≡ record k.waits.waiting { askers = with_asker (record { id = id; shard = asker }) k.waits.waiting.askers } → Shows (after_fetch s id asker) Done (state_of shard (record k { waits = waits })) out out
+    -- who asks is planned to wait, beside what has room
+    pub fetch_kept : (waits : Awaited) (out : Collected) → None ≡ list_of id k.deps → waits.waiting ≡ k.waits.waiting
+        → Shows (after_fetch s id asker) Done (after shard (record k { waits = waits }) (Asker (record { id = id; shard = asker }))) out out
     fetch_kept waits out e kept =
-        found None (state_of shard (record k { waits = waits })) out out e
-        (record { answers = refl; keeps = ap (λ (w : Waiting). record s { lists = record s.lists { waiting = w } }) (sym kept); sends = sym (append-nil out.messages); decides = sym (append-nil out.decided); ran = sym (append-nil out.ran) })
+        found None (after shard (record k { waits = waits }) (Asker (record { id = id; shard = asker }))) out out e
+        (record {
+          answers = refl;
+          keeps = ap (λ (w : Waiting). record s { lists = record s.lists { waiting = record w { askers = with_asker (record { id = id; shard = asker }) w.askers } } }) (sym kept);
+          sends = sym (append-nil out.messages);
+          decides = sym (append-nil out.decided);
+          ran = sym (append-nil out.ran);
+        })
 
   -- who asked is in no invariant
   pub fetch_sound : (waits : Awaited) → waits.waiting ≡ record k.waits.waiting { askers = with_asker (record { id = id; shard = asker }) k.waits.waiting.askers } → waits.fetches ≡ k.waits.fetches → IsConsistent k
@@ -62,7 +72,7 @@ module _ (shard : Shard) (k : ServerData) (id : TxnId) (asker : Shard) where
         lacks = h.lacks;
         index = h.index;
         none_left =
-            subst (λ (asked : List OpenFetch). AllByRecursion (λ (d : Dependency). (not (is_known k.deps d.from) && (not (is_here d.from k.started) && not (was_asked_for d.from asked))) ≡ false) (flat_map (λ (list : KnownList). list.edges) k.deps))
+            subst (λ (asked : List OpenFetch). AllByRecursion (λ (d : Dependency). (not (is_known k.deps d.from) && (not (is_here d.from k.started.groups) && not (was_asked_for d.from asked))) ≡ false) (flat_map (λ (list : KnownList). list.edges) k.deps))
             (sym same) h.none_left;
         open_unknown = open_same ∙ h.open_unknown ∙ ap (filter (λ (a : OpenFetch). not (is_known k.deps a.id))) (sym same);
       }

@@ -26,7 +26,7 @@ no_lacks = record { each = tt; some = tt; all = λ t h. absurd (false≢true h) 
 no_group_refs : IsIndexOf [] [] []
 no_group_refs c = refl
 
-pub nothing_sound : (k : ServerData) → k.started ≡ [] → k.deps ≡ [] → k.decided.ids ≡ [] → k.ancestors.rows ≡ [] → k.lacks ≡ [] → k.index ≡ [] → k.waits.waiting ≡ none_waiting → k.waits.fetches ≡ [] → IsConsistent k
+pub nothing_sound : (k : ServerData) → k.started.groups ≡ [] → k.deps ≡ [] → k.decided.ids ≡ [] → k.ancestors.rows ≡ [] → k.lacks ≡ [] → k.index ≡ [] → k.waits.waiting ≡ none_waiting → k.waits.fetches ≡ [] → IsConsistent k
 nothing_sound k started deps decided ancestors lacks index waiting open_none =
     let once : NoneTwice is_same_group [] = tt in
     record {

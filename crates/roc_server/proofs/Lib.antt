@@ -4,6 +4,9 @@ mod FetchSteps
 mod FirstCells
 mod GroupRuns
 mod KeptFirst
+mod KeptLists
+mod MadeSteps
+mod AtOnce
 mod MessageSteps
 mod OneStep
 mod SameGroups
@@ -18,5 +21,7 @@ mod CellByCell
 mod Pairs
 mod IndexSteps
 mod Placed
+mod Plans
+mod ReadsBefore
 mod Restored
 mod KeyedGroups

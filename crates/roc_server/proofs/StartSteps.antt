@@ -1,29 +1,27 @@
 -- What comes of a start, case by case
-use Rattle.std.proofs.Common.{◌≡◌, ◌<◌, ◌==◌, ◌&&◌, ℕ, Bool, true, false, not, nat_lt, cond, is_none, Some, None, Option, List, [], ◌∷◌, ◌++◌, length, filter, if◌then◌else◌}
+use Rattle.std.proofs.Common.{◌≡◌, ◌<◌, ◌==◌, ◌&&◌, ℕ, Bool, true, false, not, nat_lt, cond, is_none, Some, None, Option, List, [], ◌∷◌, ◌++◌, length, if◌then◌else◌}
 use Rattle.std.proofs.Common.{Result, Ok, Err, IfOk, refl, sym, ap, subst, ◌∙◌, append-nil, arith, inl, inr}
 use Rattle.std.proofs.lemmas.Bool.{eqb-true, and_parts, false≢true}
-use Rattle.std.specs.List.Sorted.{IsStrictlySortedBy}
 use Rattle.roc_sequence.specs.Places.{place_of, is_listed, IsListed, NoneTwice}
 use Rattle.roc_sequence.proofs.Places.{listed_cases, unlisted_test}
 use Rattle.roc_sequence.proofs.Appended.{NoneTwice-append}
 use Rattle.roc_sequence.proofs.Found.{unlisted}
 use Rattle.roc_base.specs.declared.id.TxnId.{TxnId}
 use Rattle.roc_base.specs.declared.node.Shard.{Shard}
-use Rattle.roc_base.specs.TxnId.{is_txn, txn_cmp}
+use Rattle.roc_base.specs.TxnId.{is_txn}
 use Rattle.roc_base.specs.Edge.{Dependency}
 use Rattle.roc_base.specs.Equalities.{is_txn-true}
 use Rattle.roc_depgraph.specs.declared.known.KnownList.{KnownList}
 use Rattle.roc_depgraph.specs.Deps.{IsDecided, is_known}
 use Rattle.roc_group.specs.GroupRun.{GroupCall}
-use Rattle.roc_msg.specs.Outbox.{Collected, HasSent, HoldsAlso}
+use Rattle.roc_msg.specs.Outbox.{Collected, HasSent}
 use Rattle.roc_msg.specs.declared.reason.Reason.{Reason}
 use Rattle.roc_msg.specs.declared.reason.Reason.TheVariants.{BadProc, BadGroup, BadInputs, NotHere, Late, Differs}
 use Rattle.roc_plan.specs.Groups.{Plan, groups_of, is_immediate_of, shard_of, group_place}
 use Rattle.roc_rows.specs.Held.{Held}
 use Rattle.roc_rows.specs.Store.{Store}
 use Rattle.roc_rows.specs.declared.cell.Cell.{Cell}
-use Rattle.roc_server_index.specs.GroupRefs.{CellRefs}
-use Rattle.roc_server.specs.declared.handled.Handled.{Handled}
+use Rattle.roc_server_index.specs.GroupRefs.{CellRefs, group_refs_at, is_same_ref}
 use Rattle.roc_server.specs.declared.handled.Handled.TheVariants.{Done, Ignored}
 use Rattle.roc_server.specs.declared.server_data.ServerData.{ServerData}
 use Rattle.roc_server.specs.declared.started.StartedGroup.{StartedGroup}
@@ -35,16 +33,19 @@ use Rattle.std.specs.List.{AllByRecursion, flat_map}
 use Rattle.roc_base.proofs.Ids.{none_rise}
 use Rattle.roc_sequence.proofs.Holds.{all_weaker, any_has, has_any}
 use Rattle.roc_sequence.proofs.Members.{has_left}
-use Rattle.roc_await.specs.Waits.{Awaited, was_asked_for}
-use Rattle.roc_server_ancestors.specs.Least.{AreRows, HeldRows}
-use Rattle.roc_await.specs.Lacks.{AreLacks}
+use Rattle.roc_await.specs.Waits.{was_asked_for}
 use Rattle.roc_server_lists.proofs.Skipped.{left_still}
-use Rattle.roc_server.specs.Inner.Indexed.{group_ref_of, IsIndexOf, IsAddedAt}
-use Rattle.roc_server.specs.Inner.ServerData.{state_of, IsConsistent, is_left, is_same_group}
-use Rattle.roc_server.specs.Inner.Starts.{IsNewGroup, StartTaken, StartsNew}
+use Rattle.roc_server.specs.declared.planned.Change.TheVariants.{Group}
+use Rattle.roc_server.specs.declared.planned.Planned.{Planned}
+use Rattle.roc_server.specs.Inner.Indexed.{group_ref_of, HasRoomFor, IsIndexOf, IsAddedAt}
+use Rattle.roc_server.specs.Inner.Keyed.{Entered}
+use Rattle.roc_server.specs.Inner.Planned.{after, rolled, IsGroupPlanned, IsPlannedFrom}
+use Rattle.roc_server.specs.Inner.ServerData.{state_of, IsConsistent, IsSame, is_left, is_same_group}
+use Rattle.roc_server.specs.Inner.Starts.{IsNewGroup, KeepsBeside, StartTaken, StartsNew, TellsStart}
 use Rattle.roc_server.specs.State.{is_group, find_group, ServerState, ServerStep, is_here}
 use Rattle.roc_server.proofs.SameGroups.{same_own}
-use Rattle.roc_server.proofs.IndexSteps.{index_started}
+use Rattle.roc_server.proofs.IndexSteps.{index_started, none_yet}
+use Rattle.roc_server.proofs.Undone.{cells_aside, tried_in_vain}
 
 pub nothing_led : (known : List KnownList) → AreLedTo known [] []
 nothing_led known = record { rising = none_rise; sound = λ u l. absurd (none u l); complete = λ u p. elim p.1.is [ ] }
@@ -61,83 +62,68 @@ module _ (plan : Plan) (shard : Shard) (k : ServerData) (id : TxnId) (c : GroupC
   by_tests f g = cond (is_none f && is_none g) (edges_for plan k.decided.ids s id c) []
 
   -- it was ignored
-  pub start_ignored : (out : Collected) (reason : Reason) → start_fault plan s id c ≡ Some reason → StartTaken plan shard k k out out id c (Ignored reason)
+  pub start_ignored : (out : Collected) (reason : Reason) → start_fault plan s id c ≡ Some reason → StartTaken plan shard k s out out id c (Ignored reason)
   start_ignored out reason judged =
       let P : List Dependency → Type 0 = λ es. AreLedTo k.deps es [] in
       let Q : ServerStep → Type 0 = λ r. Shows r (Ignored reason) s out out in
       record {
         reached = [];
-        led = subst P (ap (λ f. by_tests f (find_group id c.group k.started)) (sym judged)) (nothing_led k.deps);
+        led = subst P (ap (λ f. by_tests f (find_group id c.group k.started.groups)) (sym judged)) (nothing_led k.deps);
         shown = subst Q (ap (start_judged plan k.decided.ids [] s id c) (sym judged)) (record { answers = refl; keeps = refl; sends = sym (append-nil out.messages); decides = sym (append-nil out.decided); ran = sym (append-nil out.ran) });
       }
 
   -- a group that is here was told again
-  pub start_repeated : (old new : Collected) (e : StartedGroup) → start_fault plan s id c ≡ None → find_group id c.group k.started ≡ Some e → HasSent old new (startok_of shard e ∷ []) → StartTaken plan shard k k old new id c Done
+  pub start_repeated : (old new : Collected) (e : StartedGroup) → start_fault plan s id c ≡ None → find_group id c.group k.started.groups ≡ Some e → HasSent old new (startok_of shard e ∷ []) → StartTaken plan shard k s old new id c Done
   start_repeated old new e judged there sent =
       let P : List Dependency → Type 0 = λ es. AreLedTo k.deps es [] in
       let Q : ServerStep → Type 0 = λ r. Shows r Done s old new in
       record {
         reached = [];
-        led = subst P (ap (λ g. by_tests None g) (sym there) ∙ ap (λ f. by_tests f (find_group id c.group k.started)) (sym judged)) (nothing_led k.deps);
+        led = subst P (ap (λ g. by_tests None g) (sym there) ∙ ap (λ f. by_tests f (find_group id c.group k.started.groups)) (sym judged)) (nothing_led k.deps);
         shown =
             subst Q (ap (start_taken plan k.decided.ids [] s id c) (sym there) ∙ ap (start_judged plan k.decided.ids [] s id c) (sym judged))
             (record { answers = refl; keeps = refl; sends = sent.0; decides = sent.1 ∙ sym (append-nil old.decided); ran = sent.2 ∙ sym (append-nil old.ran) });
       }
 
   -- a group that is not here started
-  pub start_made : {E : Type 0} (r : Result Handled E) (new : ServerData) (before after : Collected) → start_fault plan s id c ≡ None → find_group id c.group k.started ≡ None → IfOk r (StartsNew plan shard k new before after id c) → IfOk r (StartTaken plan shard k new before after id c)
-  start_made (Err e) new before after judged absent h = tt
-  start_made (Ok answer) new before after judged absent h =
+  pub start_made : {E : Type 0} (r : Result Planned E) (new : ServerData) (old sent : Collected) → start_fault plan s id c ≡ None → find_group id c.group k.started.groups ≡ None
+      → IfOk r (λ p. StartsNew plan shard k (after shard new p.change) old sent id c p.answer) → IfOk r (λ p. StartTaken plan shard k (after shard new p.change) old sent id c p.answer)
+  start_made (Err e) new old sent judged absent h = tt
+  start_made (Ok p) new old sent judged absent h =
       let P : List Dependency → Type 0 = λ es. AreLedTo k.deps es h.reached in
-      let Q : ServerStep → Type 0 = λ r. Shows r answer (state_of shard new) before after in
+      let Q : ServerStep → Type 0 = λ r. Shows r p.answer (after shard new p.change) old sent in
       record {
         reached = h.reached;
-        led = subst P (ap (λ g. by_tests None g) (sym absent) ∙ ap (λ f. by_tests f (find_group id c.group k.started)) (sym judged)) h.led;
+        led = subst P (ap (λ g. by_tests None g) (sym absent) ∙ ap (λ f. by_tests f (find_group id c.group k.started.groups)) (sym judged)) h.led;
         shown = subst Q (ap (start_taken plan k.decided.ids h.reached s id c) (sym absent) ∙ ap (start_judged plan k.decided.ids h.reached s id c) (sym judged)) h.shown;
       }
 
 -- ---- a group that starts now
 
-abbrev Told : Plan → Shard → StartedGroup → Collected → Type 0
-Told plan shard e sends =
-    (sends.messages ≡ startok_of shard e ∷ []) × ((sends.decided ≡ []) × (sends.ran ≡ accesses_of (if is_immediate_of plan e.proc e.group then e ∷ [] else [])))
+module _ (plan : Plan) (shard : Shard) (k mid : ServerData) (noted : Held) (id : TxnId) (c : GroupCall) (e : StartedGroup) (old sent : Collected) (same : noted.store ≡ k.rows.store) (n : IsNewGroup plan shard (record k { rows = noted }) mid id c e) where
+  abbrev from : Store → ServerState
+  from store = record { shard = shard; store = store; started = k.started.groups; lists = record { known = k.deps; waiting = k.waits.waiting }; below = k.marks }
 
-module _ (plan : Plan) (shard : Shard) (k mid : ServerData) (id : TxnId) (c : GroupCall) (before after : Collected) where
   -- it stands behind the others, and what is told of it behind what was sent
-  pub start_entered : (e : StartedGroup) (started : List StartedGroup) (index : List (Cell × CellRefs)) (sends : Collected) → IsNewGroup plan shard k mid id c e
-      → started ≡ mid.started ++ e ∷ [] → Told plan shard e sends → HoldsAlso before after sends
-      → StartsNew plan shard k (record mid { started = started; index = index }) before after id c Done
-  start_entered e started index sends n is told sent =
+  pub start_planned : TellsStart plan shard e old sent → StartsNew plan shard k (after shard mid (Group e)) old sent id c Done
+  start_planned told =
+      let first : Shows (start_new plan (from noted.store) c (new_group plan k.decided.ids n.reached (from noted.store) id c)) Done (after shard mid (Group e)) old sent = record {
+        answers = refl;
+        keeps = λ i. record {
+          shard = shard;
+          store = sym n.store i;
+          started = sym (λ j. n.started j ++ n.is j ∷ []) i;
+          lists = record { known = sym n.deps i; waiting = (sym n.waits i).waiting };
+          below = sym n.marks i;
+        };
+        sends = told.messages ∙ ap (λ (g : StartedGroup). old.messages ++ startok_of shard g ∷ []) n.is;
+        decides = told.decided ∙ sym (append-nil old.decided);
+        ran = told.ran ∙ (λ i. old.ran ++ accesses_of (if is_immediate_of plan (n.is i).proc (n.is i).group then n.is i ∷ [] else []));
+      } in
       record {
         reached = n.reached;
-        led = n.led;
-        shown = record {
-          answers = refl;
-          keeps = λ i. record {
-            shard = shard;
-            store = sym n.store i;
-            started = sym (is ∙ (λ j. n.started j ++ n.is j ∷ [])) i;
-            lists = record { known = sym n.deps i; waiting = (sym n.waits i).waiting };
-            below = sym n.marks i;
-          };
-          sends = sent.0 ∙ ap (λ ms. before.messages ++ ms) (told.0 ∙ ap (λ (g : StartedGroup). startok_of shard g ∷ []) n.is);
-          decides = sent.1 ∙ ap (λ ids. before.decided ++ ids) told.1.0;
-          ran = sent.2 ∙ ap (λ accesses. before.ran ++ accesses) (told.1.1 ∙ (λ i. accesses_of (if is_immediate_of plan (n.is i).proc (n.is i).group then n.is i ∷ [] else [])));
-        };
-      }
-
-  -- a savepoint before it and behind it changes no cell
-  pub start_between : (noted kept : Held) (answer : Handled) → noted.store ≡ k.rows.store → kept.store ≡ mid.rows.store → StartsNew plan shard (record k { rows = noted }) mid before after id c answer
-      → StartsNew plan shard k (record mid { rows = kept }) before after id c answer
-  start_between noted kept answer same same2 h =
-      let from : Store → ServerState = λ store. record { shard = shard; store = store; started = k.started; lists = record { known = k.deps; waiting = k.waits.waiting }; below = k.marks } in
-      let to : Store → ServerState = λ store. record { shard = shard; store = store; started = mid.started; lists = record { known = mid.deps; waiting = mid.waits.waiting }; below = mid.marks } in
-      record {
-        reached = h.reached;
-        led = subst (λ store. AreLedTo k.deps (edges_for plan k.decided.ids (from store) id c) h.reached) same h.led;
-        shown =
-            subst (λ store. Shows (start_new plan (from k.rows.store) c (new_group plan k.decided.ids h.reached (from k.rows.store) id c)) answer (to store) before after) (sym same2)
-            (subst (λ store. Shows (start_new plan (from store) c (new_group plan k.decided.ids h.reached (from store) id c)) answer (to mid.rows.store) before after) same h.shown);
+        led = subst (λ store. AreLedTo k.deps (edges_for plan k.decided.ids (from store) id c) n.reached) same n.led;
+        shown = subst (λ store. Shows (start_new plan (from store) c (new_group plan k.decided.ids n.reached (from store) id c)) Done (after shard mid (Group e)) old sent) same first;
       }
 
 -- ---- a start that is taken is not late
@@ -187,33 +173,50 @@ here_more id xs e h = let a = any_has (λ (x : StartedGroup). is_txn x.id id) xs
 not_decided : (k : ServerData) (id : TxnId) → IsConsistent k → is_known k.deps id ≡ false → is_listed is_txn k.decided.ids id ≡ false
 not_decided k id sound unknown = unlisted_test is_txn k.decided.ids id (λ l. false≢true (sym unknown ∙ (sound.decided_only id l).own))
 
-pub start_sound : (k mid : ServerData) (after : List StartedGroup) (index : List (Cell × CellRefs)) (e : StartedGroup) (id : TxnId) (group : ℕ) → IsConsistent k → mid.started ≡ k.started → mid.deps ≡ k.deps → mid.decided.ids ≡ k.decided.ids → mid.ancestors ≡ k.ancestors → mid.lacks ≡ k.lacks → mid.waits ≡ k.waits → after ≡ mid.started ++ e ∷ [] → e.id ≡ id → e.group ≡ group → find_group id group k.started ≡ None → mid.index ≡ k.index → is_known k.deps id ≡ false → IsAddedAt (group_ref_of e) e.cells mid.index index → IsConsistent (record mid { started = after; index = index })
-start_sound k mid after index e id group sound started deps decided ancestors lacks waits is own number absent indexed unknown added =
-    let Lists : List KnownList → List TxnId → Type 0 = λ ks ids. ((t : TxnId) → IsListed is_txn ids t → IsDecided ks t) × ((t : TxnId) → IsDecided ks t → IsListed is_txn ids t) in
-    let both : Lists mid.deps mid.decided.ids = subst (λ ks. Lists ks mid.decided.ids) (sym deps) (subst (λ ids. Lists k.deps ids) (sym decided) (sound.decided_only, sound.decided_all)) in
+-- a group that stands behind the others, with its references
+pub start_sound : (k : ServerData) (started : Entered) (index : List (Cell × CellRefs)) (e : StartedGroup) → IsGroupPlanned k e → started.groups ≡ k.started.groups ++ e ∷ [] → IsAddedAt (group_ref_of e) e.cells k.index index
+    → IsConsistent (record k { started = started; index = index })
+start_sound k started index e p is added =
+    let sound = p.sound in
     record {
-      groups_once =
-          new_once k.started after e (is ∙ ap (λ (v : List StartedGroup). v ++ e ∷ []) started)
-          ((λ i. find_group (own i) (number i) k.started) ∙ absent) sound.groups_once;
-      decided_rising = subst (IsStrictlySortedBy txn_cmp) (sym decided) sound.decided_rising;
-      decided_only = both.0;
-      decided_all = both.1;
-      rows = subst (λ ks. AreRows ks mid.ancestors.rows) (sym deps) (subst (λ (h : HeldRows). AreRows k.deps h.rows) (sym ancestors) sound.rows);
-      lacks = subst (λ ks. AreLacks ks mid.lacks) (sym deps) (subst (AreLacks k.deps) (sym lacks) sound.lacks);
+      groups_once = new_once k.started.groups started.groups e is p.absent sound.groups_once;
+      decided_rising = sound.decided_rising;
+      decided_only = sound.decided_only;
+      decided_all = sound.decided_all;
+      rows = sound.rows;
+      lacks = sound.lacks;
       index =
-          subst (IsIndexOf index mid.decided.ids) (sym is)
-          (index_started mid.index index mid.decided.ids mid.started e
-          (subst (λ es. IsIndexOf mid.index mid.decided.ids es) (sym started) (subst (λ ids. IsIndexOf mid.index ids k.started) (sym decided) (subst (λ i. IsIndexOf i k.decided.ids k.started) (sym indexed) sound.index)))
-          (subst (λ ids. is_listed is_txn ids e.id ≡ false) (sym decided) (subst (λ t. is_listed is_txn k.decided.ids t ≡ false) (sym own) (not_decided k id sound unknown))) added);
+          subst (IsIndexOf index k.decided.ids) (sym is)
+          (index_started k.index index k.decided.ids k.started.groups e sound.index (not_decided k e.id sound p.unknown) added);
       none_left =
-          subst (λ ks. AllByRecursion (λ d. is_left (record mid { started = after; index = index }) d ≡ false) (flat_map (λ list. list.edges) ks)) (sym deps)
-          (all_weaker (λ d. is_left k d ≡ false) (λ d. is_left (record mid { started = after; index = index }) d ≡ false)
-          (λ d. left_still (is_known k.deps d.from) (is_here d.from k.started) (was_asked_for d.from k.waits.waiting.asked) (is_known mid.deps d.from) (is_here d.from after) (was_asked_for d.from mid.waits.waiting.asked)
-          (λ h. ap (λ ks. is_known ks d.from) deps ∙ h)
-          (λ h. subst (λ xs. is_here d.from xs ≡ true) (sym (is ∙ ap (λ (v : List StartedGroup). v ++ e ∷ []) started)) (here_more d.from k.started e h))
-          (λ h. ap (λ (w : Awaited). was_asked_for d.from w.waiting.asked) waits ∙ h))
-          (flat_map (λ list. list.edges) k.deps) sound.none_left);
-      open_unknown =
-          let Unknown : Awaited → List KnownList → Type 0 = λ w ks. w.fetches ≡ filter (λ a. not (is_known ks a.id)) w.waiting.asked in
-          subst (λ w. Unknown w mid.deps) (sym waits) (subst (Unknown k.waits) (sym deps) sound.open_unknown);
+          all_weaker (λ d. is_left k d ≡ false) (λ d. is_left (record k { started = started; index = index }) d ≡ false)
+          (λ d. left_still (is_known k.deps d.from) (is_here d.from k.started.groups) (was_asked_for d.from k.waits.waiting.asked) (is_known k.deps d.from) (is_here d.from started.groups) (was_asked_for d.from k.waits.waiting.asked)
+          (λ h. h)
+          (λ h. subst (λ xs. is_here d.from xs ≡ true) (sym is) (here_more d.from k.started.groups e h))
+          (λ h. h))
+          (flat_map (λ list. list.edges) k.deps) sound.none_left;
+      open_unknown = sound.open_unknown;
+    }
+
+-- it has no reference yet
+pub start_unmet : (k : ServerData) (e : StartedGroup) → IsGroupPlanned k e → (c : Cell) → AllByRecursion (λ s. is_same_ref s (group_ref_of e) ≡ false) (group_refs_at c k.index)
+start_unmet k e p c = none_yet k.index k.decided.ids k.started.groups e p.sound.index p.absent c
+
+-- it was planned, and there is room for it
+pub group_planned : (plan : Plan) (shard : Shard) (k mid : ServerData) (noted : Held) (id : TxnId) (c : GroupCall) (e : StartedGroup) → noted.saved ≡ Some k.rows.store → mid.rows.saved ≡ noted.saved
+    → IsNewGroup plan shard (record k { rows = noted }) mid id c e → KeepsBeside (record k { rows = noted }) mid → IsConsistent k → find_group id c.group k.started.groups ≡ None → is_known k.deps id ≡ false
+    → 0 < mid.started.spare → HasRoomFor e.cells mid.index → IsPlannedFrom k mid (Group e)
+group_planned plan shard k mid noted id c e saved kept n b sound absent unknown place room =
+    let same : IsSame k (record mid { rows = rolled mid.rows }) = tried_in_vain k mid noted (rolled mid.rows) saved kept refl b sound in
+    let own : e.id ≡ id = ap (λ (g : StartedGroup). g.id) n.is in
+    let number : e.group ≡ c.group = ap (λ (g : StartedGroup). g.group) n.is in
+    record {
+      planned = record {
+        sound = cells_aside (record mid { rows = rolled mid.rows }) mid.rows same.sound;
+        absent = (λ i. find_group (own i) (number i) (n.started i)) ∙ absent;
+        unknown = (λ i. is_known (n.deps i) (own i)) ∙ unknown;
+        place = place;
+        room = room;
+      };
+      from = same.state;
     }

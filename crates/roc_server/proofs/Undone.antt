@@ -41,8 +41,8 @@ same_kept old new cells p h =
         lacks = subst (λ ks. AreLacks ks new.lacks) (sym p.deps) (subst (AreLacks old.deps) (sym p.lacks) h.lacks);
         index = λ c. p.index c ∙ h.index c ∙ (λ i. undecided (sym p.decided i) (group_refs_of c (sym p.started i)));
         none_left =
-            subst (λ ks. Left ks new.started new.waits.waiting.asked) (sym p.deps)
-            (subst (λ es. Left old.deps es new.waits.waiting.asked) (sym p.started) (subst (λ (w : Waiting). Left old.deps old.started w.asked) (sym p.waiting) h.none_left));
+            subst (λ ks. Left ks new.started.groups new.waits.waiting.asked) (sym p.deps)
+            (subst (λ es. Left old.deps es new.waits.waiting.asked) (sym p.started) (subst (λ (w : Waiting). Left old.deps old.started.groups w.asked) (sym p.waiting) h.none_left));
         open_unknown = p.fetches ∙ h.open_unknown ∙ (λ i. filter (λ (a : OpenFetch). not (is_known (sym p.deps i) a.id)) (sym p.waiting i).asked);
       };
     }
@@ -74,9 +74,3 @@ pub waits_same : (k : ServerData) (waits : Awaited) → waits.waiting ≡ k.wait
 waits_same k waits waiting fetches h =
     same_kept k (record k { waits = waits }) refl
     (record { started = refl; deps = refl; waiting = waiting; fetches = fetches; decided = refl; ancestors = refl; lacks = refl; index = λ c. refl; marks = refl }) h
-
--- two steps, of which the second touches groups and index alone
-pub beside_more : (k mid : ServerData) (started : List StartedGroup) (index : List (Cell × CellRefs)) → KeepsBeside k mid → started ≡ mid.started → HaveSameRefs mid.index index
-    → KeepsBeside k (record mid { started = started; index = index })
-beside_more k mid started index p same refs =
-    record { started = same ∙ p.started; deps = p.deps; waiting = p.waiting; fetches = p.fetches; decided = p.decided; ancestors = p.ancestors; lacks = p.lacks; index = λ c. refs c ∙ p.index c; marks = p.marks }

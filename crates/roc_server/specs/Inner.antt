@@ -5,3 +5,5 @@ pub mod Starts
 pub mod Runs
 pub mod Taught
 pub mod Keyed
+pub mod Planned
+pub mod AtOnce

@@ -1,3 +1,4 @@
+pub mod Ahead
 pub mod Below
 pub mod State
 pub mod First

@@ -6,7 +6,9 @@ use Rattle.roc_base.specs.declared.node.Shard.{Shard}
 use Rattle.roc_base.specs.TxnId.{is_txn}
 use Rattle.roc_depgraph.specs.declared.known.KnownList.{KnownList}
 use Rattle.roc_await.specs.Waits.{Waiting}
+use Rattle.roc_msg.specs.declared.msg.Msg.{Msg}
 use Rattle.roc_msg.specs.declared.outbox.Outgoing.{Outgoing}
+use Rattle.roc_msg.specs.Outbox.{Collected}
 use Rattle.roc_msg.specs.declared.reason.Reason.{Reason}
 use Rattle.roc_rows.specs.Store.{Store}
 use Rattle.roc_server.specs.declared.handled.Handled.{Handled}
@@ -27,6 +29,18 @@ pub record ServerState : Type 0 where
   pub lists : Lists
   -- the watermarks of coordinators, by number
   pub below : List ℕ
+
+-- what was made ahead for a message: the answer, the state after it, and what is sent
+pub record MadeAhead : Type 0 where
+  pub msg : Msg
+  pub answer : Handled
+  pub state : ServerState
+  pub sends : Collected
+
+-- a server: what it keeps, and what was made ahead, where something was
+pub record Serving : Type 0 where
+  pub state : ServerState
+  pub ahead : Option MadeAhead
 
 -- what comes of a message: the answer, the state after it, what is sent, the transactions newly decided, in the order in which they were
 -- taken, and the groups that ran, in the order in which they did

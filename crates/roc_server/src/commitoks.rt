@@ -22,8 +22,8 @@ pub(crate) fn send_commitoks(
     ids: &[TxnId],
     outbox: &mut Outbox,
 ) -> Result<(), NoMemory>
-    requires { AreGroupsOf plan.now started.now }
-    ensures { OnOk result (HasSent outbox.old outbox.new (map (commitok plan.now shard started.now) (filter (λ t. is_here t started.now) ids.now))) }
+    requires { AreGroupsOf plan.now started.now.groups }
+    ensures { OnOk result (HasSent outbox.old outbox.new (map (commitok plan.now shard started.now.groups) (filter (λ t. is_here t started.now.groups) ids.now))) }
 {
     for id in ids {
         if is_here(started, *id) {
@@ -42,8 +42,8 @@ pub(crate) fn send_commitok(
     id: TxnId,
     outbox: &mut Outbox,
 ) -> Result<(), NoMemory>
-    requires { AreGroupsOf plan.now started.now }
-    ensures { OnOk result (HasSent outbox.old outbox.new (commitok plan.now shard started.now id ∷ [])) }
+    requires { AreGroupsOf plan.now started.now.groups }
+    ensures { OnOk result (HasSent outbox.old outbox.new (commitok plan.now shard started.now.groups id ∷ [])) }
 {
     let outs = outs_here(alloc, plan, id, started)?;
     outbox.send(Node::Coord(id.coord), Msg::CommitOk { id, shard, outs })

@@ -1,11 +1,11 @@
 //! Messages that teach lists: commits, and answers to fetches.
-ghost use Rattle.std.specs.Prelude.{◌≡◌, Some, None, if◌then◌else◌, IfOk, OnOk, OnErr};
+ghost use Rattle.std.specs.Prelude.{◌≡◌, Some, None, if◌then◌else◌, IfOk, OnErr};
 ghost use Rattle.roc_base.specs.TxnId.{is_txn};
 ghost use Rattle.roc_base.specs.declared.node.Shard.{Shard as At};
 ghost use Rattle.roc_msg.specs.Facts.{AreFacts};
-ghost use Rattle.roc_msg.specs.Outbox.{HoldsSame};
 ghost use Rattle.roc_sequence.specs.Places.{is_listed};
 ghost use Rattle.roc_server.specs.Fits.{AreGroupsOf};
+ghost use Rattle.roc_server.specs.Inner.Planned.{after, IsPlannedFrom};
 ghost use Rattle.roc_server.specs.Inner.ServerData.{state_of, IsConsistent, IsSame};
 ghost use Rattle.roc_server.specs.Inner.Taught.{Commits, Knows};
 ghost use Rattle.roc_server.specs.Lists.{commit_fault, known_fault};
@@ -13,8 +13,9 @@ ghost use Rattle.roc_server.specs.Lists.{commit_fault, known_fault};
 use crate::Handled;
 use crate::groups::is_here;
 use crate::missing::was_asked_for;
+use crate::planned::{Planned, nothing};
 use crate::server_data::ServerData;
-use crate::teach::teach;
+use crate::teach::plan_lists;
 use roc_base::{Edges, NoMemory, Shard, TxnId};
 use roc_depgraph::KnownList;
 use roc_msg::{Outbox, Reason};
@@ -22,8 +23,8 @@ use roc_plan::Plan;
 use roc_server_lists::{Decided, commit_differs, is_unlike, news_of_commit, news_of_known};
 use std::alloc::Global;
 
-// Takes a commit, or ignores it.
-pub(crate) fn take_commit(
+// Plans a commit, or ignores it.
+pub(crate) fn plan_commit(
     alloc: Global,
     plan: &Plan,
     shard: Shard,
@@ -31,48 +32,46 @@ pub(crate) fn take_commit(
     id: TxnId,
     edges: &Edges,
     facts: &[KnownList],
-    outbox: &mut Outbox,
-) -> Result<Handled, NoMemory>
-    requires fits { AreGroupsOf plan.now kept.old.started }
+    sends: &mut Outbox,
+) -> Result<Planned, NoMemory>
+    requires fits { AreGroupsOf plan.now kept.old.started.groups }
     requires sound { IsConsistent kept.old }
     requires facts { AreFacts facts.now }
-    ensures step { IfOk result (Commits plan.now shard kept.old kept.new outbox.old outbox.new id edges.now facts.now) }
-    ensures fits { OnOk result (AreGroupsOf plan.now kept.new.started) }
-    ensures sound { OnOk result (IsConsistent kept.new) }
-    ensures err { OnErr result (IsSame kept.old kept.new × HoldsSame outbox.old outbox.new) }
+    ensures step { IfOk result (λ p. Commits plan.now shard kept.old (after shard kept.new p.change) sends.old sends.new id edges.now facts.now p.answer) }
+    ensures fits { IfOk result (λ p. AreGroupsOf plan.now (after shard kept.new p.change).started) }
+    ensures planned { IfOk result (λ p. IsPlannedFrom kept.old kept.new p.change) }
+    ensures err { OnErr result (IsSame kept.old kept.new) }
 {
     if let Some(reason) = commit_fault(kept, id, edges, facts) {
-        return Ok(Handled::Ignored(reason));
+        return Ok(nothing(Handled::Ignored(reason)));
     }
     let again = if_decided(&kept.decided, id);
     let news = news_of_commit(alloc, &kept.deps, id, edges, facts)?;
-    teach(alloc, plan, shard, kept, &news, again, outbox)?;
-    Ok(Handled::Done)
+    plan_lists(alloc, plan, shard, kept, news, again, sends)
 }
 
-// Takes a list that was asked for, or ignores it.
-pub(crate) fn take_known(
+// Plans what comes of a list that was asked for, or ignores it.
+pub(crate) fn plan_known(
     alloc: Global,
     plan: &Plan,
     shard: Shard,
     kept: &mut ServerData,
     id: TxnId,
     edges: &Edges,
-    outbox: &mut Outbox,
-) -> Result<Handled, NoMemory>
-    requires fits { AreGroupsOf plan.now kept.old.started }
+    sends: &mut Outbox,
+) -> Result<Planned, NoMemory>
+    requires fits { AreGroupsOf plan.now kept.old.started.groups }
     requires sound { IsConsistent kept.old }
-    ensures step { IfOk result (Knows plan.now shard kept.old kept.new outbox.old outbox.new id edges.now) }
-    ensures fits { OnOk result (AreGroupsOf plan.now kept.new.started) }
-    ensures sound { OnOk result (IsConsistent kept.new) }
-    ensures err { OnErr result (IsSame kept.old kept.new × HoldsSame outbox.old outbox.new) }
+    ensures step { IfOk result (λ p. Knows plan.now shard kept.old (after shard kept.new p.change) sends.old sends.new id edges.now p.answer) }
+    ensures fits { IfOk result (λ p. AreGroupsOf plan.now (after shard kept.new p.change).started) }
+    ensures planned { IfOk result (λ p. IsPlannedFrom kept.old kept.new p.change) }
+    ensures err { OnErr result (IsSame kept.old kept.new) }
 {
     if let Some(reason) = known_fault(kept, id, edges) {
-        return Ok(Handled::Ignored(reason));
+        return Ok(nothing(Handled::Ignored(reason)));
     }
     let news = news_of_known(alloc, &kept.deps, id, edges)?;
-    teach(alloc, plan, shard, kept, &news, None, outbox)?;
-    Ok(Handled::Done)
+    plan_lists(alloc, plan, shard, kept, news, None, sends)
 }
 
 // A transaction, where it is decided.

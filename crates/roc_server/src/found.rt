@@ -48,7 +48,7 @@ pub(crate) fn find_all(
 pub(crate) fn make_room(kept: &mut ServerData, found: &Found) -> Result<(), NoMemory>
     ensures beside { KeepsBesideRuns kept.old kept.new }
     ensures rows { kept.new.rows ≡ kept.old.rows }
-    ensures started { kept.new.started ≡ kept.old.started }
+    ensures started { kept.new.started.groups ≡ kept.old.started.groups }
     ensures room { OnOk result (HasRoomToKeep kept.new found.now) }
 {
     kept.waits.reserve(found.asks.len())?;
@@ -59,7 +59,7 @@ pub(crate) fn make_room(kept: &mut ServerData, found: &Found) -> Result<(), NoMe
 // Keeps what was found of these lists. There is room for it.
 pub(crate) fn keep_found(kept: &mut ServerData, news: &[KnownList], found: Found)
     requires room { HasRoomToKeep kept.old found }
-    requires group_refs { AreGroupRefsOf kept.old.started kept.old.index }
+    requires group_refs { AreGroupRefsOf kept.old.started.groups kept.old.index }
     ensures { KeepsFound kept.old kept.new news.now found }
 {
     let Found {

@@ -15,28 +15,28 @@ use roc_plan::Plan;
 
 // A group of a transaction, by its number.
 pub(crate) fn find_group(started: &StartedGroups, id: TxnId, group: u16) -> Option<&StartedGroup>
-    ensures { option_copied result ≡ find_group id group started.now }
+    ensures { option_copied result ≡ find_group id group started.now.groups }
 {
     group_at(started, place_of_group(started, id, group))
 }
 
 // Where it stands.
 pub(crate) fn place_of_group(started: &StartedGroups, id: TxnId, group: u16) -> Option<usize>
-    ensures { result ≡ position (is_group id group) started.now }
+    ensures { result ≡ position (is_group id group) started.now.groups }
 {
     started.place(id, group as usize)
 }
 
 // Whether a group of the transaction has started.
 pub(crate) fn is_here(started: &StartedGroups, id: TxnId) -> bool
-    ensures { result ≡ is_here id started.now }
+    ensures { result ≡ is_here id started.now.groups }
 {
     started.first(id).is_some()
 }
 
 // Whether one has started with another procedure or other arguments.
 pub(crate) fn differs(started: &StartedGroups, id: TxnId, proc: u16, args: &Nums) -> bool
-    ensures { result ≡ list_any (λ e. is_txn e.id id && not (e.proc == proc && is_nums e.args args.now)) started.now }
+    ensures { result ≡ list_any (λ e. is_txn e.id id && not (e.proc == proc && is_nums e.args args.now)) started.now.groups }
 {
     for number in 0..started.numbers() {
         let group = group_at(started, started.place(id, number));
@@ -49,15 +49,15 @@ pub(crate) fn differs(started: &StartedGroups, id: TxnId, proc: u16, args: &Nums
 
 // The first group of a transaction.
 fn first_group(started: &StartedGroups, id: TxnId) -> Option<&StartedGroup>
-    ensures { option_copied result ≡ find (λ e. is_txn e.id id) started.now }
+    ensures { option_copied result ≡ find (λ e. is_txn e.id id) started.now.groups }
 {
     group_at(started, started.first(id))
 }
 
 // How many groups the transaction's procedure has; none where the transaction is not here.
 pub(crate) fn count_of_groups(plan: &Plan, started: &StartedGroups, id: TxnId) -> u16
-    requires { AreGroupsOf plan.now started.now }
-    ensures { result ≡ count_of_groups plan.now (find (λ e. is_txn e.id id) started.now) }
+    requires { AreGroupsOf plan.now started.now.groups }
+    ensures { result ≡ count_of_groups plan.now (find (λ e. is_txn e.id id) started.now.groups) }
 {
     match first_group(started, id) {
         Some(e) => plan.groups(e.proc),
@@ -67,7 +67,7 @@ pub(crate) fn count_of_groups(plan: &Plan, started: &StartedGroups, id: TxnId) -
 
 // The group at a place.
 pub(crate) fn group_at(started: &StartedGroups, place: Option<usize>) -> Option<&StartedGroup>
-    ensures { option_copied result ≡ option_and_then (slice_get started.now) place }
+    ensures { option_copied result ≡ option_and_then (slice_get started.now.groups) place }
 {
     match place {
         Some(at) => started.as_slice().get(at),

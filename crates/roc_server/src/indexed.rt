@@ -49,7 +49,7 @@ pub(crate) fn add_group(index: &mut Index, e: &StartedGroup) -> Result<(), NoMem
 
 // Takes out the references of transactions.
 pub(crate) fn take_out(index: &mut Index, started: &StartedGroups, ids: &[TxnId])
-    requires { AreGroupRefsOf started.now index.old }
+    requires { AreGroupRefsOf started.now.groups index.old }
     ensures { AreOut ids.now index.old index.new }
 {
     for id in ids {
@@ -59,7 +59,7 @@ pub(crate) fn take_out(index: &mut Index, started: &StartedGroups, ids: &[TxnId]
 
 // Takes out the references of a transaction: they stand at the cells that its groups use.
 fn take_out_one(index: &mut Index, started: &StartedGroups, id: TxnId)
-    requires { AreGroupRefsOf started.now index.old }
+    requires { AreGroupRefsOf started.now.groups index.old }
     ensures { IsOut id index.old index.new }
 {
     for number in 0..started.numbers() {

@@ -38,8 +38,8 @@ impl<'a, L: Ledger> LentGroups<'a, L> {
 
     // The group of a reference: a step.
     pub(crate) fn look(&self, group_ref: GroupRef, steps: &mut Steps<L>) -> &StartedGroup
-        requires { IsSome (find_group group_ref.id group_ref.group self.now.kept.now.started) }
-        ensures group { find_group group_ref.id group_ref.group self.now.kept.now.started ≡ Some result.now }
+        requires { IsSome (find_group group_ref.id group_ref.group self.now.kept.now.started.groups) }
+        ensures group { find_group group_ref.id group_ref.group self.now.kept.now.started.groups ≡ Some result.now }
         ensures steps { steps.new ≡ steps.old + 1 }
     {
         steps.tick();

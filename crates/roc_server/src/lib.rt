@@ -1,13 +1,15 @@
 //! A shard's server: the cells of its places, the groups that started there, and the dependency lists that it knows
-//! (`docs/PROTOCOL.md`, "Server" to "Ticks of a server"). Contracts see a [`Server`] as a `ServerState` of plain lists
-//! (`specs/State.antt`), at first `first_server` (`specs/First.antt`), and what comes of a message as a `ServerStep`
+//! (`docs/PROTOCOL.md`, "Server" to "Ticks of a server"). Contracts see a [`Server`] as a `ServerState` of plain lists, beside
+//! what was made ahead (`Serving` of `specs/State.antt`), at first `first_server` (`specs/First.antt`), and what comes of a message as a `ServerStep`
 //! that `specs/Step.antt` fixes, case by case (`specs/Start.antt`, `specs/Runs.antt`, `specs/Lists.antt`), and that is
 //! one ([`laws`]).
 //!
 //! The layers above may rely on this: [`Server::handle`] is exactly that step, whatever the message, forged ones too,
-//! under any plan that its groups are of (`ServerFits` of `specs/Fits.antt`), and they stay of it; an ignored message
+//! under any plan that its groups are of (`ServerFits` of `specs/Fits.antt`, `ServingFits` of `specs/Ahead.antt`), and they stay of it; an ignored message
 //! changes nothing and sends nothing; [`Server::tick`] sends exactly `tick_sends` and changes nothing. Where memory ends,
 //! the server and what the outbox holds are as they were, but for their room, so the same call may be made again.
+//! [`Server::ready`] says what `handle` will answer and takes all memory for it: then the room is there (`HasRoom` of
+//! `specs/Ahead.antt`), and `handle` of that message cannot want memory. What is made ahead is not in the `ServerState`.
 //! [`Server::decided`] tells exactly whether a transaction is decided here, [`Server::cells`] lists the cells that are
 //! not 0, and [`Server::waiting`] the buffered groups of undecided transactions (`specs/Waiting.antt`).
 //! [`Server::entries`] gives the entries of a group that would start, and looks at no more started groups than there are
@@ -17,6 +19,8 @@
 //! no clause. `specs/Inner/` is of this crate alone.
 #![tactic(auto)]
 
+mod ahead;
+mod changes;
 mod commitoks;
 mod commits;
 mod fetches;
@@ -25,14 +29,18 @@ mod found;
 mod group_key;
 mod groups;
 mod handled;
+mod handling;
 mod indexed;
 pub mod laws;
 mod lent_groups;
 mod looks;
 mod marks;
 mod missing;
+mod planned;
+mod planning;
 mod ran;
 mod runs;
+mod same_msg;
 mod server;
 mod server_data;
 mod started;

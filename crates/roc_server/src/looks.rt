@@ -35,13 +35,13 @@ pub(crate) fn entries<L: Ledger>(
     cells: &[Access],
     steps: &mut Steps<L>,
 ) -> Result<Edges, NoMemory>
-    requires fits { AreGroupsOf plan.now groups.now.kept.now.started }
-    requires once { NoneTwice is_same_group groups.now.kept.now.started }
-    requires index { IsIndexOf groups.now.kept.now.index groups.now.kept.now.decided.ids groups.now.kept.now.started }
+    requires fits { AreGroupsOf plan.now groups.now.kept.now.started.groups }
+    requires once { NoneTwice is_same_group groups.now.kept.now.started.groups }
+    requires index { IsIndexOf groups.now.kept.now.index groups.now.kept.now.decided.ids groups.now.kept.now.started.groups }
     ensures entries { IfOk result (λ edges. edges
         ≡ united (map (edge_to starting.shard starting.immediate) (filter (conflicts_before plan.now groups.now.kept.now.decided.ids starting.id starting.immediate cells.now)
-        groups.now.kept.now.started))) }
-    ensures steps { steps.new ≤ steps.old + length (users plan.now groups.now.kept.now.decided.ids starting.immediate cells.now groups.now.kept.now.started) }
+        groups.now.kept.now.started.groups))) }
+    ensures steps { steps.new ≤ steps.old + length (users plan.now groups.now.kept.now.decided.ids starting.immediate cells.now groups.now.kept.now.started.groups) }
 {
     let mut met = Vec::new(alloc);
     for access in cells {
@@ -63,9 +63,9 @@ fn push_met<L: Ledger>(
     met: &mut Vec<Edge>,
     steps: &mut Steps<L>,
 ) -> Result<(), NoMemory>
-    requires { AllByRecursion (IsGroupRefWithin plan.now groups.now.kept.now.started) group_refs.now }
+    requires { AllByRecursion (IsGroupRefWithin plan.now groups.now.kept.now.started.groups) group_refs.now }
     ensures met { OnOk result (met.new.items ≡ met.old.items
-        ++ map (edge_from starting.shard starting.immediate) (filter (is_met plan.now groups.now.kept.now.started starting.id starting.immediate access.now) group_refs.now)) }
+        ++ map (edge_from starting.shard starting.immediate) (filter (is_met plan.now groups.now.kept.now.started.groups starting.id starting.immediate access.now) group_refs.now)) }
     ensures steps { steps.new ≤ steps.old + length (filter (is_looked_at plan.now starting.id starting.immediate) group_refs.now) }
 {
     let Starting {
@@ -90,8 +90,8 @@ fn is_met<L: Ledger>(
     access: &Access,
     steps: &mut Steps<L>,
 ) -> bool
-    requires { IsGroupRefWithin plan.now groups.now.kept.now.started group_ref }
-    ensures met { result ≡ is_met plan.now groups.now.kept.now.started starting.id starting.immediate access.now group_ref }
+    requires { IsGroupRefWithin plan.now groups.now.kept.now.started.groups group_ref }
+    ensures met { result ≡ is_met plan.now groups.now.kept.now.started.groups starting.id starting.immediate access.now group_ref }
     ensures steps { steps.new ≡ steps.old + (if is_looked_at plan.now starting.id starting.immediate group_ref then 1 else 0) }
 {
     if group_ref.id == starting.id {

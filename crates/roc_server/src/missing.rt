@@ -23,7 +23,7 @@ pub(crate) fn missing_from(
     started: &StartedGroups,
     waits: &Waits,
 ) -> Result<Vec<OpenFetch>, NoMemory>
-    ensures { IfOk result (λ asks. (s : ServerState) → s.started ≡ started.now → s.lists.waiting.asked ≡ waits.now.waiting.asked
+    ensures { IfOk result (λ asks. (s : ServerState) → s.started ≡ started.now.groups → s.lists.waiting.asked ≡ waits.now.waiting.asked
         → asks.items ≡ map asked_of (filter (is_missing s deps.now) (united (flat_map (λ k. k.edges) news.now)))) }
 {
     let edges = all_edges(alloc, news)?;
@@ -41,7 +41,7 @@ pub(crate) fn missing_from(
 
 // Whether what an entry names is missing.
 fn is_missing(deps: &Deps, started: &StartedGroups, waits: &Waits, edge: Edge) -> bool
-    ensures { (s : ServerState) → s.started ≡ started.now → s.lists.waiting.asked ≡ waits.now.waiting.asked → result ≡ is_missing s deps.now edge }
+    ensures { (s : ServerState) → s.started ≡ started.now.groups → s.lists.waiting.asked ≡ waits.now.waiting.asked → result ≡ is_missing s deps.now edge }
 {
     let id = edge.from();
     deps.list(id).is_none() && !is_here(started, id) && !was_asked_for(waits, id)

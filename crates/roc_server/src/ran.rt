@@ -46,8 +46,8 @@ fn note_transaction(
     started: &StartedGroups,
     outbox: &mut Outbox,
 ) -> Result<(), NoMemory>
-    requires { AreGroupsOf plan.now started.now }
-    ensures { OnOk result (HasRun outbox.old outbox.new (accesses_of (buffered_here plan.now id started.now))) }
+    requires { AreGroupsOf plan.now started.now.groups }
+    ensures { OnOk result (HasRun outbox.old outbox.new (accesses_of (buffered_here plan.now id started.now.groups))) }
 {
     let count = count_of_groups(plan, started, id);
     for number in 0..count {
@@ -65,8 +65,8 @@ pub(crate) fn note_all(
     started: &StartedGroups,
     outbox: &mut Outbox,
 ) -> Result<(), NoMemory>
-    requires { AreGroupsOf plan.now started.now }
-    ensures { OnOk result (HasRun outbox.old outbox.new (accesses_of (all_buffered plan.now started.now ids.now))) }
+    requires { AreGroupsOf plan.now started.now.groups }
+    ensures { OnOk result (HasRun outbox.old outbox.new (accesses_of (all_buffered plan.now started.now.groups ids.now))) }
 {
     for id in ids {
         note_transaction(plan, *id, started, outbox)?;

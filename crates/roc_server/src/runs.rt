@@ -36,11 +36,11 @@ pub(crate) fn run_all(
     rows: &mut Rows,
     earlier: &mut Vec<Earlier>,
 ) -> Result<(), NoMemory>
-    requires fits { AreGroupsOf plan.now started.old }
-    requires once { NoneTwice is_same_group started.old }
-    ensures runs { OnOk result ((s : ServerState) → take_all plan.now (holding s rows.old.store started.old) ids.now ≡ holding s rows.new.store started.new) }
-    ensures groups { OnOk result (AreSameGroups started.old started.new) }
-    ensures restored { restored earlier.new.items started.new ≡ restored earlier.old.items started.old }
+    requires fits { AreGroupsOf plan.now started.old.groups }
+    requires once { NoneTwice is_same_group started.old.groups }
+    ensures runs { OnOk result ((s : ServerState) → take_all plan.now (holding s rows.old.store started.old.groups) ids.now ≡ holding s rows.new.store started.new.groups) }
+    ensures groups { OnOk result (AreSameGroups started.old.groups started.new.groups) }
+    ensures restored { restored earlier.new.items started.new.groups ≡ restored earlier.old.items started.old.groups }
     ensures saved { rows.new.saved ≡ rows.old.saved }
 {
     for id in ids {
@@ -58,11 +58,11 @@ fn run_transaction(
     rows: &mut Rows,
     earlier: &mut Vec<Earlier>,
 ) -> Result<(), NoMemory>
-    requires fits { AreGroupsOf plan.now started.old }
-    requires once { NoneTwice is_same_group started.old }
-    ensures runs { OnOk result ((s : ServerState) → run_groups plan.now (holding s rows.old.store started.old) (buffered_here plan.now id started.old) ≡ holding s rows.new.store started.new) }
-    ensures groups { OnOk result (AreSameGroups started.old started.new) }
-    ensures restored { restored earlier.new.items started.new ≡ restored earlier.old.items started.old }
+    requires fits { AreGroupsOf plan.now started.old.groups }
+    requires once { NoneTwice is_same_group started.old.groups }
+    ensures runs { OnOk result ((s : ServerState) → run_groups plan.now (holding s rows.old.store started.old.groups) (buffered_here plan.now id started.old.groups) ≡ holding s rows.new.store started.new.groups) }
+    ensures groups { OnOk result (AreSameGroups started.old.groups started.new.groups) }
+    ensures restored { restored earlier.new.items started.new.groups ≡ restored earlier.old.items started.old.groups }
     ensures saved { rows.new.saved ≡ rows.old.saved }
 {
     let count = count_of_groups(plan, started, id);
@@ -82,12 +82,12 @@ fn run_number(
     rows: &mut Rows,
     earlier: &mut Vec<Earlier>,
 ) -> Result<(), NoMemory>
-    requires fits { AreGroupsOf plan.now started.old }
-    requires once { NoneTwice is_same_group started.old }
+    requires fits { AreGroupsOf plan.now started.old.groups }
+    requires once { NoneTwice is_same_group started.old.groups }
     ensures runs { OnOk result ((s : ServerState)
-        → run_groups plan.now (holding s rows.old.store started.old) (buffered plan.now (option_to_list (find_group id number started.old))) ≡ holding s rows.new.store started.new) }
-    ensures groups { OnOk result (AreSameGroups started.old started.new) }
-    ensures restored { restored earlier.new.items started.new ≡ restored earlier.old.items started.old }
+        → run_groups plan.now (holding s rows.old.store started.old.groups) (buffered plan.now (option_to_list (find_group id number started.old.groups))) ≡ holding s rows.new.store started.new.groups) }
+    ensures groups { OnOk result (AreSameGroups started.old.groups started.new.groups) }
+    ensures restored { restored earlier.new.items started.new.groups ≡ restored earlier.old.items started.old.groups }
     ensures saved { rows.new.saved ≡ rows.old.saved }
 {
     match place_of_group(started, id, number) {
@@ -105,10 +105,10 @@ fn run_if_buffered(
     rows: &mut Rows,
     earlier: &mut Vec<Earlier>,
 ) -> Result<(), NoMemory>
-    requires exists { at < length started.old }
-    requires fits { AreGroupsOf plan.now started.old }
-    ensures runs { OnOk result ((e : Group) → slice_get started.old at ≡ Some e → RunsIfBuffered plan.now e at started.old started.new rows.old.store rows.new.store) }
-    ensures restored { restored earlier.new.items started.new ≡ restored earlier.old.items started.old }
+    requires exists { at < length started.old.groups }
+    requires fits { AreGroupsOf plan.now started.old.groups }
+    ensures runs { OnOk result ((e : Group) → slice_get started.old.groups at ≡ Some e → RunsIfBuffered plan.now e at started.old.groups started.new.groups rows.old.store rows.new.store) }
+    ensures restored { restored earlier.new.items started.new.groups ≡ restored earlier.old.items started.old.groups }
     ensures saved { rows.new.saved ≡ rows.old.saved }
 {
     let group = &started.as_slice()[at];
@@ -127,10 +127,10 @@ fn run_at(
     rows: &mut Rows,
     earlier: &mut Vec<Earlier>,
 ) -> Result<(), NoMemory>
-    requires exists { at < length started.old }
-    requires fits { AreGroupsOf plan.now started.old }
-    ensures runs { OnOk result ((e : Group) → slice_get started.old at ≡ Some e → RunsAt plan.now e at started.old started.new rows.old.store rows.new.store) }
-    ensures restored { restored earlier.new.items started.new ≡ restored earlier.old.items started.old }
+    requires exists { at < length started.old.groups }
+    requires fits { AreGroupsOf plan.now started.old.groups }
+    ensures runs { OnOk result ((e : Group) → slice_get started.old.groups at ≡ Some e → RunsAt plan.now e at started.old.groups started.new.groups rows.old.store rows.new.store) }
+    ensures restored { restored earlier.new.items started.new.groups ≡ restored earlier.old.items started.old.groups }
     ensures saved { rows.new.saved ≡ rows.old.saved }
 {
     let given = given_by(alloc, plan, &started.as_slice()[at], rows)?;
@@ -144,9 +144,9 @@ fn keep_given(
     started: &mut StartedGroups,
     earlier: &mut Vec<Earlier>,
 ) -> Result<(), NoMemory>
-    requires { at < length started.old }
-    ensures given { OnOk result ((e : Group) → slice_get started.old at ≡ Some e → started.new ≡ slice_set started.old at (record e { later = Some given })) }
-    ensures restored { restored earlier.new.items started.new ≡ restored earlier.old.items started.old }
+    requires { at < length started.old.groups }
+    ensures given { OnOk result ((e : Group) → slice_get started.old.groups at ≡ Some e → started.new.groups ≡ slice_set started.old.groups at (record e { later = Some given })) }
+    ensures restored { restored earlier.new.items started.new.groups ≡ restored earlier.old.items started.old.groups }
 {
     earlier.reserve(1)?;
     let later = started.keep_later(at, Some(given));
@@ -156,7 +156,7 @@ fn keep_given(
 
 // The groups are as they were before the runs that are noted. Takes no memory.
 pub(crate) fn put_back(started: &mut StartedGroups, mut earlier: Vec<Earlier>)
-    ensures { started.new ≡ restored earlier.items started.old }
+    ensures { started.new.groups ≡ restored earlier.items started.old.groups }
 {
     while let Some(Earlier { at, later }) = earlier.pop() {
         put_later(started, at, later);
@@ -165,7 +165,7 @@ pub(crate) fn put_back(started: &mut StartedGroups, mut earlier: Vec<Earlier>)
 
 // Keeps something else of what the group at an index gave, where there is one.
 fn put_later(started: &mut StartedGroups, at: usize, later: Option<Nums>)
-    ensures { started.new ≡ with_later_at at later started.old }
+    ensures { started.new.groups ≡ with_later_at at later started.old.groups }
 {
     if at < started.as_slice().len() {
         started.keep_later(at, later);
@@ -225,8 +225,8 @@ pub(crate) fn outs_here(
     id: TxnId,
     started: &StartedGroups,
 ) -> Result<Nums, NoMemory>
-    requires { AreGroupsOf plan.now started.now }
-    ensures { IfOk result (λ outs. outs ≡ outs_here plan.now id started.now) }
+    requires { AreGroupsOf plan.now started.now.groups }
+    ensures { IfOk result (λ outs. outs ≡ outs_here plan.now id started.now.groups) }
 {
     let mut outs = Nums::new(alloc);
     let count = count_of_groups(plan, started, id);

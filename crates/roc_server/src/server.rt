@@ -1,36 +1,37 @@
 //! The server.
-ghost use Rattle.std.specs.Prelude.{◌≡◌, ◌↔◌, ◌+◌, ◌≤◌, List, length, map, IsTrue, IfOk, OnOk, OnErr};
+ghost use Rattle.std.specs.Prelude.{◌≡◌, ◌↔◌, ◌+◌, ◌≤◌, List, length, map, None, IsTrue, IsOk, IfOk, OnOk, OnErr};
 ghost use Rattle.roc_base.specs.declared.id.TxnId.{TxnId as Id};
 ghost use Rattle.roc_depgraph.specs.Deps.{IsDecided};
 ghost use Rattle.roc_msg.specs.Outbox.{HasSent, HoldsSame};
 ghost use Rattle.roc_server_lists.specs.Asking.{fetch_from};
 ghost use Rattle.roc_server_lists.specs.New.{AreDecided};
 ghost use Rattle.roc_rows.specs.Store.{entries};
-ghost use Rattle.roc_base.specs.declared.node.Shard.{Shard as At};
+ghost use Rattle.roc_server.specs.Ahead.{HasRoom, ServingFits};
 ghost use Rattle.roc_server.specs.Below.{is_ended};
 ghost use Rattle.roc_server.specs.First.{first_server};
-ghost use Rattle.roc_server.specs.Fits.{AreGroupsOf, ServerFits};
-ghost use Rattle.roc_server.specs.Inner.ServerData.{state_of, IsConsistent, IsSame};
+ghost use Rattle.roc_server.specs.Fits.{ServerFits};
+ghost use Rattle.roc_server.specs.Inner.Planned.{before, kept_before};
 ghost use Rattle.roc_server.specs.Start.{is_immediate, entries_for, users};
-ghost use Rattle.roc_server.specs.State.{hearing, ServerStep};
+ghost use Rattle.roc_server.specs.State.{ServerStep};
 ghost use Rattle.roc_server.specs.Step.{Handles, Shows, tick_sends};
 ghost use Rattle.roc_server.specs.Waiting.{waiting_groups};
+ghost use Rattle.roc_server.specs.declared.server_data.ServerData.{ServerData};
 
 use crate::Handled;
-use crate::commits::{take_commit, take_known};
-use crate::fetches::take_fetch;
+use crate::ahead::Ahead;
 use crate::first::first_rows;
+use crate::handling::{handle, ready};
 use crate::lent_groups::LentGroups;
 use crate::looks::{Starting, entries};
+use crate::planned::Change;
 use crate::server_data::ServerData;
-use crate::starts::{Request, take_start};
 use crate::waiting::{Waiting, all_waiting};
 use roc_await::OpenFetch;
 use roc_base::{Edges, NoMemory, Shard, Steps, TxnId};
 use roc_group::Access;
-use roc_msg::{Msg, NodeFault, Outbox, Reason};
-use roc_plan::{Class, Known, Plan};
-use roc_rows::Cell;
+use roc_msg::{Msg, NodeFault, Outbox};
+use roc_plan::{Class, Plan};
+use roc_rows::{Cell, Rows};
 use roc_server_lists::send_fetches;
 use std::alloc::Global;
 use std::marker::Model;
@@ -43,54 +44,101 @@ pub struct Server {
     alloc: Global,
     shard: Shard,
     kept: ServerData,
+    ahead: Option<Ahead>,
 }
 
 impl Model for Server {
+    ghost use Rattle.std.specs.Coded.{codes};
     ghost use Rattle.roc_server.specs.Codes.{coded_state};
-    ghost use Rattle.roc_server.specs.State.{ServerState};
+    ghost use Rattle.roc_server.specs.State.{Serving};
 
-    ghost Value = { ServerState };
+    ghost Value = { Serving };
 
-    ghost coded = { coded_state };
+    ghost coded = { Prim.hlevel (codes, coded_state) };
 
-    ghost use Rattle.roc_server.specs.Inner.ServerData.{state_of, IsConsistent};
+    ghost use Rattle.roc_server.specs.Inner.Planned.{serving, IsHeld};
 
-    ghost view = { λ s. state_of s.shard s.kept };
+    ghost view = { λ s. serving s.shard s.kept s.ahead };
 
-    ghost invariant = { λ s. IsConsistent s.kept };
+    ghost invariant = { λ s. IsHeld s.kept s.ahead };
 }
 
 impl Server {
     /// A server of a shard with the start cells of its places, before any message. It keeps its
     /// allocator.
     pub fn new(alloc: Global, plan: &Plan, shard: Shard) -> Result<Server, NoMemory>
-        ensures first { IfOk result (λ server. server ≡ first_server plan.now shard) }
-        ensures fits { IfOk result (ServerFits plan.now) }
+        ensures first { IfOk result (λ server. server.state ≡ first_server plan.now shard) }
+        ensures none { IfOk result (λ server. server.ahead ≡ None) }
+        ensures fits { IfOk result (ServingFits plan.now) }
     {
         let rows = first_rows(alloc, plan, shard)?;
         Ok(Server {
             alloc,
             shard,
             kept: ServerData::new(alloc, rows),
+            ahead: None,
         })
     }
 
+    /// Says what [`Server::handle`] will answer to a message, and takes all memory that it takes, the outbox's too: until the server or
+    /// the outbox is given something else, that call cannot want memory. Nothing that a caller sees changes. What was made ahead for another
+    /// message is given up. `NoMemory` leaves the state and what `outbox` holds.
+    pub fn ready(
+        &mut self,
+        plan: &Plan,
+        msg: &Msg,
+        outbox: &mut Outbox,
+    ) -> Result<Handled, NodeFault>
+        requires fits { ServingFits plan.now self.old }
+        ensures answer { IfOk result (λ answer. (r : ServerStep) × Handles plan.now self.old.state msg.now r × (r.answer ≡ answer)) }
+        ensures room { OnOk result (HasRoom self.new outbox.new msg.now) }
+        ensures state { self.new.state ≡ self.old.state }
+        ensures same { HoldsSame outbox.old outbox.new }
+        ensures fits { ServingFits plan.now self.new }
+    {
+        let (alloc, shard) = (self.alloc, self.shard);
+        let Ok(handled) = ready(
+            alloc,
+            plan,
+            shard,
+            &mut self.kept,
+            &mut self.ahead,
+            msg,
+            outbox,
+        ) else {
+            return Err(NodeFault::NoMemory);
+        };
+        Ok(handled)
+    }
+
     /// Takes a message, or ignores it for the first reason that holds. What it sends and what it
-    /// newly decides is added to `outbox`. `NoMemory` leaves the server and what `outbox` holds as
-    /// they were, so the same call may be made again.
+    /// newly decides is added to `outbox`. `NoMemory` leaves the state and what `outbox` holds as
+    /// they were, so the same call may be made again; it does not come where the room is there ([`Server::ready`]). Nothing is made
+    /// ahead then.
     pub fn handle(
         &mut self,
         plan: &Plan,
         msg: &Msg,
         outbox: &mut Outbox,
     ) -> Result<Handled, NodeFault>
-        requires fits { ServerFits plan.now self.old }
-        ensures step { IfOk result (λ answer. (r : ServerStep) × Handles plan.now self.old msg.now r × Shows r answer self.new outbox.old outbox.new) }
-        ensures err { OnErr result ((self.new ≡ self.old) × HoldsSame outbox.old outbox.new) }
-        ensures fits { ServerFits plan.now self.new }
-        ensures shard { self.new.shard ≡ self.old.shard }
+        requires fits { ServingFits plan.now self.old }
+        ensures step { IfOk result (λ answer. (r : ServerStep) × Handles plan.now self.old.state msg.now r × Shows r answer self.new.state outbox.old outbox.new) }
+        ensures err { OnErr result ((self.new.state ≡ self.old.state) × HoldsSame outbox.old outbox.new) }
+        ensures room { HasRoom self.old outbox.old msg.now → IsOk result }
+        ensures none { self.new.ahead ≡ None }
+        ensures fits { ServingFits plan.now self.new }
+        ensures shard { self.new.state.shard ≡ self.old.state.shard }
     {
-        let Ok(handled) = take(self.alloc, plan, self.shard, &mut self.kept, msg, outbox) else {
+        let (alloc, shard) = (self.alloc, self.shard);
+        let Ok(handled) = handle(
+            alloc,
+            plan,
+            shard,
+            &mut self.kept,
+            &mut self.ahead,
+            msg,
+            outbox,
+        ) else {
             return Err(NodeFault::NoMemory);
         };
         Ok(handled)
@@ -99,7 +147,7 @@ impl Server {
     /// Sends again what was asked for and is not known yet. It changes nothing. `NoMemory` leaves what `outbox` holds, so the same
     /// call may be made again.
     pub fn tick(&mut self, outbox: &mut Outbox) -> Result<(), NodeFault>
-        ensures sent { OnOk result (HasSent outbox.old outbox.new (tick_sends self.old)) }
+        ensures sent { OnOk result (HasSent outbox.old outbox.new (tick_sends self.old.state)) }
         ensures same { self.new ≡ self.old }
         ensures err { OnErr result (HoldsSame outbox.old outbox.new) }
     {
@@ -112,14 +160,14 @@ impl Server {
     /// Whether a transaction is decided here: its dependency list and those of all its ancestors
     /// are known. Takes no memory.
     pub fn decided(&self, id: TxnId) -> bool
-        ensures { IsTrue result ↔ IsDecided self.now.lists.known id }
+        ensures { IsTrue result ↔ IsDecided self.now.state.lists.known id }
     {
         self.kept.decided.contains(id)
     }
 
     /// Whether a transaction is below the highest watermark that was heard of its coordinator, and so was answered there. Takes no memory.
     pub fn ended(&self, id: TxnId) -> bool
-        ensures { result ≡ is_ended self.now.below id }
+        ensures { result ≡ is_ended self.now.state.below id }
     {
         self.kept.marks.is_ended(id)
     }
@@ -135,9 +183,11 @@ impl Server {
         cells: &[Access],
         steps: &mut Steps<L>,
     ) -> Result<Edges, NoMemory>
-        requires fits { ServerFits plan.now self.now }
-        ensures entries { IfOk result (λ edges. (left_out : List Id) → AreDecided self.now.lists.known left_out → edges ≡ entries_for plan.now left_out self.now id (is_immediate class) cells.now) }
-        ensures steps { (left_out : List Id) → AreDecided self.now.lists.known left_out → steps.new ≤ steps.old + length (users plan.now left_out (is_immediate class) cells.now self.now.started) }
+        requires fits { ServerFits plan.now self.now.state }
+        ensures entries { IfOk result (λ edges. (left_out : List Id) → AreDecided self.now.state.lists.known left_out
+            → edges ≡ entries_for plan.now left_out self.now.state id (is_immediate class) cells.now) }
+        ensures steps { (left_out : List Id) → AreDecided self.now.state.lists.known left_out
+            → steps.new ≤ steps.old + length (users plan.now left_out (is_immediate class) cells.now self.now.state.started) }
     {
         let starting = Starting {
             shard: self.shard,
@@ -151,17 +201,17 @@ impl Server {
     /// The buffered groups of undecided transactions, in order of arrival, each as its transaction and the cells that it uses: what
     /// waits here, for an auditor.
     pub fn waiting(&self, plan: &Plan) -> Result<Vec<Waiting>, NoMemory>
-        requires fits { ServerFits plan.now self.now }
-        ensures { IfOk result (λ groups. (decided : List Id) → AreDecided self.now.lists.known decided → groups.items ≡ waiting_groups plan.now decided self.now) }
+        requires fits { ServerFits plan.now self.now.state }
+        ensures { IfOk result (λ groups. (decided : List Id) → AreDecided self.now.state.lists.known decided → groups.items ≡ waiting_groups plan.now decided self.now.state) }
     {
         all_waiting(self.alloc, plan, &self.kept)
     }
 
     /// The cells that are not 0, each with its number, by cell rising.
     pub fn cells(&self) -> Result<Vec<(Cell, i64)>, NoMemory>
-        ensures { IfOk result (λ cells. cells.items ≡ entries self.now.store) }
+        ensures { IfOk result (λ cells. cells.items ≡ entries self.now.state.store) }
     {
-        self.kept.rows.nonzero()
+        cells_before(&self.kept.rows, &self.ahead)
     }
 }
 
@@ -170,6 +220,26 @@ fn is_immediate(class: Class) -> bool
     ensures { result ≡ is_immediate class }
 {
     class == Class::Immediate
+}
+
+// The cells that are not 0 before what was made ahead.
+fn cells_before(rows: &Rows, ahead: &Option<Ahead>) -> Result<Vec<(Cell, i64)>, NoMemory>
+    ensures { IfOk result (λ cells. (kept : ServerData) → kept.rows ≡ rows.now → cells.items ≡ entries (kept_before kept ahead.now).rows.store) }
+{
+    match ahead {
+        Some(made) => cells_before_change(rows, &made.change),
+        None => rows.nonzero(),
+    }
+}
+
+// The same before a change.
+fn cells_before_change(rows: &Rows, change: &Change) -> Result<Vec<(Cell, i64)>, NoMemory>
+    ensures { IfOk result (λ cells. (kept : ServerData) → kept.rows ≡ rows.now → cells.items ≡ entries (before kept change.now).rows.store) }
+{
+    match change {
+        Change::Nothing | Change::Asker(_) => rows.nonzero(),
+        Change::Group(_) | Change::Lists(_) => rows.nonzero_saved(),
+    }
 }
 
 // Asks again for these lists, all or none.
@@ -185,76 +255,4 @@ fn fetch_again(
     let mut sends = Outbox::new(alloc);
     send_fetches(shard, asks, &mut sends)?;
     outbox.append(sends)
-}
-
-// Hears the watermark of a coordinator.
-fn hear(kept: &mut ServerData, coord: u16, mark: u32)
-    requires sound { IsConsistent kept.old }
-    ensures heard { (shard : At) → state_of shard kept.new ≡ hearing (state_of shard kept.old) coord mark }
-    ensures started { kept.new.started ≡ kept.old.started }
-    ensures sound { IsConsistent kept.new }
-{
-    kept.marks.raise(coord, mark);
-}
-
-// Takes a message, or ignores it.
-fn take(
-    alloc: Global,
-    plan: &Plan,
-    shard: Shard,
-    kept: &mut ServerData,
-    msg: &Msg,
-    outbox: &mut Outbox,
-) -> Result<Handled, NoMemory>
-    requires fits { AreGroupsOf plan.now kept.old.started }
-    requires sound { IsConsistent kept.old }
-    ensures step { IfOk result (λ answer. (r : ServerStep) × Handles plan.now (state_of shard kept.old) msg.now r × Shows r answer (state_of shard kept.new) outbox.old outbox.new) }
-    ensures fits { OnOk result (AreGroupsOf plan.now kept.new.started) }
-    ensures sound { OnOk result (IsConsistent kept.new) }
-    ensures err { OnErr result (IsSame kept.old kept.new × HoldsSame outbox.old outbox.new) }
-{
-    match msg {
-        Msg::Start {
-            id,
-            proc,
-            group,
-            args,
-            inputs,
-        } => {
-            let known = Known {
-                args: args.clone()?,
-                inputs: inputs.clone()?,
-            };
-            let request = Request {
-                id: *id,
-                proc: *proc,
-                group: *group,
-                known,
-            };
-            take_start(alloc, plan, shard, kept, request, outbox)
-        }
-        Msg::Commit { id, edges, facts } => {
-            take_commit(
-                alloc,
-                plan,
-                shard,
-                kept,
-                *id,
-                edges,
-                facts.as_slice(),
-                outbox,
-            )
-        }
-        Msg::Fetch { id, asker } => take_fetch(shard, kept, *id, *asker, outbox),
-        Msg::Known { id, edges } => take_known(alloc, plan, shard, kept, *id, edges, outbox),
-        Msg::Ended { coord, below } => {
-            hear(kept, *coord, *below);
-            Ok(Handled::Done)
-        }
-        Msg::Settled { id, below } => {
-            hear(kept, id.coord, *below);
-            Ok(Handled::Gone)
-        }
-        _ => Ok(Handled::Ignored(Reason::Foreign)),
-    }
 }

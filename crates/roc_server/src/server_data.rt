@@ -34,7 +34,7 @@ impl ServerData {
     // Cells, and nothing else.
     pub(crate) fn new(alloc: Global, rows: Rows) -> ServerData
         ensures rows { result.rows ≡ rows }
-        ensures started { result.started ≡ [] }
+        ensures started { result.started.groups ≡ [] }
         ensures deps { result.deps ≡ [] }
         ensures waits { result.waits.waiting ≡ none_waiting }
         ensures decided { result.decided.ids ≡ [] }

@@ -1,23 +1,15 @@
 //! The groups that have started on a server, found by their transactions and numbers.
-ghost use Rattle.std.specs.Prelude.{◌≡◌, ◌<◌, ◌++◌, ◌∷◌, [], length, map, position, slice_get, slice_set, None, Some, false, OnOk, OnErr};
-ghost use Rattle.std.specs.List.{AllByRecursion};
+ghost use Rattle.std.specs.Prelude.{◌≡◌, ◌<◌, ◌≤◌, ◌++◌, ◌∷◌, [], length, map, position, slice_get, slice_set, None, Some, OnOk};
 ghost use Rattle.indexmap.specs.IndexMap.{keys, values, index_map_len, spare};
 ghost use Rattle.roc_base.specs.TxnId.{is_txn};
-ghost use Rattle.roc_msg.specs.Outbox.{HoldsAlso, HoldsSame};
-ghost use Rattle.roc_rows.specs.declared.cell.Cell.{Cell};
-ghost use Rattle.roc_server_index.specs.GroupRefs.{group_refs_at, is_same_ref, HaveSameRefs};
 ghost use Rattle.roc_server.specs.declared.started.StartedGroup.{StartedGroup as Group};
-ghost use Rattle.roc_server.specs.Inner.Indexed.{group_ref_of, IsAddedAt};
 ghost use Rattle.roc_server.specs.Inner.Keyed.{AreBelow, AreKeyed, IsOnceHere, key_of, lesser};
 ghost use Rattle.roc_server.specs.State.{find_group, is_group};
 
 use crate::StartedGroup;
 use crate::group_key::GroupKey;
-use crate::indexed::{add_group, reserve_group};
 use indexmap::IndexMap;
 use roc_base::{NoMemory, Nums, TxnId};
-use roc_msg::Outbox;
-use roc_server_index::Index;
 use std::alloc::Global;
 use std::marker::Model;
 
@@ -30,14 +22,12 @@ pub(crate) struct StartedGroups {
 }
 
 impl Model for StartedGroups {
-    ghost use Rattle.std.specs.Prelude.{List};
-    ghost use Rattle.indexmap.specs.IndexMap.{values};
-    ghost use Rattle.roc_server.specs.declared.started.StartedGroup.{StartedGroup};
-    ghost use Rattle.roc_server.specs.Inner.Keyed.{AreKeyed};
+    ghost use Rattle.indexmap.specs.IndexMap.{values, spare};
+    ghost use Rattle.roc_server.specs.Inner.Keyed.{AreKeyed, Entered};
 
-    ghost Value = { List StartedGroup };
+    ghost Value = { Entered };
 
-    ghost view = { λ s. values s.groups };
+    ghost view = { λ s. record { groups = values s.groups; spare = spare s.groups } };
 
     ghost invariant = { λ s. AreKeyed s.groups.entries s.numbers };
 }
@@ -45,7 +35,7 @@ impl Model for StartedGroups {
 impl StartedGroups {
     // No groups.
     pub(crate) fn new(alloc: Global) -> StartedGroups
-        ensures { result ≡ [] }
+        ensures { result.groups ≡ [] }
     {
         StartedGroups {
             groups: IndexMap::new(alloc),
@@ -55,51 +45,47 @@ impl StartedGroups {
 
     // The groups.
     pub(crate) fn as_slice(&self) -> &[StartedGroup]
-        ensures { result.now ≡ self.now }
+        ensures { result.now ≡ self.now.groups }
     {
         self.groups.values().as_slice()
     }
 
     // What the numbers of all groups are below.
     pub(crate) fn numbers(&self) -> usize
-        ensures { AreBelow result self.now }
+        ensures { AreBelow result self.now.groups }
     {
         self.numbers
     }
 
-    // Adds a group at the end, and its references to the index, and sends what is told of it. All room is taken first, so
-    // `NoMemory` leaves all three as they were, but for their room.
-    pub(crate) fn enter(
-        &mut self,
-        group: StartedGroup,
-        index: &mut Index,
-        sends: Outbox,
-        outbox: &mut Outbox,
-    ) -> Result<(), NoMemory>
-        requires absent { find_group group.id group.group self.old ≡ None }
-        requires unmet { (c : Cell) → AllByRecursion (λ s. is_same_ref s (group_ref_of group) ≡ false) (group_refs_at c index.old) }
-        ensures groups { OnOk result (self.new ≡ self.old ++ group ∷ []) }
-        ensures refs { OnOk result (IsAddedAt (group_ref_of group) group.cells index.old index.new) }
-        ensures sent { OnOk result (HoldsAlso outbox.old outbox.new sends) }
-        ensures err { OnErr result ((self.new ≡ self.old) × (HaveSameRefs index.old index.new × HoldsSame outbox.old outbox.new)) }
+    // Takes memory ahead, so that this many more groups find room. No group changes, whether there is memory or not.
+    pub(crate) fn reserve(&mut self, more: usize) -> Result<(), NoMemory>
+        ensures groups { self.new.groups ≡ self.old.groups }
+        ensures ok { OnOk result (more ≤ self.new.spare) }
     {
-        self.groups.reserve(1)?;
-        add_and_send(index, &group, sends, outbox)?;
-        put(&mut self.groups, &mut self.numbers, group);
+        self.groups.reserve(more)?;
         Ok(())
+    }
+
+    // Adds a group at the end, where there is room.
+    pub(crate) fn enter(&mut self, group: StartedGroup)
+        requires absent { find_group group.id group.group self.old.groups ≡ None }
+        requires room { 0 < self.old.spare }
+        ensures { self.new.groups ≡ self.old.groups ++ group ∷ [] }
+    {
+        put(&mut self.groups, &mut self.numbers, group);
     }
 
     // Where a group of a transaction stands.
     pub(crate) fn place(&self, id: TxnId, number: usize) -> Option<usize>
-        ensures place { result ≡ position (is_group id number) self.now }
-        ensures once { IsOnceHere id number self.now }
+        ensures place { result ≡ position (is_group id number) self.now.groups }
+        ensures once { IsOnceHere id number self.now.groups }
     {
         self.groups.get_index_of(&GroupKey { id, number })
     }
 
     // Where the first group of a transaction stands.
     pub(crate) fn first(&self, id: TxnId) -> Option<usize>
-        ensures { result ≡ position (λ e. is_txn e.id id) self.now }
+        ensures { result ≡ position (λ e. is_txn e.id id) self.now.groups }
     {
         let mut first = None;
         for number in 0..self.numbers {
@@ -110,30 +96,12 @@ impl StartedGroups {
 
     // Keeps with the group at an index what it gave, where it gave something. Gives what was kept of this before.
     pub(crate) fn keep_later(&mut self, at: usize, later: Option<Nums>) -> Option<Nums>
-        requires { at < length self.old }
-        ensures later { (e : Group) → slice_get self.old at ≡ Some e → self.new ≡ slice_set self.old at (record e { later = later }) }
-        ensures before { (e : Group) → slice_get self.old at ≡ Some e → result ≡ e.later }
+        requires { at < length self.old.groups }
+        ensures later { (e : Group) → slice_get self.old.groups at ≡ Some e → self.new.groups ≡ slice_set self.old.groups at (record e { later = later }) }
+        ensures before { (e : Group) → slice_get self.old.groups at ≡ Some e → result ≡ e.later }
     {
         set_later(&mut self.groups, at, later)
     }
-}
-
-// Adds the references of a group to the index, which has room for them then, and sends what is told of it.
-fn add_and_send(
-    index: &mut Index,
-    group: &StartedGroup,
-    sends: Outbox,
-    outbox: &mut Outbox,
-) -> Result<(), NoMemory>
-    requires { (c : Cell) → AllByRecursion (λ s. is_same_ref s (group_ref_of group.now) ≡ false) (group_refs_at c index.old) }
-    ensures refs { OnOk result (IsAddedAt (group_ref_of group.now) group.now.cells index.old index.new) }
-    ensures sent { OnOk result (HoldsAlso outbox.old outbox.new sends) }
-    ensures err { OnErr result (HaveSameRefs index.old index.new × HoldsSame outbox.old outbox.new) }
-{
-    reserve_group(index, group)?;
-    outbox.append(sends)?;
-    add_group(index, group).unwrap();
-    Ok(())
 }
 
 // Puts a group at the end, where there is room.

@@ -87,11 +87,11 @@ fn edges_for<L: Ledger>(
     requires name { blank.name ≡ L.name }
     requires parts { blank.parts ≡ L.parts }
     requires some { 0 < blank.parts }
-    requires fits { AreGroupsOf plan.now kept.now.started }
-    requires once { NoneTwice is_same_group kept.now.started }
-    requires index { IsIndexOf kept.now.index kept.now.decided.ids kept.now.started }
+    requires fits { AreGroupsOf plan.now kept.now.started.groups }
+    requires once { NoneTwice is_same_group kept.now.started.groups }
+    requires index { IsIndexOf kept.now.index kept.now.decided.ids kept.now.started.groups }
     ensures { IfOk result (λ edges. edges
-        ≡ united (map (edge_to starting.shard starting.immediate) (filter (conflicts_before plan.now kept.now.decided.ids starting.id starting.immediate cells.now) kept.now.started))) }
+        ≡ united (map (edge_to starting.shard starting.immediate) (filter (conflicts_before plan.now kept.now.decided.ids starting.id starting.immediate cells.now) kept.now.started.groups))) }
 {
     let mut steps = Steps::<L>::new(blank);
     entries(
@@ -113,9 +113,9 @@ pub(crate) fn new_group(
     request: Request,
 ) -> Result<StartedGroup, NoMemory>
     requires call { IsCallOf plan.now (asked request) }
-    requires fits { AreGroupsOf plan.now kept.old.started }
-    requires once { NoneTwice is_same_group kept.old.started }
-    requires index { IsIndexOf kept.old.index kept.old.decided.ids kept.old.started }
+    requires fits { AreGroupsOf plan.now kept.old.started.groups }
+    requires once { NoneTwice is_same_group kept.old.started.groups }
+    requires index { IsIndexOf kept.old.index kept.old.decided.ids kept.old.started.groups }
     requires rows { AreRows kept.old.deps kept.old.ancestors.rows }
     ensures new { IfOk result (λ e. IsNewGroup plan.now shard kept.old kept.new request.id (asked request) e) }
     ensures beside { KeepsBeside kept.old kept.new }

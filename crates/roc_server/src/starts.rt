@@ -1,18 +1,21 @@
 //! Starts.
-ghost use Rattle.std.specs.Prelude.{◌≡◌, ◌++◌, ◌∷◌, [], ◌<◌, length, None, false, if◌then◌else◌, IfOk, OnOk, OnErr};
+ghost use Rattle.std.specs.Prelude.{◌≡◌, ◌∷◌, [], ◌<◌, length, None, false, if◌then◌else◌, IfOk, OnOk, OnErr};
 ghost use Rattle.roc_depgraph.specs.Deps.{is_known};
 ghost use Rattle.roc_msg.specs.Outbox.{HasSent, HasRun, HoldsSame};
 ghost use Rattle.roc_group.specs.GroupRun.{call};
 ghost use Rattle.roc_plan.specs.Groups.{groups_of, is_immediate_of};
-ghost use Rattle.roc_server.specs.declared.handled.Handled.TheVariants.{Done};
 ghost use Rattle.roc_server.specs.Fits.{IsCallOf, AreGroupsOf};
+ghost use Rattle.roc_server.specs.Inner.Indexed.{HasRoomFor};
+ghost use Rattle.roc_server.specs.Inner.Planned.{after, IsPlannedFrom};
 ghost use Rattle.roc_server.specs.Inner.ServerData.{state_of, asked, IsConsistent, IsSame};
-ghost use Rattle.roc_server.specs.Inner.Starts.{KeepsBeside, StartTaken, StartsNew};
+ghost use Rattle.roc_server.specs.Inner.Starts.{IsNewGroup, KeepsBeside, StartTaken, StartsNew, TellsStart};
 ghost use Rattle.roc_server.specs.Runs.{accesses_of};
 ghost use Rattle.roc_server.specs.Start.{has_counts, start_fault, startok_of};
 ghost use Rattle.roc_server.specs.State.{find_group};
 
 use crate::groups::{differs, find_group};
+use crate::indexed::reserve_group;
+use crate::planned::{Change, Planned, nothing};
 use crate::ran::note_group;
 use crate::server_data::ServerData;
 use crate::started_now::{is_immediate, new_group};
@@ -31,59 +34,59 @@ pub(crate) struct Request {
     pub known: Known,
 }
 
-// Takes a start, or ignores it.
-pub(crate) fn take_start(
+// Plans a start, or ignores it.
+pub(crate) fn plan_start(
     alloc: Global,
     plan: &Plan,
     shard: Shard,
     kept: &mut ServerData,
     request: Request,
-    outbox: &mut Outbox,
-) -> Result<Handled, NoMemory>
-    requires fits { AreGroupsOf plan.now kept.old.started }
+    sends: &mut Outbox,
+) -> Result<Planned, NoMemory>
+    requires fits { AreGroupsOf plan.now kept.old.started.groups }
     requires sound { IsConsistent kept.old }
-    ensures step { IfOk result (StartTaken plan.now shard kept.old kept.new outbox.old outbox.new request.id (asked request)) }
-    ensures fits { OnOk result (AreGroupsOf plan.now kept.new.started) }
-    ensures sound { OnOk result (IsConsistent kept.new) }
-    ensures err { OnErr result (IsSame kept.old kept.new × HoldsSame outbox.old outbox.new) }
+    ensures step { IfOk result (λ p. StartTaken plan.now shard kept.old (after shard kept.new p.change) sends.old sends.new request.id (asked request) p.answer) }
+    ensures fits { IfOk result (λ p. AreGroupsOf plan.now (after shard kept.new p.change).started) }
+    ensures planned { IfOk result (λ p. IsPlannedFrom kept.old kept.new p.change) }
+    ensures err { OnErr result (IsSame kept.old kept.new) }
 {
     if let Some(reason) = start_fault(plan, shard, kept, &request) {
-        return Ok(Handled::Ignored(reason));
+        return Ok(nothing(Handled::Ignored(reason)));
     }
     match find_group(&kept.started, request.id, request.group) {
         Some(earlier) => {
-            send_startok(shard, earlier, outbox)?;
-            Ok(Handled::Done)
+            send_startok(shard, earlier, sends)?;
+            Ok(nothing(Handled::Done))
         }
-        None => start_new(alloc, plan, shard, kept, request, outbox),
+        None => plan_new(alloc, plan, shard, kept, request, sends),
     }
 }
 
-// Starts a group that is not here. Where there is no memory, what it set is undone.
-fn start_new(
+// Plans the start of a group that is not here. Where there is no memory, what it set is undone.
+fn plan_new(
     alloc: Global,
     plan: &Plan,
     shard: Shard,
     kept: &mut ServerData,
     request: Request,
-    outbox: &mut Outbox,
-) -> Result<Handled, NoMemory>
+    sends: &mut Outbox,
+) -> Result<Planned, NoMemory>
     requires call { IsCallOf plan.now (asked request) }
-    requires absent { find_group request.id request.group kept.old.started ≡ None }
+    requires absent { find_group request.id request.group kept.old.started.groups ≡ None }
     requires unknown { is_known kept.old.deps request.id ≡ false }
-    requires fits { AreGroupsOf plan.now kept.old.started }
+    requires fits { AreGroupsOf plan.now kept.old.started.groups }
     requires sound { IsConsistent kept.old }
-    ensures step { IfOk result (StartsNew plan.now shard kept.old kept.new outbox.old outbox.new request.id (asked request)) }
-    ensures fits { OnOk result (AreGroupsOf plan.now kept.new.started) }
-    ensures sound { OnOk result (IsConsistent kept.new) }
-    ensures err { OnErr result (IsSame kept.old kept.new × HoldsSame outbox.old outbox.new) }
+    ensures step { IfOk result (λ p. StartsNew plan.now shard kept.old (after shard kept.new p.change) sends.old sends.new request.id (asked request) p.answer) }
+    ensures fits { IfOk result (λ p. AreGroupsOf plan.now (after shard kept.new p.change).started) }
+    ensures planned { IfOk result (λ p. IsPlannedFrom kept.old kept.new p.change) }
+    ensures err { OnErr result (IsSame kept.old kept.new) }
 {
     kept.rows.savepoint();
-    match try_start(alloc, plan, shard, kept, request, outbox) {
-        Ok(()) => {
-            kept.rows.release();
-            Ok(Handled::Done)
-        }
+    match try_start(alloc, plan, shard, kept, request, sends) {
+        Ok(group) => Ok(Planned {
+            answer: Handled::Done,
+            change: Change::Group(group),
+        }),
         Err(NoMemory) => {
             kept.rows.rollback();
             Err(NoMemory)
@@ -91,56 +94,53 @@ fn start_new(
     }
 }
 
-// The same behind a savepoint of the cells.
+// The same behind a savepoint of the cells: what is to be kept of the group, for which there is room.
 fn try_start(
     alloc: Global,
     plan: &Plan,
     shard: Shard,
     kept: &mut ServerData,
     request: Request,
-    outbox: &mut Outbox,
-) -> Result<(), NoMemory>
+    sends: &mut Outbox,
+) -> Result<StartedGroup, NoMemory>
     requires call { IsCallOf plan.now (asked request) }
-    requires absent { find_group request.id request.group kept.old.started ≡ None }
-    requires unknown { is_known kept.old.deps request.id ≡ false }
-    requires fits { AreGroupsOf plan.now kept.old.started }
+    requires fits { AreGroupsOf plan.now kept.old.started.groups }
     requires sound { IsConsistent kept.old }
-    ensures step { OnOk result (StartsNew plan.now shard kept.old kept.new outbox.old outbox.new request.id (asked request) Done) }
-    ensures fits { OnOk result (AreGroupsOf plan.now kept.new.started) }
-    ensures sound { OnOk result (IsConsistent kept.new) }
-    ensures err { OnErr result (KeepsBeside kept.old kept.new × HoldsSame outbox.old outbox.new) }
+    ensures new { IfOk result (λ e. IsNewGroup plan.now shard kept.old kept.new request.id (asked request) e) }
+    ensures told { IfOk result (λ e. TellsStart plan.now shard e sends.old sends.new) }
+    ensures place { OnOk result (0 < kept.new.started.spare) }
+    ensures room { IfOk result (λ e. HasRoomFor e.cells kept.new.index) }
+    ensures beside { KeepsBeside kept.old kept.new }
     ensures saved { kept.new.rows.saved ≡ kept.old.rows.saved }
 {
-    let started = new_group(alloc, plan, shard, kept, request)?;
-    let sends = told_of(alloc, plan, shard, &started)?;
-    kept.started.enter(started, &mut kept.index, sends, outbox)
+    let group = new_group(alloc, plan, shard, kept, request)?;
+    tell_start(plan, shard, &group, sends)?;
+    kept.started.reserve(1)?;
+    reserve_group(&mut kept.index, &group)?;
+    Ok(group)
 }
 
-// What is told of a group that starts, and the accesses of one that ran.
-fn told_of(
-    alloc: Global,
+// Tells of a group that starts, and notes the accesses of one that ran.
+fn tell_start(
     plan: &Plan,
     shard: Shard,
     group: &StartedGroup,
-) -> Result<Outbox, NoMemory>
+    sends: &mut Outbox,
+) -> Result<(), NoMemory>
     requires { group.now.group < length (groups_of plan.now group.now.proc) }
-    ensures messages { IfOk result (λ sends. sends.messages ≡ startok_of shard group.now ∷ []) }
-    ensures decided { IfOk result (λ sends. sends.decided ≡ []) }
-    ensures ran { IfOk result (λ sends. sends.ran ≡ accesses_of (if is_immediate_of plan.now group.now.proc group.now.group then group.now ∷ [] else [])) }
+    ensures { OnOk result (TellsStart plan.now shard group.now sends.old sends.new) }
 {
-    let mut sends = Outbox::new(alloc);
-    note_if_immediate(plan, group, &mut sends)?;
-    send_startok(shard, group, &mut sends)?;
-    Ok(sends)
+    note_if_immediate(plan, group, sends)?;
+    send_startok(shard, group, sends)
 }
 
 // Notes the accesses of a group where it runs as it starts.
-fn note_if_immediate(plan: &Plan, group: &StartedGroup, outbox: &mut Outbox) -> Result<(), NoMemory>
+fn note_if_immediate(plan: &Plan, group: &StartedGroup, sends: &mut Outbox) -> Result<(), NoMemory>
     requires { group.now.group < length (groups_of plan.now group.now.proc) }
-    ensures { OnOk result (HasRun outbox.old outbox.new (accesses_of (if is_immediate_of plan.now group.now.proc group.now.group then group.now ∷ [] else []))) }
+    ensures { OnOk result (HasRun sends.old sends.new (accesses_of (if is_immediate_of plan.now group.now.proc group.now.group then group.now ∷ [] else []))) }
 {
     if is_immediate(plan, group.proc, group.group) {
-        return note_group(group, outbox);
+        return note_group(group, sends);
     }
     Ok(())
 }

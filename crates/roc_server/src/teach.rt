@@ -1,15 +1,20 @@
 //! Lists that are new are taught.
-ghost use Rattle.std.specs.Prelude.{◌≡◌, OnOk, OnErr};
+ghost use Rattle.std.specs.Prelude.{◌≡◌, IfOk, OnOk, OnErr};
 ghost use Rattle.roc_await.specs.Learning.{AreLearnable};
-ghost use Rattle.roc_msg.specs.Outbox.{HasSent, HoldsSame};
+ghost use Rattle.roc_msg.specs.Outbox.{HasSent};
 ghost use Rattle.roc_sequence.specs.Places.{NoneTwice};
 ghost use Rattle.roc_server.specs.Fits.{AreGroupsOf};
 ghost use Rattle.roc_server.specs.Inner.Runs.{restored};
+ghost use Rattle.roc_server.specs.declared.handled.Handled.TheVariants.{Done};
+ghost use Rattle.roc_server.specs.declared.planned.Change.TheVariants.{Lists};
+ghost use Rattle.roc_server.specs.Inner.Planned.{after, IsPlannedFrom};
 ghost use Rattle.roc_server.specs.Inner.ServerData.{is_same_group, IsConsistent, IsSame};
-ghost use Rattle.roc_server.specs.Inner.Taught.{all_told, own_again, Acts, IsLearning, KeepsBesideRuns, RunsDecided, Taken, Teaches};
+ghost use Rattle.roc_server.specs.Inner.Taught.{all_told, own_again, Acts, Finds, IsLearning, KeepsBesideRuns, RunsDecided, Teaches};
 
+use crate::Handled;
 use crate::commitoks::{send_commitok, send_commitoks};
-use crate::found::{Found, find_all, keep_found, make_room};
+use crate::found::{Found, find_all, make_room};
+use crate::planned::{Change, Lesson, Planned};
 use crate::ran::note_all;
 use crate::runs::{Earlier, put_back, run_all};
 use crate::server_data::ServerData;
@@ -22,42 +27,54 @@ use roc_rows::Rows;
 use roc_server_lists::{forget_news, learn_news, send_fetches, tell_all};
 use std::alloc::Global;
 
-// Teaches lists of transactions of which none is known, with all that comes of it, and sends the commitok of `again` once more.
-pub(crate) fn teach(
+// Plans what comes of lists of transactions of which none is known, and of the commitok of `again` that is sent once more.
+pub(crate) fn plan_lists(
     alloc: Global,
     plan: &Plan,
     shard: Shard,
     kept: &mut ServerData,
-    news: &[KnownList],
+    news: Vec<KnownList>,
     again: Option<TxnId>,
-    outbox: &mut Outbox,
-) -> Result<(), NoMemory>
-    requires fits { AreGroupsOf plan.now kept.old.started }
+    sends: &mut Outbox,
+) -> Result<Planned, NoMemory>
+    requires fits { AreGroupsOf plan.now kept.old.started.groups }
     requires sound { IsConsistent kept.old }
-    requires learnable { AreLearnable kept.old.deps news.now }
-    ensures ok { OnOk result (Teaches plan.now shard kept.old kept.new outbox.old outbox.new news.now again) }
-    ensures err { OnErr result (IsSame kept.old kept.new × HoldsSame outbox.old outbox.new) }
+    requires learnable { AreLearnable kept.old.deps news.items }
+    ensures ok { IfOk result (λ p. Teaches plan.now shard kept.old (after shard kept.new p.change) sends.old sends.new news.items again p.answer) }
+    ensures planned { IfOk result (λ p. IsPlannedFrom kept.old kept.new p.change) }
+    ensures err { OnErr result (IsSame kept.old kept.new) }
 {
-    learn_news(&mut kept.deps, news)?;
+    learn_news(&mut kept.deps, &news)?;
     kept.rows.savepoint();
     let mut earlier = Vec::new(alloc);
-    let done = teach_learnt(alloc, plan, shard, kept, news, again, &mut earlier, outbox);
-    match done {
-        Ok(()) => {
-            kept.rows.release();
-            Ok(())
-        }
+    match plan_learnt(alloc, plan, shard, kept, &news, again, &mut earlier, sends) {
+        Ok(found) => Ok(lesson(news, found, earlier)),
         Err(fault) => {
             kept.rows.rollback();
             put_back(&mut kept.started, earlier);
-            forget_news(&mut kept.deps, news);
+            forget_news(&mut kept.deps, &news);
             Err(fault)
         }
     }
 }
 
-// The same, where the lists are learnt and there is a savepoint: where memory ends, the runs can be undone, and nothing else has changed.
-fn teach_learnt(
+// The lists are to be kept, with what was found of them.
+fn lesson(news: Vec<KnownList>, found: Found, earlier: Vec<Earlier>) -> Planned
+    ensures answer { result.answer ≡ Done }
+    ensures change { result.change ≡ Lists (record { news = news; found = found; earlier = earlier }) }
+{
+    Planned {
+        answer: Handled::Done,
+        change: Change::Lists(Lesson {
+            news,
+            found,
+            earlier,
+        }),
+    }
+}
+
+// The same, where the lists are learnt and there is a savepoint: nothing has changed but what the runs can be undone by.
+fn plan_learnt(
     alloc: Global,
     plan: &Plan,
     shard: Shard,
@@ -65,24 +82,21 @@ fn teach_learnt(
     news: &[KnownList],
     again: Option<TxnId>,
     earlier: &mut Vec<Earlier>,
-    outbox: &mut Outbox,
-) -> Result<(), NoMemory>
-    requires fits { AreGroupsOf plan.now kept.old.started }
+    sends: &mut Outbox,
+) -> Result<Found, NoMemory>
+    requires fits { AreGroupsOf plan.now kept.old.started.groups }
     requires learning { IsLearning kept.old news.now }
-    ensures ok { OnOk result (Taken plan.now shard kept.old.deps kept.old kept.new outbox.old outbox.new news.now again) }
-    ensures beside { OnErr result (KeepsBesideRuns kept.old kept.new) }
-    ensures restored { OnErr result (restored earlier.new.items kept.new.started ≡ restored earlier.old.items kept.old.started) }
-    ensures saved { OnErr result (kept.new.rows.saved ≡ kept.old.rows.saved) }
-    ensures err { OnErr result (HoldsSame outbox.old outbox.new) }
+    ensures finds { IfOk result (λ found. Finds kept.old news.now found) }
+    ensures acts { IfOk result (λ found. Acts plan.now shard kept.old kept.new sends.old sends.new news.now again found) }
+    ensures beside { KeepsBesideRuns kept.old kept.new }
+    ensures restored { restored earlier.new.items kept.new.started.groups ≡ restored earlier.old.items kept.old.started.groups }
+    ensures saved { kept.new.rows.saved ≡ kept.old.rows.saved }
 {
     let found = find_all(alloc, kept, news)?;
-    let mut sends = Outbox::new(alloc);
     act_on(
-        alloc, plan, shard, kept, news, again, &found, earlier, &mut sends,
+        alloc, plan, shard, kept, news, again, &found, earlier, sends,
     )?;
-    outbox.append(sends)?;
-    keep_found(kept, news, found);
-    Ok(())
+    Ok(found)
 }
 
 // Runs what is decided, gathers all that is sent, and takes the room for what is to be kept.
@@ -97,11 +111,11 @@ fn act_on(
     earlier: &mut Vec<Earlier>,
     sends: &mut Outbox,
 ) -> Result<(), NoMemory>
-    requires fits { AreGroupsOf plan.now kept.old.started }
-    requires once { NoneTwice is_same_group kept.old.started }
+    requires fits { AreGroupsOf plan.now kept.old.started.groups }
+    requires once { NoneTwice is_same_group kept.old.started.groups }
     ensures ok { OnOk result (Acts plan.now shard kept.old kept.new sends.old sends.new news.now again found.now) }
     ensures beside { KeepsBesideRuns kept.old kept.new }
-    ensures restored { restored earlier.new.items kept.new.started ≡ restored earlier.old.items kept.old.started }
+    ensures restored { restored earlier.new.items kept.new.started.groups ≡ restored earlier.old.items kept.old.started.groups }
     ensures saved { kept.new.rows.saved ≡ kept.old.rows.saved }
 {
     run_decided(
@@ -127,10 +141,10 @@ fn run_decided(
     earlier: &mut Vec<Earlier>,
     sends: &mut Outbox,
 ) -> Result<(), NoMemory>
-    requires fits { AreGroupsOf plan.now started.old }
-    requires once { NoneTwice is_same_group started.old }
-    ensures ok { OnOk result (RunsDecided plan.now started.old started.new rows.old.store rows.new.store sends.old sends.new ids.now) }
-    ensures restored { restored earlier.new.items started.new ≡ restored earlier.old.items started.old }
+    requires fits { AreGroupsOf plan.now started.old.groups }
+    requires once { NoneTwice is_same_group started.old.groups }
+    ensures ok { OnOk result (RunsDecided plan.now started.old.groups started.new.groups rows.old.store rows.new.store sends.old sends.new ids.now) }
+    ensures restored { restored earlier.new.items started.new.groups ≡ restored earlier.old.items started.old.groups }
     ensures saved { rows.new.saved ≡ rows.old.saved }
 {
     note_all(plan, ids, started, sends)?;
@@ -149,8 +163,8 @@ fn send_all(
     found: &Found,
     sends: &mut Outbox,
 ) -> Result<(), NoMemory>
-    requires { AreGroupsOf plan.now kept.now.started }
-    ensures { OnOk result (HasSent sends.old sends.new (all_told plan.now shard kept.now.waits.waiting.askers kept.now.started news.now again found.now.ids.items found.now.asks.items)) }
+    requires { AreGroupsOf plan.now kept.now.started.groups }
+    ensures { OnOk result (HasSent sends.old sends.new (all_told plan.now shard kept.now.waits.waiting.askers kept.now.started.groups news.now again found.now.ids.items found.now.asks.items)) }
 {
     tell_all(&kept.waits, news, sends)?;
     send_commitoks(alloc, plan, shard, &kept.started, &found.ids, sends)?;
@@ -167,8 +181,8 @@ fn send_again(
     again: Option<TxnId>,
     sends: &mut Outbox,
 ) -> Result<(), NoMemory>
-    requires { AreGroupsOf plan.now started.now }
-    ensures { OnOk result (HasSent sends.old sends.new (own_again plan.now shard started.now again)) }
+    requires { AreGroupsOf plan.now started.now.groups }
+    ensures { OnOk result (HasSent sends.old sends.new (own_again plan.now shard started.now.groups again)) }
 {
     match again {
         Some(id) => send_commitok(alloc, plan, shard, started, id, sends),

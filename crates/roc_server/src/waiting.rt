@@ -27,8 +27,8 @@ pub(crate) fn all_waiting(
     plan: &Plan,
     kept: &ServerData,
 ) -> Result<Vec<Waiting>, NoMemory>
-    requires { AreGroupsOf plan.now kept.now.started }
-    ensures { IfOk result (λ groups. groups.items ≡ map waiting_of (filter (is_waiting plan.now kept.now.decided.ids) kept.now.started)) }
+    requires { AreGroupsOf plan.now kept.now.started.groups }
+    ensures { IfOk result (λ groups. groups.items ≡ map waiting_of (filter (is_waiting plan.now kept.now.decided.ids) kept.now.started.groups)) }
 {
     let mut groups = Vec::new(alloc);
     for group in kept.started.as_slice() {

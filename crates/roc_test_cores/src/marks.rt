@@ -1,5 +1,5 @@
 //! The watermarks that a server hears, and what waits on it.
-ghost use Rattle.roc_server.specs.Fits.{ServerFits};
+ghost use Rattle.roc_server.specs.Ahead.{ServingFits};
 
 use crate::workloads::counter;
 use roc_base::{Edges, Nums, Shard, TxnId};
@@ -20,8 +20,8 @@ fn is_gone(
     msg: &Msg,
     outbox: &mut Outbox,
 ) -> bool
-    requires fits { ServerFits plan.now server.old }
-    ensures { ServerFits plan.now server.new }
+    requires fits { ServingFits plan.now server.old }
+    ensures { ServingFits plan.now server.new }
 {
     match server.handle(plan, msg, outbox) {
         Ok(Handled::Gone) => true,
@@ -33,7 +33,7 @@ fn is_gone(
 
 // Has messages handled that tell watermarks: which of them came too late.
 fn hear(rt: &impl Abort, plan: &Plan, server: &mut Server, outbox: &mut Outbox) -> [bool; 4]
-    requires fits { ServerFits plan.now server.old }
+    requires fits { ServingFits plan.now server.old }
 {
     let settled = Msg::Settled {
         id: TxnId { coord: 1, seq: 4 },

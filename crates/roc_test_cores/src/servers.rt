@@ -1,12 +1,13 @@
 //! What a server makes of messages that no honest node sends, and of repeated ones; and the entries that a start is given.
 ghost use Rattle.std.specs.Prelude.{◌≡◌, ◌<◌};
+ghost use Rattle.roc_server.specs.Ahead.{ServingFits};
 ghost use Rattle.roc_server.specs.Fits.{ServerFits};
 
 use crate::workloads::{counter, twins};
 use roc_base::{Edge, Edges, Key, Nums, Shard, Steps, TxnId};
 use roc_depgraph::KnownList;
 use roc_group::Access;
-use roc_msg::{Facts, Msg, Outbox, Reason};
+use roc_msg::{Facts, Msg, NodeFault, Outbox, Reason};
 use roc_plan::{Class, Plan};
 use roc_rows::Cell;
 use roc_server::{Handled, Server};
@@ -110,7 +111,16 @@ fn immediate(from: TxnId) -> Edge {
     Edge::new(from, true, false, Shard(0))
 }
 
-// Has a message taken, or ignored for a reason.
+// What a server answers: a reason where it ignores the message.
+fn reason_of(rt: &impl Abort, answer: Result<Handled, NodeFault>) -> Option<Reason> {
+    match answer {
+        Ok(Handled::Done | Handled::Gone) => None,
+        Ok(Handled::Ignored(reason)) => Some(reason),
+        Err(_) => panic!(rt; "no memory"),
+    }
+}
+
+// Has a message made ahead, and taken, or ignored for a reason.
 fn handles(
     rt: &impl Abort,
     plan: &Plan,
@@ -119,15 +129,11 @@ fn handles(
     outbox: &mut Outbox,
     wanted: Option<Reason>,
 )
-    requires fits { ServerFits plan.now server.old }
-    ensures { ServerFits plan.now server.new }
+    requires fits { ServingFits plan.now server.old }
+    ensures { ServingFits plan.now server.new }
 {
-    let found = match server.handle(plan, msg, outbox) {
-        Ok(Handled::Done | Handled::Gone) => None,
-        Ok(Handled::Ignored(reason)) => Some(reason),
-        Err(_) => panic!(rt; "no memory"),
-    };
-    assert_eq!(rt; found, wanted);
+    assert_eq!(rt; reason_of(rt, server.ready(plan, msg, outbox)), wanted);
+    assert_eq!(rt; reason_of(rt, server.handle(plan, msg, outbox)), wanted);
 }
 
 // Has messages handled in turn.
@@ -139,8 +145,8 @@ fn handles_all(
     cases: &[Case],
     outbox: &mut Outbox,
 ) -> Result<(), Fail>
-    requires fits { ServerFits plan.now server.old }
-    ensures { ServerFits plan.now server.new }
+    requires fits { ServingFits plan.now server.old }
+    ensures { ServingFits plan.now server.new }
 {
     for (sent, wanted) in cases {
         let msg = message(alloc, *sent)?;
@@ -158,7 +164,7 @@ fn sends(
     cases: &[Case],
     sent: usize,
 ) -> Result<(), Fail>
-    requires fits { ServerFits plan.now server.old }
+    requires fits { ServingFits plan.now server.old }
 {
     let mut outbox = Outbox::new(alloc);
     handles_all(rt, alloc, plan, server, cases, &mut outbox)?;
@@ -185,7 +191,7 @@ fn counted_entries<L: Ledger>(
     class: Class,
     blank: Blank,
 ) -> Result<Edges, Fail>
-    requires fits { ServerFits plan.now server.now }
+    requires fits { ServerFits plan.now server.now.state }
     requires name { blank.name ≡ L.name }
     requires parts { blank.parts ≡ L.parts }
     requires some { 0 < blank.parts }
@@ -202,14 +208,14 @@ fn counted_entries<L: Ledger>(
 }
 
 fn entries(plan: &Plan, server: &Server, class: Class) -> Result<Edges, Fail>
-    requires fits { ServerFits plan.now server.now }
+    requires fits { ServerFits plan.now server.now.state }
 {
     counted_entries::<Brand>(plan, server, class, Blank::new(1))
 }
 
 // The entries of each class, deferrable first.
 fn entries_of_both(plan: &Plan, server: &Server) -> Result<(Edges, Edges), Fail>
-    requires fits { ServerFits plan.now server.now }
+    requires fits { ServerFits plan.now server.now.state }
 {
     let deferrable = entries(plan, server, Class::Deferrable)?;
     Ok((deferrable, entries(plan, server, Class::Immediate)?))
@@ -223,7 +229,7 @@ fn entries_after(
     server: &mut Server,
     cases: &[Case],
 ) -> Result<(Edges, Edges), Fail>
-    requires fits { ServerFits plan.now server.old }
+    requires fits { ServingFits plan.now server.old }
 {
     let mut outbox = Outbox::new(alloc);
     handles_all(rt, alloc, plan, server, cases, &mut outbox)?;

@@ -1,6 +1,6 @@
 //! Calls of a server and of a coordinator that are made once again where memory is wanting. A call that wants memory leaves the outbox.
 ghost use Rattle.roc_coord.specs.Fits.{CoordFits};
-ghost use Rattle.roc_server.specs.Fits.{ServerFits};
+ghost use Rattle.roc_server.specs.Ahead.{ServingFits};
 
 use roc_base::{Nums, TxnId};
 use roc_coord::{Coord, Handled, SubmitFault};
@@ -39,6 +39,24 @@ pub(crate) fn submit(
     }
 }
 
+// A message of a coordinator with an even number is made ahead.
+fn is_made_ahead(msg: &Msg) -> bool {
+    match msg.id() {
+        Some(id) => id.coord % 2 == 0,
+        None => false,
+    }
+}
+
+// Makes a message ahead. The outbox holds the same, and the message cannot want memory then.
+fn make_ahead(rt: &impl Abort, plan: &Plan, server: &mut Server, msg: &Msg, outbox: &mut Outbox)
+    requires fits { ServingFits plan.now server.old }
+    ensures { ServingFits plan.now server.new }
+{
+    if server.ready(plan, msg, outbox).is_err() {
+        assert!(rt; server.ready(plan, msg, outbox).is_ok());
+    }
+}
+
 /// A message comes to a server.
 pub(crate) fn serve(
     rt: &impl Abort,
@@ -47,10 +65,16 @@ pub(crate) fn serve(
     msg: &Msg,
     outbox: &mut Outbox,
 )
-    requires fits { ServerFits plan.now server.old }
-    ensures { ServerFits plan.now server.new }
+    requires fits { ServingFits plan.now server.old }
+    ensures { ServingFits plan.now server.new }
 {
     let before = lengths(outbox);
+    if is_made_ahead(msg) {
+        make_ahead(rt, plan, server, msg, outbox);
+        assert_eq!(rt; lengths(outbox), before);
+        assert!(rt; server.handle(plan, msg, outbox).is_ok());
+        return;
+    }
     if server.handle(plan, msg, outbox).is_err() {
         assert_eq!(rt; lengths(outbox), before);
         assert!(rt; server.handle(plan, msg, outbox).is_ok());
@@ -89,8 +113,8 @@ pub(crate) fn coordinate(
 
 /// Time has passed for a server.
 pub(crate) fn tick_server(rt: &impl Abort, plan: &Plan, server: &mut Server, outbox: &mut Outbox)
-    requires fits { ServerFits plan.now server.old }
-    ensures { ServerFits plan.now server.new }
+    requires fits { ServingFits plan.now server.old }
+    ensures { ServingFits plan.now server.new }
 {
     let before = lengths(outbox);
     if server.tick(outbox).is_err() {

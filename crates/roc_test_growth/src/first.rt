@@ -2,7 +2,7 @@
 ghost use Rattle.std.specs.Prelude.{◌≡◌, IfOk};
 ghost use Rattle.std.specs.List.{AllByRecursion};
 ghost use Rattle.roc_coord.specs.Fits.{CoordFits};
-ghost use Rattle.roc_server.specs.Fits.{ServerFits};
+ghost use Rattle.roc_server.specs.Ahead.{ServingFits};
 
 use roc_base::{NoMemory, Nums, Shard, TxnId};
 use roc_coord::Coord;
@@ -31,7 +31,7 @@ pub(crate) struct Run {
 }
 
 fn first_servers(alloc: Global, plan: &Plan) -> Result<Vec<Server>, NoMemory>
-    ensures { IfOk result (λ servers. AllByRecursion (ServerFits plan.now) servers.items) }
+    ensures { IfOk result (λ servers. AllByRecursion (ServingFits plan.now) servers.items) }
 {
     let mut servers = Vec::new(alloc);
     for number in 0..plan.workload().shards() {
@@ -52,7 +52,7 @@ fn first_coords(alloc: Global, plan: &Plan, count: u16) -> Result<Vec<Coord>, Al
 
 /// A run of a plan with so many coordinators.
 pub(crate) fn first_run(alloc: Global, plan: &Plan, coords: u16) -> Result<Run, NoMemory>
-    ensures servers { IfOk result (λ run. AllByRecursion (ServerFits plan.now) run.servers.items) }
+    ensures servers { IfOk result (λ run. AllByRecursion (ServingFits plan.now) run.servers.items) }
     ensures coords { IfOk result (λ run. AllByRecursion (CoordFits plan.now) run.coords.items) }
 {
     Ok(Run {

@@ -2,7 +2,7 @@
 ghost use Rattle.std.specs.Prelude.{◌≡◌};
 ghost use Rattle.std.specs.List.{AllByRecursion};
 ghost use Rattle.roc_coord.specs.Fits.{CoordFits};
-ghost use Rattle.roc_server.specs.Fits.{ServerFits};
+ghost use Rattle.roc_server.specs.Ahead.{ServingFits};
 
 use crate::again::{coordinate, serve, submit, tick_coord, tick_server};
 use crate::first::Run;
@@ -34,8 +34,8 @@ fn serve_at(
     msg: &Msg,
     outbox: &mut Outbox,
 )
-    requires fits { AllByRecursion (ServerFits plan.now) servers.old.items }
-    ensures { AllByRecursion (ServerFits plan.now) servers.new.items }
+    requires fits { AllByRecursion (ServingFits plan.now) servers.old.items }
+    ensures { AllByRecursion (ServingFits plan.now) servers.new.items }
 {
     assert!(rt; at < servers.len());
     serve(rt, plan, &mut servers[at], msg, outbox);
@@ -78,8 +78,8 @@ fn tick_server_at(
     at: usize,
     outbox: &mut Outbox,
 )
-    requires fits { AllByRecursion (ServerFits plan.now) servers.old.items }
-    ensures { AllByRecursion (ServerFits plan.now) servers.new.items }
+    requires fits { AllByRecursion (ServingFits plan.now) servers.old.items }
+    ensures { AllByRecursion (ServingFits plan.now) servers.new.items }
 {
     assert!(rt; at < servers.len());
     tick_server(rt, plan, &mut servers[at], outbox);
@@ -126,9 +126,9 @@ fn note_reply(rt: &impl Abort, replies: &mut Vec<(TxnId, Nums)>, reply: Option<(
 }
 
 fn deliver(rt: &impl Abort, plan: &Plan, run: &mut Run, number: usize)
-    requires servers { AllByRecursion (ServerFits plan.now) run.old.servers.items }
+    requires servers { AllByRecursion (ServingFits plan.now) run.old.servers.items }
     requires coords { AllByRecursion (CoordFits plan.now) run.old.coords.items }
-    ensures servers { AllByRecursion (ServerFits plan.now) run.new.servers.items }
+    ensures servers { AllByRecursion (ServingFits plan.now) run.new.servers.items }
     ensures coords { AllByRecursion (CoordFits plan.now) run.new.coords.items }
 {
     if number > run.sent.len() {
@@ -157,9 +157,9 @@ fn deliver(rt: &impl Abort, plan: &Plan, run: &mut Run, number: usize)
 }
 
 fn deliver_all(rt: &impl Abort, plan: &Plan, run: &mut Run, first: usize, last: usize)
-    requires servers { AllByRecursion (ServerFits plan.now) run.old.servers.items }
+    requires servers { AllByRecursion (ServingFits plan.now) run.old.servers.items }
     requires coords { AllByRecursion (CoordFits plan.now) run.old.coords.items }
-    ensures servers { AllByRecursion (ServerFits plan.now) run.new.servers.items }
+    ensures servers { AllByRecursion (ServingFits plan.now) run.new.servers.items }
     ensures coords { AllByRecursion (CoordFits plan.now) run.new.coords.items }
 {
     for number in first..=last {
@@ -168,9 +168,9 @@ fn deliver_all(rt: &impl Abort, plan: &Plan, run: &mut Run, first: usize, last: 
 }
 
 fn tick(rt: &impl Abort, plan: &Plan, run: &mut Run, node: Node)
-    requires servers { AllByRecursion (ServerFits plan.now) run.old.servers.items }
+    requires servers { AllByRecursion (ServingFits plan.now) run.old.servers.items }
     requires coords { AllByRecursion (CoordFits plan.now) run.old.coords.items }
-    ensures servers { AllByRecursion (ServerFits plan.now) run.new.servers.items }
+    ensures servers { AllByRecursion (ServingFits plan.now) run.new.servers.items }
     ensures coords { AllByRecursion (CoordFits plan.now) run.new.coords.items }
 {
     let outbox = &mut run.outbox;
@@ -185,9 +185,9 @@ fn tick(rt: &impl Abort, plan: &Plan, run: &mut Run, node: Node)
 }
 
 fn happen(rt: &impl Abort, plan: &Plan, run: &mut Run, event: Event)
-    requires servers { AllByRecursion (ServerFits plan.now) run.old.servers.items }
+    requires servers { AllByRecursion (ServingFits plan.now) run.old.servers.items }
     requires coords { AllByRecursion (CoordFits plan.now) run.old.coords.items }
-    ensures servers { AllByRecursion (ServerFits plan.now) run.new.servers.items }
+    ensures servers { AllByRecursion (ServingFits plan.now) run.new.servers.items }
     ensures coords { AllByRecursion (CoordFits plan.now) run.new.coords.items }
 {
     match event {
@@ -207,7 +207,7 @@ fn happen(rt: &impl Abort, plan: &Plan, run: &mut Run, event: Event)
 
 /// Events happen in turn.
 pub(crate) fn happen_all(rt: &impl Abort, plan: &Plan, run: &mut Run, events: &[Event])
-    requires servers { AllByRecursion (ServerFits plan.now) run.old.servers.items }
+    requires servers { AllByRecursion (ServingFits plan.now) run.old.servers.items }
     requires coords { AllByRecursion (CoordFits plan.now) run.old.coords.items }
 {
     for event in events {

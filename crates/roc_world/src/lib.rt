@@ -9,6 +9,7 @@
 #![tactic(auto)]
 
 mod happen;
+mod idle_server;
 mod network;
 mod nodes;
 mod parts;

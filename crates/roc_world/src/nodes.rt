@@ -8,20 +8,25 @@ ghost use Rattle.roc_coord.specs.Fits.{CoordFits};
 ghost use Rattle.roc_coord.specs.Submit.{UnlessNoMemory};
 ghost use Rattle.roc_world.specs.Inner.Nodes.{ServerTakes, CoordTakes, CoordSubmits, ServerTicks, CoordTicks};
 
+use crate::idle_server::IdleServer;
 use roc_base::{NoMemory, Shard, TxnId};
 use roc_coord::{Coord, Handled as CoordHandled, SubmitFault};
 use roc_msg::{Msg, Outbox};
 use roc_plan::Plan;
-use roc_server::{Handled as ServerHandled, Server};
+use roc_server::Handled as ServerHandled;
 use std::alloc::{AllocError, Global};
 
 /// The servers of the first shards, before any message.
-pub(crate) fn first_servers(alloc: Global, plan: &Plan, count: u8) -> Result<Vec<Server>, NoMemory>
+pub(crate) fn first_servers(
+    alloc: Global,
+    plan: &Plan,
+    count: u8,
+) -> Result<Vec<IdleServer>, NoMemory>
     ensures { IfOk result (λ servers. servers.items ≡ map (λ n. first_server plan.now (record { 0 = n })) (range_with_len 0 count)) }
 {
     let mut servers = Vec::new(alloc);
     for number in 0..count {
-        servers.push(Server::new(alloc, plan, Shard(number))?)?;
+        servers.push(IdleServer::new(alloc, plan, Shard(number))?)?;
     }
     Ok(servers)
 }
@@ -40,7 +45,7 @@ pub(crate) fn first_coords(alloc: Global, count: u16) -> Result<Vec<Coord>, Allo
 /// A message comes to the server of a shard.
 pub(crate) fn handle_at_server(
     plan: &Plan,
-    servers: &mut Vec<Server>,
+    servers: &mut Vec<IdleServer>,
     shard: Shard,
     msg: &Msg,
     outbox: &mut Outbox,
@@ -91,7 +96,7 @@ pub(crate) fn submit_at(
 
 /// Time has passed for the server of a shard.
 pub(crate) fn tick_server(
-    servers: &mut Vec<Server>,
+    servers: &mut Vec<IdleServer>,
     shard: Shard,
     outbox: &mut Outbox,
 ) -> Result<(), NoMemory>

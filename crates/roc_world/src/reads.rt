@@ -4,14 +4,14 @@ ghost use Rattle.std.specs.List.{flat_map};
 ghost use Rattle.roc_rows.specs.Store.{entries};
 ghost use Rattle.roc_coord.specs.Ids.{ids_of};
 
+use crate::idle_server::IdleServer;
 use roc_base::{NoMemory, TxnId};
 use roc_coord::Coord;
 use roc_rows::Cell;
-use roc_server::Server;
 use std::alloc::Global;
 
 /// The cells that are not 0, server by server.
-pub(crate) fn cells_of(alloc: Global, servers: &[Server]) -> Result<Vec<(Cell, i64)>, NoMemory>
+pub(crate) fn cells_of(alloc: Global, servers: &[IdleServer]) -> Result<Vec<(Cell, i64)>, NoMemory>
     ensures { IfOk result (λ cells. cells.items ≡ flat_map (λ s. entries s.store) servers.now) }
 {
     let mut cells = Vec::new(alloc);

@@ -1,5 +1,5 @@
 -- One turn of a server's node, and several
-use Rattle.std.specs.Prelude.{◌≡◌, ℕ, ◌<◌, ◌≤◌, Bool, true, false, List, [], ◌∷◌, length, map, Option, Result, Ok, Err}
+use Rattle.std.specs.Prelude.{◌≡◌, ℕ, ◌<◌, ◌≤◌, Bool, true, false, List, [], ◌∷◌, length, map, Option, None, Result, Ok, Err}
 use Rattle.roc_base.specs.declared.node.Shard.{Shard}
 use Rattle.roc_io.specs.Link.{Reception, LinkEvent, sending, receiving, vain}
 use Rattle.roc_io.specs.Packet.{Packet}
@@ -26,7 +26,7 @@ use Rattle.roc_node_serve.specs.ServerRun.{ServerNodeState, AfterEvent, IsServer
 
 -- a node that keeps this, sent these messages, asked this of its link and was stopped or not
 abbrev pub node_of : ServerNode → List Outgoing → List LinkEvent → Bool → ServerNodeState
-node_of server_node messages traffic stopped = record { state = server_node.server; messages = messages; traffic = traffic; heard = server_node.heard; counts = server_node.counts; stopped = stopped }
+node_of server_node messages traffic stopped = record { state = server_node.server.state; messages = messages; traffic = traffic; heard = server_node.heard; counts = server_node.counts; stopped = stopped }
 
 -- one of which nothing is told but what it keeps
 abbrev pub bare : ServerNode → ServerNodeState
@@ -85,7 +85,7 @@ pub record RanSo (S : NodeSetting) (shard : Shard) (count : ℕ) (stopped : Bool
 
 -- what a node keeps before any turn
 abbrev pub first_server_node : Plan → Shard → ServerNode
-first_server_node plan shard = record { server = first_server plan shard; heard = none_heard; counts = no_counts }
+first_server_node plan shard = record { server = record { state = first_server plan shard; ahead = None }; heard = none_heard; counts = no_counts }
 
 abbrev pub run_failed : RunEnd → Bool
 run_failed run.LinkFault = true

@@ -7,6 +7,11 @@ use Rattle.roc_server.specs.declared.group_key.GroupKey.{GroupKey}
 use Rattle.roc_server.specs.declared.started.StartedGroup.{StartedGroup}
 use Rattle.roc_server.specs.State.{is_group}
 
+-- groups in the order of their arrival, and how many more find room
+pub record Entered : Type 0 where
+  pub groups : List StartedGroup
+  pub spare : ℕ
+
 abbrev pub key_of : StartedGroup → GroupKey
 key_of e = record { id = e.id; number = e.group }
 

@@ -20,7 +20,7 @@ use Rattle.roc_server.specs.State.{is_group, is_here, unrun, ServerState}
 use Rattle.roc_server.specs.Inner.Indexed.{IsIndexOf}
 
 abbrev pub state_of : Shard → ServerData → ServerState
-state_of shard k = record { shard = shard; store = k.rows.store; started = k.started; lists = record { known = k.deps; waiting = k.waits.waiting }; below = k.marks }
+state_of shard k = record { shard = shard; store = k.rows.store; started = k.started.groups; lists = record { known = k.deps; waiting = k.waits.waiting }; below = k.marks }
 
 -- the same with these cells and groups
 abbrev pub holding : ServerState → Store → List StartedGroup → ServerState
@@ -32,19 +32,19 @@ is_same_group a b = is_group a.id a.group b
 
 -- what an entry names is unknown, has no group here and was not asked for
 abbrev pub is_left : ServerData → Dependency → Bool
-is_left k d = not (is_known k.deps d.from) && (not (is_here d.from k.started) && not (was_asked_for d.from k.waits.waiting.asked))
+is_left k d = not (is_known k.deps d.from) && (not (is_here d.from k.started.groups) && not (was_asked_for d.from k.waits.waiting.asked))
 
 -- each group of a transaction once; as decided exactly what is decided by the known lists, rising, and the least of its ancestors; what the
 -- others lack, and where their groups are found by the cells that they use; all that known lists name is known, here or asked for; and as open
 -- exactly what was asked for and is not known
 pub record IsConsistent (k : ServerData) : Type 0 where
-  pub groups_once : NoneTwice is_same_group k.started
+  pub groups_once : NoneTwice is_same_group k.started.groups
   pub decided_rising : IsStrictlySortedBy txn_cmp k.decided.ids
   pub decided_only : (t : TxnId) → IsListed is_txn k.decided.ids t → IsDecided k.deps t
   pub decided_all : (t : TxnId) → IsDecided k.deps t → IsListed is_txn k.decided.ids t
   pub rows : AreRows k.deps k.ancestors.rows
   pub lacks : AreLacks k.deps k.lacks
-  pub index : IsIndexOf k.index k.decided.ids k.started
+  pub index : IsIndexOf k.index k.decided.ids k.started.groups
   pub none_left : AllByRecursion (λ d. is_left k d ≡ false) (flat_map (λ list. list.edges) k.deps)
   pub open_unknown : k.waits.fetches ≡ filter (λ a. not (is_known k.deps a.id)) k.waits.waiting.asked
 

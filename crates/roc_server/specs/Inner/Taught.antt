@@ -21,7 +21,6 @@ use Rattle.roc_plan.specs.Groups.{Plan}
 use Rattle.roc_rows.specs.Store.{Store}
 use Rattle.roc_server.specs.declared.found.Found.{Found}
 use Rattle.roc_server.specs.declared.handled.Handled.{Handled}
-use Rattle.roc_server.specs.declared.handled.Handled.TheVariants.{Done}
 use Rattle.roc_server.specs.declared.server_data.ServerData.{ServerData}
 use Rattle.roc_server.specs.declared.started.StartedGroup.{StartedGroup}
 use Rattle.roc_server.specs.Runs.{accesses_of, all_buffered, commitok, take_all}
@@ -41,12 +40,12 @@ pub record IsLearning (k : ServerData) (news : List KnownList) : Type 0 where
   pub before : List KnownList
   pub known_are : k.deps ≡ before ++ news
   pub learnable : AreLearnable before news
-  pub groups_once : NoneTwice is_same_group k.started
+  pub groups_once : NoneTwice is_same_group k.started.groups
   pub decided_only : (t : TxnId) → IsListed is_txn k.decided.ids t → IsDecided before t
   pub decided_all : (t : TxnId) → IsDecided before t → IsListed is_txn k.decided.ids t
   pub rows : AreRows before k.ancestors.rows
   pub lacks : AreLacks before k.lacks
-  pub index : IsIndexOf k.index k.decided.ids k.started
+  pub index : IsIndexOf k.index k.decided.ids k.started.groups
 
 -- this is missing, this is what is decided, and the others lack this then
 pub record Finds (k : ServerData) (news : List KnownList) (found : Found) : Type 0 where
@@ -97,11 +96,11 @@ pub record HasRoomToKeep (k : ServerData) (found : Found) : Type 0 where
 
 -- what is decided ran, all is sent, and there is room for what was found
 pub record Acts (plan : Plan) (shard : Shard) (old new : ServerData) (sends more : Collected) (news : List KnownList) (again : Option TxnId) (found : Found) : Type 0 where
-  pub runs : (s : ServerState) → take_all plan (holding s old.rows.store old.started) found.ids.items ≡ holding s new.rows.store new.started
-  pub groups : AreSameGroups old.started new.started
-  pub messages : more.messages ≡ sends.messages ++ all_told plan shard new.waits.waiting.askers new.started news again found.ids.items found.asks.items
+  pub runs : (s : ServerState) → take_all plan (holding s old.rows.store old.started.groups) found.ids.items ≡ holding s new.rows.store new.started.groups
+  pub groups : AreSameGroups old.started.groups new.started.groups
+  pub messages : more.messages ≡ sends.messages ++ all_told plan shard new.waits.waiting.askers new.started.groups news again found.ids.items found.asks.items
   pub told : more.decided ≡ sends.decided ++ found.ids.items
-  pub ran : more.ran ≡ sends.ran ++ accesses_of (all_buffered plan old.started found.ids.items)
+  pub ran : more.ran ≡ sends.ran ++ accesses_of (all_buffered plan old.started.groups found.ids.items)
   pub room : HasRoomToKeep new found
 
 -- ---- what is kept
@@ -109,7 +108,7 @@ pub record Acts (plan : Plan) (shard : Shard) (old new : ServerData) (sends more
 -- what was found is kept
 pub record KeepsFound (old new : ServerData) (news : List KnownList) (found : Found) : Type 0 where
   pub rows : new.rows ≡ old.rows
-  pub started : new.started ≡ old.started
+  pub started : new.started.groups ≡ old.started.groups
   pub deps : new.deps ≡ old.deps
   pub waiting : new.waits.waiting ≡ waiting_after old.waits.waiting news found.asks.items
   pub fetches : new.waits.fetches ≡ open_after old.waits.fetches news found.asks.items
@@ -119,25 +118,21 @@ pub record KeepsFound (old new : ServerData) (news : List KnownList) (found : Fo
   pub index : AreOut found.ids.items old.index new.index
   pub marks : new.marks ≡ old.marks
 
--- lists were learnt, so that these are known, and what comes of it is done: what is kept and sent before and after
-pub record Taken (plan : Plan) (shard : Shard) (known : List KnownList) (old new : ServerData) (before after : Collected) (news : List KnownList) (again : Option TxnId) : Type 0 where
+-- what was planned for these lists: what they decide, what is missing, and the state that it leads to; what is sent before and after
+pub record Taken (plan : Plan) (shard : Shard) (old : ServerData) (state : ServerState) (before after : Collected) (news : List KnownList) (again : Option TxnId) : Type 0 where
   pub ids : List TxnId
   pub asks : List OpenFetch
-  pub chosen : AreNew (IsListed is_txn old.decided.ids) known ids
-  pub missing : asks ≡ map asked_of (filter (is_missing (state_of shard old) known) (united (flat_map (λ list. list.edges) news)))
-  pub deps : new.deps ≡ known
-  pub waiting : new.waits.waiting ≡ waiting_after old.waits.waiting news asks
-  pub fetches : new.waits.fetches ≡ open_after old.waits.fetches news asks
-  pub lacks : AreLacks known new.lacks
-  pub least : AreRows known new.ancestors.rows
-  pub decided : IsRisingListOf (IsListed is_txn (old.decided.ids ++ ids)) new.decided.ids
-  pub index : AreOut ids old.index new.index
-  pub marks : new.marks ≡ old.marks
-  pub runs : (s : ServerState) → take_all plan (holding s old.rows.store old.started) ids ≡ holding s new.rows.store new.started
-  pub groups : AreSameGroups old.started new.started
+  pub chosen : AreNew (IsListed is_txn old.decided.ids) (old.deps ++ news) ids
+  pub missing : asks ≡ map asked_of (filter (is_missing (state_of shard old) (old.deps ++ news)) (united (flat_map (λ list. list.edges) news)))
+  pub own : state.shard ≡ shard
+  pub known : state.lists.known ≡ old.deps ++ news
+  pub waiting : state.lists.waiting ≡ waiting_after old.waits.waiting news asks
+  pub below : state.below ≡ old.marks
+  pub runs : (s : ServerState) → take_all plan (holding s old.rows.store old.started.groups) ids ≡ holding s state.store state.started
+  pub groups : AreSameGroups old.started.groups state.started
   pub told : after.decided ≡ before.decided ++ ids
-  pub ran : after.ran ≡ before.ran ++ accesses_of (all_buffered plan old.started ids)
-  pub sent : after.messages ≡ before.messages ++ all_told plan shard old.waits.waiting.askers new.started news again ids asks
+  pub ran : after.ran ≡ before.ran ++ accesses_of (all_buffered plan old.started.groups ids)
+  pub sent : after.messages ≡ before.messages ++ all_told plan shard old.waits.waiting.askers state.started news again ids asks
 
 -- ---- what it means
 
@@ -146,22 +141,21 @@ abbrev pub with_own : Plan → (again : Option TxnId) → ServerStep → ServerS
 with_own plan again r = record r { sends = r.sends ++ own_again plan r.state.shard r.state.started again }
 
 -- new lists are taught, with all that comes of it
-pub record Teaches (plan : Plan) (shard : Shard) (old new : ServerData) (before after : Collected) (news : List KnownList) (again : Option TxnId) : Type 0 where
+pub record Teaches (plan : Plan) (shard : Shard) (old : ServerData) (state : ServerState) (before after : Collected) (news : List KnownList) (again : Option TxnId) (answer : Handled) : Type 0 where
   pub ids : List TxnId
   pub new_ids : AreNew (IsDecided old.deps) (old.deps ++ news) ids
-  pub shown : Shows (with_own plan again (taught plan (state_of shard old) news ids)) Done (state_of shard new) before after
-  pub groups : AreSameGroups old.started new.started
-  pub sound : IsConsistent new
+  pub shown : Shows (with_own plan again (taught plan (state_of shard old) news ids)) answer state before after
+  pub groups : AreSameGroups old.started.groups state.started
 
 -- a commit was taken, or ignored
-pub record Commits (plan : Plan) (shard : Shard) (old new : ServerData) (before after : Collected) (id : TxnId) (edges : List Dependency) (facts : List KnownList) (answer : Handled) : Type 0 where
+pub record Commits (plan : Plan) (shard : Shard) (old : ServerData) (state : ServerState) (before after : Collected) (id : TxnId) (edges : List Dependency) (facts : List KnownList) (answer : Handled) : Type 0 where
   pub ids : List TxnId
   pub new_ids : AreNew (IsDecided old.deps) (old.deps ++ unless_ignored (commit_fault (state_of shard old) id edges facts) (unknown_of old.deps (carried id edges facts))) ids
   pub shown : Shows (after_commit plan old.decided.ids ids (state_of shard old) id edges facts (commit_fault (state_of shard old) id edges facts)) answer
-      (state_of shard new) before after
+      state before after
 
 -- a list that was asked for was taken, or ignored
-pub record Knows (plan : Plan) (shard : Shard) (old new : ServerData) (before after : Collected) (id : TxnId) (edges : List Dependency) (answer : Handled) : Type 0 where
+pub record Knows (plan : Plan) (shard : Shard) (old : ServerData) (state : ServerState) (before after : Collected) (id : TxnId) (edges : List Dependency) (answer : Handled) : Type 0 where
   pub ids : List TxnId
   pub new_ids : AreNew (IsDecided old.deps) (old.deps ++ unless_ignored (known_fault (state_of shard old) id edges) (unknown_of old.deps (list_with id edges ∷ []))) ids
-  pub shown : Shows (after_known plan ids (state_of shard old) id edges (known_fault (state_of shard old) id edges)) answer (state_of shard new) before after
+  pub shown : Shows (after_known plan ids (state_of shard old) id edges (known_fault (state_of shard old) id edges)) answer state before after

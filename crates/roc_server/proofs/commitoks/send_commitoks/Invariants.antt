@@ -6,4 +6,4 @@ use Rattle.roc_server.proofs.commitoks.send_commitoks.Given as goal
 
 -- those so far that have a group here were answered
 abbrev pub invariant-loop-id : goal.invariant-loop-id
-invariant-loop-id l = HasSent l.initial.outbox l.outbox (map (commitok l.plan l.shard l.started) (filter (λ t. is_here t l.started) (take l.id-index l.ids)))
+invariant-loop-id l = HasSent l.initial.outbox l.outbox (map (commitok l.plan l.shard l.started.groups) (filter (λ t. is_here t l.started.groups) (take l.id-index l.ids)))

@@ -6,4 +6,4 @@ use Rattle.roc_sequence.proofs.Found.{found_holds}
 use Rattle.roc_server.proofs.groups.count_of_groups.Goals as goal
 
 pub groups-requires : goal.groups-requires
-groups-requires c = (found_holds (λ e. IsCallOf c.args.plan.now (group_call e)) (λ e. is_txn e.id c.args.id) c.args.started.now c.in-Some.e.now c.requires (sym c.in-Some.ensures)).procedure
+groups-requires c = (found_holds (λ e. IsCallOf c.args.plan.now (group_call e)) (λ e. is_txn e.id c.args.id) c.args.started.now.groups c.in-Some.e.now c.requires (sym c.in-Some.ensures)).procedure

@@ -6,4 +6,4 @@ use Rattle.roc_server.proofs.KeyedGroups.{passes_up_to}
 use Rattle.roc_server.proofs.groups.differs.Given as goal
 
 abbrev pub invariant-loop-number : goal.invariant-loop-number
-invariant-loop-number l = list_any (passes_up_to l.id (λ (e : StartedGroup). not (e.proc == l.proc && is_nums e.args l.args)) l.number) l.started ≡ false
+invariant-loop-number l = list_any (passes_up_to l.id (λ (e : StartedGroup). not (e.proc == l.proc && is_nums e.args l.args)) l.number) l.started.groups ≡ false

@@ -11,12 +11,12 @@ use Rattle.roc_server.proofs.KeyedGroups.{any_none, any_more, any_all, passes_up
 use Rattle.roc_server.proofs.indexed.take_out_one.Goals as goal
 
 pub loop-number-init : goal.loop-number-init
-loop-number-init c d = ap (λ t. if t then without c.args.id (group_refs_at d c.args.index.now) else group_refs_at d c.args.index.now) (sym (any_none c.args.id (uses_cell d) c.args.started.now))
+loop-number-init c d = ap (λ t. if t then without c.args.id (group_refs_at d c.args.index.now) else group_refs_at d c.args.index.now) (sym (any_none c.args.id (uses_cell d) c.args.started.now.groups))
 
 pub loop-number-preserved : goal.loop-number-preserved
 loop-number-preserved c =
     let id = c.args.id in
-    let es = c.args.started.now in
+    let es = c.args.started.now.groups in
     let n = c.loop-number.number in
     let here = c.group_at-group.ensures ∙ ap (option_and_then (slice_get es)) c.place.ensures.place ∙ found_by_place (is_group id n) es in
     out_more id (λ d. list_any (passes_up_to id (uses_cell d) n) es) _ _ c.args.index.now c.loop-number.index c.take_out_group.new.index
@@ -25,7 +25,7 @@ loop-number-preserved c =
 pub returns : goal.returns
 returns c =
     let id = c.args.id in
-    let es = c.args.started.now in
+    let es = c.args.started.now.groups in
     let old = c.args.index.now in
     let n = c.loop-number.number in
     let below : AreBelow n es = λ e h. let l : e.group < c.numbers-number-end.result = c.numbers-number-end.ensures e h in omega (arith, c.loop-number-test.false) in

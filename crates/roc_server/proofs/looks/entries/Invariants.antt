@@ -8,7 +8,7 @@ use Rattle.roc_server.proofs.looks.entries.Given as goal
 abbrev pub invariant-loop-access : goal.invariant-loop-access
 invariant-loop-access g l = record {
   met : l.met.items
-      ≡ flat_map (λ a. map (edge_from l.starting.shard l.starting.immediate) (filter (is_met l.plan l.groups.kept.now.started l.starting.id l.starting.immediate a)
+      ≡ flat_map (λ a. map (edge_from l.starting.shard l.starting.immediate) (filter (is_met l.plan l.groups.kept.now.started.groups l.starting.id l.starting.immediate a)
       (group_refs_at a.cell l.groups.kept.now.index)))
       (take l.access-index l.cells);
   steps : l.steps

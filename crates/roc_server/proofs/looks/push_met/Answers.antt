@@ -28,7 +28,7 @@ loop-group_ref-preserved g c =
     let group_refs = c.args.group_refs.now in
     let k = c.loop-group_ref.group_ref-index in
     let looked = is_looked_at c.args.plan.now p.id p.immediate in
-    let met = is_met c.args.plan.now c.args.groups.now.kept.now.started p.id p.immediate c.args.access.now in
+    let met = is_met c.args.plan.now c.args.groups.now.kept.now.started.groups p.id p.immediate c.args.access.now in
     let within = c.loop-group_ref-test.true in
     let more = length-filter_more looked group_refs k no_group_ref within in
     record {
@@ -46,12 +46,12 @@ loop-group_ref-preserved g c =
 
 pub is_met-requires : goal.is_met-requires
 is_met-requires g c =
-    all_at (IsGroupRefWithin c.args.plan.now c.args.groups.now.kept.now.started) c.args.group_refs.now c.loop-group_ref.group_ref-index no_group_ref c.requires c.loop-group_ref-test.true
+    all_at (IsGroupRefWithin c.args.plan.now c.args.groups.now.kept.now.started.groups) c.args.group_refs.now c.loop-group_ref.group_ref-index no_group_ref c.requires c.loop-group_ref-test.true
 
 pub returns-clause-met : goal.returns-clause-met
 returns-clause-met g c =
     let p = c.args.starting in
-    let met : GroupRef → Bool = is_met c.args.plan.now c.args.groups.now.kept.now.started p.id p.immediate c.args.access.now in
+    let met : GroupRef → Bool = is_met c.args.plan.now c.args.groups.now.kept.now.started.groups p.id p.immediate c.args.access.now in
     let all : List GroupRef → List Dependency = λ ss. c.args.met.now.items ++ map (edge_from p.shard p.immediate) (filter met ss) in
     c.loop-group_ref.invariant.met ∙ ap all (take_all c.loop-group_ref.group_ref-index c.args.group_refs.now c.loop-group_ref-test.false)
 

@@ -6,7 +6,7 @@ use Rattle.roc_server.proofs.looks.push_met.Given as goal
 abbrev pub invariant-loop-group_ref : goal.invariant-loop-group_ref
 invariant-loop-group_ref g l = record {
   met : l.met.items
-      ≡ l.initial.met.items ++ map (edge_from l.fn.starting.shard l.fn.starting.immediate) (filter (is_met l.plan l.groups.kept.now.started l.fn.starting.id l.fn.starting.immediate l.access)
+      ≡ l.initial.met.items ++ map (edge_from l.fn.starting.shard l.fn.starting.immediate) (filter (is_met l.plan l.groups.kept.now.started.groups l.fn.starting.id l.fn.starting.immediate l.access)
       (take l.group_ref-index l.group_refs));
   steps : l.steps ≡ l.initial.steps + length (filter (is_looked_at l.plan l.fn.starting.id l.fn.starting.immediate) (take l.group_ref-index l.group_refs));
 }

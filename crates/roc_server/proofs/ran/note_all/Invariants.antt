@@ -4,4 +4,4 @@ use Rattle.roc_server.proofs.Accesses.{NotesRest}
 use Rattle.roc_server.proofs.ran.note_all.Given as goal
 
 abbrev pub invariant-loop-id : goal.invariant-loop-id
-invariant-loop-id l = NotesRest l.initial.outbox l.outbox (accesses_of (all_buffered l.plan l.started (drop l.id-index l.ids))) (accesses_of (all_buffered l.plan l.started l.ids))
+invariant-loop-id l = NotesRest l.initial.outbox l.outbox (accesses_of (all_buffered l.plan l.started.groups (drop l.id-index l.ids))) (accesses_of (all_buffered l.plan l.started.groups l.ids))

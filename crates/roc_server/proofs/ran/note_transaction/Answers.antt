@@ -14,12 +14,12 @@ use Rattle.roc_server.proofs.ran.note_transaction.Goals.{in-Some+in_ok-note_if_b
 
 pub note_if_buffered-requires : goal.note_if_buffered-requires
 note_if_buffered-requires c =
-    (found_holds (λ e. IsCallOf c.args.plan.now (group_call e)) (is_group c.args.id c.loop-number.number) c.args.started.now c.in-Some.group.now c.requires (sym c.in-Some.ensures)).group
+    (found_holds (λ e. IsCallOf c.args.plan.now (group_call e)) (is_group c.args.id c.loop-number.number) c.args.started.now.groups c.in-Some.group.now c.requires (sym c.in-Some.ensures)).group
 
 pub loop-number-preserved : goal.loop-number-preserved
 loop-number-preserved c =
     let plan = c.args.plan.now in
-    let started = c.args.started.now in
+    let started = c.args.started.now.groups in
     let number = c.loop-number.number in
     let count = c.count_of_groups-count.result in
     let Noted : Option StartedGroup → Type 0 = λ o. HasRun c.loop-number.outbox c.match-find_group.outbox (accesses_of (buffered plan (option_to_list o))) in

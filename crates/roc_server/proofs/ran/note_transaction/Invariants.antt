@@ -6,4 +6,4 @@ use Rattle.roc_server.proofs.ran.note_transaction.Given as goal
 
 abbrev pub invariant-loop-number : goal.invariant-loop-number
 invariant-loop-number l =
-    NotesRest l.initial.outbox l.outbox (accesses_of (buffered l.plan (groups_from l.id l.started l.number l.count))) (accesses_of (buffered l.plan (groups_from l.id l.started 0 l.count)))
+    NotesRest l.initial.outbox l.outbox (accesses_of (buffered l.plan (groups_from l.id l.started.groups l.number l.count))) (accesses_of (buffered l.plan (groups_from l.id l.started.groups 0 l.count)))

@@ -13,7 +13,7 @@ loop-id-preserved c =
     let next : suc i ≡ i + 1 = omega arith in
     record {
       takes =
-          takes_more c.args.plan.now ids (drop i ids) (drop (i + 1) ids) (get_or ids i none) c.args.started.now c.loop-id.started c.run_transaction.new.started
+          takes_more c.args.plan.now ids (drop i ids) (drop (i + 1) ids) (get_or ids i none) c.args.started.now.groups c.loop-id.started.groups c.run_transaction.new.started.groups
           c.args.rows.now.store c.loop-id.rows.store c.run_transaction.new.rows.store
           (drop-cons ids i none within ∙ ap (λ k. get_or ids i none ∷ drop k ids) next) c.loop-id.invariant.takes c.in_ok-run_transaction.ensures.runs c.in_ok-run_transaction.ensures.groups;
       restored = c.run_transaction.ensures.restored ∙ c.loop-id.invariant.restored;

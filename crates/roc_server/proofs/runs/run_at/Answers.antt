@@ -15,7 +15,7 @@ pub given_by-requires : goal.given_by-requires
 given_by-requires c =
     let lent = c.index-as_slice-at.result in
     let is = c.index-as_slice-at.is ∙ ap (λ (es : List StartedGroup). get_or es c.args.at lent) c.as_slice.ensures in
-    subst (λ e. IsCallOf c.args.plan.now (group_call e)) (sym is) (all_at (λ e. IsCallOf c.args.plan.now (group_call e)) c.args.started.now c.args.at lent c.requires.fits c.requires.exists)
+    subst (λ e. IsCallOf c.args.plan.now (group_call e)) (sym is) (all_at (λ e. IsCallOf c.args.plan.now (group_call e)) c.args.started.now.groups c.args.at lent c.requires.fits c.requires.exists)
 
 runs : (plan : Plan) (lent e : StartedGroup) (at : ℕ) (old new : List StartedGroup) (before after : Store) (given : List ℤ)
     → lent ≡ e → after ≡ (group_run plan (group_call lent) before).store → given ≡ (group_run plan (group_call lent) before).reply → new ≡ slice_set old at (record e { later = Some given }) → RunsAt plan e at old new before after
@@ -33,7 +33,7 @@ returns-clause-runs c =
     on_ok c.keep_given.result (λ kept e stands.
     let lent = c.index-as_slice-at.result in
     let same : lent ≡ e =
-    c.index-as_slice-at.is ∙ ap (λ (es : List StartedGroup). get_or es c.args.at lent) c.as_slice.ensures ∙ get_or_from_slice_get c.args.started.now c.args.at e lent stands in
-    runs c.args.plan.now lent e c.args.at c.args.started.now c.keep_given.new.started c.args.rows.now.store c.given_by.new.rows.store c.in_ok-given.given same c.in_ok-given.ensures.store
+    c.index-as_slice-at.is ∙ ap (λ (es : List StartedGroup). get_or es c.args.at lent) c.as_slice.ensures ∙ get_or_from_slice_get c.args.started.now.groups c.args.at e lent stands in
+    runs c.args.plan.now lent e c.args.at c.args.started.now.groups c.keep_given.new.started.groups c.args.rows.now.store c.given_by.new.rows.store c.in_ok-given.given same c.in_ok-given.ensures.store
     c.in_ok-given.ensures.given (kept e stands))
     c.keep_given.ensures.given

@@ -20,7 +20,7 @@ module _ (plan : Plan) (at : ℕ) (started slice : List StartedGroup) (lent e : 
 
 pub returns-then-is_immediate-clause-runs : goal.returns-then-is_immediate-clause-runs
 returns-then-is_immediate-clause-runs c e stands =
-    left_as_it_is c.args.plan.now c.args.at c.args.started.now c.as_slice.result.now c.index-as_slice-at.result e c.as_slice.ensures c.index-as_slice-at.is stands c.args.rows.now.store c.if-is_immediate.ensures
+    left_as_it_is c.args.plan.now c.args.at c.args.started.now.groups c.as_slice.result.now c.index-as_slice-at.result e c.as_slice.ensures c.index-as_slice-at.is stands c.args.rows.now.store c.if-is_immediate.ensures
 
 on_ok : {A B : Type 0} {E : Type 0} (r : Result (Unit {0}) E) → (A → B) → OnOk r A → OnOk r B
 on_ok (Ok u) f a = f a
@@ -30,6 +30,6 @@ pub returns-clause-runs : goal.returns-clause-runs
 returns-clause-runs c =
     on_ok c.run_at.result
     (λ ran e stands.
-    runs c.args.plan.now c.args.at c.args.started.now c.as_slice.result.now c.index-as_slice-at.result e c.as_slice.ensures c.index-as_slice-at.is stands c.run_at.new.started c.args.rows.now.store c.run_at.new.rows.store c.if-is_immediate.ensures
+    runs c.args.plan.now c.args.at c.args.started.now.groups c.as_slice.result.now c.index-as_slice-at.result e c.as_slice.ensures c.index-as_slice-at.is stands c.run_at.new.started.groups c.args.rows.now.store c.run_at.new.rows.store c.if-is_immediate.ensures
     (ran e stands))
     c.run_at.ensures.runs

@@ -10,7 +10,7 @@ pub loop-number-preserved : goal.loop-number-preserved
 loop-number-preserved c =
     record {
       runs =
-          runs_more c.args.plan.now c.args.id c.count_of_groups-count.result c.loop-number.number c.args.started.now c.loop-number.started c.run_number.new.started
+          runs_more c.args.plan.now c.args.id c.count_of_groups-count.result c.loop-number.number c.args.started.now.groups c.loop-number.started.groups c.run_number.new.started.groups
           c.args.rows.now.store c.loop-number.rows.store c.run_number.new.rows.store (omega arith) c.loop-number.invariant.runs c.in_ok-run_number.ensures.runs c.in_ok-run_number.ensures.groups;
       restored = c.run_number.ensures.restored ∙ c.loop-number.invariant.restored;
       saved = c.run_number.ensures.saved ∙ c.loop-number.invariant.saved;
@@ -19,10 +19,10 @@ loop-number-preserved c =
 pub returns-clause-runs : goal.returns-clause-runs
 returns-clause-runs c s =
     let plan = c.args.plan.now in
-    let first = c.args.started.now in
+    let first = c.args.started.now.groups in
     let counted : c.count_of_groups-count.result ≡ count_of_groups plan (find (λ e. is_txn e.id c.args.id) first) =
     c.count_of_groups-count.ensures in
     let all : c.count_of_groups-count.result ≤ c.loop-number.number = omega arith in
     ap (λ es. run_groups plan (holding s c.args.rows.now.store first) (buffered plan es)) (groups_here-from plan c.args.id first c.count_of_groups-count.result counted)
     ∙ sym (c.loop-number.invariant.runs.runs s)
-    ∙ ap (λ es. run_groups plan (holding s c.loop-number.rows.store c.loop-number.started) (buffered plan es)) (groups_from-end c.args.id first c.loop-number.number c.count_of_groups-count.result all)
+    ∙ ap (λ es. run_groups plan (holding s c.loop-number.rows.store c.loop-number.started.groups) (buffered plan es)) (groups_from-end c.args.id first c.loop-number.number c.count_of_groups-count.result all)

@@ -5,7 +5,7 @@ use Rattle.roc_server.proofs.runs.run_transaction.Given as goal
 
 abbrev pub invariant-loop-number : goal.invariant-loop-number
 invariant-loop-number l = record {
-  runs : RunsFrom l.plan l.id l.count l.number l.initial.started l.started l.initial.rows.store l.rows.store;
-  restored : restored l.earlier.items l.started ≡ restored l.initial.earlier.items l.initial.started;
+  runs : RunsFrom l.plan l.id l.count l.number l.initial.started.groups l.started.groups l.initial.rows.store l.rows.store;
+  restored : restored l.earlier.items l.started.groups ≡ restored l.initial.earlier.items l.initial.started.groups;
   saved : l.rows.saved ≡ l.initial.rows.saved;
 }

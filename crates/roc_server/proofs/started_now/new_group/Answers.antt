@@ -41,6 +41,6 @@ returns-clause-new c =
       decided = refl;
       ancestors = refl;
       lacks = refl;
-      index = refl;
+      index = λ d. refl;
       marks = refl;
     }

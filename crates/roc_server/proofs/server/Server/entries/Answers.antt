@@ -1,46 +1,69 @@
-use Rattle.std.proofs.Common.{◌≡◌, ◌∙◌, ◌+◌, ◌≤◌, Bool, List, length, Result, Ok, Err, IfOk, ap, subst}
+use Rattle.std.proofs.Common.{◌≡◌, ◌+◌, ◌≤◌, ℕ, Bool, List, length, map, filter, IfOk, refl, sym, ap, subst}
+use Rattle.roc_sequence.specs.Places.{NoneTwice}
 use Rattle.roc_base.specs.declared.id.TxnId.{TxnId}
-use Rattle.roc_depgraph.specs.declared.known.KnownList.{KnownList}
+use Rattle.roc_base.specs.Edge.{Dependency}
+use Rattle.roc_base.specs.Edges.{united}
 use Rattle.roc_depgraph.specs.Deps.{IsDecided}
 use Rattle.roc_depgraph.proofs.RisingLists.{rising_one}
 use Rattle.roc_server.specs.declared.server_data.ServerData.{ServerData}
+use Rattle.roc_server.specs.declared.started.StartedGroup.{StartedGroup}
 use Rattle.roc_server_lists.specs.New.{AreDecided}
-use Rattle.roc_server.specs.Start.{is_immediate, entries_for, users}
-use Rattle.roc_server.specs.State.{ServerState}
-use Rattle.roc_server.specs.Inner.ServerData.{state_of, IsConsistent}
+use Rattle.roc_server.specs.Fits.{AreGroupsOf, ServerFits}
+use Rattle.roc_server.specs.Start.{conflicts_before, edge_to, is_immediate, entries_for, users}
+use Rattle.roc_server.specs.State.{Serving, ServerState}
+use Rattle.roc_server.specs.Inner.Indexed.{IsIndexOf}
+use Rattle.roc_server.specs.Inner.Planned.{kept_before}
+use Rattle.roc_server.specs.Inner.ServerData.{is_same_group, state_of}
+use Rattle.roc_server.proofs.ReadsBefore.{as_many_users, fits_now, for_decided, index_now, kept_decided, once_now, over_same, same_before}
 use Rattle.roc_server.proofs.server.Server.entries.Goals as goal
 
-kept_decided : (k : ServerData) → IsConsistent k → AreDecided k.deps k.decided.ids
-kept_decided k sound = record { rising = sound.decided_rising; sound = sound.decided_only; complete = sound.decided_all }
+pub entries-requires-clause-fits : goal.entries-requires-clause-fits
+entries-requires-clause-fits g c =
+    subst (λ (l : ServerData). AreGroupsOf c.args.plan.now l.started.groups) (sym c.new-groups.ensures)
+    (fits_now c.args.plan.now c.self.inside.kept c.self.inside.ahead c.self.invariant (subst (λ (v : Serving). ServerFits c.args.plan.now v.state) (sym c.self.view_is) c.requires.fits))
 
--- what holds of the decided ones as they are kept holds of any list of exactly these
-for_each : {A E : Type 0} (r : Result A E) (x : List TxnId → A) (known : List KnownList) (kept : List TxnId) → AreDecided known kept → IfOk r (λ e. e ≡ x kept) → IfOk r (λ e. (left_out : List TxnId) → AreDecided known left_out → e ≡ x left_out)
-for_each (Err e) x known kept own h = tt
-for_each (Ok e) x known kept own h = λ left_out p. h ∙ ap x (rising_one (IsDecided known) kept left_out own p)
+pub entries-requires-clause-once : goal.entries-requires-clause-once
+entries-requires-clause-once g c = subst (λ (l : ServerData). NoneTwice is_same_group l.started.groups) (sym c.new-groups.ensures) (once_now c.self.inside.kept c.self.inside.ahead c.self.invariant)
+
+pub entries-requires-clause-index : goal.entries-requires-clause-index
+entries-requires-clause-index g c =
+    subst (λ (l : ServerData). IsIndexOf l.index l.decided.ids l.started.groups) (sym c.new-groups.ensures) (index_now c.self.inside.kept c.self.inside.ahead c.self.invariant)
 
 pub returns-clause-entries : goal.returns-clause-entries
 returns-clause-entries g c =
     let k = c.self.inside.kept in
+    let ahead = c.self.inside.ahead in
+    let was = kept_before k ahead in
+    let shard = c.self.inside.shard in
     let plan = c.args.plan.now in
     let cells = c.args.cells.now in
-    let now = state_of c.self.inside.shard k in
+    let immediate = c.is_immediate.result in
     let P : ServerState → Bool → Type 0 = λ s b. IfOk c.entries.result (λ e. (left_out : List TxnId) → AreDecided s.lists.known left_out → e ≡ entries_for plan left_out s c.args.id b cells) in
-    let found : IfOk c.entries.result (λ e. e ≡ entries_for plan k.decided.ids now c.args.id c.is_immediate.result cells) =
-    subst (λ (l : ServerData). IfOk c.entries.result (λ e. e ≡ entries_for plan l.decided.ids (state_of c.self.inside.shard l) c.args.id c.is_immediate.result cells)) c.new-groups.ensures
-    c.entries.ensures.entries in
-    let here : P now c.is_immediate.result =
-    for_each c.entries.result (λ left_out. entries_for plan left_out now c.args.id c.is_immediate.result cells) k.deps k.decided.ids (kept_decided k c.self.invariant) found in
-    subst (λ s. P s (is_immediate c.args.class)) c.self.view_is (subst (P now) c.is_immediate.ensures here)
+    let over : List TxnId → List StartedGroup → List Dependency = λ ids es. united (map (edge_to shard immediate) (filter (conflicts_before plan ids c.args.id immediate cells) es)) in
+    let found : IfOk c.entries.result (λ e. e ≡ over k.decided.ids k.started.groups) =
+    subst (λ (l : ServerData). IfOk c.entries.result (λ e. e ≡ over l.decided.ids l.started.groups)) c.new-groups.ensures c.entries.ensures.entries in
+    let moved : IfOk c.entries.result (λ e. e ≡ over k.decided.ids was.started.groups) =
+    subst (λ es. IfOk c.entries.result (λ e. e ≡ es))
+    (ap united (over_same (edge_to shard immediate) (conflicts_before plan k.decided.ids c.args.id immediate cells) (λ e. refl) (λ e. refl) was.started.groups k.started.groups (same_before k ahead c.self.invariant)))
+    found in
+    let here : P (state_of shard was) immediate =
+    for_decided c.entries.result (λ e. e) (λ left_out. entries_for plan left_out (state_of shard was) c.args.id immediate cells) was.deps k.decided.ids (kept_decided k ahead c.self.invariant) moved in
+    subst (λ (v : Serving). P v.state (is_immediate c.args.class)) c.self.view_is (subst (P (state_of shard was)) c.is_immediate.ensures here)
 
 pub returns-clause-steps : goal.returns-clause-steps
 returns-clause-steps g c =
     let k = c.self.inside.kept in
+    let ahead = c.self.inside.ahead in
+    let was = kept_before k ahead in
+    let shard = c.self.inside.shard in
     let plan = c.args.plan.now in
     let cells = c.args.cells.now in
-    let now = state_of c.self.inside.shard k in
+    let immediate = c.is_immediate.result in
     let Bound : ServerState → Bool → List TxnId → Type 0 = λ s b left_out. c.entries.new.steps ≤ c.args.steps.now + length (users plan left_out b cells s.started) in
     let P : ServerState → Bool → Type 0 = λ s b. (left_out : List TxnId) → AreDecided s.lists.known left_out → Bound s b left_out in
-    let taken : Bound now c.is_immediate.result k.decided.ids =
-    subst (λ (l : ServerData). c.entries.new.steps ≤ c.args.steps.now + length (users plan l.decided.ids c.is_immediate.result cells l.started)) c.new-groups.ensures c.entries.ensures.steps in
-    let here : P now c.is_immediate.result = λ left_out p. subst (Bound now c.is_immediate.result) (rising_one (IsDecided k.deps) k.decided.ids left_out (kept_decided k c.self.invariant) p) taken in
-    subst (λ s. P s (is_immediate c.args.class)) c.self.view_is (subst (P now) c.is_immediate.ensures here)
+    let taken : c.entries.new.steps ≤ c.args.steps.now + length (users plan k.decided.ids immediate cells k.started.groups) =
+    subst (λ (l : ServerData). c.entries.new.steps ≤ c.args.steps.now + length (users plan l.decided.ids immediate cells l.started.groups)) c.new-groups.ensures c.entries.ensures.steps in
+    let moved : Bound (state_of shard was) immediate k.decided.ids =
+    subst (λ (n : ℕ). c.entries.new.steps ≤ c.args.steps.now + n) (as_many_users plan k.decided.ids immediate cells was.started.groups k.started.groups (same_before k ahead c.self.invariant)) taken in
+    let here : P (state_of shard was) immediate = λ left_out p. subst (Bound (state_of shard was) immediate) (rising_one (IsDecided was.deps) k.decided.ids left_out (kept_decided k ahead c.self.invariant) p) moved in
+    subst (λ (v : Serving). P v.state (is_immediate c.args.class)) c.self.view_is (subst (P (state_of shard was)) c.is_immediate.ensures here)

@@ -1,0 +1,17 @@
+use Rattle.std.proofs.Common.{◌∙◌}
+use Rattle.roc_server.specs.Inner.Planned.{serving}
+use Rattle.roc_server.specs.Inner.ServerData.{state_of}
+use Rattle.roc_server.proofs.MadeSteps.{groups_from, made_once}
+use Rattle.roc_server.proofs.handling.make_once.Goals as goal
+
+pub make-requires-clause-fits : goal.make-requires-clause-fits
+make-requires-clause-fits c =
+    groups_from c.args.plan.now (state_of c.args.shard c.let_go.new.kept) (serving c.args.shard c.args.kept.now c.args.ahead.now).state (c.let_go.ensures.state c.args.shard) c.requires.fits.0
+
+pub returns-clause-state : goal.returns-clause-state
+returns-clause-state c = c.make.ensures.state ∙ c.let_go.ensures.state c.args.shard
+
+pub returns-clause-fits : goal.returns-clause-fits
+returns-clause-fits c =
+    made_once c.make.result c.args.plan.now c.args.shard c.make.new.kept c.make.new.ahead (state_of c.args.shard c.let_go.new.kept) (serving c.args.shard c.args.kept.now c.args.ahead.now).state c.args.msg.now
+    c.make.ensures.made c.make.ensures.some c.make.ensures.none c.make.ensures.state (c.let_go.ensures.state c.args.shard) c.requires.fits.0

@@ -1,0 +1,10 @@
+use Rattle.std.proofs.Common.{◌↔◌, IsTrue, subst}
+use Rattle.roc_depgraph.specs.Deps.{IsDecided}
+use Rattle.roc_server.specs.State.{Serving}
+use Rattle.roc_server.proofs.ReadsBefore.{decided_before}
+use Rattle.roc_server.proofs.server.Server.decided.Goals as goal
+
+pub returns : goal.returns
+returns c =
+    subst (λ (v : Serving). IsTrue c.contains.result ↔ IsDecided v.state.lists.known c.args.id) c.self.view_is
+    (decided_before c.self.inside.kept c.self.inside.ahead c.args.id c.contains.result c.self.invariant c.contains.ensures)

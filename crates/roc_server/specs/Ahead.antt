@@ -1,0 +1,44 @@
+-- What was made ahead for a message, so that the message cannot fail for want of memory: docs/PROTOCOL.md, "Want of memory"
+use Rattle.std.specs.Prelude.{◌≡◌, Bool, true, false, Option, Some, IfSome, ◌⊎◌}
+use Rattle.roc_msg.specs.declared.msg.Msg.{Msg}
+use Rattle.roc_msg.specs.declared.msg.Msg.TheVariants.{Start, Commit, Fetch, Known}
+use Rattle.roc_msg.specs.Outbox.{Collected, HasRoomFor}
+use Rattle.roc_plan.specs.Groups.{Plan}
+use Rattle.roc_server.specs.Fits.{AreGroupsOf, ServerFits}
+use Rattle.roc_server.specs.Runs.{accesses_of}
+use Rattle.roc_server.specs.State.{MadeAhead, ServerState, ServerStep, Serving}
+use Rattle.roc_server.specs.Step.{Handles}
+
+-- it is what comes of its message under the plan
+pub record IsMadeFor (plan : Plan) (s : ServerState) (made : MadeAhead) : Type 0 where
+  pub step : ServerStep
+  pub handles : Handles plan s made.msg step
+  pub answers : step.answer ≡ made.answer
+  pub keeps : step.state ≡ made.state
+  pub sends : made.sends.messages ≡ step.sends
+  pub decides : made.sends.decided ≡ step.decided
+  pub ran : made.sends.ran ≡ accesses_of step.ran
+  pub groups : AreGroupsOf plan made.state.started
+
+-- what a server holds is of a plan, and so is what it made ahead
+abbrev pub ServingFits : Plan → Serving → Type 0
+ServingFits plan v = ServerFits plan v.state × IfSome v.ahead (IsMadeFor plan v.state)
+
+-- the kinds that take memory: no server answers want of memory to any other
+abbrev pub needs_room : Msg → Bool
+needs_room (Start id proc group args inputs) = true
+needs_room (Commit id edges facts) = true
+needs_room (Fetch id asker) = true
+needs_room (Known id edges) = true
+needs_room msg = false
+
+-- all of it was made ahead, and the outbox has room for what is sent
+pub record HasAllMade (v : Serving) (outbox : Collected) (msg : Msg) : Type 0 where
+  pub made : MadeAhead
+  pub is : v.ahead ≡ Some made
+  pub of : made.msg ≡ msg
+  pub room : HasRoomFor outbox made.sends
+
+-- the room for a message is there
+abbrev pub HasRoom : Serving → Collected → Msg → Type 0
+HasRoom v outbox msg = (needs_room msg ≡ false) ⊎ HasAllMade v outbox msg

@@ -1,0 +1,308 @@
+//! A message is taken, or what comes of it is made ahead.
+ghost use Rattle.std.specs.Prelude.{◌≡◌, true, false, None, IsOk, IsSome, IsTrue, IfOk, IfSome, OnOk, OnErr};
+ghost use Rattle.roc_base.specs.declared.node.Shard.{Shard as At};
+ghost use Rattle.roc_msg.specs.Outbox.{HasRoomFor, HoldsAlso, HoldsSame};
+ghost use Rattle.roc_server.specs.Ahead.{needs_room, HasRoom, IsMadeFor, ServingFits};
+ghost use Rattle.roc_server.specs.Fits.{AreGroupsOf};
+ghost use Rattle.roc_server.specs.Inner.AtOnce.{at_once};
+ghost use Rattle.roc_server.specs.Inner.Planned.{after, before, serving, IsHeld, IsPlanned};
+ghost use Rattle.roc_server.specs.Inner.ServerData.{state_of, IsConsistent};
+ghost use Rattle.roc_server.specs.State.{hearing, ServerState, ServerStep};
+ghost use Rattle.roc_server.specs.Step.{Handles, Shows};
+
+use crate::Handled;
+use crate::ahead::Ahead;
+use crate::changes::{commit, undo};
+use crate::planned::{Change, Planned};
+use crate::planning::plan_message;
+use crate::same_msg::is_same;
+use crate::server_data::ServerData;
+use roc_base::{NoMemory, Shard};
+use roc_msg::{Msg, Outbox, Reason};
+use roc_plan::Plan;
+use std::alloc::Global;
+
+// Takes a message, or ignores it: as it was made ahead, where it was.
+pub(crate) fn handle(
+    alloc: Global,
+    plan: &Plan,
+    shard: Shard,
+    kept: &mut ServerData,
+    ahead: &mut Option<Ahead>,
+    msg: &Msg,
+    outbox: &mut Outbox,
+) -> Result<Handled, NoMemory>
+    requires fits { ServingFits plan.now (serving shard kept.old ahead.old) }
+    requires held { IsHeld kept.old ahead.old }
+    ensures step { IfOk result (λ answer. (r : ServerStep) × Handles plan.now (serving shard kept.old ahead.old).state msg.now r × Shows r answer (state_of shard kept.new) outbox.old outbox.new) }
+    ensures fits { ServingFits plan.now (serving shard kept.new ahead.new) }
+    ensures room { HasRoom (serving shard kept.old ahead.old) outbox.old msg.now → IsOk result }
+    ensures err { OnErr result ((state_of shard kept.new ≡ (serving shard kept.old ahead.old).state) × HoldsSame outbox.old outbox.new) }
+    ensures none { ahead.new ≡ None }
+    ensures sound { IsConsistent kept.new }
+{
+    if !needs_room(msg) {
+        let_go(kept, ahead);
+        return Ok(take_at_once(kept, msg));
+    }
+    if is_made(ahead, msg) {
+        return take_made(kept, ahead, outbox);
+    }
+    let_go(kept, ahead);
+    take(alloc, plan, shard, kept, msg, outbox)
+}
+
+// Makes ahead what comes of a message, with the room in the outbox: what the message will be answered.
+pub(crate) fn ready(
+    alloc: Global,
+    plan: &Plan,
+    shard: Shard,
+    kept: &mut ServerData,
+    ahead: &mut Option<Ahead>,
+    msg: &Msg,
+    outbox: &mut Outbox,
+) -> Result<Handled, NoMemory>
+    requires fits { ServingFits plan.now (serving shard kept.old ahead.old) }
+    requires held { IsHeld kept.old ahead.old }
+    ensures answer { IfOk result (λ answer. (r : ServerStep) × Handles plan.now (serving shard kept.old ahead.old).state msg.now r × (r.answer ≡ answer)) }
+    ensures fits { ServingFits plan.now (serving shard kept.new ahead.new) }
+    ensures room { OnOk result (HasRoom (serving shard kept.new ahead.new) outbox.new msg.now) }
+    ensures state { (serving shard kept.new ahead.new).state ≡ (serving shard kept.old ahead.old).state }
+    ensures same { HoldsSame outbox.old outbox.new }
+    ensures held { IsHeld kept.new ahead.new }
+{
+    if !needs_room(msg) {
+        return Ok(answer_at_once(msg));
+    }
+    make_once(alloc, plan, shard, kept, ahead, msg)?;
+    make_room(ahead, outbox)
+}
+
+// Plans a message ahead, unless it is. What was made ahead for another one is given up.
+fn make_once(
+    alloc: Global,
+    plan: &Plan,
+    shard: Shard,
+    kept: &mut ServerData,
+    ahead: &mut Option<Ahead>,
+    msg: &Msg,
+) -> Result<(), NoMemory>
+    requires kind { needs_room msg.now ≡ true }
+    requires fits { ServingFits plan.now (serving shard kept.old ahead.old) }
+    requires held { IsHeld kept.old ahead.old }
+    ensures made { OnOk result (IsSome ahead.new × IfSome ahead.new (λ made. made.msg ≡ msg.now)) }
+    ensures fits { ServingFits plan.now (serving shard kept.new ahead.new) }
+    ensures state { (serving shard kept.new ahead.new).state ≡ (serving shard kept.old ahead.old).state }
+    ensures held { IsHeld kept.new ahead.new }
+{
+    if is_made(ahead, msg) {
+        return Ok(());
+    }
+    let_go(kept, ahead);
+    make(alloc, plan, shard, kept, ahead, msg)
+}
+
+// Whether a message is of a kind that takes memory.
+fn needs_room(msg: &Msg) -> bool
+    ensures { result ≡ needs_room msg.now }
+{
+    match msg {
+        Msg::Start { .. } | Msg::Commit { .. } | Msg::Fetch { .. } | Msg::Known { .. } => true,
+        _ => false,
+    }
+}
+
+// Whether what comes of this message was made ahead.
+fn is_made(ahead: &Option<Ahead>, msg: &Msg) -> bool
+    requires { needs_room msg.now ≡ true }
+    ensures is { IsTrue result → IsSome ahead.now × IfSome ahead.now (λ made. made.msg ≡ msg.now) }
+    ensures all { IfSome ahead.now (λ made. made.msg ≡ msg.now → IsTrue result) }
+{
+    match ahead {
+        Some(made) => is_same(&made.msg, msg),
+        None => false,
+    }
+}
+
+// What was made ahead, if anything was, is given up.
+fn let_go(kept: &mut ServerData, ahead: &mut Option<Ahead>)
+    requires { IsHeld kept.old ahead.old }
+    ensures state { (shard : At) → state_of shard kept.new ≡ (serving shard kept.old ahead.old).state }
+    ensures none { ahead.new ≡ None }
+    ensures sound { IsConsistent kept.new }
+{
+    if let Some(made) = ahead.take() {
+        undo(kept, made.change);
+    }
+}
+
+// Takes a message of a kind that takes no memory, or ignores it.
+fn take_at_once(kept: &mut ServerData, msg: &Msg) -> Handled
+    requires { IsConsistent kept.old }
+    ensures answer { (s : ServerState) → (at_once s msg.now).answer ≡ result }
+    ensures state { needs_room msg.now ≡ false → (shard : At) → (at_once (state_of shard kept.old) msg.now).state ≡ state_of shard kept.new }
+    ensures sound { IsConsistent kept.new }
+{
+    match msg {
+        Msg::Ended { coord, below } => hear(kept, *coord, *below),
+        Msg::Settled { id, below } => hear(kept, id.coord, *below),
+        _ => {}
+    }
+    answer_at_once(msg)
+}
+
+// What it is answered.
+fn answer_at_once(msg: &Msg) -> Handled
+    ensures { (s : ServerState) → (at_once s msg.now).answer ≡ result }
+{
+    match msg {
+        Msg::Ended { .. } => Handled::Done,
+        Msg::Settled { .. } => Handled::Gone,
+        _ => Handled::Ignored(Reason::Foreign),
+    }
+}
+
+// Hears the watermark of a coordinator.
+fn hear(kept: &mut ServerData, coord: u16, mark: u32)
+    requires { IsConsistent kept.old }
+    ensures heard { (shard : At) → state_of shard kept.new ≡ hearing (state_of shard kept.old) coord mark }
+    ensures sound { IsConsistent kept.new }
+{
+    kept.marks.raise(coord, mark);
+}
+
+// Takes what was made ahead.
+fn take_made(
+    kept: &mut ServerData,
+    ahead: &mut Option<Ahead>,
+    outbox: &mut Outbox,
+) -> Result<Handled, NoMemory>
+    requires held { IsHeld kept.old ahead.old }
+    requires made { IsSome ahead.old }
+    ensures ok { IfOk result (λ answer. (shard : At) → IfSome (serving shard kept.old ahead.old).ahead
+        (λ made. (made.answer ≡ answer) × (made.state ≡ state_of shard kept.new) × HoldsAlso outbox.old outbox.new made.sends)) }
+    ensures err { OnErr result (((shard : At) → state_of shard kept.new ≡ (serving shard kept.old ahead.old).state) × HoldsSame outbox.old outbox.new) }
+    ensures room { IfSome ahead.old (λ made. HasRoomFor outbox.old made.sends → IsOk result) }
+    ensures none { ahead.new ≡ None }
+    ensures sound { IsConsistent kept.new }
+{
+    match ahead.take() {
+        Some(
+            Ahead {
+                msg: _,
+                answer,
+                change,
+                sends,
+            },
+        ) => finish(kept, answer, change, sends, outbox),
+        None => unreachable!(),
+    }
+}
+
+// Takes a message, or ignores it: it is planned, and done.
+fn take(
+    alloc: Global,
+    plan: &Plan,
+    shard: Shard,
+    kept: &mut ServerData,
+    msg: &Msg,
+    outbox: &mut Outbox,
+) -> Result<Handled, NoMemory>
+    requires kind { needs_room msg.now ≡ true }
+    requires fits { AreGroupsOf plan.now kept.old.started.groups }
+    requires sound { IsConsistent kept.old }
+    ensures step { IfOk result (λ answer. (r : ServerStep) × Handles plan.now (state_of shard kept.old) msg.now r × Shows r answer (state_of shard kept.new) outbox.old outbox.new) }
+    ensures fits { AreGroupsOf plan.now kept.new.started.groups }
+    ensures err { OnErr result ((state_of shard kept.new ≡ state_of shard kept.old) × HoldsSame outbox.old outbox.new) }
+    ensures sound { IsConsistent kept.new }
+{
+    let mut sends = Outbox::new(alloc);
+    let Planned { answer, change } = plan_message(alloc, plan, shard, kept, msg, &mut sends)?;
+    finish(kept, answer, change, sends, outbox)
+}
+
+// What was planned is done, where there is room to send what is to be sent; else it is undone.
+fn finish(
+    kept: &mut ServerData,
+    answer: Handled,
+    change: Change,
+    sends: Outbox,
+    outbox: &mut Outbox,
+) -> Result<Handled, NoMemory>
+    requires { IsPlanned kept.old change }
+    ensures answer { IfOk result (λ given. answer ≡ given) }
+    ensures state { OnOk result ((shard : At) → state_of shard kept.new ≡ after shard kept.old change) }
+    ensures sent { OnOk result (HoldsAlso outbox.old outbox.new sends) }
+    ensures err { OnErr result (((shard : At) → state_of shard kept.new ≡ state_of shard (before kept.old change)) × HoldsSame outbox.old outbox.new) }
+    ensures room { HasRoomFor outbox.old sends → IsOk result }
+    ensures sound { IsConsistent kept.new }
+{
+    match outbox.append(sends) {
+        Ok(()) => {
+            commit(kept, change);
+            Ok(answer)
+        }
+        Err(NoMemory) => {
+            undo(kept, change);
+            Err(NoMemory)
+        }
+    }
+}
+
+// Plans a message ahead, where nothing is made ahead.
+fn make(
+    alloc: Global,
+    plan: &Plan,
+    shard: Shard,
+    kept: &mut ServerData,
+    ahead: &mut Option<Ahead>,
+    msg: &Msg,
+) -> Result<(), NoMemory>
+    requires kind { needs_room msg.now ≡ true }
+    requires none { ahead.old ≡ None }
+    requires fits { AreGroupsOf plan.now kept.old.started.groups }
+    requires sound { IsConsistent kept.old }
+    ensures made { OnOk result (IfSome (serving shard kept.new ahead.new).ahead (λ made. (made.msg ≡ msg.now) × IsMadeFor plan.now (state_of shard kept.old) made)) }
+    ensures some { OnOk result (IsSome ahead.new) }
+    ensures state { (serving shard kept.new ahead.new).state ≡ state_of shard kept.old }
+    ensures none { OnErr result (ahead.new ≡ None) }
+    ensures held { IsHeld kept.new ahead.new }
+{
+    let copy = msg.try_clone()?;
+    let mut sends = Outbox::new(alloc);
+    let Planned { answer, change } = plan_message(alloc, plan, shard, kept, msg, &mut sends)?;
+    *ahead = Some(Ahead {
+        msg: copy,
+        answer,
+        change,
+        sends,
+    });
+    Ok(())
+}
+
+// Takes the room in the outbox for what was made ahead: its answer.
+fn make_room(ahead: &Option<Ahead>, outbox: &mut Outbox) -> Result<Handled, NoMemory>
+    requires { IsSome ahead.now }
+    ensures answer { IfOk result (λ answer. IfSome ahead.now (λ made. made.answer ≡ answer)) }
+    ensures room { OnOk result (IfSome ahead.now (λ made. HasRoomFor outbox.new made.sends)) }
+    ensures same { HoldsSame outbox.old outbox.new }
+{
+    match ahead {
+        Some(made) => reserve(made, outbox),
+        None => unreachable!(),
+    }
+}
+
+fn reserve(made: &Ahead, outbox: &mut Outbox) -> Result<Handled, NoMemory>
+    ensures answer { IfOk result (λ answer. made.now.answer ≡ answer) }
+    ensures room { OnOk result (HasRoomFor outbox.new made.now.sends) }
+    ensures same { HoldsSame outbox.old outbox.new }
+{
+    let sends = &made.sends;
+    outbox.reserve(
+        sends.messages().len(),
+        sends.decided().len(),
+        sends.ran().len(),
+    )?;
+    Ok(made.answer)
+}
