@@ -11,12 +11,12 @@ use Rattle.roc_depgraph.proofs.Laws.{ancestor_decided}
 use Rattle.roc_depgraph.proofs.Chains.{other_chain}
 use Rattle.roc_component.specs.Components.{Mates}
 use Rattle.roc_plan.specs.Groups.{Plan}
-use Rattle.roc_whole.specs.Serial.{start_store}
 use Rattle.roc_law_log.specs.Scheme.{Scheme, IsSoundScheme}
 use Rattle.roc_server.specs.State.{ServerState}
-use Rattle.roc_protocol.specs.PlanAssumptions.{HasSchemes}
+use Rattle.roc_protocol.specs.PlanAssumptions.{HasSchemesFrom}
+use Rattle.roc_protocol.specs.Beginnings.{Beginning, IsBeginning}
 use Rattle.roc_protocol.specs.World.{World}
-use Rattle.roc_protocol.specs.Run.{Stepped, IsRun}
+use Rattle.roc_protocol.specs.Run.{Stepped, IsRunFrom}
 use Rattle.roc_protocol.specs.Inner.Given.{LogLaws, StoreLaws}
 use Rattle.roc_protocol.proofs.Facts.{known_has}
 use Rattle.roc_protocol.proofs.Networks.{Good, one_union}
@@ -25,28 +25,28 @@ use Rattle.roc_protocol.proofs.Finals.{networked}
 use Rattle.roc_protocol.proofs.Serial as serial
 use Rattle.roc_protocol.proofs.Transactions.{transaction_or_none, HasTransaction}
 
-module _ (plan : Plan) (schemes : HasSchemes plan) (laws : (S : Scheme) → IsSoundScheme S → LogLaws S (start_store plan.program)) (stores : StoreLaws) (coords : ℕ) (steps : List Stepped) (w : World) (run : IsRun plan coords steps w) where
+module _ (plan : Plan) (start : Beginning) (begins : IsBeginning plan start) (schemes : HasSchemesFrom plan start.store) (laws : (S : Scheme) → IsSoundScheme S → LogLaws S start.store) (stores : StoreLaws) (coords : ℕ) (steps : List Stepped) (w : World) (run : IsRunFrom plan start coords steps w) where
   -- a list that two servers know is one
   known_one : HasTransaction plan → (n m : ℕ) (s v : ServerState) → slice_get w.servers n ≡ Some s → slice_get w.servers m ≡ Some v → (t : TxnId) → IsKnown s.lists.known t → IsKnown v.lists.known t → entries_of s.lists.known t ≡ entries_of v.lists.known t
   known_one some n m s v there at t h k =
-      let x = serial.logged plan schemes laws stores coords steps w run some in
-      let S = serial.S plan schemes laws stores coords steps w run some in
-      let asked = serial.asked plan schemes laws stores coords steps w run some in
-      let is = serial.is plan schemes laws stores coords steps w run some in
-      let l = laws S (serial.sound plan schemes laws stores coords steps w run some) in
-      let nw = networked plan schemes laws stores coords steps w run some in
+      let x = serial.logged plan start begins schemes laws stores coords steps w run some in
+      let S = serial.S plan start begins schemes laws stores coords steps w run some in
+      let asked = serial.asked plan start begins schemes laws stores coords steps w run some in
+      let is = serial.is plan start begins schemes laws stores coords steps w run some in
+      let l = laws S (serial.sound plan start begins schemes laws stores coords steps w run some) in
+      let nw = networked plan start begins schemes laws stores coords steps w run some in
       let a = known_has s.lists.known t h in
       let b = known_has v.lists.known t k in
-      let p : Good plan asked S is l w.sent t a.0.edges = subst (λ t. Good plan asked S is l w.sent t a.0.edges) a.2 ((nw.servers n s there).known a.0 a.1) in
-      let q : Good plan asked S is l w.sent t b.0.edges = subst (λ t. Good plan asked S is l w.sent t b.0.edges) b.2 ((nw.servers m v at).known b.0 b.1) in
-      a.3 ∙ (one_union plan asked S is l w x.0 x.1 nw t a.0.edges b.0.edges p q ∙ sym b.3)
+      let p : Good plan asked S start is l w.sent t a.0.edges = subst (λ t. Good plan asked S start is l w.sent t a.0.edges) a.2 ((nw.servers n s there).known a.0 a.1) in
+      let q : Good plan asked S start is l w.sent t b.0.edges = subst (λ t. Good plan asked S start is l w.sent t b.0.edges) b.2 ((nw.servers m v at).known b.0 b.1) in
+      a.3 ∙ (one_union plan asked S start is l w x.0 x.1 nw t a.0.edges b.0.edges p q ∙ sym b.3)
 
   pub ancestors_agree : (n m : ℕ) (s v : ServerState) → slice_get w.servers n ≡ Some s → slice_get w.servers m ≡ Some v → (u t : TxnId) → IsDecided s.lists.known t → IsDecided v.lists.known t → IsAncestor s.lists.known u t → IsAncestor v.lists.known u t
   ancestors_agree n m s v there at u t d e p = elim (transaction_or_none plan) [
     | inl some ↦ other_chain (Precedes s.lists.known) (Precedes v.lists.known) (λ t. IsDecided s.lists.known t × IsDecided v.lists.known t)
         (λ u t l k. (ancestor_decided s.lists.known u t l.0 (direct k), ancestor_decided v.lists.known u t l.1 (direct (over some u t l k))))
         (over some) u t (d, e) p
-    | inr none ↦ absurd (let k : IsDecided [] t = subst (λ l. IsDecided l t) ((run_idle plan none coords steps w run).known n s there) d in false≢true k.own)
+    | inr none ↦ absurd (let k : IsDecided [] t = subst (λ l. IsDecided l t) ((run_idle plan none start begins coords steps w run).known n s there) d in false≢true k.own)
   ]
     where
       over : HasTransaction plan → (u t : TxnId) → IsDecided s.lists.known t × IsDecided v.lists.known t → Precedes s.lists.known u t → Precedes v.lists.known u t

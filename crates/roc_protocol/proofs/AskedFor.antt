@@ -10,7 +10,6 @@ use Rattle.roc_msg.specs.declared.msg.Msg.{Msg}
 use Rattle.roc_msg.specs.declared.msg.Msg.TheVariants.{StartOk}
 use Rattle.roc_msg.specs.declared.outbox.Outgoing.{Outgoing}
 use Rattle.roc_plan.specs.Groups.{Plan}
-use Rattle.roc_server.specs.First.{first_server}
 use Rattle.roc_server.specs.State.{answered, ServerState}
 use Rattle.roc_server.specs.Step as server
 use Rattle.roc_coord.specs.declared.transaction.Transaction.{Transaction}
@@ -22,9 +21,10 @@ use Rattle.roc_coord.specs.Tick as coord
 use Rattle.roc_audit.specs.declared.entry.Entry.TheVariants.{Submitted}
 use Rattle.roc_protocol.specs.declared.event.Event.{Event}
 use Rattle.roc_protocol.specs.declared.event.Event.TheVariants.{Submit, Deliver, Tick}
+use Rattle.roc_protocol.specs.Beginnings.{Beginning, begun_server}
 use Rattle.roc_protocol.specs.World.{World, mark_delivered}
 use Rattle.roc_protocol.specs.Happens.{Outcome, answer_entries, IsReceived}
-use Rattle.roc_protocol.specs.Run.{Stepped, Transition, IsRun, begun, goes_on}
+use Rattle.roc_protocol.specs.Run.{Stepped, Transition, IsRunFrom, at_beginning, steps_on}
 use Rattle.roc_protocol.proofs.Fetches.{FetchedFor, message_fetches, tick_fetches, IsAskedFor, HasAsked, served_asked, coordinated_asked, comes_asked}
 use Rattle.roc_protocol.proofs.Gathered.{IsGathered, IsRound, Tells, message_gathered, tick_gathered, submission_gathered}
 use Rattle.roc_protocol.proofs.Firsts.{found_at}
@@ -75,11 +75,11 @@ step_asked plan w o (Some (Deliver k)) v (m, some, there, h) = go m.to (o.sent m
 step_asked plan w o (Some (Tick (Server shard))) v (s, there, e) = subst (λ (v : Outcome). HasAsked v.world) (sym e) (served_asked plan w o shard.0 s there (answered s (server.tick_sends s)) (tick_fetches plan (IsAskedFor w.servers) s (o.askers shard.0 s there)))
 step_asked plan w o (Some (Tick (Coord n))) v (s, there, e) = subst (λ (v : Outcome). HasAsked v.world) (sym e) (coordinated_asked plan w o n s (coord.tick_sends plan s) [] (tick_round plan s))
 
-pub run_asked : (plan : Plan) (coords : ℕ) (steps : List Stepped) (w : World) → IsRun plan coords steps w → HasAsked w
-run_asked plan coords steps w begun =
+pub run_asked : (plan : Plan) (start : Beginning) (coords : ℕ) (steps : List Stepped) (w : World) → IsRunFrom plan start coords steps w → HasAsked w
+run_asked plan start coords steps w at_beginning =
     record {
-      numbers = λ n s h. (let e = found_at (λ n. first_server plan (record { 0 = n })) 0 plan.program.shards n s h in ap (λ (s : ServerState). s.shard.0) e ∙ (omega arith));
+      numbers = λ n s h. (let e = found_at (begun_server start) 0 plan.program.shards n s h in ap (λ (s : ServerState). s.shard.0) e ∙ (omega arith));
       sent = λ m h. absurd h;
-      askers = λ n s h a j. elim (subst (λ (s : ServerState). Has a s.lists.waiting.askers) (found_at (λ n. first_server plan (record { 0 = n })) 0 plan.program.shards n s h) j) [ ];
+      askers = λ n s h a j. elim (subst (λ (s : ServerState). Has a s.lists.waiting.askers) (found_at (begun_server start) 0 plan.program.shards n s h) j) [ ];
     }
-run_asked plan coords steps w (goes_on {w = v} e o r h) = step_asked plan v (run_asked plan coords _ v r) e o h
+run_asked plan start coords steps w (steps_on {w = v} e o r h) = step_asked plan v (run_asked plan start coords _ v r) e o h

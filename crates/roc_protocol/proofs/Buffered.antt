@@ -11,7 +11,6 @@ use Rattle.roc_sequence.proofs.Ranges.{range_below}
 use Rattle.roc_base.specs.declared.id.TxnId.{TxnId}
 use Rattle.roc_base.specs.TxnId.{is_txn}
 use Rattle.roc_base.specs.Equalities.{is_txn-true}
-use Rattle.roc_rows.specs.Store.{Store}
 use Rattle.roc_plan.specs.Groups.{Plan, groups_of, is_immediate_of}
 use Rattle.roc_whole.specs.Serial as whole
 use Rattle.roc_law_orders.specs.Orders.{all_groups}
@@ -22,6 +21,7 @@ use Rattle.roc_law_log.specs.Invariants.{LogInvariants}
 use Rattle.roc_server.specs.declared.started.StartedGroup.{StartedGroup}
 use Rattle.roc_server.specs.State.{is_group, find_group, ServerState}
 use Rattle.roc_server.specs.Runs.{count_of_groups, groups_here, buffered_here, outs_here}
+use Rattle.roc_protocol.specs.Beginnings.{Beginning}
 use Rattle.roc_protocol.specs.PlanAssumptions.{IsSchemeOf}
 use Rattle.roc_protocol.proofs.Means.{run_of, entry_run, place, Ran, Began, stage, waits_at, DoneMeans, AreGroupsHere, ServerMeans}
 use Rattle.roc_protocol.proofs.Gone.{IsGone}
@@ -48,7 +48,7 @@ none_kept : {A B : Type 0} (f : A → Option B) (xs : List A) → ((x : A) → f
 none_kept f [] h = refl
 none_kept f (x ∷ xs) h = ap (λ o. cons_option o (filter_map f xs)) (h x) ∙ none_kept f xs h
 
-module _ (plan : Plan) (asked : TxnId → whole.Call) (S : Scheme) (start : Store) (is : IsSchemeOf plan asked S) (c : Log) (n : ℕ) (Gone : TxnId → Type 0) (started : List StartedGroup) (here : AreGroupsHere plan asked S start c n Gone started) (t : TxnId) (is_whole : IsWhole S c.past.started t) (kept : ¬ Gone t) where
+module _ (plan : Plan) (asked : TxnId → whole.Call) (S : Scheme) (start : Beginning) (is : IsSchemeOf plan asked S) (c : Log) (n : ℕ) (Gone : TxnId → Type 0) (started : List StartedGroup) (here : AreGroupsHere plan asked S start c n Gone started) (t : TxnId) (is_whole : IsWhole S c.past.started t) (kept : ¬ Gone t) where
   abbrev below : List ℕ
   below = range_with_len 0 (length (groups_of plan (asked t).procedure))
 
@@ -122,12 +122,12 @@ module _ (plan : Plan) (asked : TxnId → whole.Call) (S : Scheme) (start : Stor
               let h = found_has (is_group t g) started e k in
               absurd (false≢true (sym (none_found (λ e. is_txn e.id t) started f e h.0) ∙ (and_parts (is_txn e.id t) (e.group == g) h.1).0))
 
-  pub buffered_runs : map entry_run (buffered_here plan t started) ≡ filter (waits_here S start c.past.ran n) (all_groups S.behaviour t)
+  pub buffered_runs : map entry_run (buffered_here plan t started) ≡ filter (waits_here S start.store c.past.ran n) (all_groups S.behaviour t)
   buffered_runs =
       ap (λ l. map entry_run (filter waits l)) here_are
       ∙ found_runs below (λ g h. h)
       ∙ ap (map (run_of t)) (filter_and (λ g. not (S.is_immediate (run_of t g))) (λ g. place plan asked S start c (run_of t g) == n) below ∙ (ap (filter (λ g. place plan asked S start c (run_of t g) == n)) numbered ∙ sym (filter_and (λ g. not (S.is_immediate (run_of t g))) (λ g. place plan asked S start c (run_of t g) == n) (S.behaviour.groups t))))
-      ∙ sym (filter_map_under (run_of t) (waits_here S start c.past.ran n) (S.behaviour.groups t))
+      ∙ sym (filter_map_under (run_of t) (waits_here S start.store c.past.ran n) (S.behaviour.groups t))
     where
       numbered : filter (λ g. not (S.is_immediate (run_of t g))) below ≡ filter (λ g. not (S.is_immediate (run_of t g))) (S.behaviour.groups t)
       numbered =
@@ -135,7 +135,7 @@ module _ (plan : Plan) (asked : TxnId → whole.Call) (S : Scheme) (start : Stor
           ∙ (sym (is.later t) ∙ filter_same (λ g. not (is_immediate_of plan (asked t).procedure g)) (λ g. not (S.is_immediate (run_of t g))) (S.behaviour.groups t) (λ g h. ap not (sym (is.immediate (run_of t g)))))
 
 -- what the coordinator is told of a decided transaction
-module _ (plan : Plan) (asked : TxnId → whole.Call) (S : Scheme) (start : Store) (is : IsSchemeOf plan asked S) (c : Log) (i : LogInvariants S start c) (n : ℕ) (s : ServerState) (o : ServerMeans plan asked S start c n s) (t : TxnId) (decided : IsListed is_txn (c.decided n) t) (kept : ¬ IsGone s t) where
+module _ (plan : Plan) (asked : TxnId → whole.Call) (S : Scheme) (start : Beginning) (is : IsSchemeOf plan asked S) (c : Log) (i : LogInvariants S start.store c) (n : ℕ) (s : ServerState) (o : ServerMeans plan asked S start c n s) (t : TxnId) (decided : IsListed is_txn (c.decided n) t) (kept : ¬ IsGone s t) where
   is_whole : IsWhole S c.past.started t
   is_whole = i.whole t (i.in_order n t decided)
 

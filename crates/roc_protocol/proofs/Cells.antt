@@ -10,29 +10,28 @@ use Rattle.roc_base.specs.declared.node.Node.TheVariants.{Server, Coord}
 use Rattle.roc_base.specs.TxnId.{is_txn}
 use Rattle.roc_depgraph.proofs.Listed.{has_listed}
 use Rattle.roc_rows.specs.declared.cell.Cell.{Cell}
-use Rattle.roc_rows.specs.Store.{Store, read, empty}
+use Rattle.roc_rows.specs.Store.{Store, read}
 use Rattle.roc_plan.specs.Groups.{Plan, shard_of}
 use Rattle.roc_whole.specs.Serial as whole
-use Rattle.roc_whole.specs.Serial.{start_store, serial_store}
+use Rattle.roc_whole.specs.Serial.{serial_store}
 use Rattle.roc_law_orders.specs.Behaviour.{TxnGroup, is_txn_group, is_group_number}
 use Rattle.roc_law_orders.specs.Runs.{stage_behind}
 use Rattle.roc_law_orders.specs.Orders.{one_by_one}
 use Rattle.roc_law_log.specs.Scheme.{Scheme, IsSoundScheme}
 use Rattle.roc_law_log.specs.Log.{Log, IsDecidedThroughout}
 use Rattle.roc_law_log.specs.Invariants.{LogInvariants}
-use Rattle.roc_server.specs.First.{first_server}
 use Rattle.roc_server.specs.State.{ServerState}
 use Rattle.roc_audit.specs.History.{WasSubmitted, WasAnswered}
 use Rattle.roc_audit.specs.Witness.{submitted_call, submitted_calls}
-use Rattle.roc_protocol.specs.PlanAssumptions.{IsSchemeOf, HasSchemes}
+use Rattle.roc_protocol.specs.PlanAssumptions.{IsSchemeOf, HasSchemesFrom}
 use Rattle.roc_protocol.specs.declared.event.Event.{Event}
 use Rattle.roc_protocol.specs.declared.event.Event.TheVariants.{Submit, Deliver, Tick}
+use Rattle.roc_protocol.specs.Beginnings.{Beginning, IsBeginning, begun_server}
 use Rattle.roc_protocol.specs.World.{World, mark_delivered}
 use Rattle.roc_protocol.specs.Happens.{Outcome, IsReceived}
-use Rattle.roc_protocol.specs.Run.{Stepped, Transition, IsRun, begun, goes_on}
+use Rattle.roc_protocol.specs.Run.{Stepped, Transition, IsRunFrom, at_beginning, steps_on}
 use Rattle.roc_protocol.specs.Inner.Given.{LogLaws, SerialLaws, StoreLaws}
 use Rattle.roc_protocol.proofs.Means.{Began}
-use Rattle.roc_protocol.proofs.Firsts.{start_cells, start_elsewhere}
 use Rattle.roc_protocol.proofs.Changed.{get-set_here, get-set_other}
 use Rattle.roc_protocol.proofs.Idle.{IsIdle, run_idle}
 use Rattle.roc_protocol.proofs.Worlds.{Submitting, is_refused, is_accepted, submitting, IsLogged, ordered_submitted}
@@ -45,19 +44,16 @@ abbrev pub AreAllAnswered : World → Type 0
 AreAllAnswered w = (t : TxnId) → WasSubmitted w.history t → (reply : List ℤ) × WasAnswered w.history t reply
 
 -- the server of the cell's place holds what the serial order leaves there
-abbrev pub IsCellSerial : Plan → World → Cell → Type 0
-IsCellSerial plan w x =
+abbrev pub IsCellSerial : Plan → Beginning → World → Cell → Type 0
+IsCellSerial plan start w x =
     (s : ServerState) → slice_get w.servers (shard_of plan x.place) ≡ Some s
-    → read s.store x ≡ read (serial_store plan.program (start_store plan.program) (submitted_calls w.history w.order)) x
+    → read s.store x ≡ read (serial_store plan.program start.store (submitted_calls w.history w.order)) x
 
-module _ (plan : Plan) (asked : TxnId → whole.Call) (S : Scheme) (is : IsSchemeOf plan asked S) (laws : LogLaws S (start_store plan.program)) (serials : SerialLaws S (start_store plan.program)) (w : World) (log : Log) (o : IsLogged plan asked S is laws w log) (all : AreAllAnswered w) where
-  abbrev start : Store
-  start = start_store plan.program
-
-  i : LogInvariants S start log
+module _ (plan : Plan) (asked : TxnId → whole.Call) (S : Scheme) (start : Beginning) (is : IsSchemeOf plan asked S) (laws : LogLaws S start.store) (serials : SerialLaws S start.store) (w : World) (log : Log) (o : IsLogged plan asked S start is laws w log) (all : AreAllAnswered w) where
+  i : LogInvariants S start.store log
   i = laws.holds log o.means.reached
 
-  throughout : (q : TxnGroup) → Began plan asked S start log q → IsDecidedThroughout S start log q.txn
+  throughout : (q : TxnGroup) → Began plan asked S start log q → IsDecidedThroughout S start.store log q.txn
   throughout q began = let a = all q.txn (o.began q began) in (o.means.answered q.txn a.0 a.1).throughout
 
   -- all groups of the order's transactions ran, and no others
@@ -75,49 +71,48 @@ module _ (plan : Plan) (asked : TxnId → whole.Call) (S : Scheme) (is : IsSchem
       go false e = i.later_ran q began e ((throughout q began).everywhere q.group l)
 
   pub cells_by_log : ((t : TxnId) → WasSubmitted w.history t → submitted_call t w.history ≡ Some (asked t))
-      → ((stage_behind S.behaviour start (one_by_one S.behaviour log.order)).store ≡ serial_store plan.program start (map asked log.order)) → (x : Cell) → IsCellSerial plan w x
+      → ((stage_behind S.behaviour start.store (one_by_one S.behaviour log.order)).store ≡ serial_store plan.program start.store (map asked log.order)) → (x : Cell) → IsCellSerial plan start w x
   cells_by_log calls whole_stores x s there =
       (o.means.servers (shard_of plan x.place) s there).part.cells x (is.cell_shard x)
       ∙ (sym (serials.last log o.means.reached x of_order all_ran)
       ∙ (ap (λ (store : Store). read store x) whole_stores
-      ∙ ap (λ cs. read (serial_store plan.program start cs) x)
-      (sym (calls_are asked w.history w.order (λ u k. calls u (ordered_submitted plan asked S is laws w log o u (has_listed w.order u k))) ∙ ap (map asked) o.means.order))))
+      ∙ ap (λ cs. read (serial_store plan.program start.store cs) x)
+      (sym (calls_are asked w.history w.order (λ u k. calls u (ordered_submitted plan asked S start is laws w log o u (has_listed w.order u k))) ∙ ap (map asked) o.means.order))))
 
-idle_cells : (plan : Plan) → StoreLaws → (w : World) → IsIdle plan w → (x : Cell) → IsCellSerial plan w x
-idle_cells plan stores w i x s there =
+idle_cells : (plan : Plan) (start : Beginning) → IsBeginning plan start → (w : World) → IsIdle plan start w → (x : Cell) → IsCellSerial plan start w x
+idle_cells plan start begins w i x s there =
     ap (λ (store : Store). read store x) (i.stores (shard_of plan x.place) s there)
-    ∙ (start_cells stores plan (shard_of plan x.place) plan.program.inits empty empty x refl refl
-    ∙ ap (λ order. read (serial_store plan.program (start_store plan.program) (submitted_calls w.history order)) x) (sym i.order))
+    ∙ (begins.cells (shard_of plan x.place) x refl
+    ∙ ap (λ order. read (serial_store plan.program start.store (submitted_calls w.history order)) x) (sym i.order))
 
 pub cells_serial :
-    (plan : Plan) → HasSchemes plan → ((S : Scheme) → IsSoundScheme S → LogLaws S (start_store plan.program)) → ((S : Scheme) → IsSoundScheme S → SerialLaws S (start_store plan.program)) → StoreLaws
-    → (coords : ℕ) (steps : List Stepped) (w : World) → IsRun plan coords steps w → AreAllAnswered w → (x : Cell) → IsCellSerial plan w x
-cells_serial plan schemes laws serials stores coords steps w run all x = elim (transaction_or_none plan) [
+    (plan : Plan) (start : Beginning) → IsBeginning plan start → HasSchemesFrom plan start.store → ((S : Scheme) → IsSoundScheme S → LogLaws S start.store) → ((S : Scheme) → IsSoundScheme S → SerialLaws S start.store) → StoreLaws
+    → (coords : ℕ) (steps : List Stepped) (w : World) → IsRunFrom plan start coords steps w → AreAllAnswered w → (x : Cell) → IsCellSerial plan start w x
+cells_serial plan start begins schemes laws serials stores coords steps w run all x = elim (transaction_or_none plan) [
   | inl some ↦
-      (let asked = serial.asked plan schemes laws stores coords steps w run some in
-      let S = serial.S plan schemes laws stores coords steps w run some in
-      let sound = serial.sound plan schemes laws stores coords steps w run some in
-      let l = serial.logged plan schemes laws stores coords steps w run some in
-      cells_by_log plan asked S (serial.is plan schemes laws stores coords steps w run some) (laws S sound) (serials S sound) w l.0 l.1 all
-      (serial.calls plan some.0 w (serial.submissions plan schemes laws stores coords steps w run some))
-      (schemes.stores asked (serial.known plan schemes laws stores coords steps w run some) l.0.order) x)
-  | inr none ↦ idle_cells plan stores w (run_idle plan none coords steps w run) x
+      (let asked = serial.asked plan start begins schemes laws stores coords steps w run some in
+      let S = serial.S plan start begins schemes laws stores coords steps w run some in
+      let sound = serial.sound plan start begins schemes laws stores coords steps w run some in
+      let l = serial.logged plan start begins schemes laws stores coords steps w run some in
+      cells_by_log plan asked S start (serial.is plan start begins schemes laws stores coords steps w run some) (laws S sound) (serials S sound) w l.0 l.1 all
+      (serial.calls plan some.0 w (serial.submissions plan start begins schemes laws stores coords steps w run some))
+      (schemes.stores asked (serial.known plan start begins schemes laws stores coords steps w run some) l.0.order) x)
+  | inr none ↦ idle_cells plan start begins w (run_idle plan none start begins coords steps w run) x
 ]
 
 -- a server holds nothing of the cells of other shards
 pub cells_apart :
-    (plan : Plan) → HasSchemes plan → ((S : Scheme) → IsSoundScheme S → LogLaws S (start_store plan.program)) → (stores : StoreLaws)
-    → (coords : ℕ) (steps : List Stepped) (w : World) → IsRun plan coords steps w
+    (plan : Plan) (start : Beginning) → IsBeginning plan start → HasSchemesFrom plan start.store → ((S : Scheme) → IsSoundScheme S → LogLaws S start.store) → (stores : StoreLaws)
+    → (coords : ℕ) (steps : List Stepped) (w : World) → IsRunFrom plan start coords steps w
     → (n : ℕ) (s : ServerState) → slice_get w.servers n ≡ Some s → (x : Cell) → shard_of plan x.place ≢ n → read s.store x ≡ pos 0
-cells_apart plan schemes laws stores coords steps w run n s there x apart = elim (transaction_or_none plan) [
+cells_apart plan start begins schemes laws stores coords steps w run n s there x apart = elim (transaction_or_none plan) [
   | inl some ↦
-      (let is = serial.is plan schemes laws stores coords steps w run some in
-      let l = serial.logged plan schemes laws stores coords steps w run some in
+      (let is = serial.is plan start begins schemes laws stores coords steps w run some in
+      let l = serial.logged plan start begins schemes laws stores coords steps w run some in
       (l.1.means.servers n s there).part.elsewhere x (λ e. apart (sym (is.cell_shard x) ∙ e)))
   | inr none ↦
-      ap (λ (store : Store). read store x) ((run_idle plan none coords steps w run).stores n s there)
-      ∙ start_elsewhere stores plan n plan.program.inits empty x apart
-      ∙ stores.zero x
+      ap (λ (store : Store). read store x) ((run_idle plan none start begins coords steps w run).stores n s there)
+      ∙ begins.elsewhere n x apart
 ]
 
 -- ---- each shard has its server
@@ -152,9 +147,9 @@ step_servers plan w count h (Some (Deliver k)) o (m, some, there, c) = go m.to c
 step_servers plan w count h (Some (Tick (Server shard))) o (s, there, e) = subst (λ (o : Outcome). HasAll o.world.servers count) (sym e) (all_set w.servers count shard.0 s s there h)
 step_servers plan w count h (Some (Tick (Coord n))) o (s, there, e) = subst (λ (o : Outcome). HasAll o.world.servers count) (sym e) h
 
-all_servers : (plan : Plan) (coords : ℕ) (steps : List Stepped) (w : World) → IsRun plan coords steps w → HasAll w.servers plan.program.shards
-all_servers plan coords steps w begun = all_ranged (λ n. first_server plan (record { 0 = n })) 0 plan.program.shards
-all_servers plan coords steps w (goes_on {w = v} e o r h) = step_servers plan v plan.program.shards (all_servers plan coords _ v r) e o h
+all_servers : (plan : Plan) (start : Beginning) (coords : ℕ) (steps : List Stepped) (w : World) → IsRunFrom plan start coords steps w → HasAll w.servers plan.program.shards
+all_servers plan start coords steps w at_beginning = all_ranged (begun_server start) 0 plan.program.shards
+all_servers plan start coords steps w (steps_on {w = v} e o r h) = step_servers plan v plan.program.shards (all_servers plan start coords _ v r) e o h
 
-pub run_servers : (plan : Plan) (coords : ℕ) (steps : List Stepped) (w : World) → IsRun plan coords steps w → (n : ℕ) → n < plan.program.shards → (s : ServerState) × (slice_get w.servers n ≡ Some s)
-run_servers plan coords steps w run = all_servers plan coords steps w run
+pub run_servers : (plan : Plan) (start : Beginning) (coords : ℕ) (steps : List Stepped) (w : World) → IsRunFrom plan start coords steps w → (n : ℕ) → n < plan.program.shards → (s : ServerState) × (slice_get w.servers n ≡ Some s)
+run_servers plan start coords steps w run = all_servers plan start coords steps w run

@@ -11,7 +11,6 @@ use Rattle.roc_base.specs.declared.id.TxnId.{TxnId}
 use Rattle.roc_base.specs.declared.node.Node.{Node}
 use Rattle.roc_base.specs.declared.node.Node.TheVariants.{Server, Coord}
 use Rattle.roc_base.specs.TxnId.{is_txn}
-use Rattle.roc_rows.specs.Store.{Store}
 use Rattle.roc_depgraph.proofs.Listed.{listed_one, has_listed}
 use Rattle.roc_msg.specs.declared.msg.Envelope.{Envelope}
 use Rattle.roc_msg.specs.declared.outbox.Outgoing.{Outgoing}
@@ -27,6 +26,7 @@ use Rattle.roc_audit.specs.declared.entry.Entry.{Entry}
 use Rattle.roc_audit.specs.declared.entry.Entry.TheVariants.{Answered}
 use Rattle.roc_audit.specs.Order.{noted}
 use Rattle.roc_protocol.specs.PlanAssumptions.{IsSchemeOf}
+use Rattle.roc_protocol.specs.Beginnings.{Beginning}
 use Rattle.roc_protocol.specs.World.{World, sent_by, mark_delivered, at_server, at_coord}
 use Rattle.roc_protocol.proofs.Means.{Means, ServerMeans, CoordMeans, AnswerMeans, WorldMeans}
 use Rattle.roc_protocol.proofs.Grows.{means_grow, coord_grows, answer_grows}
@@ -81,7 +81,7 @@ noted-new order (t ∷ ts) once = go (is_listed is_txn order t) refl (λ o. note
 
 -- ---- worlds
 
-module _ (plan : Plan) (asked : TxnId → whole.Call) (S : Scheme) (start : Store) (is : IsSchemeOf plan asked S) where
+module _ (plan : Plan) (asked : TxnId → whole.Call) (S : Scheme) (start : Beginning) (is : IsSchemeOf plan asked S) where
   -- a message comes
   pub comes_means : (c : Log) (w : World) (k : ℕ) → WorldMeans plan asked S start c w → WorldMeans plan asked S start c (mark_delivered w k)
   comes_means c w k o = record { reached = o.reached; order = o.order; servers = o.servers; messages = o.messages; coords = o.coords; answered = o.answered; answers = o.answers }
@@ -95,7 +95,7 @@ module _ (plan : Plan) (asked : TxnId → whole.Call) (S : Scheme) (start : Stor
 
   -- a server takes a step, and the log one that agrees with it
   pub server_means :
-      (c d : Log) (i : LogInvariants S start c) (j : LogInvariants S start d) (g : LogGrows S start c d) → IsReachedLog S start d
+      (c d : Log) (i : LogInvariants S start.store c) (j : LogInvariants S start.store d) (g : LogGrows S start.store c d) → IsReachedLog S start.store d
       → (w : World) → WorldMeans plan asked S start c w → (n : ℕ) (s : ServerState) (r : ServerStep) → slice_get w.servers n ≡ Some s
       → ServerMeans plan asked S start d n r.state
       → ((m : ℕ) → n ≢ m → (v : ServerState) → slice_get w.servers m ≡ Some v → ServerMeans plan asked S start d m v)
@@ -119,7 +119,7 @@ module _ (plan : Plan) (asked : TxnId → whole.Call) (S : Scheme) (start : Stor
 
   -- a coordinator does, and the log one that agrees with it
   pub coord_means :
-      (c d : Log) (i : LogInvariants S start c) (j : LogInvariants S start d) (g : LogGrows S start c d) → IsReachedLog S start d
+      (c d : Log) (i : LogInvariants S start.store c) (j : LogInvariants S start.store d) (g : LogGrows S start.store c d) → IsReachedLog S start.store d
       → (w : World) → WorldMeans plan asked S start c w → (n : ℕ) (s after : CoordState) (outs : List Outgoing) (told : List Entry) → slice_get w.coords n ≡ Some s
       → ((m : ℕ) (v : ServerState) → slice_get w.servers m ≡ Some v → ServerMeans plan asked S start d m v)
       → w.order ≡ d.order

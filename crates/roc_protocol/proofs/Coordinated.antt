@@ -13,7 +13,6 @@ use Rattle.roc_base.specs.declared.node.Node.{Node}
 use Rattle.roc_base.specs.declared.node.Shard.{Shard}
 use Rattle.roc_base.specs.TxnId.{is_txn}
 use Rattle.roc_base.specs.Equalities.{is_txn-true}
-use Rattle.roc_rows.specs.Store.{Store}
 use Rattle.roc_depgraph.proofs.Listed.{listed_one, in_one}
 use Rattle.roc_msg.specs.declared.msg.Msg.{Msg}
 use Rattle.roc_msg.specs.declared.msg.Msg.TheVariants.{StartOk, CommitOk, Ended}
@@ -39,14 +38,15 @@ use Rattle.roc_coord.specs.Tick.{awaits_startok, starts_again, commits_again, se
 use Rattle.roc_audit.specs.declared.entry.Entry.{Entry}
 use Rattle.roc_audit.specs.declared.entry.Entry.TheVariants as entry
 use Rattle.roc_protocol.specs.PlanAssumptions.{IsSchemeOf}
+use Rattle.roc_protocol.specs.Beginnings.{Beginning}
 use Rattle.roc_protocol.specs.World.{World, at_coord}
 use Rattle.roc_protocol.specs.Happens.{answer_entries}
 use Rattle.roc_protocol.specs.Inner.Given.{LogLaws}
-use Rattle.roc_protocol.proofs.Means.{run_of, place, Began, Means, ToldMeans, DoneMeans, TxnMeans, CoordMeans, AnswerMeans, WorldMeans}
+use Rattle.roc_protocol.proofs.Means.{IsPast, run_of, place, Began, Means, ToldMeans, DoneMeans, TxnMeans, CoordMeans, AnswerMeans, WorldMeans}
 use Rattle.roc_protocol.proofs.Coordinators.{starts_mean, commits_mean, commits_for-mean}
 use Rattle.roc_protocol.proofs.Rounds.{shards_begun, told, first_means, starts_means, commits_means, commitok_means, startok_means}
 use Rattle.roc_protocol.proofs.Replies.{answer_means}
-use Rattle.roc_protocol.proofs.Grows.{txn_grows, answered_grows, answer_grows}
+use Rattle.roc_protocol.proofs.Grows.{txn_grows, answered_grows, past_grows, answer_grows}
 use Rattle.roc_protocol.proofs.Elsewhere.{IsQuietOn, server_elsewhere}
 use Rattle.roc_protocol.proofs.Changed.{coord_means}
 use Rattle.roc_protocol.proofs.Served.{StartsAre}
@@ -58,11 +58,11 @@ pub mark_starts-none : (Of : TxnId → Type 0) (msg : Msg) → IsMark msg → St
 mark_starts-none Of (Ended coord mark) h = tt
 mark_starts-none Of msg h = absurd h
 
-module _ (plan : Plan) (asked : TxnId → whole.Call) (S : Scheme) (start : Store) (is : IsSchemeOf plan asked S) (laws : LogLaws S start) (c : Log) (i : LogInvariants S start c) (w : World) (o : WorldMeans plan asked S start c w) (n : ℕ) (s : CoordState) (there : slice_get w.coords n ≡ Some s) (Of : TxnId → Type 0) (of : (x : Transaction) → Has x s.pending → Of x.id) where
+module _ (plan : Plan) (asked : TxnId → whole.Call) (S : Scheme) (start : Beginning) (is : IsSchemeOf plan asked S) (laws : LogLaws S start.store) (c : Log) (i : LogInvariants S start.store c) (w : World) (o : WorldMeans plan asked S start c w) (n : ℕ) (s : CoordState) (there : slice_get w.coords n ≡ Some s) (Of : TxnId → Type 0) (of : (x : Transaction) → Has x s.pending → Of x.id) where
   -- some steps of the log explain what a coordinator does, in which no group starts; and what it starts and holds is of these transactions
   pub record IsCoordinated (after : CoordState) (outs : List Outgoing) (tells : List Entry) : Type 0 where
     pub log : Log
-    pub steps : LogSteps S start c log
+    pub steps : LogSteps S start.store c log
     pub means : WorldMeans plan asked S start log (at_coord w n after outs tells)
     pub began : (q : TxnGroup) → Began plan asked S start log q → Began plan asked S start c q
     -- nothing runs
@@ -128,6 +128,7 @@ module _ (plan : Plan) (asked : TxnId → whole.Call) (S : Scheme) (start : Stor
       (record {
         pending = λ z h. elim (kept x z h) [ inl e ↦ subst (TxnMeans plan asked S start c) (sym e) m | inr j ↦ means z j ];
         all = λ q l. elim (mine.all q l) [ inl p ↦ (let z = stays x p.0 p.1 in inl (z.0, z.1, z.2 ∙ p.2)) | inr h ↦ inr h ];
+        onward = mine.onward;
       })
       sends (λ t reply h. h) starts
       (λ z h. elim (kept x z h) [ inl e ↦ subst (λ (z : Transaction). Of z.id) (sym e) k | inr j ↦ of z j ])
@@ -208,16 +209,16 @@ module _ (plan : Plan) (asked : TxnId → whole.Call) (S : Scheme) (start : Stor
     abbrev d : Log
     d = with_answer c t
 
-    steps_on : LogSteps S start c d
+    steps_on : LogSteps S start.store c d
     steps_on = one_step_more no_steps (is_answered t a.throughout)
 
-    reached : IsReachedLog S start d
+    reached : IsReachedLog S start.store d
     reached = one_step_more o.reached (is_answered t a.throughout)
 
-    j : LogInvariants S start d
+    j : LogInvariants S start.store d
     j = laws.holds d reached
 
-    g : LogGrows S start c d
+    g : LogGrows S start.store c d
     g = laws.grows c d i steps_on
 
     quiet : (shard : ℕ) → IsQuietOn plan asked S start c d shard
@@ -235,13 +236,14 @@ module _ (plan : Plan) (asked : TxnId → whole.Call) (S : Scheme) (start : Stor
           pending = λ z k. txn_grows plan asked S start is c d i j g z (means z (rest z k));
           all = λ q l. elim (mine.all q l) [
             | inl p ↦ go p.0 p.1 q p.2 (is_txn p.0.id t) refl
-            | inr h ↦ inr (answered_grows plan asked S start is c d i j g (record { coord = s.number; seq = q }) h)
+            | inr h ↦ inr (past_grows plan asked S start is c d i j g (record { coord = s.number; seq = q }) h)
           ];
+          onward = mine.onward;
         }
       where
         go : (y : Transaction) → Has y s.pending → (q : ℕ) → y.id ≡ record { coord = s.number; seq = q } → (b : Bool) → is_txn y.id t ≡ b
-            → ((x : Transaction) × Has x (without_transaction s t).pending × (x.id ≡ record { coord = s.number; seq = q })) ⊎ IsListed is_txn d.answered (record { coord = s.number; seq = q })
-        go y h q e true f = inr (subst (λ u. IsListed is_txn d.answered u) (sym (is_txn-true y.id t f) ∙ e) listed)
+            → ((x : Transaction) × Has x (without_transaction s t).pending × (x.id ≡ record { coord = s.number; seq = q })) ⊎ IsPast plan asked S start d (record { coord = s.number; seq = q })
+        go y h q e true f = inr (inl (subst (λ u. IsListed is_txn d.answered u) (sym (is_txn-true y.id t f) ∙ e) listed))
         go y h q e false f = inl (y, has_filter (λ (y : Transaction). not (is_txn y.id t)) y s.pending h (ap not f), e)
 
     abbrev tells : List Entry
@@ -373,6 +375,7 @@ module _ (plan : Plan) (asked : TxnId → whole.Call) (S : Scheme) (start : Stor
             | inr h ↦ inr h
           ]
         ];
+        onward = (let k = mine.onward in omega arith);
       })
       (new_mean x m k) none
       (starts_of-it x k (ready_groups plan x))

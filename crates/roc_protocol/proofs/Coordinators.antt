@@ -16,7 +16,6 @@ use Rattle.roc_base.specs.TxnId.{is_txn}
 use Rattle.roc_base.specs.Edge.{Dependency, joined}
 use Rattle.roc_base.proofs.Union.{AllByRecursion-united}
 use Rattle.roc_base.proofs.Members.{has-united}
-use Rattle.roc_rows.specs.Store.{Store}
 use Rattle.roc_depgraph.specs.declared.known.KnownList.{KnownList}
 use Rattle.roc_msg.specs.declared.outbox.Outgoing.{Outgoing}
 use Rattle.roc_msg.specs.Facts.{is_fact_before}
@@ -33,6 +32,7 @@ use Rattle.roc_coord.specs.declared.transaction.TakenStart.{TakenStart}
 use Rattle.roc_coord.specs.State.{find_startok}
 use Rattle.roc_coord.specs.Starts.{group_numbers, input_value, inputs_for, is_ready, shard_for, start_for, all_started, all_edges, shards_of, gathered, all_facts, commit_to, commits_of}
 use Rattle.roc_coord.specs.Step.{commits_for}
+use Rattle.roc_protocol.specs.Beginnings.{Beginning}
 use Rattle.roc_protocol.specs.PlanAssumptions.{picked, IsSchemeOf}
 use Rattle.roc_protocol.proofs.Means.{HasBegun, run_of, Precedes, Ran, stage, values_for, IsSeen, ListMeans, AllMean, ToldMeans, StartMeans, StartIs, Means}
 use Rattle.roc_protocol.proofs.Facts.{has_fitting}
@@ -49,7 +49,7 @@ from_gathered k (f ∷ facts) h =
       | inr b ↦ elim b [ inl e ↦ inl e | inr m ↦ inr (from_gathered k facts (from_has_filter (λ x. is_fact_before f x) k (gathered facts) m).0) ]
     ]
 
-module _ (plan : Plan) (asked : TxnId → whole.Call) (S : Scheme) (start : Store) (is : IsSchemeOf plan asked S) (c : Log) (i : LogInvariants S start c) where
+module _ (plan : Plan) (asked : TxnId → whole.Call) (S : Scheme) (start : Beginning) (is : IsSchemeOf plan asked S) (c : Log) (i : LogInvariants S start.store c) where
   -- what a coordinator was told of a transaction, whatever it asked
   pub record IsTold (x : Transaction) : Type 0 where
     pub proc : x.proc ≡ (asked x.id).procedure

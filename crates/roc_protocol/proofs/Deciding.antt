@@ -17,7 +17,7 @@ use Rattle.roc_base.specs.Equalities.{is_txn-true}
 use Rattle.roc_base.specs.Edge.{Dependency}
 use Rattle.roc_base.proofs.Ids.{is_txn-eq}
 use Rattle.roc_rows.specs.declared.cell.Cell.{Cell}
-use Rattle.roc_rows.specs.Store.{Store, read}
+use Rattle.roc_rows.specs.Store.{read}
 use Rattle.roc_depgraph.specs.declared.known.KnownList.{KnownList}
 use Rattle.roc_depgraph.specs.Deps.{list_of, is_known, IsKnown, entries_of, IsDecided}
 use Rattle.roc_depgraph.specs.Reach.{direct}
@@ -49,11 +49,12 @@ use Rattle.roc_await.specs.Waits.{is_asked_before, with_asked, with_all_asked}
 use Rattle.roc_server_lists.specs.Asking.{asked_of}
 use Rattle.roc_server.specs.Lists.{is_missing, missing_from, lists_after}
 use Rattle.roc_protocol.specs.PlanAssumptions.{IsSchemeOf}
+use Rattle.roc_protocol.specs.Beginnings.{Beginning}
 use Rattle.roc_protocol.specs.Inner.Given.{LogLaws}
 use Rattle.roc_protocol.proofs.Means.{HasBegun, run_of, entry_run, place, Ran, Began, stage, AllMean, AreGroupsHere, ServerMeans}
 use Rattle.roc_protocol.proofs.KeptGroups.{take_keeps}
 use Rattle.roc_protocol.proofs.Gone.{IsGone, none_gone, gone_taught}
-use Rattle.roc_protocol.proofs.Grows.{begun_grows, place_grows, entry_grows, all_grow, answered_grows}
+use Rattle.roc_protocol.proofs.Grows.{begun_grows, place_grows, entry_grows, all_grow, past_grows}
 use Rattle.roc_protocol.proofs.Facts.{known_has}
 use Rattle.roc_protocol.proofs.Starting.{after_append}
 use Rattle.roc_protocol.proofs.Runs.{IsWaiting, IsAt, take_parts}
@@ -93,14 +94,14 @@ none_new old (t ∷ ts) h =
     cond-true (not (is_listed is_txn old t)) (t ∷ new_in old ts) (new_in old ts) (not_from_false (is_listed is_txn old t) (unlisted_test is_txn old t (h t (inl refl))))
     ∙ ap (λ l. t ∷ l) (none_new old ts (λ u k. h u (inr k)))
 
-module _ (plan : Plan) (asked : TxnId → whole.Call) (S : Scheme) (start : Store) (is : IsSchemeOf plan asked S) (laws : LogLaws S start) (c : Log) (reached : IsReachedLog S start c) (n : ℕ) (s : ServerState) (o : ServerMeans plan asked S start c n s) (news : List KnownList) (lists : AllMean plan asked S start c news) (ts : List TxnId) (new : AreNew (IsDecided s.lists.known) (s.lists.known ++ news) ts) where
+module _ (plan : Plan) (asked : TxnId → whole.Call) (S : Scheme) (start : Beginning) (is : IsSchemeOf plan asked S) (laws : LogLaws S start.store) (c : Log) (reached : IsReachedLog S start.store c) (n : ℕ) (s : ServerState) (o : ServerMeans plan asked S start c n s) (news : List KnownList) (lists : AllMean plan asked S start c news) (ts : List TxnId) (new : AreNew (IsDecided s.lists.known) (s.lists.known ++ news) ts) where
   abbrev pub K : List KnownList
   K = s.lists.known ++ news
 
   abbrev E : TxnId → TxnId → Type 0
-  E = PrecedesTxn S start c.past
+  E = PrecedesTxn S start.store c.past
 
-  pub i : LogInvariants S start c
+  pub i : LogInvariants S start.store c
   i = laws.holds c reached
 
   pub known_mean : AllMean plan asked S start c K
@@ -120,8 +121,8 @@ module _ (plan : Plan) (asked : TxnId → whole.Call) (S : Scheme) (start : Stor
       go true e = let k = known_has K t e in (k.0, k.1, k.2, subst (Has d) k.3 h)
       go false e = absurd (subst (Has d) (unknown_none K t e) h)
 
-  precedes_by : (u t : TxnId) (d : Dependency) (of : TxnId) (r : TxnGroup) → of ≡ t → d.from ≡ u → r.txn ≡ of → PrecedesGroup S start c.past d.from r → E u t
-  precedes_by u t d of r e f g p = record { second = r; of_second = g ∙ e; by = subst (λ u. PrecedesGroup S start c.past u r) f p }
+  precedes_by : (u t : TxnId) (d : Dependency) (of : TxnId) (r : TxnGroup) → of ≡ t → d.from ≡ u → r.txn ≡ of → PrecedesGroup S start.store c.past d.from r → E u t
+  precedes_by u t d of r e f g p = record { second = r; of_second = g ∙ e; by = subst (λ u. PrecedesGroup S start.store c.past u r) f p }
 
   sound : (u t : TxnId) → edge u t ≡ true → E u t
   sound u t h =
@@ -130,7 +131,7 @@ module _ (plan : Plan) (asked : TxnId → whole.Call) (S : Scheme) (start : Stor
       let m = ((known_mean k.0 k.1).sound a.0 k.3).placed in
       precedes_by u t a.0 k.0.of m.0 k.2 (is_txn-true a.0.from u a.2) m.1 m.2
 
-  sound_now : (u t : TxnId) → edge_now u t ≡ true → PrecedesTxnNow S start c.past u t
+  sound_now : (u t : TxnId) → edge_now u t ≡ true → PrecedesTxnNow S start.store c.past u t
   unfolding precedes_by
   sound_now u t h =
       let a = any_has (λ (d : Dependency). is_txn d.from u && d.imm) (entries_of K t) h in
@@ -148,12 +149,12 @@ module _ (plan : Plan) (asked : TxnId → whole.Call) (S : Scheme) (start : Stor
   complete : (u t : TxnId) → IsKnown K t → E u t → edge u t ≡ true
   complete u t h p = let d = from_list u t h p in has_any (λ (d : Dependency). is_txn d.from u) (entries_of K t) d.0 d.1 (is_txn-eq d.0.from u d.2)
 
-  complete_now : (u t : TxnId) → IsKnown K t → PrecedesTxnNow S start c.past u t → edge_now u t ≡ true
+  complete_now : (u t : TxnId) → IsKnown K t → PrecedesTxnNow S start.store c.past u t → edge_now u t ≡ true
   complete_now u t h p =
       let d = from_list u t h p.precedes in
       has_any (λ (d : Dependency). is_txn d.from u && d.imm) (entries_of K t) d.0 d.1 (and_from (is_txn d.0.from u) d.0.imm (is_txn-eq d.0.from u d.2) (d.3 p.immediate))
 
-  are_edges : AreEdges S start c edge edge_now ts
+  are_edges : AreEdges S start.store c edge edge_now ts
   are_edges = record {
     sound = sound;
     sound_now = sound_now;
@@ -177,36 +178,36 @@ module _ (plan : Plan) (asked : TxnId → whole.Call) (S : Scheme) (start : Stor
     ]
   ]
 
-  closed : (u t : TxnId) → IsListed is_txn ts t → E u t → IsListed is_txn (c.decided n) u ⊎ (IsListed is_txn ts u ⊎ IsWaived S start c u)
+  closed : (u t : TxnId) → IsListed is_txn ts t → E u t → IsListed is_txn (c.decided n) u ⊎ (IsListed is_txn ts u ⊎ IsWaived S start.store c u)
   closed u t h p =
       let d = (new.members.only t h).0 in
       elim (new_or u (ancestor_decided K u t d (direct (complete u t d.own p)))) [ inl k ↦ inl k | inr k ↦ inr (inl k) ]
 
-  pub may : MayDecide S start c n ts
+  pub may : MayDecide S start.store c n ts
   may =
       record {
         new = are_new;
         whole = λ t h. (let k = known_has K t (new.members.only t h).0.own in subst (IsWhole S c.past.started) k.2 (known_mean k.0 k.1).is_whole);
         closed = closed;
-        ordered = subst (RespectsPrecedence E (PrecedesTxnNow S start c.past) (IsWaived S start c)) same_new
+        ordered = subst (RespectsPrecedence E (PrecedesTxnNow S start.store c.past) (IsWaived S start.store c)) same_new
             (laws.taken c i n edge edge_now ts ts are_edges
-            (subst (λ l. (u t : TxnId) → IsListed is_txn l t → E u t → IsListed is_txn (c.decided n) u ⊎ (IsListed is_txn l u ⊎ IsWaived S start c u)) (sym same_new) closed)
+            (subst (λ l. (u t : TxnId) → IsListed is_txn l t → E u t → IsListed is_txn (c.decided n) u ⊎ (IsListed is_txn l u ⊎ IsWaived S start.store c u)) (sym same_new) closed)
             new.ordered);
       }
 
   abbrev pub d : Log
-  d = with_decision S start c n ts
+  d = with_decision S start.store c n ts
 
-  pub step : LogStep S start c d
+  pub step : LogStep S start.store c d
   step = shard_decides n ts may
 
-  pub reached_after : IsReachedLog S start d
+  pub reached_after : IsReachedLog S start.store d
   reached_after = one_step_more reached step
 
-  pub j : LogInvariants S start d
+  pub j : LogInvariants S start.store d
   j = laws.holds d reached_after
 
-  pub g : LogGrows S start c d
+  pub g : LogGrows S start.store c d
   g = laws.grows c d i (one_step_more no_steps step)
 
   abbrev X : Stage
@@ -216,7 +217,7 @@ module _ (plan : Plan) (asked : TxnId → whole.Call) (S : Scheme) (start : Stor
   Y = stage plan asked S start d
 
   abbrev T : List TxnGroup
-  T = waiting_here S start c.past.ran n ts
+  T = waiting_here S start.store c.past.ran n ts
 
   Y_is : Y ≡ after_groups S.behaviour X T
   Y_is = after_append S.behaviour _ c.past.ran T
@@ -229,7 +230,7 @@ module _ (plan : Plan) (asked : TxnId → whole.Call) (S : Scheme) (start : Stor
 
   of_T : (r : TxnGroup) → Has r T → IsOfT r
   of_T r h =
-      let f = from_has_filter (waits_here S start c.past.ran n) r (one_by_one S.behaviour ts) h in
+      let f = from_has_filter (waits_here S start.store c.past.ran n) r (one_by_one S.behaviour ts) h in
       let z = from_order S.behaviour ts r (groups.has_listed is_txn_group same_group is_group-same (one_by_one S.behaviour ts) r f.0) in
       let p = and_parts (not (S.is_immediate r)) (place plan asked S start c r == n) f.1 in
       record { taken = z.0; began = may.whole r.txn z.0 r.group z.1; later = not-true (S.is_immediate r) p.0; on = eqb-true (place plan asked S start c r) n p.1 }
@@ -291,7 +292,7 @@ module _ (plan : Plan) (asked : TxnId → whole.Call) (S : Scheme) (start : Stor
       (record { group = p.first.group; began = began_first m.0 p; on = laws.one_shard c i p.first m.0 p.conflict ∙ sym m.3 }) in
       subst (λ (a : OpenFetch). HasBegun plan asked S start c a.id a.at.0) (sym q.2) (subst (λ t. HasBegun plan asked S start c t q.0.at.0) d.2 (subst (λ (s : Shard). HasBegun plan asked S start c d.0.from s.0) d.3 first))
     where
-      began_first : (r : TxnGroup) {u : TxnId} → (p : PrecedesGroup S start c.past u r) → Began plan asked S start c (run_of p.first.txn p.first.group)
+      began_first : (r : TxnGroup) {u : TxnId} → (p : PrecedesGroup S start.store c.past u r) → Began plan asked S start c (run_of p.first.txn p.first.group)
       began_first r p = listed_by_before is_txn_group c.past.started p.first r p.before
 
   asked_cases : (a : OpenFetch) (more old : List OpenFetch) → Has a (with_all_asked more old) → Has a more ⊎ Has a old
@@ -324,7 +325,7 @@ module _ (plan : Plan) (asked : TxnId → whole.Call) (S : Scheme) (start : Stor
         known = all_grow plan asked S start is c d i j g after.lists.known (subst (λ (l : Lists). AllMean plan asked S start c l.known) (sym (take_keeps plan ts before_run).0) known_mean);
         fetched = λ a h. begun_grows plan asked S start is c d i j g a.id a.at.0
             (elim (asked_cases a (missing_from s K) s.lists.waiting.asked (subst (λ (l : Lists). Has a l.waiting.asked) (take_keeps plan ts before_run).0 h)) [ inl k ↦ missing_begun a k | inr k ↦ o.fetched a k ]);
-        ended = λ t h. answered_grows plan asked S start is c d i j g t (o.ended t (subst (λ (below : List ℕ). is_ended below t ≡ true) (take_keeps plan ts before_run).2 h));
+        ended = λ t h. past_grows plan asked S start is c d i j g t (o.ended t (subst (λ (below : List ℕ). is_ended below t ≡ true) (take_keeps plan ts before_run).2 h));
         decided = λ t h. elim (decided_after t h) [ inl k ↦ inl (subst (λ (l : Lists). IsDecided l.known t) (sym (take_keeps plan ts before_run).0) k) | inr gone ↦ inr (gone_taught plan s (lists_after s news) ts t gone) ];
         back = λ t h. back_after t (subst (λ (l : Lists). IsDecided l.known t) (take_keeps plan ts before_run).0 h);
       }

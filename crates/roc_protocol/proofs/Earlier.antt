@@ -13,17 +13,17 @@ use Rattle.roc_depgraph.specs.Deps.{IsDecided}
 use Rattle.roc_msg.specs.declared.msg.Msg.TheVariants.{Start}
 use Rattle.roc_msg.specs.declared.msg.Envelope.{Envelope}
 use Rattle.roc_plan.specs.Groups.{Plan}
-use Rattle.roc_whole.specs.Serial.{start_store}
 use Rattle.roc_law_log.specs.Scheme.{Scheme, IsSoundScheme}
 use Rattle.roc_law_log.specs.Invariants.{Continues}
 use Rattle.roc_server.specs.State.{find_group, ServerState}
 use Rattle.roc_audit.specs.Order.{noted}
 use Rattle.roc_protocol.specs.declared.event.Event.{Event}
 use Rattle.roc_protocol.specs.declared.event.Event.TheVariants.{Submit, Deliver, Tick}
-use Rattle.roc_protocol.specs.PlanAssumptions.{HasSchemes}
+use Rattle.roc_protocol.specs.PlanAssumptions.{HasSchemesFrom}
+use Rattle.roc_protocol.specs.Beginnings.{Beginning, IsBeginning}
 use Rattle.roc_protocol.specs.World.{World, mark_delivered}
 use Rattle.roc_protocol.specs.Happens.{Outcome, IsReceived}
-use Rattle.roc_protocol.specs.Run.{Stepped, Transition, IsRun}
+use Rattle.roc_protocol.specs.Run.{Stepped, Transition, IsRunFrom}
 use Rattle.roc_protocol.specs.Inner.Given.{LogLaws, StoreLaws}
 use Rattle.roc_protocol.proofs.Means.{run_of, Means}
 use Rattle.roc_protocol.proofs.Gone.{none_gone}
@@ -62,14 +62,14 @@ order_goes_on plan w (Some (Tick (Coord n))) o (s, there, e) = subst (λ (o : Ou
 
 -- ---- what is decided, and what is yet to start
 
-module _ (plan : Plan) (schemes : HasSchemes plan) (laws : (S : Scheme) → IsSoundScheme S → LogLaws S (start_store plan.program)) (stores : StoreLaws) (coords : ℕ) (steps : List Stepped) (w : World) (run : IsRun plan coords steps w) where
+module _ (plan : Plan) (start : Beginning) (begins : IsBeginning plan start) (schemes : HasSchemesFrom plan start.store) (laws : (S : Scheme) → IsSoundScheme S → LogLaws S start.store) (stores : StoreLaws) (coords : ℕ) (steps : List Stepped) (w : World) (run : IsRunFrom plan start coords steps w) where
   pub decided_ordered : (n : ℕ) (s : ServerState) → slice_get w.servers n ≡ Some s → (t : TxnId) → IsDecided s.lists.known t → IsListed is_txn w.order t
   decided_ordered n s there t d = elim (transaction_or_none plan) [
     | inl some ↦
-        (let x = logged plan schemes laws stores coords steps w run some in
-        let i = (laws (S plan schemes laws stores coords steps w run some) (sound plan schemes laws stores coords steps w run some)).holds x.0 x.1.means.reached in
+        (let x = logged plan start begins schemes laws stores coords steps w run some in
+        let i = (laws (S plan start begins schemes laws stores coords steps w run some) (sound plan start begins schemes laws stores coords steps w run some)).holds x.0 x.1.means.reached in
         subst (λ l. IsListed is_txn l t) (sym x.1.means.order) (i.in_order n t ((x.1.means.servers n s there).back t d)))
-    | inr none ↦ absurd (nothing s.lists.known ((run_idle plan none coords steps w run).known n s there) d)
+    | inr none ↦ absurd (nothing s.lists.known ((run_idle plan none start begins coords steps w run).known n s there) d)
   ]
     where
       nothing : (known : List KnownList) → known ≡ [] → IsDecided known t → ⊥
@@ -79,13 +79,13 @@ module _ (plan : Plan) (schemes : HasSchemes plan) (laws : (S : Scheme) → IsSo
       → find_group id group s.started ≡ None → ¬ IsListed is_txn w.order id
   starting_unordered n s there m has to id proc group args inputs msg none h = elim (transaction_or_none plan) [
     | inl some ↦
-        (let x = logged plan schemes laws stores coords steps w run some in
-        let T = S plan schemes laws stores coords steps w run some in
-        let i = (laws T (sound plan schemes laws stores coords steps w run some)).holds x.0 x.1.means.reached in
-        let k = subst (λ msg. Means plan (asked plan schemes laws stores coords steps w run some) T (start_store plan.program) x.0 msg m.to) msg (x.1.means.messages m has) in
+        (let x = logged plan start begins schemes laws stores coords steps w run some in
+        let T = S plan start begins schemes laws stores coords steps w run some in
+        let i = (laws T (sound plan start begins schemes laws stores coords steps w run some)).holds x.0 x.1.means.reached in
+        let k = subst (λ msg. Means plan (asked plan start begins schemes laws stores coords steps w run some) T start x.0 msg m.to) msg (x.1.means.messages m has) in
         let began = i.whole id (subst (λ l. IsListed is_txn l id) x.1.means.order h) group k.means.listed in
         elim ((x.1.means.servers n s there).groups.finds (run_of id group) began (ap shard_number (sym k.to ∙ to))) [ inl f ↦ clash f.0 f.1 | inr gone ↦ none_gone s id gone ])
-    | inr none ↦ subst (Has m) (run_idle plan none coords steps w run).sent has
+    | inr none ↦ subst (Has m) (run_idle plan none start begins coords steps w run).sent has
   ]
     where
       clash : (e : _) → find_group id group s.started ≡ Some e → ⊥

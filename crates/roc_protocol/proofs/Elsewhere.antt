@@ -4,7 +4,7 @@ use Rattle.roc_sequence.specs.Places.{IsListed}
 use Rattle.roc_base.specs.declared.id.TxnId.{TxnId}
 use Rattle.roc_base.specs.TxnId.{is_txn}
 use Rattle.roc_rows.specs.declared.cell.Cell.{Cell}
-use Rattle.roc_rows.specs.Store.{Store, read}
+use Rattle.roc_rows.specs.Store.{read}
 use Rattle.roc_plan.specs.Groups.{Plan}
 use Rattle.roc_whole.specs.Serial as whole
 use Rattle.roc_law_orders.specs.Behaviour.{TxnGroup, Yield}
@@ -13,18 +13,19 @@ use Rattle.roc_law_log.specs.Log.{Log}
 use Rattle.roc_law_log.specs.Invariants.{LogInvariants, LogGrows}
 use Rattle.roc_server.specs.State.{ServerState}
 use Rattle.roc_server.specs.State.{unrun}
+use Rattle.roc_protocol.specs.Beginnings.{Beginning}
 use Rattle.roc_protocol.specs.PlanAssumptions.{IsSchemeOf}
 use Rattle.roc_protocol.proofs.Means.{entry_run, place, Ran, Began, stage, ServerMeans}
-use Rattle.roc_protocol.proofs.Grows.{place_grows, entry_grows, all_grow, begun_grows, answered_grows}
+use Rattle.roc_protocol.proofs.Grows.{place_grows, entry_grows, all_grow, begun_grows, past_grows}
 
 -- between the two logs no group starts or runs on the shard, its cells stay, and it decides nothing
-pub record IsQuietOn (plan : Plan) (asked : TxnId → whole.Call) (S : Scheme) (start : Store) (c d : Log) (shard : ℕ) : Type 0 where
+pub record IsQuietOn (plan : Plan) (asked : TxnId → whole.Call) (S : Scheme) (start : Beginning) (c d : Log) (shard : ℕ) : Type 0 where
   pub began : (r : TxnGroup) → Began plan asked S start d r → place plan asked S start d r ≡ shard → Began plan asked S start c r
   pub ran : (r : TxnGroup) → Ran plan asked S start d r → S.is_immediate r ≡ false → place plan asked S start d r ≡ shard → Ran plan asked S start c r
   pub cells : (x : Cell) → S.cell_shard x ≡ shard → read (stage plan asked S start d).store x ≡ read (stage plan asked S start c).store x
   pub decided : d.decided shard ≡ c.decided shard
 
-module _ (plan : Plan) (asked : TxnId → whole.Call) (S : Scheme) (start : Store) (is : IsSchemeOf plan asked S) (c d : Log) (i : LogInvariants S start c) (j : LogInvariants S start d) (g : LogGrows S start c d) (shard : ℕ) where
+module _ (plan : Plan) (asked : TxnId → whole.Call) (S : Scheme) (start : Beginning) (is : IsSchemeOf plan asked S) (c d : Log) (i : LogInvariants S start.store c) (j : LogInvariants S start.store d) (g : LogGrows S start.store c d) (shard : ℕ) where
   pub server_elsewhere : IsQuietOn plan asked S start c d shard → (s : ServerState) → ServerMeans plan asked S start c shard s → ServerMeans plan asked S start d shard s
   server_elsewhere q s o =
       record {
@@ -44,7 +45,7 @@ module _ (plan : Plan) (asked : TxnId → whole.Call) (S : Scheme) (start : Stor
         };
         known = all_grow plan asked S start is c d i j g s.lists.known o.known;
         fetched = λ a h. begun_grows plan asked S start is c d i j g a.id a.at.0 (o.fetched a h);
-        ended = λ t h. answered_grows plan asked S start is c d i j g t (o.ended t h);
+        ended = λ t h. past_grows plan asked S start is c d i j g t (o.ended t h);
         decided = λ t h. o.decided t (subst (λ l. IsListed is_txn l t) q.decided h);
         back = λ t h. subst (λ l. IsListed is_txn l t) (sym q.decided) (o.back t h);
       }

@@ -9,17 +9,17 @@ use Rattle.roc_base.specs.declared.node.Node.{Node}
 use Rattle.roc_base.specs.declared.node.Node.TheVariants.{Server, Coord}
 use Rattle.roc_msg.specs.declared.msg.Envelope.{Envelope}
 use Rattle.roc_plan.specs.Groups.{Plan, procedure_of, is_transaction}
-use Rattle.roc_whole.specs.Serial.{start_store}
 use Rattle.roc_law_log.specs.Scheme.{Scheme, IsSoundScheme}
 use Rattle.roc_coord.specs.declared.handled.SubmitFault.TheVariants as fault
 use Rattle.roc_coord.specs.State.{CoordState}
 use Rattle.roc_coord.specs.Submit.{Submission, refused_or_accepted, after_submit, most_transactions, most_pending}
 use Rattle.roc_protocol.specs.declared.event.Event.TheVariants.{Deliver}
 use Rattle.roc_protocol.specs.declared.event.Seen.TheVariants as seen
-use Rattle.roc_protocol.specs.PlanAssumptions.{HasSchemes}
+use Rattle.roc_protocol.specs.PlanAssumptions.{HasSchemesFrom}
+use Rattle.roc_protocol.specs.Beginnings.{Beginning, IsBeginning}
 use Rattle.roc_protocol.specs.World.{World, mark_delivered}
 use Rattle.roc_protocol.specs.Happens.{Outcome, IsSubmissionOf, IsReceived, Happens, server_seen, coord_seen}
-use Rattle.roc_protocol.specs.Run.{Stepped, IsRun}
+use Rattle.roc_protocol.specs.Run.{Stepped, IsRunFrom}
 use Rattle.roc_protocol.specs.Inner.Given.{LogLaws, StoreLaws}
 use Rattle.roc_protocol.proofs.AskedFor.{run_asked}
 use Rattle.roc_msg.specs.declared.reason.Reason.{Reason}
@@ -69,11 +69,11 @@ submission_ends plan w coord proc args d c o e f s = let same : d ≡ c = cc in 
 
 -- ---- a delivery
 
-module _ (plan : Plan) (schemes : HasSchemes plan) (laws : (S : Scheme) → IsSoundScheme S → LogLaws S (start_store plan.program)) (stores : StoreLaws) (coords : ℕ) (steps : List Stepped) (w : World) (run : IsRun plan coords steps w) where
+module _ (plan : Plan) (start : Beginning) (begins : IsBeginning plan start) (schemes : HasSchemesFrom plan start.store) (laws : (S : Scheme) → IsSoundScheme S → LogLaws S start.store) (stores : StoreLaws) (coords : ℕ) (steps : List Stepped) (w : World) (run : IsRunFrom plan start coords steps w) where
   pub server_takes : (k : ℕ) (m : Envelope) (shard : Shard) (o : Outcome) → slice_get w.sent (k - 1) ≡ Some m → m.to ≡ Server shard → Happens plan w (Deliver k) o → o.seen ≡ seen.Done
   server_takes k m shard o there to (b, first, at, h) = elim (transaction_or_none plan) [
     | inl some ↦ taken_by some b at (let same : b ≡ m = cc in ap (λ (m : Envelope). m.to) same ∙ to) h
-    | inr none ↦ absurd (subst (Has m) (run_idle plan none coords steps w run).sent (has_at w.sent (k - 1) m there))
+    | inr none ↦ absurd (subst (Has m) (run_idle plan none start begins coords steps w run).sent (has_at w.sent (k - 1) m there))
   ]
     where
       taken_by : HasTransaction plan → (b : Envelope) → slice_get w.sent (k - 1) ≡ Some b → b.to ≡ Server shard → IsReceived plan (mark_delivered w k) b.msg b.to o → o.seen ≡ seen.Done
@@ -82,11 +82,11 @@ module _ (plan : Plan) (schemes : HasSchemes plan) (laws : (S : Scheme) → IsSo
           go : (t : Node) → b.to ≡ t → t ≡ Server shard → IsReceived plan (mark_delivered w k) b.msg t o → o.seen ≡ seen.Done
           go (Coord c) is e x = absurd (cc)
           go (Server s) is e (v, r, found, step, is_o) =
-              let x = serial.logged plan schemes laws stores coords steps w run some in
-              let subs = serial.submissions plan schemes laws stores coords steps w run some in
-              let S = serial.S plan schemes laws stores coords steps w run some in
-              let done = message_taken plan (serial.asked plan schemes laws stores coords steps w run some) S (serial.is plan schemes laws stores coords steps w run some) (laws S (serial.sound plan schemes laws stores coords steps w run some))
-              w x.0 x.1 (networked plan schemes laws stores coords steps w run some) (run_asked plan coords steps w run) subs (serial.agrees plan some.0 w subs) (serial.known plan schemes laws stores coords steps w run some)
+              let x = serial.logged plan start begins schemes laws stores coords steps w run some in
+              let subs = serial.submissions plan start begins schemes laws stores coords steps w run some in
+              let S = serial.S plan start begins schemes laws stores coords steps w run some in
+              let done = message_taken plan (serial.asked plan start begins schemes laws stores coords steps w run some) S start (serial.is plan start begins schemes laws stores coords steps w run some) (laws S (serial.sound plan start begins schemes laws stores coords steps w run some))
+              w x.0 x.1 (networked plan start begins schemes laws stores coords steps w run some) (run_asked plan start coords steps w run) subs (serial.agrees plan some.0 w subs) (serial.known plan start begins schemes laws stores coords steps w run some)
               s.0 v found b (has_at w.sent (k - 1) b at) is r step in
               ap (λ (x : Outcome). x.seen) is_o ∙ ap server_seen done
 
@@ -95,7 +95,7 @@ module _ (plan : Plan) (schemes : HasSchemes plan) (laws : (S : Scheme) → IsSo
   pub coordinator_ignores : (k : ℕ) (o : Outcome) (why : Reason) → Happens plan w (Deliver k) o → o.seen ≡ seen.Ignored why → why ≡ Stale
   coordinator_ignores k o why (b, first, at, h) ignored = elim (transaction_or_none plan) [
     | inl some ↦ by_node some b.to refl h
-    | inr none ↦ absurd (subst (Has b) (run_idle plan none coords steps w run).sent (has_at w.sent (k - 1) b at))
+    | inr none ↦ absurd (subst (Has b) (run_idle plan none start begins coords steps w run).sent (has_at w.sent (k - 1) b at))
   ]
     where
       was_ignored : (a : CoordHandled) → coord_seen a ≡ seen.Ignored why → a ≡ coord_answer.Ignored why
@@ -106,11 +106,11 @@ module _ (plan : Plan) (schemes : HasSchemes plan) (laws : (S : Scheme) → IsSo
       by_node : HasTransaction plan → (t : Node) → b.to ≡ t → IsReceived plan (mark_delivered w k) b.msg t o → why ≡ Stale
       by_node some (Server s) to x = absurd (let done = server_takes k b s o at to (b, first, at, subst (λ t. IsReceived plan (mark_delivered w k) b.msg t o) (sym to) x) in cc)
       by_node some (Coord n) to (s, found, e) =
-          let x = serial.logged plan schemes laws stores coords steps w run some in
-          let subs = serial.submissions plan schemes laws stores coords steps w run some in
-          let S = serial.S plan schemes laws stores coords steps w run some in
-          let asked = serial.asked plan schemes laws stores coords steps w run some in
-          let is = serial.is plan schemes laws stores coords steps w run some in
-          let l = laws S (serial.sound plan schemes laws stores coords steps w run some) in
-          message_stale plan asked S is l w x.0 x.1 (networked plan schemes laws stores coords steps w run some) (run_pending plan asked S is l stores coords steps w run (serial.agrees plan some.0 w subs)) (run_ongoing plan asked S is l stores coords steps w run (serial.agrees plan some.0 w subs)).0.gone n s found b (has_at w.sent (k - 1) b at) to why
+          let x = serial.logged plan start begins schemes laws stores coords steps w run some in
+          let subs = serial.submissions plan start begins schemes laws stores coords steps w run some in
+          let S = serial.S plan start begins schemes laws stores coords steps w run some in
+          let asked = serial.asked plan start begins schemes laws stores coords steps w run some in
+          let is = serial.is plan start begins schemes laws stores coords steps w run some in
+          let l = laws S (serial.sound plan start begins schemes laws stores coords steps w run some) in
+          message_stale plan asked S start is l w x.0 x.1 (networked plan start begins schemes laws stores coords steps w run some) (run_pending plan asked S start is l stores begins coords steps w run (serial.agrees plan some.0 w subs)) (run_ongoing plan asked S start is l stores begins coords steps w run (serial.agrees plan some.0 w subs)).0.gone n s found b (has_at w.sent (k - 1) b at) to why
           (was_ignored (after_message plan s b.msg).answer (sym (ap (λ (o : Outcome). o.seen) e) ∙ ignored))

@@ -15,14 +15,12 @@ use Rattle.roc_msg.specs.declared.msg.Envelope.{Envelope}
 use Rattle.roc_msg.specs.declared.outbox.Outgoing.{Outgoing}
 use Rattle.roc_plan.specs.Groups.{Plan, groups_of}
 use Rattle.roc_whole.specs.Serial as whole
-use Rattle.roc_whole.specs.Serial.{start_store}
 use Rattle.roc_law_log.specs.Scheme.{Scheme, IsSoundScheme}
 use Rattle.roc_law_log.specs.Log.{Log}
 use Rattle.roc_server.specs.declared.started.StartedGroup.{StartedGroup}
 use Rattle.roc_server.specs.State.{answered, find_group, ServerState}
-use Rattle.roc_server.specs.First.{first_server}
 use Rattle.roc_server.specs.Step as server
-use Rattle.roc_coord.specs.State.{first_coord, CoordState}
+use Rattle.roc_coord.specs.State.{CoordState}
 use Rattle.roc_coord.specs.Step.{after_message}
 use Rattle.roc_coord.specs.Submit.{next_id, new_transaction, accepted}
 use Rattle.roc_coord.specs.Tick as coord
@@ -31,10 +29,11 @@ use Rattle.roc_audit.specs.declared.entry.Entry.TheVariants.{Submitted}
 use Rattle.roc_audit.specs.History.{WasSubmitted}
 use Rattle.roc_protocol.specs.declared.event.Event.{Event}
 use Rattle.roc_protocol.specs.declared.event.Event.TheVariants.{Submit, Deliver, Tick}
-use Rattle.roc_protocol.specs.PlanAssumptions.{IsSchemeOf, HasSchemes}
+use Rattle.roc_protocol.specs.PlanAssumptions.{IsSchemeOf, HasSchemesFrom}
+use Rattle.roc_protocol.specs.Beginnings.{Beginning, IsBeginning, begun_server, begun_coord}
 use Rattle.roc_protocol.specs.World.{World, sent_by, mark_delivered, at_coord}
 use Rattle.roc_protocol.specs.Happens.{Outcome, answer_entries, IsReceived, Ticks}
-use Rattle.roc_protocol.specs.Run.{Stepped, Transition, IsRun, begun, goes_on}
+use Rattle.roc_protocol.specs.Run.{Stepped, Transition, IsRunFrom, at_beginning, steps_on}
 use Rattle.roc_protocol.specs.Final.{lists_in, IsUnionIn, IsFinalIn}
 use Rattle.roc_protocol.specs.Inner.Given.{LogLaws, StoreLaws}
 use Rattle.roc_protocol.proofs.Means.{run_of, Means}
@@ -50,15 +49,15 @@ use Rattle.roc_protocol.proofs.Serial.{S, asked, logged, sound, agrees, submissi
 use Rattle.roc_protocol.proofs.Serial as serial
 use Rattle.roc_protocol.proofs.Transactions.{transaction_or_none, HasTransaction}
 
-module _ (plan : Plan) (asked : TxnId → whole.Call) (S : Scheme) (is : IsSchemeOf plan asked S) (laws : LogLaws S (start_store plan.program)) where
-  module _ (w : World) (log : Log) (o : IsLogged plan asked S is laws w log) (nw : IsNetworked plan asked S is laws w) where
+module _ (plan : Plan) (asked : TxnId → whole.Call) (S : Scheme) (start : Beginning) (is : IsSchemeOf plan asked S) (laws : LogLaws S start.store) where
+  module _ (w : World) (log : Log) (o : IsLogged plan asked S start is laws w log) (nw : IsNetworked plan asked S start is laws w) where
     abbrev Goods : TxnId → List Dependency → Type 0
-    Goods = Good plan asked S is laws w.sent
+    Goods = Good plan asked S start is laws w.sent
 
     -- what the coordinators hold was told
     abbrev Keeps : (n : ℕ) (s : CoordState) → slice_get w.coords n ≡ Some s → CoordState → List Outgoing → Type 0
     Keeps n s there after outs =
-        KeepsGathered plan Goods (Told plan asked S is laws w.sent) (Calls plan asked S is laws) (told_facts plan asked S is laws w.sent) s (λ x h. nw.taken n s there x h) (gathered_good plan asked S is laws w log o nw) after outs
+        KeepsGathered plan Goods (Told plan asked S start is laws w.sent) (Calls plan asked S start is laws) (told_facts plan asked S start is laws w.sent) s (λ x h. nw.taken n s there x h) (gathered_good plan asked S start is laws w log o nw) after outs
 
     no_startok : (msg : Msg) → IsRound msg → IsToldHere w.servers msg
     no_startok (Start id proc group args inputs) k = tt
@@ -66,7 +65,7 @@ module _ (plan : Plan) (asked : TxnId → whole.Call) (S : Scheme) (is : IsSchem
     no_startok (Ended coord mark) k = tt
     no_startok msg k = absurd k
 
-    coordinated_networked : (n : ℕ) (s : CoordState) (there : slice_get w.coords n ≡ Some s) (after : CoordState) (outs : List Outgoing) (tells : List Entry) → Keeps n s there after outs → IsNetworked plan asked S is laws (at_coord w n after outs tells)
+    coordinated_networked : (n : ℕ) (s : CoordState) (there : slice_get w.coords n ≡ Some s) (after : CoordState) (outs : List Outgoing) (tells : List Entry) → Keeps n s there after outs → IsNetworked plan asked S start is laws (at_coord w n after outs tells)
     coordinated_networked n s there after outs tells k =
         let more = map (sent_by (Coord n)) outs in
         record {
@@ -76,9 +75,9 @@ module _ (plan : Plan) (asked : TxnId → whole.Call) (S : Scheme) (is : IsSchem
             | inl j ↦ nw.told m j
             | inr j ↦ (let q = from_has_map (sent_by (Coord n)) m outs j in subst (λ (m : Envelope). IsToldHere w.servers m.msg) (sym q.2) (no_startok q.0.msg (k.sends q.0 q.1).1))
           ];
-          lists = lists_after plan asked S is laws w log o nw (Coord n) outs (λ out h. (k.sends out h).0);
-          servers = λ m v h. holds_later plan asked S is laws w log o nw more v (nw.servers m v h);
-          taken = λ m c e x h. told_later plan asked S is laws w log o nw more x (elim (get-set_cases w.coords n m s after c there e) [
+          lists = lists_after plan asked S start is laws w log o nw (Coord n) outs (λ out h. (k.sends out h).0);
+          servers = λ m v h. holds_later plan asked S start is laws w log o nw more v (nw.servers m v h);
+          taken = λ m c e x h. told_later plan asked S start is laws w log o nw more x (elim (get-set_cases w.coords n m s after c there e) [
             | inl j ↦ k.pending x (subst (λ (c : CoordState). Has x c.pending) j.1 h)
             | inr j ↦ nw.taken m c j.1 x h
           ]);
@@ -94,109 +93,109 @@ module _ (plan : Plan) (asked : TxnId → whole.Call) (S : Scheme) (is : IsSchem
           | inr j ↦ (let q = from_has_map (sent_by (Coord n)) m outs j in absurd (none_sent q.0.msg t g (k.sends q.0 q.1).1 (subst (λ (m : Envelope). IsStartOkOf t g m.msg) q.2 a)))
         ]
 
-    pub comes_networked : (k : ℕ) → IsNetworked plan asked S is laws (mark_delivered w k)
+    pub comes_networked : (k : ℕ) → IsNetworked plan asked S start is laws (mark_delivered w k)
     comes_networked k = record { told = nw.told; one = nw.one; kept = nw.kept; lists = nw.lists; servers = nw.servers; taken = nw.taken }
 
-    tick_networked : (node : Node) (v : Outcome) → Ticks plan w node v → IsNetworked plan asked S is laws v.world
-    tick_networked (Server shard) v (s, there, e) = subst (λ (v : Outcome). IsNetworked plan asked S is laws v.world) (sym e)
-        (served_networked plan asked S is laws w log o nw shard.0 s there (answered s (server.tick_sends s)) (tick_good plan Goods (IsPlacedOn plan asked S is laws log shard.0) s (holds_there plan asked S is laws w log o nw shard.0 s there)))
-    tick_networked (Coord n) v (s, there, e) = subst (λ (v : Outcome). IsNetworked plan asked S is laws v.world) (sym e)
-        (coordinated_networked n s there s (coord.tick_sends plan s) [] (tick_gathered plan Goods (Told plan asked S is laws w.sent) (Calls plan asked S is laws) (told_facts plan asked S is laws w.sent) s (λ x h. nw.taken n s there x h) (gathered_good plan asked S is laws w log o nw)))
+    tick_networked : (node : Node) (v : Outcome) → Ticks plan w node v → IsNetworked plan asked S start is laws v.world
+    tick_networked (Server shard) v (s, there, e) = subst (λ (v : Outcome). IsNetworked plan asked S start is laws v.world) (sym e)
+        (served_networked plan asked S start is laws w log o nw shard.0 s there (answered s (server.tick_sends s)) (tick_good plan Goods (IsPlacedOn plan asked S start is laws log shard.0) s (holds_there plan asked S start is laws w log o nw shard.0 s there)))
+    tick_networked (Coord n) v (s, there, e) = subst (λ (v : Outcome). IsNetworked plan asked S start is laws v.world) (sym e)
+        (coordinated_networked n s there s (coord.tick_sends plan s) [] (tick_gathered plan Goods (Told plan asked S start is laws w.sent) (Calls plan asked S start is laws) (told_facts plan asked S start is laws w.sent) s (λ x h. nw.taken n s there x h) (gathered_good plan asked S start is laws w log o nw)))
 
     -- a message in the network tells what it tells
-    tells : (m : Envelope) → Has m w.sent → (msg : Msg) → m.msg ≡ msg → ((k : KnownList) → Has k (lists_in msg) → Good plan asked S is laws w.sent k.of k.edges) → (n : ℕ) (s : CoordState) (there : slice_get w.coords n ≡ Some s)
-        → Tells plan Goods (Told plan asked S is laws w.sent) (Calls plan asked S is laws) (told_facts plan asked S is laws w.sent) s (λ x h. nw.taken n s there x h) (gathered_good plan asked S is laws w log o nw) msg
+    tells : (m : Envelope) → Has m w.sent → (msg : Msg) → m.msg ≡ msg → ((k : KnownList) → Has k (lists_in msg) → Good plan asked S start is laws w.sent k.of k.edges) → (n : ℕ) (s : CoordState) (there : slice_get w.coords n ≡ Some s)
+        → Tells plan Goods (Told plan asked S start is laws w.sent) (Calls plan asked S start is laws) (told_facts plan asked S start is laws w.sent) s (λ x h. nw.taken n s there x h) (gathered_good plan asked S start is laws w log o nw) msg
     tells m h (StartOk id group shard bound outs edges facts) e good n s there = (record { message = m; has = h; shard = shard; bound = bound; outs = outs; is = e }, good)
     tells m h msg e good n s there = tt
 
-    receive_networked : (m : Envelope) → Has m w.sent → (to : Node) → m.to ≡ to → (v : Outcome) → IsReceived plan w m.msg to v → IsNetworked plan asked S is laws v.world
-    receive_networked m h (Server shard) to v (s, r, there, step, e) = subst (λ (v : Outcome). IsNetworked plan asked S is laws v.world) (sym e)
-        (served_networked plan asked S is laws w log o nw shard.0 s there r (message_good plan Goods (IsPlacedOn plan asked S is laws log shard.0) s (holds_there plan asked S is laws w log o nw shard.0 s there) m.msg r step (nw.lists m h) (starts_there plan asked S is laws w log o nw m h shard.0 to)))
-    receive_networked m h (Coord n) to v (s, there, e) = subst (λ (v : Outcome). IsNetworked plan asked S is laws v.world) (sym e)
+    receive_networked : (m : Envelope) → Has m w.sent → (to : Node) → m.to ≡ to → (v : Outcome) → IsReceived plan w m.msg to v → IsNetworked plan asked S start is laws v.world
+    receive_networked m h (Server shard) to v (s, r, there, step, e) = subst (λ (v : Outcome). IsNetworked plan asked S start is laws v.world) (sym e)
+        (served_networked plan asked S start is laws w log o nw shard.0 s there r (message_good plan Goods (IsPlacedOn plan asked S start is laws log shard.0) s (holds_there plan asked S start is laws w log o nw shard.0 s there) m.msg r step (nw.lists m h) (starts_there plan asked S start is laws w log o nw m h shard.0 to)))
+    receive_networked m h (Coord n) to v (s, there, e) = subst (λ (v : Outcome). IsNetworked plan asked S start is laws v.world) (sym e)
         (coordinated_networked n s there (after_message plan s m.msg).state (after_message plan s m.msg).sends (answer_entries (after_message plan s m.msg).answer)
-        (message_gathered plan Goods (Told plan asked S is laws w.sent) (Calls plan asked S is laws) (told_facts plan asked S is laws w.sent) s (λ x h. nw.taken n s there x h) (gathered_good plan asked S is laws w log o nw) m.msg (tells m h m.msg refl (nw.lists m h) n s there)))
+        (message_gathered plan Goods (Told plan asked S start is laws w.sent) (Calls plan asked S start is laws) (told_facts plan asked S start is laws w.sent) s (λ x h. nw.taken n s there x h) (gathered_good plan asked S start is laws w log o nw) m.msg (tells m h m.msg refl (nw.lists m h) n s there)))
 
-    submit_networked : (n proc : ℕ) (args : List ℤ) (s : CoordState) → slice_get w.coords n ≡ Some s → (v : Outcome) → Submitting plan w n proc args s v → Agrees asked v.world.history → IsNetworked plan asked S is laws v.world
-    submit_networked n proc args s there v (is_refused e) fits = subst (IsNetworked plan asked S is laws) (sym e) nw
+    submit_networked : (n proc : ℕ) (args : List ℤ) (s : CoordState) → slice_get w.coords n ≡ Some s → (v : Outcome) → Submitting plan w n proc args s v → Agrees asked v.world.history → IsNetworked plan asked S start is laws v.world
+    submit_networked n proc args s there v (is_refused e) fits = subst (IsNetworked plan asked S start is laws) (sym e) nw
     submit_networked n proc args s there v (is_accepted known counted e) fits =
         let more = Submitted (next_id s) proc args ∷ [] in
         let g : Agrees asked (w.history ++ more) = subst (λ (v : World). Agrees asked v.history) e fits in
-        subst (IsNetworked plan asked S is laws) (sym e)
+        subst (IsNetworked plan asked S start is laws) (sym e)
         (coordinated_networked n s there (accepted plan s (new_transaction s proc args)).state (accepted plan s (new_transaction s proc args)).sends more
-        (submission_gathered plan Goods (Told plan asked S is laws w.sent) (Calls plan asked S is laws) (told_facts plan asked S is laws w.sent) s (λ x h. nw.taken n s there x h) (gathered_good plan asked S is laws w log o nw) proc args
+        (submission_gathered plan Goods (Told plan asked S start is laws w.sent) (Calls plan asked S start is laws) (told_facts plan asked S start is laws w.sent) s (λ x h. nw.taken n s there x h) (gathered_good plan asked S start is laws w log o nw) proc args
         (g.proc (next_id s) proc args (has_right (Submitted (next_id s) proc args) w.history more (inl refl)))))
 
-  step_networked : (w : World) (log : Log) → IsLogged plan asked S is laws w log → IsNetworked plan asked S is laws w → (e : Option Event) (v : Outcome) → Transition plan w e v → Agrees asked v.world.history → IsNetworked plan asked S is laws v.world
-  step_networked w log o nw None v h fits = subst (λ (v : Outcome). IsNetworked plan asked S is laws v.world) (sym h) nw
+  step_networked : (w : World) (log : Log) → IsLogged plan asked S start is laws w log → IsNetworked plan asked S start is laws w → (e : Option Event) (v : Outcome) → Transition plan w e v → Agrees asked v.world.history → IsNetworked plan asked S start is laws v.world
+  step_networked w log o nw None v h fits = subst (λ (v : Outcome). IsNetworked plan asked S start is laws v.world) (sym h) nw
   step_networked w log o nw (Some (Submit n proc args)) v (s, there, h) fits = submit_networked w log o nw n proc args s there v (submitting plan w n proc args s v h) fits
   step_networked w log o nw (Some (Deliver k)) v (m, some, there, h) fits =
-      receive_networked (mark_delivered w k) log (comes_logged plan asked S is laws w log o k) (comes_networked w log o nw k) m (has_at w.sent (k - 1) m there) m.to refl v h
+      receive_networked (mark_delivered w k) log (comes_logged plan asked S start is laws w log o k) (comes_networked w log o nw k) m (has_at w.sent (k - 1) m there) m.to refl v h
   step_networked w log o nw (Some (Tick node)) v h fits = tick_networked w log o nw node v h
 
-  module _ (stores : StoreLaws) where
-    pub run_networked : (coords : ℕ) (steps : List Stepped) (w : World) → IsRun plan coords steps w → Agrees asked w.history → IsNetworked plan asked S is laws w
-    run_networked coords steps w begun fits =
+  module _ (stores : StoreLaws) (begins : IsBeginning plan start) where
+    pub run_networked : (coords : ℕ) (steps : List Stepped) (w : World) → IsRunFrom plan start coords steps w → Agrees asked w.history → IsNetworked plan asked S start is laws w
+    run_networked coords steps w at_beginning fits =
         record {
           told = λ m h. absurd h;
           one = λ m k h. absurd h;
           kept = λ n s there t g e f m h. absurd h;
           lists = λ m h. absurd h;
-          servers = λ n s h. (let e = found_at (λ n. first_server plan (record { 0 = n })) 0 plan.program.shards n s h in
+          servers = λ n s h. (let e = found_at (begun_server start) 0 plan.program.shards n s h in
               record { groups = λ b j. tt; known = λ k j. elim (subst (λ (s : ServerState). Has k s.lists.known) e j) [ ]; facts = λ b j. elim (subst (λ (s : ServerState). Has b s.started) e j) [ ] });
-          taken = λ n c e x h. elim (subst (λ (c : CoordState). Has x c.pending) (found_at first_coord 0 coords n c e) h) [ ];
+          taken = λ n c e x h. elim (subst (λ (c : CoordState). Has x c.pending) (found_at (begun_coord start) 0 coords n c e) h) [ ];
         }
-    run_networked coords steps w (goes_on {w = v} e o r h) fits =
+    run_networked coords steps w (steps_on {w = v} e o r h) fits =
         let x = step_extends plan v e o h in
         let g = agrees_before asked v.history x.more (subst (Agrees asked) x.is fits) in
-        let l = run_logged plan asked S is laws stores coords _ v r g in
+        let l = run_logged plan asked S start is laws stores begins coords _ v r g in
         step_networked v l.0 l.1 (run_networked coords _ v r g) e o h fits
 
 -- ---- the laws
 
-module _ (plan : Plan) (schemes : HasSchemes plan) (laws : (S : Scheme) → IsSoundScheme S → LogLaws S (start_store plan.program)) (stores : StoreLaws) (coords : ℕ) (steps : List Stepped) (w : World) (run : IsRun plan coords steps w) where
+module _ (plan : Plan) (start : Beginning) (begins : IsBeginning plan start) (schemes : HasSchemesFrom plan start.store) (laws : (S : Scheme) → IsSoundScheme S → LogLaws S start.store) (stores : StoreLaws) (coords : ℕ) (steps : List Stepped) (w : World) (run : IsRunFrom plan start coords steps w) where
   module _ (some : HasTransaction plan) where
     abbrev T : Scheme
-    T = S plan schemes laws stores coords steps w run some
+    T = S plan start begins schemes laws stores coords steps w run some
 
     abbrev calls : TxnId → whole.Call
-    calls = asked plan schemes laws stores coords steps w run some
+    calls = asked plan start begins schemes laws stores coords steps w run some
 
-    pub networked : IsNetworked plan calls T (serial.is plan schemes laws stores coords steps w run some) (laws T (sound plan schemes laws stores coords steps w run some)) w
-    networked = run_networked plan calls T (serial.is plan schemes laws stores coords steps w run some) (laws T (sound plan schemes laws stores coords steps w run some)) stores coords steps w run (agrees plan some.0 w (submissions plan schemes laws stores coords steps w run some))
+    pub networked : IsNetworked plan calls T start (serial.is plan start begins schemes laws stores coords steps w run some) (laws T (sound plan start begins schemes laws stores coords steps w run some)) w
+    networked = run_networked plan calls T start (serial.is plan start begins schemes laws stores coords steps w run some) (laws T (sound plan start begins schemes laws stores coords steps w run some)) stores begins coords steps w run (agrees plan some.0 w (submissions plan start begins schemes laws stores coords steps w run some))
 
     -- a union is of a submitted transaction
     final_of : (t : TxnId) (es : List Dependency) → IsUnionIn w.sent (length (groups_of plan (calls t).procedure)) t es → IsFinalIn plan w t es
     final_of t es u =
-        let x = logged plan schemes laws stores coords steps w run some in
-        let k = u.in_network 0 ((serial.is plan schemes laws stores coords steps w run some).some t) in
-        let began = (subst (λ msg. Means plan calls T (start_store plan.program) x.0 msg k.1.message.to) k.1.is (x.1.means.messages k.1.message k.1.has)).0.began in
+        let x = logged plan start begins schemes laws stores coords steps w run some in
+        let k = u.in_network 0 ((serial.is plan start begins schemes laws stores coords steps w run some).some t) in
+        let began = (subst (λ msg. Means plan calls T start x.0 msg k.1.message.to) k.1.is (x.1.means.messages k.1.message k.1.has)).0.began in
         let was : WasSubmitted w.history t = x.1.began (run_of t 0) began in
         record {
           proc = was.0;
           args = was.1;
           submitted = was.2;
-          union = subst (λ p. IsUnionIn w.sent (length (groups_of plan p)) t es) (sym ((agrees plan some.0 w (submissions plan schemes laws stores coords steps w run some)).proc t was.0 was.1 was.2)) u;
+          union = subst (λ p. IsUnionIn w.sent (length (groups_of plan p)) t es) (sym ((agrees plan some.0 w (submissions plan start begins schemes laws stores coords steps w run some)).proc t was.0 was.1 was.2)) u;
         }
 
   pub known_final : (n : ℕ) (s : ServerState) → slice_get w.servers n ≡ Some s → (k : KnownList) → Has k s.lists.known → IsFinalIn plan w k.of k.edges
   known_final n s there k h = elim (transaction_or_none plan) [
     | inl some ↦ final_of some k.of k.edges (((networked some).servers n s there).known k h)
-    | inr none ↦ absurd (subst (Has k) ((run_idle plan none coords steps w run).known n s there) h)
+    | inr none ↦ absurd (subst (Has k) ((run_idle plan none start begins coords steps w run).known n s there) h)
   ]
 
   pub sent_final : (m : Envelope) → Has m w.sent → (k : KnownList) → Has k (lists_in m.msg) → IsFinalIn plan w k.of k.edges
   sent_final m h k j = elim (transaction_or_none plan) [
     | inl some ↦ final_of some k.of k.edges ((networked some).lists m h k j)
-    | inr none ↦ absurd (subst (Has m) (run_idle plan none coords steps w run).sent h)
+    | inr none ↦ absurd (subst (Has m) (run_idle plan none start begins coords steps w run).sent h)
   ]
 
   pub startoks_one : (m other : Envelope) → Has m w.sent → Has other w.sent → (t : TxnId) (g : ℕ) (shard at : Shard) (bound outs values gave : List ℤ) (es ds : List Dependency) (fs hs : List KnownList)
       → m.msg ≡ StartOk t g shard bound outs es fs → other.msg ≡ StartOk t g at values gave ds hs → m.msg ≡ other.msg
   startoks_one m other h k t g shard at bound outs values gave es ds fs hs e f = elim (transaction_or_none plan) [
     | inl some ↦
-        (let x = logged plan schemes laws stores coords steps w run some in
-        one_startok plan (calls some) (T some) (serial.is plan schemes laws stores coords steps w run some) (laws (T some) (sound plan schemes laws stores coords steps w run some)) w x.0 x.1 (networked some) m other h k t g shard at bound outs values gave es ds fs hs e f)
-    | inr none ↦ absurd (subst (Has m) (run_idle plan none coords steps w run).sent h)
+        (let x = logged plan start begins schemes laws stores coords steps w run some in
+        one_startok plan (calls some) (T some) start (serial.is plan start begins schemes laws stores coords steps w run some) (laws (T some) (sound plan start begins schemes laws stores coords steps w run some)) w x.0 x.1 (networked some) m other h k t g shard at bound outs values gave es ds fs hs e f)
+    | inr none ↦ absurd (subst (Has m) (run_idle plan none start begins coords steps w run).sent h)
   ]
 
   -- a startok of a group that is found on a server says what is kept of it
@@ -204,10 +203,10 @@ module _ (plan : Plan) (schemes : HasSchemes plan) (laws : (S : Scheme) → IsSo
       → m.msg ≡ StartOk t g at bound outs es fs → m.msg ≡ StartOk t g (record { 0 = n }) e.bound e.outs e.edges e.facts
   startok_kept n s there t g e f m h at bound outs es fs is = elim (transaction_or_none plan) [
     | inl some ↦
-        (let x = logged plan schemes laws stores coords steps w run some in
+        (let x = logged plan start begins schemes laws stores coords steps w run some in
         let k = (networked some).kept n s there t g e f m h (record { shard = at; bound = bound; outs = outs; edges = es; facts = fs; is = is }) in
         let q = found_is t g s.started e f in
         let number : s.shard.0 ≡ n = (x.1.means.servers n s there).number in
         k ∙ (λ j. StartOk (q.1 j) (q.2 j) (record { 0 = number j }) e.bound e.outs e.edges e.facts))
-    | inr none ↦ absurd (subst (Has m) (run_idle plan none coords steps w run).sent h)
+    | inr none ↦ absurd (subst (Has m) (run_idle plan none start begins coords steps w run).sent h)
   ]

@@ -1,9 +1,8 @@
--- The first world
-use Rattle.std.proofs.Common.{◌≡◌, ◌≢◌, ℕ, zero, suc, ◌+◌, ◌==◌, Bool, true, false, cond, List, [], ◌∷◌, Some, map, refl, sym, ap, subst, ◌∙◌, arith}
+-- Where runs begin
+use Rattle.std.proofs.Common.{◌≡◌, ◌≢◌, ◌≤◌, ℕ, zero, suc, ◌+◌, ◌==◌, Bool, true, false, cond, List, [], ◌∷◌, Some, map, refl, sym, ap, subst, ◌∙◌, inr, arith}
 use Rattle.std.proofs.lemmas.Bool.{false≢true, eq-eqb, eqb-true}
 use Rattle.std.specs.Prelude.{slice_get, filter}
 use Rattle.std.specs.List.{range_with_len}
-use Rattle.roc_sequence.specs.Lists.{Has}
 use Rattle.roc_base.specs.declared.id.TxnId.{TxnId}
 use Rattle.roc_rows.specs.declared.cell.Cell.{Cell}
 use Rattle.roc_rows.specs.Store.{Store, read, write, empty}
@@ -11,16 +10,17 @@ use Rattle.roc_rows.specs.Cells.{is_cell}
 use Rattle.roc_rows.proofs.CellLaws.{is_cell-true, is_cell-false}
 use Rattle.roc_program.specs.Program.{Init}
 use Rattle.roc_plan.specs.Groups.{Plan, shard_of}
-use Rattle.roc_whole.specs.Serial.{after_inits, init_cell, start_store}
+use Rattle.roc_whole.specs.Serial.{after_inits, init_cell}
 use Rattle.roc_whole.specs.Serial as whole
 use Rattle.roc_law_log.specs.Scheme.{Scheme}
 use Rattle.roc_law_log.specs.Log.{first_log}
 use Rattle.roc_law_log.specs.Steps.{no_steps}
-use Rattle.roc_server.specs.First.{first_server}
-use Rattle.roc_coord.specs.State.{first_coord, CoordState}
+use Rattle.roc_coord.specs.State.{CoordState}
 use Rattle.roc_protocol.specs.PlanAssumptions.{IsSchemeOf}
-use Rattle.roc_protocol.specs.World.{first_world}
-use Rattle.roc_protocol.proofs.Means.{ServerMeans, WorldMeans}
+use Rattle.roc_protocol.specs.World.{World}
+use Rattle.roc_protocol.specs.Beginnings.{Beginning, IsBeginning, begun_server, begun_coord, begun_world, first_beginning}
+use Rattle.roc_protocol.specs.Run.{Stepped, IsRun, begun, goes_on, IsRunFrom, at_beginning, steps_on}
+use Rattle.roc_protocol.proofs.Means.{ServerMeans, CoordMeans, WorldMeans}
 use Rattle.roc_protocol.specs.Inner.Given.{StoreLaws}
 use Rattle.roc_protocol.proofs.Submissions.{AreSubmissions}
 use Rattle.roc_protocol.proofs.Marks.{none_ended}
@@ -60,52 +60,74 @@ module _ (laws : StoreLaws) (plan : Plan) (n : ℕ) where
       go true f ih = ih (write s (init_cell i) i.value) x apart ∙ laws.other s (init_cell i) i.value x (λ k. apart (ap (λ (c : Cell). shard_of plan c.place) (sym k) ∙ eqb-true (shard_of plan i.place) n f))
       go false f ih = ih s x apart
 
-module _ (laws : StoreLaws) (plan : Plan) (asked : TxnId → whole.Call) (S : Scheme) (is : IsSchemeOf plan asked S) (coords : ℕ) where
-  first_server_means : (n : ℕ) → ServerMeans plan asked S (start_store plan.program) first_log n (first_server plan (record { 0 = n }))
-  first_server_means n =
+-- the first world begins so
+pub first_begins : StoreLaws → (plan : Plan) → IsBeginning plan (first_beginning plan)
+first_begins laws plan =
+    record {
+      cells = λ n x e. start_cells laws plan n plan.program.inits empty empty x e refl;
+      elsewhere = λ n x apart. start_elsewhere laws plan n plan.program.inits empty x apart ∙ laws.zero x;
+      ended = λ n t h. absurd (false≢true (sym (none_ended t) ∙ h));
+      used = λ coord l. absurd (omega arith);
+    }
+
+module _ (plan : Plan) (asked : TxnId → whole.Call) (S : Scheme) (start : Beginning) (is : IsSchemeOf plan asked S) (begins : IsBeginning plan start) (coords : ℕ) where
+  begun_server_means : (n : ℕ) → ServerMeans plan asked S start first_log n (begun_server start n)
+  begun_server_means n =
       record {
         number = refl;
         groups = record { entries = λ e h. absurd h; finds = λ r h p. absurd (omega arith) };
         part = record {
-          cells = λ x e. start_cells laws plan n plan.program.inits empty empty x (sym (is.cell_shard x) ∙ e) refl;
-          elsewhere = λ x apart. start_elsewhere laws plan n plan.program.inits empty x (λ e. apart (is.cell_shard x ∙ e)) ∙ laws.zero x;
+          cells = λ x e. begins.cells n x (sym (is.cell_shard x) ∙ e);
+          elsewhere = λ x apart. begins.elsewhere n x (λ e. apart (is.cell_shard x ∙ e));
           later = λ e h. absurd h;
           at_once = λ e h. absurd h;
         };
         known = λ k h. absurd h;
         fetched = λ a h. absurd h;
-        ended = λ t h. absurd (false≢true (sym (none_ended t) ∙ h));
+        ended = λ t h. inr (begins.ended n t h);
         decided = λ t h. absurd (omega arith);
         back = λ t d. absurd (false≢true d.own);
       }
 
-  first_pending : (n : ℕ) (c : CoordState) → slice_get (first_world plan coords).coords n ≡ Some c → c.pending ≡ []
-  first_pending n c h = ap (λ (c : CoordState). c.pending) (found_at first_coord 0 coords n c h)
+  begun_coord_means : (n : ℕ) → CoordMeans plan asked S start first_log (begun_coord start n)
+  begun_coord_means n = record { pending = λ x h. absurd h; all = λ q l. inr (inr l); onward = omega arith }
 
-  pub first_means : WorldMeans plan asked S (start_store plan.program) first_log (first_world plan coords)
-  first_means =
+  pub begun_means : WorldMeans plan asked S start first_log (begun_world plan start coords)
+  begun_means =
       record {
         reached = no_steps;
         order = refl;
-        servers = λ n s h. (let e = found_at (λ n. first_server plan (record { 0 = n })) 0 plan.program.shards n s h in
+        servers = λ n s h. (let e = found_at (begun_server start) 0 plan.program.shards n s h in
             let same : 0 + n ≡ n = omega arith in
-            subst (ServerMeans plan asked S (start_store plan.program) first_log n) (sym (e ∙ ap (λ n. first_server plan (record { 0 = n })) same)) (first_server_means n));
+            subst (ServerMeans plan asked S start first_log n) (sym (e ∙ ap (begun_server start) same)) (begun_server_means n));
         messages = λ m h. absurd h;
-        coords = λ n c h.
-            record {
-              pending = λ x k. elim (subst (Has x) (first_pending n c h) k) [ ];
-              all = λ q l. absurd (let none = ap (λ (c : CoordState). c.next) (found_at first_coord 0 coords n c h) in omega arith);
-            };
+        coords = λ n c h. (let e = found_at (begun_coord start) 0 coords n c h in
+            let same : 0 + n ≡ n = omega arith in
+            subst (CoordMeans plan asked S start first_log) (sym (e ∙ ap (begun_coord start) same)) (begun_coord_means n));
         answered = λ t reply h. absurd h;
         answers = λ t. (λ h. absurd (omega arith), λ h. absurd h.1);
       }
 
-pub first_submissions : (plan : Plan) (coords : ℕ) → AreSubmissions plan [] (first_world plan coords).coords
-first_submissions plan coords =
+pub begun_submissions : (plan : Plan) (start : Beginning) (coords : ℕ) → AreSubmissions plan [] (begun_world plan start coords).coords
+begun_submissions plan start coords =
     record {
-      numbers = λ n c h. (let e = found_at first_coord 0 coords n c h in ap (λ (c : CoordState). c.number) e ∙ (omega arith));
+      numbers = λ n c h. (let e = found_at (begun_coord start) 0 coords n c h in ap (λ (c : CoordState). c.number) e ∙ (omega arith));
       procedure = λ t p a h. absurd h;
       arguments = λ t p a h. absurd h;
       numbered = λ t p a h. absurd h;
       one = λ t p q a b h k. absurd h;
     }
+
+-- a run of the plan's is one from where the first world begins
+pub run_from : (plan : Plan) (coords : ℕ) (steps : List Stepped) (w : World) → IsRun plan coords steps w → IsRunFrom plan (first_beginning plan) coords steps w
+run_from plan coords steps w begun = at_beginning
+run_from plan coords steps w (goes_on {steps = front} {w = v} e o r h) = steps_on e o (run_from plan coords front v r) h
+
+-- and the other way
+pub from_run : (plan : Plan) (coords : ℕ) (steps : List Stepped) (w : World) → IsRunFrom plan (first_beginning plan) coords steps w → IsRun plan coords steps w
+from_run plan coords steps w at_beginning = begun
+from_run plan coords steps w (steps_on {steps = front} {w = v} e o r h) = goes_on e o (from_run plan coords front v r) h
+
+-- and no sequence was used before
+pub none_before : (plan : Plan) (coord q : ℕ) → (first_beginning plan).nexts coord ≤ q
+none_before plan coord q = let l : 0 ≤ q = omega arith in l

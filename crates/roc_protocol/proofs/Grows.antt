@@ -15,7 +15,6 @@ use Rattle.roc_base.specs.declared.node.Node.{Node}
 use Rattle.roc_base.specs.declared.node.Node.TheVariants.{Server, Coord}
 use Rattle.roc_base.specs.TxnId.{is_txn}
 use Rattle.roc_base.specs.Edge.{Dependency}
-use Rattle.roc_rows.specs.Store.{Store}
 use Rattle.roc_depgraph.specs.declared.known.KnownList.{KnownList}
 use Rattle.roc_msg.specs.declared.msg.Msg.{Msg}
 use Rattle.roc_msg.specs.declared.msg.Msg.TheVariants.{Start, StartOk, Commit, CommitOk, Fetch, Known, Ended}
@@ -28,8 +27,9 @@ use Rattle.roc_law_log.specs.Log.{Log, IsWhole, IsDecidedThroughout}
 use Rattle.roc_law_log.specs.Invariants.{LogInvariants, LogGrows}
 use Rattle.roc_server.specs.declared.started.StartedGroup.{StartedGroup}
 use Rattle.roc_coord.specs.declared.transaction.Transaction.{Transaction}
+use Rattle.roc_protocol.specs.Beginnings.{Beginning}
 use Rattle.roc_protocol.specs.PlanAssumptions.{picked, IsSchemeOf}
-use Rattle.roc_protocol.proofs.Means.{run_of, entry_run, place, Ran, Began, stage, values_for, EdgesMean, IsSeen, ListMeans, AllMean, ToldMeans, StartMeans, HasBegun, IsBegunAt, waits_at, outs_at, DoneMeans, StartIs, Means, EntryMeans, TxnMeans, CoordMeans, IsGiven, AnswerMeans}
+use Rattle.roc_protocol.proofs.Means.{IsPast, run_of, entry_run, place, Ran, Began, stage, values_for, EdgesMean, IsSeen, ListMeans, AllMean, ToldMeans, StartMeans, HasBegun, IsBegunAt, waits_at, outs_at, DoneMeans, StartIs, Means, EntryMeans, TxnMeans, CoordMeans, IsGiven, AnswerMeans}
 
 pub flat_map_same : {A B : Type 0} (f g : A → List B) (xs : List A) → ((x : A) → Has x xs → f x ≡ g x) → flat_map f xs ≡ flat_map g xs
 flat_map_same f g [] h = refl
@@ -39,7 +39,7 @@ pub filter_same : {A : Type 0} (p q : A → Bool) (xs : List A) → ((x : A) →
 filter_same p q [] h = refl
 filter_same p q (x ∷ xs) h = rw (h x (inl refl), filter_same p q xs (λ y k. h y (inr k))) refl
 
-module _ (plan : Plan) (asked : TxnId → whole.Call) (S : Scheme) (start : Store) (is : IsSchemeOf plan asked S) (c d : Log) (i : LogInvariants S start c) (j : LogInvariants S start d) (g : LogGrows S start c d) where
+module _ (plan : Plan) (asked : TxnId → whole.Call) (S : Scheme) (start : Beginning) (is : IsSchemeOf plan asked S) (c d : Log) (i : LogInvariants S start.store c) (j : LogInvariants S start.store d) (g : LogGrows S start.store c d) where
   pub began_grows : (r : TxnGroup) → Began plan asked S start c r → Began plan asked S start d r
   began_grows r h = subst (λ l. IsListed is_txn_group l r) (sym g.started.1) (listed_front is_txn_group c.past.started g.started.0 r h)
 
@@ -154,6 +154,9 @@ module _ (plan : Plan) (asked : TxnId → whole.Call) (S : Scheme) (start : Stor
   pub answered_grows : (t : TxnId) → IsListed is_txn c.answered t → IsListed is_txn d.answered t
   answered_grows t h = subst (λ l. IsListed is_txn l t) (sym g.answered.1) (listed_front is_txn c.answered g.answered.0 t h)
 
+  pub past_grows : (t : TxnId) → IsPast plan asked S start c t → IsPast plan asked S start d t
+  past_grows t h = elim h [ inl k ↦ inl (answered_grows t k) | inr k ↦ inr k ]
+
   pub means_grow : (m : Msg) (to : Node) → Means plan asked S start c m to → Means plan asked S start d m to
   means_grow (Start id proc group args inputs) to o = start_is_grows id proc group args inputs to o
   means_grow (StartOk id group shard bound outs edges facts) to o = (told_grows (run_of id group) bound outs edges facts o.0, o.1 ∙ sym (place_grows (run_of id group) o.0.began), o.2)
@@ -161,7 +164,7 @@ module _ (plan : Plan) (asked : TxnId → whole.Call) (S : Scheme) (start : Stor
   means_grow (CommitOk id shard outs) to o = (done_grows id shard.0 outs o.0, o.1)
   means_grow (Fetch id asker) to o = begun_at_grows id to o
   means_grow (Known id edges) to o = (list_grows id edges o.0, o.1)
-  means_grow (Ended coord mark) to o = (λ q h. answered_grows (record { coord = coord; seq = q }) (o.0 q h), o.1)
+  means_grow (Ended coord mark) to o = (λ q h. past_grows (record { coord = coord; seq = q }) (o.0 q h), o.1)
   means_grow msg to o = o
 
   pub entry_grows : (s : ℕ) (e : StartedGroup) → EntryMeans plan asked S start c s e → EntryMeans plan asked S start d s e
@@ -196,10 +199,11 @@ module _ (plan : Plan) (asked : TxnId → whole.Call) (S : Scheme) (start : Stor
   coord_grows s o =
       record {
         pending = λ x h. txn_grows x (o.pending x h);
-        all = λ q l. elim (o.all q l) [ inl p ↦ inl p | inr k ↦ inr (answered_grows (record { coord = s.number; seq = q }) k) ];
+        all = λ q l. elim (o.all q l) [ inl p ↦ inl p | inr k ↦ inr (past_grows (record { coord = s.number; seq = q }) k) ];
+        onward = o.onward;
       }
 
-  throughout_grows : (t : TxnId) → IsDecidedThroughout S start c t → IsDecidedThroughout S start d t
+  throughout_grows : (t : TxnId) → IsDecidedThroughout S start.store c t → IsDecidedThroughout S start.store d t
   throughout_grows t o =
       record {
         in_order = order_grows t o.in_order;

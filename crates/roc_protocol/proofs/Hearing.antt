@@ -13,12 +13,10 @@ use Rattle.roc_msg.specs.declared.msg.Msg.TheVariants.{Start}
 use Rattle.roc_msg.specs.declared.msg.Envelope.{Envelope}
 use Rattle.roc_msg.specs.declared.outbox.Outgoing.{Outgoing}
 use Rattle.roc_plan.specs.Groups.{Plan}
-use Rattle.roc_whole.specs.Serial.{start_store}
 use Rattle.roc_law_log.specs.Scheme.{Scheme, IsSoundScheme}
 use Rattle.roc_server.specs.declared.handled.Handled.{Handled}
 use Rattle.roc_server.specs.declared.handled.Handled.TheVariants.{Done, Ignored, Gone}
 use Rattle.roc_server.specs.State.{answered, ServerState, ServerStep}
-use Rattle.roc_server.specs.First.{first_server}
 use Rattle.roc_server.specs.Step as server
 use Rattle.roc_coord.specs.Step.{after_message}
 use Rattle.roc_coord.specs.Submit.{next_id, new_transaction, accepted}
@@ -27,10 +25,11 @@ use Rattle.roc_audit.specs.declared.entry.Entry.TheVariants.{Submitted}
 use Rattle.roc_protocol.specs.declared.event.Event.{Event}
 use Rattle.roc_protocol.specs.declared.event.Event.TheVariants.{Submit, Deliver, Tick}
 use Rattle.roc_protocol.specs.declared.event.Seen.TheVariants as seen
-use Rattle.roc_protocol.specs.PlanAssumptions.{HasSchemes}
+use Rattle.roc_protocol.specs.PlanAssumptions.{HasSchemesFrom}
+use Rattle.roc_protocol.specs.Beginnings.{Beginning, IsBeginning, begun_server}
 use Rattle.roc_protocol.specs.World.{World, sent_by, mark_delivered, at_server, at_coord}
 use Rattle.roc_protocol.specs.Happens.{Outcome, server_seen, answer_entries, IsReceived, Happens}
-use Rattle.roc_protocol.specs.Run.{Stepped, Transition, IsRun, begun, goes_on}
+use Rattle.roc_protocol.specs.Run.{Stepped, Transition, IsRunFrom, at_beginning, steps_on}
 use Rattle.roc_protocol.specs.Quiet.{WasDelivered}
 use Rattle.roc_protocol.specs.Inner.Given.{LogLaws, StoreLaws}
 use Rattle.roc_protocol.proofs.Changed.{get-set_cases}
@@ -165,13 +164,13 @@ module _ (plan : Plan) (w : World) (ha : HasAsked w) (takes : (k : ℕ) (m : Env
       subst (λ (v : Outcome). HasHeard v.world) (sym e) (heard_weaker w.servers (w.sent ++ map (sent_by (Coord n)) outs) (HasCome w) (HasCome v2) (coordinated_heard w o n outs) (came_before w (Coord n) outs v2 refl refl))
 
 -- so it is in every world of every run
-pub run_heard : (plan : Plan) → HasSchemes plan → ((S : Scheme) → IsSoundScheme S → LogLaws S (start_store plan.program)) → StoreLaws → (coords : ℕ) (steps : List Stepped) (w : World) → IsRun plan coords steps w → HasHeard w
-run_heard plan schemes laws stores coords steps w begun =
+pub run_heard : (plan : Plan) (start : Beginning) → IsBeginning plan start → HasSchemesFrom plan start.store → ((S : Scheme) → IsSoundScheme S → LogLaws S start.store) → StoreLaws → (coords : ℕ) (steps : List Stepped) (w : World) → IsRunFrom plan start coords steps w → HasHeard w
+run_heard plan start begins schemes laws stores coords steps w at_beginning =
     record {
       placed = λ k c. absurd (nothing k c.0 c.1);
       taken = λ k m c. absurd (nothing k c.0 c.1);
-      fresh = λ n s h a j. (let e = found_at (λ n. first_server plan (record { 0 = n })) 0 plan.program.shards n s h in elim (subst (λ (s : ServerState). Has a s.lists.waiting.asked) e j) [ ]);
-      awaits = λ n s h. (let e = found_at (λ n. first_server plan (record { 0 = n })) 0 plan.program.shards n s h in
+      fresh = λ n s h a j. (let e = found_at (begun_server start) 0 plan.program.shards n s h in elim (subst (λ (s : ServerState). Has a s.lists.waiting.asked) e j) [ ]);
+      awaits = λ n s h. (let e = found_at (begun_server start) 0 plan.program.shards n s h in
           record {
             starts = record {
               groups = λ b j. elim (subst (λ (s : ServerState). Has b s.started) e j) [ ];
@@ -185,5 +184,5 @@ run_heard plan schemes laws stores coords steps w begun =
   where
     nothing : (k : ℕ) (m : Envelope) → slice_get [] k ≡ Some m → ⊥
     nothing k m e = cc
-run_heard plan schemes laws stores coords steps w (goes_on {w = v} e o r h) =
-    step_heard plan v (run_asked plan coords _ v r) (server_takes plan schemes laws stores coords _ v r) (run_heard plan schemes laws stores coords _ v r) e o h
+run_heard plan start begins schemes laws stores coords steps w (steps_on {w = v} e o r h) =
+    step_heard plan v (run_asked plan start coords _ v r) (server_takes plan start begins schemes laws stores coords _ v r) (run_heard plan start begins schemes laws stores coords _ v r) e o h

@@ -10,19 +10,19 @@ use Rattle.roc_base.specs.declared.node.Node.{Node}
 use Rattle.roc_base.specs.declared.node.Node.TheVariants.{Server, Coord}
 use Rattle.roc_base.specs.TxnId.{is_txn}
 use Rattle.roc_plan.specs.Groups.{Plan}
-use Rattle.roc_whole.specs.Serial.{start_store}
 use Rattle.roc_law_log.specs.Scheme.{Scheme, IsSoundScheme}
 use Rattle.roc_law_log.specs.Kept.{KeepsRan}
 use Rattle.roc_server.specs.State.{ServerState}
 use Rattle.roc_coord.specs.Submit.{after_submit}
 use Rattle.roc_audit.specs.History.{WasAnswered, IsAnsweredBefore}
-use Rattle.roc_audit.specs.Witness.{serial_reply, IsSerialWitness}
+use Rattle.roc_protocol.specs.WitnessFrom.{serial_reply_from, IsSerialWitnessFrom}
 use Rattle.roc_protocol.specs.declared.event.Event.{Event}
 use Rattle.roc_protocol.specs.declared.event.Event.TheVariants.{Submit, Deliver, Tick}
-use Rattle.roc_protocol.specs.PlanAssumptions.{HasSchemes}
+use Rattle.roc_protocol.specs.PlanAssumptions.{HasSchemesFrom}
+use Rattle.roc_protocol.specs.Beginnings.{Beginning, IsBeginning}
 use Rattle.roc_protocol.specs.World.{World, mark_delivered}
 use Rattle.roc_protocol.specs.Happens.{RanAt, ran_at, Outcome, IsReceived}
-use Rattle.roc_protocol.specs.Run.{Stepped, Transition, IsRun, begun, goes_on}
+use Rattle.roc_protocol.specs.Run.{Stepped, Transition, IsRunFrom, at_beginning, steps_on}
 use Rattle.roc_protocol.specs.Kept.{ran_in, KeepsWhatRan}
 use Rattle.roc_protocol.specs.Inner.Given.{LogLaws, SerialLaws, StoreLaws}
 use Rattle.roc_protocol.proofs.Changed.{get-set_here, get-set_other}
@@ -73,55 +73,55 @@ ran_here plan w (Some (Deliver k)) o (m, some, there, c) q h = go m.to c
 ran_here plan w (Some (Tick (Server shard))) o (s, there, e) q h = absurd (subst (λ (o : Outcome). Has q o.ran) e h)
 ran_here plan w (Some (Tick (Coord k))) o (s, there, e) q h = absurd (subst (λ (o : Outcome). Has q o.ran) e h)
 
-ran_there : (plan : Plan) (coords : ℕ) (steps : List Stepped) (w : World) → IsRun plan coords steps w → (q : RanAt) → Has q (ran_in steps) → HasServer w q.shard
-ran_there plan coords steps w begun q h = absurd h
-ran_there plan coords steps w (goes_on {steps = front} {w = v} e o r c) q h =
+ran_there : (plan : Plan) (start : Beginning) (coords : ℕ) (steps : List Stepped) (w : World) → IsRunFrom plan start coords steps w → (q : RanAt) → Has q (ran_in steps) → HasServer w q.shard
+ran_there plan start coords steps w at_beginning q h = absurd h
+ran_there plan start coords steps w (steps_on {steps = front} {w = v} e o r c) q h =
     elim (has_append q (ran_in front) o.ran (subst (Has q) (ran_more front (record { event = e; outcome = o })) h)) [
-      | inl k ↦ server_stays plan v e o c q.shard (ran_there plan coords front v r q k)
+      | inl k ↦ server_stays plan v e o c q.shard (ran_there plan start coords front v r q k)
       | inr k ↦ server_stays plan v e o c q.shard (ran_here plan v e o c q k)
     ]
 
 -- ---- orders
 
-module _ (plan : Plan) (schemes : HasSchemes plan) (laws : (S : Scheme) → IsSoundScheme S → LogLaws S (start_store plan.program)) (serials : (S : Scheme) → IsSoundScheme S → SerialLaws S (start_store plan.program)) (stores : StoreLaws) (coords : ℕ) (steps : List Stepped) (w : World) (run : IsRun plan coords steps w) where
+module _ (plan : Plan) (start : Beginning) (begins : IsBeginning plan start) (schemes : HasSchemesFrom plan start.store) (laws : (S : Scheme) → IsSoundScheme S → LogLaws S start.store) (serials : (S : Scheme) → IsSoundScheme S → SerialLaws S start.store) (stores : StoreLaws) (coords : ℕ) (steps : List Stepped) (w : World) (run : IsRunFrom plan start coords steps w) where
   pub order_keeps : KeepsWhatRan plan steps w w.order
   order_keeps = elim (transaction_or_none plan) [
     | inl some ↦
-        (let asked = serial.asked plan schemes laws stores coords steps w run some in
-        let S = serial.S plan schemes laws stores coords steps w run some in
-        let sound = serial.sound plan schemes laws stores coords steps w run some in
-        let l = serial.logged plan schemes laws stores coords steps w run some in
+        (let asked = serial.asked plan start begins schemes laws stores coords steps w run some in
+        let S = serial.S plan start begins schemes laws stores coords steps w run some in
+        let sound = serial.sound plan start begins schemes laws stores coords steps w run some in
+        let l = serial.logged plan start begins schemes laws stores coords steps w run some in
         subst (KeepsWhatRan plan steps w) (sym l.1.means.order)
-        (from_log plan asked S (serial.is plan schemes laws stores coords steps w run some) (laws S sound) steps w l.0 l.1 l.2 l.0.order ((serials S sound).order l.0 l.1.means.reached)))
+        (from_log plan asked S start (serial.is plan start begins schemes laws stores coords steps w run some) (laws S sound) steps w l.0 l.1 l.2 l.0.order ((serials S sound).order l.0 l.1.means.reached)))
     | inr none ↦
-        subst (KeepsWhatRan plan steps w) (sym (run_idle plan none coords steps w run).order)
+        subst (KeepsWhatRan plan steps w) (sym (run_idle plan none start begins coords steps w run).order)
         (record {
           once = tt;
           from = λ t h. absurd (omega (arith, h));
-          all = λ t h. subst (λ l. IsListed is_txn l t) (run_idle plan none coords steps w run).order h;
+          all = λ t h. subst (λ l. IsListed is_txn l t) (run_idle plan none start begins coords steps w run).order h;
           ran_first = λ q r b c. absurd (let h = c.first in omega (arith, h));
           ran_alone = λ q e h y c. absurd (let h = c.first in omega (arith, h));
         })
   ]
 
-  pub kept_replies : (O : List TxnId) → KeepsWhatRan plan steps w O → (t : TxnId) (reply : List ℤ) → WasAnswered w.history t reply → serial_reply plan.program w.history O t ≡ Some reply
+  pub kept_replies : (O : List TxnId) → KeepsWhatRan plan steps w O → (t : TxnId) (reply : List ℤ) → WasAnswered w.history t reply → serial_reply_from plan.program start.store w.history O t ≡ Some reply
   kept_replies O k t reply h = elim (transaction_or_none plan) [
     | inl some ↦
-        (let asked = serial.asked plan schemes laws stores coords steps w run some in
-        let S = serial.S plan schemes laws stores coords steps w run some in
-        let is = serial.is plan schemes laws stores coords steps w run some in
-        let sound = serial.sound plan schemes laws stores coords steps w run some in
-        let l = serial.logged plan schemes laws stores coords steps w run some in
-        let known = serial.known plan schemes laws stores coords steps w run some in
-        let submissions = serial.submissions plan schemes laws stores coords steps w run some in
-        let keeps : KeepsRan S (start_store plan.program) l.0 O = to_log plan asked S is (laws S sound) steps w l.0 l.1 l.2 (ran_there plan coords steps w run) O k in
-        replies plan asked S is (laws S sound) (serials S sound) w l.0 l.1 O keeps (serial.calls plan some.0 w submissions)
+        (let asked = serial.asked plan start begins schemes laws stores coords steps w run some in
+        let S = serial.S plan start begins schemes laws stores coords steps w run some in
+        let is = serial.is plan start begins schemes laws stores coords steps w run some in
+        let sound = serial.sound plan start begins schemes laws stores coords steps w run some in
+        let l = serial.logged plan start begins schemes laws stores coords steps w run some in
+        let known = serial.known plan start begins schemes laws stores coords steps w run some in
+        let submissions = serial.submissions plan start begins schemes laws stores coords steps w run some in
+        let keeps : KeepsRan S start.store l.0 O = to_log plan asked S start is (laws S sound) steps w l.0 l.1 l.2 (ran_there plan start coords steps w run) O k in
+        replies plan asked S start is (laws S sound) (serials S sound) w l.0 l.1 O keeps (serial.calls plan some.0 w submissions)
         (λ u listed. schemes.replies asked known O keeps.once (λ u m. serial.ids plan some.0 w submissions u) u listed) t reply h)
-    | inr none ↦ absurd (subst (Has _) (run_idle plan none coords steps w run).history h)
+    | inr none ↦ absurd (subst (Has _) (run_idle plan none start begins coords steps w run).history h)
   ]
 
-  pub kept_witness : (O : List TxnId) → KeepsWhatRan plan steps w O → IsSerialWitness plan.program w.history w.order
-      → ((t u : TxnId) → IsAnsweredBefore w.history t u → IsListed is_txn O u → IsListedBefore is_txn O t u) → IsSerialWitness plan.program w.history O
+  pub kept_witness : (O : List TxnId) → KeepsWhatRan plan steps w O → IsSerialWitnessFrom plan.program start.store w.history w.order
+      → ((t u : TxnId) → IsAnsweredBefore w.history t u → IsListed is_txn O u → IsListedBefore is_txn O t u) → IsSerialWitnessFrom plan.program start.store w.history O
   kept_witness O k s time =
       record {
         once = k.once;

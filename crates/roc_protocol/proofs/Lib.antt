@@ -29,6 +29,7 @@ mod KeptOrders
 mod Answered
 mod Cells
 mod Resting
+mod Anew
 mod Earlier
 pub mod Carried
 mod Gathered

@@ -16,7 +16,6 @@ use Rattle.roc_msg.specs.Msg.{id_of}
 use Rattle.roc_plan.specs.declared.group.Input.{Input}
 use Rattle.roc_plan.specs.Groups.{Plan, groups_of, inputs_of}
 use Rattle.roc_whole.specs.Serial as whole
-use Rattle.roc_whole.specs.Serial.{start_store}
 use Rattle.roc_law_orders.specs.Behaviour.{is_group_number}
 use Rattle.roc_law_log.specs.Scheme.{Scheme, IsSoundScheme}
 use Rattle.roc_law_log.specs.Log.{Log}
@@ -28,9 +27,10 @@ use Rattle.roc_coord.specs.Starts.{group_numbers, all_started}
 use Rattle.roc_coord.specs.Commits.{all_committed}
 use Rattle.roc_audit.specs.declared.entry.Entry.TheVariants.{Submitted, Answered}
 use Rattle.roc_audit.specs.History.{WasSubmitted}
-use Rattle.roc_protocol.specs.PlanAssumptions.{IsSchemeOf, HasSchemes}
+use Rattle.roc_protocol.specs.PlanAssumptions.{IsSchemeOf, HasSchemesFrom}
+use Rattle.roc_protocol.specs.Beginnings.{Beginning, IsBeginning}
 use Rattle.roc_protocol.specs.World.{World}
-use Rattle.roc_protocol.specs.Run.{Stepped, IsRun}
+use Rattle.roc_protocol.specs.Run.{Stepped, IsRunFrom}
 use Rattle.roc_protocol.specs.Inner.Given.{LogLaws, StoreLaws}
 use Rattle.roc_protocol.proofs.Heard.{AreDelivered, StartsHeard, CommitsAreOut, CommitsHeard}
 use Rattle.roc_protocol.proofs.Means.{run_of, Means, TxnMeans}
@@ -49,8 +49,8 @@ use Rattle.roc_protocol.proofs.Ongoing.{IsOngoing, whole_out}
 use Rattle.roc_protocol.proofs.OngoingRuns.{AreTaken, run_ongoing}
 use Rattle.roc_protocol.proofs.Transactions.{transaction_or_none, HasTransaction}
 
-module _ (plan : Plan) (asked : TxnId → whole.Call) (S : Scheme) (is : IsSchemeOf plan asked S) (laws : LogLaws S (start_store plan.program)) (sound : IsSoundScheme S) (w : World) (log : Log) (l : IsLogged plan asked S is laws w log) (g : IsOngoing plan w) (a : AreTaken w) where
-  i : LogInvariants S (start_store plan.program) log
+module _ (plan : Plan) (asked : TxnId → whole.Call) (S : Scheme) (start : Beginning) (is : IsSchemeOf plan asked S) (laws : LogLaws S start.store) (sound : IsSoundScheme S) (w : World) (log : Log) (l : IsLogged plan asked S start is laws w log) (g : IsOngoing plan w) (a : AreTaken w) where
+  i : LogInvariants S start.store log
   i = laws.holds log l.means.reached
 
   -- a pending transaction whose messages are delivered and heard
@@ -61,7 +61,7 @@ module _ (plan : Plan) (asked : TxnId → whole.Call) (S : Scheme) (is : IsSchem
     abbrev Started : ℕ → Type 0
     Started h = is_some (find_startok h x.startoks) ≡ true
 
-    means : TxnMeans plan asked S (start_store plan.program) log x
+    means : TxnMeans plan asked S start log x
     means = (l.means.coords x.id.coord c at).pending x has
 
     held : IsOutstanding plan w.sent x
@@ -80,7 +80,7 @@ module _ (plan : Plan) (asked : TxnId → whole.Call) (S : Scheme) (is : IsSchem
         let k = number_of w.sent s.message s.has in
         let answer = heard.each k.0 s.message s.proc z.0.group s.args s.inputs k.1 s.is (delivered.each k.0 s.message k.1 (ap id_of s.is)) in
         let ok = answer.2 in
-        let to = (subst (λ msg. Means plan asked S (start_store plan.program) log msg ok.message.to) ok.is (l.means.messages ok.message ok.has)).2 in
+        let to = (subst (λ msg. Means plan asked S start log msg ok.message.to) ok.is (l.means.messages ok.message ok.has)).2 in
         let taken = subst (IsTakenBy c.pending) ok.is (is_taken ok.message ok.has (ap id_of ok.is) to) in
         subst Started (eqb-true z.0.group h f.1) (taken x has refl)
 
@@ -108,7 +108,7 @@ module _ (plan : Plan) (asked : TxnId → whole.Call) (S : Scheme) (is : IsSchem
     all_heard =
         has_every (λ h. is_some (find_startok h x.startoks)) (group_numbers plan x.proc)
         (λ h k.
-        let below = number_below plan asked S (start_store plan.program) is log i x (told plan asked S (start_store plan.program) is log i x means) h k in
+        let below = number_below plan asked S start is log i x (told plan asked S start is log i x means) h k in
         let listed = (is.groups x.id h).1 below in
         started_below (suc (place_of (is_group_number h) groups)) h (omega arith) listed)
 
@@ -120,7 +120,7 @@ module _ (plan : Plan) (asked : TxnId → whole.Call) (S : Scheme) (is : IsSchem
         let b = held.commits s k in
         let j = number_of w.sent b.message b.has in
         let done = said.each j.0 b.message s b.edges b.facts j.1 b.to b.is (delivered.each j.0 b.message j.1 (ap id_of b.is)) in
-        let to = (subst (λ msg. Means plan asked S (start_store plan.program) log msg done.1.to) done.3 (l.means.messages done.1 done.2)).1 in
+        let to = (subst (λ msg. Means plan asked S start log msg done.1.to) done.3 (l.means.messages done.1 done.2)).1 in
         subst (IsTakenBy c.pending) done.3 (is_taken done.1 done.2 (ap id_of done.3) to) x has refl)
 
     never_done : CommitsHeard w x.id → ⊥
@@ -133,7 +133,7 @@ module _ (plan : Plan) (asked : TxnId → whole.Call) (S : Scheme) (is : IsSchem
     | inr p ↦
         (let at = subst (λ t. slice_get w.coords t.coord ≡ Some p.coord) (sym p.is) p.there in
         subst (CommitsAreOut w) p.is
-        (whole_out plan asked S is laws w log l o g.holds p.coord p.transaction at p.has
+        (whole_out plan asked S start is laws w log l o g.holds p.coord p.transaction at p.has
         (all_heard p.coord p.transaction at p.has (subst (StartsHeard w) (sym p.is) heard) (subst (AreDelivered w) (sym p.is) delivered))))
   ]
 
@@ -156,61 +156,61 @@ module _ (plan : Plan) (asked : TxnId → whole.Call) (S : Scheme) (is : IsSchem
 
 -- ---- every run
 
-module _ (plan : Plan) (schemes : HasSchemes plan) (laws : (S : Scheme) → IsSoundScheme S → LogLaws S (start_store plan.program)) (stores : StoreLaws) (coords : ℕ) (steps : List Stepped) (w : World) (run : IsRun plan coords steps w) where
+module _ (plan : Plan) (start : Beginning) (begins : IsBeginning plan start) (schemes : HasSchemesFrom plan start.store) (laws : (S : Scheme) → IsSoundScheme S → LogLaws S start.store) (stores : StoreLaws) (coords : ℕ) (steps : List Stepped) (w : World) (run : IsRunFrom plan start coords steps w) where
   module _ (some : HasTransaction plan) where
     abbrev T : Scheme
-    T = serial.S plan schemes laws stores coords steps w run some
+    T = serial.S plan start begins schemes laws stores coords steps w run some
 
     abbrev calls : TxnId → whole.Call
-    calls = serial.asked plan schemes laws stores coords steps w run some
+    calls = serial.asked plan start begins schemes laws stores coords steps w run some
 
     abbrev sound : IsSoundScheme T
-    sound = serial.sound plan schemes laws stores coords steps w run some
+    sound = serial.sound plan start begins schemes laws stores coords steps w run some
 
     abbrev is : IsSchemeOf plan calls T
-    is = serial.is plan schemes laws stores coords steps w run some
+    is = serial.is plan start begins schemes laws stores coords steps w run some
 
     pending : IsPending plan w
-    pending = run_pending plan calls T is (laws T sound) stores coords steps w run (serial.agrees plan some.0 w (serial.submissions plan schemes laws stores coords steps w run some))
+    pending = run_pending plan calls T start is (laws T sound) stores begins coords steps w run (serial.agrees plan some.0 w (serial.submissions plan start begins schemes laws stores coords steps w run some))
 
     ongoing : IsOngoing plan w × AreTaken w
-    ongoing = run_ongoing plan calls T is (laws T sound) stores coords steps w run (serial.agrees plan some.0 w (serial.submissions plan schemes laws stores coords steps w run some))
+    ongoing = run_ongoing plan calls T start is (laws T sound) stores begins coords steps w run (serial.agrees plan some.0 w (serial.submissions plan start begins schemes laws stores coords steps w run some))
 
   -- where each delivered start of t has its startok, and all of its messages are delivered, its shards were asked to commit
   pub commits_are_out : (t : TxnId) → StartsHeard w t → AreDelivered w t → CommitsAreOut w t
   commits_are_out t heard delivered = elim (transaction_or_none plan) [
     | inl some ↦
-        (let x = serial.logged plan schemes laws stores coords steps w run some in
-        all_out plan (calls some) (T some) (is some) (laws (T some) (sound some)) (sound some) w x.0 x.1 (ongoing some).0 (ongoing some).1 (pending some) t heard delivered)
-    | inr none ↦ record { each = λ m shard proc group args inputs h. absurd (subst (Has m) (run_idle plan none coords steps w run).sent h) }
+        (let x = serial.logged plan start begins schemes laws stores coords steps w run some in
+        all_out plan (calls some) (T some) start (is some) (laws (T some) (sound some)) (sound some) w x.0 x.1 (ongoing some).0 (ongoing some).1 (pending some) t heard delivered)
+    | inr none ↦ record { each = λ m shard proc group args inputs h. absurd (subst (Has m) (run_idle plan none start begins coords steps w run).sent h) }
   ]
 
   -- and where, unless it is answered, each delivered commit has its commitok too, it is answered
   pub heard_is_answered : (t : TxnId) (proc : ℕ) (args : List ℤ) → Has (Submitted t proc args) w.history → StartsHeard w t → (((reply : List ℤ) → ¬ Has (Answered t reply) w.history) → CommitsHeard w t) → AreDelivered w t → (reply : List ℤ) × Has (Answered t reply) w.history
   heard_is_answered t proc args h heard said delivered = elim (transaction_or_none plan) [
     | inl some ↦
-        (let x = serial.logged plan schemes laws stores coords steps w run some in
-        all_answered plan (calls some) (T some) (is some) (laws (T some) (sound some)) (sound some) w x.0 x.1 (ongoing some).0 (ongoing some).1 t proc args h heard said delivered)
-    | inr none ↦ absurd (subst (Has (Submitted t proc args)) (run_idle plan none coords steps w run).history h)
+        (let x = serial.logged plan start begins schemes laws stores coords steps w run some in
+        all_answered plan (calls some) (T some) start (is some) (laws (T some) (sound some)) (sound some) w x.0 x.1 (ongoing some).0 (ongoing some).1 t proc args h heard said delivered)
+    | inr none ↦ absurd (subst (Has (Submitted t proc args)) (run_idle plan none start begins coords steps w run).history h)
   ]
 
   -- who is answered is pending nowhere
   pub answered_gone : (t : TxnId) (reply : List ℤ) → Has (Answered t reply) w.history → (n : ℕ) (c : CoordState) → slice_get w.coords n ≡ Some c → (x : Transaction) → Has x c.pending → x.id ≢ t
   answered_gone t reply h n c there x has same = elim (transaction_or_none plan) [
     | inl some ↦ (ongoing some).0.gone t reply h c x (subst (λ m. slice_get w.coords m ≡ Some c) (sym ((pending some).own n c there x has) ∙ ap (λ (t : TxnId). t.coord) same) there) has same
-    | inr none ↦ absurd (subst (Has (Answered t reply)) (run_idle plan none coords steps w run).history h)
+    | inr none ↦ absurd (subst (Has (Answered t reply)) (run_idle plan none start begins coords steps w run).history h)
   ]
 
   -- where all are answered, nothing is pending
   pub all_gone : ((t : TxnId) → WasSubmitted w.history t → (reply : List ℤ) × Has (Answered t reply) w.history) → (n : ℕ) (c : CoordState) → slice_get w.coords n ≡ Some c → c.pending ≡ []
   all_gone all n c there = elim (transaction_or_none plan) [
     | inl some ↦ go some c.pending refl
-    | inr none ↦ (run_idle plan none coords steps w run).coords n c there
+    | inr none ↦ (run_idle plan none start begins coords steps w run).coords n c there
   ]
     where
       go : HasTransaction plan → (xs : List Transaction) → c.pending ≡ xs → c.pending ≡ []
       go some [] e = e
       go some (x ∷ xs) e =
           let has : Has x c.pending = subst (Has x) (sym e) (inl refl) in
-          let a = all x.id ((serial.logged plan schemes laws stores coords steps w run some).1.pending n c there x has) in
+          let a = all x.id ((serial.logged plan start begins schemes laws stores coords steps w run some).1.pending n c there x has) in
           absurd (answered_gone x.id a.0 a.1 n c there x has refl)

@@ -11,13 +11,14 @@ use Rattle.roc_law_orders.specs.Runs.{Stage, inputs_at, uses_at, yield_at, after
 use Rattle.roc_law_orders.proofs.Stages.{after-store, after-yielded_same}
 use Rattle.roc_law_log.specs.Scheme.{Scheme}
 use Rattle.roc_protocol.specs.PlanAssumptions.{picked, called, use_of, IsSchemeOf}
+use Rattle.roc_protocol.specs.Beginnings.{Beginning}
 use Rattle.roc_protocol.specs.Inner.Given.{LogLaws}
 use Rattle.roc_protocol.proofs.Means.{run_of}
 
 abbrev yield : List ℤ → List ℤ → Yield
 yield bound outs = record { bound = bound; outs = outs }
 
-module _ (plan : Plan) (asked : TxnId → whole.Call) (S : Scheme) (start : Store) (is : IsSchemeOf plan asked S) (laws : LogLaws S start) where
+module _ (plan : Plan) (asked : TxnId → whole.Call) (S : Scheme) (start : Beginning) (is : IsSchemeOf plan asked S) (laws : LogLaws S start.store) where
   pub call_is : (proc group : ℕ) (args inputs : List ℤ) (id : TxnId) (given : List (List ℤ)) → proc ≡ (asked id).procedure → args ≡ (asked id).arguments → inputs ≡ picked (inputs_of plan (asked id).procedure group) given
       → call proc group args inputs ≡ called plan asked (run_of id group) given
   call_is proc group args inputs id given p a v = λ i. call (p i) group (a i) (v i)

@@ -1,5 +1,5 @@
 -- What messages and states say of the log
-use Rattle.std.proofs.Common.{◌≡◌, ◌≢◌, ◌↔◌, ◌⊎◌, ℕ, ℤ, ◌<◌, Bool, true, false, not, ◌&&◌, ◌==◌, List, [], ◌∷◌, Some, None, length, map}
+use Rattle.std.proofs.Common.{◌≤◌, ◌≡◌, ◌≢◌, ◌↔◌, ◌⊎◌, ℕ, ℤ, ◌<◌, Bool, true, false, not, ◌&&◌, ◌==◌, List, [], ◌∷◌, Some, None, length, map}
 use Rattle.std.specs.Prelude.{slice_get, slice_index_or, pos, filter, flat_map, zip}
 use Rattle.std.specs.List.{AllByRecursion, range_with_len}
 use Rattle.roc_sequence.specs.Lists.{Has}
@@ -34,6 +34,7 @@ use Rattle.roc_coord.specs.State.{was_asked, CoordState}
 use Rattle.roc_coord.specs.Starts.{is_ready, all_started, shards_of}
 use Rattle.roc_audit.specs.declared.entry.Entry.TheVariants.{Answered}
 use Rattle.roc_protocol.specs.PlanAssumptions.{picked, use_of}
+use Rattle.roc_protocol.specs.Beginnings.{Beginning}
 use Rattle.roc_protocol.specs.World.{World}
 use Rattle.roc_protocol.specs.Happens.{RanAt}
 use Rattle.roc_server.specs.Below.{is_ended}
@@ -49,16 +50,16 @@ IsServerNode (Coord number) = ⊥
 abbrev pub entry_run : StartedGroup → TxnGroup
 entry_run e = run_of e.id e.group
 
-module _ (plan : Plan) (asked : TxnId → whole.Call) (S : Scheme) (start : Store) (log : Log) where
+module _ (plan : Plan) (asked : TxnId → whole.Call) (S : Scheme) (start : Beginning) (log : Log) where
   abbrev pub stage : Stage
-  stage = stage_behind S.behaviour start log.past.ran
+  stage = stage_behind S.behaviour start.store log.past.ran
 
   -- the shard of a group
   abbrev pub place : TxnGroup → ℕ
-  place r = shard_at S start log.past.ran r
+  place r = shard_at S start.store log.past.ran r
 
   abbrev pub Precedes : TxnId → TxnGroup → Type 0
-  Precedes u r = PrecedesGroup S start log.past u r
+  Precedes u r = PrecedesGroup S start.store log.past u r
 
   abbrev pub Ran : TxnGroup → Type 0
   Ran r = IsListed is_txn_group log.past.ran r
@@ -139,9 +140,13 @@ module _ (plan : Plan) (asked : TxnId → whole.Call) (S : Scheme) (start : Stor
     pub means : StartMeans (run_of id group) (place (run_of id group))
     pub to : node ≡ Server (record { 0 = place (run_of id group) })
 
-  -- all that this coordinator has submitted with a sequence below is answered
+  -- it was answered, or its sequence was used before the run began
+  abbrev pub IsPast : TxnId → Type 0
+  IsPast t = IsListed is_txn log.answered t ⊎ (t.seq < start.nexts t.coord)
+
+  -- all of this coordinator with a sequence below is past
   abbrev pub AreEnded : (coord mark : ℕ) → Type 0
-  AreEnded coord mark = (q : ℕ) → q < mark → IsListed is_txn log.answered (record { coord = coord; seq = q })
+  AreEnded coord mark = (q : ℕ) → q < mark → IsPast (record { coord = coord; seq = q })
 
   abbrev pub Means : Msg → Node → Type 0
   Means (Start id proc group args inputs) to = StartIs id proc group args inputs to
@@ -161,13 +166,13 @@ module _ (plan : Plan) (asked : TxnId → whole.Call) (S : Scheme) (start : Stor
     pub proc : e.proc ≡ (asked e.id).procedure
     pub args : e.args ≡ (asked e.id).arguments
     pub inputs : e.inputs ≡ values_for (entry_run e)
-    pub cells : map use_of e.cells ≡ uses_in S.behaviour start log.past.ran (entry_run e)
+    pub cells : map use_of e.cells ≡ uses_in S.behaviour start.store log.past.ran (entry_run e)
     pub told : ToldMeans (entry_run e) e.bound e.outs e.edges e.facts
 
   -- a group that ran on a shard: it is on it, and used there what it kept
   pub record RanMeans (r : RanAt) : Type 0 where
     pub on : place (entry_run r.group) ≡ r.shard
-    pub cells : map use_of r.group.cells ≡ uses_in S.behaviour start log.past.ran (entry_run r.group)
+    pub cells : map use_of r.group.cells ≡ uses_in S.behaviour start.store log.past.ran (entry_run r.group)
 
   -- what servers tell as run, one after another, is what ran in the log
   pub record AreRan (ran : List RanAt) : Type 0 where
@@ -195,8 +200,8 @@ module _ (plan : Plan) (asked : TxnId → whole.Call) (S : Scheme) (start : Stor
     pub decided : (t : TxnId) → IsListed is_txn (log.decided shard) t → IsDecided s.lists.known t ⊎ IsGone s t
     pub back : (t : TxnId) → IsDecided s.lists.known t → IsListed is_txn (log.decided shard) t
     pub fetched : (a : OpenFetch) → Has a s.lists.waiting.asked → HasBegun a.id a.at.0
-    -- what is below a watermark was answered
-    pub ended : (t : TxnId) → is_ended s.below t ≡ true → IsListed is_txn log.answered t
+    -- what is below a watermark is past
+    pub ended : (t : TxnId) → is_ended s.below t ≡ true → IsPast t
 
   -- ---- coordinators
 
@@ -218,8 +223,10 @@ module _ (plan : Plan) (asked : TxnId → whole.Call) (S : Scheme) (start : Stor
 
   pub record CoordMeans (c : CoordState) : Type 0 where
     pub pending : (x : Transaction) → Has x c.pending → TxnMeans x
-    -- each sequence number below the next one is of a transaction that is pending, or that was answered
-    pub all : (q : ℕ) → q < c.next → ((x : Transaction) × Has x c.pending × (x.id ≡ numbered_id c q)) ⊎ IsListed is_txn log.answered (numbered_id c q)
+    -- each sequence number below the next one is of a transaction that is pending, or past
+    pub all : (q : ℕ) → q < c.next → ((x : Transaction) × Has x c.pending × (x.id ≡ numbered_id c q)) ⊎ IsPast (numbered_id c q)
+    -- the run began at this next one or before
+    pub onward : start.nexts c.number ≤ c.next
 
   -- ---- the history
 
@@ -231,14 +238,14 @@ module _ (plan : Plan) (asked : TxnId → whole.Call) (S : Scheme) (start : Stor
 
   -- it is decided wherever it has a group, and each value of the reply is one that a group gave for its place
   pub record AnswerMeans (t : TxnId) (reply : List ℤ) : Type 0 where
-    pub throughout : IsDecidedThroughout S start log t
+    pub throughout : IsDecidedThroughout S start.store log t
     pub count : length reply ≡ length (flat_map (outs_of plan (asked t).procedure) (range_with_len 0 (group_count t)))
     pub given : (at : ℕ) → at < length reply → IsGiven t at (slice_index_or reply at (pos 0))
 
   -- ---- the world
 
   pub record WorldMeans (w : World) : Type 0 where
-    pub reached : IsReachedLog S start log
+    pub reached : IsReachedLog S start.store log
     pub order : w.order ≡ log.order
     pub servers : (n : ℕ) (s : ServerState) → slice_get w.servers n ≡ Some s → ServerMeans n s
     pub messages : (m : Envelope) → Has m w.sent → Means m.msg m.to

@@ -18,14 +18,12 @@ use Rattle.roc_base.specs.Equalities.{is_txn-true}
 use Rattle.roc_base.specs.Edge.{Dependency}
 use Rattle.roc_base.specs.Edges.{united}
 use Rattle.roc_depgraph.specs.declared.known.KnownList.{KnownList}
-use Rattle.roc_rows.specs.Store.{Store}
 use Rattle.roc_msg.specs.declared.msg.Msg.{Msg}
 use Rattle.roc_msg.specs.declared.msg.Msg.TheVariants.{Start, StartOk, CommitOk}
 use Rattle.roc_msg.specs.declared.msg.Envelope.{Envelope}
 use Rattle.roc_msg.specs.declared.outbox.Outgoing.{Outgoing}
 use Rattle.roc_plan.specs.Groups.{Plan, groups_of}
 use Rattle.roc_whole.specs.Serial as whole
-use Rattle.roc_whole.specs.Serial.{start_store}
 use Rattle.roc_law_log.specs.Scheme.{Scheme}
 use Rattle.roc_law_log.specs.Log.{Log}
 use Rattle.roc_law_log.specs.Invariants.{LogInvariants}
@@ -37,6 +35,7 @@ use Rattle.roc_coord.specs.declared.transaction.TakenStart.{TakenStart}
 use Rattle.roc_coord.specs.State.{find_startok, CoordState}
 use Rattle.roc_coord.specs.Starts.{group_numbers, all_started, all_edges}
 use Rattle.roc_protocol.specs.PlanAssumptions.{IsSchemeOf}
+use Rattle.roc_protocol.specs.Beginnings.{Beginning}
 use Rattle.roc_protocol.specs.World.{World, sent_by, at_server}
 use Rattle.roc_protocol.specs.Quiet.{IsToldIn}
 use Rattle.roc_protocol.specs.Final.{lists_in, IsUnionIn}
@@ -84,10 +83,7 @@ IsToldHere servers (StartOk id group at bound outs edges facts) = (s : ServerSta
 IsToldHere servers (CommitOk id at outs) = (s : ServerState) × (slice_get servers at.0 ≡ Some s) × ((is_here id s.started ≡ true) ⊎ IsGone s id)
 IsToldHere servers msg = Unit {0}
 
-module _ (plan : Plan) (asked : TxnId → whole.Call) (S : Scheme) (is : IsSchemeOf plan asked S) (laws : LogLaws S (start_store plan.program)) where
-  abbrev start : Store
-  start = start_store plan.program
-
+module _ (plan : Plan) (asked : TxnId → whole.Call) (S : Scheme) (start : Beginning) (is : IsSchemeOf plan asked S) (laws : LogLaws S start.store) where
   abbrev pub count : TxnId → ℕ
   count t = length (groups_of plan (asked t).procedure)
 
@@ -124,8 +120,8 @@ module _ (plan : Plan) (asked : TxnId → whole.Call) (S : Scheme) (is : IsSchem
     pub servers : (n : ℕ) (s : ServerState) → slice_get w.servers n ≡ Some s → HoldsGood (Good w.sent) Anywhere s
     pub taken : (n : ℕ) (c : CoordState) → slice_get w.coords n ≡ Some c → (x : Transaction) → Has x c.pending → IsTold w.sent x
 
-  module _ (w : World) (log : Log) (o : IsLogged plan asked S is laws w log) (nw : IsNetworked w) where
-    i : LogInvariants S start log
+  module _ (w : World) (log : Log) (o : IsLogged plan asked S start is laws w log) (nw : IsNetworked w) where
+    i : LogInvariants S start.store log
     i = laws.holds log o.means.reached
 
     -- ---- one startok of each group

@@ -10,7 +10,6 @@ use Rattle.roc_msg.specs.declared.msg.Msg.{Msg}
 use Rattle.roc_msg.specs.declared.msg.Msg.TheVariants.{StartOk, CommitOk}
 use Rattle.roc_msg.specs.declared.reason.Reason.{Reason}
 use Rattle.roc_plan.specs.Groups.{Plan}
-use Rattle.roc_whole.specs.Serial.{start_store}
 use Rattle.roc_law_log.specs.Scheme.{Scheme, IsSoundScheme}
 use Rattle.roc_coord.specs.declared.handled.Handled.{Handled}
 use Rattle.roc_coord.specs.declared.handled.Handled.TheVariants as answer
@@ -23,13 +22,14 @@ use Rattle.roc_audit.specs.History.{WasSubmitted, IsToldOnce}
 use Rattle.roc_audit.proofs.Once.{told_nothing, told_more}
 use Rattle.roc_protocol.specs.declared.event.Event.{Event}
 use Rattle.roc_protocol.specs.declared.event.Event.TheVariants.{Submit, Deliver, Tick}
-use Rattle.roc_protocol.specs.PlanAssumptions.{HasSchemes}
+use Rattle.roc_protocol.specs.PlanAssumptions.{HasSchemesFrom}
+use Rattle.roc_protocol.specs.Beginnings.{Beginning, IsBeginning}
 use Rattle.roc_protocol.specs.World.{World, mark_delivered}
 use Rattle.roc_protocol.specs.Happens.{Outcome, answer_entries, IsReceived}
-use Rattle.roc_protocol.specs.Run.{Stepped, Transition, IsRun, begun, goes_on}
+use Rattle.roc_protocol.specs.Run.{Stepped, Transition, IsRunFrom, at_beginning, steps_on}
 use Rattle.roc_protocol.specs.Inner.Given.{LogLaws, StoreLaws}
 use Rattle.roc_protocol.proofs.Submissions.{unused}
-use Rattle.roc_protocol.proofs.Worlds.{Submitting, is_refused, is_accepted, submitting, run_submissions}
+use Rattle.roc_protocol.proofs.Worlds.{Submitting, is_refused, is_accepted, submitting, submissions_from}
 use Rattle.roc_protocol.proofs.Idle.{run_idle}
 use Rattle.roc_protocol.proofs.Serial as serial
 use Rattle.roc_protocol.proofs.Liveness.{answered_gone}
@@ -64,12 +64,12 @@ of_pending plan s (CommitOk id shard outs) = go (find_transaction id s.pending) 
         refused None (Some reply) = (x, (found_has (λ (x : Transaction). is_txn x.id id) s.pending x e).0, refl)
 of_pending plan s msg = tt
 
-module _ (plan : Plan) (schemes : HasSchemes plan) (laws : (S : Scheme) → IsSoundScheme S → LogLaws S (start_store plan.program)) (stores : StoreLaws) (coords : ℕ) where
-  module _ (steps : List Stepped) (w : World) (run : IsRun plan coords steps w) (told : IsToldOnce w.history) where
+module _ (plan : Plan) (start : Beginning) (begins : IsBeginning plan start) (schemes : HasSchemesFrom plan start.store) (laws : (S : Scheme) → IsSoundScheme S → LogLaws S start.store) (stores : StoreLaws) (coords : ℕ) where
+  module _ (steps : List Stepped) (w : World) (run : IsRunFrom plan start coords steps w) (told : IsToldOnce w.history) where
     pending_submitted : (n : ℕ) (c : CoordState) → slice_get w.coords n ≡ Some c → (x : Transaction) → Has x c.pending → WasSubmitted w.history x.id
     pending_submitted n c there x has = elim (transaction_or_none plan) [
-      | inl some ↦ (serial.logged plan schemes laws stores coords steps w run some).1.pending n c there x has
-      | inr none ↦ absurd (subst (Has x) ((run_idle plan none coords steps w run).coords n c there) has)
+      | inl some ↦ (serial.logged plan start begins schemes laws stores coords steps w run some).1.pending n c there x has
+      | inr none ↦ absurd (subst (Has x) ((run_idle plan none start begins coords steps w run).coords n c there) has)
     ]
 
     nothing_more : IsToldOnce (w.history ++ [])
@@ -78,7 +78,7 @@ module _ (plan : Plan) (schemes : HasSchemes plan) (laws : (S : Scheme) → IsSo
     answer_told : (n : ℕ) (s : CoordState) → slice_get w.coords n ≡ Some s → (a : Handled) → OfPending s a → IsToldOnce (w.history ++ answer_entries a)
     answer_told n s there (answer.Answered id reply) (x, has, is) =
         told_more w.history (Answered id reply) told
-        (subst (WasSubmitted w.history) is (pending_submitted n s there x has), λ other h. answered_gone plan schemes laws stores coords steps w run id other h n s there x has is)
+        (subst (WasSubmitted w.history) is (pending_submitted n s there x has), λ other h. answered_gone plan start begins schemes laws stores coords steps w run id other h n s there x has is)
     answer_told n s there answer.Done k = nothing_more
     answer_told n s there (answer.Ignored why) k = nothing_more
 
@@ -90,7 +90,7 @@ module _ (plan : Plan) (schemes : HasSchemes plan) (laws : (S : Scheme) → IsSo
         go (is_refused e) = subst (λ (v : World). IsToldOnce v.history) (sym e) told
         go (is_accepted known counted e) =
             subst (λ (v : World). IsToldOnce v.history) (sym e)
-            (told_more w.history (Submitted (next_id s) proc args) told (λ q. unused plan w.history w.coords (run_submissions plan coords steps w run) n s there q.0 q.1 q.2))
+            (told_more w.history (Submitted (next_id s) proc args) told (λ q. unused plan w.history w.coords (submissions_from plan start coords steps w run) n s there q.0 q.1 q.2))
     step_told (Some (Deliver k)) o (m, some, there, h) = go m.to h
       where
         go : (to : Node) → IsReceived plan (mark_delivered w k) m.msg to o → IsToldOnce o.world.history
@@ -99,6 +99,6 @@ module _ (plan : Plan) (schemes : HasSchemes plan) (laws : (S : Scheme) → IsSo
     step_told (Some (Tick (Server shard))) o (s, there, e) = subst (λ (o : Outcome). IsToldOnce o.world.history) (sym e) told
     step_told (Some (Tick (Coord n))) o (s, there, e) = subst (λ (o : Outcome). IsToldOnce o.world.history) (sym e) nothing_more
 
-  pub run_told : (steps : List Stepped) (w : World) → IsRun plan coords steps w → IsToldOnce w.history
-  run_told steps w begun = told_nothing
-  run_told steps w (goes_on {w = v} e o r h) = step_told _ v r (run_told _ v r) e o h
+  pub run_told : (steps : List Stepped) (w : World) → IsRunFrom plan start coords steps w → IsToldOnce w.history
+  run_told steps w at_beginning = told_nothing
+  run_told steps w (steps_on {w = v} e o r h) = step_told _ v r (run_told _ v r) e o h

@@ -22,9 +22,10 @@ use Rattle.roc_coord.specs.Tick as coord
 use Rattle.roc_protocol.specs.declared.event.Event.{Event}
 use Rattle.roc_protocol.specs.declared.event.Event.TheVariants.{Submit, Deliver, Tick}
 use Rattle.roc_protocol.specs.declared.event.Seen.TheVariants as seen
+use Rattle.roc_protocol.specs.Beginnings.{Beginning}
 use Rattle.roc_protocol.specs.World.{World, mark_delivered, at_coord}
 use Rattle.roc_protocol.specs.Happens.{Outcome, undecided, Submits, IsSubmissionOf, served, coordinated, IsReceived, Ticks, Happens}
-use Rattle.roc_protocol.specs.Run.{Stepped, Transition, IsRun, begun, goes_on}
+use Rattle.roc_protocol.specs.Run.{Stepped, Transition, IsRunFrom, at_beginning, steps_on}
 
 module _ (plan : Plan) (one : (s : ServerState) (msg : Msg) (r other : ServerStep) → Handles plan s msg r → Handles plan s msg other → r ≡ other) where
   module _ (w : World) where
@@ -69,12 +70,12 @@ module _ (plan : Plan) (one : (s : ServerState) (msg : Msg) (r other : ServerSte
 abbrev events : List Stepped → List (Option Event)
 events steps = map (λ s. s.event) steps
 
-module _ (plan : Plan) (one : (s : ServerState) (msg : Msg) (r other : ServerStep) → Handles plan s msg r → Handles plan s msg other → r ≡ other) (coords : ℕ) where
-  pub one_run : {steps others : List Stepped} {w v : World} → IsRun plan coords steps w → IsRun plan coords others v → events steps ≡ events others → (steps ≡ others) × (w ≡ v)
-  one_run begun begun e = (refl, refl)
-  one_run begun (goes_on {steps = ys} f p q h) e = absurd (empty_more (events ys) f (e ∙ map-append (λ (s : Stepped). s.event) ys (record { event = f; outcome = p } ∷ [])))
-  one_run (goes_on {steps = xs} d o r h) begun e = absurd (empty_more (events xs) d (sym e ∙ map-append (λ (s : Stepped). s.event) xs (record { event = d; outcome = o } ∷ [])))
-  one_run (goes_on {steps = xs} {w = w} d o r h) (goes_on {steps = ys} {w = v} f p q k) e =
+module _ (plan : Plan) (one : (s : ServerState) (msg : Msg) (r other : ServerStep) → Handles plan s msg r → Handles plan s msg other → r ≡ other) (start : Beginning) (coords : ℕ) where
+  pub one_run : {steps others : List Stepped} {w v : World} → IsRunFrom plan start coords steps w → IsRunFrom plan start coords others v → events steps ≡ events others → (steps ≡ others) × (w ≡ v)
+  one_run at_beginning at_beginning e = (refl, refl)
+  one_run at_beginning (steps_on {steps = ys} f p q h) e = absurd (empty_more (events ys) f (e ∙ map-append (λ (s : Stepped). s.event) ys (record { event = f; outcome = p } ∷ [])))
+  one_run (steps_on {steps = xs} d o r h) at_beginning e = absurd (empty_more (events xs) d (sym e ∙ map-append (λ (s : Stepped). s.event) xs (record { event = d; outcome = o } ∷ [])))
+  one_run (steps_on {steps = xs} {w = w} d o r h) (steps_on {steps = ys} {w = v} f p q k) e =
       let ends = same_more (events xs) (events ys) d f (sym (map-append (λ (s : Stepped). s.event) xs (record { event = d; outcome = o } ∷ [])) ∙ e ∙ map-append (λ (s : Stepped). s.event) ys (record { event = f; outcome = p } ∷ [])) in
       go (one_run r q ends.0) ends.1
     where

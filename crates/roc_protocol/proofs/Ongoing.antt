@@ -16,7 +16,6 @@ use Rattle.roc_msg.specs.declared.msg.Envelope.{Envelope}
 use Rattle.roc_msg.specs.declared.outbox.Outgoing.{Outgoing}
 use Rattle.roc_plan.specs.Groups.{Plan}
 use Rattle.roc_whole.specs.Serial as whole
-use Rattle.roc_whole.specs.Serial.{start_store}
 use Rattle.roc_law_log.specs.Scheme.{Scheme}
 use Rattle.roc_law_log.specs.Log.{Log}
 use Rattle.roc_law_log.specs.Invariants.{LogInvariants}
@@ -30,6 +29,7 @@ use Rattle.roc_audit.specs.declared.entry.Entry.{Entry}
 use Rattle.roc_audit.specs.declared.entry.Entry.TheVariants.{Submitted, Answered}
 use Rattle.roc_audit.specs.History.{WasSubmitted}
 use Rattle.roc_protocol.specs.PlanAssumptions.{IsSchemeOf}
+use Rattle.roc_protocol.specs.Beginnings.{Beginning}
 use Rattle.roc_protocol.specs.World.{World, sent_by, at_server, at_coord}
 use Rattle.roc_protocol.specs.Inner.Given.{LogLaws}
 use Rattle.roc_protocol.proofs.Heard.{CommitsAreOut}
@@ -87,13 +87,13 @@ served_ongoing plan w g n r none =
       out = λ t reply h. commits_stay w (at_server w n r) (Server (record { 0 = n })) r.sends refl t (none t) (g.out t reply h);
     }
 
-module _ (plan : Plan) (asked : TxnId → whole.Call) (S : Scheme) (is : IsSchemeOf plan asked S) (laws : LogLaws S (start_store plan.program)) (w : World) (log : Log) (l : IsLogged plan asked S is laws w log) where
-  i : LogInvariants S (start_store plan.program) log
+module _ (plan : Plan) (asked : TxnId → whole.Call) (S : Scheme) (start : Beginning) (is : IsSchemeOf plan asked S) (laws : LogLaws S start.store) (w : World) (log : Log) (l : IsLogged plan asked S start is laws w log) where
+  i : LogInvariants S start.store log
   i = laws.holds log l.means.reached
 
   -- what was answered was submitted
   pub answered_submitted : (t : TxnId) (reply : List ℤ) → Has (Answered t reply) w.history → WasSubmitted w.history t
-  answered_submitted t reply h = ordered_submitted plan asked S is laws w log l t (subst (λ l. IsListed is_txn l t) (sym l.means.order) (l.means.answered t reply h).throughout.in_order)
+  answered_submitted t reply h = ordered_submitted plan asked S start is laws w log l t (subst (λ l. IsListed is_txn l t) (sym l.means.order) (l.means.answered t reply h).throughout.in_order)
 
   module _ (o : IsPending plan w) where
     -- the commits of a transaction whose groups all started were sent
@@ -105,7 +105,7 @@ module _ (plan : Plan) (asked : TxnId → whole.Call) (S : Scheme) (is : IsSchem
               (let on = subst (λ msg. StartsOn w.coords msg (Server shard)) is_start (subst (StartsOn w.coords m.msg) to (o.starts m h)) in
               let was = on c x there has refl in
               let z = any_has (λ (z : SentStart). z.group == group && z.shard.0 == shard.0) x.starts was in
-              let few = subst (λ n. n < 64) (((l.means.coords x.id.coord c there).pending x has).starts group shard was).on (few_place plan asked S (start_store plan.program) is log i (run_of x.id group)) in
+              let few = subst (λ n. n < 64) (((l.means.coords x.id.coord c there).pending x has).starts group shard was).on (few_place plan asked S start is log i (run_of x.id group)) in
               let g = holds x.id.coord c there x has in
               let k = g.commits shard (subst (Has shard) (sym (g.asked all)) (shard_listed x.starts shard z.0 z.1 (and_parts (z.0.group == group) (z.0.shard.0 == shard.0) z.2).1 few)) in
               (k.edges, k.facts, k.message, k.has, k.to, k.is));
@@ -117,9 +117,9 @@ module _ (plan : Plan) (asked : TxnId → whole.Call) (S : Scheme) (is : IsSchem
   TakenSubmitted (CommitOk id shard outs) = WasSubmitted w.history id
   TakenSubmitted msg = Unit {0}
 
-  taken_submitted : (msg : Msg) (to : Node) → Means plan asked S (start_store plan.program) log msg to → TakenSubmitted msg
+  taken_submitted : (msg : Msg) (to : Node) → Means plan asked S start log msg to → TakenSubmitted msg
   taken_submitted (StartOk id group shard bound outs edges facts) to m = l.began (run_of id group) m.0.began
-  taken_submitted (CommitOk id shard outs) to m = ordered_submitted plan asked S is laws w log l id (subst (λ l. IsListed is_txn l id) (sym l.means.order) (i.in_order shard.0 id m.0.decided))
+  taken_submitted (CommitOk id shard outs) to m = ordered_submitted plan asked S start is laws w log l id (subst (λ l. IsListed is_txn l id) (sym l.means.order) (i.in_order shard.0 id m.0.decided))
   taken_submitted msg to m = tt
 
   -- ---- a step of a coordinator

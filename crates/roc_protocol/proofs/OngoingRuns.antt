@@ -14,14 +14,13 @@ use Rattle.roc_msg.specs.declared.msg.Envelope.{Envelope}
 use Rattle.roc_msg.specs.declared.outbox.Outgoing.{Outgoing}
 use Rattle.roc_plan.specs.Groups.{Plan, groups_of}
 use Rattle.roc_whole.specs.Serial as whole
-use Rattle.roc_whole.specs.Serial.{start_store}
 use Rattle.roc_law_log.specs.Scheme.{Scheme}
 use Rattle.roc_law_log.specs.Log.{Log}
 use Rattle.roc_law_log.specs.Invariants.{LogInvariants}
 use Rattle.roc_server.specs.State.{answered, ServerStep}
 use Rattle.roc_server.specs.Step as server
 use Rattle.roc_coord.specs.declared.transaction.Transaction.{Transaction}
-use Rattle.roc_coord.specs.State.{first_coord, CoordState}
+use Rattle.roc_coord.specs.State.{CoordState}
 use Rattle.roc_coord.specs.Starts.{group_numbers, with_starts, all_started}
 use Rattle.roc_coord.specs.Step.{after_message}
 use Rattle.roc_coord.specs.Submit.{next_id, new_transaction, accepted}
@@ -31,9 +30,10 @@ use Rattle.roc_audit.specs.declared.entry.Entry.TheVariants.{Submitted, Answered
 use Rattle.roc_protocol.specs.declared.event.Event.{Event}
 use Rattle.roc_protocol.specs.declared.event.Event.TheVariants.{Submit, Deliver, Tick}
 use Rattle.roc_protocol.specs.PlanAssumptions.{IsSchemeOf}
+use Rattle.roc_protocol.specs.Beginnings.{Beginning, IsBeginning, begun_coord}
 use Rattle.roc_protocol.specs.World.{World, mark_delivered, at_server, at_coord}
 use Rattle.roc_protocol.specs.Happens.{Outcome, answer_entries, IsReceived}
-use Rattle.roc_protocol.specs.Run.{Stepped, Transition, IsRun, begun, goes_on}
+use Rattle.roc_protocol.specs.Run.{Stepped, Transition, IsRunFrom, at_beginning, steps_on}
 use Rattle.roc_protocol.specs.Quiet.{WasDelivered}
 use Rattle.roc_protocol.specs.Inner.Given.{LogLaws, StoreLaws}
 use Rattle.roc_protocol.proofs.Means.{run_of, Means}
@@ -46,7 +46,7 @@ use Rattle.roc_protocol.proofs.Served.{StartsAre}
 use Rattle.roc_protocol.proofs.NoStarts.{no_starts, no_starts_at_tick}
 use Rattle.roc_protocol.proofs.Submissions.{AreSubmissions, no_submission, unused}
 use Rattle.roc_protocol.proofs.Firsts.{found_at}
-use Rattle.roc_protocol.proofs.Worlds.{Submitting, is_refused, is_accepted, submitting, run_submissions, comes_logged, Agrees, agrees_before, IsLogged}
+use Rattle.roc_protocol.proofs.Worlds.{Submitting, is_refused, is_accepted, submitting, submissions_from, comes_logged, Agrees, agrees_before, IsLogged}
 use Rattle.roc_protocol.proofs.Witness.{step_extends, run_logged}
 use Rattle.roc_protocol.proofs.Networks.{IsNetworked}
 use Rattle.roc_protocol.proofs.Finals.{run_networked, comes_networked}
@@ -88,18 +88,18 @@ came w k m some there place b e d P now before = elim (delivered_or_comes w k (s
   | inr g ↦ before g
 ]
 
-module _ (plan : Plan) (asked : TxnId → whole.Call) (S : Scheme) (is : IsSchemeOf plan asked S) (laws : LogLaws S (start_store plan.program)) where
-  module _ (w : World) (log : Log) (l : IsLogged plan asked S is laws w log) (subs : AreSubmissions plan w.history w.coords) (o : IsPending plan w) (g : IsOngoing plan w) where
-    i : LogInvariants S (start_store plan.program) log
+module _ (plan : Plan) (asked : TxnId → whole.Call) (S : Scheme) (start : Beginning) (is : IsSchemeOf plan asked S) (laws : LogLaws S start.store) where
+  module _ (w : World) (log : Log) (l : IsLogged plan asked S start is laws w log) (subs : AreSubmissions plan w.history w.coords) (o : IsPending plan w) (g : IsOngoing plan w) where
+    i : LogInvariants S start.store log
     i = laws.holds log l.means.reached
 
     -- a startok is of a group of its procedure
-    of_group : (n : ℕ) (s : CoordState) → slice_get w.coords n ≡ Some s → (msg : Msg) → Means plan asked S (start_store plan.program) log msg (Coord n) → IsOfGroup plan s.pending msg
+    of_group : (n : ℕ) (s : CoordState) → slice_get w.coords n ≡ Some s → (msg : Msg) → Means plan asked S start log msg (Coord n) → IsOfGroup plan s.pending msg
     of_group n s there (StartOk id group shard bound outs edges facts) m = (
-      subst (λ n. n < 64) (sym m.1) (few_place plan asked S (start_store plan.program) is log i (run_of id group)),
+      subst (λ n. n < 64) (sym m.1) (few_place plan asked S start is log i (run_of id group)),
       λ x h e.
           (let below = (is.groups id group).0 (i.are_groups (run_of id group) m.0.began) in
-          below_number plan asked S (start_store plan.program) is log i x (told plan asked S (start_store plan.program) is log i x ((l.means.coords n s there).pending x h)) group
+          below_number plan asked S start is log i x (told plan asked S start is log i x ((l.means.coords n s there).pending x h)) group
           (subst (λ t. group < length (groups_of plan (asked t).procedure)) (sym e) below)),
     )
     of_group n s there (Start id proc group args inputs) m = tt
@@ -110,7 +110,7 @@ module _ (plan : Plan) (asked : TxnId → whole.Call) (S : Scheme) (is : IsSchem
       is_whole x h a k = (((l.means.coords n s there).pending x h).asked_whole a k).0
 
       not_of : (t : TxnId) (reply : List ℤ) → Has (Answered t reply) w.history → (x : Transaction) → Has x s.pending → x.id ≢ t
-      not_of = not_answered plan asked S is laws w log l subs o g n s there
+      not_of = not_answered plan asked S start is laws w log l subs o g n s there
 
       -- ---- a tick
 
@@ -119,19 +119,19 @@ module _ (plan : Plan) (asked : TxnId → whole.Call) (S : Scheme) (is : IsSchem
 
       tick_ongoing : IsOngoing plan (at_coord w n s (tick_sends plan s) [])
       tick_ongoing =
-          coordinated_ongoing plan asked S is laws w log l subs o g n s there s (tick_sends plan s) [] tick_goes (λ t proc args h. absurd h)
-          (λ t reply h. (tick_coordinated plan asked S (start_store plan.program) is laws log i w l.means n s there (λ u. u ≢ t) (not_of t reply h)).starts)
+          coordinated_ongoing plan asked S start is laws w log l subs o g n s there s (tick_sends plan s) [] tick_goes (λ t proc args h. absurd h)
+          (λ t reply h. (tick_coordinated plan asked S start is laws log i w l.means n s there (λ u. u ≢ t) (not_of t reply h)).starts)
 
       -- ---- a message
 
-      message_goes : (msg : Msg) → Means plan asked S (start_store plan.program) log msg (Coord n) → Proceeds plan w.sent (Coord n) s (after_message plan s msg).state (after_message plan s msg).sends (answer_entries (after_message plan s msg).answer)
+      message_goes : (msg : Msg) → Means plan asked S start log msg (Coord n) → Proceeds plan w.sent (Coord n) s (after_message plan s msg).state (after_message plan s msg).sends (answer_entries (after_message plan s msg).answer)
       message_goes msg m = message_goes_on plan w.sent (Coord n) s (o.once n s there) (g.holds n s there) is_whole msg (of_group n s there msg m)
 
-      message_ongoing : (msg : Msg) → Means plan asked S (start_store plan.program) log msg (Coord n) → IsOngoing plan (at_coord w n (after_message plan s msg).state (after_message plan s msg).sends (answer_entries (after_message plan s msg).answer))
+      message_ongoing : (msg : Msg) → Means plan asked S start log msg (Coord n) → IsOngoing plan (at_coord w n (after_message plan s msg).state (after_message plan s msg).sends (answer_entries (after_message plan s msg).answer))
       message_ongoing msg m =
-          coordinated_ongoing plan asked S is laws w log l subs o g n s there (after_message plan s msg).state (after_message plan s msg).sends (answer_entries (after_message plan s msg).answer) (message_goes msg m)
+          coordinated_ongoing plan asked S start is laws w log l subs o g n s there (after_message plan s msg).state (after_message plan s msg).sends (answer_entries (after_message plan s msg).answer) (message_goes msg m)
           (λ t proc args h. absurd (no_submission (after_message plan s msg).answer t proc args h))
-          (λ t reply h. (message_coordinated plan asked S (start_store plan.program) is laws log i w l.means n s there (λ u. u ≢ t) (not_of t reply h) msg (Coord n) m).starts)
+          (λ t reply h. (message_coordinated plan asked S start is laws log i w l.means n s there (λ u. u ≢ t) (not_of t reply h) msg (Coord n) m).starts)
 
       -- ---- a submission
 
@@ -151,8 +151,8 @@ module _ (plan : Plan) (asked : TxnId → whole.Call) (S : Scheme) (is : IsSchem
 
         submission_ongoing : IsOngoing plan (at_coord w n (accepted plan s (new_transaction s proc args)).state (accepted plan s (new_transaction s proc args)).sends tells)
         submission_ongoing =
-            coordinated_ongoing plan asked S is laws w log l subs o g n s there (accepted plan s (new_transaction s proc args)).state (accepted plan s (new_transaction s proc args)).sends tells submission_goes new
-            (λ t reply h. (submission_coordinated plan asked S (start_store plan.program) is laws log i w l.means n s there (λ u. u ≢ t) (not_of t reply h) proc args tells no_answer p a (fresh t reply h)).starts)
+            coordinated_ongoing plan asked S start is laws w log l subs o g n s there (accepted plan s (new_transaction s proc args)).state (accepted plan s (new_transaction s proc args)).sends tells submission_goes new
+            (λ t reply h. (submission_coordinated plan asked S start is laws log i w l.means n s there (λ u. u ≢ t) (not_of t reply h) proc args tells no_answer p a (fresh t reply h)).starts)
           where
             new : (t : TxnId) (q : ℕ) (x : List ℤ) → Has (Submitted t q x) tells → (t.coord ≡ n) × (y : Transaction) × Has y (accepted plan s (new_transaction s proc args)).state.pending × (y.id ≡ t)
             new t q x h =
@@ -165,7 +165,7 @@ module _ (plan : Plan) (asked : TxnId → whole.Call) (S : Scheme) (is : IsSchem
                 )
 
             fresh : (t : TxnId) (reply : List ℤ) → Has (Answered t reply) w.history → next_id s ≢ t
-            fresh t reply h e = let q = answered_submitted plan asked S is laws w log l t reply h in absurd (unused plan w.history w.coords subs n s there q.0 q.1 (subst (λ t. Has (Submitted t q.0 q.1) w.history) (sym e) q.2))
+            fresh t reply h e = let q = answered_submitted plan asked S start is laws w log l t reply h in absurd (unused plan w.history w.coords subs n s there q.0 q.1 (subst (λ t. Has (Submitted t q.0 q.1) w.history) (sym e) q.2))
 
   -- ---- worlds
 
@@ -173,12 +173,12 @@ module _ (plan : Plan) (asked : TxnId → whole.Call) (S : Scheme) (is : IsSchem
   abbrev Goes : World → Type 0
   Goes w = IsOngoing plan w × AreTaken w
 
-  module _ (w : World) (log : Log) (l : IsLogged plan asked S is laws w log) (nw : IsNetworked plan asked S is laws w) (subs : AreSubmissions plan w.history w.coords) (o : IsPending plan w) (g : IsOngoing plan w) (a : AreTaken w) where
+  module _ (w : World) (log : Log) (l : IsLogged plan asked S start is laws w log) (nw : IsNetworked plan asked S start is laws w) (subs : AreSubmissions plan w.history w.coords) (o : IsPending plan w) (g : IsOngoing plan w) (a : AreTaken w) where
     -- where no message came
     kept_taken : (n : ℕ) (s after : CoordState) (outs : List Outgoing) (tells : List Entry) → slice_get w.coords n ≡ Some s → Proceeds plan w.sent (Coord n) s after outs tells → AreTaken (at_coord w n after outs tells)
     kept_taken n s after outs tells there k =
         coordinated_taken w n after outs tells
-        (λ j number m c e d to f. still_taken plan asked S is laws w log l subs o n s there after k.before m (has_at w.sent j m e) number c (λ b h. a.each j number m b e d to h) f)
+        (λ j number m c e d to f. still_taken plan asked S start is laws w log l subs o n s there after k.before m (has_at w.sent j m e) number c (λ b h. a.each j number m b e d to h) f)
 
     submit_ongoing : (n proc : ℕ) (args : List ℤ) (s : CoordState) → slice_get w.coords n ≡ Some s → (v : Outcome) → Submitting plan w n proc args s v → Agrees asked v.world.history → Goes v.world
     submit_ongoing n proc args s there v (is_refused e) fits = subst Goes (sym e) (g, a)
@@ -209,8 +209,8 @@ module _ (plan : Plan) (asked : TxnId → whole.Call) (S : Scheme) (is : IsSchem
       abbrev u : World
       u = mark_delivered w k
 
-      on_way : IsLogged plan asked S is laws u log
-      on_way = comes_logged plan asked S is laws w log l k
+      on_way : IsLogged plan asked S start is laws u log
+      on_way = comes_logged plan asked S start is laws w log l k
 
       pending : IsPending plan u
       pending = record { own = o.own; once = o.once; starts = o.starts; lists = o.lists; servers = o.servers }
@@ -228,17 +228,17 @@ module _ (plan : Plan) (asked : TxnId → whole.Call) (S : Scheme) (is : IsSchem
             (λ j number b c f d back h. came w k m some there j b f d (λ b. b.to ≡ Coord number → IsTakenBy c.pending b.msg) (λ x. absurd (let y = to in cc)) (λ d x. a.each j number b c f d x h) back),
       )
       receive_all (Coord n) to v (s, at, e) =
-          let means = subst (Means plan asked S (start_store plan.program) log m.msg) to (l.means.messages m has) in
+          let means = subst (Means plan asked S start log m.msg) to (l.means.messages m has) in
           let after = (after_message plan s m.msg).state in
           let goes = message_goes u log on_way subs pending ongoing n s at m.msg means in
-          let taken = message_taken plan s (o.once n s at) m.msg (message_stale plan asked S is laws u log on_way (comes_networked plan asked S is laws w log l nw k) pending ongoing.gone n s at m has to) in
+          let taken = message_taken plan s (o.once n s at) m.msg (message_stale plan asked S start is laws u log on_way (comes_networked plan asked S start is laws w log l nw k) pending ongoing.gone n s at m has to) in
           subst (λ (v : Outcome). Goes v.world) (sym e) (
             message_ongoing u log on_way subs pending ongoing n s at m.msg means,
             coordinated_taken u n after (after_message plan s m.msg).sends (answer_entries (after_message plan s m.msg).answer)
                 (λ j number b c f d back h.
                 came w k m some there j b f d (λ b. b.to ≡ Coord number → IsTakenBy c.pending b.msg)
                 (λ x. here n s after at number c (let y = to in cc) h m.msg taken)
-                (λ d x. still_taken plan asked S is laws u log on_way subs pending n s at after goes.before b (has_at w.sent j b f) number c (λ b2 h2. a.each j number b b2 f d x h2) h)
+                (λ d x. still_taken plan asked S start is laws u log on_way subs pending n s at after goes.before b (has_at w.sent j b f) number c (λ b2 h2. a.each j number b b2 f d x h2) h)
                 back),
           )
         where
@@ -255,21 +255,21 @@ module _ (plan : Plan) (asked : TxnId → whole.Call) (S : Scheme) (is : IsSchem
     step_ongoing (Some (Deliver k)) v (m, some, there, h) fits = receive_all k m some there m.to refl v h
     step_ongoing (Some (Tick node)) v h fits = tick_all node v h
 
-  module _ (stores : StoreLaws) where
+  module _ (stores : StoreLaws) (begins : IsBeginning plan start) where
     -- every world of every run
-    pub run_ongoing : (coords : ℕ) (steps : List Stepped) (w : World) → IsRun plan coords steps w → Agrees asked w.history → Goes w
-    run_ongoing coords steps w begun fits = (
+    pub run_ongoing : (coords : ℕ) (steps : List Stepped) (w : World) → IsRunFrom plan start coords steps w → Agrees asked w.history → Goes w
+    run_ongoing coords steps w at_beginning fits = (
       record {
         submitted = λ t proc args h. absurd h;
-        holds = λ n c e x h. elim (subst (λ (c : CoordState). Has x c.pending) (found_at first_coord 0 coords n c e) h) [ ];
+        holds = λ n c e x h. elim (subst (λ (c : CoordState). Has x c.pending) (found_at (begun_coord start) 0 coords n c e) h) [ ];
         gone = λ t reply h. absurd h;
         out = λ t reply h. absurd h;
       },
       record { each = λ k number m c e. absurd (cc) },
     )
-    run_ongoing coords steps w (goes_on {w = v} e o r h) fits =
+    run_ongoing coords steps w (steps_on {w = v} e o r h) fits =
         let x = step_extends plan v e o h in
         let before = agrees_before asked v.history x.more (subst (Agrees asked) x.is fits) in
-        let lg = run_logged plan asked S is laws stores coords _ v r before in
+        let lg = run_logged plan asked S start is laws stores begins coords _ v r before in
         let earlier = run_ongoing coords _ v r before in
-        step_ongoing v lg.0 lg.1 (run_networked plan asked S is laws stores coords _ v r before) (run_submissions plan coords _ v r) (run_pending plan asked S is laws stores coords _ v r before) earlier.0 earlier.1 e o h fits
+        step_ongoing v lg.0 lg.1 (run_networked plan asked S start is laws stores begins coords _ v r before) (submissions_from plan start coords _ v r) (run_pending plan asked S start is laws stores begins coords _ v r before) earlier.0 earlier.1 e o h fits

@@ -14,7 +14,6 @@ use Rattle.roc_msg.specs.declared.msg.Envelope.{Envelope}
 use Rattle.roc_msg.specs.declared.outbox.Outgoing.{Outgoing}
 use Rattle.roc_plan.specs.Groups.{Plan}
 use Rattle.roc_whole.specs.Serial as whole
-use Rattle.roc_whole.specs.Serial.{start_store}
 use Rattle.roc_law_log.specs.Scheme.{Scheme}
 use Rattle.roc_law_log.specs.Log.{Log}
 use Rattle.roc_server.specs.State.{ServerState, ServerStep}
@@ -26,6 +25,7 @@ use Rattle.roc_audit.specs.declared.entry.Entry.TheVariants.{Submitted, Answered
 use Rattle.roc_audit.specs.History.{WasSubmitted}
 use Rattle.roc_protocol.specs.PlanAssumptions.{IsSchemeOf}
 use Rattle.roc_protocol.specs.Final.{lists_in}
+use Rattle.roc_protocol.specs.Beginnings.{Beginning}
 use Rattle.roc_protocol.specs.World.{World, sent_by, at_server, at_coord}
 use Rattle.roc_protocol.specs.Inner.Given.{LogLaws}
 use Rattle.roc_protocol.proofs.Means.{run_of, Means, ListMeans}
@@ -93,7 +93,7 @@ served_pending plan w o n s there r k none =
 
 -- ---- a step of a coordinator
 
-module _ (plan : Plan) (asked : TxnId → whole.Call) (S : Scheme) (is : IsSchemeOf plan asked S) (laws : LogLaws S (start_store plan.program)) (w : World) (log : Log) (l : IsLogged plan asked S is laws w log) (subs : AreSubmissions plan w.history w.coords) (o : IsPending plan w) (n : ℕ) (s : CoordState) (there : slice_get w.coords n ≡ Some s) (after : CoordState) (a : Advances plan s after) where
+module _ (plan : Plan) (asked : TxnId → whole.Call) (S : Scheme) (start : Beginning) (is : IsSchemeOf plan asked S) (laws : LogLaws S start.store) (w : World) (log : Log) (l : IsLogged plan asked S start is laws w log) (subs : AreSubmissions plan w.history w.coords) (o : IsPending plan w) (n : ℕ) (s : CoordState) (there : slice_get w.coords n ≡ Some s) (after : CoordState) (a : Advances plan s after) where
   abbrev coords : List CoordState
   coords = slice_set w.coords n after
 
@@ -114,10 +114,10 @@ module _ (plan : Plan) (asked : TxnId → whole.Call) (S : Scheme) (is : IsSchem
   whole_later t was k c x e h same = let q = old_or_new t was c x e h same in let z = k q.0 q.1 q.2 q.3 q.4 in q.5.whole z.0 z.1
 
   -- whose list is spoken of was submitted
-  list_submitted : (t : TxnId) (es : List Dependency) → ListMeans plan asked S (start_store plan.program) log t es → WasSubmitted w.history t
+  list_submitted : (t : TxnId) (es : List Dependency) → ListMeans plan asked S start log t es → WasSubmitted w.history t
   list_submitted t es m = l.began (run_of t 0) (m.is_whole 0 ((is.groups t 0).1 (is.some t)))
 
-  carried_submitted : (msg : Msg) (to : Node) → Means plan asked S (start_store plan.program) log msg to → (k : KnownList) → Has k (lists_in msg) → WasSubmitted w.history k.of
+  carried_submitted : (msg : Msg) (to : Node) → Means plan asked S start log msg to → (k : KnownList) → Has k (lists_in msg) → WasSubmitted w.history k.of
   carried_submitted (StartOk id group at bound outs edges facts) to m k h = list_submitted k.of k.edges (m.0.facts k h)
   carried_submitted (Commit id edges facts) to m k h = list_submitted k.of k.edges (m.0 k h)
   carried_submitted (Known id edges) to m k h = subst (λ (k : KnownList). WasSubmitted w.history k.of) (sym (has_one k (record { of = id; edges = edges }) h)) (list_submitted id edges m.0)

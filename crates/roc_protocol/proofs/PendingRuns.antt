@@ -21,18 +21,16 @@ use Rattle.roc_msg.specs.declared.outbox.Outgoing.{Outgoing}
 use Rattle.roc_msg.specs.declared.reason.Reason.{Reason}
 use Rattle.roc_plan.specs.Groups.{Plan}
 use Rattle.roc_whole.specs.Serial as whole
-use Rattle.roc_whole.specs.Serial.{start_store}
 use Rattle.roc_law_log.specs.Scheme.{Scheme}
 use Rattle.roc_law_log.specs.Log.{Log}
 use Rattle.roc_law_log.specs.Invariants.{LogInvariants}
-use Rattle.roc_server.specs.First.{first_server}
 use Rattle.roc_server.specs.State.{answered, ServerState, ServerStep}
 use Rattle.roc_server.specs.Step as server
 use Rattle.roc_coord.specs.declared.transaction.Transaction.{Transaction}
 use Rattle.roc_coord.specs.declared.transaction.SentStart.{SentStart}
 use Rattle.roc_coord.specs.declared.transaction.TakenStart.{TakenStart}
 use Rattle.roc_coord.specs.declared.transaction.TakenCommit.{TakenCommit}
-use Rattle.roc_coord.specs.State.{find_transaction, with_transaction, find_start, find_startok, was_asked, has_commitok, first_coord, CoordState}
+use Rattle.roc_coord.specs.State.{find_transaction, with_transaction, find_start, find_startok, was_asked, has_commitok, CoordState}
 use Rattle.roc_coord.specs.Starts.{group_numbers, ready_groups, shard_for, start_for, with_starts, starts_of, all_started, commit_to}
 use Rattle.roc_coord.specs.Step.{unless_refused, with_commits, with_startok, sends_after, startok_taken, startok_refusal, after_startok, with_commitok, reply_now, commitok_taken, commitok_refusal, after_commitok, after_message, answered_sends, without_transaction}
 use Rattle.roc_coord.specs.Submit.{next_id, new_transaction, accepted}
@@ -43,9 +41,10 @@ use Rattle.roc_protocol.specs.declared.event.Event.{Event}
 use Rattle.roc_protocol.specs.declared.event.Event.TheVariants.{Submit, Deliver, Tick}
 use Rattle.roc_protocol.specs.PlanAssumptions.{IsSchemeOf}
 use Rattle.roc_protocol.specs.Final.{lists_in}
+use Rattle.roc_protocol.specs.Beginnings.{Beginning, IsBeginning, begun_server, begun_coord}
 use Rattle.roc_protocol.specs.World.{World, mark_delivered, at_coord}
 use Rattle.roc_protocol.specs.Happens.{Outcome, answer_entries, IsReceived}
-use Rattle.roc_protocol.specs.Run.{Stepped, Transition, IsRun, begun, goes_on}
+use Rattle.roc_protocol.specs.Run.{Stepped, Transition, IsRunFrom, at_beginning, steps_on}
 use Rattle.roc_protocol.specs.Inner.Given.{LogLaws, StoreLaws}
 use Rattle.roc_protocol.proofs.Means.{TxnMeans}
 use Rattle.roc_protocol.proofs.Rounds.{told}
@@ -60,14 +59,14 @@ use Rattle.roc_protocol.proofs.Pending.{AskedBy, IsWholeAt, StartsOn, IsPending,
 use Rattle.roc_protocol.proofs.PendingSends.{start_on, commit_lists, commit_starts, start_lists, round_starts, round_lists}
 use Rattle.roc_protocol.proofs.Firsts.{found_at}
 use Rattle.roc_protocol.proofs.Submissions.{AreSubmissions, unused}
-use Rattle.roc_protocol.proofs.Worlds.{Submitting, is_refused, is_accepted, submitting, run_submissions, comes_logged, Agrees, agrees_before, IsLogged}
+use Rattle.roc_protocol.proofs.Worlds.{Submitting, is_refused, is_accepted, submitting, submissions_from, comes_logged, Agrees, agrees_before, IsLogged}
 use Rattle.roc_protocol.proofs.Witness.{step_extends, run_logged}
 use Rattle.roc_protocol.proofs.Marks.{IsMarkOf, mark_sent, mark_told}
 use Rattle.roc_coord.specs.Marks.{ended_sends}
 
-module _ (plan : Plan) (asked : TxnId → whole.Call) (S : Scheme) (is : IsSchemeOf plan asked S) (laws : LogLaws S (start_store plan.program)) where
-  module _ (w : World) (log : Log) (l : IsLogged plan asked S is laws w log) (nw : IsNetworked plan asked S is laws w) (subs : AreSubmissions plan w.history w.coords) (o : IsPending plan w) where
-    i : LogInvariants S (start_store plan.program) log
+module _ (plan : Plan) (asked : TxnId → whole.Call) (S : Scheme) (start : Beginning) (is : IsSchemeOf plan asked S) (laws : LogLaws S start.store) where
+  module _ (w : World) (log : Log) (l : IsLogged plan asked S start is laws w log) (nw : IsNetworked plan asked S start is laws w) (subs : AreSubmissions plan w.history w.coords) (o : IsPending plan w) where
+    i : LogInvariants S start.store log
     i = laws.holds log l.means.reached
 
     abbrev Result : (n : ℕ) → CoordState → List Outgoing → Type 0
@@ -85,13 +84,13 @@ module _ (plan : Plan) (asked : TxnId → whole.Call) (S : Scheme) (is : IsSchem
 
       -- where nothing is sent
       silent : (after : CoordState) → Advances plan s after → Result n after []
-      silent after a tells = coordinated_pending plan asked S is laws w log l subs o n s there after a [] tells (own_after after a) (λ out h. absurd h) (λ out h. absurd h)
+      silent after a tells = coordinated_pending plan asked S start is laws w log l subs o n s there after a [] tells (own_after after a) (λ out h. absurd h) (λ out h. absurd h)
 
       -- the facts that it took were carried
       taken_facts : (after : CoordState) (a : Advances plan s after) → (x : Transaction) → Has x s.pending → (ok : TakenStart) → Has ok x.startoks → (k : KnownList) → Has k ok.facts → IsWholeAt plan (slice_set w.coords n after) k.of
       taken_facts after a x h ok j k i =
           let t = ((nw.taken n s there x h).startoks ok j).0 in
-          lists_later plan asked S is laws w log l subs o n s there after a t.message t.has k (subst (λ msg. Has k (lists_in msg)) (sym t.is) i)
+          lists_later plan asked S start is laws w log l subs o n s there after a t.message t.has k (subst (λ msg. Has k (lists_in msg)) (sym t.is) i)
 
       startok_pending : (m : Envelope) → Has m w.sent → (id : TxnId) (group : ℕ) (shard : Shard) (bound outs : List ℤ) (edges : List Dependency) (facts : List KnownList) → m.msg ≡ StartOk id group shard bound outs edges facts
           → (x : Option Transaction) → find_transaction id s.pending ≡ x
@@ -116,9 +115,9 @@ module _ (plan : Plan) (asked : TxnId → whole.Call) (S : Scheme) (is : IsSchem
               let told_facts : (b : TakenStart) → Has b z.startoks → (k : KnownList) → Has k b.facts → IsWholeAt plan (slice_set w.coords n after) k.of =
               λ b h k j. elim (has_append b x.startoks (ok ∷ []) h) [
                 | inl p ↦ taken_facts after a x found.0 b p k j
-                | inr p ↦ lists_later plan asked S is laws w log l subs o n s there after a m has k (subst (λ msg. Has k (lists_in msg)) (sym e) (subst (λ (b : TakenStart). Has k b.facts) (has_one b ok p) j))
+                | inr p ↦ lists_later plan asked S start is laws w log l subs o n s there after a m has k (subst (λ msg. Has k (lists_in msg)) (sym e) (subst (λ (b : TakenStart). Has k b.facts) (has_one b ok p) j))
               ] in
-              coordinated_pending plan asked S is laws w log l subs o n s there after a (sends_after plan z) tells (own_after after a)
+              coordinated_pending plan asked S start is laws w log l subs o n s there after a (sends_after plan z) tells (own_after after a)
               (round_starts plan w.coords n s after there a.once z kept own told_facts)
               (round_lists plan w.coords n s after there a.once z kept own told_facts)
             where
@@ -144,7 +143,7 @@ module _ (plan : Plan) (asked : TxnId → whole.Call) (S : Scheme) (is : IsSchem
           refused None None a = silent (commitok_taken plan s (with_commitok x ok) None).state a
           refused None (Some reply) a = λ tells.
               let after = without_transaction s x.id in
-              coordinated_pending plan asked S is laws w log l subs o n s there after a (answered_sends plan s after) tells (own_after after a)
+              coordinated_pending plan asked S start is laws w log l subs o n s there after a (answered_sends plan s after) tells (own_after after a)
               (λ out h. mark_on (slice_set w.coords n after) out (mark_told plan s after out h)) (λ out h k j. absurd (mark_lists out (mark_told plan s after out h) k j))
 
       message_pending : (m : Envelope) → Has m w.sent → (msg : Msg) → m.msg ≡ msg → Advances plan s (after_message plan s msg).state → Result n (after_message plan s msg).state (after_message plan s msg).sends
@@ -157,7 +156,7 @@ module _ (plan : Plan) (asked : TxnId → whole.Call) (S : Scheme) (is : IsSchem
       tick_pending : Result n s (tick_sends plan s)
       tick_pending tells =
           let a = stays plan s once in
-          coordinated_pending plan asked S is laws w log l subs o n s there s a (tick_sends plan s) tells (own_after s a)
+          coordinated_pending plan asked S start is laws w log l subs o n s there s a (tick_sends plan s) tells (own_after s a)
           (λ out h. elim (has_append out (flat_map (sent_again plan) s.pending) (ended_sends plan s) h) [
             | inl k ↦ (let q = from_has_flat_map (sent_again plan) out s.pending k in again_starts a q.0 q.1 out (all_started plan q.0) q.2)
             | inr k ↦ mark_on (slice_set w.coords n s) out (mark_sent plan s out k)
@@ -175,12 +174,12 @@ module _ (plan : Plan) (asked : TxnId → whole.Call) (S : Scheme) (is : IsSchem
               subst (λ (out : Outgoing). StartsOn (slice_set w.coords n s) out.msg out.to) (sym q.2)
               (start_on plan w.coords n s s there once x x q.0 h refl (o.own n s there x h) (was x q.0 f.0 (find_start q.0 x.starts) refl (and_parts (is_some (find_start q.0 x.starts)) (is_none (find_startok q.0 x.startoks)) f.1).0 ((l.means.coords n s there).pending x h)))
             where
-              was : (x : Transaction) (g : ℕ) → Has g (group_numbers plan x.proc) → (z : Option SentStart) → find_start g x.starts ≡ z → is_some z ≡ true → TxnMeans plan asked S (start_store plan.program) log x → was_asked x g (shard_for plan x g) ≡ true
+              was : (x : Transaction) (g : ℕ) → Has g (group_numbers plan x.proc) → (z : Option SentStart) → find_start g x.starts ≡ z → is_some z ≡ true → TxnMeans plan asked S start log x → was_asked x g (shard_for plan x g) ≡ true
               was x g number None e k m = absurd (false≢true k)
               was x g number (Some z) e k m =
                   let f = found_has (λ (z : SentStart). z.group == g) x.starts z e in
                   let asked_z : was_asked x g z.shard ≡ true = has_any (λ (y : SentStart). y.group == g && y.shard.0 == z.shard.0) x.starts z f.0 (and_from (z.group == g) (z.shard.0 == z.shard.0) f.1 (eq-eqb z.shard.0 z.shard.0 refl)) in
-                  let r = ready_group plan asked S (start_store plan.program) is log i x (told plan asked S (start_store plan.program) is log i x m) g (number_below plan asked S (start_store plan.program) is log i x (told plan asked S (start_store plan.program) is log i x m) g number) (m.ready g z.shard asked_z) in
+                  let r = ready_group plan asked S start is log i x (told plan asked S start is log i x m) g (number_below plan asked S start is log i x (told plan asked S start is log i x m) g number) (m.ready g z.shard asked_z) in
                   let same : z.shard.0 ≡ (shard_for plan x g).0 = sym (m.starts g z.shard asked_z).on ∙ r.means.on in
                   subst (λ n. was_asked x g (record { 0 = n }) ≡ true) same asked_z
 
@@ -202,13 +201,13 @@ module _ (plan : Plan) (asked : TxnId → whole.Call) (S : Scheme) (is : IsSchem
           let fresh : (z : Transaction) → Has z s.pending → z.id ≢ next_id s = λ z h e. (let q = l.pending n s there z h in unused plan w.history w.coords subs n s there q.0 q.1 (subst (λ t. Has (Submitted t q.0 q.1) w.history) e q.2)) in
           let a = submission_advances plan s once proc args fresh in
           let kept : Has y after.pending = has_right y s.pending (y ∷ []) (inl refl) in
-          coordinated_pending plan asked S is laws w log l subs o n s there after a (starts_of plan x) tells (own_after after a)
+          coordinated_pending plan asked S start is laws w log l subs o n s there after a (starts_of plan x) tells (own_after after a)
           (λ out h. let q = from_has_map (start_for plan x) out (ready_groups plan x) h in subst (λ (out : Outgoing). StartsOn (slice_set w.coords n after) out.msg out.to) (sym q.2) (start_on plan w.coords n s after there a.once x y q.0 kept refl (subs.numbers n s there) (starts_asked plan x q.0 q.1)))
           (start_lists plan w.coords n s after there a.once x (ready_groups plan x))
 
   -- ---- worlds
 
-  step_pending : (w : World) (log : Log) → IsLogged plan asked S is laws w log → IsNetworked plan asked S is laws w → AreSubmissions plan w.history w.coords → IsPending plan w → (e : Option Event) (v : Outcome) → Transition plan w e v → IsPending plan v.world
+  step_pending : (w : World) (log : Log) → IsLogged plan asked S start is laws w log → IsNetworked plan asked S start is laws w → AreSubmissions plan w.history w.coords → IsPending plan w → (e : Option Event) (v : Outcome) → Transition plan w e v → IsPending plan v.world
   step_pending w log l nw subs o None v h = subst (λ (v : Outcome). IsPending plan v.world) (sym h) o
   step_pending w log l nw subs o (Some (Submit n proc args)) v (s, there, h) = go (submitting plan w n proc args s v h)
     where
@@ -226,28 +225,28 @@ module _ (plan : Plan) (asked : TxnId → whole.Call) (S : Scheme) (is : IsSchem
           (message_good plan (λ t es. IsWholeAt plan w.coords t) (λ t g. AskedBy w.coords t g shard.0) s (o.servers shard.0 s at) m.msg r step (o.lists m (has_at w.sent (k - 1) m there)) (starts_here w.coords m.msg shard.0 f))
           (subst (λ (r : ServerStep). (out : Outgoing) → Has out r.sends → StartsAre (λ t. ⊥) out.msg) (sym step.is) (no_starts plan s (λ t. ⊥) step.findings m.msg)))
       go (Coord n) f (s, at, e) = subst (λ (v : Outcome). IsPending plan v.world) (sym e)
-          (message_pending (mark_delivered w k) log (comes_logged plan asked S is laws w log l k) (comes_networked plan asked S is laws w log l nw k) subs p n s at m (has_at w.sent (k - 1) m there) m.msg refl (message_advances plan s (o.once n s at) m.msg) (answer_entries (after_message plan s m.msg).answer))
+          (message_pending (mark_delivered w k) log (comes_logged plan asked S start is laws w log l k) (comes_networked plan asked S start is laws w log l nw k) subs p n s at m (has_at w.sent (k - 1) m there) m.msg refl (message_advances plan s (o.once n s at) m.msg) (answer_entries (after_message plan s m.msg).answer))
   step_pending w log l nw subs o (Some (Tick (Server shard))) v (s, there, e) = subst (λ (v : Outcome). IsPending plan v.world) (sym e)
       (served_pending plan w o shard.0 s there (answered s (server.tick_sends s)) (tick_good plan (λ t es. IsWholeAt plan w.coords t) (λ t g. AskedBy w.coords t g shard.0) s (o.servers shard.0 s there)) (no_starts_at_tick plan s (λ t. ⊥)))
   step_pending w log l nw subs o (Some (Tick (Coord n))) v (s, there, e) = subst (λ (v : Outcome). IsPending plan v.world) (sym e) (tick_pending w log l nw subs o n s there [])
 
-  module _ (stores : StoreLaws) where
-    pub run_pending : (coords : ℕ) (steps : List Stepped) (w : World) → IsRun plan coords steps w → Agrees asked w.history → IsPending plan w
-    run_pending coords steps w begun fits =
+  module _ (stores : StoreLaws) (begins : IsBeginning plan start) where
+    pub run_pending : (coords : ℕ) (steps : List Stepped) (w : World) → IsRunFrom plan start coords steps w → Agrees asked w.history → IsPending plan w
+    run_pending coords steps w at_beginning fits =
         record {
-          own = λ n c e x h. elim (subst (λ (c : CoordState). Has x c.pending) (found_at first_coord 0 coords n c e) h) [ ];
-          once = λ n c e y z h. elim (subst (λ (c : CoordState). Has y c.pending) (found_at first_coord 0 coords n c e) h) [ ];
+          own = λ n c e x h. elim (subst (λ (c : CoordState). Has x c.pending) (found_at (begun_coord start) 0 coords n c e) h) [ ];
+          once = λ n c e y z h. elim (subst (λ (c : CoordState). Has y c.pending) (found_at (begun_coord start) 0 coords n c e) h) [ ];
           starts = λ m h. absurd h;
           lists = λ m h. absurd h;
-          servers = λ n s h. (let e = found_at (λ n. first_server plan (record { 0 = n })) 0 plan.program.shards n s h in
+          servers = λ n s h. (let e = found_at (begun_server start) 0 plan.program.shards n s h in
               record {
                 groups = λ b j. elim (subst (λ (s : ServerState). Has b s.started) e j) [ ];
                 known = λ k j. elim (subst (λ (s : ServerState). Has k s.lists.known) e j) [ ];
                 facts = λ b j. elim (subst (λ (s : ServerState). Has b s.started) e j) [ ];
               });
         }
-    run_pending coords steps w (goes_on {w = v} e o r h) fits =
+    run_pending coords steps w (steps_on {w = v} e o r h) fits =
         let x = step_extends plan v e o h in
         let g = agrees_before asked v.history x.more (subst (Agrees asked) x.is fits) in
-        let lg = run_logged plan asked S is laws stores coords _ v r g in
-        step_pending v lg.0 lg.1 (run_networked plan asked S is laws stores coords _ v r g) (run_submissions plan coords _ v r) (run_pending coords _ v r g) e o h
+        let lg = run_logged plan asked S start is laws stores begins coords _ v r g in
+        step_pending v lg.0 lg.1 (run_networked plan asked S start is laws stores begins coords _ v r g) (submissions_from plan start coords _ v r) (run_pending coords _ v r g) e o h

@@ -1,5 +1,5 @@
 -- A quiet transaction is decided wherever it has a group, and its commits are answered
-use Rattle.std.proofs.Common.{◌≡◌, ℕ, ℤ, suc, ◌<◌, Bool, true, false, List, [], ◌∷◌, Option, Some, None, length, refl, sym, ap, subst, ◌∙◌, inl, inr, arith, is_some, unwrap_or}
+use Rattle.std.proofs.Common.{◌≤◌, ◌≡◌, ℕ, ℤ, suc, ◌<◌, Bool, true, false, List, [], ◌∷◌, Option, Some, None, length, refl, sym, ap, subst, ◌∙◌, inl, inr, arith, is_some, unwrap_or}
 use Rattle.std.proofs.lemmas.Bool.{false≢true}
 use Rattle.std.specs.Prelude.{slice_get, flat_map}
 use Rattle.std.specs.List.{range_with_len}
@@ -26,15 +26,15 @@ use Rattle.roc_msg.specs.declared.msg.Msg.TheVariants.{Start, Commit, Fetch}
 use Rattle.roc_msg.specs.declared.msg.Envelope.{Envelope}
 use Rattle.roc_msg.specs.Msg.{id_of}
 use Rattle.roc_plan.specs.Groups.{Plan, groups_of}
-use Rattle.roc_whole.specs.Serial.{start_store}
 use Rattle.roc_law_log.specs.Scheme.{Scheme, IsSoundScheme}
 use Rattle.roc_server.specs.declared.started.StartedGroup.{StartedGroup}
 use Rattle.roc_server.specs.State.{is_here, ServerState}
 use Rattle.roc_server.specs.Below.{is_ended}
 use Rattle.roc_audit.specs.History.{WasAnswered}
-use Rattle.roc_protocol.specs.PlanAssumptions.{HasSchemes}
+use Rattle.roc_protocol.specs.PlanAssumptions.{HasSchemesFrom}
+use Rattle.roc_protocol.specs.Beginnings.{Beginning, IsBeginning}
 use Rattle.roc_protocol.specs.World.{World}
-use Rattle.roc_protocol.specs.Run.{Stepped, IsRun}
+use Rattle.roc_protocol.specs.Run.{Stepped, IsRunFrom}
 use Rattle.roc_protocol.specs.Quiet.{IsToldIn, PrecedesIn, IsQuiet}
 use Rattle.roc_protocol.specs.Final.{IsFinalIn}
 use Rattle.roc_protocol.specs.Inner.Given.{LogLaws, StoreLaws}
@@ -87,7 +87,7 @@ entry_of known u t p =
     let k = known_has known t (entry_known known t a.0 a.1) in
     record { list = k.0; is_known = k.1; of = k.2; entry = a.0; has = subst (Has a.0) k.3 a.1; from = is_txn-true a.0.from u a.2 }
 
-module _ (plan : Plan) (w : World) (o : HasHeard w) (finals : (n : ℕ) (s : ServerState) → slice_get w.servers n ≡ Some s → (k : KnownList) → Has k s.lists.known → IsFinalIn plan w k.of k.edges) (out : (u : TxnId) → AreDelivered w u → CommitsAreOut w u) (ended : (n : ℕ) (s : ServerState) → slice_get w.servers n ≡ Some s → (t : TxnId) → is_ended s.below t ≡ true → (reply : List ℤ) × WasAnswered w.history t reply) where
+module _ (plan : Plan) (w : World) (o : HasHeard w) (finals : (n : ℕ) (s : ServerState) → slice_get w.servers n ≡ Some s → (k : KnownList) → Has k s.lists.known → IsFinalIn plan w k.of k.edges) (out : (u : TxnId) → AreDelivered w u → CommitsAreOut w u) (Late : TxnId → Type 0) (ended : (n : ℕ) (s : ServerState) → slice_get w.servers n ≡ Some s → (t : TxnId) → Late t → is_ended s.below t ≡ true → (reply : List ℤ) × WasAnswered w.history t reply) where
   -- a message in the network of a transaction whose messages were delivered came
   came : (u : TxnId) → AreDelivered w u → (k : ℕ) (m : Envelope) → slice_get w.sent k ≡ Some m → id_of m.msg ≡ Some u → HasCome w k
   came u d k m at of = (m, at, d.each k m at of)
@@ -160,27 +160,27 @@ module _ (plan : Plan) (w : World) (o : HasHeard w) (finals : (n : ℕ) (s : Ser
       decided_here here = record { own = known_here t own n s there here; ancestors = known_before }
 
     -- unless it is answered
-    commits_answered : ((reply : List ℤ) → ¬ WasAnswered w.history t reply) → CommitsHeard w t
-    commits_answered unanswered = record {
+    commits_answered : Late t → ((reply : List ℤ) → ¬ WasAnswered w.history t reply) → CommitsHeard w t
+    commits_answered late unanswered = record {
       each = λ k m shard edges facts at goes is d.
           (let a : At w.servers shard.0 (HasCommit w.sent t shard) = subst (IsTaken w.servers w.sent k (Commit t edges facts)) goes (subst (λ msg. IsTaken w.servers w.sent k msg m.to) is (o.taken k m (m, at, d) at)) in
-          elim a.2 [ inl k ↦ k.2 (decided_here shard.0 a.0 a.1 k.0) | inr gone ↦ absurd (let answer = ended shard.0 a.0 a.1 t gone.ended in unanswered answer.0 answer.1) ]);
+          elim a.2 [ inl k ↦ k.2 (decided_here shard.0 a.0 a.1 k.0) | inr gone ↦ absurd (let answer = ended shard.0 a.0 a.1 t late gone.ended in unanswered answer.0 answer.1) ]);
     }
 
 -- ---- every run
 
-module _ (plan : Plan) (schemes : HasSchemes plan) (laws : (S : Scheme) → IsSoundScheme S → LogLaws S (start_store plan.program)) (stores : StoreLaws) (coords : ℕ) (steps : List Stepped) (w : World) (run : IsRun plan coords steps w) where
+module _ (plan : Plan) (start : Beginning) (begins : IsBeginning plan start) (schemes : HasSchemesFrom plan start.store) (laws : (S : Scheme) → IsSoundScheme S → LogLaws S start.store) (stores : StoreLaws) (coords : ℕ) (steps : List Stepped) (w : World) (run : IsRunFrom plan start coords steps w) where
   heard : HasHeard w
-  heard = run_heard plan schemes laws stores coords steps w run
+  heard = run_heard plan start begins schemes laws stores coords steps w run
 
   -- each start goes to a server
   start_to : (m : Envelope) → Has m w.sent → (t : TxnId) (proc group : ℕ) (args inputs : List ℤ) → m.msg ≡ Start t proc group args inputs → (shard : Shard) × (m.to ≡ Server shard)
   start_to m h t proc group args inputs is = elim (transaction_or_none plan) [
     | inl some ↦
-        (let x = serial.logged plan schemes laws stores coords steps w run some in
-        let k = subst (λ msg. Means plan (serial.asked plan schemes laws stores coords steps w run some) (serial.S plan schemes laws stores coords steps w run some) (start_store plan.program) x.0 msg m.to) is (x.1.means.messages m h) in
+        (let x = serial.logged plan start begins schemes laws stores coords steps w run some in
+        let k = subst (λ msg. Means plan (serial.asked plan start begins schemes laws stores coords steps w run some) (serial.S plan start begins schemes laws stores coords steps w run some) start x.0 msg m.to) is (x.1.means.messages m h) in
         (_, k.to))
-    | inr none ↦ absurd (subst (Has m) (run_idle plan none coords steps w run).sent h)
+    | inr none ↦ absurd (subst (Has m) (run_idle plan none start begins coords steps w run).sent h)
   ]
 
   -- each start that was delivered has a startok in the network
@@ -193,15 +193,19 @@ module _ (plan : Plan) (schemes : HasSchemes plan) (laws : (S : Scheme) → IsSo
 
   module _ (out : (u : TxnId) → AreDelivered w u → CommitsAreOut w u) where
     finals : (n : ℕ) (s : ServerState) → slice_get w.servers n ≡ Some s → (k : KnownList) → Has k s.lists.known → IsFinalIn plan w k.of k.edges
-    finals = known_final plan schemes laws stores coords steps w run
+    finals = known_final plan start begins schemes laws stores coords steps w run
 
-    ended : (n : ℕ) (s : ServerState) → slice_get w.servers n ≡ Some s → (t : TxnId) → is_ended s.below t ≡ true → (reply : List ℤ) × WasAnswered w.history t reply
-    ended = heard_answered plan schemes laws stores coords steps w run
+    -- its sequence was not used before the run began
+    abbrev Late : TxnId → Type 0
+    Late t = start.nexts t.coord ≤ t.seq
+
+    ended : (n : ℕ) (s : ServerState) → slice_get w.servers n ≡ Some s → (t : TxnId) → Late t → is_ended s.below t ≡ true → (reply : List ℤ) × WasAnswered w.history t reply
+    ended = heard_answered plan start begins schemes laws stores coords steps w run
 
     -- a quiet transaction is decided wherever it has a group
     pub quiet_is_decided : (t : TxnId) → IsQuiet plan steps w t → (shard : Shard) (s : ServerState) → slice_get w.servers shard.0 ≡ Some s → (e : StartedGroup) → Has e s.started → e.id ≡ t → IsDecided s.lists.known t
-    quiet_is_decided t quiet shard s there e h of = decided_here plan w heard finals out ended steps t quiet shard.0 s there (has_any (λ (e : StartedGroup). is_txn e.id t) s.started e h (is_txn-eq e.id t of))
+    quiet_is_decided t quiet shard s there e h of = decided_here plan w heard finals out Late ended steps t quiet shard.0 s there (has_any (λ (e : StartedGroup). is_txn e.id t) s.started e h (is_txn-eq e.id t of))
 
     -- and each commit of it that was delivered has a commitok in the network, unless it is answered
-    pub commits_heard : (t : TxnId) → IsQuiet plan steps w t → ((reply : List ℤ) → ¬ WasAnswered w.history t reply) → CommitsHeard w t
-    commits_heard t quiet = commits_answered plan w heard finals out ended steps t quiet
+    pub commits_heard : (t : TxnId) → IsQuiet plan steps w t → start.nexts t.coord ≤ t.seq → ((reply : List ℤ) → ¬ WasAnswered w.history t reply) → CommitsHeard w t
+    commits_heard t quiet = commits_answered plan w heard finals out Late ended steps t quiet

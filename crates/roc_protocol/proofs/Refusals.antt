@@ -25,7 +25,6 @@ use Rattle.roc_msg.specs.declared.reason.Reason.TheVariants.{NotHere}
 use Rattle.roc_plan.specs.declared.group.Input.{Input}
 use Rattle.roc_plan.specs.Groups.{Plan, procedure_of, groups_of, inputs_of, shard_of, group_place, is_transaction}
 use Rattle.roc_whole.specs.Serial as whole
-use Rattle.roc_whole.specs.Serial.{start_store}
 use Rattle.roc_group.specs.GroupRun.{GroupCall, call}
 use Rattle.roc_law_orders.specs.Behaviour.{TxnGroup, is_group_number}
 use Rattle.roc_law_orders.specs.Runs.{needs, inputs_at}
@@ -43,6 +42,7 @@ use Rattle.roc_audit.specs.declared.entry.Entry.TheVariants.{Submitted}
 use Rattle.roc_protocol.specs.PlanAssumptions.{picked, IsSchemeOf}
 use Rattle.roc_await.specs.Waits.{was_asked_for}
 use Rattle.roc_protocol.specs.Final.{lists_in}
+use Rattle.roc_protocol.specs.Beginnings.{Beginning}
 use Rattle.roc_protocol.specs.World.{World}
 use Rattle.roc_protocol.specs.Inner.Given.{LogLaws}
 use Rattle.roc_protocol.proofs.Means.{run_of, stage, place, Began, HasBegun, Means, StartIs, ServerMeans}
@@ -60,15 +60,15 @@ length-picked [] given e = refl
 length-picked (i ∷ is) [] e = absurd (omega arith)
 length-picked (i ∷ is) (v ∷ given) e = let r = length-picked is given (omega arith) in omega arith
 
-module _ (plan : Plan) (asked : TxnId → whole.Call) (S : Scheme) (is : IsSchemeOf plan asked S) (laws : LogLaws S (start_store plan.program)) (w : World) (log : Log) (o : IsLogged plan asked S is laws w log) (nw : IsNetworked plan asked S is laws w) (ha : HasAsked w) (subs : AreSubmissions plan w.history w.coords) (agrees : Agrees asked w.history) (known : (t : TxnId) → is_transaction plan (asked t).procedure ≡ true) (n : ℕ) (s : ServerState) (there : slice_get w.servers n ≡ Some s) where
-  i : LogInvariants S (start_store plan.program) log
+module _ (plan : Plan) (asked : TxnId → whole.Call) (S : Scheme) (start : Beginning) (is : IsSchemeOf plan asked S) (laws : LogLaws S start.store) (w : World) (log : Log) (o : IsLogged plan asked S start is laws w log) (nw : IsNetworked plan asked S start is laws w) (ha : HasAsked w) (subs : AreSubmissions plan w.history w.coords) (agrees : Agrees asked w.history) (known : (t : TxnId) → is_transaction plan (asked t).procedure ≡ true) (n : ℕ) (s : ServerState) (there : slice_get w.servers n ≡ Some s) where
+  i : LogInvariants S start.store log
   i = laws.holds log o.means.reached
 
-  mine : ServerMeans plan asked S (start_store plan.program) log n s
+  mine : ServerMeans plan asked S start log n s
   mine = o.means.servers n s there
 
   -- who has begun here is found here
-  begun_here : (t : TxnId) → HasBegun plan asked S (start_store plan.program) log t n → is_here t s.started ≡ true
+  begun_here : (t : TxnId) → HasBegun plan asked S start log t n → is_here t s.started ≡ true
   begun_here t b = elim (mine.groups.finds (run_of t b.group) b.began b.on) [
     | inl f ↦
         (let q = found_has (is_group t b.group) s.started f.0 f.1 in
@@ -85,10 +85,10 @@ module _ (plan : Plan) (asked : TxnId → whole.Call) (S : Scheme) (is : IsSchem
     abbrev r : TxnGroup
     r = run_of id group
 
-    k : StartIs plan asked S (start_store plan.program) log id proc group args inputs m.to
-    k = subst (λ msg. Means plan asked S (start_store plan.program) log msg m.to) msg (o.means.messages m has)
+    k : StartIs plan asked S start log id proc group args inputs m.to
+    k = subst (λ msg. Means plan asked S start log msg m.to) msg (o.means.messages m has)
 
-    on : place plan asked S (start_store plan.program) log r ≡ n
+    on : place plan asked S start log r ≡ n
     on = ap shard_number (sym k.to ∙ to)
 
     procedure : has_procedure plan proc ≡ true
@@ -104,9 +104,9 @@ module _ (plan : Plan) (asked : TxnId → whole.Call) (S : Scheme) (is : IsSchem
         let p : proc ≡ sub.0 = k.proc ∙ sym (agrees.proc id sub.0 sub.1 sub.2) in
         let counted : length args ≡ (procedure_of plan proc).arguments = ap length a ∙ (subs.arguments id sub.0 sub.1 sub.2 ∙ ap (λ p. (procedure_of plan p).arguments) (sym p)) in
         let is_of = inputs_of plan (asked id).procedure group in
-        let stage_inputs = inputs_at S.behaviour (stage plan asked S (start_store plan.program) log) r in
+        let stage_inputs = inputs_at S.behaviour (stage plan asked S start log) r in
         let many : length stage_inputs ≡ length is_of =
-        length-map (needs S.behaviour r) (λ q. ((stage plan asked S (start_store plan.program) log).yielded q).bound)
+        length-map (needs S.behaviour r) (λ q. ((stage plan asked S start log).yielded q).bound)
         ∙ (length-map (S.behaviour.sources r) (run_of id)
         ∙ (ap length (is.sources r) ∙ length-map is_of (λ (a : Input). a.group))) in
         let taken : length inputs ≡ length (inputs_of plan proc group) = ap length k.inputs ∙ (length-picked is_of stage_inputs many ∙ ap (λ p. length (inputs_of plan p group)) (sym k.proc)) in
@@ -114,15 +114,15 @@ module _ (plan : Plan) (asked : TxnId → whole.Call) (S : Scheme) (is : IsSchem
 
     here : shard_of plan (group_place plan proc group args inputs) == s.shard.0 ≡ true
     here =
-        let e : place plan asked S (start_store plan.program) log r ≡ shard_of plan (group_place plan proc group args inputs) =
-        is.group_shard r (inputs_at S.behaviour (stage plan asked S (start_store plan.program) log) r) ∙ sym (λ j. shard_of plan (group_place plan (k.proc j) group (k.args j) (k.inputs j))) in
+        let e : place plan asked S start log r ≡ shard_of plan (group_place plan proc group args inputs) =
+        is.group_shard r (inputs_at S.behaviour (stage plan asked S start log) r) ∙ sym (λ j. shard_of plan (group_place plan (k.proc j) group (k.args j) (k.inputs j))) in
         eq-eqb (shard_of plan (group_place plan proc group args inputs)) s.shard.0 (sym e ∙ (on ∙ sym mine.number))
 
     not_late : is_none (find_group id group s.started) && is_known s.lists.known id ≡ false
     not_late = false_from_ne_true (is_none (find_group id group s.started) && is_known s.lists.known id) (λ h.
         let p = and_parts (is_none (find_group id group s.started)) (is_known s.lists.known id) h in
         let l = known_has s.lists.known id p.1 in
-        let began = subst (λ t. Began plan asked S (start_store plan.program) log (run_of t group)) l.2 ((mine.known l.0 l.1).is_whole group (subst (λ t. IsListed is_group_number (S.behaviour.groups t) group) (sym l.2) k.means.listed)) in
+        let began = subst (λ t. Began plan asked S start log (run_of t group)) l.2 ((mine.known l.0 l.1).is_whole group (subst (λ t. IsListed is_group_number (S.behaviour.groups t) group) (sym l.2) k.means.listed)) in
         elim (mine.groups.finds r began on) [ inl f ↦ clash f.0 f.1 p.0 | inr gone ↦ none_gone s id gone ])
       where
         clash : (e : StartedGroup) → find_group id group s.started ≡ Some e → is_none (find_group id group s.started) ≡ true → ⊥
@@ -142,26 +142,26 @@ module _ (plan : Plan) (asked : TxnId → whole.Call) (S : Scheme) (is : IsSchem
 
   -- ---- lists
 
-  alike : (k : KnownList) → Good plan asked S is laws w.sent k.of k.edges → is_unlike s.lists.known k ≡ false
+  alike : (k : KnownList) → Good plan asked S start is laws w.sent k.of k.edges → is_unlike s.lists.known k ≡ false
   alike k g = go (list_of k.of s.lists.known) refl
     where
       go : (x : Option (List Dependency)) → list_of k.of s.lists.known ≡ x → is_unlike s.lists.known k ≡ false
       go None e = rw e refl
       go (Some kept) e =
           let l = list_has s.lists.known k.of kept e in
-          let good : Good plan asked S is laws w.sent k.of kept = subst (λ es. Good plan asked S is laws w.sent k.of es) l.3 (subst (λ t. Good plan asked S is laws w.sent t l.0.edges) l.2 ((nw.servers n s there).known l.0 l.1)) in
-          let same = one_union plan asked S is laws w log o nw k.of kept k.edges good g in
+          let good : Good plan asked S start is laws w.sent k.of kept = subst (λ es. Good plan asked S start is laws w.sent k.of es) l.3 (subst (λ t. Good plan asked S start is laws w.sent t l.0.edges) l.2 ((nw.servers n s there).known l.0 l.1)) in
+          let same = one_union plan asked S start is laws w log o nw k.of kept k.edges good g in
           rw e (ap not ((Decides-is_edges kept k.edges).1 same))
 
   commit_taken-here : (m : Envelope) → Has m w.sent → (id : TxnId) (edges : List Dependency) (facts : List KnownList) → m.msg ≡ Commit id edges facts → m.to ≡ Server (record { 0 = n }) → commit_fault s id edges facts ≡ None
   commit_taken-here m has id edges facts msg to =
-      let means = subst (λ to. Means plan asked S (start_store plan.program) log (Commit id edges facts) to) to (subst (λ msg. Means plan asked S (start_store plan.program) log msg m.to) msg (o.means.messages m has)) in
-      let good : (k : KnownList) → Has k (list_with id edges ∷ facts) → Good plan asked S is laws w.sent k.of k.edges = λ k h. nw.lists m has k (subst (λ msg. Has k (lists_in msg)) (sym msg) h) in
+      let means = subst (λ to. Means plan asked S start log (Commit id edges facts) to) to (subst (λ msg. Means plan asked S start log msg m.to) msg (o.means.messages m has)) in
+      let good : (k : KnownList) → Has k (list_with id edges ∷ facts) → Good plan asked S start is laws w.sent k.of k.edges = λ k h. nw.lists m has k (subst (λ msg. Has k (lists_in msg)) (sym msg) h) in
       let a = begun_here id means.1 in
       let b = none_has (is_unlike s.lists.known) (list_with id edges ∷ facts) (λ k h. alike k (good k h)) in
       let d = none_has (λ (f : KnownList). is_txn f.of id && not (is_edges f.edges edges)) facts (λ f h. false_from_ne_true (is_txn f.of id && not (is_edges f.edges edges)) (λ j.
       let p = and_parts (is_txn f.of id) (not (is_edges f.edges edges)) j in
-      let same = one_union plan asked S is laws w log o nw id f.edges edges (subst (λ t. Good plan asked S is laws w.sent t f.edges) (is_txn-true f.of id p.0) (good f (inr h))) (good (list_with id edges) (inl refl)) in
+      let same = one_union plan asked S start is laws w log o nw id f.edges edges (subst (λ t. Good plan asked S start is laws w.sent t f.edges) (is_txn-true f.of id p.0) (good f (inr h))) (good (list_with id edges) (inl refl)) in
       false≢true (ap not (sym ((Decides-is_edges f.edges edges).1 same)) ∙ p.1))) in
       rw (a, b, d) refl
 
@@ -177,7 +177,7 @@ module _ (plan : Plan) (asked : TxnId → whole.Call) (S : Scheme) (is : IsSchem
 
   fetch_taken-here : (m : Envelope) → Has m w.sent → (id : TxnId) (asker : Shard) → m.msg ≡ Fetch id asker → m.to ≡ Server (record { 0 = n }) → is_here id s.started ≡ true
   fetch_taken-here m has id asker msg to =
-      begun_here id (subst (λ to. Means plan asked S (start_store plan.program) log (Fetch id asker) to) to (subst (λ msg. Means plan asked S (start_store plan.program) log msg m.to) msg (o.means.messages m has)))
+      begun_here id (subst (λ to. Means plan asked S start log (Fetch id asker) to) to (subst (λ msg. Means plan asked S start log msg m.to) msg (o.means.messages m has)))
 
   -- ---- any message
 
@@ -216,7 +216,7 @@ module _ (plan : Plan) (asked : TxnId → whole.Call) (S : Scheme) (is : IsSchem
       go (Commit id edges facts) e = commit_done h.findings.before h.findings.decided id edges facts (commit_fault s id edges facts) (commit_taken-here m has id edges facts e to)
       go (Fetch id asker) e = fetch_done id asker (is_here id s.started) (fetch_taken-here m has id asker e to)
       go (Known id edges) e = known_done h.findings.decided id edges (known_fault s id edges) (known_taken-here m has id edges e to)
-      go (StartOk id group shard bound outs edges facts) e = absurd (to_coord (subst (λ msg. Means plan asked S (start_store plan.program) log msg m.to) e (o.means.messages m has)).2)
-      go (CommitOk id shard outs) e = absurd (to_coord (subst (λ msg. Means plan asked S (start_store plan.program) log msg m.to) e (o.means.messages m has)).1)
+      go (StartOk id group shard bound outs edges facts) e = absurd (to_coord (subst (λ msg. Means plan asked S start log msg m.to) e (o.means.messages m has)).2)
+      go (CommitOk id shard outs) e = absurd (to_coord (subst (λ msg. Means plan asked S start log msg m.to) e (o.means.messages m has)).1)
       go (Ended coord mark) e = refl
-      go any e = absurd (subst (λ msg. Means plan asked S (start_store plan.program) log msg m.to) e (o.means.messages m has))
+      go any e = absurd (subst (λ msg. Means plan asked S start log msg m.to) e (o.means.messages m has))

@@ -12,7 +12,6 @@ use Rattle.roc_sequence.proofs.Members.{has_append, from_has_filter, has_filter,
 use Rattle.roc_base.specs.declared.id.TxnId.{TxnId}
 use Rattle.roc_base.specs.TxnId.{is_txn}
 use Rattle.roc_base.specs.declared.node.Shard.{Shard}
-use Rattle.roc_rows.specs.Store.{Store}
 use Rattle.roc_plan.specs.Groups.{Plan, groups_of, outs_of, is_immediate_of}
 use Rattle.roc_whole.specs.Serial as whole
 use Rattle.roc_law_orders.specs.Behaviour.{TxnGroup, Yield}
@@ -28,6 +27,7 @@ use Rattle.roc_coord.specs.declared.transaction.TakenCommit.{TakenCommit}
 use Rattle.roc_coord.specs.State.{was_asked, has_commitok}
 use Rattle.roc_coord.specs.Starts.{group_numbers, all_started, shards_of, shards_below}
 use Rattle.roc_coord.specs.Commits.{waits_on, groups_on, places_on, all_committed, given_by_start, given_by_commit, placed_by_startoks, placed_by_commitoks, placed_outs, out_at, reply_length, reply_of}
+use Rattle.roc_protocol.specs.Beginnings.{Beginning}
 use Rattle.roc_protocol.specs.PlanAssumptions.{IsSchemeOf}
 use Rattle.roc_protocol.proofs.Means.{run_of, place, Ran, stage, ToldMeans, DoneMeans, TxnMeans, waits_at, IsGiven, AnswerMeans}
 use Rattle.roc_protocol.proofs.Grows.{filter_same}
@@ -87,12 +87,12 @@ shard_listed starts s z h e l =
     (has_map numbered s.0 (range_with_len 0 64) (has_range 0 64 s.0 (omega arith) (omega arith)))
     (has_any (λ (start : SentStart). start.shard.0 == s.0) starts z h e)
 
-module _ (plan : Plan) (asked : TxnId → whole.Call) (S : Scheme) (start : Store) (is : IsSchemeOf plan asked S) (c : Log) (i : LogInvariants S start c) where
+module _ (plan : Plan) (asked : TxnId → whole.Call) (S : Scheme) (start : Beginning) (is : IsSchemeOf plan asked S) (c : Log) (i : LogInvariants S start.store c) where
   -- what ran gave as many values as it has places
   pub count_given : (r : TxnGroup) → Ran plan asked S start c r → length ((stage plan asked S start c).yielded r).outs ≡ length (outs_of plan (asked r.txn).procedure r.group)
   count_given r h =
-      ap (λ (y : Yield). length y.outs) (yielded_at S.behaviour c.past.ran (first_stage start) r i.ran_once h)
-      ∙ is.outs r (inputs_at S.behaviour (after_groups S.behaviour (first_stage start) (groups_before r c.past.ran)) r) (after_groups S.behaviour (first_stage start) (groups_before r c.past.ran)).store
+      ap (λ (y : Yield). length y.outs) (yielded_at S.behaviour c.past.ran (first_stage start.store) r i.ran_once h)
+      ∙ is.outs r (inputs_at S.behaviour (after_groups S.behaviour (first_stage start.store) (groups_before r c.past.ran)) r) (after_groups S.behaviour (first_stage start.store) (groups_before r c.past.ran)).store
 
   pub few_place : (r : TxnGroup) → place plan asked S start c r < 64
   few_place r = let e = is.group_shard r (inputs_at S.behaviour (stage plan asked S start c) r) in subst (λ n. n < 64) (sym e) (is.few_shards _)
@@ -209,7 +209,7 @@ module _ (plan : Plan) (asked : TxnId → whole.Call) (S : Scheme) (start : Stor
             (k.0, k.1, eqb-true k.0.shard.0 s.0 k.2)
 
         -- so it is decided on each of them
-        pub decided_throughout : IsListed is_txn c.order t → IsDecidedThroughout S start c t
+        pub decided_throughout : IsListed is_txn c.order t → IsDecidedThroughout S start.store c t
         decided_throughout w =
             record {
               in_order = w;

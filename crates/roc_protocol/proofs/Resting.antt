@@ -17,18 +17,20 @@ use Rattle.roc_depgraph.proofs.Listed.{has_listed}
 use Rattle.roc_rows.specs.declared.cell.Cell.{Cell}
 use Rattle.roc_rows.specs.Store.{Store, read}
 use Rattle.roc_plan.specs.Groups.{Plan, shard_of}
-use Rattle.roc_whole.specs.Serial.{start_store, serial_store}
+use Rattle.roc_whole.specs.Serial.{serial_store}
 use Rattle.roc_server.specs.State.{ServerState}
 use Rattle.roc_coord.specs.Step.{after_message}
 use Rattle.roc_audit.specs.declared.entry.Entry.{Entry}
 use Rattle.roc_audit.specs.declared.entry.Entry.TheVariants.{Submitted}
-use Rattle.roc_audit.specs.Witness.{submitted_call, submitted_calls, IsSerialWitness}
+use Rattle.roc_audit.specs.Witness.{submitted_call, submitted_calls}
 use Rattle.roc_audit.proofs.Histories.{call_of-append, call_of-submitted}
 use Rattle.roc_protocol.specs.declared.event.Event.{Event}
 use Rattle.roc_protocol.specs.declared.event.Event.TheVariants.{Submit, Deliver, Tick}
+use Rattle.roc_protocol.specs.Beginnings.{Beginning}
+use Rattle.roc_protocol.specs.WitnessFrom.{IsSerialWitnessFrom}
 use Rattle.roc_protocol.specs.World.{World, mark_delivered}
 use Rattle.roc_protocol.specs.Happens.{Outcome, IsReceived, answer_entries}
-use Rattle.roc_protocol.specs.Run.{Stepped, Transition, IsRun, goes_on}
+use Rattle.roc_protocol.specs.Run.{Stepped, Transition, IsRunFrom, steps_on}
 use Rattle.roc_protocol.proofs.Submissions.{no_submission}
 use Rattle.roc_protocol.proofs.Worlds.{Submitting, is_refused, is_accepted, submitting}
 use Rattle.roc_protocol.proofs.Earlier.{order_goes_on}
@@ -69,8 +71,8 @@ none_behind order (t ∷ rest) once all =
     twice : (xs : List TxnId) → NoneTwice is_txn (xs ++ t ∷ rest) → ¬ IsListed is_txn xs t
     twice xs o l = apart xs (t ∷ rest) t o (listed_head is_txn t rest (is_txn-same t)) l
 
-module _ (plan : Plan) (coords : ℕ) (steps : List Stepped) (w : World) (run : IsRun plan coords steps w) (serials : (steps : List Stepped) (v : World) → IsRun plan coords steps v → IsSerialWitness plan.program v.history v.order) where
-  order_by : AreAllAnswered w → (o : World) (steps : List Stepped) → IsRun plan coords steps o → (rest : List TxnId) → o.order ≡ w.order ++ rest → Leaves w o → o.order ≡ w.order
+module _ (plan : Plan) (start : Beginning) (coords : ℕ) (steps : List Stepped) (w : World) (run : IsRunFrom plan start coords steps w) (serials : (steps : List Stepped) (v : World) → IsRunFrom plan start coords steps v → IsSerialWitnessFrom plan.program start.store v.history v.order) where
+  order_by : AreAllAnswered w → (o : World) (steps : List Stepped) → IsRunFrom plan start coords steps o → (rest : List TxnId) → o.order ≡ w.order ++ rest → Leaves w o → o.order ≡ w.order
   order_by all o after there rest grown (leaves_all servers same) = same
   order_by all o after there rest grown (submits_none more is none) =
       let later = serials after o there in
@@ -84,12 +86,12 @@ module _ (plan : Plan) (coords : ℕ) (steps : List Stepped) (w : World) (run : 
       (serials steps w run).answered t a.0 a.1))
 
   pub order_rests : AreAllAnswered w → (e : Option Event) (o : Outcome) → Transition plan w e o → o.world.order ≡ w.order
-  order_rests all e o h = let g = order_goes_on plan w e o h in order_by all o.world (steps ++ (record { event = e; outcome = o }) ∷ []) (goes_on e o run h) g.0 g.1 (leaves plan w e o h)
+  order_rests all e o h = let g = order_goes_on plan w e o h in order_by all o.world (steps ++ (record { event = e; outcome = o }) ∷ []) (steps_on e o run h) g.0 g.1 (leaves plan w e o h)
 
-  module _ (cells : (steps : List Stepped) (v : World) → IsRun plan coords steps v → AreAllAnswered v → (x : Cell) → IsCellSerial plan v x)
-      (apart_cells : (steps : List Stepped) (v : World) → IsRun plan coords steps v → (n : ℕ) (s : ServerState) → slice_get v.servers n ≡ Some s → (x : Cell) → shard_of plan x.place ≢ n → read s.store x ≡ pos 0)
+  module _ (cells : (steps : List Stepped) (v : World) → IsRunFrom plan start coords steps v → AreAllAnswered v → (x : Cell) → IsCellSerial plan start v x)
+      (apart_cells : (steps : List Stepped) (v : World) → IsRunFrom plan start coords steps v → (n : ℕ) (s : ServerState) → slice_get v.servers n ≡ Some s → (x : Cell) → shard_of plan x.place ≢ n → read s.store x ≡ pos 0)
       (alike : (s t : Store) → ((x : Cell) → read s x ≡ read t x) → s ≡ t) where
-    stores_by : AreAllAnswered w → (o : World) (after : List Stepped) → IsRun plan coords after o → o.order ≡ w.order → Leaves w o → (n : ℕ) (s v : ServerState) → slice_get w.servers n ≡ Some s → slice_get o.servers n ≡ Some v → v.store ≡ s.store
+    stores_by : AreAllAnswered w → (o : World) (after : List Stepped) → IsRunFrom plan start coords after o → o.order ≡ w.order → Leaves w o → (n : ℕ) (s v : ServerState) → slice_get w.servers n ≡ Some s → slice_get o.servers n ≡ Some v → v.store ≡ s.store
     stores_by all o after there order (leaves_all servers same) n s v at now =
         let both : Some v ≡ Some s = sym now ∙ (ap (λ l. slice_get l n) servers ∙ at) in
         let one : v ≡ s = cc in
@@ -98,7 +100,7 @@ module _ (plan : Plan) (coords : ℕ) (steps : List Stepped) (w : World) (run : 
         alike v.store s.store (λ x. elim (cases_eq (shard_of plan x.place) n) [
           | inl same ↦
               cells after o there still x v (subst (λ n. slice_get o.servers n ≡ Some v) (sym same) now)
-              ∙ ap (λ cs. read (serial_store plan.program (start_store plan.program) cs) x) calls
+              ∙ ap (λ cs. read (serial_store plan.program start.store cs) x) calls
               ∙ sym (cells steps w run all x s (subst (λ n. slice_get w.servers n ≡ Some s) (sym same) at))
           | inr other ↦ apart_cells after o there n v now x other ∙ sym (apart_cells steps w run n s at x other)
         ])
@@ -118,4 +120,4 @@ module _ (plan : Plan) (coords : ℕ) (steps : List Stepped) (w : World) (run : 
             ap (submitted_call t) is ∙ call_of-append w.history more t c.0 c.1 ∙ sym c.1))
 
     pub stores_rest : AreAllAnswered w → (e : Option Event) (o : Outcome) → Transition plan w e o → (n : ℕ) (s v : ServerState) → slice_get w.servers n ≡ Some s → slice_get o.world.servers n ≡ Some v → v.store ≡ s.store
-    stores_rest all e o h = stores_by all o.world (steps ++ (record { event = e; outcome = o }) ∷ []) (goes_on e o run h) (order_rests all e o h) (leaves plan w e o h)
+    stores_rest all e o h = stores_by all o.world (steps ++ (record { event = e; outcome = o }) ∷ []) (steps_on e o run h) (order_rests all e o h) (leaves plan w e o h)

@@ -9,7 +9,6 @@ use Rattle.roc_sequence.proofs.Found.{none_found}
 use Rattle.roc_sequence.proofs.Members.{has_append, has_one, from_has_map, from_has_filter, has_left}
 use Rattle.roc_base.specs.declared.id.TxnId.{TxnId}
 use Rattle.roc_base.specs.declared.node.Shard.{Shard}
-use Rattle.roc_rows.specs.Store.{Store}
 use Rattle.roc_plan.specs.declared.group.Input.{Input}
 use Rattle.roc_plan.specs.Groups.{Plan, inputs_of}
 use Rattle.roc_whole.specs.Serial as whole
@@ -24,6 +23,7 @@ use Rattle.roc_coord.specs.State.{find_start, find_startok, was_asked}
 use Rattle.roc_coord.specs.Starts.{group_numbers, is_ready, can_start, ready_groups, shard_for, sent_start, with_starts, all_started, shards_of, shards_below}
 use Rattle.roc_coord.specs.Step.{with_commits, with_startok, with_commitok}
 use Rattle.roc_coord.specs.Submit.{unstarted}
+use Rattle.roc_protocol.specs.Beginnings.{Beginning}
 use Rattle.roc_protocol.specs.PlanAssumptions.{IsSchemeOf}
 use Rattle.roc_protocol.proofs.Means.{HasBegun, run_of, place, ToldMeans, StartMeans, DoneMeans, TxnMeans}
 use Rattle.roc_protocol.proofs.Coordinators.{told_all, IsTold, number_below, told_of, ready_group}
@@ -43,7 +43,7 @@ find_more p (x ∷ xs) ys h = go (p x) h (find_more p xs ys)
     go true k ih = refl
     go false k ih = ih k
 
-module _ (plan : Plan) (asked : TxnId → whole.Call) (S : Scheme) (start : Store) (is : IsSchemeOf plan asked S) (c : Log) (i : LogInvariants S start c) where
+module _ (plan : Plan) (asked : TxnId → whole.Call) (S : Scheme) (start : Beginning) (is : IsSchemeOf plan asked S) (c : Log) (i : LogInvariants S start.store c) where
   pub told : (x : Transaction) → TxnMeans plan asked S start c x → IsTold plan asked S start is c i x
   told x m = record { proc = m.proc; args = m.args; startoks = m.startoks }
 

@@ -11,7 +11,6 @@ use Rattle.roc_sequence.proofs.Members.{from_has_map, has_append, has_map, has_l
 use Rattle.roc_base.specs.declared.id.TxnId.{TxnId}
 use Rattle.roc_base.specs.TxnId.{is_txn}
 use Rattle.roc_base.specs.Equalities.{is_txn-true, is_txn-same}
-use Rattle.roc_rows.specs.Store.{Store}
 use Rattle.roc_plan.specs.Groups.{Plan, inputs_of}
 use Rattle.roc_whole.specs.Serial as whole
 use Rattle.roc_group.specs.GroupRun.{group_run}
@@ -28,6 +27,7 @@ use Rattle.roc_server.specs.State.{is_group, ServerState}
 use Rattle.roc_server.specs.Runs.{group_call, with_later, run_group, run_groups, buffered_here, take_all}
 use Rattle.roc_server.specs.State.{unrun}
 use Rattle.roc_protocol.specs.PlanAssumptions.{picked, called, IsSchemeOf}
+use Rattle.roc_protocol.specs.Beginnings.{Beginning}
 use Rattle.roc_protocol.specs.Inner.Given.{LogLaws}
 use Rattle.roc_protocol.proofs.Means.{entry_run, Ran, stage, EntryMeans, AreGroupsHere, IsPart}
 use Rattle.roc_protocol.proofs.Local.{call_is, run_cells, run_elsewhere, run_outs}
@@ -42,7 +42,7 @@ find_under f p h (x ∷ xs) = go (p x) (h x) (find_under f p h xs)
     go true e ih = cond-true (p (f x)) (Some (f x)) (find p (map f xs)) e
     go false e ih = cond-false (p (f x)) (Some (f x)) (find p (map f xs)) e ∙ ih
 
-module _ (plan : Plan) (asked : TxnId → whole.Call) (S : Scheme) (start : Store) (is : IsSchemeOf plan asked S) (laws : LogLaws S start) (c : Log) (n : ℕ) (Gone : TxnId → Type 0) where
+module _ (plan : Plan) (asked : TxnId → whole.Call) (S : Scheme) (start : Beginning) (is : IsSchemeOf plan asked S) (laws : LogLaws S start.store) (c : Log) (n : ℕ) (Gone : TxnId → Type 0) where
   abbrev X : Stage
   X = stage plan asked S start c
 
@@ -163,16 +163,16 @@ module _ (plan : Plan) (asked : TxnId → whole.Call) (S : Scheme) (start : Stor
 
   -- the transactions are taken one after another
   module _ (is_whole : (t : TxnId) → IsWhole S c.past.started t → (st : ServerState) → AreGroupsHere plan asked S start c n Gone st.started → (e : StartedGroup) → Has e (buffered_here plan t st.started) → ¬ Ran plan asked S start c (entry_run e) → IsWaiting e) where
-    pub take_parts : (ts : List TxnId) → ((t : TxnId) → Has t ts → IsWhole S c.past.started t) → ((t : TxnId) → Has t ts → ¬ Gone t) → ((r : TxnGroup) → Has r (waiting_here S start c.past.ran n ts) → ¬ Ran plan asked S start c r) → (Before : TxnGroup → Type 0) (Z : Stage) (st : ServerState) → IsAt Before Z st
-        → IsAt (λ q. Before q ⊎ Has q (waiting_here S start c.past.ran n ts)) (after_groups S.behaviour Z (waiting_here S start c.past.ran n ts)) (take_all plan st ts)
+    pub take_parts : (ts : List TxnId) → ((t : TxnId) → Has t ts → IsWhole S c.past.started t) → ((t : TxnId) → Has t ts → ¬ Gone t) → ((r : TxnGroup) → Has r (waiting_here S start.store c.past.ran n ts) → ¬ Ran plan asked S start c r) → (Before : TxnGroup → Type 0) (Z : Stage) (st : ServerState) → IsAt Before Z st
+        → IsAt (λ q. Before q ⊎ Has q (waiting_here S start.store c.past.ran n ts)) (after_groups S.behaviour Z (waiting_here S start.store c.past.ran n ts)) (take_all plan st ts)
     take_parts [] all kept new Before Z st a = weaker Before (λ q. Before q ⊎ ⊥) (λ q h. elim h [ inl k ↦ k | inr k ↦ absurd k ]) Z st a
     take_parts (t ∷ ts) all kept new Before Z st a =
         let es = buffered_here plan t st.started in
-        let mine = filter (waits_here S start c.past.ran n) (all_groups S.behaviour t) in
-        let rest = waiting_here S start c.past.ran n ts in
+        let mine = filter (waits_here S start.store c.past.ran n) (all_groups S.behaviour t) in
+        let rest = waiting_here S start.store c.past.ran n ts in
         let same : map entry_run es ≡ mine = buffered_runs plan asked S start is c n Gone st.started a.groups t (all t (inl refl)) (kept t (inl refl)) in
-        let split : waiting_here S start c.past.ran n (t ∷ ts) ≡ mine ++ rest = filter-append (waits_here S start c.past.ran n) (all_groups S.behaviour t) (one_by_one S.behaviour ts) in
-        let here : (q : TxnGroup) → Has q (mine ++ rest) → Has q (waiting_here S start c.past.ran n (t ∷ ts)) = λ q h. subst (Has q) (sym split) h in
+        let split : waiting_here S start.store c.past.ran n (t ∷ ts) ≡ mine ++ rest = filter-append (waits_here S start.store c.past.ran n) (all_groups S.behaviour t) (one_by_one S.behaviour ts) in
+        let here : (q : TxnGroup) → Has q (mine ++ rest) → Has q (waiting_here S start.store c.past.ran n (t ∷ ts)) = λ q h. subst (Has q) (sym split) h in
         let first = run_parts es (λ e h. is_whole t (all t (inl refl)) st a.groups e h (new (entry_run e) (here (entry_run e) (has_left (entry_run e) mine rest (subst (Has (entry_run e)) same (has_map entry_run e es h)))))) Before Z st a in
         let first2 : IsAt (λ q. Before q ⊎ Has q mine) (after_groups S.behaviour Z mine) (run_groups plan st es) = subst (λ l. IsAt (λ q. Before q ⊎ Has q l) (after_groups S.behaviour Z l) (run_groups plan st es)) same first in
         let more = take_parts ts (λ u h. all u (inr h)) (λ u h. kept u (inr h)) (λ r h. new r (here r (has_right r mine rest h))) (λ q. Before q ⊎ Has q mine) (after_groups S.behaviour Z mine) (run_groups plan st es) first2 in

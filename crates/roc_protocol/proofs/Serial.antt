@@ -5,24 +5,27 @@ use Rattle.roc_base.specs.declared.id.TxnId.{TxnId}
 use Rattle.roc_plan.specs.Groups.{Plan, is_transaction}
 use Rattle.roc_whole.specs.Serial as whole
 use Rattle.roc_whole.specs.Serial.{start_store}
+use Rattle.roc_program.specs.Program.{Workload}
 use Rattle.roc_law_log.specs.Scheme.{Scheme, IsSoundScheme}
 use Rattle.roc_law_log.specs.Log.{Log}
 use Rattle.roc_audit.specs.declared.entry.Entry.{Entry}
 use Rattle.roc_audit.specs.declared.entry.Entry.TheVariants.{Submitted}
 use Rattle.roc_audit.specs.History.{WasSubmitted}
 use Rattle.roc_audit.specs.Witness.{submitted_call, IsSerialWitness}
+use Rattle.roc_protocol.specs.WitnessFrom.{IsSerialWitnessFrom}
 use Rattle.roc_audit.proofs.Histories.{call_of-is, call_of-id, call_of-from}
 use Rattle.roc_base.specs.Equalities.{is_txn-true}
-use Rattle.roc_protocol.specs.PlanAssumptions.{IsSchemeOf, HasSchemes}
+use Rattle.roc_protocol.specs.PlanAssumptions.{IsSchemeOf, HasSchemesFrom}
+use Rattle.roc_protocol.specs.Beginnings.{Beginning, IsBeginning}
 use Rattle.roc_protocol.specs.World.{World}
-use Rattle.roc_protocol.specs.Run.{Stepped, IsRun}
+use Rattle.roc_protocol.specs.Run.{Stepped, IsRunFrom}
 use Rattle.roc_protocol.specs.Kept.{ran_in}
 use Rattle.roc_protocol.specs.Inner.Given.{LogLaws}
 use Rattle.roc_protocol.specs.Inner.Given.{SerialLaws, StoreLaws}
 use Rattle.roc_protocol.proofs.Means.{AreRan}
 use Rattle.roc_protocol.proofs.Submissions.{AreSubmissions}
 use Rattle.roc_protocol.proofs.Idle.{IsIdle, run_idle}
-use Rattle.roc_protocol.proofs.Worlds.{run_submissions, Agrees, IsLogged}
+use Rattle.roc_protocol.proofs.Worlds.{submissions_from, Agrees, IsLogged}
 use Rattle.roc_protocol.proofs.Witness.{run_logged, witness}
 use Rattle.roc_protocol.proofs.Transactions.{transaction_or_none, HasTransaction}
 
@@ -62,12 +65,12 @@ module _ (plan : Plan) (other : ℕ) (w : World) (a : AreSubmissions plan w.hist
       go (Some c) e = a.procedure t c.procedure c.arguments (call_of-from is_txn-true w.history t c e)
 
 -- a world of a run, explained by a log
-module _ (plan : Plan) (schemes : HasSchemes plan) (laws : (S : Scheme) → IsSoundScheme S → LogLaws S (start_store plan.program)) (stores : StoreLaws) (coords : ℕ) (steps : List Stepped) (w : World) (run : IsRun plan coords steps w) (some : HasTransaction plan) where
+module _ (plan : Plan) (start : Beginning) (begins : IsBeginning plan start) (schemes : HasSchemesFrom plan start.store) (laws : (S : Scheme) → IsSoundScheme S → LogLaws S start.store) (stores : StoreLaws) (coords : ℕ) (steps : List Stepped) (w : World) (run : IsRunFrom plan start coords steps w) (some : HasTransaction plan) where
   abbrev pub asked : TxnId → whole.Call
   asked = call_in some.0 w.history
 
   pub submissions : AreSubmissions plan w.history w.coords
-  submissions = run_submissions plan coords steps w run
+  submissions = submissions_from plan start coords steps w run
 
   pub known : (t : TxnId) → is_transaction plan (asked t).procedure ≡ true
   known = procedures plan some.0 w submissions some.1
@@ -81,25 +84,32 @@ module _ (plan : Plan) (schemes : HasSchemes plan) (laws : (S : Scheme) → IsSo
   pub sound : IsSoundScheme S
   sound = schemes.sound asked known
 
-  pub logged : (log : Log) × IsLogged plan asked S is (laws S sound) w log × AreRan plan asked S (start_store plan.program) log (ran_in steps)
-  logged = run_logged plan asked S is (laws S sound) stores coords steps w run (agrees plan some.0 w submissions)
+  pub logged : (log : Log) × IsLogged plan asked S start is (laws S sound) w log × AreRan plan asked S start log (ran_in steps)
+  logged = run_logged plan asked S start is (laws S sound) stores begins coords steps w run (agrees plan some.0 w submissions)
 
-  pub serial : ((S : Scheme) → IsSoundScheme S → SerialLaws S (start_store plan.program)) → IsSerialWitness plan.program w.history w.order
+  pub serial : ((S : Scheme) → IsSoundScheme S → SerialLaws S start.store) → IsSerialWitnessFrom plan.program start.store w.history w.order
   serial serials =
       let i = (laws S sound).holds logged.0 logged.1.means.reached in
-      witness plan asked S is (laws S sound) (serials S sound) w logged.0 logged.1 (calls plan some.0 w submissions)
+      witness plan asked S start is (laws S sound) (serials S sound) w logged.0 logged.1 (calls plan some.0 w submissions)
       (λ t h. schemes.replies asked known logged.0.order i.order.once (λ u k. ids plan some.0 w submissions u) t h)
 
-idle_serial : (plan : Plan) (w : World) → IsIdle plan w → IsSerialWitness plan.program w.history w.order
-idle_serial plan w i =
-    subst (λ order. IsSerialWitness plan.program w.history order) (sym i.order)
-    (subst (λ history. IsSerialWitness plan.program history []) (sym i.history)
+idle_serial : (plan : Plan) (start : Beginning) (w : World) → IsIdle plan start w → IsSerialWitnessFrom plan.program start.store w.history w.order
+idle_serial plan start w i =
+    subst (λ order. IsSerialWitnessFrom plan.program start.store w.history order) (sym i.order)
+    (subst (λ history. IsSerialWitnessFrom plan.program start.store history []) (sym i.history)
     (record { once = tt; submitted = λ t h. absurd (omega arith); answered = λ t reply h. absurd h; replies = λ t reply h. absurd h; real_time = λ t u b l. absurd b }))
 
 pub order_serial :
-    (plan : Plan) → HasSchemes plan → ((S : Scheme) → IsSoundScheme S → LogLaws S (start_store plan.program)) → ((S : Scheme) → IsSoundScheme S → SerialLaws S (start_store plan.program)) → StoreLaws
-    → (coords : ℕ) (steps : List Stepped) (w : World) → IsRun plan coords steps w → IsSerialWitness plan.program w.history w.order
-order_serial plan schemes laws serials stores coords steps w run = elim (transaction_or_none plan) [
-  | inl some ↦ serial plan schemes laws stores coords steps w run some serials
-  | inr none ↦ idle_serial plan w (run_idle plan none coords steps w run)
+    (plan : Plan) (start : Beginning) → IsBeginning plan start → HasSchemesFrom plan start.store → ((S : Scheme) → IsSoundScheme S → LogLaws S start.store) → ((S : Scheme) → IsSoundScheme S → SerialLaws S start.store) → StoreLaws
+    → (coords : ℕ) (steps : List Stepped) (w : World) → IsRunFrom plan start coords steps w → IsSerialWitnessFrom plan.program start.store w.history w.order
+order_serial plan start begins schemes laws serials stores coords steps w run = elim (transaction_or_none plan) [
+  | inl some ↦ serial plan start begins schemes laws stores coords steps w run some serials
+  | inr none ↦ idle_serial plan start w (run_idle plan none start begins coords steps w run)
 ]
+
+-- from a workload's own start it is a serial witness
+pub plain_witness : (program : Workload) (history : List Entry) (order : List TxnId) → IsSerialWitnessFrom program (start_store program) history order → IsSerialWitness program history order
+plain_witness program history order o = record { once = o.once; submitted = o.submitted; answered = o.answered; replies = o.replies; real_time = o.real_time }
+
+pub witness_from : (program : Workload) (history : List Entry) (order : List TxnId) → IsSerialWitness program history order → IsSerialWitnessFrom program (start_store program) history order
+witness_from program history order o = record { once = o.once; submitted = o.submitted; answered = o.answered; replies = o.replies; real_time = o.real_time }

@@ -16,7 +16,6 @@ use Rattle.roc_base.specs.declared.node.Shard.{Shard}
 use Rattle.roc_base.specs.TxnId.{is_txn}
 use Rattle.roc_base.specs.Equalities.{is_txn-true}
 use Rattle.roc_base.specs.Edge.{Dependency}
-use Rattle.roc_rows.specs.Store.{Store}
 use Rattle.roc_depgraph.specs.declared.known.KnownList.{KnownList}
 use Rattle.roc_depgraph.specs.Deps.{list_of, is_known, IsKnown, IsDecided}
 use Rattle.roc_depgraph.proofs.Listed.{has_listed}
@@ -48,10 +47,11 @@ use Rattle.roc_server.specs.Lists.{commit_differs, lists_after, missing_from, ta
 use Rattle.roc_server.specs.Step.{Findings, AreFindings, unless_ignored, after_message, Handles, tick_sends}
 use Rattle.roc_audit.specs.Order.{noted}
 use Rattle.roc_protocol.specs.PlanAssumptions.{IsSchemeOf}
+use Rattle.roc_protocol.specs.Beginnings.{Beginning}
 use Rattle.roc_protocol.specs.World.{World, at_server}
 use Rattle.roc_protocol.specs.Happens.{ran_at}
 use Rattle.roc_protocol.specs.Inner.Given.{LogLaws}
-use Rattle.roc_protocol.proofs.Means.{entry_run, RanMeans, Began, Means, ListMeans, AllMean, StartIs, DoneMeans, AreGroupsHere, ServerMeans, WorldMeans, AreEnded}
+use Rattle.roc_protocol.proofs.Means.{IsPast, entry_run, RanMeans, Began, Means, ListMeans, AllMean, StartIs, DoneMeans, AreGroupsHere, ServerMeans, WorldMeans, AreEnded}
 use Rattle.roc_protocol.proofs.KeptGroups.{take_same}
 use Rattle.roc_protocol.proofs.Gone.{IsGone, none_gone, here_stays, gone_same, gone_hears}
 use Rattle.roc_protocol.proofs.Grows.{entry_grows, begun_grows, list_grows, decided_grows}
@@ -76,11 +76,11 @@ abbrev pub StartsAre : (TxnId → Type 0) → Msg → Type 0
 StartsAre Of (Start id proc group args inputs) = Of id
 StartsAre Of msg = Unit {0}
 
-module _ (plan : Plan) (asked : TxnId → whole.Call) (S : Scheme) (start : Store) (is : IsSchemeOf plan asked S) (laws : LogLaws S start) (c : Log) (w : World) (o : WorldMeans plan asked S start c w) (n : ℕ) (s : ServerState) (there : slice_get w.servers n ≡ Some s) (Fresh : TxnId → Type 0) where
+module _ (plan : Plan) (asked : TxnId → whole.Call) (S : Scheme) (start : Beginning) (is : IsSchemeOf plan asked S) (laws : LogLaws S start.store) (c : Log) (w : World) (o : WorldMeans plan asked S start c w) (n : ℕ) (s : ServerState) (there : slice_get w.servers n ≡ Some s) (Fresh : TxnId → Type 0) where
   -- some steps of the log explain the world after a step of the server
   pub record IsExplained (r : ServerStep) : Type 0 where
     pub log : Log
-    pub steps : LogSteps S start c log
+    pub steps : LogSteps S start.store c log
     pub means : WorldMeans plan asked S start log (at_server w n r)
     -- the shard decided what the step says
     pub decides : log.decided n ≡ c.decided n ++ r.decided
@@ -93,7 +93,7 @@ module _ (plan : Plan) (asked : TxnId → whole.Call) (S : Scheme) (start : Stor
   mine : ServerMeans plan asked S start c n s
   mine = o.servers n s there
 
-  i : LogInvariants S start c
+  i : LogInvariants S start.store c
   i = laws.holds c o.reached
 
   -- the groups are those of a state with the same ones, and what was decided is
@@ -109,7 +109,7 @@ module _ (plan : Plan) (asked : TxnId → whole.Call) (S : Scheme) (start : Stor
   ran_means : (d : Log) (z : ServerState) → ServerMeans plan asked S start d n z → (e : StartedGroup) → Has e z.started → RanMeans plan asked S start d (ran_at n e)
   ran_means d z m e h = let k = m.groups.entries e h in record { on = k.on; cells = k.cells }
 
-  ran_later : (d : Log) → LogInvariants S start d → LogGrows S start c d → (e : StartedGroup) → Has e s.started → RanMeans plan asked S start d (ran_at n e)
+  ran_later : (d : Log) → LogInvariants S start.store d → LogGrows S start.store c d → (e : StartedGroup) → Has e s.started → RanMeans plan asked S start d (ran_at n e)
   ran_later d j g e h = let k = entry_grows plan asked S start is c d i j g n (unrun e) (mine.groups.entries e h) in record { on = k.on; cells = k.cells }
 
   was_buffered : (ts : List TxnId) (e : StartedGroup) → Has e (all_buffered plan s.started ts) → Has e s.started
@@ -120,14 +120,14 @@ module _ (plan : Plan) (asked : TxnId → whole.Call) (S : Scheme) (start : Stor
       (found_has (is_group t.0 f.0) s.started e f.2).0
 
   -- buffered groups of transactions that started whole are those that wait in the log
-  buffered_ran : (ts : List TxnId) → ((t : TxnId) → Has t ts → IsWhole S c.past.started t) → map entry_run (all_buffered plan s.started ts) ≡ waiting_here S start c.past.ran n ts
+  buffered_ran : (ts : List TxnId) → ((t : TxnId) → Has t ts → IsWhole S c.past.started t) → map entry_run (all_buffered plan s.started ts) ≡ waiting_here S start.store c.past.ran n ts
   buffered_ran [] whole = refl
   buffered_ran (t ∷ ts) whole =
       let first = buffered_runs plan asked S start is c n (IsGone s) s.started mine.groups t (whole t (inl refl)) (none_gone s t) in
       let rest = buffered_ran ts (λ u h. whole u (inr h)) in
       map-append entry_run (buffered_here plan t s.started) (all_buffered plan s.started ts)
       ∙ ((λ i. first i ++ rest i)
-      ∙ sym (filter-append (waits_here S start c.past.ran n) (all_groups S.behaviour t) (one_by_one S.behaviour ts)))
+      ∙ sym (filter-append (waits_here S start.store c.past.ran n) (all_groups S.behaviour t) (one_by_one S.behaviour ts)))
 
   -- the log does nothing
   still : (r : ServerStep) → ServerMeans plan asked S start c n r.state → ((out : Outgoing) → Has out r.sends → Means plan asked S start c out.msg out.to) → r.decided ≡ [] → r.ran ≡ [] → IsExplained r
@@ -163,10 +163,10 @@ module _ (plan : Plan) (asked : TxnId → whole.Call) (S : Scheme) (start : Stor
       abbrev e : StartedGroup
       e = new_group plan f.before f.reached s id (call proc group args inputs)
 
-      j : LogInvariants S start d
+      j : LogInvariants S start.store d
       j = starting.j plan asked S start is laws c o.reached n s mine id proc group args inputs m none kept f.before f.reached found.before.sound led
 
-      g : LogGrows S start c d
+      g : LogGrows S start.store c d
       g = starting.g plan asked S start is laws c o.reached n s mine id proc group args inputs m none kept f.before f.reached found.before.sound led
 
       started_explained : IsExplained (start_new plan s (call proc group args inputs) e)
@@ -225,10 +225,10 @@ module _ (plan : Plan) (asked : TxnId → whole.Call) (S : Scheme) (start : Stor
     abbrev after : ServerState
     after = (taught plan s news ts).state
 
-    j2 : LogInvariants S start d2
+    j2 : LogInvariants S start.store d2
     j2 = deciding.j plan asked S start is laws c o.reached n s mine news lists ts new
 
-    g2 : LogGrows S start c d2
+    g2 : LogGrows S start.store c d2
     g2 = deciding.g plan asked S start is laws c o.reached n s mine news lists ts new
 
     server2 : ServerMeans plan asked S start d2 n after
@@ -350,7 +350,7 @@ module _ (plan : Plan) (asked : TxnId → whole.Call) (S : Scheme) (start : Stor
         decided = decided_kept (hearing s coord mark) (gone_hears s coord mark);
         back = mine.back;
         fetched = mine.fetched;
-        ended = λ t h. elim (ended_cases s.below coord mark t h) [ inl k ↦ mine.ended t k | inr k ↦ subst (IsListed is_txn c.answered) (λ i. record { coord = sym k.0 i; seq = t.seq }) (m t.seq k.1) ];
+        ended = λ t h. elim (ended_cases s.below coord mark t h) [ inl k ↦ mine.ended t k | inr k ↦ subst (IsPast plan asked S start c) (λ i. record { coord = sym k.0 i; seq = t.seq }) (m t.seq k.1) ];
       })
       (λ out h. absurd h) refl refl
 

@@ -1,5 +1,5 @@
 -- A coordinator ignores only what is stale
-use Rattle.std.proofs.Common.{◌≡◌, ℕ, ℤ, ◌<◌, ◌==◌, Bool, true, false, not, ◌&&◌, List, Option, Some, None, length, refl, sym, ap, subst, ◌∙◌, inl, inr, is_some}
+use Rattle.std.proofs.Common.{◌≡◌, ℕ, ℤ, ◌<◌, ◌==◌, Bool, true, false, not, ◌&&◌, List, Option, Some, None, length, refl, sym, ap, subst, ◌∙◌, inl, inr, is_some, arith}
 use Rattle.std.proofs.lemmas.Bool.{false≢true, and_parts, and_from, eq-eqb, eqb-true}
 use Rattle.std.proofs.lemmas.List.{length-map}
 use Rattle.std.specs.Prelude.{slice_get, filter, if◌then◌else◌}
@@ -24,7 +24,6 @@ use Rattle.roc_msg.specs.declared.reason.Reason.{Reason}
 use Rattle.roc_msg.specs.declared.reason.Reason.TheVariants.{Stale, Unfit}
 use Rattle.roc_plan.specs.Groups.{Plan, groups_of, bound_of, outs_of, is_immediate_of}
 use Rattle.roc_whole.specs.Serial as whole
-use Rattle.roc_whole.specs.Serial.{start_store}
 use Rattle.roc_group.specs.GroupRun.{group_run}
 use Rattle.roc_law_orders.specs.Behaviour.{TxnGroup, Yield}
 use Rattle.roc_law_orders.specs.Runs.{inputs_at, first_stage, after_groups, groups_before}
@@ -42,6 +41,7 @@ use Rattle.roc_coord.specs.Starts.{all_started, shards_of, bound_count, out_coun
 use Rattle.roc_coord.specs.Commits.{places_on}
 use Rattle.roc_coord.specs.Step.{unless_refused, is_fit_startok, with_startok, startok_taken, after_startok, is_asked, is_fit_commitok, with_commitok, reply_now, commitok_taken, after_commitok, after_message}
 use Rattle.roc_protocol.specs.PlanAssumptions.{called, IsSchemeOf}
+use Rattle.roc_protocol.specs.Beginnings.{Beginning}
 use Rattle.roc_protocol.specs.World.{World}
 use Rattle.roc_protocol.specs.Inner.Given.{LogLaws}
 use Rattle.roc_protocol.proofs.Means.{run_of, Ran, stage, Means, DoneMeans, TxnMeans, waits_at}
@@ -52,32 +52,34 @@ use Rattle.roc_protocol.proofs.Pending.{AnsweredAreDone, AskedBy, IsWholeAt, IsP
 use Rattle.roc_protocol.proofs.Worlds.{IsLogged}
 use Rattle.roc_protocol.proofs.Gone.{IsGone}
 
-module _ (plan : Plan) (asked : TxnId → whole.Call) (S : Scheme) (is : IsSchemeOf plan asked S) (laws : LogLaws S (start_store plan.program)) (w : World) (log : Log) (l : IsLogged plan asked S is laws w log) (nw : IsNetworked plan asked S is laws w) (o : IsPending plan w) (done_with : AnsweredAreDone w) (n : ℕ) (s : CoordState) (there : slice_get w.coords n ≡ Some s) where
-  i : LogInvariants S (start_store plan.program) log
+module _ (plan : Plan) (asked : TxnId → whole.Call) (S : Scheme) (start : Beginning) (is : IsSchemeOf plan asked S) (laws : LogLaws S start.store) (w : World) (log : Log) (l : IsLogged plan asked S start is laws w log) (nw : IsNetworked plan asked S start is laws w) (o : IsPending plan w) (done_with : AnsweredAreDone w) (n : ℕ) (s : CoordState) (there : slice_get w.coords n ≡ Some s) where
+  i : LogInvariants S start.store log
   i = laws.holds log l.means.reached
 
   -- what ran bound as many values as it binds names
-  count_bound : (r : TxnGroup) → Ran plan asked S (start_store plan.program) log r → length ((stage plan asked S (start_store plan.program) log).yielded r).bound ≡ length (bound_of plan (asked r.txn).procedure r.group)
+  count_bound : (r : TxnGroup) → Ran plan asked S start log r → length ((stage plan asked S start log).yielded r).bound ≡ length (bound_of plan (asked r.txn).procedure r.group)
   count_bound r h =
-      let before = after_groups S.behaviour (first_stage (start_store plan.program)) (groups_before r log.past.ran) in
+      let before = after_groups S.behaviour (first_stage start.store) (groups_before r log.past.ran) in
       let given = inputs_at S.behaviour before r in
-      ap (λ (y : Yield). length y.bound) (yielded_at S.behaviour log.past.ran (first_stage (start_store plan.program)) r i.ran_once h)
+      ap (λ (y : Yield). length y.bound) (yielded_at S.behaviour log.past.ran (first_stage start.store) r i.ran_once h)
       ∙ (ap (λ (y : Yield). length y.bound) (is.yields r given before.store)
       ∙ length-map (bound_of plan (asked r.txn).procedure r.group) (value_of_name (group_run plan (called plan asked r given) before.store).environment))
 
   -- who is pending is gone nowhere, since who is gone was answered
   not_gone : (x : Transaction) → slice_get w.coords x.id.coord ≡ Some s → Has x s.pending → (m : ℕ) (v : ServerState) → slice_get w.servers m ≡ Some v → ¬ IsGone v x.id
   not_gone x at pending m v there gone =
-      let a = (l.means.answers x.id).0 ((l.means.servers m v there).ended x.id gone.ended) in
-      done_with x.id a.0 a.1 s x at pending refl
+      elim ((l.means.servers m v there).ended x.id gone.ended) [
+        | inl k ↦ (let a = (l.means.answers x.id).0 k in done_with x.id a.0 a.1 s x at pending refl)
+        | inr early ↦ (let late = l.onward x.id (l.pending x.id.coord s at x pending) in absurd (omega arith))
+      ]
 
   -- ---- a startok
 
   module _ (m : Envelope) (has : Has m w.sent) (to : m.to ≡ Coord n) (id : TxnId) (g : ℕ) (shard : Shard) (bound outs : List ℤ) (edges : List Dependency) (facts : List KnownList) (msg : m.msg ≡ StartOk id g shard bound outs edges facts) (x : Transaction) (pending : Has x s.pending) (same : x.id ≡ id) where
-    means : Means plan asked S (start_store plan.program) log (StartOk id g shard bound outs edges facts) m.to
-    means = subst (λ msg. Means plan asked S (start_store plan.program) log msg m.to) msg (l.means.messages m has)
+    means : Means plan asked S start log (StartOk id g shard bound outs edges facts) m.to
+    means = subst (λ msg. Means plan asked S start log msg m.to) msg (l.means.messages m has)
 
-    mine : TxnMeans plan asked S (start_store plan.program) log x
+    mine : TxnMeans plan asked S start log x
     mine = (l.means.coords n s there).pending x pending
 
     at : slice_get w.coords id.coord ≡ Some s
@@ -109,7 +111,7 @@ module _ (plan : Plan) (asked : TxnId → whole.Call) (S : Scheme) (is : IsSchem
             → (length bound ≡ (if b then length (bound_of plan (asked id).procedure g) else 0)) × (length outs ≡ (if b then length (outs_of plan (asked id).procedure g) else 0))
         go true e =
             let ran = i.now_ran (run_of id g) means.0.began e in
-            (ap length (means.0.bound_now e) ∙ count_bound (run_of id g) ran, ap length (means.0.outs_now e) ∙ count_given plan asked S (start_store plan.program) is log i (run_of id g) ran)
+            (ap length (means.0.bound_now e) ∙ count_bound (run_of id g) ran, ap length (means.0.outs_now e) ∙ count_given plan asked S start is log i (run_of id g) ran)
         go false e = (ap length (means.0.bound_later e), ap length (means.0.outs_later e))
 
     startok_fit : is_fit_startok plan x (record { group = g; bound = bound; outs = outs; edges = edges; facts = facts }) shard ≡ true
@@ -121,10 +123,10 @@ module _ (plan : Plan) (asked : TxnId → whole.Call) (S : Scheme) (is : IsSchem
   -- ---- a commitok
 
   module _ (m : Envelope) (has : Has m w.sent) (to : m.to ≡ Coord n) (id : TxnId) (shard : Shard) (outs : List ℤ) (msg : m.msg ≡ CommitOk id shard outs) (x : Transaction) (pending : Has x s.pending) (same : x.id ≡ id) where
-    done : Means plan asked S (start_store plan.program) log (CommitOk id shard outs) m.to
-    done = subst (λ msg. Means plan asked S (start_store plan.program) log msg m.to) msg (l.means.messages m has)
+    done : Means plan asked S start log (CommitOk id shard outs) m.to
+    done = subst (λ msg. Means plan asked S start log msg m.to) msg (l.means.messages m has)
 
-    held : TxnMeans plan asked S (start_store plan.program) log x
+    held : TxnMeans plan asked S start log x
     held = (l.means.coords n s there).pending x pending
 
     found_at : slice_get w.coords id.coord ≡ Some s
@@ -154,17 +156,17 @@ module _ (plan : Plan) (asked : TxnId → whole.Call) (S : Scheme) (is : IsSchem
         let was = (subst (λ t. AskedBy w.coords t e.0.group shard.0) (is_txn-true e.0.id id e.2) k) s x found_at pending same in
         let z = any_has (λ (z : SentStart). z.group == e.0.group && z.shard.0 == shard.0) x.starts was in
         let zp = and_parts (z.0.group == e.0.group) (z.0.shard.0 == shard.0) z.2 in
-        let few : shard.0 < 64 = subst (λ n. n < 64) ((l.means.servers shard.0 from.0 from.1).groups.entries e.0 e.1).on (few_place plan asked S (start_store plan.program) is log i (run_of e.0.id e.0.group)) in
+        let few : shard.0 < 64 = subst (λ n. n < 64) ((l.means.servers shard.0 from.0 from.1).groups.entries e.0 e.1).on (few_place plan asked S start is log i (run_of e.0.id e.0.group)) in
         let listed = shard_listed x.starts shard z.0 z.1 zp.1 few in
         has_any (λ (a : Shard). a.0 == shard.0) x.asked shard (subst (Has shard) (sym is_whole.1) listed) (eq-eqb shard.0 shard.0 refl)
 
     many : length outs ≡ length (places_on plan x shard)
     many =
-        let d : DoneMeans plan asked S (start_store plan.program) log x.id shard.0 outs = subst (λ t. DoneMeans plan asked S (start_store plan.program) log t shard.0 outs) (sym same) done.0 in
-        let gs = filter (waits_at plan asked S (start_store plan.program) log shard.0 x.id) (range_with_len 0 (length (groups_of plan (asked x.id).procedure))) in
+        let d : DoneMeans plan asked S start log x.id shard.0 outs = subst (λ t. DoneMeans plan asked S start log t shard.0 outs) (sym same) done.0 in
+        let gs = filter (waits_at plan asked S start log shard.0 x.id) (range_with_len 0 (length (groups_of plan (asked x.id).procedure))) in
         ap length d.is
-        ∙ (lengths_of_flat (outs_of plan (asked x.id).procedure) (λ g. ((stage plan asked S (start_store plan.program) log).yielded (run_of x.id g)).outs) gs (counts_at plan asked S (start_store plan.program) is log i x held is_whole.0 shard.0 d.decided)
-        ∙ sym (ap length (places_are plan asked S (start_store plan.program) is log i x held is_whole.0 shard)))
+        ∙ (lengths_of_flat (outs_of plan (asked x.id).procedure) (λ g. ((stage plan asked S start log).yielded (run_of x.id g)).outs) gs (counts_at plan asked S start is log i x held is_whole.0 shard.0 d.decided)
+        ∙ sym (ap length (places_are plan asked S start is log i x held is_whole.0 shard)))
 
     commitok_fit : is_fit_commitok plan x (record { shard = shard; outs = outs }) ≡ true
     commitok_fit = and_from (is_asked x shard) (length outs == length (places_on plan x shard)) asked_shard (eq-eqb (length outs) (length (places_on plan x shard)) many)
@@ -205,8 +207,8 @@ module _ (plan : Plan) (asked : TxnId → whole.Call) (S : Scheme) (is : IsSchem
       to_server : (v : Shard) → m.to ≡ Server v → ⊥
       to_server v e = let f = to in cc
 
-      server_alone : (msg : Msg) → m.msg ≡ msg → Means plan asked S (start_store plan.program) log msg (Coord n)
-      server_alone msg e = subst (λ to. Means plan asked S (start_store plan.program) log msg to) to (subst (λ msg. Means plan asked S (start_store plan.program) log msg m.to) e (l.means.messages m has))
+      server_alone : (msg : Msg) → m.msg ≡ msg → Means plan asked S start log msg (Coord n)
+      server_alone msg e = subst (λ to. Means plan asked S start log msg to) to (subst (λ msg. Means plan asked S start log msg m.to) e (l.means.messages m has))
 
       go : (msg : Msg) → m.msg ≡ msg → (after_message plan s msg).answer ≡ Ignored why → why ≡ Stale
       go (StartOk id g shard bound outs edges facts) f e = startok id g shard bound outs edges facts f (find_transaction id s.pending) refl e

@@ -40,10 +40,11 @@ use Rattle.roc_server.specs.State.{is_group, find_group, ServerState}
 use Rattle.roc_server.specs.Start.{is_immediate_group, is_predecessor, edge_to, new_group, start_new}
 use Rattle.roc_server.specs.State.{unrun}
 use Rattle.roc_protocol.specs.PlanAssumptions.{called, use_of, IsSchemeOf}
+use Rattle.roc_protocol.specs.Beginnings.{Beginning}
 use Rattle.roc_protocol.specs.Inner.Given.{LogLaws}
 use Rattle.roc_protocol.proofs.Means.{run_of, entry_run, place, Precedes, Ran, Began, stage, EdgesMean, ListMeans, ToldMeans, StartIs, EntryMeans, ServerMeans}
 use Rattle.roc_protocol.proofs.Gone.{IsGone, none_gone, gone_begins}
-use Rattle.roc_protocol.proofs.Grows.{begun_grows, place_grows, values_grow, entry_grows, list_grows, all_grow, answered_grows}
+use Rattle.roc_protocol.proofs.Grows.{begun_grows, place_grows, values_grow, entry_grows, list_grows, all_grow, past_grows}
 use Rattle.roc_protocol.proofs.Meets.{meet_of, of_meet}
 use Rattle.roc_protocol.proofs.Facts.{facts_known}
 use Rattle.roc_protocol.proofs.Local.{call_is, run_cells, run_elsewhere, run_bound, run_outs, run_uses}
@@ -57,7 +58,7 @@ abbrev pub shard_number : Node → ℕ
 shard_number (Server s) = s.0
 shard_number (Coord n) = 0
 
-module _ (plan : Plan) (asked : TxnId → whole.Call) (S : Scheme) (start : Store) (is : IsSchemeOf plan asked S) (laws : LogLaws S start) (c : Log) (reached : IsReachedLog S start c) (n : ℕ) (s : ServerState) (o : ServerMeans plan asked S start c n s) where
+module _ (plan : Plan) (asked : TxnId → whole.Call) (S : Scheme) (start : Beginning) (is : IsSchemeOf plan asked S) (laws : LogLaws S start.store) (c : Log) (reached : IsReachedLog S start.store c) (n : ℕ) (s : ServerState) (o : ServerMeans plan asked S start c n s) where
   module _ (id : TxnId) (proc group : ℕ) (args inputs : List ℤ) (m : StartIs plan asked S start c id proc group args inputs (Server (record { 0 = n }))) (none : find_group id group s.started ≡ None) (kept : ¬ IsGone s id) (left_out ids : List TxnId) (left : (t : TxnId) → IsListed is_txn left_out t → IsDecided s.lists.known t) (led : (u : TxnId) → IsListed is_txn ids u → IsKnown s.lists.known u) where
     abbrev r : TxnGroup
     r = run_of id group
@@ -71,7 +72,7 @@ module _ (plan : Plan) (asked : TxnId → whole.Call) (S : Scheme) (start : Stor
     abbrev entry : StartedGroup
     entry = new_group plan left_out ids s id this
 
-    pub i : LogInvariants S start c
+    pub i : LogInvariants S start.store c
     i = laws.holds c reached
 
     pub on : place plan asked S start c r ≡ n
@@ -83,7 +84,7 @@ module _ (plan : Plan) (asked : TxnId → whole.Call) (S : Scheme) (start : Stor
         go : (e : StartedGroup) × (find_group id group s.started ≡ Some e) → ⊥
         go f = let a = f.1 in let b = none in cc
 
-    pub may : MayStart S start c r left_out
+    pub may : MayStart S start.store c r left_out
     may =
         record {
           new = new;
@@ -95,16 +96,16 @@ module _ (plan : Plan) (asked : TxnId → whole.Call) (S : Scheme) (start : Stor
     abbrev pub d : Log
     d = with_start S c r left_out
 
-    pub step : LogStep S start c d
+    pub step : LogStep S start.store c d
     step = group_starts r left_out may
 
-    pub reached_after : IsReachedLog S start d
+    pub reached_after : IsReachedLog S start.store d
     reached_after = one_step_more reached step
 
-    pub j : LogInvariants S start d
+    pub j : LogInvariants S start.store d
     j = laws.holds d reached_after
 
-    pub g : LogGrows S start c d
+    pub g : LogGrows S start.store c d
     g = laws.grows c d i (one_step_more no_steps step)
 
     abbrev now : List TxnGroup
@@ -126,13 +127,13 @@ module _ (plan : Plan) (asked : TxnId → whole.Call) (S : Scheme) (start : Stor
         go true = before_itself [] r
         go false = refl
 
-    found_start : stage_before S.behaviour start d.past.ran r ≡ X
-    found_start = ap (stage_behind S.behaviour start) (before_past c.past.ran now r not_ran ∙ (ap (λ l. c.past.ran ++ l) none_before ∙ append-nil c.past.ran))
+    found_start : stage_before S.behaviour start.store d.past.ran r ≡ X
+    found_start = ap (stage_behind S.behaviour start.store) (before_past c.past.ran now r not_ran ∙ (ap (λ l. c.past.ran ++ l) none_before ∙ append-nil c.past.ran))
 
     is_called : this ≡ called plan asked r (inputs_at S.behaviour X r)
     is_called = call_is plan asked S start is laws proc group args inputs id (inputs_at S.behaviour X r) m.proc m.args m.inputs
 
-    cells_start : map use_of entry.cells ≡ uses_in S.behaviour start d.past.ran r
+    cells_start : map use_of entry.cells ≡ uses_in S.behaviour start.store d.past.ran r
     cells_start = run_uses plan asked S start is laws n X r this s.store is_called on o.part.cells ∙ ap (λ (Z : Stage). uses_at S.behaviour Z r) (sym found_start)
 
     abbrev I : Bool
@@ -160,10 +161,10 @@ module _ (plan : Plan) (asked : TxnId → whole.Call) (S : Scheme) (start : Stor
     pub place_new : place plan asked S start d r ≡ n
     place_new = ap (S.group_shard r) (g.inputs r m.means.needs_ran) ∙ on
 
-    conflict_of : (e : StartedGroup) → EntryMeans plan asked S start c n (unrun e) → Meet (map use_of e.cells) (map use_of entry.cells) → Conflict S.behaviour start d.past.ran (entry_run e) r
+    conflict_of : (e : StartedGroup) → EntryMeans plan asked S start c n (unrun e) → Meet (map use_of e.cells) (map use_of entry.cells) → Conflict S.behaviour start.store d.past.ran (entry_run e) r
     conflict_of e k met =
-        let a : map use_of e.cells ≡ uses_in S.behaviour start d.past.ran (entry_run e) = k.cells ∙ sym (g.uses (entry_run e) k.told.began) in
-        subst (λ a. Meet a (uses_in S.behaviour start d.past.ran r)) a (subst (Meet (map use_of e.cells)) cells_start met)
+        let a : map use_of e.cells ≡ uses_in S.behaviour start.store d.past.ran (entry_run e) = k.cells ∙ sym (g.uses (entry_run e) k.told.began) in
+        subst (λ a. Meet a (uses_in S.behaviour start.store d.past.ran r)) a (subst (Meet (map use_of e.cells)) cells_start met)
 
     -- an entry is of a group that was met
     record IsMet (z : Dependency) : Type 0 where
@@ -229,8 +230,8 @@ module _ (plan : Plan) (asked : TxnId → whole.Call) (S : Scheme) (start : Stor
               let found = found_has (is_group p.first.txn p.first.group) s.started e f.1 in
               let same : entry_run e ≡ p.first = entry_is p.first e found.1 in
               let k = o.groups.entries e found.0 in
-              let cells : uses_in S.behaviour start d.past.ran p.first ≡ map use_of e.cells = ap (uses_in S.behaviour start d.past.ran) (sym same) ∙ sym (k.cells ∙ sym (g.uses (entry_run e) k.told.began)) in
-              let met = of_meet e.cells entry.cells (subst (λ a. Meet a (map use_of entry.cells)) cells (subst (Meet (uses_in S.behaviour start d.past.ran p.first)) (sym cells_start) p.conflict)) in
+              let cells : uses_in S.behaviour start.store d.past.ran p.first ≡ map use_of e.cells = ap (uses_in S.behaviour start.store d.past.ran) (sym same) ∙ sym (k.cells ∙ sym (g.uses (entry_run e) k.told.began)) in
+              let met = of_meet e.cells entry.cells (subst (λ a. Meet a (map use_of entry.cells)) cells (subst (Meet (uses_in S.behaviour start.store d.past.ran p.first)) (sym cells_start) p.conflict)) in
               let from : e.id ≡ u = ap (λ (q : TxnGroup). q.txn) same ∙ p.of_first in
               let apart : e.id ≢ id = λ f. p.other (sym from ∙ f) in
               let unlisted : ¬ IsListed is_txn left_out e.id = λ z. p.kept (subst (λ l. IsListed is_txn l u) (sym out_new) (subst (IsListed is_txn left_out) from z)) in
@@ -323,7 +324,7 @@ module _ (plan : Plan) (asked : TxnId → whole.Call) (S : Scheme) (start : Stor
           decided = λ t h. elim (o.decided t h) [ inl k ↦ inl k | inr gone ↦ inr (gone_begins s (start_new plan s this entry).state entry kept t refl refl gone) ];
           back = o.back;
           fetched = λ a h. begun_grows plan asked S start is c d i j g a.id a.at.0 (o.fetched a h);
-          ended = λ t h. answered_grows plan asked S start is c d i j g t (o.ended t h);
+          ended = λ t h. past_grows plan asked S start is c d i j g t (o.ended t h);
         }
       where
         entry_start : EntryMeans plan asked S start d n (unrun entry)

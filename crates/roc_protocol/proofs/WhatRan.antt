@@ -12,11 +12,9 @@ use Rattle.roc_base.specs.declared.id.TxnId.{TxnId}
 use Rattle.roc_base.specs.TxnId.{is_txn}
 use Rattle.roc_base.specs.Equalities.{is_txn-true}
 use Rattle.std.proofs.lemmas.Bool.{and_parts, eqb-true}
-use Rattle.roc_rows.specs.Store.{Store}
 use Rattle.roc_group.specs.Accesses.{do_conflict}
 use Rattle.roc_plan.specs.Groups.{Plan, is_immediate_of}
 use Rattle.roc_whole.specs.Serial as whole
-use Rattle.roc_whole.specs.Serial.{start_store}
 use Rattle.roc_law_orders.specs.Behaviour.{TxnGroup, is_txn_group, is_group_number, Use, is_written, Meet}
 use Rattle.roc_law_orders.specs.Runs.{uses_in, Conflict}
 use Rattle.roc_law_orders.proofs.SameGroups.{same_group, is_group-same}
@@ -27,6 +25,7 @@ use Rattle.roc_law_log.specs.Kept.{KeepsRan}
 use Rattle.roc_server.specs.declared.started.StartedGroup.{StartedGroup}
 use Rattle.roc_server.specs.State.{is_group, ServerState}
 use Rattle.roc_protocol.specs.PlanAssumptions.{IsSchemeOf, use_of}
+use Rattle.roc_protocol.specs.Beginnings.{Beginning}
 use Rattle.roc_protocol.specs.World.{World}
 use Rattle.roc_protocol.specs.Happens.{RanAt}
 use Rattle.roc_protocol.specs.Run.{Stepped}
@@ -77,24 +76,21 @@ other_way a b m =
       ];
     }
 
-module _ (plan : Plan) (asked : TxnId → whole.Call) (S : Scheme) (is : IsSchemeOf plan asked S) (laws : LogLaws S (start_store plan.program)) (steps : List Stepped) (w : World) (log : Log) (o : IsLogged plan asked S is laws w log) (a : AreRan plan asked S (start_store plan.program) log (ran_in steps)) where
-  abbrev start : Store
-  start = start_store plan.program
-
-  i : LogInvariants S start log
+module _ (plan : Plan) (asked : TxnId → whole.Call) (S : Scheme) (start : Beginning) (is : IsSchemeOf plan asked S) (laws : LogLaws S start.store) (steps : List Stepped) (w : World) (log : Log) (o : IsLogged plan asked S start is laws w log) (a : AreRan plan asked S start log (ran_in steps)) where
+  i : LogInvariants S start.store log
   i = laws.holds log o.means.reached
 
   abbrev uses : StartedGroup → List Use
-  uses e = uses_in S.behaviour start log.past.ran (entry_run e)
+  uses e = uses_in S.behaviour start.store log.past.ran (entry_run e)
 
   -- what is kept of a group says what it uses in the log
   abbrev IsKept : StartedGroup → Type 0
   IsKept e = map use_of e.cells ≡ uses e
 
-  to_conflict : (q r : StartedGroup) → IsKept q → IsKept r → do_conflict q.cells r.cells ≡ true → Conflict S.behaviour start log.past.ran (entry_run q) (entry_run r)
+  to_conflict : (q r : StartedGroup) → IsKept q → IsKept r → do_conflict q.cells r.cells ≡ true → Conflict S.behaviour start.store log.past.ran (entry_run q) (entry_run r)
   to_conflict q r e f h = subst (λ l. Meet l (uses r)) e (subst (λ l. Meet (map use_of q.cells) l) f (meet_of q.cells r.cells h))
 
-  of_conflict : (q r : StartedGroup) → IsKept q → IsKept r → Conflict S.behaviour start log.past.ran (entry_run q) (entry_run r) → do_conflict q.cells r.cells ≡ true
+  of_conflict : (q r : StartedGroup) → IsKept q → IsKept r → Conflict S.behaviour start.store log.past.ran (entry_run q) (entry_run r) → do_conflict q.cells r.cells ≡ true
   of_conflict q r e f m = of_meet q.cells r.cells (subst (λ l. Meet l (map use_of r.cells)) (sym e) (subst (λ l. Meet (uses q) l) (sym f) m))
 
   told_ran : (q : RanAt) → Has q (ran_in steps) → Ran plan asked S start log (group_of q)
@@ -113,7 +109,7 @@ module _ (plan : Plan) (asked : TxnId → whole.Call) (S : Scheme) (is : IsSchem
 
   -- ---- from the log
 
-  module _ (O : List TxnId) (k : KeepsRan S start log O) where
+  module _ (O : List TxnId) (k : KeepsRan S start.store log O) where
     before : (q r : RanAt) → RanBefore steps q r → IsListedBefore is_txn_group log.past.ran (group_of q) (group_of r)
     before q r b =
         let once : NoneTwice is_txn_group (map group_of (ran_in steps)) = subst (NoneTwice is_txn_group) a.groups i.ran_once in
@@ -152,7 +148,7 @@ module _ (plan : Plan) (asked : TxnId → whole.Call) (S : Scheme) (is : IsSchem
   module _ (there : (q : RanAt) → Has q (ran_in steps) → (s : ServerState) × (slice_get w.servers q.shard ≡ Some s)) (O : List TxnId) (k : KeepsWhatRan plan steps w O) where
     pairs :
         (x y : RanAt) (n m : ℕ) → slice_get (ran_in steps) n ≡ Some x → slice_get (ran_in steps) m ≡ Some y → n < m
-        → IsListed is_txn O x.group.id → IsListed is_txn O y.group.id → x.group.id ≢ y.group.id → Conflict S.behaviour start log.past.ran (group_of x) (group_of y)
+        → IsListed is_txn O x.group.id → IsListed is_txn O y.group.id → x.group.id ≢ y.group.id → Conflict S.behaviour start.store log.past.ran (group_of x) (group_of y)
         → IsListedBefore is_txn O x.group.id y.group.id
     pairs x y n m e f l g h d c =
         let p = a.each x (has_at (ran_in steps) n x e) in
@@ -164,7 +160,7 @@ module _ (plan : Plan) (asked : TxnId → whole.Call) (S : Scheme) (is : IsSchem
     alone :
         (y : RanAt) (h : Has y (ran_in steps)) (s : ServerState) → slice_get w.servers y.shard ≡ Some s → (e : StartedGroup) → Has e s.started
         → Began plan asked S start log (entry_run e) → place plan asked S start log (entry_run e) ≡ y.shard → ¬ Ran plan asked S start log (entry_run e)
-        → IsListed is_txn O e.id → IsListed is_txn O y.group.id → e.id ≢ y.group.id → Conflict S.behaviour start log.past.ran (entry_run e) (group_of y)
+        → IsListed is_txn O e.id → IsListed is_txn O y.group.id → e.id ≢ y.group.id → Conflict S.behaviour start.store log.past.ran (entry_run e) (group_of y)
         → IsListedBefore is_txn O y.group.id e.id
     alone y h s at e here began on unran g l d c =
         let mine : ServerMeans plan asked S start log y.shard s = o.means.servers y.shard s at in
@@ -183,7 +179,7 @@ module _ (plan : Plan) (asked : TxnId → whole.Call) (S : Scheme) (is : IsSchem
 
     log_alone :
         (q : TxnGroup) (y : RanAt) → Has y (ran_in steps) → IsListed is_txn O q.txn → IsListed is_txn O y.group.id → q.txn ≢ y.group.id
-        → IsListed is_group_number (S.behaviour.groups q.txn) q.group → ¬ Ran plan asked S start log q → Conflict S.behaviour start log.past.ran q (group_of y)
+        → IsListed is_group_number (S.behaviour.groups q.txn) q.group → ¬ Ran plan asked S start log q → Conflict S.behaviour start.store log.past.ran q (group_of y)
         → IsListedBefore is_txn O y.group.id q.txn
     log_alone q y h l m d listed unran c =
         let began : Began plan asked S start log q = i.whole q.txn (subst (λ l. IsListed is_txn l q.txn) o.means.order (k.from q.txn l)) q.group listed in
@@ -198,12 +194,12 @@ module _ (plan : Plan) (asked : TxnId → whole.Call) (S : Scheme) (is : IsSchem
               let same : entry_run f.0 ≡ q = λ j. record { txn = id j; group = number j } in
               let P : TxnGroup → Type 0 = λ q.
               Began plan asked S start log q → place plan asked S start log q ≡ y.shard → ¬ Ran plan asked S start log q → IsListed is_txn O q.txn → IsListed is_txn O y.group.id
-              → q.txn ≢ y.group.id → Conflict S.behaviour start log.past.ran q (group_of y) → IsListedBefore is_txn O y.group.id q.txn in
+              → q.txn ≢ y.group.id → Conflict S.behaviour start.store log.past.ran q (group_of y) → IsListedBefore is_txn O y.group.id q.txn in
               subst P same (λ b p u g m d c. alone y h s.0 s.1 f.0 has.0 b p u g m d c) began on unran l m d c)
           | inr gone ↦ absurd (none_gone s.0 q.txn gone)
         ]
 
-    pub to_log : KeepsRan S start log O
+    pub to_log : KeepsRan S start.store log O
     to_log =
         record {
           once = k.once;
@@ -213,13 +209,13 @@ module _ (plan : Plan) (asked : TxnId → whole.Call) (S : Scheme) (is : IsSchem
               (let x = told_at (ran_in steps) q (in_told q ra) in
               let y = told_at (ran_in steps) r (in_told r rb) in
               let P : TxnGroup → TxnGroup → Type 0 = λ q r.
-              IsListed is_txn O q.txn → IsListed is_txn O r.txn → q.txn ≢ r.txn → Conflict S.behaviour start log.past.ran q r → IsListedBefore is_txn O q.txn r.txn in
+              IsListed is_txn O q.txn → IsListed is_txn O r.txn → q.txn ≢ r.txn → Conflict S.behaviour start.store log.past.ran q r → IsListedBefore is_txn O q.txn r.txn in
               let at : TxnGroup → ℕ = λ q. place_of (is_txn_group q) (map group_of (ran_in steps)) in
               let told = pairs x.0 y.0 (at q) (at r) x.1 y.1 (subst (λ l. IsListedBefore is_txn_group l q r) a.groups b) in
               subst (λ q. P q r) x.2 (subst (λ r. P (group_of x.0) r) y.2 told) l m d c);
           ran_alone = λ q r l m d listed unran rb c.
               (let y = told_at (ran_in steps) r (in_told r rb) in
               let has = has_at (ran_in steps) (place_of (is_txn_group r) (map group_of (ran_in steps))) y.0 y.1 in
-              let P : TxnGroup → Type 0 = λ r. IsListed is_txn O r.txn → q.txn ≢ r.txn → Conflict S.behaviour start log.past.ran q r → IsListedBefore is_txn O r.txn q.txn in
+              let P : TxnGroup → Type 0 = λ r. IsListed is_txn O r.txn → q.txn ≢ r.txn → Conflict S.behaviour start.store log.past.ran q r → IsListedBefore is_txn O r.txn q.txn in
               subst P y.2 (λ m d c. log_alone q y.0 has l m d listed unran c) m d c);
         }

@@ -13,10 +13,9 @@ use Rattle.roc_base.specs.declared.node.Node.{Node}
 use Rattle.roc_base.specs.declared.node.Node.TheVariants.{Server, Coord}
 use Rattle.roc_base.specs.TxnId.{is_txn}
 use Rattle.roc_depgraph.proofs.Listed.{has_listed}
-use Rattle.roc_rows.specs.Store.{Store}
 use Rattle.roc_plan.specs.Groups.{Plan, outs_of}
 use Rattle.roc_whole.specs.Serial as whole
-use Rattle.roc_whole.specs.Serial.{start_store, serial_run}
+use Rattle.roc_whole.specs.Serial.{serial_answers}
 use Rattle.roc_law_orders.specs.Behaviour.{TxnGroup, is_txn_group, Yield}
 use Rattle.roc_law_orders.specs.Runs.{first_stage, stage_behind, account_at, Account}
 use Rattle.roc_law_orders.specs.Orders.{one_by_one}
@@ -29,22 +28,24 @@ use Rattle.roc_law_log.specs.Invariants.{LogInvariants}
 use Rattle.roc_audit.specs.declared.entry.Entry.{Entry}
 use Rattle.roc_audit.specs.declared.entry.Entry.TheVariants.{Submitted}
 use Rattle.roc_audit.specs.History.{WasSubmitted, WasAnswered}
-use Rattle.roc_audit.specs.Witness.{submitted_call, submitted_calls, reply_in, serial_reply, IsSerialWitness}
+use Rattle.roc_audit.specs.Witness.{submitted_call, submitted_calls, reply_in}
+use Rattle.roc_protocol.specs.WitnessFrom.{serial_reply_from, IsSerialWitnessFrom}
 use Rattle.roc_coord.specs.State.{CoordState}
 use Rattle.roc_coord.specs.Step.{after_message}
 use Rattle.roc_coord.specs.Submit.{next_id}
 use Rattle.roc_protocol.specs.declared.event.Event.{Event}
 use Rattle.roc_protocol.specs.declared.event.Event.TheVariants.{Submit, Deliver, Tick}
-use Rattle.roc_protocol.specs.PlanAssumptions.{IsSchemeOf, IsWholeReply}
-use Rattle.roc_protocol.specs.World.{World, first_world, mark_delivered}
+use Rattle.roc_protocol.specs.PlanAssumptions.{IsSchemeOf, IsWholeReplyFrom}
+use Rattle.roc_protocol.specs.Beginnings.{Beginning, begun_world, IsBeginning}
+use Rattle.roc_protocol.specs.World.{World, mark_delivered}
 use Rattle.roc_protocol.specs.Happens.{RanAt, Outcome, IsReceived, answer_entries}
-use Rattle.roc_protocol.specs.Run.{Stepped, Transition, IsRun, begun, goes_on}
+use Rattle.roc_protocol.specs.Run.{Stepped, Transition, IsRunFrom, at_beginning, steps_on}
 use Rattle.roc_protocol.specs.Kept.{ran_in}
 use Rattle.roc_protocol.specs.Inner.Given.{LogLaws}
 use Rattle.roc_protocol.proofs.Means.{run_of, entry_run, RanMeans, AreRan, Ran, stage, AnswerMeans}
 use Rattle.roc_protocol.specs.Inner.Given.{SerialLaws, StoreLaws}
-use Rattle.roc_protocol.proofs.Firsts.{first_means, found_at}
-use Rattle.roc_protocol.proofs.Worlds.{Submitting, is_refused, is_accepted, submitting, run_submissions, Agrees, agrees_before, IsLogged, RunsOn, step_logged, ordered_submitted}
+use Rattle.roc_protocol.proofs.Firsts.{begun_means, found_at}
+use Rattle.roc_protocol.proofs.Worlds.{Submitting, is_refused, is_accepted, submitting, submissions_from, Agrees, agrees_before, IsLogged, RunsOn, step_logged, ordered_submitted}
 
 -- ---- a history grows at its end
 
@@ -81,16 +82,16 @@ run_listed (q ∷ rs) r (inr h) = listed_tail is_txn_group q rs r (run_listed rs
 pub ran_more : (steps : List Stepped) (s : Stepped) → ran_in (steps ++ s ∷ []) ≡ ran_in steps ++ s.outcome.ran
 ran_more steps s = flat_map-append (λ (s : Stepped). s.outcome.ran) steps (s ∷ []) ∙ ap (λ l. ran_in steps ++ l) (append-nil s.outcome.ran)
 
-module _ (plan : Plan) (asked : TxnId → whole.Call) (S : Scheme) (is : IsSchemeOf plan asked S) (laws : LogLaws S (start_store plan.program)) (stores : StoreLaws) where
+module _ (plan : Plan) (asked : TxnId → whole.Call) (S : Scheme) (start : Beginning) (is : IsSchemeOf plan asked S) (laws : LogLaws S start.store) (stores : StoreLaws) (begins : IsBeginning plan start) where
   -- what ran goes on
-  ran_on : (log later : Log) → LogInvariants S (start_store plan.program) log → (ran more : List RanAt) → AreRan plan asked S (start_store plan.program) log ran → RunsOn plan asked S is laws log later more → AreRan plan asked S (start_store plan.program) later (ran ++ more)
+  ran_on : (log later : Log) → LogInvariants S start.store log → (ran more : List RanAt) → AreRan plan asked S start log ran → RunsOn plan asked S start is laws log later more → AreRan plan asked S start later (ran ++ more)
   ran_on log later i ran more a b =
       record {
         groups = b.groups ∙ (ap (λ l. l ++ map (λ r. entry_run r.group) more) a.groups ∙ sym (map-append (λ (r : RanAt). entry_run r.group) ran more));
         each = λ r h. elim (has_append r ran more h) [ inl k ↦ kept r k | inr k ↦ b.each r k ];
       }
     where
-      kept : (r : RanAt) → Has r ran → RanMeans plan asked S (start_store plan.program) later r
+      kept : (r : RanAt) → Has r ran → RanMeans plan asked S start later r
       kept r h =
           let m = a.each r h in
           let q = entry_run r.group in
@@ -98,26 +99,27 @@ module _ (plan : Plan) (asked : TxnId → whole.Call) (S : Scheme) (is : IsSchem
           let began = i.ran_started q listed in
           record { on = ap (S.group_shard q) (b.grows.inputs q (i.needs_ran q began)) ∙ m.on; cells = m.cells ∙ sym (b.grows.uses q began) }
 
-  pub run_logged : (coords : ℕ) (steps : List Stepped) (w : World) → IsRun plan coords steps w → Agrees asked w.history → (log : Log) × IsLogged plan asked S is laws w log × AreRan plan asked S (start_store plan.program) log (ran_in steps)
-  run_logged coords steps w begun agrees = (
+  pub run_logged : (coords : ℕ) (steps : List Stepped) (w : World) → IsRunFrom plan start coords steps w → Agrees asked w.history → (log : Log) × IsLogged plan asked S start is laws w log × AreRan plan asked S start log (ran_in steps)
+  run_logged coords steps w at_beginning agrees = (
     first_log,
     record {
-      means = first_means stores plan asked S is coords;
+      means = begun_means plan asked S start is begins coords;
       began = λ r h. absurd (omega arith);
       starts = λ m h. absurd h;
       pending = λ n c e x h. elim (nothing n c e x h) [ ];
       in_time = λ t u b l. absurd b;
+      onward = λ t h. absurd h.2;
     },
     record { groups = refl; each = λ r h. absurd h },
   )
     where
-      nothing : (n : ℕ) (c : CoordState) → slice_get (first_world plan coords).coords n ≡ Some c → (x : _) → Has x c.pending → ⊥
+      nothing : (n : ℕ) (c : CoordState) → slice_get (begun_world plan start coords).coords n ≡ Some c → (x : _) → Has x c.pending → ⊥
       nothing n c e x h = subst (λ (c : CoordState). Has x c.pending) (found_at _ 0 coords n c e) h
-  run_logged coords steps w (goes_on {steps = front} {w = v} e o r h) agrees =
+  run_logged coords steps w (steps_on {steps = front} {w = v} e o r h) agrees =
       let x = step_extends plan v e o h in
       let before = run_logged coords front v r (agrees_before asked v.history x.more (subst (Agrees asked) x.is agrees)) in
-      let now = step_logged plan asked S is laws v before.0 (run_submissions plan coords front v r) before.1 e o h agrees in
-      (now.0, now.1, subst (AreRan plan asked S (start_store plan.program) now.0) (sym (ran_more front (record { event = e; outcome = o }))) (ran_on before.0 now.0 (laws.holds before.0 before.1.means.reached) (ran_in front) o.ran before.2 now.2))
+      let now = step_logged plan asked S start is laws v before.0 (submissions_from plan start coords front v r) before.1 e o h agrees in
+      (now.0, now.1, subst (AreRan plan asked S start now.0) (sym (ran_more front (record { event = e; outcome = o }))) (ran_on before.0 now.0 (laws.holds before.0 before.1.means.reached) (ran_in front) o.ran before.2 now.2))
 
 -- ---- replies
 
@@ -131,27 +133,24 @@ pub calls_are : (asked : TxnId → whole.Call) (h : List Entry) (order : List Tx
 calls_are asked h [] e = refl
 calls_are asked h (t ∷ order) e = let a = e t (inl refl) in let b = calls_are asked h order (λ u k. e u (inr k)) in λ i. cons_option (a i) (b i)
 
-module _ (plan : Plan) (asked : TxnId → whole.Call) (S : Scheme) (is : IsSchemeOf plan asked S) (laws : LogLaws S (start_store plan.program)) (serials : SerialLaws S (start_store plan.program)) where
-  abbrev start : Store
-  start = start_store plan.program
-
-  module _ (w : World) (log : Log) (o : IsLogged plan asked S is laws w log) where
-    i : LogInvariants S start log
+module _ (plan : Plan) (asked : TxnId → whole.Call) (S : Scheme) (start : Beginning) (is : IsSchemeOf plan asked S) (laws : LogLaws S start.store) (serials : SerialLaws S start.store) where
+  module _ (w : World) (log : Log) (o : IsLogged plan asked S start is laws w log) where
+    i : LogInvariants S start.store log
     i = laws.holds log o.means.reached
 
     -- ---- in a list that keeps what ran
 
-    module _ (O : List TxnId) (keeps : KeepsRan S start log O) where
-      gave_same : (r : TxnGroup) → Ran plan asked S start log r → IsListed is_txn O r.txn → (stage_behind S.behaviour start (one_by_one S.behaviour O)).yielded r ≡ (stage plan asked S start log).yielded r
+    module _ (O : List TxnId) (keeps : KeepsRan S start.store log O) where
+      gave_same : (r : TxnGroup) → Ran plan asked S start log r → IsListed is_txn O r.txn → (stage_behind S.behaviour start.store (one_by_one S.behaviour O)).yielded r ≡ (stage plan asked S start log).yielded r
       unfolding account_at
       gave_same r h l =
           let once = (serials.stand O).once keeps.once in
           let in_turn = (serials.stand O).all r l (i.are_groups r (i.ran_started r h)) in
-          yielded_at S.behaviour (one_by_one S.behaviour O) (first_stage start) r once in_turn
+          yielded_at S.behaviour (one_by_one S.behaviour O) (first_stage start.store) r once in_turn
           ∙ (ap (λ (a : Account). a.yield) (serials.same log o.means.reached O keeps r h l)
-          ∙ sym (yielded_at S.behaviour log.past.ran (first_stage start) r i.ran_once h))
+          ∙ sym (yielded_at S.behaviour log.past.ran (first_stage start.store) r i.ran_once h))
 
-      reply_same : (t : TxnId) (reply : List ℤ) → AnswerMeans plan asked S start log t reply → (other : List ℤ) → IsWholeReply plan asked S O t other → other ≡ reply
+      reply_same : (t : TxnId) (reply : List ℤ) → AnswerMeans plan asked S start log t reply → (other : List ℤ) → IsWholeReplyFrom plan start.store asked S O t other → other ≡ reply
       reply_same t reply a other x =
           same_list other reply (x.count ∙ sym a.count)
           (λ at l.
@@ -165,24 +164,24 @@ module _ (plan : Plan) (asked : TxnId → whole.Call) (S : Scheme) (is : IsSchem
 
       -- each answered transaction has its reply
       pub replies : (calls : (t : TxnId) → WasSubmitted w.history t → submitted_call t w.history ≡ Some (asked t))
-          → ((t : TxnId) → IsListed is_txn O t → (reply : List ℤ) × IsWholeReply plan asked S O t reply)
-          → (t : TxnId) (reply : List ℤ) → WasAnswered w.history t reply → serial_reply plan.program w.history O t ≡ Some reply
+          → ((t : TxnId) → IsListed is_txn O t → (reply : List ℤ) × IsWholeReplyFrom plan start.store asked S O t reply)
+          → (t : TxnId) (reply : List ℤ) → WasAnswered w.history t reply → serial_reply_from plan.program start.store w.history O t ≡ Some reply
       replies calls wholes t reply h =
           let a = o.means.answered t reply h in
           let x = wholes t (keeps.all t a.throughout.in_order) in
           let same = reply_same t reply a x.0 x.1 in
           let l : submitted_calls w.history O ≡ map asked O =
-          calls_are asked w.history O (λ u k. calls u (ordered_submitted plan asked S is laws w log o u (ordered u (has_listed O u k)))) in
-          ap (λ cs. reply_in t (serial_run plan.program cs)) l ∙ (x.1.is ∙ ap (λ r. Some r) same)
+          calls_are asked w.history O (λ u k. calls u (ordered_submitted plan asked S start is laws w log o u (ordered u (has_listed O u k)))) in
+          ap (λ cs. reply_in t (serial_answers plan.program start.store cs)) l ∙ (x.1.is ∙ ap (λ r. Some r) same)
 
     pub witness : (calls : (t : TxnId) → WasSubmitted w.history t → submitted_call t w.history ≡ Some (asked t))
-        → ((t : TxnId) → IsListed is_txn log.order t → (reply : List ℤ) × IsWholeReply plan asked S log.order t reply)
-        → IsSerialWitness plan.program w.history w.order
+        → ((t : TxnId) → IsListed is_txn log.order t → (reply : List ℤ) × IsWholeReplyFrom plan start.store asked S log.order t reply)
+        → IsSerialWitnessFrom plan.program start.store w.history w.order
     witness calls wholes =
         record {
           once = subst (NoneTwice is_txn) (sym o.means.order) i.order.once;
-          submitted = ordered_submitted plan asked S is laws w log o;
+          submitted = ordered_submitted plan asked S start is laws w log o;
           answered = λ t reply h. subst (λ l. IsListed is_txn l t) (sym o.means.order) (o.means.answered t reply h).throughout.in_order;
-          replies = λ t reply h. subst (λ order. serial_reply plan.program w.history order t ≡ Some reply) (sym o.means.order) (replies log.order (serials.order log o.means.reached) calls wholes t reply h);
+          replies = λ t reply h. subst (λ order. serial_reply_from plan.program start.store w.history order t ≡ Some reply) (sym o.means.order) (replies log.order (serials.order log o.means.reached) calls wholes t reply h);
           real_time = o.in_time;
         }

@@ -1,5 +1,5 @@
 -- Each event keeps what holds in every world
-use Rattle.std.proofs.Common.{◌≡◌, ℕ, ℤ, ◌-◌, ◌==◌, Bool, true, false, not, List, [], ◌∷◌, ◌++◌, Option, Some, None, Result, Ok, Err, length, map, refl, sym, ap, subst, ◌∙◌, ◌⊎◌, inl, inr, arith, append-nil}
+use Rattle.std.proofs.Common.{◌≡◌, ℕ, ℤ, ◌-◌, ◌≤◌, ◌==◌, Bool, true, false, not, List, [], ◌∷◌, ◌++◌, Option, Some, None, Result, Ok, Err, length, map, refl, sym, ap, subst, ◌∙◌, ◌⊎◌, inl, inr, arith, append-nil}
 use Rattle.std.proofs.lemmas.Bool.{eqb-true}
 use Rattle.std.specs.Prelude.{slice_get, if◌then◌else◌, nat_le}
 use Rattle.roc_sequence.specs.Lists.{Has}
@@ -11,14 +11,12 @@ use Rattle.roc_base.specs.declared.id.TxnId.{TxnId}
 use Rattle.roc_base.specs.declared.node.Node.{Node}
 use Rattle.roc_base.specs.declared.node.Node.TheVariants.{Server, Coord}
 use Rattle.roc_base.specs.TxnId.{is_txn}
-use Rattle.roc_rows.specs.Store.{Store}
 use Rattle.roc_msg.specs.declared.msg.Msg.{Msg}
 use Rattle.roc_msg.specs.declared.msg.Msg.TheVariants.{Start}
 use Rattle.roc_msg.specs.declared.msg.Envelope.{Envelope}
 use Rattle.roc_msg.specs.declared.outbox.Outgoing.{Outgoing}
 use Rattle.roc_plan.specs.Groups.{Plan, procedure_of, is_transaction}
 use Rattle.roc_whole.specs.Serial as whole
-use Rattle.roc_whole.specs.Serial.{start_store}
 use Rattle.roc_law_orders.specs.Behaviour.{TxnGroup}
 use Rattle.roc_law_log.specs.Scheme.{Scheme}
 use Rattle.roc_law_log.specs.Log.{Log}
@@ -44,17 +42,18 @@ use Rattle.roc_audit.proofs.Histories.{submitted_front, before_cases, answered_b
 use Rattle.roc_protocol.specs.declared.event.Event.{Event}
 use Rattle.roc_protocol.specs.declared.event.Event.TheVariants.{Submit, Deliver, Tick}
 use Rattle.roc_protocol.specs.PlanAssumptions.{IsSchemeOf}
+use Rattle.roc_protocol.specs.Beginnings.{Beginning, first_beginning}
 use Rattle.roc_protocol.specs.World.{World, sent_by, mark_delivered, at_server, at_coord}
 use Rattle.roc_protocol.specs.Happens.{RanAt, ran_at, Outcome, Submits, IsSubmissionOf, answer_entries, IsReceived, Ticks}
-use Rattle.roc_protocol.specs.Run.{Stepped, Transition, IsRun, begun, goes_on}
+use Rattle.roc_protocol.specs.Run.{Stepped, Transition, IsRun, IsRunFrom, at_beginning, steps_on}
 use Rattle.roc_protocol.specs.Inner.Given.{LogLaws}
 use Rattle.roc_protocol.proofs.Means.{run_of, entry_run, RanMeans, Began, Means, WorldMeans}
 use Rattle.roc_protocol.proofs.Changed.{get-set_cases, comes_means}
 use Rattle.roc_protocol.proofs.Served.{StartsAre, IsExplained, message_explained, tick_explained}
 use Rattle.roc_protocol.proofs.NoStarts.{no_starts, no_starts_at_tick}
 use Rattle.roc_protocol.proofs.Coordinated.{IsCoordinated, message_coordinated, tick_coordinated, submission_coordinated}
-use Rattle.roc_protocol.proofs.Submissions.{AreSubmissions, submissions_kept, submissions_message, submissions_more, unused}
-use Rattle.roc_protocol.proofs.Firsts.{first_submissions}
+use Rattle.roc_protocol.proofs.Submissions.{AreSubmissions, no_submission, submissions_kept, submissions_message, submissions_more, unused}
+use Rattle.roc_protocol.proofs.Firsts.{begun_submissions, run_from}
 
 -- ---- what an accepted submission is
 
@@ -111,9 +110,13 @@ submissions_step plan w a (Some (Deliver k)) o (m, some, there, h) = go m.to h
 submissions_step plan w a (Some (Tick (Server shard))) o (s, there, e) = subst (λ (o : Outcome). AreSubmissions plan o.world.history o.world.coords) (sym e) a
 submissions_step plan w a (Some (Tick (Coord n))) o (s, there, e) = subst (λ (o : Outcome). AreSubmissions plan o.world.history o.world.coords) (sym e) (submissions_kept plan w.history w.coords a n s there s refl (omega arith) [] (λ t p x h. h))
 
+pub submissions_from : (plan : Plan) (start : Beginning) (coords : ℕ) (steps : List Stepped) (w : World) → IsRunFrom plan start coords steps w → AreSubmissions plan w.history w.coords
+submissions_from plan start coords steps w at_beginning = begun_submissions plan start coords
+submissions_from plan start coords steps w (steps_on {w = v} e o r h) = submissions_step plan v (submissions_from plan start coords _ v r) e o h
+
+-- and in a run from the first world
 pub run_submissions : (plan : Plan) (coords : ℕ) (steps : List Stepped) (w : World) → IsRun plan coords steps w → AreSubmissions plan w.history w.coords
-run_submissions plan coords steps w begun = first_submissions plan coords
-run_submissions plan coords steps w (goes_on {w = v} e o r h) = submissions_step plan v (run_submissions plan coords _ v r) e o h
+run_submissions plan coords steps w run = submissions_from plan (first_beginning plan) coords steps w (run_from plan coords steps w run)
 
 -- ---- all of it
 
@@ -125,10 +128,7 @@ pub record Agrees (asked : TxnId → whole.Call) (h : List Entry) : Type 0 where
 pub agrees_before : (asked : TxnId → whole.Call) (h more : List Entry) → Agrees asked (h ++ more) → Agrees asked h
 agrees_before asked h more g = record { proc = λ t p a k. g.proc t p a (has_left (Submitted t p a) h more k); args = λ t p a k. g.args t p a (has_left (Submitted t p a) h more k) }
 
-module _ (plan : Plan) (asked : TxnId → whole.Call) (S : Scheme) (is : IsSchemeOf plan asked S) (laws : LogLaws S (start_store plan.program)) where
-  abbrev start : Store
-  start = start_store plan.program
-
+module _ (plan : Plan) (asked : TxnId → whole.Call) (S : Scheme) (start : Beginning) (is : IsSchemeOf plan asked S) (laws : LogLaws S start.store) where
   pub record IsLogged (w : World) (log : Log) : Type 0 where
     pub means : WorldMeans plan asked S start log w
     -- what started, is pending or is to be started was submitted
@@ -137,15 +137,17 @@ module _ (plan : Plan) (asked : TxnId → whole.Call) (S : Scheme) (is : IsSchem
     pub pending : (n : ℕ) (c : CoordState) → slice_get w.coords n ≡ Some c → (x : Transaction) → Has x c.pending → WasSubmitted w.history x.id
     -- who was answered before another's submission stands before it
     pub in_time : (t u : TxnId) → IsAnsweredBefore w.history t u → IsListed is_txn w.order u → IsListedBefore is_txn w.order t u
+    -- what was submitted is none that was used before the run began
+    pub onward : (t : TxnId) → WasSubmitted w.history t → start.nexts t.coord ≤ t.seq
 
   -- from a log to a later one these groups run
   pub record RunsOn (log later : Log) (ran : List RanAt) : Type 0 where
-    pub grows : LogGrows S start log later
+    pub grows : LogGrows S start.store log later
     pub groups : later.past.ran ≡ log.past.ran ++ map (λ r. entry_run r.group) ran
     pub each : (r : RanAt) → Has r ran → RanMeans plan asked S start later r
 
   -- none do
-  rests : (log : Log) → LogInvariants S start log → RunsOn log log []
+  rests : (log : Log) → LogInvariants S start.store log → RunsOn log log []
   rests log i = record { grows = laws.grows log log i no_steps; groups = sym (append-nil log.past.ran); each = λ r h. absurd h }
 
   -- the order has only submitted ones
@@ -167,7 +169,7 @@ module _ (plan : Plan) (asked : TxnId → whole.Call) (S : Scheme) (is : IsSchem
   -- ---- a step of a server
 
   module _ (w : World) (log : Log) (o : IsLogged w log) where
-    i : LogInvariants S start log
+    i : LogInvariants S start.store log
     i = laws.holds log o.means.reached
 
     answered_listed : (t : TxnId) (reply : List ℤ) → WasAnswered w.history t reply → IsListed is_txn w.order t
@@ -186,6 +188,7 @@ module _ (plan : Plan) (asked : TxnId → whole.Call) (S : Scheme) (is : IsSchem
         starts = starts_after w.history w.sent (Server (record { 0 = n })) r.sends o.starts none;
         pending = o.pending;
         in_time = λ t u b l. later t u b (listed_or_not is_txn w.order u);
+        onward = o.onward;
       },
       record {
         grows = g;
@@ -194,7 +197,7 @@ module _ (plan : Plan) (asked : TxnId → whole.Call) (S : Scheme) (is : IsSchem
       },
     )
       where
-        g : LogGrows S start log x.log
+        g : LogGrows S start.store log x.log
         g = laws.grows log x.log i x.steps
 
         told : (es : List StartedGroup) → map entry_run es ≡ map (λ r. entry_run r.group) (map (ran_at n) es)
@@ -215,8 +218,9 @@ module _ (plan : Plan) (asked : TxnId → whole.Call) (S : Scheme) (is : IsSchem
     coordinated_logged : (n : ℕ) (s : CoordState) (there : slice_get w.coords n ≡ Some s) (after : CoordState) (outs : List Outgoing) (tells : List Entry)
         → (x : IsCoordinated plan asked S start is laws log i w o.means n s there (WasSubmitted (w.history ++ tells)) (λ x h. submitted_front w.history tells x.id (o.pending n s there x h)) after outs tells)
         → ((t u : TxnId) → IsAnsweredBefore (w.history ++ tells) t u → IsListed is_txn w.order u → IsListedBefore is_txn w.order t u)
+        → ((t : TxnId) → WasSubmitted (w.history ++ tells) t → start.nexts t.coord ≤ t.seq)
         → (later : Log) × IsLogged (at_coord w n after outs tells) later × RunsOn log later []
-    coordinated_logged n s there after outs tells x time = (
+    coordinated_logged n s there after outs tells x time onward = (
       x.log,
       record {
         means = x.means;
@@ -227,9 +231,23 @@ module _ (plan : Plan) (asked : TxnId → whole.Call) (S : Scheme) (is : IsSchem
           | inr k ↦ submitted_front w.history tells y.id (o.pending m c k.1 y h)
         ];
         in_time = time;
+        onward = onward;
       },
       record { grows = laws.grows log x.log i x.steps; groups = x.ran ∙ sym (append-nil log.past.ran); each = λ r h. absurd h },
     )
+
+    -- where nothing is submitted, and where something is
+    onward_still : (tells : List Entry) → ((t : TxnId) (p : ℕ) (a : List ℤ) → ¬ Has (Submitted t p a) tells) → (t : TxnId) → WasSubmitted (w.history ++ tells) t → start.nexts t.coord ≤ t.seq
+    onward_still tells none t (p, a, h) = elim (has_append (Submitted t p a) w.history tells h) [ inl k ↦ o.onward t (p, a, k) | inr k ↦ absurd (none t p a k) ]
+
+    onward_more : (n : ℕ) (s : CoordState) → slice_get w.coords n ≡ Some s → (proc : ℕ) (args : List ℤ) (t : TxnId) → WasSubmitted (w.history ++ Submitted (next_id s) proc args ∷ []) t → start.nexts t.coord ≤ t.seq
+    onward_more n s there proc args t (p, a, h) = elim (has_append (Submitted t p a) w.history (Submitted (next_id s) proc args ∷ []) h) [
+      | inl k ↦ o.onward t (p, a, k)
+      | inr k ↦
+          (let e = has_one (Submitted t p a) (Submitted (next_id s) proc args) k in
+          let same : t ≡ next_id s = cc in
+          subst (λ (t : TxnId). start.nexts t.coord ≤ t.seq) (sym same) (o.means.coords n s there).onward)
+    ]
 
     -- an answer at the end is before no submission
     answers_last : (a : Handled) (t u : TxnId) → IsAnsweredBefore (w.history ++ answer_entries a) t u → IsAnsweredBefore w.history t u
@@ -253,13 +271,13 @@ module _ (plan : Plan) (asked : TxnId → whole.Call) (S : Scheme) (is : IsSchem
     -- ---- any event
 
     pub comes_logged : (k : ℕ) → IsLogged (mark_delivered w k) log
-    comes_logged k = record { means = comes_means plan asked S start is log w k o.means; began = o.began; starts = o.starts; pending = o.pending; in_time = o.in_time }
+    comes_logged k = record { means = comes_means plan asked S start is log w k o.means; began = o.began; starts = o.starts; pending = o.pending; in_time = o.in_time; onward = o.onward }
 
     tick_logged : (node : Node) (v : Outcome) → Ticks plan w node v → (later : Log) × IsLogged v.world later × RunsOn log later v.ran
     tick_logged (Server shard) v (s, there, e) = subst (λ (v : Outcome). (later : Log) × IsLogged v.world later × RunsOn log later v.ran) (sym e)
         (served_logged shard.0 s there (answered s (server.tick_sends s)) (tick_explained plan asked S start is laws log w o.means shard.0 s there (WasSubmitted w.history)) (no_starts_at_tick plan s (WasSubmitted w.history)))
     tick_logged (Coord n) v (s, there, e) = subst (λ (v : Outcome). (later : Log) × IsLogged v.world later × RunsOn log later v.ran) (sym e)
-        (coordinated_logged n s there s (coord.tick_sends plan s) [] (tick_coordinated plan asked S start is laws log i w o.means n s there (WasSubmitted (w.history ++ [])) (λ x h. submitted_front w.history [] x.id (o.pending n s there x h))) (λ t u b. o.in_time t u (subst (λ h. IsAnsweredBefore h t u) (append-nil w.history) b)))
+        (coordinated_logged n s there s (coord.tick_sends plan s) [] (tick_coordinated plan asked S start is laws log i w o.means n s there (WasSubmitted (w.history ++ [])) (λ x h. submitted_front w.history [] x.id (o.pending n s there x h))) (λ t u b. o.in_time t u (subst (λ h. IsAnsweredBefore h t u) (append-nil w.history) b)) (onward_still [] (λ t p a h. h)))
 
     receive_logged : (m : Msg) (to : Node) (v : Outcome) → Means plan asked S start log m to → StartsAre (WasSubmitted w.history) m → IsReceived plan w m to v → (later : Log) × IsLogged v.world later × RunsOn log later v.ran
     receive_logged m (Server shard) v k f (s, r, there, step, e) = subst (λ (v : Outcome). (later : Log) × IsLogged v.world later × RunsOn log later v.ran) (sym e)
@@ -270,7 +288,8 @@ module _ (plan : Plan) (asked : TxnId → whole.Call) (S : Scheme) (is : IsSchem
         subst (λ (v : Outcome). (later : Log) × IsLogged v.world later × RunsOn log later v.ran) (sym e)
         (coordinated_logged n s there (after_message plan s m).state (after_message plan s m).sends (answer_entries a)
         (message_coordinated plan asked S start is laws log i w o.means n s there (WasSubmitted (w.history ++ answer_entries a)) (λ x h. submitted_front w.history (answer_entries a) x.id (o.pending n s there x h)) m (Coord n) k)
-        (λ t u b l. o.in_time t u (answers_last a t u b) l))
+        (λ t u b l. o.in_time t u (answers_last a t u b) l)
+        (onward_still (answer_entries a) (no_submission a)))
 
     submit_logged : AreSubmissions plan w.history w.coords → (n proc : ℕ) (args : List ℤ) (s : CoordState) → slice_get w.coords n ≡ Some s → (v : Outcome) → Submitting plan w n proc args s v → Agrees asked v.world.history → (later : Log) × IsLogged v.world later × RunsOn log later []
     submit_logged a n proc args s there v (is_refused e) agrees = subst (λ (v : World). (later : Log) × IsLogged v later × RunsOn log later []) (sym e) (log, o, rests log i)
@@ -282,7 +301,8 @@ module _ (plan : Plan) (asked : TxnId → whole.Call) (S : Scheme) (is : IsSchem
         subst (λ (v : World). (later : Log) × IsLogged v later × RunsOn log later []) (sym e)
         (coordinated_logged n s there (accepted plan s x).state (accepted plan s x).sends more
         (submission_coordinated plan asked S start is laws log i w o.means n s there (WasSubmitted (w.history ++ more)) (λ y h. submitted_front w.history more y.id (o.pending n s there y h)) proc args more (none (next_id s) proc args) (g.proc (next_id s) proc args mine) (g.args (next_id s) proc args mine) (proc, args, mine))
-        (λ t u b l. time t u l (before_cases w.history more t u b)))
+        (λ t u b l. time t u l (before_cases w.history more t u b))
+        (onward_more n s there proc args))
       where
         none : (id : TxnId) (proc : ℕ) (args : List ℤ) (t : TxnId) (reply : List ℤ) → ¬ Has (Answered t reply) (Submitted id proc args ∷ [])
         none id proc args t reply (inl e) = absurd (cc)

@@ -13,13 +13,12 @@ use Rattle.roc_base.specs.declared.node.Shard.{Shard}
 use Rattle.roc_msg.specs.declared.msg.Envelope.{Envelope}
 use Rattle.roc_msg.specs.declared.outbox.Outgoing.{Outgoing}
 use Rattle.roc_plan.specs.Groups.{Plan}
-use Rattle.roc_server.specs.First.{first_server}
 use Rattle.roc_server.specs.Fits.{ServerFits}
 use Rattle.roc_server.specs.State.{answered, ServerState, ServerStep}
 use Rattle.roc_server.specs.Step as server
 use Rattle.roc_coord.specs.declared.transaction.Transaction.{Transaction}
 use Rattle.roc_coord.specs.Fits.{IsTransactionOf, CoordFits}
-use Rattle.roc_coord.specs.State.{first_coord, CoordState}
+use Rattle.roc_coord.specs.State.{CoordState}
 use Rattle.roc_coord.specs.Step.{after_message}
 use Rattle.roc_coord.specs.Submit.{next_id, new_transaction, accepted}
 use Rattle.roc_coord.specs.Tick as coord
@@ -27,6 +26,7 @@ use Rattle.roc_audit.specs.declared.entry.Entry.{Entry}
 use Rattle.roc_audit.specs.declared.entry.Entry.TheVariants.{Submitted}
 use Rattle.roc_protocol.specs.declared.event.Event.{Event}
 use Rattle.roc_protocol.specs.declared.event.Event.TheVariants.{Submit, Deliver, Tick}
+use Rattle.roc_protocol.specs.Beginnings.{Beginning, begun_server, begun_coord, begun_world, first_beginning}
 use Rattle.roc_protocol.specs.World.{World, first_world, sent_by, mark_delivered, at_server, at_coord}
 use Rattle.roc_protocol.specs.Fits.{NamesNodes, IsSentHere, IsServerHere, IsTransactionHere, IsCoordHere, FitsWorld}
 use Rattle.roc_protocol.specs.Happens.{Outcome, answer_entries, IsReceived, Happens}
@@ -187,36 +187,40 @@ same_count plan w (Deliver k) o (m, some, there, h) = go m.to h
 same_count plan w (Tick (Server shard)) o (s, there, e) = ap (λ (o : Outcome). length o.world.coords) e
 same_count plan w (Tick (Coord n)) o (s, there, e) = ap (λ (o : Outcome). length o.world.coords) e ∙ length-set w.coords n s
 
--- ---- the first world
+-- ---- where a run begins
 
-pub first : (plan : Plan) (count : ℕ) → 0 < plan.program.shards → FitsWorld plan (first_world plan count)
-first plan count some =
-    let long : length (first_world plan count).servers ≡ plan.program.shards = length-map (range_with_len 0 plan.program.shards) (λ n. first_server plan (record { 0 = n })) ∙ length-range_with_len 0 plan.program.shards in
-    let many : length (first_world plan count).coords ≡ count = length-map (range_with_len 0 count) first_coord ∙ length-range_with_len 0 count in
+pub begun_fits : (plan : Plan) (start : Beginning) (count : ℕ) → 0 < plan.program.shards → FitsWorld plan (begun_world plan start count)
+begun_fits plan start count some =
+    let long : length (begun_world plan start count).servers ≡ plan.program.shards = length-map (range_with_len 0 plan.program.shards) (begun_server start) ∙ length-range_with_len 0 plan.program.shards in
+    let many : length (begun_world plan start count).coords ≡ count = length-map (range_with_len 0 count) (begun_coord start) ∙ length-range_with_len 0 count in
     record {
       some_server = subst (λ n. 0 < n) (sym long) some;
       shards = long;
-      numbers = λ n s h. (let e = found_at (λ n. first_server plan (record { 0 = n })) 0 plan.program.shards n s h in ap (λ (s : ServerState). s.shard.0) e ∙ (omega arith));
+      numbers = λ n s h. (let e = found_at (begun_server start) 0 plan.program.shards n s h in ap (λ (s : ServerState). s.shard.0) e ∙ (omega arith));
       servers = servers_of 0 plan.program.shards;
       coords = coords_of 0 count;
       undelivered = tt;
       sent_here = tt;
-      servers_here = none_named (length (first_world plan count).servers) (length (first_world plan count).coords) 0 plan.program.shards;
-      coords_here = numbered (length (first_world plan count).servers) (length (first_world plan count).coords) 0 count (omega arith);
+      servers_here = none_named (length (begun_world plan start count).servers) (length (begun_world plan start count).coords) 0 plan.program.shards;
+      coords_here = numbered (length (begun_world plan start count).servers) (length (begun_world plan start count).coords) 0 count (omega arith);
     }
   where
-    servers_of : (a n : ℕ) → AllByRecursion (ServerFits plan) (map (λ n. first_server plan (record { 0 = n })) (range_with_len a n))
+    servers_of : (a n : ℕ) → AllByRecursion (ServerFits plan) (map (begun_server start) (range_with_len a n))
     servers_of a zero = tt
     servers_of a (suc n) = (tt, servers_of (a + 1) n)
 
-    coords_of : (a n : ℕ) → AllByRecursion (CoordFits plan) (map first_coord (range_with_len a n))
+    coords_of : (a n : ℕ) → AllByRecursion (CoordFits plan) (map (begun_coord start) (range_with_len a n))
     coords_of a zero = tt
     coords_of a (suc n) = (tt, coords_of (a + 1) n)
 
-    none_named : (servers coords a n : ℕ) → AllByRecursion (IsServerHere servers coords) (map (λ n. first_server plan (record { 0 = n })) (range_with_len a n))
+    none_named : (servers coords a n : ℕ) → AllByRecursion (IsServerHere servers coords) (map (begun_server start) (range_with_len a n))
     none_named servers coords a zero = tt
     none_named servers coords a (suc n) = (record { started = tt; known = tt; asked = tt; askers = tt }, none_named servers coords (a + 1) n)
 
-    numbered : (servers coords a n : ℕ) → a + n ≡ coords → AllByRecursion (IsCoordHere servers coords) (map first_coord (range_with_len a n))
+    numbered : (servers coords a n : ℕ) → a + n ≡ coords → AllByRecursion (IsCoordHere servers coords) (map (begun_coord start) (range_with_len a n))
     numbered servers coords a zero e = tt
     numbered servers coords a (suc n) e = (record { number = omega arith; pending = tt }, numbered servers coords (a + 1) n (omega arith))
+
+-- and the first world
+pub first : (plan : Plan) (count : ℕ) → 0 < plan.program.shards → FitsWorld plan (first_world plan count)
+first plan count some = begun_fits plan (first_beginning plan) count some

@@ -1,4 +1,6 @@
 pub mod World
+pub mod Beginnings
+pub mod WitnessFrom
 pub mod Happens
 pub mod Run
 pub mod Fits

@@ -65,28 +65,37 @@ pub record IsSchemeOf (plan : Plan) (asked : TxnId → whole.Call) (S : Scheme) 
   pub few_shards : (place : ℤ) → shard_of plan place < 64
 
 -- the reply of a transaction where the transactions of an order run whole, one after another, is what its groups give, each value at its
--- place, where the groups of these transactions run one after another
-pub record IsWholeReply (plan : Plan) (asked : TxnId → whole.Call) (S : Scheme) (order : List TxnId) (t : TxnId) (reply : List ℤ) : Type 0 where
-  pub is : reply_in t (whole.serial_run plan.program (map asked order)) ≡ Some reply
+-- place, where the groups of these transactions run one after another, from this store on
+pub record IsWholeReplyFrom (plan : Plan) (start : Store) (asked : TxnId → whole.Call) (S : Scheme) (order : List TxnId) (t : TxnId) (reply : List ℤ) : Type 0 where
+  pub is : reply_in t (whole.serial_answers plan.program start (map asked order)) ≡ Some reply
   pub count : length reply ≡ length (flat_map (outs_of plan (asked t).procedure) (range_with_len 0 (length (groups_of plan (asked t).procedure))))
   pub given :
       (g : ℕ) (at : ℕ) (value : ℤ) → g < length (groups_of plan (asked t).procedure)
       → Has (at, value)
       (zip (outs_of plan (asked t).procedure g)
-      ((stage_behind S.behaviour (whole.start_store plan.program) (one_by_one S.behaviour order)).yielded (record { txn = t; group = g })).outs)
+      ((stage_behind S.behaviour start (one_by_one S.behaviour order)).yielded (record { txn = t; group = g })).outs)
       → slice_index_or reply at (pos 0) ≡ value
 
--- whatever transactions call, there is such a scheme, as the log machine asks for it, in which transactions one by one are whole procedures
-pub record HasSchemes (plan : Plan) : Type 0 where
+-- from the plan's own start
+abbrev pub IsWholeReply : Plan → (TxnId → whole.Call) → Scheme → List TxnId → TxnId → List ℤ → Type 0
+IsWholeReply plan asked S order t reply = IsWholeReplyFrom plan (whole.start_store plan.program) asked S order t reply
+
+-- whatever transactions call, there is such a scheme, as the log machine asks for it, in which transactions one by one, from this store on, are whole
+-- procedures
+pub record HasSchemesFrom (plan : Plan) (start : Store) : Type 0 where
   pub scheme : (TxnId → whole.Call) → Scheme
   pub of : (asked : TxnId → whole.Call) → ((t : TxnId) → is_transaction plan (asked t).procedure ≡ true) → IsSchemeOf plan asked (scheme asked)
   pub sound : (asked : TxnId → whole.Call) → ((t : TxnId) → is_transaction plan (asked t).procedure ≡ true) → IsSoundScheme (scheme asked)
   pub replies :
       (asked : TxnId → whole.Call) → ((t : TxnId) → is_transaction plan (asked t).procedure ≡ true)
       → (order : List TxnId) → NoneTwice is_txn order → ((t : TxnId) → IsListed is_txn order t → (asked t).id ≡ t)
-      → (t : TxnId) → IsListed is_txn order t → (reply : List ℤ) × IsWholeReply plan asked (scheme asked) order t reply
+      → (t : TxnId) → IsListed is_txn order t → (reply : List ℤ) × IsWholeReplyFrom plan start asked (scheme asked) order t reply
   pub stores :
       (asked : TxnId → whole.Call) → ((t : TxnId) → is_transaction plan (asked t).procedure ≡ true)
       → (order : List TxnId)
-      → (stage_behind (scheme asked).behaviour (whole.start_store plan.program) (one_by_one (scheme asked).behaviour order)).store
-      ≡ whole.serial_store plan.program (whole.start_store plan.program) (map asked order)
+      → (stage_behind (scheme asked).behaviour start (one_by_one (scheme asked).behaviour order)).store
+      ≡ whole.serial_store plan.program start (map asked order)
+
+-- from the plan's own start
+abbrev pub HasSchemes : Plan → Type 0
+HasSchemes plan = HasSchemesFrom plan (whole.start_store plan.program)

@@ -7,6 +7,7 @@ use Rattle.roc_protocol.specs.declared.event.Event.{Event}
 use Rattle.roc_protocol.specs.declared.event.Event.TheVariants.{Submit, Deliver, Tick}
 use Rattle.roc_protocol.specs.declared.event.Seen.TheVariants as seen
 use Rattle.roc_protocol.specs.World.{World, first_world}
+use Rattle.roc_protocol.specs.Beginnings.{Beginning, begun_world}
 use Rattle.roc_protocol.specs.Happens.{Outcome, undecided, Happens}
 
 -- an event with what came of it; no event, where a choice among no messages did nothing
@@ -25,6 +26,12 @@ pub data IsRun (plan : Plan) (coords : ℕ) : List Stepped → World → Type 0 
   goes_on : {steps : List Stepped} {w : World} (e : Option Event) (o : Outcome) → IsRun plan coords steps w → Transition plan w e o
       → IsRun plan coords (steps ++ (record { event = e; outcome = o }) ∷ []) o.world
 
+-- the steps lead from a beginning to w
+pub data IsRunFrom (plan : Plan) (b : Beginning) (coords : ℕ) : List Stepped → World → Type 0 where
+  at_beginning : IsRunFrom plan b coords [] (begun_world plan b coords)
+  steps_on : {steps : List Stepped} {w : World} (e : Option Event) (o : Outcome) → IsRunFrom plan b coords steps w → Transition plan w e o
+      → IsRunFrom plan b coords (steps ++ (record { event = e; outcome = o }) ∷ []) o.world
+
 -- the node is one of the world's
 abbrev pub IsNodeOf : World → Node → Type 0
 IsNodeOf w (Server shard) = shard.0 < length w.servers
@@ -37,7 +44,13 @@ IsEventOf plan w (Submit number proc args) = (number < length w.coords) × (is_t
 IsEventOf plan w (Deliver k) = (0 < k) × (k ≤ length w.sent)
 IsEventOf plan w (Tick node) = IsNodeOf w node
 
--- each event of the list may happen in the world that it meets, to which those before it lead
+-- each event of the list may happen in the world that it meets, to which those before it lead from the beginning
+pub record MayHappenFrom (plan : Plan) (b : Beginning) (coords : ℕ) (events : List (Option Event)) : Type 0 where
+  pub each :
+      (front : List (Option Event)) (e : Event) (behind : List (Option Event)) (steps : List Stepped) (w : World) → events ≡ front ++ Some e ∷ behind
+      → IsRunFrom plan b coords steps w → map (λ s. s.event) steps ≡ front → IsEventOf plan w e
+
+-- or from the first world
 pub record MayHappen (plan : Plan) (coords : ℕ) (events : List (Option Event)) : Type 0 where
   pub each :
       (front : List (Option Event)) (e : Event) (behind : List (Option Event)) (steps : List Stepped) (w : World) → events ≡ front ++ Some e ∷ behind

@@ -57,7 +57,7 @@ use roc_rows::laws::reads_after_writes;
 use roc_server::laws::step_is_one as server_step_is_one;
 
 // What the laws below rest on.
-fn machine_laws()
+pub(crate) fn machine_laws()
     ensures log { (S : Scheme) (start : Store) → IsSoundScheme S → LogLaws S start }
     ensures serial { (S : Scheme) (start : Store) → IsSoundScheme S → SerialLaws S start }
     ensures stores { StoreLaws }

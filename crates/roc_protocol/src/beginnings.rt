@@ -1,0 +1,282 @@
+//! What holds in every world of every run that begins at a [`Beginning`](../specs/Beginnings.antt): at any cells, next sequences and
+//! watermarks, with nothing sent, started or pending. What [`laws`](crate::laws) say of runs from the first world are instances.
+ghost use Rattle.std.specs.Prelude.{◌↔◌, ◌≡◌, ◌≢◌, ◌⊎◌, ℕ, ℤ, pos, ◌-◌, ◌<◌, ◌≤◌, true, List, [], Option, Some, None, map, slice_get};
+ghost use Rattle.roc_sequence.specs.Lists.{Has};
+ghost use Rattle.roc_sequence.specs.Places.{IsListed, IsListedBefore};
+ghost use Rattle.roc_base.specs.declared.id.TxnId.{TxnId};
+ghost use Rattle.roc_base.specs.declared.node.Shard.{Shard};
+ghost use Rattle.roc_base.specs.declared.node.Node.TheVariants as node;
+ghost use Rattle.roc_base.specs.TxnId.{is_txn};
+ghost use Rattle.roc_base.specs.Edge.{Dependency};
+ghost use Rattle.roc_depgraph.specs.declared.known.KnownList.{KnownList};
+ghost use Rattle.roc_depgraph.specs.Deps.{Precedes, IsAncestor, IsDecided};
+ghost use Rattle.roc_component.specs.Components.{Mates};
+ghost use Rattle.roc_coord.specs.declared.transaction.Transaction.{Transaction};
+ghost use Rattle.roc_coord.specs.State.{CoordState};
+ghost use Rattle.roc_msg.specs.declared.msg.Envelope.{Envelope};
+ghost use Rattle.roc_msg.specs.declared.msg.Msg.TheVariants as msg;
+ghost use Rattle.roc_msg.specs.declared.reason.Reason.{Reason};
+ghost use Rattle.roc_msg.specs.declared.reason.Reason.TheVariants as reason;
+ghost use Rattle.roc_server.specs.Below.{is_ended};
+ghost use Rattle.roc_server.specs.State.{find_group, ServerState};
+ghost use Rattle.roc_server.specs.declared.started.StartedGroup.{StartedGroup};
+ghost use Rattle.roc_protocol.specs.declared.event.Event.{Event};
+ghost use Rattle.roc_protocol.specs.declared.event.Event.TheVariants as event;
+ghost use Rattle.roc_protocol.specs.declared.event.Seen.TheVariants as seen;
+ghost use Rattle.roc_protocol.specs.Happens.{Outcome, Happens};
+ghost use Rattle.roc_plan.specs.Groups.{Plan, shard_of};
+ghost use Rattle.roc_audit.specs.declared.entry.Entry.TheVariants as entry;
+ghost use Rattle.roc_audit.specs.History.{WasSubmitted, WasAnswered, IsAnsweredBefore, IsToldOnce};
+ghost use Rattle.roc_audit.specs.Witness.{submitted_calls};
+ghost use Rattle.roc_rows.specs.declared.cell.Cell.{Cell};
+ghost use Rattle.roc_rows.specs.Store.{read};
+ghost use Rattle.roc_whole.specs.Serial.{serial_store};
+ghost use Rattle.roc_protocol.specs.Final.{lists_in, IsFinalIn};
+ghost use Rattle.roc_protocol.specs.Kept.{KeepsWhatRan};
+ghost use Rattle.roc_protocol.specs.Quiet.{IsQuiet};
+ghost use Rattle.roc_protocol.specs.World.{World, first_world};
+ghost use Rattle.roc_protocol.specs.Beginnings.{Beginning, IsBeginning, begun_world, first_beginning, left_by};
+ghost use Rattle.roc_protocol.specs.WitnessFrom.{serial_reply_from, IsSerialWitnessFrom};
+ghost use Rattle.roc_protocol.specs.Fits.{FitsWorld};
+ghost use Rattle.roc_protocol.specs.Run.{Stepped, Transition, IsRun, IsRunFrom, MayHappenFrom};
+ghost use Rattle.roc_protocol.specs.PlanAssumptions.{HasSchemesFrom};
+
+use crate::laws::{events_have_outcomes, machine_laws};
+use roc_rows::laws::reads_after_writes;
+use roc_server::laws::step_is_one as server_step_is_one;
+
+/// The first world is that of a beginning, at the cells that the workload says, and runs are the runs from there: so what holds of runs from
+/// any beginning holds of them.
+pub fn runs_begin_at_the_first_world()
+    ensures beginning { (plan : Plan) → IsBeginning plan (first_beginning plan) }
+    ensures world { (plan : Plan) (coords : ℕ) → begun_world plan (first_beginning plan) coords ≡ first_world plan coords }
+    ensures runs { (plan : Plan) (coords : ℕ) (steps : List Stepped) (w : World) → IsRun plan coords steps w ↔ IsRunFrom plan (first_beginning plan) coords steps w }
+{
+    machine_laws();
+}
+
+/// In every world the serial order explains the history, from the cells of the beginning on.
+pub fn order_is_serial()
+    ensures { (plan : Plan) (b : Beginning) (coords : ℕ) (steps : List Stepped) (w : World) → IsBeginning plan b → HasSchemesFrom plan b.store → IsRunFrom plan b coords steps w
+        → IsSerialWitnessFrom plan.program b.store w.history w.order }
+{
+    machine_laws();
+}
+
+/// The order is one that keeps what ran.
+pub fn order_keeps_what_ran()
+    ensures { (plan : Plan) (b : Beginning) (coords : ℕ) (steps : List Stepped) (w : World) → IsBeginning plan b → HasSchemesFrom plan b.store → IsRunFrom plan b coords steps w
+        → KeepsWhatRan plan steps w w.order }
+{
+    machine_laws();
+}
+
+/// Any order of the same transactions that keeps what ran, and real time, explains as much.
+pub fn kept_orders_are_serial()
+    ensures replies { (plan : Plan) (b : Beginning) (coords : ℕ) (steps : List Stepped) (w : World) → IsBeginning plan b → HasSchemesFrom plan b.store → IsRunFrom plan b coords steps w
+        → (O : List TxnId) → KeepsWhatRan plan steps w O
+        → (t : TxnId) (reply : List ℤ) → WasAnswered w.history t reply → serial_reply_from plan.program b.store w.history O t ≡ Some reply }
+    ensures witness { (plan : Plan) (b : Beginning) (coords : ℕ) (steps : List Stepped) (w : World) → IsBeginning plan b → HasSchemesFrom plan b.store → IsRunFrom plan b coords steps w
+        → (O : List TxnId) → KeepsWhatRan plan steps w O
+        → ((t u : TxnId) → IsAnsweredBefore w.history t u → IsListed is_txn O u → IsListedBefore is_txn O t u) → IsSerialWitnessFrom plan.program b.store w.history O }
+{
+    machine_laws();
+    order_is_serial();
+}
+
+/// Where each submitted transaction is answered, the servers hold what the serial order leaves, from the cells of the beginning on.
+pub fn cells_are_serial()
+    ensures { (plan : Plan) (b : Beginning) (coords : ℕ) (steps : List Stepped) (w : World) → IsBeginning plan b → HasSchemesFrom plan b.store → IsRunFrom plan b coords steps w
+        → ((t : TxnId) → WasSubmitted w.history t → (reply : List ℤ) × WasAnswered w.history t reply)
+        → (x : Cell) (s : ServerState) → slice_get w.servers (shard_of plan x.place) ≡ Some s
+        → read s.store x ≡ read (serial_store plan.program b.store (submitted_calls w.history w.order)) x }
+{
+    machine_laws();
+}
+
+/// Where each submitted transaction is answered, no event changes the order or a cell, and no coordinator has a transaction left.
+pub fn answered_worlds_rest()
+    ensures order { (plan : Plan) (b : Beginning) (coords : ℕ) (steps : List Stepped) (w : World) → IsBeginning plan b → HasSchemesFrom plan b.store → IsRunFrom plan b coords steps w
+        → ((t : TxnId) → WasSubmitted w.history t → (reply : List ℤ) × WasAnswered w.history t reply)
+        → (e : Option Event) (o : Outcome) → Transition plan w e o → o.world.order ≡ w.order }
+    ensures cells { (plan : Plan) (b : Beginning) (coords : ℕ) (steps : List Stepped) (w : World) → IsBeginning plan b → HasSchemesFrom plan b.store → IsRunFrom plan b coords steps w
+        → ((t : TxnId) → WasSubmitted w.history t → (reply : List ℤ) × WasAnswered w.history t reply)
+        → (e : Option Event) (o : Outcome) → Transition plan w e o
+        → (n : ℕ) (s v : ServerState) → slice_get w.servers n ≡ Some s → slice_get o.world.servers n ≡ Some v → v.store ≡ s.store }
+    ensures pending { (plan : Plan) (b : Beginning) (coords : ℕ) (steps : List Stepped) (w : World) → IsBeginning plan b → HasSchemesFrom plan b.store → IsRunFrom plan b coords steps w
+        → ((t : TxnId) → WasSubmitted w.history t → (reply : List ℤ) × WasAnswered w.history t reply)
+        → (n : ℕ) (c : CoordState) → slice_get w.coords n ≡ Some c → c.pending ≡ [] }
+{
+    machine_laws();
+    order_is_serial();
+    cells_are_serial();
+    cells_are_in_their_place();
+    reads_after_writes();
+}
+
+/// And there the nodes as they stand are a beginning again, at the cells that the serial order leaves.
+pub fn answered_worlds_begin()
+    ensures { (plan : Plan) (b : Beginning) (coords : ℕ) (steps : List Stepped) (w : World) → IsBeginning plan b → HasSchemesFrom plan b.store → IsRunFrom plan b coords steps w
+        → 0 < plan.program.shards → ((t : TxnId) → WasSubmitted w.history t → (reply : List ℤ) × WasAnswered w.history t reply)
+        → IsBeginning plan (left_by b w (serial_store plan.program b.store (submitted_calls w.history w.order))) }
+{
+    machine_laws();
+}
+
+/// Each shard has its server, which holds no cell of another shard.
+pub fn cells_are_in_their_place()
+    ensures servers { (plan : Plan) (b : Beginning) (coords : ℕ) (steps : List Stepped) (w : World) → IsRunFrom plan b coords steps w → (n : ℕ) → n < plan.program.shards
+        → (s : ServerState) × (slice_get w.servers n ≡ Some s) }
+    ensures apart { (plan : Plan) (b : Beginning) (coords : ℕ) (steps : List Stepped) (w : World) → IsBeginning plan b → HasSchemesFrom plan b.store → IsRunFrom plan b coords steps w
+        → (shard : Shard) (s : ServerState) → slice_get w.servers shard.0 ≡ Some s → (x : Cell) → shard_of plan x.place ≢ shard.0 → read s.store x ≡ pos 0 }
+{
+    machine_laws();
+}
+
+/// A transaction of the run has a sequence number from the beginning's next one on. Each one from there up to a coordinator's next one is that
+/// of a transaction that was submitted, and that is pending there or was answered; and none is both.
+pub fn submissions_are_kept()
+    ensures late { (plan : Plan) (b : Beginning) (coords : ℕ) (steps : List Stepped) (w : World) → IsBeginning plan b → HasSchemesFrom plan b.store → IsRunFrom plan b coords steps w
+        → (t : TxnId) → WasSubmitted w.history t → b.nexts t.coord ≤ t.seq }
+    ensures numbers { (plan : Plan) (b : Beginning) (coords : ℕ) (steps : List Stepped) (w : World) → IsBeginning plan b → HasSchemesFrom plan b.store → IsRunFrom plan b coords steps w
+        → (coord seq : ℕ) (c : CoordState) → slice_get w.coords coord ≡ Some c → b.nexts coord ≤ seq → seq < c.next
+        → WasSubmitted w.history (record { coord = coord; seq = seq })
+        × (((x : Transaction) × Has x c.pending × (x.id ≡ record { coord = coord; seq = seq })) ⊎ ((reply : List ℤ) × WasAnswered w.history (record { coord = coord; seq = seq }) reply)) }
+    ensures submitted { (plan : Plan) (b : Beginning) (coords : ℕ) (steps : List Stepped) (w : World) → IsBeginning plan b → HasSchemesFrom plan b.store → IsRunFrom plan b coords steps w
+        → (t : TxnId) → WasSubmitted w.history t
+        → (c : CoordState) × (slice_get w.coords t.coord ≡ Some c)
+        × (((x : Transaction) × Has x c.pending × (x.id ≡ t)) ⊎ ((reply : List ℤ) × WasAnswered w.history t reply)) }
+    ensures gone { (plan : Plan) (b : Beginning) (coords : ℕ) (steps : List Stepped) (w : World) → IsBeginning plan b → HasSchemesFrom plan b.store → IsRunFrom plan b coords steps w
+        → (t : TxnId) (reply : List ℤ) → WasAnswered w.history t reply → (n : ℕ) (c : CoordState) → slice_get w.coords n ≡ Some c → (x : Transaction)
+        → Has x c.pending → x.id ≢ t }
+{
+    machine_laws();
+}
+
+/// Of the submissions in the history no two have one id; and an id has at most one answer, which stands behind its submission.
+pub fn ids_are_told_once()
+    ensures { (plan : Plan) (b : Beginning) (coords : ℕ) (steps : List Stepped) (w : World) → IsBeginning plan b → HasSchemesFrom plan b.store → IsRunFrom plan b coords steps w
+        → IsToldOnce w.history }
+{
+    machine_laws();
+}
+
+/// Of the transactions of the run, each below a watermark that is told or was heard was answered.
+pub fn ended_is_answered()
+    ensures told { (plan : Plan) (b : Beginning) (coords : ℕ) (steps : List Stepped) (w : World) → IsBeginning plan b → HasSchemesFrom plan b.store → IsRunFrom plan b coords steps w
+        → (m : Envelope) → Has m w.sent → (coord mark : ℕ) → m.msg ≡ msg.Ended coord mark → (seq : ℕ) → b.nexts coord ≤ seq → seq < mark
+        → (reply : List ℤ) × WasAnswered w.history (record { coord = coord; seq = seq }) reply }
+    ensures heard { (plan : Plan) (b : Beginning) (coords : ℕ) (steps : List Stepped) (w : World) → IsBeginning plan b → HasSchemesFrom plan b.store → IsRunFrom plan b coords steps w
+        → (n : ℕ) (s : ServerState) → slice_get w.servers n ≡ Some s → (t : TxnId) → b.nexts t.coord ≤ t.seq → is_ended s.below t ≡ true
+        → (reply : List ℤ) × WasAnswered w.history t reply }
+{
+    machine_laws();
+}
+
+/// Who is answered is decided on every server where it has a group.
+pub fn answered_is_decided()
+    ensures { (plan : Plan) (b : Beginning) (coords : ℕ) (steps : List Stepped) (w : World) → IsBeginning plan b → HasSchemesFrom plan b.store → IsRunFrom plan b coords steps w
+        → (t : TxnId) (reply : List ℤ) → WasAnswered w.history t reply
+        → (shard : Shard) (s : ServerState) → slice_get w.servers shard.0 ≡ Some s → (e : StartedGroup) → Has e s.started → e.id ≡ t → IsDecided s.lists.known t }
+{
+    machine_laws();
+}
+
+/// What is decided on a server stands in the serial order already, and a transaction of which a group is to start there does not.
+pub fn left_out_is_earlier()
+    ensures decided { (plan : Plan) (b : Beginning) (coords : ℕ) (steps : List Stepped) (w : World) → IsBeginning plan b → HasSchemesFrom plan b.store → IsRunFrom plan b coords steps w
+        → (shard : Shard) (s : ServerState) → slice_get w.servers shard.0 ≡ Some s → (t : TxnId) → IsDecided s.lists.known t → IsListed is_txn w.order t }
+    ensures starting { (plan : Plan) (b : Beginning) (coords : ℕ) (steps : List Stepped) (w : World) → IsBeginning plan b → HasSchemesFrom plan b.store → IsRunFrom plan b coords steps w
+        → (shard : Shard) (s : ServerState) → slice_get w.servers shard.0 ≡ Some s
+        → (m : Envelope) → Has m w.sent → m.to ≡ node.Server shard → (id : TxnId) (proc group : ℕ) (args inputs : List ℤ) → m.msg ≡ msg.Start id proc group args inputs
+        → find_group id group s.started ≡ None → ¬ IsListed is_txn w.order id }
+{
+    machine_laws();
+}
+
+/// Lists are final, and two startoks of one group are equal.
+pub fn lists_are_final()
+    ensures known { (plan : Plan) (b : Beginning) (coords : ℕ) (steps : List Stepped) (w : World) → IsBeginning plan b → HasSchemesFrom plan b.store → IsRunFrom plan b coords steps w
+        → (shard : Shard) (s : ServerState) → slice_get w.servers shard.0 ≡ Some s → (k : KnownList) → Has k s.lists.known → IsFinalIn plan w k.of k.edges }
+    ensures carried { (plan : Plan) (b : Beginning) (coords : ℕ) (steps : List Stepped) (w : World) → IsBeginning plan b → HasSchemesFrom plan b.store → IsRunFrom plan b coords steps w
+        → (m : Envelope) → Has m w.sent → (k : KnownList) → Has k (lists_in m.msg) → IsFinalIn plan w k.of k.edges }
+    ensures one { (plan : Plan) (b : Beginning) (coords : ℕ) (steps : List Stepped) (w : World) → IsBeginning plan b → HasSchemesFrom plan b.store → IsRunFrom plan b coords steps w
+        → (m other : Envelope) → Has m w.sent → Has other w.sent
+        → (t : TxnId) (g : ℕ) (shard at : Shard) (bound outs values gave : List ℤ) (edges entries : List Dependency) (facts lists : List KnownList)
+        → m.msg ≡ msg.StartOk t g shard bound outs edges facts → other.msg ≡ msg.StartOk t g at values gave entries lists → m.msg ≡ other.msg }
+{
+    machine_laws();
+}
+
+/// What a startok tells of a group is what its server keeps.
+pub fn told_is_kept()
+    ensures { (plan : Plan) (b : Beginning) (coords : ℕ) (steps : List Stepped) (w : World) → IsBeginning plan b → HasSchemesFrom plan b.store → IsRunFrom plan b coords steps w
+        → (shard : Shard) (s : ServerState) → slice_get w.servers shard.0 ≡ Some s → (t : TxnId) (g : ℕ) (e : StartedGroup) → find_group t g s.started ≡ Some e
+        → (m : Envelope) → Has m w.sent → (at : Shard) (bound outs : List ℤ) (edges : List Dependency) (facts : List KnownList)
+        → m.msg ≡ msg.StartOk t g at bound outs edges facts → m.msg ≡ msg.StartOk t g shard e.bound e.outs e.edges e.facts }
+{
+    machine_laws();
+}
+
+/// A server takes each message that comes, and a coordinator ignores only stale ones.
+pub fn nothing_is_refused()
+    ensures servers { (plan : Plan) (b : Beginning) (coords : ℕ) (steps : List Stepped) (w : World) → IsBeginning plan b → HasSchemesFrom plan b.store → IsRunFrom plan b coords steps w
+        → (k : ℕ) (m : Envelope) (shard : Shard) (o : Outcome) → slice_get w.sent (k - 1) ≡ Some m → m.to ≡ node.Server shard
+        → Happens plan w (event.Deliver k) o → o.seen ≡ seen.Done }
+    ensures coordinators { (plan : Plan) (b : Beginning) (coords : ℕ) (steps : List Stepped) (w : World) → IsBeginning plan b → HasSchemesFrom plan b.store → IsRunFrom plan b coords steps w
+        → (k : ℕ) (o : Outcome) (why : Reason) → Happens plan w (event.Deliver k) o → o.seen ≡ seen.Ignored why → why ≡ reason.Stale }
+{
+    machine_laws();
+}
+
+/// A submitted transaction that is quiet has its reply, and a quiet one is decided wherever it has a group.
+pub fn quiet_is_answered()
+    ensures answered { (plan : Plan) (b : Beginning) (coords : ℕ) (steps : List Stepped) (w : World) → IsBeginning plan b → HasSchemesFrom plan b.store → IsRunFrom plan b coords steps w
+        → (t : TxnId) (proc : ℕ) (args : List ℤ) → Has (entry.Submitted t proc args) w.history → IsQuiet plan steps w t → (reply : List ℤ) × Has (entry.Answered t reply) w.history }
+    ensures decided { (plan : Plan) (b : Beginning) (coords : ℕ) (steps : List Stepped) (w : World) → IsBeginning plan b → HasSchemesFrom plan b.store → IsRunFrom plan b coords steps w
+        → (t : TxnId) → IsQuiet plan steps w t → (shard : Shard) (s : ServerState) → slice_get w.servers shard.0 ≡ Some s → (e : StartedGroup) → Has e s.started → e.id ≡ t
+        → IsDecided s.lists.known t }
+{
+    machine_laws();
+}
+
+/// Two servers that both decided a transaction know the same ancestors and the same component of it, and take in the serial order what one
+/// is an ancestor of.
+pub fn servers_agree()
+    ensures ancestors { (plan : Plan) (b : Beginning) (coords : ℕ) (steps : List Stepped) (w : World) → IsBeginning plan b → HasSchemesFrom plan b.store → IsRunFrom plan b coords steps w
+        → (shard other : Shard) (s v : ServerState) → slice_get w.servers shard.0 ≡ Some s → slice_get w.servers other.0 ≡ Some v
+        → (u t : TxnId) → IsDecided s.lists.known t → IsDecided v.lists.known t → IsAncestor s.lists.known u t → IsAncestor v.lists.known u t }
+    ensures components { (plan : Plan) (b : Beginning) (coords : ℕ) (steps : List Stepped) (w : World) → IsBeginning plan b → HasSchemesFrom plan b.store → IsRunFrom plan b coords steps w
+        → (shard other : Shard) (s v : ServerState) → slice_get w.servers shard.0 ≡ Some s → slice_get w.servers other.0 ≡ Some v
+        → (t u : TxnId) → IsDecided s.lists.known t → IsDecided v.lists.known t → Mates (Precedes s.lists.known) t u → Mates (Precedes v.lists.known) t u }
+    ensures order { (plan : Plan) (b : Beginning) (coords : ℕ) (steps : List Stepped) (w : World) → IsBeginning plan b → HasSchemesFrom plan b.store → IsRunFrom plan b coords steps w
+        → (k : ℕ) (m : Envelope) (shard : Shard) (s v : ServerState) (o : Outcome) → slice_get w.sent (k - 1) ≡ Some m → m.to ≡ node.Server shard
+        → slice_get w.servers shard.0 ≡ Some s → Happens plan w (event.Deliver k) o → slice_get o.world.servers shard.0 ≡ Some v
+        → (a b : TxnId) → IsAncestor v.lists.known a b ⊎ IsAncestor v.lists.known b a
+        → (IsDecided s.lists.known a × IsListed is_txn o.decided b) ⊎ (IsListed is_txn o.decided b × IsListedBefore is_txn o.decided a b)
+        → IsListedBefore is_txn o.world.order a b }
+{
+    machine_laws();
+}
+
+/// Of a list of events there is one run.
+pub fn run_is_one()
+    ensures { (plan : Plan) (b : Beginning) (coords : ℕ) (steps others : List Stepped) (w v : World) → IsRunFrom plan b coords steps w → IsRunFrom plan b coords others v
+        → map (λ s. s.event) steps ≡ map (λ s. s.event) others → (steps ≡ others) × (w ≡ v) }
+{
+    server_step_is_one();
+}
+
+/// The world of a beginning fits a plan with some shard, and so does each world of a run.
+pub fn worlds_fit()
+    ensures first { (plan : Plan) (b : Beginning) (coords : ℕ) → 0 < plan.program.shards → FitsWorld plan (begun_world plan b coords) }
+    ensures runs { (plan : Plan) (b : Beginning) (coords : ℕ) (steps : List Stepped) (w : World) → 0 < plan.program.shards → IsRunFrom plan b coords steps w → FitsWorld plan w }
+{}
+
+/// A list of events each of which may happen in the world that it meets has a run.
+pub fn events_have_runs()
+    ensures { (plan : Plan) (b : Beginning) (coords : ℕ) (events : List (Option Event)) → 0 < plan.program.shards → MayHappenFrom plan b coords events
+        → (steps : List Stepped) × (w : World) × IsRunFrom plan b coords steps w × (map (λ s. s.event) steps ≡ events) }
+{
+    events_have_outcomes();
+}
