@@ -28,7 +28,7 @@ use Rattle.roc_law_groups.specs.GroupsRun as turn
 use Rattle.roc_law_groups.specs.GroupsRun.{Given, bound_by, taken, DoAs}
 use Rattle.roc_law_groups.proofs.GroupRuns.{bound_before}
 use Rattle.roc_audit.specs.Witness.{reply_in}
-use Rattle.roc_protocol.specs.PlanAssumptions.{picked, IsWholeReply}
+use Rattle.roc_protocol.specs.PlanAssumptions.{picked, IsWholeReplyFrom}
 use Rattle.roc_law_plans.specs.Scheme.{scheme_of, AreOrders}
 
 -- ---- what groups gave, in both forms
@@ -260,11 +260,11 @@ module _ (plan : Plan) (orders : ℕ → List ℕ) (asked : TxnId → whole.Call
       (t : TxnId) (store : Store)
       → length (whole.run_of plan.program store (asked t)).reply ≡ length (flat_map (outs_of plan (asked t).procedure) (range_with_len 0 (length (groups_of plan (asked t).procedure))))
 
-  pub whole_reply : AreDone → AreOrders plan orders → AreCounted → (order : List TxnId) → NoneTwice is_txn order
+  pub whole_reply : (start : Store) → AreDone → AreOrders plan orders → AreCounted → (order : List TxnId) → NoneTwice is_txn order
       → ((u : TxnId) → IsListed is_txn order u → (asked u).id ≡ u) → (t : TxnId) → IsListed is_txn order t
-      → (reply : List ℤ) × IsWholeReply plan asked (scheme_of plan orders asked) order t reply
-  whole_reply does turns counted order once ids t l =
-      let f = found does turns order (serial.first_stage (whole.start_store plan.program)) t once ids l in (
+      → (reply : List ℤ) × IsWholeReplyFrom plan start asked (scheme_of plan orders asked) order t reply
+  whole_reply start does turns counted order once ids t l =
+      let f = found does turns order (serial.first_stage start) t once ids l in (
         (whole.run_of plan.program f.0 (asked t)).reply,
         record {
           is = f.1;

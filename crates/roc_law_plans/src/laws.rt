@@ -42,13 +42,15 @@ ghost use Rattle.roc_protocol.specs.World.{World};
 ghost use Rattle.roc_law_plans.specs.Scheme.{scheme_of, AreOrders, AreCalls};
 ghost use Rattle.roc_law_plans.specs.Smallest.{smallest};
 
+use crate::beginnings::{
+    accepted_plans_have_schemes_from_any_store, transactions_from_any_store_are_whole,
+};
 use roc_group::laws::{
     cells_are_at_the_place, cells_follow_from_what_is_given, conflicts_are_static,
     runs_follow_from_cells,
 };
-use roc_law_groups::laws::groups_in_turn_are_the_whole_run;
 use roc_plan::laws::{
-    groups_can_run_in_turn, groups_have_the_class_of_their_pieces, groups_meet_their_own_class,
+    groups_have_the_class_of_their_pieces, groups_meet_their_own_class,
     inputs_come_from_immediate_groups,
 };
 use roc_protocol::laws::{
@@ -101,17 +103,14 @@ pub fn transactions_one_by_one_are_whole()
         → (stage_behind (scheme_of plan orders asked).behaviour (whole.start_store plan.program) (one_by_one (scheme_of plan orders asked).behaviour order)).store
         ≡ whole.serial_store plan.program (whole.start_store plan.program) (map asked order) }
 {
-    groups_in_turn_are_the_whole_run();
+    transactions_from_any_store_are_whole();
 }
 
 /// Every accepted plan has schemes, so that each law of `roc_protocol` holds of it.
 pub fn accepted_plans_have_schemes()
     ensures { (plan : Plan) → IsAccepted plan → HasSchemes plan }
 {
-    groups_can_run_in_turn();
-    schemes_are_sound();
-    schemes_are_of_their_plan();
-    transactions_one_by_one_are_whole();
+    accepted_plans_have_schemes_from_any_store();
 }
 
 /// The headline over every run of every accepted plan, whatever the network loses, repeats or reorders: the serial order explains the

@@ -6,8 +6,10 @@
 //! `roc_protocol` that asks for schemes is stated again of every run of every accepted plan, under its own name: the
 //! serial order explains the history (`order_is_serial`), what is quiet is answered (`quiet_is_answered`), and once each
 //! submitted transaction is answered the servers hold what the serial order leaves (`cells_are_serial`), and so on.
+//! So is the serial order of runs from any beginning ([`beginnings`]), since an accepted plan has schemes from any store.
 //! That what these laws ask for can be met is shown by a small plan (`specs/Smallest.antt`) and a run of it
 //! (`a_submission_is_answered`).
 #![tactic(auto)]
 
+pub mod beginnings;
 pub mod laws;

@@ -1,16 +1,8 @@
 use Rattle.roc_whole.specs.Serial.{start_store}
-use Rattle.roc_program.proofs.Transactions.{transaction_parts}
-use Rattle.roc_law_orders.specs.Runs.{first_stage}
-use Rattle.roc_law_plans.proofs.OfPlan.{whole_counted}
-use Rattle.roc_law_plans.proofs.Whole.{whole_reply, whole_stores}
 use Rattle.roc_law_plans.proofs.laws.transactions_one_by_one_are_whole.Goals as goal
 
 pub returns-clause-replies : goal.returns-clause-replies
-returns-clause-replies c plan orders asked ok turns calls order once ids t l =
-    whole_reply plan orders asked (λ u s. c.groups_in_turn_are_the_whole_run.ensures plan (asked u).procedure (asked u).arguments s (orders (asked u).procedure) ok (transaction_parts plan.program (asked u).procedure (calls u)).there (turns (asked u).procedure)) turns
-    (λ u store. whole_counted plan (asked u).procedure ok (transaction_parts plan.program (asked u).procedure (calls u)).there (asked u).arguments store) order once ids t l
+returns-clause-replies c plan = c.transactions_from_any_store_are_whole.ensures.replies plan (start_store plan.program)
 
 pub returns-clause-stores : goal.returns-clause-stores
-returns-clause-stores c plan orders asked ok turns calls order =
-    whole_stores plan orders asked (λ u s. c.groups_in_turn_are_the_whole_run.ensures plan (asked u).procedure (asked u).arguments s (orders (asked u).procedure) ok (transaction_parts plan.program (asked u).procedure (calls u)).there (turns (asked u).procedure)) turns order
-    (first_stage (start_store plan.program))
+returns-clause-stores c plan = c.transactions_from_any_store_are_whole.ensures.stores plan (start_store plan.program)
