@@ -11,6 +11,7 @@ use Rattle.roc_law_log.specs.Scheme.{Scheme, IsSoundScheme}
 use Rattle.roc_server.specs.Below.{is_ended}
 use Rattle.roc_server.specs.State.{ServerState}
 use Rattle.roc_coord.specs.State.{CoordState}
+use Rattle.roc_coord.specs.Submit.{most_transactions}
 use Rattle.roc_audit.specs.Witness.{submitted_calls}
 use Rattle.roc_protocol.specs.PlanAssumptions.{HasSchemesFrom}
 use Rattle.roc_protocol.specs.Beginnings.{Beginning, IsBeginning, store_in, next_in, below_in, left_by}
@@ -19,6 +20,7 @@ use Rattle.roc_protocol.specs.Run.{Stepped, IsRunFrom}
 use Rattle.roc_protocol.specs.Inner.Given.{LogLaws, SerialLaws, StoreLaws}
 use Rattle.roc_protocol.proofs.Idle.{run_idle}
 use Rattle.roc_protocol.proofs.Worlds.{submissions_from}
+use Rattle.roc_protocol.proofs.Counted.{run_counted}
 use Rattle.roc_protocol.proofs.Named.{shard_below}
 use Rattle.roc_protocol.proofs.Serial.{order_serial}
 use Rattle.roc_protocol.proofs.Answered.{nexts_onward, heard_answered}
@@ -54,7 +56,7 @@ module _ (plan : Plan) (start : Beginning) (begins : IsBeginning plan start) (sc
       ]
 
   pub begins_anew : 0 < plan.program.shards → AreAllAnswered w → IsBeginning plan (left_by start w (serial_store plan.program start.store (submitted_calls w.history w.order)))
-  begins_anew some all = record { cells = cells; elsewhere = elsewhere; ended = heard_below; used = used }
+  begins_anew some all = record { cells = cells; elsewhere = elsewhere; ended = heard_below; few = few; used = used }
     where
       cells : (n : ℕ) (x : Cell) → shard_of plan x.place ≡ n → read (store_in (start.stores n) (slice_get w.servers n)) x ≡ read (serial_store plan.program start.store (submitted_calls w.history w.order)) x
       cells n x e =
@@ -69,6 +71,13 @@ module _ (plan : Plan) (start : Beginning) (begins : IsBeginning plan start) (sc
           go : (o : Option ServerState) → slice_get w.servers n ≡ o → read (store_in (start.stores n) o) x ≡ pos 0
           go (Some s) e = cells_apart plan start begins schemes laws stores coords steps w run n s e x apart
           go None e = begins.elsewhere n x apart
+
+      few : (n : ℕ) → next_in (start.nexts n) (slice_get w.coords n) ≤ most_transactions
+      few n = go (slice_get w.coords n) refl
+        where
+          go : (o : Option CoordState) → slice_get w.coords n ≡ o → next_in (start.nexts n) o ≤ most_transactions
+          go (Some c) e = ((run_counted plan start begins coords steps w run).few n c e).0
+          go None e = begins.few n
 
       used : (n : ℕ) → 0 < next_in (start.nexts n) (slice_get w.coords n) → HasTransaction plan
       used n = go (slice_get w.coords n) refl

@@ -19,7 +19,7 @@ use Rattle.roc_coord.specs.declared.handled.Handled.TheVariants as answer
 use Rattle.roc_coord.specs.declared.handled.SubmitFault.TheVariants as fault
 use Rattle.roc_coord.specs.declared.transaction.Transaction.{Transaction}
 use Rattle.roc_coord.specs.Ids.{ids_of}
-use Rattle.roc_coord.specs.State.{first_coord, CoordState}
+use Rattle.roc_coord.specs.State.{CoordState}
 use Rattle.roc_coord.specs.Starts.{with_starts}
 use Rattle.roc_coord.specs.Step.{after_message}
 use Rattle.roc_coord.specs.Submit.{Submission, next_id, new_transaction, accepted, refused_or_accepted, after_submit, most_transactions, most_pending}
@@ -31,27 +31,29 @@ use Rattle.roc_audit.proofs.Histories.{submitted_front}
 use Rattle.roc_protocol.specs.declared.event.Event.{Event}
 use Rattle.roc_protocol.specs.declared.event.Event.TheVariants.{Submit, Deliver, Tick}
 use Rattle.roc_protocol.specs.declared.event.Seen.TheVariants as seen
-use Rattle.roc_protocol.specs.World.{World, first_world, mark_delivered, at_coord}
+use Rattle.roc_protocol.specs.Beginnings.{Beginning, IsBeginning, begun_coord, begun_world}
+use Rattle.roc_protocol.specs.World.{World, mark_delivered, at_coord}
 use Rattle.roc_protocol.specs.Happens.{Outcome, IsSubmissionOf, IsReceived, answer_entries, Happens}
-use Rattle.roc_protocol.specs.Run.{Stepped, Transition, IsRun, begun, goes_on}
+use Rattle.roc_protocol.specs.Run.{Stepped, Transition, IsRunFrom, at_beginning, steps_on}
 use Rattle.roc_protocol.specs.Unanswered.{submitted_at, answers, unanswered_at}
 use Rattle.roc_protocol.proofs.Changed.{get-set_cases}
 use Rattle.roc_protocol.proofs.Firsts.{found_at}
 use Rattle.roc_protocol.proofs.Submissions.{AreSubmissions, keeps_number, unused}
-use Rattle.roc_protocol.proofs.Worlds.{run_submissions}
+use Rattle.roc_protocol.proofs.Worlds.{submissions_from}
 use Rattle.roc_protocol.proofs.Once.{OfPending, of_pending}
 use Rattle.roc_protocol.proofs.Ends.{Ends, spent, busy, taken, submission_ends}
 use Rattle.roc_protocol.proofs.Tells.{all_kept, fewer, told_more, was_told, answer_out, submission_in, answered_has, left_by, ids_left}
 
 -- ---- each world
 
-pub record IsCounted (w : World) : Type 0 where
-  pub next : (n : ℕ) (c : CoordState) → slice_get w.coords n ≡ Some c → c.next ≡ length (submitted_at n w.history)
+-- what was used before the run began, and what the history tells
+pub record IsCounted (nexts : ℕ → ℕ) (w : World) : Type 0 where
+  pub next : (n : ℕ) (c : CoordState) → slice_get w.coords n ≡ Some c → c.next ≡ nexts n + length (submitted_at n w.history)
   pub pending : (n : ℕ) (c : CoordState) → slice_get w.coords n ≡ Some c → ids_of c.pending ≡ unanswered_at n w.history
   pub few : (n : ℕ) (c : CoordState) → slice_get w.coords n ≡ Some c → (c.next ≤ most_transactions) × (length c.pending ≤ most_pending)
   pub answered : (t : TxnId) (reply : List ℤ) → WasAnswered w.history t reply → WasSubmitted w.history t
 
-module _ (w : World) (k : IsCounted w) (n : ℕ) (s : CoordState) (there : slice_get w.coords n ≡ Some s) where
+module _ (nexts : ℕ → ℕ) (w : World) (k : IsCounted nexts w) (n : ℕ) (s : CoordState) (there : slice_get w.coords n ≡ Some s) where
   -- what is pending here was submitted here
   of_here : (t : TxnId) → Has t (ids_of s.pending) → WasSubmitted w.history t × (t.coord ≡ n)
   of_here t h = was_told n w.history t (from_has_filter (λ u. not (list_any (answers u) w.history)) t (submitted_at n w.history) (subst (Has t) (k.pending n s there) h)).0
@@ -93,12 +95,12 @@ module _ (w : World) (k : IsCounted w) (n : ℕ) (s : CoordState) (there : slice
   fewer_left (answer.Ignored why) ids = omega arith
 
   by_answer : (after : CoordState) (outs : List Outgoing) (a : Handled) → after.next ≡ s.next → ids_of after.pending ≡ left_by a (ids_of s.pending) → OfPending s a
-      → IsCounted (at_coord w n after outs (answer_entries a))
+      → IsCounted nexts (at_coord w n after outs (answer_entries a))
   by_answer after outs a next ids of =
       record {
         next = λ m c e. elim (get-set_cases w.coords n m s after c there e) [
-          | inl x ↦ ap (λ (c : CoordState). c.next) x.1 ∙ (next ∙ (k.next n s there ∙ (ap (λ n. length (submitted_at n w.history)) x.0 ∙ ap length (sym (same_told a m)))))
-          | inr x ↦ k.next m c x.1 ∙ ap length (sym (same_told a m))
+          | inl x ↦ ap (λ (c : CoordState). c.next) x.1 ∙ (next ∙ (k.next n s there ∙ (ap (λ n. nexts n + length (submitted_at n w.history)) x.0 ∙ ap (λ l. nexts m + length l) (sym (same_told a m)))))
+          | inr x ↦ k.next m c x.1 ∙ ap (λ l. nexts m + length l) (sym (same_told a m))
         ];
         pending = λ m c e. elim (get-set_cases w.coords n m s after c there e) [
           | inl x ↦ ap (λ (c : CoordState). ids_of c.pending) x.1 ∙ (ids ∙ (ap (left_by a) (k.pending n s there ∙ ap (λ n. unanswered_at n w.history) x.0) ∙ sym (left_after a m)))
@@ -155,16 +157,19 @@ module _ (w : World) (k : IsCounted w) (n : ℕ) (s : CoordState) (there : slice
     one_more [] = refl
     one_more (x ∷ xs) = let ih = one_more xs in omega (arith, ih)
 
-    pub by_submission : (outs : List Outgoing) → s.next < most_transactions → length s.pending < most_pending → IsCounted (at_coord w n after outs (entry ∷ []))
+    added : (a : ℕ) (xs : List TxnId) → (a + length xs) + 1 ≡ a + length (xs ++ next_id s ∷ [])
+    added a xs = let o = one_more xs in omega (arith, o)
+
+    pub by_submission : (outs : List Outgoing) → s.next < most_transactions → length s.pending < most_pending → IsCounted nexts (at_coord w n after outs (entry ∷ []))
     by_submission outs some free =
         record {
           next = λ m c e. elim (get-set_cases w.coords n m s after c there e) [
             | inl x ↦
                 ap (λ (c : CoordState). c.next) x.1
-                ∙ (ap (λ x. x + 1) (k.next n s there ∙ ap (λ n. length (submitted_at n w.history)) x.0)
-                ∙ (sym (one_more (submitted_at m w.history))
-                ∙ sym (ap length (told_after m ∙ ap (λ (b : Bool). submitted_at m w.history ++ (if b then next_id s ∷ [] else [])) (coord_is m x.0)))))
-            | inr x ↦ k.next m c x.1 ∙ sym (ap length (told_after m ∙ (ap (λ (b : Bool). submitted_at m w.history ++ (if b then next_id s ∷ [] else [])) (coord_is_not m x.0) ∙ append-nil (submitted_at m w.history))))
+                ∙ (ap (λ x. x + 1) (k.next n s there ∙ ap (λ n. nexts n + length (submitted_at n w.history)) x.0)
+                ∙ (added (nexts m) (submitted_at m w.history)
+                ∙ sym (ap (λ l. nexts m + length l) (told_after m ∙ ap (λ (b : Bool). submitted_at m w.history ++ (if b then next_id s ∷ [] else [])) (coord_is m x.0)))))
+            | inr x ↦ k.next m c x.1 ∙ sym (ap (λ l. nexts m + length l) (told_after m ∙ (ap (λ (b : Bool). submitted_at m w.history ++ (if b then next_id s ∷ [] else [])) (coord_is_not m x.0) ∙ append-nil (submitted_at m w.history))))
           ];
           pending = λ m c e. elim (get-set_cases w.coords n m s after c there e) [
             | inl x ↦
@@ -229,49 +234,53 @@ comes plan w n proc args s o h = procedure (is_transaction plan proc) h
     procedure false r = elim r [ ]
 
 -- only coordinators and the history count
-same_count : (w v : World) → v.coords ≡ w.coords → v.history ≡ w.history → IsCounted w → IsCounted v
-same_count w v coords history k =
+same_count : (nexts : ℕ → ℕ) (w v : World) → v.coords ≡ w.coords → v.history ≡ w.history → IsCounted nexts w → IsCounted nexts v
+same_count nexts w v coords history k =
     record {
-      next = λ n c h. k.next n c (subst (λ l. slice_get l n ≡ Some c) coords h) ∙ ap (λ h. length (submitted_at n h)) (sym history);
+      next = λ n c h. k.next n c (subst (λ l. slice_get l n ≡ Some c) coords h) ∙ ap (λ h. nexts n + length (submitted_at n h)) (sym history);
       pending = λ n c h. k.pending n c (subst (λ l. slice_get l n ≡ Some c) coords h) ∙ ap (unanswered_at n) (sym history);
       few = λ n c h. k.few n c (subst (λ l. slice_get l n ≡ Some c) coords h);
       answered = λ t reply h. subst (λ h. WasSubmitted h t) (sym history) (k.answered t reply (subst (λ h. WasAnswered h t reply) history h));
     }
 
-step_counted : (plan : Plan) (w : World) → AreSubmissions plan w.history w.coords → IsCounted w → (e : Option Event) (o : Outcome) → Transition plan w e o → IsCounted o.world
-step_counted plan w subs k None o h = subst (λ (o : Outcome). IsCounted o.world) (sym h) k
-step_counted plan w subs k (Some (Submit n proc args)) o (s, there, h) = go (comes plan w n proc args s o h)
+step_counted : (nexts : ℕ → ℕ) (plan : Plan) (w : World) → AreSubmissions plan w.history w.coords → IsCounted nexts w → (e : Option Event) (o : Outcome) → Transition plan w e o → IsCounted nexts o.world
+step_counted nexts plan w subs k None o h = subst (λ (o : Outcome). IsCounted nexts o.world) (sym h) k
+step_counted nexts plan w subs k (Some (Submit n proc args)) o (s, there, h) = go (comes plan w n proc args s o h)
   where
-    go : Comes plan w n proc args s o → IsCounted o.world
-    go (stays e) = subst IsCounted (sym e) k
-    go (goes some free e) = subst IsCounted (sym e) (by_submission w k n s there plan subs proc args (accepted plan s (new_transaction s proc args)).sends some free)
-step_counted plan w subs k (Some (Deliver j)) o (m, some, there, h) = go m.to h
+    go : Comes plan w n proc args s o → IsCounted nexts o.world
+    go (stays e) = subst (IsCounted nexts) (sym e) k
+    go (goes some free e) = subst (IsCounted nexts) (sym e) (by_submission nexts w k n s there plan subs proc args (accepted plan s (new_transaction s proc args)).sends some free)
+step_counted nexts plan w subs k (Some (Deliver j)) o (m, some, there, h) = go m.to h
   where
-    go : (to : Node) → IsReceived plan (mark_delivered w j) m.msg to o → IsCounted o.world
-    go (Server shard) (s, r, at, step, e) = same_count w o.world (ap (λ (o : Outcome). o.world.coords) e) (ap (λ (o : Outcome). o.world.history) e) k
+    go : (to : Node) → IsReceived plan (mark_delivered w j) m.msg to o → IsCounted nexts o.world
+    go (Server shard) (s, r, at, step, e) = same_count nexts w o.world (ap (λ (o : Outcome). o.world.coords) e) (ap (λ (o : Outcome). o.world.history) e) k
     go (Coord n) (s, at, e) =
         let r = after_message plan s m.msg in
-        subst (λ (o : Outcome). IsCounted o.world) (sym e)
-        (by_answer (mark_delivered w j) (same_count w (mark_delivered w j) refl refl k) n s at r.state r.sends r.answer (keeps_number plan s m.msg).next (ids_left plan s m.msg) (of_pending plan s m.msg))
-step_counted plan w subs k (Some (Tick (Server shard))) o (s, there, e) = same_count w o.world (ap (λ (o : Outcome). o.world.coords) e) (ap (λ (o : Outcome). o.world.history) e) k
-step_counted plan w subs k (Some (Tick (Coord n))) o (s, there, e) = subst (λ (o : Outcome). IsCounted o.world) (sym e) (by_answer w k n s there s (coord.tick_sends plan s) answer.Done refl refl tt)
+        subst (λ (o : Outcome). IsCounted nexts o.world) (sym e)
+        (by_answer nexts (mark_delivered w j) (same_count nexts w (mark_delivered w j) refl refl k) n s at r.state r.sends r.answer (keeps_number plan s m.msg).next (ids_left plan s m.msg) (of_pending plan s m.msg))
+step_counted nexts plan w subs k (Some (Tick (Server shard))) o (s, there, e) = same_count nexts w o.world (ap (λ (o : Outcome). o.world.coords) e) (ap (λ (o : Outcome). o.world.history) e) k
+step_counted nexts plan w subs k (Some (Tick (Coord n))) o (s, there, e) = subst (λ (o : Outcome). IsCounted nexts o.world) (sym e) (by_answer nexts w k n s there s (coord.tick_sends plan s) answer.Done refl refl tt)
 
-pub run_counted : (plan : Plan) (coords : ℕ) (steps : List Stepped) (w : World) → IsRun plan coords steps w → IsCounted w
-run_counted plan coords steps w begun =
+pub run_counted : (plan : Plan) (start : Beginning) → IsBeginning plan start → (coords : ℕ) (steps : List Stepped) (w : World) → IsRunFrom plan start coords steps w → IsCounted start.nexts w
+run_counted plan start begins coords steps w at_beginning =
     record {
-      next = λ n c h. ap (λ (c : CoordState). c.next) (first n c h);
+      next = λ n c h. ap (λ (c : CoordState). c.next) (first n c h) ∙ plus_none (start.nexts n);
       pending = λ n c h. ap (λ (c : CoordState). ids_of c.pending) (first n c h);
-      few = λ n c h. subst (λ (c : CoordState). (c.next ≤ most_transactions) × (length c.pending ≤ most_pending)) (sym (first n c h)) (omega arith, omega arith);
+      few = λ n c h. subst (λ (c : CoordState). (c.next ≤ most_transactions) × (length c.pending ≤ most_pending)) (sym (first n c h)) (begins.few n, omega arith);
       answered = λ t reply h. absurd h;
     }
   where
-    first : (n : ℕ) (c : CoordState) → slice_get (first_world plan coords).coords n ≡ Some c → c ≡ first_coord (0 + n)
-    first n c h = found_at first_coord 0 coords n c h
-run_counted plan coords steps w (goes_on {steps = front} {w = v} e o r h) = step_counted plan v (run_submissions plan coords front v r) (run_counted plan coords front v r) e o h
+    plus_none : (a : ℕ) → a ≡ a + 0
+    plus_none a = omega arith
+
+    first : (n : ℕ) (c : CoordState) → slice_get (begun_world plan start coords).coords n ≡ Some c → c ≡ begun_coord start n
+    first n c h = let same : 0 + n ≡ n = omega arith in found_at (begun_coord start) 0 coords n c h ∙ ap (begun_coord start) same
+run_counted plan start begins coords steps w (steps_on {steps = front} {w = v} e o r h) =
+    step_counted start.nexts plan v (submissions_from plan start coords front v r) (run_counted plan start begins coords front v r) e o h
 
 -- ---- how a submission ends
 
-module _ (coord : ℕ) (h : List Entry) (c : CoordState) (o : Outcome) (next : c.next ≡ length (submitted_at coord h)) (ids : ids_of c.pending ≡ unanswered_at coord h) (few : (c.next ≤ most_transactions) × (length c.pending ≤ most_pending)) where
+module _ (nexts : ℕ → ℕ) (coord : ℕ) (h : List Entry) (c : CoordState) (o : Outcome) (next : c.next ≡ nexts coord + length (submitted_at coord h)) (ids : ids_of c.pending ≡ unanswered_at coord h) (few : (c.next ≤ most_transactions) × (length c.pending ≤ most_pending)) where
   same_when : (a b k : ℕ) → a ≡ k → a ≤ b → b ≤ a → k ≡ b
   same_when a b k e f g = omega (arith, e, f, g)
 
@@ -288,7 +297,7 @@ module _ (coord : ℕ) (h : List Entry) (c : CoordState) (o : Outcome) (next : c
   count = sym (length-map c.pending (λ (x : Transaction). x.id)) ∙ ap length ids
 
   abbrev Taken : ℕ
-  Taken = length (submitted_at coord h)
+  Taken = nexts coord + length (submitted_at coord h)
 
   abbrev Open : ℕ
   Open = length (unanswered_at coord h)
@@ -303,13 +312,13 @@ module _ (coord : ℕ) (h : List Entry) (c : CoordState) (o : Outcome) (next : c
   busy_counted (busy l m e) = (λ k. (below c.next most_transactions Taken next l, same_when (length c.pending) most_pending Open count few.1 m), λ k. e)
   busy_counted (taken l m e) = (λ k. absurd (cc), λ k. absurd (apart (length c.pending) most_pending Open count k.1 m))
 
-module _ (plan : Plan) (coords : ℕ) (steps : List Stepped) (w : World) (run : IsRun plan coords steps w) (coord proc : ℕ) (args : List ℤ) (o : Outcome) where
-  pub spent_told : Happens plan w (Submit coord proc args) o → (o.seen ≡ seen.Spent) ↔ (length (submitted_at coord w.history) ≡ most_transactions)
+module _ (plan : Plan) (start : Beginning) (begins : IsBeginning plan start) (coords : ℕ) (steps : List Stepped) (w : World) (run : IsRunFrom plan start coords steps w) (coord proc : ℕ) (args : List ℤ) (o : Outcome) where
+  pub spent_told : Happens plan w (Submit coord proc args) o → (o.seen ≡ seen.Spent) ↔ (start.nexts coord + length (submitted_at coord w.history) ≡ most_transactions)
   spent_told (s, there, h) =
-      let k = run_counted plan coords steps w run in
-      spent_counted coord w.history s o (k.next coord s there) (k.pending coord s there) (k.few coord s there) (submission_ends plan w coord proc args s s o there there h)
+      let k = run_counted plan start begins coords steps w run in
+      spent_counted start.nexts coord w.history s o (k.next coord s there) (k.pending coord s there) (k.few coord s there) (submission_ends plan w coord proc args s s o there there h)
 
-  pub busy_told : Happens plan w (Submit coord proc args) o → (o.seen ≡ seen.Busy) ↔ ((length (submitted_at coord w.history) < most_transactions) × (length (unanswered_at coord w.history) ≡ most_pending))
+  pub busy_told : Happens plan w (Submit coord proc args) o → (o.seen ≡ seen.Busy) ↔ ((start.nexts coord + length (submitted_at coord w.history) < most_transactions) × (length (unanswered_at coord w.history) ≡ most_pending))
   busy_told (s, there, h) =
-      let k = run_counted plan coords steps w run in
-      busy_counted coord w.history s o (k.next coord s there) (k.pending coord s there) (k.few coord s there) (submission_ends plan w coord proc args s s o there there h)
+      let k = run_counted plan start begins coords steps w run in
+      busy_counted start.nexts coord w.history s o (k.next coord s there) (k.pending coord s there) (k.few coord s there) (submission_ends plan w coord proc args s s o there there h)

@@ -16,6 +16,7 @@ use Rattle.roc_law_log.specs.Scheme.{Scheme}
 use Rattle.roc_law_log.specs.Log.{first_log}
 use Rattle.roc_law_log.specs.Steps.{no_steps}
 use Rattle.roc_coord.specs.State.{CoordState}
+use Rattle.roc_coord.specs.Submit.{most_transactions}
 use Rattle.roc_protocol.specs.PlanAssumptions.{IsSchemeOf}
 use Rattle.roc_protocol.specs.World.{World}
 use Rattle.roc_protocol.specs.Beginnings.{Beginning, IsBeginning, begun_server, begun_coord, begun_world, first_beginning}
@@ -67,6 +68,7 @@ first_begins laws plan =
       cells = λ n x e. start_cells laws plan n plan.program.inits empty empty x e refl;
       elsewhere = λ n x apart. start_elsewhere laws plan n plan.program.inits empty x apart ∙ laws.zero x;
       ended = λ n t h. absurd (false≢true (sym (none_ended t) ∙ h));
+      few = λ coord. let l : 0 ≤ most_transactions = omega arith in l;
       used = λ coord l. absurd (omega arith);
     }
 

@@ -1,5 +1,5 @@
 -- Where a run begins: docs/PROOF.md, "Beginnings"
-use Rattle.std.specs.Prelude.{◌≡◌, ◌≢◌, ℕ, pos, ◌<◌, ◌==◌, true, List, [], Option, Some, None, map, filter, slice_get}
+use Rattle.std.specs.Prelude.{◌≡◌, ◌≢◌, ℕ, pos, ◌<◌, ◌≤◌, ◌==◌, true, List, [], Option, Some, None, map, filter, slice_get}
 use Rattle.std.specs.List.{range_with_len}
 use Rattle.roc_base.specs.declared.id.TxnId.{TxnId}
 use Rattle.roc_rows.specs.declared.cell.Cell.{Cell}
@@ -10,6 +10,7 @@ use Rattle.roc_await.specs.Waits.{none_waiting}
 use Rattle.roc_server.specs.Below.{none_below, is_ended}
 use Rattle.roc_server.specs.State.{ServerState}
 use Rattle.roc_coord.specs.State.{CoordState}
+use Rattle.roc_coord.specs.Submit.{most_transactions}
 use Rattle.roc_protocol.specs.World.{World}
 
 pub record Beginning : Type 0 where
@@ -22,12 +23,13 @@ pub record Beginning : Type 0 where
   -- the watermarks that each shard's server has heard
   pub below : ℕ → List ℕ
 
--- a server holds the cells of its places and no others; what it has heard of as ended is below its coordinator's next sequence; and a sequence was used
--- only where the plan has some transaction
+-- a server holds the cells of its places and no others; what it has heard of as ended is below its coordinator's next sequence; and a coordinator used no
+-- more sequences than it may, and some only where the plan has some transaction
 pub record IsBeginning (plan : Plan) (b : Beginning) : Type 0 where
   pub cells : (n : ℕ) (x : Cell) → shard_of plan x.place ≡ n → read (b.stores n) x ≡ read b.store x
   pub elsewhere : (n : ℕ) (x : Cell) → shard_of plan x.place ≢ n → read (b.stores n) x ≡ pos 0
   pub ended : (n : ℕ) (t : TxnId) → is_ended (b.below n) t ≡ true → t.seq < b.nexts t.coord
+  pub few : (coord : ℕ) → b.nexts coord ≤ most_transactions
   pub used : (coord : ℕ) → 0 < b.nexts coord → (proc : ℕ) × (is_transaction plan proc ≡ true)
 
 abbrev pub begun_server : Beginning → (shard : ℕ) → ServerState

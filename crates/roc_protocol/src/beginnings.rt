@@ -1,6 +1,6 @@
 //! What holds in every world of every run that begins at a [`Beginning`](../specs/Beginnings.antt): at any cells, next sequences and
 //! watermarks, with nothing sent, started or pending. What [`laws`](crate::laws) say of runs from the first world are instances.
-ghost use Rattle.std.specs.Prelude.{◌↔◌, ◌≡◌, ◌≢◌, ◌⊎◌, ℕ, ℤ, pos, ◌-◌, ◌<◌, ◌≤◌, true, List, [], Option, Some, None, map, slice_get};
+ghost use Rattle.std.specs.Prelude.{◌↔◌, ◌≡◌, ◌≢◌, ◌⊎◌, ℕ, ℤ, pos, ◌-◌, ◌<◌, ◌≤◌, true, List, [], Option, Some, None, length, map, slice_get, ◌+◌};
 ghost use Rattle.roc_sequence.specs.Lists.{Has};
 ghost use Rattle.roc_sequence.specs.Places.{IsListed, IsListedBefore};
 ghost use Rattle.roc_base.specs.declared.id.TxnId.{TxnId};
@@ -13,6 +13,9 @@ ghost use Rattle.roc_depgraph.specs.Deps.{Precedes, IsAncestor, IsDecided};
 ghost use Rattle.roc_component.specs.Components.{Mates};
 ghost use Rattle.roc_coord.specs.declared.transaction.Transaction.{Transaction};
 ghost use Rattle.roc_coord.specs.State.{CoordState};
+ghost use Rattle.roc_coord.specs.Ids.{ids_of};
+ghost use Rattle.roc_coord.specs.Submit.{most_transactions, most_pending};
+ghost use Rattle.roc_protocol.specs.Unanswered.{submitted_at, unanswered_at};
 ghost use Rattle.roc_msg.specs.declared.msg.Envelope.{Envelope};
 ghost use Rattle.roc_msg.specs.declared.msg.Msg.TheVariants as msg;
 ghost use Rattle.roc_msg.specs.declared.reason.Reason.{Reason};
@@ -239,6 +242,22 @@ pub fn quiet_is_answered()
 {
     machine_laws();
 }
+
+/// A coordinator has used the sequences that were used before the run began, and one for each submission in the history; and those that are
+/// pending are those that the history leaves unanswered. So a submission is refused as spent and as busy exactly where these are so many.
+pub fn refusals_are_told()
+    ensures kept { (plan : Plan) (b : Beginning) (coords : ℕ) (steps : List Stepped) (w : World) → IsBeginning plan b → IsRunFrom plan b coords steps w
+        → (coord : ℕ) (c : CoordState) → slice_get w.coords coord ≡ Some c
+        → (c.next ≡ b.nexts coord + length (submitted_at coord w.history)) × (ids_of c.pending ≡ unanswered_at coord w.history) }
+    ensures few { (plan : Plan) (b : Beginning) (coords : ℕ) (steps : List Stepped) (w : World) → IsBeginning plan b → IsRunFrom plan b coords steps w
+        → (coord : ℕ) (c : CoordState) → slice_get w.coords coord ≡ Some c → (c.next ≤ most_transactions) × (length c.pending ≤ most_pending) }
+    ensures spent { (plan : Plan) (b : Beginning) (coords : ℕ) (steps : List Stepped) (w : World) → IsBeginning plan b → IsRunFrom plan b coords steps w
+        → (coord proc : ℕ) (args : List ℤ) (o : Outcome) → Happens plan w (event.Submit coord proc args) o
+        → (o.seen ≡ seen.Spent) ↔ (b.nexts coord + length (submitted_at coord w.history) ≡ most_transactions) }
+    ensures busy { (plan : Plan) (b : Beginning) (coords : ℕ) (steps : List Stepped) (w : World) → IsBeginning plan b → IsRunFrom plan b coords steps w
+        → (coord proc : ℕ) (args : List ℤ) (o : Outcome) → Happens plan w (event.Submit coord proc args) o
+        → (o.seen ≡ seen.Busy) ↔ ((b.nexts coord + length (submitted_at coord w.history) < most_transactions) × (length (unanswered_at coord w.history) ≡ most_pending)) }
+{}
 
 /// Two servers that both decided a transaction know the same ancestors and the same component of it, and take in the serial order what one
 /// is an ancestor of.

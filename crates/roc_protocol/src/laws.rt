@@ -287,7 +287,9 @@ pub fn refusals_are_told()
     ensures busy { (plan : Plan) (coords : ℕ) (steps : List Stepped) (w : World) → IsRun plan coords steps w
         → (coord proc : ℕ) (args : List ℤ) (o : Outcome) → Happens plan w (event.Submit coord proc args) o
         → (o.seen ≡ seen.Busy) ↔ ((length (submitted_at coord w.history) < most_transactions) × (length (unanswered_at coord w.history) ≡ most_pending)) }
-{}
+{
+    machine_laws();
+}
 
 /// Two servers that both decided a transaction know the same ancestors and the same component of it. And each server takes transactions
 /// in the serial order, as far as one is an ancestor of the other: what was decided before an event, and what the event decides, in its
