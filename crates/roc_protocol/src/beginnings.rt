@@ -1,4 +1,4 @@
-//! What holds in every world of every run that begins at a [`Beginning`](../specs/Beginnings.antt): at any cells, next sequences and
+//! What holds in every world of every run that begins at a beginning (`specs/Beginnings.antt`): at any cells, next sequences and
 //! watermarks, with nothing sent, started or pending. What [`laws`](crate::laws) say of runs from the first world are instances.
 ghost use Rattle.std.specs.Prelude.{◌↔◌, ◌≡◌, ◌≢◌, ◌⊎◌, ℕ, ℤ, pos, ◌-◌, ◌<◌, ◌≤◌, true, List, [], Option, Some, None, length, map, slice_get, ◌+◌};
 ghost use Rattle.roc_sequence.specs.Lists.{Has};
