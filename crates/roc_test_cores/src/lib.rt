@@ -1,9 +1,7 @@
-//! Tests of servers and coordinators with messages that no honest node sends, of watermarks, of what waits and of what is made ahead, and of whole runs
-//! of procedures. It gives nothing to use.
+//! Tests of servers and coordinators with messages that no honest node sends, of watermarks and of what waits, and of whole runs of procedures. It gives
+//! nothing to use.
 #![tactic(auto)]
 
-#[cfg(test)]
-mod ahead;
 #[cfg(test)]
 mod coordinators;
 #[cfg(test)]
