@@ -56,6 +56,17 @@ module _ (asked : List OpenFetch) (askers : List Asker) (fetches : List OpenFetc
     open_asked = has_all (λ b. Has b asked) (without_fetch_of id fetches) (λ b k. all_has (λ b. Has b asked) b fetches h.open_asked (from_has_filter (λ (a : OpenFetch). not (is_txn a.id id)) b fetches k).0);
   }
 
+  -- what is left of both by a test of the id
+  pub kept_without_asked : (passes : TxnId → Bool) → AreKept (filter (λ a. not (passes a.id)) asked) askers (filter (λ a. not (passes a.id)) fetches)
+  kept_without_asked passes =
+      let stays : OpenFetch → Bool = λ a. not (passes a.id) in
+      record {
+        asked_rise = order_some is_asked_before stays asked h.asked_rise;
+        askers_rise = h.askers_rise;
+        open_rise = order_some is_asked_before stays fetches h.open_rise;
+        open_asked = has_all (λ b. Has b (filter stays asked)) (filter stays fetches) (λ b k. let f = from_has_filter stays b fetches k in has_filter stays b asked (all_has (λ b. Has b asked) b fetches h.open_asked f.0) f.1);
+      }
+
 -- a shard was asked exactly where the list was asked for
 pub shard_where_asked : (id : TxnId) (asked : List OpenFetch) → is_some (shard_asked id asked) ≡ was_asked_for id asked
 shard_where_asked id [] = refl

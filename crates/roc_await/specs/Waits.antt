@@ -58,6 +58,10 @@ shard_asked id asked = option_map (λ a. a.at) (find (λ a. is_txn a.id id) aske
 abbrev pub without_fetch_of : TxnId → List OpenFetch → List OpenFetch
 without_fetch_of id fetches = filter (λ a. not (is_txn a.id id)) fetches
 
+-- such transactions were not asked for
+abbrev pub without_asked : (TxnId → Bool) → Waiting → Waiting
+without_asked passes w = record w { asked = filter (λ a. not (passes a.id)) w.asked }
+
 -- one more is asked for
 abbrev pub with_asked : OpenFetch → List OpenFetch → List OpenFetch
 with_asked a asked = in_place is_asked_before a asked

@@ -1,10 +1,13 @@
 //! Who waits for which list.
-ghost use Rattle.std.specs.Prelude.{◌≡◌, ◌+◌, ◌<◌, ◌≤◌, length, filter, vec_len, vec_capacity};
-ghost use Rattle.roc_base.specs.TxnId.{is_txn, txn_lt};
+ghost use Rattle.std.specs.Prelude.{◌≡◌, ◌+◌, ◌<◌, ◌≤◌, length, not, filter, vec_len, vec_capacity};
+ghost use Rattle.std.specs.List.Sorted.{IsStrictlySortedBy};
+ghost use Rattle.roc_base.specs.TxnId.{is_txn, txn_cmp, txn_lt};
+ghost use Rattle.roc_sequence.specs.Places.{is_listed};
 ghost use Rattle.roc_await.specs.Waits.{askers_of, is_asked_before, is_asker_before, with_asked, with_asker, without_askers_of, without_fetch_of, AreInOrder};
 ghost use Rattle.roc_await.specs.Inner.Apart.{is_apart};
 
 use roc_base::{NoMemory, Shard, TxnId};
+use roc_depgraph::is_among_rising;
 use std::alloc::Global;
 use std::marker::Model;
 
@@ -47,8 +50,11 @@ impl Model for Waits {
 }
 
 impl Waits {
-    ghost use Rattle.std.specs.Prelude.{◌≡◌, ◌+◌, ◌<◌, ◌≤◌, [], IsOk, OnOk, OnErr};
-    ghost use Rattle.roc_await.specs.Waits.{askers_of, none_waiting, shard_asked, with_asked, with_asker, without_askers_of, without_fetch_of};
+    ghost use Rattle.std.specs.Prelude.{◌≡◌, ◌+◌, ◌<◌, ◌≤◌, [], not, filter, IsOk, OnOk, OnErr};
+    ghost use Rattle.std.specs.List.Sorted.{IsStrictlySortedBy};
+    ghost use Rattle.roc_base.specs.TxnId.{is_txn, txn_cmp};
+    ghost use Rattle.roc_sequence.specs.Places.{is_listed};
+    ghost use Rattle.roc_await.specs.Waits.{askers_of, none_waiting, shard_asked, with_asked, with_asker, without_asked, without_askers_of, without_fetch_of};
 
     /// Nothing was asked for, and nobody has asked. Takes no memory.
     pub fn new(alloc: Global) -> Waits
@@ -117,6 +123,17 @@ impl Waits {
         ensures spare { self.old.spare ≤ self.new.spare }
     {
         take_out_fetch(&mut self.fetches, id);
+    }
+
+    /// These transactions, which rise, were not asked for. Takes no memory.
+    pub fn drop_asked(&mut self, ids: &[TxnId])
+        requires { IsStrictlySortedBy txn_cmp ids.now }
+        ensures waiting { self.new.waiting ≡ without_asked (is_listed is_txn ids.now) self.old.waiting }
+        ensures fetches { self.new.fetches ≡ filter (λ a. not (is_listed is_txn ids.now a.id)) self.old.fetches }
+        ensures spare { self.old.spare ≤ self.new.spare }
+    {
+        keep_others(&mut self.asked, ids);
+        keep_others(&mut self.fetches, ids);
     }
 
     /// Those who asked for the list of a transaction wait no longer. Takes no memory.
@@ -251,6 +268,16 @@ fn take_out_askers(askers: &mut Vec<Asker>, id: TxnId)
     ensures capacity { vec_capacity askers.new ≡ vec_capacity askers.old }
 {
     askers.retain(|a| a.id != id);
+}
+
+// What was asked for of other transactions than these, which rise, stays.
+fn keep_others(all: &mut Vec<OpenFetch>, ids: &[TxnId])
+    requires { IsStrictlySortedBy txn_cmp ids.now }
+    ensures items { all.new.items ≡ filter (λ a. not (is_listed is_txn ids.now a.id)) all.old.items }
+    ensures len { vec_len all.new ≤ vec_len all.old }
+    ensures capacity { vec_capacity all.new ≡ vec_capacity all.old }
+{
+    all.retain(|a| !is_among_rising(ids, a.id));
 }
 
 // The fetches of other transactions stay.

@@ -21,7 +21,7 @@ use Rattle.roc_component.specs.Components.{Mates}
 use Rattle.roc_law_log.specs.Scheme.{IsSoundScheme}
 use Rattle.roc_law_log.specs.Log.{Past, Log, first_log, PrecedesTxn, PrecedesTxnNow, IsWhole, IsDecidedThroughout}
 use Rattle.roc_law_log.specs.Taking.{RespectsPrecedence}
-use Rattle.roc_law_log.specs.Steps.{MayStart, MayDecide, with_start, with_decision, with_answer, new_in, group_starts, shard_decides, is_answered, no_steps, one_step_more, IsReachedLog}
+use Rattle.roc_law_log.specs.Steps.{MayStart, MayDecide, IsWaived, with_start, with_decision, with_answer, new_in, group_starts, shard_decides, is_answered, no_steps, one_step_more, IsReachedLog}
 use Rattle.roc_law_log.specs.Counting.{counting}
 
 -- a group uses the cell of its number
@@ -93,8 +93,8 @@ module _ (start : Store) (t : TxnId) where
         none u _ (direct {t = v} e) = nothing u v e
         none u _ (through {s = x} {t = v} q e) = nothing x v e
 
-    ordered : RespectsPrecedence (PrecedesTxn counting start past) (PrecedesTxnNow counting start past) (λ u. ⊥) (t ∷ [])
-    ordered =
+    ordered : (waived : TxnId → Type 0) → RespectsPrecedence (PrecedesTxn counting start past) (PrecedesTxnNow counting start past) waived (t ∷ [])
+    ordered waived =
         record {
           once = (λ h. absurd (omega arith), tt);
           earlier = λ u v h k e. absurd (nothing u v e);
@@ -137,10 +137,10 @@ module _ (start : Store) (t : TxnId) where
       }
 
   decide1 : MayDecide counting start log2 0 (t ∷ [])
-  decide1 = record { new = λ u h k. absurd (omega arith); whole = whole log2.past refl; closed = λ u v h e. absurd (nothing log2.past refl u v e); ordered = ordered log2.past refl }
+  decide1 = record { new = λ u h k. absurd (omega arith); whole = whole log2.past refl; closed = λ u v h e. absurd (nothing log2.past refl u v e); ordered = ordered log2.past refl (IsWaived counting start log2) }
 
   decide2 : MayDecide counting start log3 1 (t ∷ [])
-  decide2 = record { new = λ u h k. absurd (omega arith); whole = whole log3.past refl; closed = λ u v h e. absurd (nothing log3.past refl u v e); ordered = ordered log3.past refl }
+  decide2 = record { new = λ u h k. absurd (omega arith); whole = whole log3.past refl; closed = λ u v h e. absurd (nothing log3.past refl u v e); ordered = ordered log3.past refl (IsWaived counting start log3) }
 
   throughout : IsDecidedThroughout counting start log4 t
   throughout =

@@ -22,7 +22,8 @@ use Rattle.roc_law_log.specs.Steps.{MayDecide, IsWaived, waits_here, waiting_her
 use Rattle.roc_law_log.specs.Invariants.{LogInvariants, LogGrows}
 use Rattle.roc_law_log.proofs.Whole.{extend}
 use Rattle.roc_law_log.proofs.Shards.{extend_here, in_fresh, from_fresh, closed_fresh, fresh_order}
-use Rattle.roc_law_log.proofs.Later.{IsLater, shard_kept, uses_kept, group_same, whole_after, here_after, throughout_after}
+use Rattle.roc_law_log.proofs.Later.{IsLater, shard_kept, uses_kept, group_same, whole_after, here_after, settled_after, throughout_after}
+use Rattle.roc_law_log.proofs.Settled.{mates_settled, settled_in, settled_here}
 
 -- a shard's list is the one that went on, or is as it was
 pub at_decided : (decided : ℕ → List TxnId) (s v : ℕ) (ts : List TxnId) (P : List TxnId → Type 0) → (s ≡ v → P (decided s ++ ts)) → (s ≢ v → P (decided v)) → P (with_decided decided s ts v)
@@ -100,7 +101,7 @@ module _ (S : Scheme) (start : Store) (stays : (Q T : List TxnGroup) → NoneTwi
     order2 = w.order ++ new_in w.order ts
 
     from_new : (t : TxnId) → IsListed is_txn (new_in w.order ts) t → (¬ IsListed is_txn w.order t) × IsListed is_txn ts t
-    from_new t h = from_fresh E I (IsWaived S start w) (w.decided s) w.order ts i.order (i.in_order s) (λ t z. absurd z) may.closed may.ordered t h
+    from_new t h = from_fresh E I (IsWaived S start w) (w.decided s) w.order ts i.order (i.in_order s) (settled_in S start w i) may.closed may.ordered t h
 
     from_order2 : (t : TxnId) → IsListed is_txn order2 t → IsWhole S w.past.started t
     from_order2 t h = elim (listed_either is_txn w.order (new_in w.order ts) t h) [ inl j ↦ i.whole t j | inr j ↦ may.whole t (from_new t j.1).1 ]
@@ -108,7 +109,7 @@ module _ (S : Scheme) (start : Store) (stays : (Q T : List TxnGroup) → NoneTwi
     ts_order2 : (t : TxnId) → IsListed is_txn ts t → IsListed is_txn order2 t
     ts_order2 t h = elim (listed_or_not is_txn w.order t) [
       | inl k ↦ listed_front is_txn w.order (new_in w.order ts) t k
-      | inr k ↦ listed_behind is_txn w.order (new_in w.order ts) t (in_fresh E I (IsWaived S start w) (w.decided s) w.order ts i.order (i.in_order s) (λ t z. absurd z) may.closed may.ordered t h k)
+      | inr k ↦ listed_behind is_txn w.order (new_in w.order ts) t (in_fresh E I (IsWaived S start w) (w.decided s) w.order ts i.order (i.in_order s) (settled_in S start w i) may.closed may.ordered t h k)
     ]
 
     into_order2 : (t : TxnId) → IsListed is_txn (w.decided s ++ ts) t → IsListed is_txn order2 t
@@ -117,8 +118,8 @@ module _ (S : Scheme) (start : Store) (stays : (Q T : List TxnGroup) → NoneTwi
     order2_taken : IsWholeOrder E I order2
     order2_taken =
         extend E I w.order (new_in w.order ts) i.order (λ t h. (from_new t h).0)
-        (closed_fresh E I (IsWaived S start w) (w.decided s) w.order ts i.order (i.in_order s) (λ t z. absurd z) may.closed may.ordered)
-        (fresh_order E I (IsWaived S start w) (w.decided s) w.order ts i.order (i.in_order s) (λ t z. absurd z) may.closed may.ordered)
+        (closed_fresh E I (IsWaived S start w) (w.decided s) w.order ts i.order (i.in_order s) (settled_in S start w i) may.closed may.ordered)
+        (fresh_order E I (IsWaived S start w) (w.decided s) w.order ts i.order (i.in_order s) (settled_in S start w i) may.closed may.ordered)
 
     up2 : (v : ℕ) (t : TxnId) → IsListed is_txn (w.decided v) t → IsListed is_txn (after.decided v) t
     up2 v t = at_decided w.decided s v ts (λ l. IsListed is_txn (w.decided v) t → IsListed is_txn l t) (λ f h. listed_front is_txn (w.decided s) ts t (subst (λ x. IsListed is_txn (w.decided x) t) (sym f) h)) (λ n h. h)
@@ -126,6 +127,7 @@ module _ (S : Scheme) (start : Store) (stays : (Q T : List TxnGroup) → NoneTwi
     here_decide : (v : ℕ) (L : List TxnId) → ((t : TxnId) → IsListed is_txn L t → IsListed is_txn order2 t)
         → IsShardOrder E I (HasGroup S start w.past.ran v) (IsWaived S start w) L → IsShardOrder E2 I2 (HasGroup S start (w.past.ran ++ T) v) (IsWaived S start after) L
     here_decide v L into l = here_after S start stays sound w i w.past.started w.past.left_out T later i.are_groups order2 from_order2 order2_taken v L into l after
+        (settled_after S start stays sound w i w.past.started w.past.left_out T later i.are_groups order2 from_order2 order2_taken (λ u z. listed_front is_txn w.order (new_in w.order ts) u (settled_in S start w i u z)) after refl (λ t h. h))
 
     -- where two stand of those that ran now
     T_order : (q r : TxnGroup) → IsListed is_txn_group T q → IsListed is_txn_group T r → IsListedBefore is_txn_group T q r
@@ -227,7 +229,7 @@ module _ (S : Scheme) (start : Store) (stays : (Q T : List TxnGroup) → NoneTwi
           decided = λ v. at_decided w.decided s v ts (IsShardOrder E2 I2 (HasGroup S start (w.past.ran ++ T) v) (IsWaived S start after))
               (λ f. subst (λ v. IsShardOrder E2 I2 (HasGroup S start (w.past.ran ++ T) v) (IsWaived S start after) (w.decided s ++ ts)) f
               (here_decide s (w.decided s ++ ts) into_order2
-              (extend_here E I (HasGroup S start w.past.ran s) (IsWaived S start w) (λ a b m z. z) (w.decided s) ts (i.decided s) may.new may.closed (λ t z. absurd z) may.ordered)))
+              (extend_here E I (HasGroup S start w.past.ran s) (IsWaived S start w) (mates_settled S start w) (w.decided s) ts (i.decided s) may.new may.closed (settled_here S start w i s) may.ordered)))
               (λ n. here_decide v (w.decided v) (λ t h. listed_front is_txn w.order (new_in w.order ts) t (i.in_order v t h)) (i.decided v));
           order = whole_after S start stays sound w i w.past.started w.past.left_out T later i.are_groups order2 from_order2 order2_taken;
           in_order = λ v t. at_decided w.decided s v ts (λ l. IsListed is_txn l t → IsListed is_txn order2 t)

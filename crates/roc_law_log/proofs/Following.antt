@@ -18,6 +18,7 @@ use Rattle.roc_law_log.specs.Steps.{IsWaived}
 use Rattle.roc_law_log.specs.Invariants.{LogInvariants}
 use Rattle.roc_law_log.proofs.Whole.{now_first}
 use Rattle.roc_law_log.proofs.Shards.{order_here}
+use Rattle.roc_law_log.proofs.Settled.{settled_here}
 
 meet_turned : (a b : List Use) → Meet a b → Meet b a
 meet_turned a b m =
@@ -172,7 +173,7 @@ module _ (S : Scheme) (start : Store) (are_found : AreFound S start) (sound : Is
           elim (either q r n hs) [
             | inl l ↦ elim (is_left_out q r) [
               | inl x ↦ absurd (m (subst (λ s. IsListed is_txn (w.decided s) q.txn) (sym (one_shard q r c)) (i.left_out r q.txn (i.ran_started r k) x).decided))
-              | inr x ↦ elim ((i.decided s).closed q.txn r.txn d (linked q r n c (i.ran_started r k) l x)) [ inl y ↦ absurd (m y) | inr y ↦ absurd y ]
+              | inr x ↦ elim ((i.decided s).closed q.txn r.txn d (linked q r n c (i.ran_started r k) l x)) [ inl y ↦ absurd (m y) | inr y ↦ absurd (m (settled_here S start w i s q.txn y (has_group q hs s refl))) ]
             ]
             | inr l ↦ elim (is_left_out r q) [
               | inl x ↦ (i.left_out q r.txn hs x).earlier hq

@@ -91,7 +91,13 @@ module _ (S : Scheme) (start : Store) where
         later_order = i.later_order;
         whole = i.whole;
         in_order = i.in_order;
-        decided = i.decided;
+        decided = λ s. let l = i.decided s in record {
+          once = l.once;
+          closed = λ u v h e. elim (l.closed u v h e) [ inl k ↦ inl k | inr z ↦ inr (λ m k. listed_front is_txn w.answered (t ∷ []) m (z m k)) ];
+          earlier = l.earlier;
+          whole = l.whole;
+          inside = l.inside;
+        };
         order = i.order;
         left_out = λ r u h k. let z = i.left_out r u h k in record { decided = z.decided; earlier = z.earlier; earlier_here = z.earlier_here };
         answered = λ u h.

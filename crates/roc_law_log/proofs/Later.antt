@@ -9,12 +9,14 @@ use Rattle.roc_rows.specs.Store.{Store}
 use Rattle.roc_law_orders.specs.Behaviour.{TxnGroup, is_txn_group, is_group_number, Use, Meet}
 use Rattle.roc_law_orders.specs.Runs.{needs, uses_in, Conflict}
 use Rattle.roc_law_orders.specs.Growth.{Stays}
+use Rattle.roc_component.specs.Components.{Mates}
 use Rattle.roc_law_log.specs.Scheme.{Scheme, IsSoundScheme}
 use Rattle.roc_law_log.specs.Log.{Past, Log, PrecedesGroup, PrecedesTxn, PrecedesTxnNow, shard_at, HasGroup, IsWhole, IsDecidedThroughout}
 use Rattle.roc_law_log.specs.Taking.{IsWholeOrder, IsShardOrder}
+use Rattle.roc_law_log.specs.Settled.{IsSettled}
 use Rattle.roc_law_log.specs.Steps.{IsWaived}
 use Rattle.roc_law_log.specs.Invariants.{LogInvariants}
-use Rattle.roc_law_log.proofs.Whole.{whole_same}
+use Rattle.roc_law_log.proofs.Whole.{whole_same, mates_back}
 use Rattle.roc_law_log.proofs.Shards.{here_same}
 
 -- more groups started, and those of T ran
@@ -111,12 +113,20 @@ module _ (S : Scheme) (start : Store) (stays : (Q T : List TxnGroup) → NoneTwi
 
       pub here_after : IsWholeOrder (PrecedesTxn S start w.past) (PrecedesTxnNow S start w.past) O → (s : ℕ) (L : List TxnId) → ((t : TxnId) → IsListed is_txn L t → IsListed is_txn O t)
           → IsShardOrder (PrecedesTxn S start w.past) (PrecedesTxnNow S start w.past) (HasGroup S start w.past.ran s) (IsWaived S start w) L
-          → (w2 : Log) → IsShardOrder (PrecedesTxn S start past_after) (PrecedesTxnNow S start past_after) (HasGroup S start (w.past.ran ++ T) s) (IsWaived S start w2) L
-      here_after o s L into l w2 =
+          → (w2 : Log) → ((u : TxnId) → IsWaived S start w u → IsWaived S start w2 u)
+          → IsShardOrder (PrecedesTxn S start past_after) (PrecedesTxnNow S start past_after) (HasGroup S start (w.past.ran ++ T) s) (IsWaived S start w2) L
+      here_after o s L into l w2 grown =
           here_same (PrecedesTxn S start w.past) (PrecedesTxn S start past_after) (PrecedesTxnNow S start w.past) (PrecedesTxnNow S start past_after) O o ef fe ij ji
           (HasGroup S start w.past.ran s) (HasGroup S start (w.past.ran ++ T) s) (IsWaived S start w) (IsWaived S start w2)
           (λ u k h. record { group = h.group; listed = h.listed; on = sym (shard_same u h.group k h.listed) ∙ h.on })
-          (λ u z. z) L into l
+          grown L into l
+
+      pub settled_after : IsWholeOrder (PrecedesTxn S start w.past) (PrecedesTxnNow S start w.past) O → ((u : TxnId) → IsSettled S start w u → IsListed is_txn O u)
+          → (w2 : Log) → w2.past ≡ past_after → ((t : TxnId) → IsListed is_txn w.answered t → IsListed is_txn w2.answered t)
+          → (u : TxnId) → IsSettled S start w u → IsSettled S start w2 u
+      settled_after o into w2 e up u z m k =
+          up m (z m (mates_back (PrecedesTxn S start w.past) (PrecedesTxn S start past_after) (PrecedesTxnNow S start w.past) (PrecedesTxnNow S start past_after) O o ef fe ij ji u m (into u z)
+          (subst (λ (p : Past). Mates (PrecedesTxn S start p) u m) e k)))
 
     -- who was decided throughout is
     pub throughout_after : (w2 : Log) → w2.past ≡ past_after → ((s : ℕ) (t : TxnId) → IsListed is_txn (w.decided s) t → IsListed is_txn (w2.decided s) t)

@@ -6,7 +6,6 @@ pub mod Starting
 pub mod Deciding
 pub mod Keeping
 pub mod Following
-pub mod Agreed
 pub mod FromEdges
 pub mod Counted
 pub mod SharedOut

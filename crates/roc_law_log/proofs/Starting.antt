@@ -18,7 +18,8 @@ use Rattle.roc_law_log.specs.Scheme.{Scheme, IsSoundScheme}
 use Rattle.roc_law_log.specs.Log.{Log, shard_at}
 use Rattle.roc_law_log.specs.Steps.{MayStart, with_left_out, with_start}
 use Rattle.roc_law_log.specs.Invariants.{LogInvariants, LogGrows}
-use Rattle.roc_law_log.proofs.Later.{IsLater, shard_kept, uses_kept, group_same, whole_after, here_after, throughout_after}
+use Rattle.roc_law_log.proofs.Later.{IsLater, shard_kept, uses_kept, group_same, whole_after, here_after, settled_after, throughout_after}
+use Rattle.roc_law_log.proofs.Settled.{settled_in}
 
 module _ (S : Scheme) (start : Store) (stays : (Q T : List TxnGroup) → NoneTwice is_txn_group (Q ++ T) → Stays S.behaviour start Q T) (sound : IsSoundScheme S) (w : Log) (i : LogInvariants S start w) where
   module _ (r : TxnGroup) (left_out : List TxnId) (may : MayStart S start w r left_out) where
@@ -139,7 +140,8 @@ module _ (S : Scheme) (start : Store) (stays : (Q T : List TxnGroup) → NoneTwi
                 let y = shard_start p (listed_front is_txn_group w.past.started (r ∷ []) p (i.ran_started p (listed_by_before is_txn_group w.past.ran p q b2))) in
                 subst (λ s. IsListedBefore is_txn (w.decided s) p.txn q.txn ⊎ ((p.txn ≡ q.txn) × IsListedBefore is_group_number (S.behaviour.groups q.txn) p.group q.group)) (sym x) (i.later_order p q d e (sym y ∙ (s ∙ x)) j b2))
           ];
-          decided = λ s. here_after S start stays sound w i begins out_after now later listed_start w.order i.whole i.order s (w.decided s) (i.in_order s) (i.decided s) after;
+          decided = λ s. here_after S start stays sound w i begins out_after now later listed_start w.order i.whole i.order s (w.decided s) (i.in_order s) (i.decided s) after
+              (settled_after S start stays sound w i begins out_after now later listed_start w.order i.whole i.order (settled_in S start w i) after refl (λ t h. h));
           order = whole_after S start stays sound w i begins out_after now later listed_start w.order i.whole i.order;
           in_order = i.in_order;
           left_out = λ q t h k. elim (start_cases q h) [

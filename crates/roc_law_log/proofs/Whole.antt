@@ -87,18 +87,6 @@ module _ (E I : TxnId → TxnId → Type 0) where
               absurd (omega arith))
         ]
 
-    -- of two, one an ancestor of the other, all lists agree which is first
-    pub same_order : (a b : TxnId) → Reaches E a b ⊎ Reaches E b a → IsListed is_txn L b → IsListed is_txn M a → IsListed is_txn M b → IsListedBefore is_txn L a b → IsListedBefore is_txn M a b
-    same_order a b e hl ha hb o =
-        elim (cases_lt (place_of (is_txn a) M) (place_of (is_txn b) M)) [
-          | inl w ↦ w
-          | inr w ↦ absurd (not_mates e w (λ x. let y = alike_below (suc (place_of (is_txn a) L + place_of (is_txn b) M)) a b (omega arith) x hl hb o in absurd (omega arith)))
-        ]
-      where
-        not_mates : Reaches E a b ⊎ Reaches E b a → place_of (is_txn b) M ≤ place_of (is_txn a) M → ¬ ¬ Mates E a b
-        not_mates (inl p) w x = let y = ancestor_first M m a b hb p (λ z. x (mates_sym E b a z)) in absurd (omega arith)
-        not_mates (inr p) w x = let y = ancestor_first L l b a (listed_by_before is_txn L a b o) p x in absurd (omega arith)
-
   -- where immediate edges have no cycle, an immediate predecessor is taken first
   module _ (rank : TxnId → ℕ → Type 0) (rises : (p z : TxnId) → I p z → (n : ℕ) × (m : ℕ) × rank p n × rank z m × (n < m)) (one_rank : (z : TxnId) (n m : ℕ) → rank z n → rank z m → n ≡ m) where
     some_free : (mate taken : TxnId → Type 0) → ((z : TxnId) → taken z ⊎ (¬ taken z)) → ((z : TxnId) → mate z → ¬ taken z → ¬ ((p : TxnId) → mate p → I p z → taken p))

@@ -10,6 +10,7 @@ use Rattle.roc_law_orders.specs.Runs.{needs}
 use Rattle.roc_law_orders.specs.Orders.{one_by_one}
 use Rattle.roc_law_log.specs.Scheme.{Scheme}
 use Rattle.roc_law_log.specs.Log.{Log, first_log, PrecedesTxn, PrecedesTxnNow, shard_at, IsWhole, IsDecidedThroughout}
+use Rattle.roc_law_log.specs.Settled.{IsSettled}
 use Rattle.roc_law_log.specs.Taking.{RespectsPrecedence}
 
 -- ---- a group starts
@@ -37,9 +38,9 @@ with_start S log r left_out =
 
 -- ---- a shard decides
 
--- a shard need not wait for u: nobody is so
+-- a shard need not wait for u
 abbrev pub IsWaived : Scheme → Store → Log → TxnId → Type 0
-IsWaived S start log u = ⊥
+IsWaived = IsSettled
 
 -- shard s may decide the transactions ts, none of which it decided before, taken in this order
 pub record MayDecide (S : Scheme) (start : Store) (log : Log) (s : ℕ) (ts : List TxnId) : Type 0 where

@@ -19,7 +19,7 @@ ghost use Rattle.roc_law_log.specs.Log.{Log, PrecedesTxn, PrecedesTxnNow, shard_
 ghost use Rattle.roc_law_log.specs.Settled.{IsSettled};
 ghost use Rattle.roc_law_log.specs.Kept.{KeepsRan};
 ghost use Rattle.roc_law_log.specs.Clean.{IsClean, writes_to};
-ghost use Rattle.roc_law_log.specs.Taking.{RespectsPrecedence, IsWholeOrder};
+ghost use Rattle.roc_law_log.specs.Taking.{RespectsPrecedence};
 ghost use Rattle.roc_law_log.specs.Steps.{LogStep, LogSteps, IsReachedLog, IsWaived, new_in};
 ghost use Rattle.roc_law_log.specs.Invariants.{LogInvariants, LogGrows};
 
@@ -204,18 +204,3 @@ pub fn component_order_is_taken()
         → IsComponentOrder (λ u t. IsTrue (edge u t)) (λ u t. IsTrue (now u t)) members all
         → RespectsPrecedence (PrecedesTxn S start log.past) (PrecedesTxnNow S start log.past) (IsWaived S start log) (new_in (log.decided s) all) }
 {}
-
-/// Shards agree: each one's list has all that precedes its transactions, and of two transactions, one an ancestor of the other, the first
-/// on a shard is the first in the one order.
-pub fn shards_agree()
-    ensures whole { (S : Scheme) (start : Store) (log : Log) → IsSoundScheme S → IsReachedLog S start log
-        → (s : ℕ) → IsWholeOrder (PrecedesTxn S start log.past) (PrecedesTxnNow S start log.past) (log.decided s) }
-    ensures order { (S : Scheme) (start : Store) (log : Log) → IsSoundScheme S → IsReachedLog S start log
-        → (s : ℕ) (a b : TxnId) → Reaches (PrecedesTxn S start log.past) a b ⊎ Reaches (PrecedesTxn S start log.past) b a
-        → IsListed is_txn (log.decided s) a → IsListed is_txn (log.decided s) b
-        → IsListedBefore is_txn (log.decided s) a b → IsListedBefore is_txn log.order a b }
-{
-    groups_stand_one_by_one();
-    runs_stay();
-    logs_keep_invariants();
-}

@@ -11,8 +11,9 @@
 //!
 //! The layers above may rely on [`laws`]: whatever these rules let happen, each group that ran of a decided transaction
 //! saw and did what it would if the decided transactions ran one after another (`executions_are_serial`), and shards
-//! agree on what precedes what (`shards_agree`). That a scheme can be sound and a transaction answered is shown by a
-//! small one (`specs/Counting.antt`).
+//! agree on what precedes what, as far as it has a group there (`shards_keep_order`). A shard need not wait for what is
+//! settled, so its list may lack what precedes its transactions. That a scheme can be sound and a transaction answered
+//! is shown by a small one (`specs/Counting.antt`).
 #![tactic(auto)]
 
 pub mod laws;

@@ -1,8 +1,9 @@
 -- One transaction that nothing precedes: what is found of it in lists, and the order in which it is taken
-use Rattle.std.proofs.Common.{◌≡◌, Bool, true, false, cond, List, [], ◌∷◌, Some, None, refl, sym, subst, ◌∙◌, arith, inl, inr}
+use Rattle.std.proofs.Common.{◌≡◌, ◌≢◌, ◌↔◌, Bool, true, false, cond, List, [], ◌∷◌, Some, None, refl, sym, subst, ◌∙◌, arith, inl, inr}
 use Rattle.std.specs.List.{list_any}
 use Rattle.std.specs.Prelude.{unwrap_or, is_some}
 use Rattle.std.proofs.lemmas.Bool.{false≢true}
+use Rattle.roc_sequence.specs.Lists.{Has}
 use Rattle.roc_sequence.specs.Places.{IsListed}
 use Rattle.roc_sequence.proofs.Listed.{listed_one, in_one}
 use Rattle.roc_base.specs.declared.id.TxnId.{TxnId}
@@ -14,7 +15,7 @@ use Rattle.roc_depgraph.specs.declared.known.KnownList.{KnownList}
 use Rattle.roc_depgraph.specs.Deps.{is_known, entries_of, Precedes, PrecedesNow, IsDecided}
 use Rattle.roc_depgraph.specs.Reach.{Reaches, direct, through}
 use Rattle.roc_component.specs.Components.{Mates, among, IsComponentOrder}
-use Rattle.roc_server_lists.specs.New.{AreNew, AreDecided, AreLedTo}
+use Rattle.roc_server_lists.specs.New.{AreNewTaken, AreDecided, AreLedTo}
 
 -- ---- no edges
 
@@ -61,11 +62,15 @@ decided_of_none = record { rising = none_rise; sound = λ u h. absurd (omega ari
 pub led_to_none : (known : List KnownList) → AreLedTo known [] []
 led_to_none known = record { rising = none_rise; sound = λ u h. absurd (omega arith); complete = λ u l. absurd (l.1.is) }
 
-pub new_of_none : AreNew (IsDecided []) [] []
+pub new_of_none : AreNewTaken (IsDecided []) [] []
 new_of_none =
     record {
       members = record { only = λ u h. absurd (omega arith); all = λ u n. absurd (none_decided u n.0) };
-      ordered = none_ordered (Precedes []) (PrecedesNow []) (λ u t e. false≢true e) (λ u t e. false≢true e);
+      taken = record {
+        order = none_ordered (Precedes []) (PrecedesNow []) (λ u t e. false≢true e) (λ u t e. false≢true e);
+        some = λ c h. absurd h;
+        mates = λ c h. absurd h;
+      };
     }
 
 -- ---- one list is known, and has no entries
@@ -98,12 +103,40 @@ module _ (id : TxnId) where
   it_is_decided : IsDecided lists id
   it_is_decided = record { own = it_is_known; ancestors = λ u r. absurd (no_chain_there u id r) }
 
-  pub new_alone : AreNew (IsDecided []) lists (id ∷ [])
+  no_edge_there : (u t : TxnId) → ¬ Precedes lists u t
+  no_edge_there u t = empty _ t
+
+  no_now_there : (u t : TxnId) → ¬ PrecedesNow lists u t
+  no_now_there u t = empty _ t
+
+  in_alone : (t : TxnId) → Has t (id ∷ []) → t ≡ id
+  in_alone t (inl e) = e
+  in_alone t (inr h) = absurd h
+
+  mates_alone : (c : List TxnId) → c ≡ id ∷ [] → (t u : TxnId) → Has t c → Mates (among (id ∷ []) (Precedes lists)) t u ↔ Has u c
+  mates_alone c is t u h =
+      let t_is = in_alone t (subst (Has t) is h) in (
+        λ m. subst (Has u) (sym is) (inl (sym (its_mate (Precedes lists) (PrecedesNow lists) no_edge_there no_now_there (id ∷ []) t u m) ∙ t_is)),
+        λ k. inl (t_is ∙ sym (in_alone u (subst (Has u) is k))),
+      )
+
+  some_alone : (c : List TxnId) → c ≡ id ∷ [] → c ≢ []
+  some_alone c is e = let none : id ∷ [] ≡ [] = sym is ∙ e in absurd (cc)
+
+  of_alone : (c : List TxnId) → Has c ((id ∷ []) ∷ []) → c ≡ id ∷ []
+  of_alone c (inl e) = e
+  of_alone c (inr h) = absurd h
+
+  pub new_alone : AreNewTaken (IsDecided []) lists ((id ∷ []) ∷ [])
   new_alone =
       record {
         members = record {
           only = λ u h. (subst (IsDecided lists) (sym (listed_one is_txn is_txn-true is_txn-same id u h)) it_is_decided, none_decided u);
           all = λ u n. subst (IsListed is_txn (id ∷ [])) (sym (known_one u n.0.own)) (in_one is_txn is_txn-true is_txn-same id);
         };
-        ordered = one_ordered (Precedes lists) (PrecedesNow lists) (λ u t. empty _ t) (λ u t. empty _ t) id;
+        taken = record {
+          order = one_ordered (Precedes lists) (PrecedesNow lists) no_edge_there no_now_there id;
+          some = λ c h. some_alone c (of_alone c h);
+          mates = λ c h. mates_alone c (of_alone c h);
+        };
       }

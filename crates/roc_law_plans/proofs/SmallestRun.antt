@@ -69,17 +69,17 @@ abbrev started_world : World
 started_world = record submitted_world { servers = started_server ∷ []; sent = start ∷ startok ∷ []; undelivered = 2 ∷ [] }
 
 abbrev started_step : ServerStep
-started_step = record { answer = Done; state = started_server; sends = record { to = Coord 0; msg = startok.msg } ∷ []; decided = []; ran = [] }
+started_step = record { answer = Done; state = started_server; sends = record { to = Coord 0; msg = startok.msg } ∷ []; components = []; decided = []; ran = [] }
 
 start_handled : Handles smallest (first_server smallest shard) (Start id 0 0 [] []) started_step
 start_handled =
     record {
-      findings = record { before = []; reached = []; decided = [] };
-      found = record { before = decided_of_none; reached = led_to_none []; decided = new_of_none };
+      findings = record { before = []; reached = []; components = [] };
+      found = record { before = decided_of_none; reached = led_to_none []; components = new_of_none };
       is = refl;
     }
 
-starts : Happens smallest submitted_world (Deliver 1) (record { seen = seen.Done; decided = []; ran = []; world = started_world })
+starts : Happens smallest submitted_world (Deliver 1) (record { seen = seen.Done; components = []; decided = []; ran = []; world = started_world })
 starts = (start, omega arith, refl, (first_server smallest shard, started_step, refl, start_handled, refl))
 
 -- ---- its commit is asked for
@@ -103,7 +103,7 @@ abbrev decided_server : ServerState
 decided_server =
     record started_server {
       started = (record started_group { later = Some (pos 1 ∷ []) }) ∷ [];
-      lists = record { known = (record { of = id; edges = [] }) ∷ []; waiting = none_waiting };
+      lists = record { known = (record { of = id; edges = [] }) ∷ []; links = (record { of = id; edges = [] }) ∷ []; waiting = none_waiting; taken = (id ∷ []) ∷ [] };
     }
 
 abbrev commitok : Envelope
@@ -113,17 +113,17 @@ abbrev decided_world : World
 decided_world = record asked_world { servers = decided_server ∷ []; sent = start ∷ startok ∷ commit ∷ commitok ∷ []; undelivered = 4 ∷ []; order = id ∷ [] }
 
 abbrev decided_step : ServerStep
-decided_step = record { answer = Done; state = decided_server; sends = record { to = Coord 0; msg = commitok.msg } ∷ []; decided = id ∷ []; ran = started_group ∷ [] }
+decided_step = record { answer = Done; state = decided_server; sends = record { to = Coord 0; msg = commitok.msg } ∷ []; components = (id ∷ []) ∷ []; decided = id ∷ []; ran = started_group ∷ [] }
 
 commit_handled : Handles smallest started_server (Commit id [] []) decided_step
 commit_handled =
     record {
-      findings = record { before = []; reached = []; decided = id ∷ [] };
-      found = record { before = decided_of_none; reached = led_to_none []; decided = new_alone id };
+      findings = record { before = []; reached = []; components = (id ∷ []) ∷ [] };
+      found = record { before = decided_of_none; reached = led_to_none []; components = new_alone id };
       is = refl;
     }
 
-runs : Happens smallest asked_world (Deliver 3) (record { seen = seen.Done; decided = id ∷ []; ran = ran_at 0 started_group ∷ []; world = decided_world })
+runs : Happens smallest asked_world (Deliver 3) (record { seen = seen.Done; components = (id ∷ []) ∷ []; decided = id ∷ []; ran = ran_at 0 started_group ∷ []; world = decided_world })
 runs = (commit, omega arith, refl, (started_server, decided_step, refl, commit_handled, refl))
 
 -- ---- and it is answered

@@ -1,5 +1,5 @@
 //! Laws of the schemes of accepted plans, each the contract of a function that does nothing.
-ghost use Rattle.std.specs.Prelude.{◌≡◌, ◌≢◌, ◌⊎◌, ℕ, ℤ, pos, ◌-◌, ◌<◌, List, [], ◌∷◌, Option, Some, None, map, slice_get};
+ghost use Rattle.std.specs.Prelude.{◌≡◌, ◌≢◌, ◌↔◌, ◌⊎◌, ℕ, ℤ, pos, ◌-◌, ◌<◌, ◌++◌, true, false, List, [], ◌∷◌, Option, Some, None, map, flat_map, slice_get};
 ghost use Rattle.roc_sequence.specs.Lists.{Has};
 ghost use Rattle.roc_base.specs.declared.id.TxnId.{TxnId};
 ghost use Rattle.roc_base.specs.declared.node.Shard.{Shard};
@@ -13,8 +13,8 @@ ghost use Rattle.roc_rows.specs.Store.{read};
 ghost use Rattle.roc_plan.specs.Groups.{Plan, shard_of};
 ghost use Rattle.roc_plan.specs.Accepted.{IsAccepted};
 ghost use Rattle.roc_depgraph.specs.declared.known.KnownList.{KnownList};
-ghost use Rattle.roc_depgraph.specs.Deps.{Precedes, IsAncestor, IsDecided};
-ghost use Rattle.roc_component.specs.Components.{Mates};
+ghost use Rattle.roc_depgraph.specs.Deps.{entries_of, IsAncestor, IsDecided};
+ghost use Rattle.roc_component.specs.Components.{HaveSameMembers};
 ghost use Rattle.roc_msg.specs.declared.msg.Envelope.{Envelope};
 ghost use Rattle.roc_msg.specs.declared.msg.Msg.TheVariants as msg;
 ghost use Rattle.roc_msg.specs.declared.reason.Reason.{Reason};
@@ -22,7 +22,9 @@ ghost use Rattle.roc_msg.specs.declared.reason.Reason.TheVariants as reason;
 ghost use Rattle.roc_law_orders.specs.Runs.{stage_behind};
 ghost use Rattle.roc_law_orders.specs.Orders.{one_by_one};
 ghost use Rattle.roc_law_log.specs.Scheme.{IsSoundScheme};
-ghost use Rattle.roc_server.specs.State.{find_group, ServerState};
+ghost use Rattle.roc_server.specs.Below.{is_ended};
+ghost use Rattle.roc_server.specs.Forgets.{is_over};
+ghost use Rattle.roc_server.specs.State.{find_group, is_here, ServerState};
 ghost use Rattle.roc_server.specs.declared.started.StartedGroup.{StartedGroup};
 ghost use Rattle.roc_coord.specs.declared.transaction.Transaction.{Transaction};
 ghost use Rattle.roc_coord.specs.State.{CoordState};
@@ -35,6 +37,7 @@ ghost use Rattle.roc_protocol.specs.declared.event.Seen.TheVariants as seen;
 ghost use Rattle.roc_protocol.specs.Happens.{Outcome, Happens};
 ghost use Rattle.roc_protocol.specs.PlanAssumptions.{HasSchemes, IsSchemeOf, IsWholeReply};
 ghost use Rattle.roc_protocol.specs.Final.{lists_in, IsFinalIn};
+ghost use Rattle.roc_protocol.specs.Forgotten.{HasStartedOn, IsSettledIn, IsTakenAt, IsFirstTaken, IsLastTaken};
 ghost use Rattle.roc_protocol.specs.Kept.{KeepsWhatRan};
 ghost use Rattle.roc_protocol.specs.Quiet.{IsQuiet};
 ghost use Rattle.roc_protocol.specs.Run.{Stepped, Transition, IsRun};
@@ -58,6 +61,8 @@ use roc_protocol::laws::{
     answered_worlds_rest as answered_worlds_rest_over_schemes,
     cells_are_in_their_place as cells_are_in_their_place_over_schemes,
     cells_are_serial as cells_are_serial_over_schemes,
+    ended_is_answered as ended_is_answered_over_schemes,
+    forgotten_is_answered as forgotten_is_answered_over_schemes,
     ids_are_told_once as ids_are_told_once_over_schemes,
     kept_orders_are_serial as kept_orders_are_serial_over_schemes,
     left_out_is_earlier as left_out_is_earlier_over_schemes,
@@ -166,7 +171,7 @@ pub fn quiet_is_answered()
         → (t : TxnId) (proc : ℕ) (args : List ℤ) → Has (entry.Submitted t proc args) w.history → IsQuiet plan steps w t → (reply : List ℤ) × Has (entry.Answered t reply) w.history }
     ensures decided { (plan : Plan) (coords : ℕ) (steps : List Stepped) (w : World) → IsAccepted plan → IsRun plan coords steps w
         → (t : TxnId) → IsQuiet plan steps w t → (shard : Shard) (s : ServerState) → slice_get w.servers shard.0 ≡ Some s → (e : StartedGroup) → Has e s.started → e.id ≡ t
-        → IsDecided s.lists.known t }
+        → IsDecided s.lists.links t }
 {
     accepted_plans_have_schemes();
     quiet_is_answered_over_schemes();
@@ -228,25 +233,40 @@ pub fn ids_are_told_once()
     ids_are_told_once_over_schemes();
 }
 
+/// Over every run of every accepted plan, a coordinator tells a watermark only where it has answered all its transactions with a sequence below;
+/// so a transaction that a server has heard of as ended was answered.
+pub fn ended_is_answered()
+    ensures told { (plan : Plan) (coords : ℕ) (steps : List Stepped) (w : World) → IsAccepted plan → IsRun plan coords steps w
+        → (m : Envelope) → Has m w.sent → (coord mark : ℕ) → m.msg ≡ msg.Ended coord mark → (seq : ℕ) → seq < mark
+        → (reply : List ℤ) × WasAnswered w.history (record { coord = coord; seq = seq }) reply }
+    ensures heard { (plan : Plan) (coords : ℕ) (steps : List Stepped) (w : World) → IsAccepted plan → IsRun plan coords steps w
+        → (n : ℕ) (s : ServerState) → slice_get w.servers n ≡ Some s → (t : TxnId) → is_ended s.below t ≡ true → (reply : List ℤ) × WasAnswered w.history t reply }
+{
+    accepted_plans_have_schemes();
+    ended_is_answered_over_schemes();
+}
+
 /// Over every run of every accepted plan, who is answered is decided on every server where it has a group.
 pub fn answered_is_decided()
     ensures { (plan : Plan) (coords : ℕ) (steps : List Stepped) (w : World) → IsAccepted plan → IsRun plan coords steps w
         → (t : TxnId) (reply : List ℤ) → WasAnswered w.history t reply
-        → (shard : Shard) (s : ServerState) → slice_get w.servers shard.0 ≡ Some s → (e : StartedGroup) → Has e s.started → e.id ≡ t → IsDecided s.lists.known t }
+        → (shard : Shard) (s : ServerState) → slice_get w.servers shard.0 ≡ Some s → (e : StartedGroup) → Has e s.started → e.id ≡ t → IsDecided s.lists.links t }
 {
     accepted_plans_have_schemes();
     answered_is_decided_over_schemes();
 }
 
-/// Over every run of every accepted plan, what a start leaves out is earlier: what is decided on a server stands in the serial order
-/// already, and a transaction of which a group is to start there does not.
+/// Over every run of every accepted plan, what a start leaves out is earlier: what is decided on a server, or was ever taken there, stands in
+/// the serial order already, and a transaction of which a group is to start there does not.
 pub fn left_out_is_earlier()
     ensures decided { (plan : Plan) (coords : ℕ) (steps : List Stepped) (w : World) → IsAccepted plan → IsRun plan coords steps w
-        → (shard : Shard) (s : ServerState) → slice_get w.servers shard.0 ≡ Some s → (t : TxnId) → IsDecided s.lists.known t → IsListed is_txn w.order t }
+        → (shard : Shard) (s : ServerState) → slice_get w.servers shard.0 ≡ Some s → (t : TxnId) → IsDecided s.lists.links t → IsListed is_txn w.order t }
+    ensures taken { (plan : Plan) (coords : ℕ) (steps : List Stepped) (w : World) → IsAccepted plan → IsRun plan coords steps w
+        → (x : Stepped) (shard : Shard) (c : List TxnId) (t : TxnId) → Has x steps → IsTakenAt x shard c → Has t c → IsListed is_txn w.order t }
     ensures starting { (plan : Plan) (coords : ℕ) (steps : List Stepped) (w : World) → IsAccepted plan → IsRun plan coords steps w
         → (shard : Shard) (s : ServerState) → slice_get w.servers shard.0 ≡ Some s
         → (m : Envelope) → Has m w.sent → m.to ≡ node.Server shard → (id : TxnId) (proc group : ℕ) (args inputs : List ℤ) → m.msg ≡ msg.Start id proc group args inputs
-        → find_group id group s.started ≡ None → ¬ IsListed is_txn w.order id }
+        → find_group id group s.started ≡ None → is_ended s.below id ≡ false → ¬ IsListed is_txn w.order id }
 {
     accepted_plans_have_schemes();
     left_out_is_earlier_over_schemes();
@@ -280,12 +300,12 @@ pub fn told_is_kept()
     told_is_kept_over_schemes();
 }
 
-/// Over every run of every accepted plan, no message is refused: a server takes each message that comes, and a coordinator ignores only one
-/// that was answered before or is of a transaction that has its reply.
+/// Over every run of every accepted plan, no message is refused: a server takes each message that comes or finds that it is of a transaction
+/// that is ended, and a coordinator ignores only one that was answered before or is of a transaction that has its reply.
 pub fn nothing_is_refused()
     ensures servers { (plan : Plan) (coords : ℕ) (steps : List Stepped) (w : World) → IsAccepted plan → IsRun plan coords steps w
         → (k : ℕ) (m : Envelope) (shard : Shard) (o : Outcome) → slice_get w.sent (k - 1) ≡ Some m → m.to ≡ node.Server shard
-        → Happens plan w (event.Deliver k) o → o.seen ≡ seen.Done }
+        → Happens plan w (event.Deliver k) o → (o.seen ≡ seen.Done) ⊎ (o.seen ≡ seen.Gone) }
     ensures coordinators { (plan : Plan) (coords : ℕ) (steps : List Stepped) (w : World) → IsAccepted plan → IsRun plan coords steps w
         → (k : ℕ) (o : Outcome) (why : Reason) → Happens plan w (event.Deliver k) o → o.seen ≡ seen.Ignored why → why ≡ reason.Stale }
 {
@@ -293,25 +313,49 @@ pub fn nothing_is_refused()
     nothing_is_refused_over_schemes();
 }
 
-/// Over every run of every accepted plan, two servers that both decided a transaction know the same ancestors and the same component of it.
-/// And each server takes transactions in the serial order, as far as one is an ancestor of the other: what was decided before an event, and
-/// what the event decides, in its order.
+/// Over every run of every accepted plan, two servers on which groups of a transaction started first took it in components of the same
+/// transactions. And of two transactions that have groups on a server and are decided there, one of which is an ancestor of the other by what
+/// is followed there, the one that was taken first is the earlier one in the serial order.
 pub fn servers_agree()
-    ensures ancestors { (plan : Plan) (coords : ℕ) (steps : List Stepped) (w : World) → IsAccepted plan → IsRun plan coords steps w
-        → (shard other : Shard) (s v : ServerState) → slice_get w.servers shard.0 ≡ Some s → slice_get w.servers other.0 ≡ Some v
-        → (u t : TxnId) → IsDecided s.lists.known t → IsDecided v.lists.known t → IsAncestor s.lists.known u t → IsAncestor v.lists.known u t }
     ensures components { (plan : Plan) (coords : ℕ) (steps : List Stepped) (w : World) → IsAccepted plan → IsRun plan coords steps w
-        → (shard other : Shard) (s v : ServerState) → slice_get w.servers shard.0 ≡ Some s → slice_get w.servers other.0 ≡ Some v
-        → (t u : TxnId) → IsDecided s.lists.known t → IsDecided v.lists.known t → Mates (Precedes s.lists.known) t u → Mates (Precedes v.lists.known) t u }
+        → (shard other : Shard) (t : TxnId) (c d : List TxnId) → HasStartedOn w.sent t shard → HasStartedOn w.sent t other
+        → IsFirstTaken steps shard t c → IsFirstTaken steps other t d → HaveSameMembers c d }
     ensures order { (plan : Plan) (coords : ℕ) (steps : List Stepped) (w : World) → IsAccepted plan → IsRun plan coords steps w
-        → (k : ℕ) (m : Envelope) (shard : Shard) (s v : ServerState) (o : Outcome) → slice_get w.sent (k - 1) ≡ Some m → m.to ≡ node.Server shard
-        → slice_get w.servers shard.0 ≡ Some s → Happens plan w (event.Deliver k) o → slice_get o.world.servers shard.0 ≡ Some v
-        → (a b : TxnId) → IsAncestor v.lists.known a b ⊎ IsAncestor v.lists.known b a
-        → (IsDecided s.lists.known a × IsListed is_txn o.decided b) ⊎ (IsListed is_txn o.decided b × IsListedBefore is_txn o.decided a b)
-        → IsListedBefore is_txn o.world.order a b }
+        → (shard : Shard) (s : ServerState) → slice_get w.servers shard.0 ≡ Some s
+        → (x y : TxnId) → is_here x s.started ≡ true → is_here y s.started ≡ true → IsDecided s.lists.links x → IsDecided s.lists.links y
+        → IsAncestor s.lists.links x y ⊎ IsAncestor s.lists.links y x
+        → IsListedBefore is_txn (flat_map (λ c. c) s.lists.taken) x y → IsListedBefore is_txn w.order x y }
 {
     accepted_plans_have_schemes();
     servers_agree_over_schemes();
+}
+
+/// Over every run of every accepted plan, a server keeps exactly the transactions of the components that it took and that are not over by the
+/// watermarks that it has heard; what is over has no group there and is not decided there any more. To a fetch it answers that a transaction is
+/// settled exactly where the component in which it first took it is over. And whatever is forgotten, settled, or named by an entry that is done
+/// was answered, with all transactions of its component.
+pub fn forgotten_is_answered()
+    ensures kept { (plan : Plan) (coords : ℕ) (steps : List Stepped) (w : World) → IsAccepted plan → IsRun plan coords steps w
+        → (shard : Shard) (s : ServerState) → slice_get w.servers shard.0 ≡ Some s
+        → (t : TxnId) → IsDecided s.lists.links t ↔ ((c : List TxnId) × IsLastTaken steps shard t c × (is_over s.below c ≡ false)) }
+    ensures gone { (plan : Plan) (coords : ℕ) (steps : List Stepped) (w : World) → IsAccepted plan → IsRun plan coords steps w
+        → (shard : Shard) (s : ServerState) → slice_get w.servers shard.0 ≡ Some s
+        → (t : TxnId) (c : List TxnId) → IsLastTaken steps shard t c → is_over s.below c ≡ true
+        → (is_here t s.started ≡ false) × (¬ IsDecided s.lists.links t) × IsSettledIn w t }
+    ensures settled { (plan : Plan) (coords : ℕ) (steps : List Stepped) (w : World) → IsAccepted plan → IsRun plan coords steps w
+        → (shard : Shard) (s : ServerState) → slice_get w.servers shard.0 ≡ Some s
+        → (k : ℕ) (m : Envelope) (t : TxnId) (asker : Shard) (o : Outcome) (more : List Envelope) → slice_get w.sent (k - 1) ≡ Some m → m.to ≡ node.Server shard
+        → m.msg ≡ msg.Fetch t asker → Happens plan w (event.Deliver k) o → o.world.sent ≡ w.sent ++ more
+        → ((mark : ℕ) × (e : Envelope) × Has e more × (e.msg ≡ msg.Settled t mark)) ↔ ((c : List TxnId) × IsFirstTaken steps shard t c × (is_over s.below c ≡ true)) }
+    ensures done { (plan : Plan) (coords : ℕ) (steps : List Stepped) (w : World) → IsAccepted plan → IsRun plan coords steps w
+        → (shard : Shard) (s : ServerState) → slice_get w.servers shard.0 ≡ Some s
+        → (k : KnownList) (d : Dependency) → Has k s.lists.known → Has d k.edges → ¬ Has d (entries_of s.lists.links k.of) → IsSettledIn w d.from }
+    ensures sent { (plan : Plan) (coords : ℕ) (steps : List Stepped) (w : World) → IsAccepted plan → IsRun plan coords steps w
+        → (m : Envelope) (t : TxnId) (mark : ℕ) → Has m w.sent → m.msg ≡ msg.Settled t mark
+        → IsSettledIn w t × ((seq : ℕ) → seq < mark → (reply : List ℤ) × WasAnswered w.history (record { coord = t.coord; seq = seq }) reply) }
+{
+    accepted_plans_have_schemes();
+    forgotten_is_answered_over_schemes();
 }
 
 /// What these laws ask for can be met: the small plan is accepted, and in a run of it a transaction is submitted, is quiet, stands in the

@@ -1,5 +1,5 @@
 -- Where all are answered, the nodes as they stand are a beginning
-use Rattle.std.proofs.Common.{◌≡◌, ◌≢◌, ℕ, pos, ◌<◌, ◌≤◌, true, List, Option, Some, None, refl, sym, subst, inl, inr, arith}
+use Rattle.std.proofs.Common.{◌≡◌, ◌≢◌, ℕ, pos, ◌<◌, ◌≤◌, true, List, Option, Some, None, length, refl, sym, subst, inl, inr, arith}
 use Rattle.std.proofs.lemmas.Bool.{cases_lt}
 use Rattle.std.specs.Prelude.{slice_get}
 use Rattle.roc_base.specs.declared.id.TxnId.{TxnId}
@@ -25,6 +25,7 @@ use Rattle.roc_protocol.proofs.Named.{shard_below}
 use Rattle.roc_protocol.proofs.Serial.{order_serial}
 use Rattle.roc_protocol.proofs.Answered.{nexts_onward, heard_answered}
 use Rattle.roc_protocol.proofs.Cells.{AreAllAnswered, cells_serial, cells_apart, run_servers}
+use Rattle.roc_protocol.proofs.Hearing.{run_heard}
 use Rattle.roc_protocol.proofs.Transactions.{HasTransaction, transaction_or_none}
 
 module _ (plan : Plan) (start : Beginning) (begins : IsBeginning plan start) (schemes : HasSchemesFrom plan start.store) (laws : (S : Scheme) → IsSoundScheme S → LogLaws S start.store) (serials : (S : Scheme) → IsSoundScheme S → SerialLaws S start.store) (stores : StoreLaws) (coords : ℕ) (steps : List Stepped) (w : World) (run : IsRunFrom plan start coords steps w) where
@@ -56,7 +57,7 @@ module _ (plan : Plan) (start : Beginning) (begins : IsBeginning plan start) (sc
       ]
 
   pub begins_anew : 0 < plan.program.shards → AreAllAnswered w → IsBeginning plan (left_by start w (serial_store plan.program start.store (submitted_calls w.history w.order)))
-  begins_anew some all = record { cells = cells; elsewhere = elsewhere; ended = heard_below; few = few; used = used }
+  begins_anew some all = record { cells = cells; elsewhere = elsewhere; marks = marks; ended = heard_below; few = few; used = used }
     where
       cells : (n : ℕ) (x : Cell) → shard_of plan x.place ≡ n → read (store_in (start.stores n) (slice_get w.servers n)) x ≡ read (serial_store plan.program start.store (submitted_calls w.history w.order)) x
       cells n x e =
@@ -71,6 +72,13 @@ module _ (plan : Plan) (start : Beginning) (begins : IsBeginning plan start) (sc
           go : (o : Option ServerState) → slice_get w.servers n ≡ o → read (store_in (start.stores n) o) x ≡ pos 0
           go (Some s) e = cells_apart plan start begins schemes laws stores coords steps w run n s e x apart
           go None e = begins.elsewhere n x apart
+
+      marks : (n : ℕ) → length (below_in (start.below n) (slice_get w.servers n)) ≡ 16
+      marks n = go (slice_get w.servers n) refl
+        where
+          go : (o : Option ServerState) → slice_get w.servers n ≡ o → length (below_in (start.below n) o) ≡ 16
+          go (Some s) e = (run_heard plan start begins schemes laws stores 16 begins.marks coords steps w run).keeps n s e
+          go None e = begins.marks n
 
       few : (n : ℕ) → next_in (start.nexts n) (slice_get w.coords n) ≤ most_transactions
       few n = go (slice_get w.coords n) refl

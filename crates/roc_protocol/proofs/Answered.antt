@@ -91,7 +91,7 @@ module _ (plan : Plan) (start : Beginning) (begins : IsBeginning plan start) (sc
     | inr none ↦ absurd (subst (Has (Submitted t p a)) (run_idle plan none start begins coords steps w run).history h)
   ]
 
-  pub answered_decided : (t : TxnId) (reply : List ℤ) → WasAnswered w.history t reply → (n : ℕ) (s : ServerState) → slice_get w.servers n ≡ Some s → (e : StartedGroup) → Has e s.started → e.id ≡ t → IsDecided s.lists.known t
+  pub answered_decided : (t : TxnId) (reply : List ℤ) → WasAnswered w.history t reply → (n : ℕ) (s : ServerState) → slice_get w.servers n ≡ Some s → (e : StartedGroup) → Has e s.started → e.id ≡ t → IsDecided s.lists.links t
   answered_decided t reply h n s there e has same = elim (transaction_or_none plan) [
     | inl some ↦
         (let S = serial.S plan start begins schemes laws stores coords steps w run some in
@@ -101,7 +101,7 @@ module _ (plan : Plan) (start : Beginning) (begins : IsBeginning plan start) (sc
         let m = mine.groups.entries e has in
         let d = (l.1.means.answered e.id reply (subst (λ t. WasAnswered w.history t reply) (sym same) h)).throughout in
         let here = d.everywhere e.group (i.are_groups (entry_run e) m.told.began) in
-        subst (IsDecided s.lists.known) same (elim (mine.decided e.id (subst (λ n. IsListed is_txn (l.0.decided n) e.id) m.on here)) [ inl k ↦ k | inr gone ↦ absurd (here_stays s e.id (has_any (λ (f : StartedGroup). is_txn f.id e.id) s.started e has (is_txn-eq e.id e.id refl)) gone) ]))
+        subst (IsDecided s.lists.links) same (elim (mine.decided e.id (subst (λ n. IsListed is_txn (l.0.decided n) e.id) m.on here)) [ inl k ↦ k | inr f ↦ absurd (here_stays s e.id (has_any (λ (f : StartedGroup). is_txn f.id e.id) s.started e has (is_txn-eq e.id e.id refl)) f.gone) ]))
     | inr none ↦ absurd (subst (Has (Answered t reply)) (run_idle plan none start begins coords steps w run).history h)
   ]
 

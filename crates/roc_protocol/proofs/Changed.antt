@@ -55,6 +55,12 @@ get-set_cases xs i j a b c e f = elim (cases_eq i j) [
   | inr other ↦ inr (other, sym (get-set_other xs i j b other) ∙ f)
 ]
 
+-- what stands in a list stands there in a longer one
+pub get-front : {A : Type 0} (xs ys : List A) (i : ℕ) (a : A) → slice_get xs i ≡ Some a → slice_get (xs ++ ys) i ≡ Some a
+get-front [] ys i a e = absurd (cc)
+get-front (x ∷ xs) ys zero a e = e
+get-front (x ∷ xs) ys (suc i) a e = get-front xs ys i a e
+
 -- ---- an order that grows
 
 pub noted-new : (order ts : List TxnId) → NoneTwice is_txn ts → noted order ts ≡ order ++ new_in order ts
@@ -78,6 +84,15 @@ noted-new order (t ∷ ts) once = go (is_listed is_txn order t) refl (λ o. note
     go false e ih =
         ih (order ++ t ∷ [])
         ∙ (append_assoc order (t ∷ []) (new_in (order ++ t ∷ []) ts) ∙ ap (λ l. order ++ t ∷ l) (alike order t ts (λ u h same. once.0 (has_listed ts t (subst (λ u. Has u ts) same h)))))
+
+-- what is new to a list is new to one that has less
+pub new_in-less : (less order ts : List TxnId) → ((t : TxnId) → IsListed is_txn less t → IsListed is_txn order t) → new_in order (new_in less ts) ≡ new_in order ts
+new_in-less less order [] within = refl
+new_in-less less order (t ∷ ts) within = go (is_listed is_txn less t) refl (new_in-less less order ts within)
+  where
+    go : (b : Bool) → is_listed is_txn less t ≡ b → new_in order (new_in less ts) ≡ new_in order ts → new_in order (cond (not b) (t ∷ new_in less ts) (new_in less ts)) ≡ new_in order (t ∷ ts)
+    go true e ih = ih ∙ sym (cond-false (not (is_listed is_txn order t)) (t ∷ new_in order ts) (new_in order ts) (ap not (listed_test is_txn order t (within t (listed_true is_txn less t e)))))
+    go false e ih = ap (λ l. cond (not (is_listed is_txn order t)) (t ∷ l) l) ih
 
 -- ---- worlds
 

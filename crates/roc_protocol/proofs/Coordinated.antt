@@ -65,8 +65,9 @@ module _ (plan : Plan) (asked : TxnId → whole.Call) (S : Scheme) (start : Begi
     pub steps : LogSteps S start.store c log
     pub means : WorldMeans plan asked S start log (at_coord w n after outs tells)
     pub began : (q : TxnGroup) → Began plan asked S start log q → Began plan asked S start c q
-    -- nothing runs
+    -- nothing runs, and no shard decides
     pub ran : log.past.ran ≡ c.past.ran
+    pub decided : (shard : ℕ) → log.decided shard ≡ c.decided shard
     pub starts : (out : Outgoing) → Has out outs → StartsAre Of out.msg
     pub pending : (x : Transaction) → Has x after.pending → Of x.id
 
@@ -92,6 +93,7 @@ module _ (plan : Plan) (asked : TxnId → whole.Call) (S : Scheme) (start : Begi
             ));
         began = λ q h. h;
         ran = refl;
+        decided = λ shard. refl;
         starts = starts;
         pending = pending;
       }
@@ -270,6 +272,7 @@ module _ (plan : Plan) (asked : TxnId → whole.Call) (S : Scheme) (start : Begi
               ));
           began = λ q h. h;
           ran = refl;
+          decided = λ shard. refl;
           starts = λ out k. mark_starts (without_transaction s t) out (mark_told plan s (without_transaction s t) out k);
           pending = λ z k. of z (rest z k);
         }

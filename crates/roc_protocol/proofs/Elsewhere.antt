@@ -1,6 +1,6 @@
 -- A server on which a step of the log does nothing
-use Rattle.std.proofs.Common.{◌≡◌, ℕ, false, Some, sym, ap, subst, ◌∙◌}
-use Rattle.roc_sequence.specs.Places.{IsListed}
+use Rattle.std.proofs.Common.{◌≡◌, ℕ, false, Some, sym, ap, subst, ◌∙◌, inl, inr}
+use Rattle.roc_sequence.specs.Places.{IsListed, IsListedBefore}
 use Rattle.roc_base.specs.declared.id.TxnId.{TxnId}
 use Rattle.roc_base.specs.TxnId.{is_txn}
 use Rattle.roc_rows.specs.declared.cell.Cell.{Cell}
@@ -15,8 +15,8 @@ use Rattle.roc_server.specs.State.{ServerState}
 use Rattle.roc_server.specs.State.{unrun}
 use Rattle.roc_protocol.specs.Beginnings.{Beginning}
 use Rattle.roc_protocol.specs.PlanAssumptions.{IsSchemeOf}
-use Rattle.roc_protocol.proofs.Means.{entry_run, place, Ran, Began, stage, ServerMeans}
-use Rattle.roc_protocol.proofs.Grows.{place_grows, entry_grows, all_grow, begun_grows, past_grows}
+use Rattle.roc_protocol.proofs.Means.{run_of, entry_run, place, Ran, Began, stage, ServerMeans}
+use Rattle.roc_protocol.proofs.Grows.{mates_grow, settled_grows, forgotten_grows, links_grow, taken_grows, place_grows, entry_grows, all_grow, begun_grows, past_grows}
 
 -- between the two logs no group starts or runs on the shard, its cells stay, and it decides nothing
 pub record IsQuietOn (plan : Plan) (asked : TxnId → whole.Call) (S : Scheme) (start : Beginning) (c d : Log) (shard : ℕ) : Type 0 where
@@ -46,6 +46,14 @@ module _ (plan : Plan) (asked : TxnId → whole.Call) (S : Scheme) (start : Begi
         known = all_grow plan asked S start is c d i j g s.lists.known o.known;
         fetched = λ a h. begun_grows plan asked S start is c d i j g a.id a.at.0 (o.fetched a h);
         ended = λ t h. past_grows plan asked S start is c d i j g t (o.ended t h);
-        decided = λ t h. o.decided t (subst (λ l. IsListed is_txn l t) q.decided h);
+        links = links_grow plan asked S start is c d i j g s.lists.known s.lists.links o.links;
+        decided = λ t h. elim (o.decided t (subst (λ l. IsListed is_txn l t) q.decided h)) [ inl k ↦ inl k | inr f ↦ inr (forgotten_grows plan asked S start is c d i j g s t f) ];
+        forgot = λ t h gone.
+            (let began = q.began (run_of t h.group) h.began h.on in
+            let on = sym (place_grows plan asked S start is c d i j g (run_of t h.group) began) ∙ h.on in
+            let k = o.forgot t (record { group = h.group; began = began; on = on }) gone in
+            (subst (λ l. IsListed is_txn l t) (sym q.decided) k.0, settled_grows plan asked S start is c d i j g t k.1));
+        taken = taken_grows plan asked S start is c d i j g shard s o q.decided;
         back = λ t h. subst (λ l. IsListed is_txn l t) (sym q.decided) (o.back t h);
+        follows = λ u t e k p m. subst (λ l. IsListedBefore is_txn l u t) (sym q.decided) (o.follows u t e k p (λ x. m (mates_grow plan asked S start is c d i j g t u x)));
       }

@@ -1,5 +1,5 @@
 -- What is seen of a submission, by its coordinator's state; and of a message that comes to a server
-use Rattle.std.proofs.Common.{sym, if◌then◌else◌, ◌≡◌, ℕ, ℤ, ◌-◌, ◌<◌, ◌≤◌, Bool, true, false, not, ◌==◌, List, Some, None, length, refl, ap, subst, ◌∙◌, arith, inl, inr}
+use Rattle.std.proofs.Common.{◌⊎◌, sym, if◌then◌else◌, ◌≡◌, ℕ, ℤ, ◌-◌, ◌<◌, ◌≤◌, Bool, true, false, not, ◌==◌, List, Some, None, length, refl, ap, subst, ◌∙◌, arith, inl, inr}
 use Rattle.std.proofs.lemmas.Bool.Decides.{nat_tests}
 use Rattle.std.specs.Prelude.{nat_le, slice_get}
 use Rattle.roc_sequence.specs.Lists.{Has}
@@ -69,17 +69,21 @@ submission_ends plan w coord proc args d c o e f s = let same : d ≡ c = cc in 
 
 -- ---- a delivery
 
+-- it was taken, or came too late
+abbrev IsSeenAs : Outcome → Type 0
+IsSeenAs o = (o.seen ≡ seen.Done) ⊎ (o.seen ≡ seen.Gone)
+
 module _ (plan : Plan) (start : Beginning) (begins : IsBeginning plan start) (schemes : HasSchemesFrom plan start.store) (laws : (S : Scheme) → IsSoundScheme S → LogLaws S start.store) (stores : StoreLaws) (coords : ℕ) (steps : List Stepped) (w : World) (run : IsRunFrom plan start coords steps w) where
-  pub server_takes : (k : ℕ) (m : Envelope) (shard : Shard) (o : Outcome) → slice_get w.sent (k - 1) ≡ Some m → m.to ≡ Server shard → Happens plan w (Deliver k) o → o.seen ≡ seen.Done
+  pub server_takes : (k : ℕ) (m : Envelope) (shard : Shard) (o : Outcome) → slice_get w.sent (k - 1) ≡ Some m → m.to ≡ Server shard → Happens plan w (Deliver k) o → IsSeenAs o
   server_takes k m shard o there to (b, first, at, h) = elim (transaction_or_none plan) [
     | inl some ↦ taken_by some b at (let same : b ≡ m = cc in ap (λ (m : Envelope). m.to) same ∙ to) h
     | inr none ↦ absurd (subst (Has m) (run_idle plan none start begins coords steps w run).sent (has_at w.sent (k - 1) m there))
   ]
     where
-      taken_by : HasTransaction plan → (b : Envelope) → slice_get w.sent (k - 1) ≡ Some b → b.to ≡ Server shard → IsReceived plan (mark_delivered w k) b.msg b.to o → o.seen ≡ seen.Done
+      taken_by : HasTransaction plan → (b : Envelope) → slice_get w.sent (k - 1) ≡ Some b → b.to ≡ Server shard → IsReceived plan (mark_delivered w k) b.msg b.to o → IsSeenAs o
       taken_by some b at to h = go b.to refl to h
         where
-          go : (t : Node) → b.to ≡ t → t ≡ Server shard → IsReceived plan (mark_delivered w k) b.msg t o → o.seen ≡ seen.Done
+          go : (t : Node) → b.to ≡ t → t ≡ Server shard → IsReceived plan (mark_delivered w k) b.msg t o → IsSeenAs o
           go (Coord c) is e x = absurd (cc)
           go (Server s) is e (v, r, found, step, is_o) =
               let x = serial.logged plan start begins schemes laws stores coords steps w run some in
@@ -88,7 +92,7 @@ module _ (plan : Plan) (start : Beginning) (begins : IsBeginning plan start) (sc
               let done = message_taken plan (serial.asked plan start begins schemes laws stores coords steps w run some) S start (serial.is plan start begins schemes laws stores coords steps w run some) (laws S (serial.sound plan start begins schemes laws stores coords steps w run some))
               w x.0 x.1 (networked plan start begins schemes laws stores coords steps w run some) (run_asked plan start coords steps w run) subs (serial.agrees plan some.0 w subs) (serial.known plan start begins schemes laws stores coords steps w run some)
               s.0 v found b (has_at w.sent (k - 1) b at) is r step in
-              ap (λ (x : Outcome). x.seen) is_o ∙ ap server_seen done
+              elim done [ inl e ↦ inl (ap (λ (x : Outcome). x.seen) is_o ∙ ap server_seen e) | inr e ↦ inr (ap (λ (x : Outcome). x.seen) is_o ∙ ap server_seen e) ]
 
   -- ---- a delivery to a coordinator
 
@@ -104,7 +108,7 @@ module _ (plan : Plan) (start : Beginning) (begins : IsBeginning plan start) (sc
       was_ignored (coord_answer.Ignored reason) e = let same : reason ≡ why = cc in ap coord_answer.Ignored same
 
       by_node : HasTransaction plan → (t : Node) → b.to ≡ t → IsReceived plan (mark_delivered w k) b.msg t o → why ≡ Stale
-      by_node some (Server s) to x = absurd (let done = server_takes k b s o at to (b, first, at, subst (λ t. IsReceived plan (mark_delivered w k) b.msg t o) (sym to) x) in cc)
+      by_node some (Server s) to x = elim (server_takes k b s o at to (b, first, at, subst (λ t. IsReceived plan (mark_delivered w k) b.msg t o) (sym to) x)) [ inl done ↦ absurd (cc) | inr done ↦ absurd (cc) ]
       by_node some (Coord n) to (s, found, e) =
           let x = serial.logged plan start begins schemes laws stores coords steps w run some in
           let subs = serial.submissions plan start begins schemes laws stores coords steps w run some in

@@ -27,6 +27,7 @@ use Rattle.roc_coord.specs.Tick as coord
 use Rattle.roc_audit.specs.declared.entry.Entry.{Entry}
 use Rattle.roc_audit.specs.declared.entry.Entry.TheVariants.{Submitted}
 use Rattle.roc_audit.specs.History.{WasSubmitted}
+use Rattle.roc_server_lists.proofs.SameIds.{ids_of}
 use Rattle.roc_protocol.specs.declared.event.Event.{Event}
 use Rattle.roc_protocol.specs.declared.event.Event.TheVariants.{Submit, Deliver, Tick}
 use Rattle.roc_protocol.specs.PlanAssumptions.{IsSchemeOf, HasSchemesFrom}
@@ -141,7 +142,7 @@ module _ (plan : Plan) (asked : TxnId → whole.Call) (S : Scheme) (start : Begi
           kept = λ n s there t g e f m h. absurd h;
           lists = λ m h. absurd h;
           servers = λ n s h. (let e = found_at (begun_server start) 0 plan.program.shards n s h in
-              record { groups = λ b j. tt; known = λ k j. elim (subst (λ (s : ServerState). Has k s.lists.known) e j) [ ]; facts = λ b j. elim (subst (λ (s : ServerState). Has b s.started) e j) [ ] });
+              record { groups = λ b j. tt; known = λ k j. elim (subst (λ (s : ServerState). Has k s.lists.known) e j) [ ]; facts = λ b j. elim (subst (λ (s : ServerState). Has b s.started) e j) [ ]; same = subst (λ (s : ServerState). ids_of s.lists.links ≡ ids_of s.lists.known) (sym e) refl });
           taken = λ n c e x h. elim (subst (λ (c : CoordState). Has x c.pending) (found_at (begun_coord start) 0 coords n c e) h) [ ];
         }
     run_networked coords steps w (steps_on {w = v} e o r h) fits =

@@ -1,5 +1,5 @@
 -- What a step finds in the lists is always there
-use Rattle.std.proofs.Common.{◌≡◌, Bool, true, false, not, ◌&&◌, ◌||◌, List, [], ◌++◌, map, Option, Some, None, is_some, unwrap_or, refl, sym, subst, ◌∙◌, inl, inr}
+use Rattle.std.proofs.Common.{◌≡◌, Bool, true, false, not, ◌&&◌, ◌||◌, List, [], map, Option, Some, None, is_some, unwrap_or, refl, sym, subst, ◌∙◌, inl, inr}
 use Rattle.std.proofs.lemmas.Bool.{false≢true, and_parts, and_from, or_cases, or_left, or_right, not-true, not_from_false, false_from_ne_true}
 use Rattle.std.proofs.lemmas.List.Kept.{IsStrictlySortedBy-filter}
 use Rattle.std.specs.List.{list_any, filter, flat_map}
@@ -20,13 +20,14 @@ use Rattle.roc_depgraph.specs.Reach.{Reaches, direct, through, ReachesOrIs}
 use Rattle.roc_depgraph.proofs.Listed.{has_listed, listed_has, under_has}
 use Rattle.roc_depgraph.proofs.RisingIds.{ids, ids_complete, ids_rise}
 use Rattle.roc_server_ancestors.specs.Led.{IsKnownAndLedTo}
-use Rattle.roc_component.specs.Components.{HaveSameMembers, IsComponentOrderOf}
+use Rattle.roc_component.specs.Components.{HaveSameMembers, IsComponentOrderOf, AreTaken}
 use Rattle.roc_component.proofs.Paths.{path, path_chain, chain_path}
-use Rattle.roc_server_lists.specs.New.{AreDecided, AreLedTo, IsNew, AreNew}
+use Rattle.roc_server_lists.specs.New.{AreDecided, AreLedTo, IsNew, AreAllNew, AreNewTaken}
 use Rattle.roc_msg.specs.declared.msg.Msg.{Msg}
 use Rattle.roc_plan.specs.Groups.{Plan}
 use Rattle.roc_server.specs.State.{ServerState, ServerStep}
-use Rattle.roc_server.specs.Step.{edges_told, lists_taught, Findings, after_message, Handles}
+use Rattle.roc_server.specs.Step.{edges_told, links_after, Findings, after_message, Handles}
+use Rattle.roc_protocol.proofs.OrderParts.{taken_parts}
 use Rattle.roc_protocol.proofs.Served.{list_has}
 
 -- what a test tells of ids that are listed can be listed, rising
@@ -159,24 +160,26 @@ module _ (known later : List KnownList) where
 
 module _ (exists : (known : List KnownList) (M : List TxnId) → (xs : List TxnId) × IsComponentOrderOf known M xs)
     (one : (known : List KnownList) (M N xs ys : List TxnId) → HaveSameMembers M N → IsComponentOrderOf known M xs → IsComponentOrderOf known N ys → xs ≡ ys) where
-  pub new_there : (known later : List KnownList) → (ts : List TxnId) × AreNew (IsDecided known) later ts
+  -- what is newly decided, in the components in which it is taken
+  pub new_there : (known later : List KnownList) → (cs : List (List TxnId)) × AreNewTaken (IsDecided known) later cs
   new_there known later =
       let all = rising_of (IsNew (IsDecided known) later) (told later) (fresh known later) (fresh_from known later) (fresh_to known later) (λ t n. known_told later t n.0.own) in
       let xs = exists later all.0 in
       let ys = exists later xs.0 in
-      let same : xs.0 ≡ ys.0 = one later all.0 xs.0 xs.0 ys.0 (λ t. (xs.1.all t, xs.1.from t)) xs.1 ys.1 in (
-        xs.0,
+      let same : xs.0 ≡ ys.0 = one later all.0 xs.0 xs.0 ys.0 (λ t. (xs.1.all t, xs.1.from t)) xs.1 ys.1 in
+      let p = taken_parts later xs.0 xs.0 (subst (λ zs. IsComponentOrderOf later xs.0 zs) (sym same) ys.1) in (
+        p.0,
         record {
-          members = record { only = λ t l. all.1.sound t (xs.1.from t l); all = λ t n. xs.1.all t (all.1.complete t n) };
-          ordered = subst (λ zs. IsComponentOrderOf later xs.0 zs) (sym same) ys.1;
+          members = subst (AreAllNew (IsDecided known) later) (sym p.1) (record { only = λ t l. all.1.sound t (xs.1.from t l); all = λ t n. xs.1.all t (all.1.complete t n) });
+          taken = subst (λ M. AreTaken later M p.0) (sym p.1) p.2;
         },
       )
 
   -- a server's step is always there
   pub handled : (plan : Plan) (s : ServerState) (msg : Msg) → (r : ServerStep) × Handles plan s msg r
   handled plan s msg =
-      let before = decided_there s.lists.known in
-      let reached = led_there s.lists.known (edges_told plan before.0 s msg) in
-      let new = new_there s.lists.known (s.lists.known ++ lists_taught s msg) in
-      let f : Findings = record { before = before.0; reached = reached.0; decided = new.0 } in
-      (after_message plan s f msg, record { findings = f; found = record { before = before.1; reached = reached.1; decided = new.1 }; is = refl })
+      let before = decided_there s.lists.links in
+      let reached = led_there s.lists.links (edges_told plan before.0 s msg) in
+      let new = new_there s.lists.links (links_after s msg) in
+      let f : Findings = record { before = before.0; reached = reached.0; components = new.0 } in
+      (after_message plan s f msg, record { findings = f; found = record { before = before.1; reached = reached.1; components = new.1 }; is = refl })

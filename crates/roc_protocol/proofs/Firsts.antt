@@ -67,6 +67,7 @@ first_begins laws plan =
     record {
       cells = λ n x e. start_cells laws plan n plan.program.inits empty empty x e refl;
       elsewhere = λ n x apart. start_elsewhere laws plan n plan.program.inits empty x apart ∙ laws.zero x;
+      marks = λ n. refl;
       ended = λ n t h. absurd (false≢true (sym (none_ended t) ∙ h));
       few = λ coord. let l : 0 ≤ most_transactions = omega arith in l;
       used = λ coord l. absurd (omega arith);
@@ -87,8 +88,19 @@ module _ (plan : Plan) (asked : TxnId → whole.Call) (S : Scheme) (start : Begi
         known = λ k h. absurd h;
         fetched = λ a h. absurd h;
         ended = λ t h. inr (begins.ended n t h);
+        links = tt;
         decided = λ t h. absurd (omega arith);
         back = λ t d. absurd (false≢true d.own);
+        forgot = λ t h. absurd (let k = h.began in omega arith);
+        taken = record {
+          decided = λ c t h. absurd h;
+          all = λ t d. absurd (false≢true d.own);
+          one = λ c e t h. absurd h;
+          mates = λ c t u h. absurd h;
+          whole = λ c t u h. absurd h;
+          order = λ t u h. absurd (false≢true h);
+        };
+        follows = λ u t h. absurd (false≢true h);
       }
 
   begun_coord_means : (n : ℕ) → CoordMeans plan asked S start first_log (begun_coord start n)

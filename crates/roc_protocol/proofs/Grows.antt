@@ -4,7 +4,7 @@ use Rattle.std.specs.Prelude.{filter, flat_map, zip}
 use Rattle.std.specs.List.{AllByRecursion, range_with_len}
 use Rattle.std.proofs.lemmas.Bool.{and_parts, not-true, eqb-true}
 use Rattle.roc_sequence.specs.Lists.{Has}
-use Rattle.roc_sequence.specs.Places.{IsListed}
+use Rattle.roc_sequence.specs.Places.{IsListed, IsListedBefore}
 use Rattle.roc_sequence.proofs.Holds.{all_weaker, all_has}
 use Rattle.roc_sequence.proofs.Ranges.{range_below}
 use Rattle.roc_coord.specs.State.{was_asked, CoordState}
@@ -16,20 +16,26 @@ use Rattle.roc_base.specs.declared.node.Node.TheVariants.{Server, Coord}
 use Rattle.roc_base.specs.TxnId.{is_txn}
 use Rattle.roc_base.specs.Edge.{Dependency}
 use Rattle.roc_depgraph.specs.declared.known.KnownList.{KnownList}
+use Rattle.roc_depgraph.proofs.Chains.{weaker_chain}
+use Rattle.roc_component.specs.Components.{Mates}
 use Rattle.roc_msg.specs.declared.msg.Msg.{Msg}
-use Rattle.roc_msg.specs.declared.msg.Msg.TheVariants.{Start, StartOk, Commit, CommitOk, Fetch, Known, Ended}
+use Rattle.roc_msg.specs.declared.msg.Msg.TheVariants.{Start, StartOk, Commit, CommitOk, Fetch, Known, Ended, Settled}
 use Rattle.roc_plan.specs.Groups.{Plan, groups_of, inputs_of, outs_of}
 use Rattle.roc_whole.specs.Serial as whole
 use Rattle.roc_law_orders.specs.Behaviour.{TxnGroup, is_txn_group, is_group_number}
 use Rattle.roc_law_orders.specs.Runs.{needs}
 use Rattle.roc_law_log.specs.Scheme.{Scheme}
-use Rattle.roc_law_log.specs.Log.{Log, IsWhole, IsDecidedThroughout}
+use Rattle.roc_law_log.specs.Log.{Log, PrecedesTxn, IsWhole, IsDecidedThroughout}
+use Rattle.roc_law_log.specs.Settled.{IsSettled}
 use Rattle.roc_law_log.specs.Invariants.{LogInvariants, LogGrows}
+use Rattle.roc_law_log.proofs.Settled.{same_mates, settled_later}
+use Rattle.roc_server.specs.State.{ServerState}
 use Rattle.roc_server.specs.declared.started.StartedGroup.{StartedGroup}
 use Rattle.roc_coord.specs.declared.transaction.Transaction.{Transaction}
 use Rattle.roc_protocol.specs.Beginnings.{Beginning}
 use Rattle.roc_protocol.specs.PlanAssumptions.{picked, IsSchemeOf}
-use Rattle.roc_protocol.proofs.Means.{IsPast, run_of, entry_run, place, Ran, Began, stage, values_for, EdgesMean, IsSeen, ListMeans, AllMean, ToldMeans, StartMeans, HasBegun, IsBegunAt, waits_at, outs_at, DoneMeans, StartIs, Means, EntryMeans, TxnMeans, CoordMeans, IsGiven, AnswerMeans}
+use Rattle.roc_protocol.proofs.Means.{IsPast, run_of, entry_run, place, Ran, Began, stage, values_for, EdgesMean, IsSeen, ListMeans, AllMean, ToldMeans, StartMeans, HasBegun, IsBegunAt, waits_at, outs_at, DoneMeans, StartIs, Means, EntryMeans, TxnMeans, CoordMeans, IsGiven, AnswerMeans, IsForgotten, AreTakenHere, ServerMeans}
+use Rattle.roc_protocol.proofs.Followed.{AreFollowedOf, followed_later}
 
 pub flat_map_same : {A B : Type 0} (f g : A → List B) (xs : List A) → ((x : A) → Has x xs → f x ≡ g x) → flat_map f xs ≡ flat_map g xs
 flat_map_same f g [] h = refl
@@ -51,6 +57,41 @@ module _ (plan : Plan) (asked : TxnId → whole.Call) (S : Scheme) (start : Begi
 
   pub order_grows : (t : TxnId) → IsListed is_txn c.order t → IsListed is_txn d.order t
   order_grows t h = subst (λ l. IsListed is_txn l t) (sym g.order.1) (listed_front is_txn c.order g.order.0 t h)
+
+  -- mates stay mates
+  edge_grows : (u t : TxnId) → PrecedesTxn S start.store c.past u t → PrecedesTxn S start.store d.past u t
+  edge_grows u t p = record { second = p.second; of_second = p.of_second; by = (g.precedes u p.second p.by.began).0 p.by }
+
+  pub mates_grow : (a b : TxnId) → Mates (PrecedesTxn S start.store c.past) a b → Mates (PrecedesTxn S start.store d.past) a b
+  mates_grow a b (inl e) = inl e
+  mates_grow a b (inr p) =
+      let grown = weaker_chain (PrecedesTxn S start.store c.past) (PrecedesTxn S start.store d.past) edge_grows in
+      inr (grown a b p.0, grown b a p.1)
+
+  -- components of what was decided do not grow, and what is settled stays so
+  pub mates_back : (t u : TxnId) → IsListed is_txn c.order t → Mates (PrecedesTxn S start.store d.past) t u → Mates (PrecedesTxn S start.store c.past) t u
+  mates_back t u h m = (same_mates S start.store c i d j g t u h).1 m
+
+  pub settled_grows : (t : TxnId) → IsSettled S start.store c t → IsSettled S start.store d t
+  settled_grows t z = settled_later S start.store c i d j g t z
+
+  pub forgotten_grows : (s : ServerState) (t : TxnId) → IsForgotten plan asked S start c s t → IsForgotten plan asked S start d s t
+  forgotten_grows s t f = record { gone = f.gone; settled = settled_grows t f.settled }
+
+  pub links_grow : (known links : List KnownList) → AreFollowedOf (IsSettled S start.store c) known links → AreFollowedOf (IsSettled S start.store d) known links
+  links_grow known links are = followed_later (IsSettled S start.store c) (IsSettled S start.store d) settled_grows known links are
+
+  -- the shard decides nothing
+  pub taken_grows : (shard : ℕ) (s : ServerState) → ServerMeans plan asked S start c shard s → d.decided shard ≡ c.decided shard → AreTakenHere plan asked S start d shard s
+  taken_grows shard s o same =
+      record {
+        decided = o.taken.decided;
+        all = o.taken.all;
+        one = o.taken.one;
+        mates = λ k t u h x y. mates_grow t u (o.taken.mates k t u h x y);
+        whole = λ k t u h x m. elim (o.taken.whole k t u h x (mates_back t u (i.in_order shard t (o.back t (o.taken.decided k t h x))) m)) [ inl y ↦ inl y | inr z ↦ inr (settled_grows t z) ];
+        order = λ t u h k b. subst (λ l. IsListedBefore is_txn l t u) (sym same) (o.taken.order t u h k b);
+      }
 
   pub place_needs : (r : TxnGroup) → AllByRecursion (Ran plan asked S start c) (needs S.behaviour r) → place plan asked S start d r ≡ place plan asked S start c r
   place_needs r h = ap (S.group_shard r) (g.inputs r h)
@@ -165,6 +206,7 @@ module _ (plan : Plan) (asked : TxnId → whole.Call) (S : Scheme) (start : Begi
   means_grow (Fetch id asker) to o = begun_at_grows id to o
   means_grow (Known id edges) to o = (list_grows id edges o.0, o.1)
   means_grow (Ended coord mark) to o = (λ q h. past_grows (record { coord = coord; seq = q }) (o.0 q h), o.1)
+  means_grow (Settled id mark) to o = (settled_grows id o.0, λ q h. past_grows (record { coord = id.coord; seq = q }) (o.1 q h), o.2)
   means_grow msg to o = o
 
   pub entry_grows : (s : ℕ) (e : StartedGroup) → EntryMeans plan asked S start c s e → EntryMeans plan asked S start d s e

@@ -4,12 +4,12 @@ use Rattle.std.proofs.lemmas.Option.{slice_get_within}
 use Rattle.std.specs.Prelude.{slice_get, slice_set}
 use Rattle.std.specs.List.{range_with_len}
 use Rattle.roc_sequence.specs.Lists.{Has}
-use Rattle.roc_sequence.proofs.Members.{has_at}
+use Rattle.roc_sequence.proofs.Members.{has_at, from_has_map}
 use Rattle.roc_base.specs.declared.node.Node.{Node}
 use Rattle.roc_base.specs.declared.node.Node.TheVariants.{Server, Coord}
 use Rattle.roc_base.specs.declared.node.Shard.{Shard}
 use Rattle.roc_msg.specs.declared.msg.Msg.{Msg}
-use Rattle.roc_msg.specs.declared.msg.Msg.TheVariants.{Start}
+use Rattle.roc_msg.specs.declared.msg.Msg.TheVariants.{Start, Commit, Ended, Settled}
 use Rattle.roc_msg.specs.declared.msg.Envelope.{Envelope}
 use Rattle.roc_msg.specs.declared.outbox.Outgoing.{Outgoing}
 use Rattle.roc_plan.specs.Groups.{Plan}
@@ -22,6 +22,7 @@ use Rattle.roc_coord.specs.Step.{after_message}
 use Rattle.roc_coord.specs.Submit.{next_id, new_transaction, accepted}
 use Rattle.roc_coord.specs.Tick as coord
 use Rattle.roc_audit.specs.declared.entry.Entry.TheVariants.{Submitted}
+use Rattle.roc_server_lists.proofs.SameIds.{ids_of}
 use Rattle.roc_protocol.specs.declared.event.Event.{Event}
 use Rattle.roc_protocol.specs.declared.event.Event.TheVariants.{Submit, Deliver, Tick}
 use Rattle.roc_protocol.specs.declared.event.Seen.TheVariants as seen
@@ -32,25 +33,31 @@ use Rattle.roc_protocol.specs.Happens.{Outcome, server_seen, answer_entries, IsR
 use Rattle.roc_protocol.specs.Run.{Stepped, Transition, IsRunFrom, at_beginning, steps_on}
 use Rattle.roc_protocol.specs.Quiet.{WasDelivered}
 use Rattle.roc_protocol.specs.Inner.Given.{LogLaws, StoreLaws}
-use Rattle.roc_protocol.proofs.Changed.{get-set_cases}
+use Rattle.roc_protocol.proofs.Changed.{get-front, get-set_cases}
 use Rattle.roc_protocol.proofs.Carried.{StartsHere, KeepsGood, message_good, tick_good}
 use Rattle.roc_protocol.proofs.Fetches.{HasAsked}
-use Rattle.roc_protocol.proofs.AskedFor.{run_asked}
+use Rattle.roc_protocol.proofs.AskedFor.{message_round, tick_round, submission_round, run_asked}
+use Rattle.roc_protocol.proofs.Gathered.{IsRound}
 use Rattle.roc_protocol.proofs.Firsts.{found_at}
 use Rattle.roc_protocol.proofs.Worlds.{Submitting, is_refused, is_accepted, submitting}
 use Rattle.roc_protocol.proofs.Ends.{server_takes}
-use Rattle.roc_protocol.proofs.Hears.{Hears}
-use Rattle.roc_protocol.proofs.Takes.{nothing_changes, message_result}
+use Rattle.roc_protocol.proofs.Hears.{AreKept, Hears}
+use Rattle.roc_protocol.proofs.Idle.{run_idle}
+use Rattle.roc_protocol.proofs.MarksKept.{ended_by}
+use Rattle.roc_protocol.proofs.Refusals.{IsTakenAs}
+use Rattle.roc_protocol.proofs.Serial as serial
+use Rattle.roc_protocol.proofs.Transactions.{transaction_or_none}
+use Rattle.roc_protocol.proofs.Takes.{EndsIt, nothing_changes, message_result}
 use Rattle.roc_protocol.proofs.Undelivered.{delivered_before, delivered_or_comes}
-use Rattle.roc_protocol.proofs.Delivered.{front_stays, IsStartedIn, IsTaken, EndsWaiting, Awaits, Heard, later_sends, awaits_more, heard_next, heard_comes, heard_weaker, later_served, taken_now, ends_now, awaits_after}
+use Rattle.roc_protocol.proofs.Delivered.{IsStartedIn, IsTaken, EndsWaiting, Awaits, IsMarked, Heard, later_sends, awaits_more, heard_next, heard_comes, heard_weaker, later_served, marked_now, taken_now, ends_now, awaits_after}
 
 -- the message at place k of the network was delivered
 abbrev pub HasCome : World → ℕ → Type 0
 HasCome w k = (m : Envelope) × (slice_get w.sent k ≡ Some m) × WasDelivered w (suc k)
 
--- each delivered message was taken, and each server has sent what it waits for
-abbrev pub HasHeard : World → Type 0
-HasHeard w = Heard w.servers w.sent (HasCome w)
+-- each delivered message was taken, and each server has sent what it waits for; servers keep so many watermarks
+abbrev pub HasHeard : ℕ → World → Type 0
+HasHeard marks w = Heard marks w.servers w.sent (HasCome w)
 
 -- the start that comes is in the network
 starts_here : (sent : List Envelope) (m : Envelope) → Has m sent → (n : ℕ) → m.to ≡ Server (record { 0 = n }) → (msg : Msg) → m.msg ≡ msg → StartsHere (IsStartedIn sent n) msg
@@ -72,14 +79,15 @@ came_or_comes w k some j (m, e, d) = elim (delivered_or_comes w k (suc j) d) [ i
 
 -- ---- a step of a server
 
-module _ (plan : Plan) (w : World) (o : HasHeard w) (n : ℕ) (s : ServerState) (there : slice_get w.servers n ≡ Some s) (number : s.shard.0 ≡ n) (r : ServerStep) (h : Hears plan s r) (g : KeepsGood plan (λ t es. Unit {0}) (IsStartedIn w.sent n) s r) where
+module _ (plan : Plan) (marks : ℕ) (w : World) (o : HasHeard marks w) (n : ℕ) (s : ServerState) (there : slice_get w.servers n ≡ Some s) (number : s.shard.0 ≡ n) (r : ServerStep) (h : Hears s r) (g : KeepsGood plan (λ t es. Unit {0}) (IsStartedIn w.sent n) s r) where
   abbrev more : List Envelope
   more = map (sent_by (Server (record { 0 = n }))) r.sends
 
   -- nothing is taken back
-  pub served_heard : Heard (slice_set w.servers n r.state) (w.sent ++ more) (HasCome w)
+  pub served_heard : Heard marks (slice_set w.servers n r.state) (w.sent ++ more) (HasCome w)
   served_heard =
-      heard_next w.servers (slice_set w.servers n r.state) w.sent more (HasCome w) o (later_served plan w.servers w.sent n s there number r h g)
+      heard_next marks w.servers (slice_set w.servers n r.state) w.sent more (HasCome w) o (later_served plan w.servers w.sent n s there number r h g)
+      (marked_now plan w.servers w.sent n s there number r h g marks (o.keeps n s there))
       (λ m v e. elim (get-set_cases w.servers n m s r.state v there e) [
         | inl k ↦ subst (λ m. Awaits (w.sent ++ more) m v) k.0 (subst (Awaits (w.sent ++ more) n) (sym k.1) (awaits_after plan w.servers w.sent n s there number r h g (o.awaits n s there)))
         | inr k ↦ awaits_more w.sent more m v (o.awaits m v k.1)
@@ -87,11 +95,20 @@ module _ (plan : Plan) (w : World) (o : HasHeard w) (n : ℕ) (s : ServerState) 
 
 -- ---- a step of a coordinator
 
+-- what a coordinator sends is no settled
+round_marked : (marks : ℕ) (msg : Msg) → IsRound msg → IsMarked marks msg
+round_marked marks (Start id proc group args inputs) k = tt
+round_marked marks (Commit id edges facts) k = tt
+round_marked marks (Ended coord mark) k = tt
+round_marked marks msg k = absurd k
+
 -- it changes no server
-coordinated_heard : (w : World) → HasHeard w → (n : ℕ) (outs : List Outgoing) → Heard w.servers (w.sent ++ map (sent_by (Coord n)) outs) (HasCome w)
-coordinated_heard w o n outs =
+coordinated_heard : (marks : ℕ) (w : World) → HasHeard marks w → (n : ℕ) (outs : List Outgoing) → ((out : Outgoing) → Has out outs → IsRound out.msg) → Heard marks w.servers (w.sent ++ map (sent_by (Coord n)) outs) (HasCome w)
+coordinated_heard marks w o n outs rounds =
     let more = map (sent_by (Coord n)) outs in
-    heard_next w.servers w.servers w.sent more (HasCome w) o (later_sends w.sent more w.servers) (λ m v e. awaits_more w.sent more m v (o.awaits m v e))
+    heard_next marks w.servers w.servers w.sent more (HasCome w) o (later_sends w.sent more w.servers)
+    (λ m k. let q = from_has_map (sent_by (Coord n)) m outs k in subst (λ (m : Envelope). IsMarked marks m.msg) (sym q.2) (round_marked marks q.0.msg (rounds q.0 q.1)))
+    (λ m v e. awaits_more w.sent more m v (o.awaits m v e))
 
 -- a message that comes to a coordinator leaves nothing that is asked for here
 coord_takes : (servers : List ServerState) (sent : List Envelope) (k : ℕ) (msg : Msg) (n : ℕ) → IsTaken servers sent k msg (Coord n)
@@ -105,68 +122,87 @@ coord_ends servers m n to t i v there tells = absurd (to_both (sym to ∙ tells.
     to_both : Coord n ≡ Server (record { 0 = i }) → ⊥
     to_both e = cc
 
--- what is seen as done was taken
-was_done : (a : Handled) → server_seen a ≡ seen.Done → a ≡ Done
-was_done Done e = refl
-was_done Gone e = absurd (cc)
-was_done (Ignored why) e = absurd (cc)
+-- what is seen as done was taken, and what is seen as gone came too late
+was_done : (a : Handled) → (server_seen a ≡ seen.Done) ⊎ (server_seen a ≡ seen.Gone) → IsTakenAs a
+was_done Done e = inl refl
+was_done Gone e = inr refl
+was_done (Ignored why) (inl e) = absurd (cc)
+was_done (Ignored why) (inr e) = absurd (cc)
 
-module _ (plan : Plan) (w : World) (ha : HasAsked w) (takes : (k : ℕ) (m : Envelope) (shard : Shard) (v : Outcome) → slice_get w.sent (k - 1) ≡ Some m → m.to ≡ Server shard → Happens plan w (Deliver k) v → v.seen ≡ seen.Done) (o : HasHeard w) where
-  deliver_heard : (k : ℕ) (b : Envelope) → 0 < k → slice_get w.sent (k - 1) ≡ Some b → (to : Node) → b.to ≡ to → (v : Outcome) → IsReceived plan (mark_delivered w k) b.msg to v → HasHeard v.world
+module _ (plan : Plan) (marks : ℕ) (w : World) (ha : HasAsked w) (takes : (k : ℕ) (m : Envelope) (shard : Shard) (v : Outcome) → slice_get w.sent (k - 1) ≡ Some m → m.to ≡ Server shard → Happens plan w (Deliver k) v → (v.seen ≡ seen.Done) ⊎ (v.seen ≡ seen.Gone))
+    (kept : (m : Envelope) → Has m w.sent → (n : ℕ) (s : ServerState) → slice_get w.servers n ≡ Some s → AreKept s) (o : HasHeard marks w) where
+  -- a settled in the network names a watermark that ends its transaction once it is heard
+  ends_it : (n : ℕ) (s : ServerState) → slice_get w.servers n ≡ Some s → (msg : Msg) → IsMarked marks msg → EndsIt s msg
+  ends_it n s at (Settled id mark) m = ended_by s.below id mark m.0 (subst (λ l. id.coord < l) (sym (o.keeps n s at)) m.1)
+  ends_it n s at msg m = tt
+
+  deliver_heard : (k : ℕ) (b : Envelope) → 0 < k → slice_get w.sent (k - 1) ≡ Some b → (to : Node) → b.to ≡ to → (v : Outcome) → IsReceived plan (mark_delivered w k) b.msg to v → HasHeard marks v.world
   deliver_heard k b some there (Server shard) to v (s, r, at, step, e) =
       let has = has_at w.sent (k - 1) b there in
-      let result = message_result plan s b.msg r step in
+      let starts = (o.awaits shard.0 s at).starts in
+      let result = message_result plan s (kept b has shard.0 s at) starts.same b.msg r (ends_it shard.0 s at b.msg (o.marked b has)) step in
       let done = takes k b shard v there to (b, some, there, subst (λ to. IsReceived plan (mark_delivered w k) b.msg to v) (sym to) (s, r, at, step, e)) in
-      let left = result.1 (was_done r.answer (sym (ap (λ (v : Outcome). v.seen) e) ∙ done)) in
-      let g = message_good plan (λ t es. Unit {0}) (IsStartedIn w.sent shard.0) s (o.awaits shard.0 s at).starts b.msg r step (λ k h. tt) (starts_here w.sent b has shard.0 to b.msg refl) in
+      let left = result.1 (was_done r.answer (subst (λ (v : Outcome). (v.seen ≡ seen.Done) ⊎ (v.seen ≡ seen.Gone)) e done)) in
+      let g = message_good plan (λ t es. Unit {0}) (IsStartedIn w.sent shard.0) s starts b.msg r step (λ k h. tt) (starts_here w.sent b has shard.0 to b.msg refl) in
       let number = ha.numbers shard.0 s at in
       let after = slice_set w.servers shard.0 r.state in
       let sent = w.sent ++ map (sent_by (Server shard)) r.sends in
-      let next = served_heard plan w o shard.0 s at number r result.0 g in
+      let next = served_heard plan marks w o shard.0 s at number r result.0 g in
       let taken = subst (IsTaken after sent (k - 1) b.msg) (sym to) (taken_now plan w.servers w.sent shard.0 s at number r result.0 g (k - 1) b.msg shard (slice_get_within w.sent (k - 1) b there) refl left) in
-      subst (λ (v : Outcome). HasHeard v.world) (sym e)
-      (heard_comes after sent (HasCome w) (HasCome (at_server (mark_delivered w k) shard.0 r)) (k - 1) b next
+      subst (λ (v : Outcome). HasHeard marks v.world) (sym e)
+      (heard_comes marks after sent (HasCome w) (HasCome (at_server (mark_delivered w k) shard.0 r)) (k - 1) b next
       (λ j c. came_or_comes w k some j (came_before (mark_delivered w k) (Server shard) r.sends (at_server (mark_delivered w k) shard.0 r) refl refl j c))
-      (front_stays (k - 1) b w.sent (map (sent_by (Server shard)) r.sends) there) taken
+      (get-front w.sent (map (sent_by (Server shard)) r.sends) (k - 1) b there) taken
       (ends_now plan w.servers w.sent shard.0 s at number r result.0 g b to left))
   deliver_heard k b some there (Coord n) to v (s, at, e) =
       let a = after_message plan s b.msg in
       let v2 = at_coord (mark_delivered w k) n a.state a.sends (answer_entries a.answer) in
       let sent = w.sent ++ map (sent_by (Coord n)) a.sends in
-      subst (λ (v : Outcome). HasHeard v.world) (sym e)
-      (heard_comes w.servers sent (HasCome w) (HasCome v2) (k - 1) b (coordinated_heard w o n a.sends)
+      subst (λ (v : Outcome). HasHeard marks v.world) (sym e)
+      (heard_comes marks w.servers sent (HasCome w) (HasCome v2) (k - 1) b (coordinated_heard marks w o n a.sends (message_round plan s b.msg))
       (λ j c. came_or_comes w k some j (came_before (mark_delivered w k) (Coord n) a.sends v2 refl refl j c))
-      (front_stays (k - 1) b w.sent (map (sent_by (Coord n)) a.sends) there)
+      (get-front w.sent (map (sent_by (Coord n)) a.sends) (k - 1) b there)
       (subst (IsTaken w.servers sent (k - 1) b.msg) (sym to) (coord_takes w.servers sent (k - 1) b.msg n))
       (coord_ends w.servers b n to))
 
-  step_heard : (e : Option Event) (v : Outcome) → Transition plan w e v → HasHeard v.world
-  step_heard None v h = subst (λ (v : Outcome). HasHeard v.world) (sym h) o
+  step_heard : (e : Option Event) (v : Outcome) → Transition plan w e v → HasHeard marks v.world
+  step_heard None v h = subst (λ (v : Outcome). HasHeard marks v.world) (sym h) o
   step_heard (Some (Submit n proc args)) v (s, there, h) = go (submitting plan w n proc args s v h)
     where
-      go : Submitting plan w n proc args s v → HasHeard v.world
-      go (is_refused e) = subst HasHeard (sym e) o
+      go : Submitting plan w n proc args s v → HasHeard marks v.world
+      go (is_refused e) = subst (HasHeard marks) (sym e) o
       go (is_accepted known counted e) =
           let a = accepted plan s (new_transaction s proc args) in
           let v2 = at_coord w n a.state a.sends (Submitted (next_id s) proc args ∷ []) in
-          subst HasHeard (sym e) (heard_weaker w.servers (w.sent ++ map (sent_by (Coord n)) a.sends) (HasCome w) (HasCome v2) (coordinated_heard w o n a.sends) (came_before w (Coord n) a.sends v2 refl refl))
+          subst (HasHeard marks) (sym e) (heard_weaker marks w.servers (w.sent ++ map (sent_by (Coord n)) a.sends) (HasCome w) (HasCome v2) (coordinated_heard marks w o n a.sends (submission_round plan s proc args)) (came_before w (Coord n) a.sends v2 refl refl))
   step_heard (Some (Deliver k)) v (b, some, there, h) = deliver_heard k b some there b.to refl v h
   step_heard (Some (Tick (Server shard))) v (s, there, e) =
       let r = answered s (server.tick_sends s) in
       let g = tick_good plan (λ t es. Unit {0}) (IsStartedIn w.sent shard.0) s (o.awaits shard.0 s there).starts in
       let v2 = at_server w shard.0 r in
-      subst (λ (v : Outcome). HasHeard v.world) (sym e)
-      (heard_weaker (slice_set w.servers shard.0 r.state) (w.sent ++ map (sent_by (Server shard)) r.sends) (HasCome w) (HasCome v2)
-      (served_heard plan w o shard.0 s there (ha.numbers shard.0 s there) r (nothing_changes plan s (server.tick_sends s)) g) (came_before w (Server shard) r.sends v2 refl refl))
+      subst (λ (v : Outcome). HasHeard marks v.world) (sym e)
+      (heard_weaker marks (slice_set w.servers shard.0 r.state) (w.sent ++ map (sent_by (Server shard)) r.sends) (HasCome w) (HasCome v2)
+      (served_heard plan marks w o shard.0 s there (ha.numbers shard.0 s there) r (nothing_changes plan s (server.tick_sends s)) g) (came_before w (Server shard) r.sends v2 refl refl))
   step_heard (Some (Tick (Coord n))) v (s, there, e) =
       let outs = coord.tick_sends plan s in
       let v2 = at_coord w n s outs [] in
-      subst (λ (v : Outcome). HasHeard v.world) (sym e) (heard_weaker w.servers (w.sent ++ map (sent_by (Coord n)) outs) (HasCome w) (HasCome v2) (coordinated_heard w o n outs) (came_before w (Coord n) outs v2 refl refl))
+      subst (λ (v : Outcome). HasHeard marks v.world) (sym e) (heard_weaker marks w.servers (w.sent ++ map (sent_by (Coord n)) outs) (HasCome w) (HasCome v2) (coordinated_heard marks w o n outs (tick_round plan s)) (came_before w (Coord n) outs v2 refl refl))
 
--- so it is in every world of every run
-pub run_heard : (plan : Plan) (start : Beginning) → IsBeginning plan start → HasSchemesFrom plan start.store → ((S : Scheme) → IsSoundScheme S → LogLaws S start.store) → StoreLaws → (coords : ℕ) (steps : List Stepped) (w : World) → IsRunFrom plan start coords steps w → HasHeard w
-run_heard plan start begins schemes laws stores coords steps w at_beginning =
+-- what is kept as taken is decided
+kept_there : (plan : Plan) (start : Beginning) → IsBeginning plan start → HasSchemesFrom plan start.store → ((S : Scheme) → IsSoundScheme S → LogLaws S start.store) → StoreLaws → (coords : ℕ) (steps : List Stepped) (w : World) → IsRunFrom plan start coords steps w
+    → (m : Envelope) → Has m w.sent → (n : ℕ) (s : ServerState) → slice_get w.servers n ≡ Some s → AreKept s
+kept_there plan start begins schemes laws stores coords steps w run m has n s there = elim (transaction_or_none plan) [
+  | inl some ↦ ((serial.logged plan start begins schemes laws stores coords steps w run some).1.means.servers n s there).taken.decided
+  | inr none ↦ absurd (subst (Has m) (run_idle plan none start begins coords steps w run).sent has)
+]
+
+-- so it is in every world of every run, where each server keeps as many watermarks as the others
+pub run_heard : (plan : Plan) (start : Beginning) → IsBeginning plan start → HasSchemesFrom plan start.store → ((S : Scheme) → IsSoundScheme S → LogLaws S start.store) → StoreLaws → (marks : ℕ) → ((n : ℕ) → length (start.below n) ≡ marks)
+    → (coords : ℕ) (steps : List Stepped) (w : World) → IsRunFrom plan start coords steps w → HasHeard marks w
+run_heard plan start begins schemes laws stores marks many coords steps w at_beginning =
     record {
+      keeps = λ n s h. ap (λ (s : ServerState). length s.below) (found_at (begun_server start) 0 plan.program.shards n s h) ∙ many (0 + n);
+      marked = λ m h. absurd h;
       placed = λ k c. absurd (nothing k c.0 c.1);
       taken = λ k m c. absurd (nothing k c.0 c.1);
       fresh = λ n s h a j. (let e = found_at (begun_server start) 0 plan.program.shards n s h in elim (subst (λ (s : ServerState). Has a s.lists.waiting.asked) e j) [ ]);
@@ -176,13 +212,14 @@ run_heard plan start begins schemes laws stores coords steps w at_beginning =
               groups = λ b j. elim (subst (λ (s : ServerState). Has b s.started) e j) [ ];
               known = λ k j. tt;
               facts = λ b j k i. tt;
+              same = subst (λ (s : ServerState). ids_of s.lists.links ≡ ids_of s.lists.known) (sym e) refl;
             };
             askers = λ a j. elim (subst (λ (s : ServerState). Has a s.lists.waiting.askers) e j) [ ];
-            seeks = λ k j. elim (subst (λ (s : ServerState). Has k s.lists.known) e j) [ ];
+            seeks = λ k j. elim (subst (λ (s : ServerState). Has k s.lists.links) e j) [ ];
           });
     }
   where
     nothing : (k : ℕ) (m : Envelope) → slice_get [] k ≡ Some m → ⊥
     nothing k m e = cc
-run_heard plan start begins schemes laws stores coords steps w (steps_on {w = v} e o r h) =
-    step_heard plan v (run_asked plan start coords _ v r) (server_takes plan start begins schemes laws stores coords _ v r) (run_heard plan start begins schemes laws stores coords _ v r) e o h
+run_heard plan start begins schemes laws stores marks many coords steps w (steps_on {w = v} e o r h) =
+    step_heard plan marks v (run_asked plan start coords _ v r) (server_takes plan start begins schemes laws stores coords _ v r) (kept_there plan start begins schemes laws stores coords _ v r) (run_heard plan start begins schemes laws stores marks many coords _ v r) e o h

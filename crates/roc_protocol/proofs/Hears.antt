@@ -1,40 +1,39 @@
 -- What a server's step keeps for those who wait, and what it says
-use Rattle.std.proofs.Common.{◌≡◌, Bool, true, false, not, cond, ◌&&◌, List, [], ◌∷◌, ◌++◌, Some, map, refl, sym, ap, subst, ◌∙◌, ◌⊎◌, inl, inr, is_some}
-use Rattle.std.proofs.lemmas.Bool.{cond-true, not_from_false, not-true, and_from, false≢true}
+use Rattle.std.proofs.Common.{◌≡◌, ℕ, ℤ, Bool, true, false, not, cond, List, [], ◌∷◌, ◌++◌, Some, map, refl, sym, ap, subst, ◌∙◌, ◌⊎◌, inl, inr, is_some}
+use Rattle.std.proofs.lemmas.Bool.{cond-true, not_from_false, not-true, false≢true, false_from_ne_true}
 use Rattle.std.specs.Prelude.{filter, flat_map}
-use Rattle.std.specs.List.{list_any}
 use Rattle.roc_sequence.specs.Lists.{Has}
-use Rattle.roc_sequence.proofs.Places.{listed_or_not}
-use Rattle.roc_sequence.proofs.Holds.{any_has, has_any}
-use Rattle.roc_sequence.proofs.Members.{has_append, has_left, has_right, has_map, has_filter, from_has_filter, has_flat_map}
+use Rattle.roc_sequence.proofs.Places.{listed_or_not, listed_true}
+use Rattle.roc_sequence.proofs.Members.{has_append, has_left, has_right, has_map, from_has_map, has_filter, from_has_filter, has_flat_map, from_has_flat_map}
 use Rattle.roc_base.specs.declared.id.TxnId.{TxnId}
+use Rattle.roc_base.specs.declared.node.Shard.{Shard}
+use Rattle.roc_base.specs.declared.node.Node.TheVariants.{Server, Coord}
 use Rattle.roc_base.specs.TxnId.{is_txn}
-use Rattle.roc_base.specs.Equalities.{is_txn-true}
 use Rattle.roc_base.proofs.Ids.{is_txn-eq}
-use Rattle.roc_base.proofs.Members.{has-united}
 use Rattle.roc_base.specs.Edge.{Dependency}
-use Rattle.roc_base.specs.Edges.{united}
 use Rattle.roc_depgraph.specs.declared.known.KnownList.{KnownList}
-use Rattle.roc_depgraph.specs.Deps.{list_of, is_known, IsKnown, IsDecided}
-use Rattle.roc_depgraph.proofs.Laws.{known_stays}
-use Rattle.roc_depgraph.proofs.Listed.{listed_has}
+use Rattle.roc_depgraph.specs.Deps.{list_of, IsKnown, IsDecided}
+use Rattle.roc_depgraph.proofs.Listed.{listed_has, has_listed}
 use Rattle.roc_await.specs.declared.waits.OpenFetch.{OpenFetch}
 use Rattle.roc_await.specs.declared.waits.Asker.{Asker}
-use Rattle.roc_await.specs.Waits.{is_asked_before, was_asked_for, with_asked, with_all_asked, askers_of}
+use Rattle.roc_await.specs.Waits.{was_asked_for}
+use Rattle.roc_msg.specs.declared.msg.Msg.TheVariants.{CommitOk, Known, Settled}
 use Rattle.roc_msg.specs.declared.outbox.Outgoing.{Outgoing}
 use Rattle.roc_msg.specs.InPlace.{in_place}
 use Rattle.roc_plan.specs.Groups.{Plan}
-use Rattle.roc_server_lists.specs.New.{AreNew, AreDecided}
+use Rattle.roc_server_lists.specs.New.{AreNewTaken, AreDecided}
+use Rattle.roc_server_lists.specs.Links.{without_links}
+use Rattle.roc_server_lists.proofs.SameIds.{ids_of, known_alike}
+use Rattle.roc_server_lists.proofs.ForgottenLinks.{left_known, left_decided}
+use Rattle.roc_server.specs.Forgets.{is_over, over, forget, forgetting}
 use Rattle.roc_server.specs.State.{is_here, Lists, ServerState, ServerStep}
-use Rattle.roc_server.specs.Runs.{commitok_of}
-use Rattle.roc_server_lists.specs.Carried.{list_with}
-use Rattle.roc_server_lists.specs.Asking.{known_to, knowns_for, fetch_from, asked_of}
-use Rattle.roc_server.specs.Lists.{lists_after, is_missing, missing_from, taught}
+use Rattle.roc_server.specs.Runs.{commitok, commitok_of, outs_here}
+use Rattle.roc_server_lists.specs.Asking.{fetch_from}
+use Rattle.roc_server.specs.Lists.{decides}
 use Rattle.roc_protocol.proofs.Facts.{known_has}
-use Rattle.roc_await.proofs.Asking.{asked_still, asked_all}
 use Rattle.roc_protocol.proofs.KeptGroups.{take_keeps, take_same}
-use Rattle.roc_protocol.proofs.Deciding.{more_keeps}
 use Rattle.roc_protocol.proofs.Gone.{IsGone}
+use Rattle.roc_protocol.proofs.ForgottenHere.{forgotten, asked_some, gone_still, gone_now, here_kept}
 
 -- ---- lists
 
@@ -60,29 +59,15 @@ has_known (x ∷ known) k (inr h) = go (is_txn x.of k.of) (has_known known k h)
     go true j = refl
     go false j = j
 
--- what is known of more lists was known, or is new
-pub known_either : (known news : List KnownList) (t : TxnId) → IsKnown (known ++ news) t → IsKnown known t ⊎ ((k : KnownList) × Has k news × (k.of ≡ t))
-known_either known news t h =
-    let k = known_has (known ++ news) t h in
-    elim (has_append k.0 known news k.1) [ inl j ↦ inl (subst (IsKnown known) k.2 (has_known known k.0 j)) | inr j ↦ inr (k.0, j, k.2) ]
-
--- what was asked for by now is of these, or was asked for
-asked_either : (a : OpenFetch) (more old : List OpenFetch) → Has a (with_all_asked more old) → Has a more ⊎ Has a old
-asked_either a [] old h = inr h
-asked_either a (b ∷ more) old h = elim (asked_either a more (with_asked b old) h) [
-  | inl k ↦ inl (inr k)
-  | inr k ↦ elim (from_has_in_place is_asked_before b old a k) [ inl e ↦ inl (inl e) | inr j ↦ inr j ]
-]
-
 -- ---- what a server seeks
 
--- the list of u is known, or a group of it is here, or its list was asked for, or it is gone
+-- the list of u is known, or a group of it is here, or its list was asked for
 abbrev pub IsSought : ServerState → TxnId → Type 0
-IsSought v u = IsKnown v.lists.known u ⊎ ((is_here u v.started ≡ true) ⊎ ((was_asked_for u v.lists.waiting.asked ≡ true) ⊎ IsGone v u))
+IsSought v u = IsKnown v.lists.links u ⊎ ((is_here u v.started ≡ true) ⊎ (was_asked_for u v.lists.waiting.asked ≡ true))
 
--- so it is of each that a known list names
+-- so it is of each that is followed
 abbrev pub SeeksAll : ServerState → Type 0
-SeeksAll v = (k : KnownList) → Has k v.lists.known → (d : Dependency) → Has d k.edges → IsSought v d.from
+SeeksAll v = (k : KnownList) → Has k v.lists.links → (d : Dependency) → Has d k.edges → IsSought v d.from
 
 -- who asks here waits for a list that is unknown, of a transaction that has a group here
 abbrev pub AreWaiting : ServerState → Type 0
@@ -92,132 +77,177 @@ AreWaiting v = (a : Asker) → Has a v.lists.waiting.askers → (is_here a.id v.
 abbrev pub AwaitsNone : TxnId → ServerState → Type 0
 AwaitsNone t v = (a : OpenFetch) → Has a v.lists.waiting.asked → a.id ≡ t → IsKnown v.lists.known a.id
 
--- the list goes to who asked for it
+-- who asked is told the list, or that nobody has to wait for it
 abbrev pub IsAnswered : List Outgoing → Asker → Type 0
-IsAnswered outs a = (edges : List Dependency) × Has (known_to (list_with a.id edges) a) outs
+IsAnswered outs a = (out : Outgoing) × Has out outs × (out.to ≡ Server a.shard) × (((edges : List Dependency) × (out.msg ≡ Known a.id edges)) ⊎ ((mark : ℕ) × (out.msg ≡ Settled a.id mark)))
+
+-- the coordinator of t is told by the shard that it is done here
+abbrev pub IsSaid : List Outgoing → Shard → TxnId → Type 0
+IsSaid outs shard t = (given : List ℤ) × Has (record { to = Coord t.coord; msg = CommitOk t shard given }) outs
+
+-- what is kept as taken is decided
+abbrev pub AreKept : ServerState → Type 0
+AreKept v = (c : List TxnId) (t : TxnId) → Has c v.lists.taken → Has t c → IsDecided v.lists.links t
 
 -- ---- a step
 
-module _ (plan : Plan) (s : ServerState) where
-  pub record Hears (r : ServerStep) : Type 0 where
-    pub known : (t : TxnId) → IsKnown s.lists.known t → IsKnown r.state.lists.known t ⊎ IsGone r.state t
-    -- what is decided now and has a group here is told of, or was decided
-    pub says : (t : TxnId) → is_here t s.started ≡ true → IsDecided r.state.lists.known t → IsDecided s.lists.known t ⊎ Has (commitok_of plan r.state t) r.sends
-    -- who asked is answered, or asks still
-    pub askers : (a : Asker) → Has a s.lists.waiting.askers → IsAnswered r.sends a ⊎ Has a r.state.lists.waiting.askers
-    -- what is asked for was, and its list is known where it was; or it is asked for now
-    pub asked : (a : OpenFetch) → Has a r.state.lists.waiting.asked → (Has a s.lists.waiting.asked × (IsKnown s.lists.known a.id → IsKnown r.state.lists.known a.id)) ⊎ Has (fetch_from s.shard a) r.sends
-    pub waits : AreWaiting s → AreWaiting r.state
-    pub seeks : SeeksAll s → SeeksAll r.state
+pub record Hears (s : ServerState) (r : ServerStep) : Type 0 where
+  pub known : (t : TxnId) → IsKnown s.lists.known t → IsKnown r.state.lists.known t ⊎ IsGone r.state t
+  -- what is decided now and has a group here is told of, or was decided
+  pub says : (t : TxnId) → is_here t s.started ≡ true → IsDecided r.state.lists.links t → IsDecided s.lists.links t ⊎ IsSaid r.sends s.shard t
+  -- who asked is answered, or asks still
+  pub askers : (a : Asker) → Has a s.lists.waiting.askers → IsAnswered r.sends a ⊎ Has a r.state.lists.waiting.askers
+  -- what is asked for was, and its list is known where it was; or it is asked for now
+  pub asked : (a : OpenFetch) → Has a r.state.lists.waiting.asked → (Has a s.lists.waiting.asked × (IsKnown s.lists.known a.id → IsKnown r.state.lists.known a.id)) ⊎ Has (fetch_from s.shard a) r.sends
+  pub waits : AreWaiting s → AreWaiting r.state
+  pub seeks : SeeksAll s → SeeksAll r.state
 
-  module _ (before : List TxnId) (was : AreDecided s.lists.known before) (news : List KnownList) (ts : List TxnId) (new : AreNew (IsDecided s.lists.known) (s.lists.known ++ news) ts) where
-    abbrev K : List KnownList
-    K = s.lists.known ++ news
+-- ---- a server forgets
 
-    abbrev before_run : ServerState
-    before_run = record s { lists = lists_after s news }
+module _ (v : ServerState) (kept : AreKept v) (same : ids_of v.lists.links ≡ ids_of v.lists.known) where
+  abbrev gone : TxnId → Bool
+  gone = forgotten v
 
-    abbrev r : ServerStep
-    r = taught plan s news ts
+  were : (t : TxnId) → gone t ≡ true → IsDecided v.lists.links t
+  were t h =
+      let q = from_has_flat_map (λ c. c) t (filter (is_over v.below) v.lists.taken) (listed_has (over v.below v.lists.taken) t (listed_true is_txn (over v.below v.lists.taken) t h)) in
+      kept q.0 t (from_has_filter (is_over v.below) q.0 v.lists.taken q.1).0 q.2
 
-    lists_are : r.state.lists ≡ lists_after s news
-    lists_are = (take_keeps plan ts before_run).0
+  -- a list that is unknown is of none that is forgotten
+  unknown_kept : (t : TxnId) → ¬ IsKnown v.lists.known t → gone t ≡ false
+  unknown_kept t n = false_from_ne_true (gone t) (λ h. n (sym (known_alike v.lists.known v.lists.links same t) ∙ (were t h).own))
 
-    -- each list that is taught or was known is known
-    pub taught_known : (t : TxnId) → IsKnown K t → IsKnown r.state.lists.known t
-    taught_known t h = subst (λ (l : Lists). IsKnown l.known t) (sym lists_are) h
+  known_kept : (t : TxnId) → IsKnown v.lists.known t → gone t ≡ false → IsKnown (forget v).lists.known t
+  known_kept t h n =
+      let k = known_has v.lists.known t h in
+      subst (IsKnown (forget v).lists.known) k.2
+      (has_known (forget v).lists.known k.0 (has_filter (λ k. not (gone k.of)) k.0 v.lists.known k.1 (not_from_false (gone k.0.of) (ap gone k.2 ∙ n))))
 
-    -- what is known after is known of all the lists
-    from_taught : (t : TxnId) → IsKnown r.state.lists.known t → IsKnown K t
-    from_taught t h = subst (λ (l : Lists). IsKnown l.known t) lists_are h
+  known_was : (t : TxnId) → IsKnown (forget v).lists.known t → IsKnown v.lists.known t
+  known_was t h = let k = known_has (forget v).lists.known t h in subst (IsKnown v.lists.known) k.2 (has_known v.lists.known k.0 (from_has_filter (λ k. not (gone k.of)) k.0 v.lists.known k.1).0)
 
-    front : (more : List Outgoing) (out : Outgoing) → Has out r.sends → Has out (r.sends ++ more)
-    front more out h = has_left out r.sends more h
+  pub known_or_gone : (t : TxnId) → IsKnown v.lists.known t → IsKnown (forget v).lists.known t ⊎ IsGone (forget v) t
+  known_or_gone t h = go (gone t) refl
+    where
+      go : (b : Bool) → gone t ≡ b → IsKnown (forget v).lists.known t ⊎ IsGone (forget v) t
+      go true e = inr (gone_now v t e)
+      go false e = inl (known_kept t h e)
 
-    abbrev knowns : List Outgoing
-    knowns = flat_map (knowns_for s.lists.waiting.askers) news
+  -- forgetting makes nothing decided
+  pub decided_was : (t : TxnId) → IsDecided (forget v).lists.links t → IsDecided v.lists.links t
+  decided_was t d = (left_decided gone v.lists.links were t d).0
 
-    abbrev commitoks : List Outgoing
-    commitoks = map (commitok_of plan r.state) (filter (λ t. is_here t s.started) ts)
+  asked_was : (a : OpenFetch) → Has a (forget v).lists.waiting.asked → Has a v.lists.waiting.asked × (gone a.id ≡ false)
+  asked_was a h = let q = from_has_filter (λ (a : OpenFetch). not (gone a.id)) a v.lists.waiting.asked h in (q.0, not-true (gone a.id) q.1)
 
-    abbrev fetches : List Outgoing
-    fetches = map (fetch_from s.shard) (missing_from s K)
+  pub awaits_none : (t : TxnId) → AwaitsNone t v → AwaitsNone t (forget v)
+  awaits_none t none a h e = let q = asked_was a h in known_kept a.id (none a q.0 e) q.1
 
-    taught_says : (t : TxnId) → is_here t s.started ≡ true → IsDecided r.state.lists.known t → IsDecided s.lists.known t ⊎ Has (commitok_of plan r.state t) r.sends
-    taught_says t here d = elim (listed_or_not is_txn before t) [
-      | inl l ↦ inl (was.sound t l)
-      | inr n ↦
-          (let l = new.members.all t (subst (λ (l : Lists). IsDecided l.known t) lists_are d, λ x. n (was.complete t x)) in
-          inr (has_right (commitok_of plan r.state t) knowns (commitoks ++ fetches)
-          (has_left (commitok_of plan r.state t) commitoks fetches (has_map (commitok_of plan r.state) t (filter (λ t. is_here t s.started) ts) (has_filter (λ t. is_here t s.started) t ts (listed_has ts t l) here)))))
-    ]
+  waits_left : AreWaiting v → AreWaiting (forget v)
+  waits_left w a h = let k = w a h in (here_kept v a.id (unknown_kept a.id k.1) k.0, λ j. k.1 (known_was a.id j))
 
-    -- what was known is known
-    still_known : (t : TxnId) → IsKnown s.lists.known t → IsKnown r.state.lists.known t
-    still_known t h = taught_known t (known_stays s.lists.known K (more_keeps s.lists.known news) t h)
+  -- no entry that is left names what is forgotten, so what it names is sought as before
+  seeks_left : SeeksAll v → SeeksAll (forget v)
+  seeks_left sought k h d m =
+      let q = from_has_map (without_links gone) k (filter (λ k. not (gone k.of)) v.lists.links) h in
+      let j = (from_has_filter (λ k. not (gone k.of)) q.0 v.lists.links q.1).0 in
+      let f = from_has_filter (λ (d : Dependency). not (gone d.from)) d q.0.edges (subst (λ (k : KnownList). Has d k.edges) q.2 m) in
+      let n = not-true (gone d.from) f.1 in
+      elim (sought q.0 j d f.0) [
+        | inl known ↦ inl (left_known gone v.lists.links d.from known n)
+        | inr (inl here) ↦ inr (inl (here_kept v d.from n here))
+        | inr (inr asked) ↦ elim (asked_some gone d.from v.lists.waiting.asked asked) [ inl e ↦ inr (inr e) | inr e ↦ absurd (false≢true (sym n ∙ e)) ]
+      ]
 
-    taught_askers : (a : Asker) → Has a s.lists.waiting.askers → IsAnswered r.sends a ⊎ Has a r.state.lists.waiting.askers
-    taught_askers a h = go (list_any (λ (k : KnownList). is_txn k.of a.id) news) refl
-      where
-        go : (b : Bool) → list_any (λ (k : KnownList). is_txn k.of a.id) news ≡ b → IsAnswered r.sends a ⊎ Has a r.state.lists.waiting.askers
-        go true e =
-            let q = any_has (λ (k : KnownList). is_txn k.of a.id) news e in
-            let same = is_txn-true q.0.of a.id q.2 in
-            inl (
-              q.0.edges,
-              has_left (known_to (list_with a.id q.0.edges) a) knowns (commitoks ++ fetches)
-                  (has_flat_map (knowns_for s.lists.waiting.askers) (known_to (list_with a.id q.0.edges) a) q.0 news q.1
-                  (subst (λ t. Has (known_to (list_with t q.0.edges) a) (knowns_for s.lists.waiting.askers q.0)) same
-                  (has_map (known_to q.0) a (askers_of q.0.of s.lists.waiting.askers) (has_filter (λ (a : Asker). is_txn a.id q.0.of) a s.lists.waiting.askers h (is_txn-eq a.id q.0.of (sym same)))))),
-            )
-        go false e = inr (subst (λ (l : Lists). Has a l.waiting.askers) (sym lists_are) (has_filter (λ (a : Asker). not (list_any (λ (k : KnownList). is_txn k.of a.id) news)) a s.lists.waiting.askers h (not_from_false (list_any (λ (k : KnownList). is_txn k.of a.id) news) e)))
+module _ (s : ServerState) (r : ServerStep) (kept : AreKept r.state) (same : ids_of r.state.lists.links ≡ ids_of r.state.lists.known) where
+  -- a step that ends with it keeps as much for those who wait
+  pub hears_left : Hears s r → Hears s (forgetting r)
+  hears_left h =
+      record {
+        known = λ t k. elim (h.known t k) [ inl j ↦ known_or_gone r.state kept same t j | inr z ↦ inr (gone_still r.state t z) ];
+        says = λ t here d. h.says t here (decided_was r.state kept same t d);
+        askers = h.askers;
+        asked = λ a k.
+            (let q = asked_was r.state kept same a k in
+            elim (h.asked a q.0) [ inl was ↦ inl (was.0, λ j. known_kept r.state kept same a.id (was.1 j) q.1) | inr new ↦ inr new ]);
+        waits = λ w. waits_left r.state kept same (h.waits w);
+        seeks = λ k. seeks_left r.state kept same (h.seeks k);
+      }
 
-    taught_waits : AreWaiting s → AreWaiting r.state
-    taught_waits was a h =
-        let q = from_has_filter (λ (a : Asker). not (list_any (λ (k : KnownList). is_txn k.of a.id) news)) a s.lists.waiting.askers (subst (λ (l : Lists). Has a l.waiting.askers) lists_are h) in
-        let w = was a q.0 in (
-          (take_same plan ts before_run).here a.id w.0,
-          λ k. elim (known_either s.lists.known news a.id (from_taught a.id k)) [
-            | inl j ↦ w.1 j
-            | inr z ↦ false≢true (sym (not-true (list_any (λ (k : KnownList). is_txn k.of a.id) news) q.1) ∙ has_any (λ (k : KnownList). is_txn k.of a.id) news z.0 z.1 (is_txn-eq z.0.of a.id z.2))
-          ],
-        )
+-- ---- the lists change, and what they newly decide runs
 
-    taught_asked : (a : OpenFetch) → Has a r.state.lists.waiting.asked → (Has a s.lists.waiting.asked × (IsKnown s.lists.known a.id → IsKnown r.state.lists.known a.id)) ⊎ Has (fetch_from s.shard a) r.sends
-    taught_asked a h = elim (asked_either a (missing_from s K) s.lists.waiting.asked (subst (λ (l : Lists). Has a l.waiting.asked) lists_are h)) [
-      | inl k ↦ inr (has_right (fetch_from s.shard a) knowns (commitoks ++ fetches) (has_right (fetch_from s.shard a) commitoks fetches (has_map (fetch_from s.shard) a (missing_from s K) k)))
-      | inr k ↦ inl (k, still_known a.id)
-    ]
+-- what lists lead to that change so: nothing known is lost, who asked is answered or asks still, and what was asked for and is not fetched now was
+pub record IsHeard (s : ServerState) (lists : Lists) (components : List (List TxnId)) (told asks : List Outgoing) : Type 0 where
+  pub same : ids_of lists.links ≡ ids_of lists.known
+  pub new : AreNewTaken (IsDecided s.lists.links) lists.links components
+  pub taken : lists.taken ≡ s.lists.taken ++ components
+  pub stays : (t : TxnId) → IsDecided s.lists.links t → IsDecided lists.links t
+  pub known : (t : TxnId) → IsKnown s.lists.known t → IsKnown lists.known t
+  pub askers : (a : Asker) → Has a s.lists.waiting.askers → IsAnswered told a ⊎ Has a lists.waiting.askers
+  pub asked : (a : OpenFetch) → Has a lists.waiting.asked → Has a s.lists.waiting.asked ⊎ Has (fetch_from s.shard a) asks
+  pub waits : AreWaiting s → (a : Asker) → Has a lists.waiting.askers → (is_here a.id s.started ≡ true) × (¬ IsKnown lists.known a.id)
+  pub seeks : SeeksAll s → (k : KnownList) → Has k lists.links → (d : Dependency) → Has d k.edges → IsSought (record s { lists = lists }) d.from
 
-    -- an entry of a known list is sought, since what is missing is asked for
-    taught_seeks : SeeksAll r.state
-    taught_seeks k h d m =
-        let h2 = subst (λ (l : Lists). Has k l.known) lists_are h in
-        let all = flat_map (λ (k : KnownList). k.edges) K in
-        let z = has-united all d (has_flat_map (λ (k : KnownList). k.edges) d k K h2 m) in
-        subst (IsSought r.state) z.2.from (sought z.0 z.1 (is_known K z.0.from) (is_here z.0.from s.started) (was_asked_for z.0.from s.lists.waiting.asked) refl refl refl)
-      where
-        asked_later : (u : TxnId) → was_asked_for u (with_all_asked (missing_from s K) s.lists.waiting.asked) ≡ true → was_asked_for u r.state.lists.waiting.asked ≡ true
-        asked_later u e = subst (λ (l : Lists). was_asked_for u l.waiting.asked ≡ true) (sym lists_are) e
+module _ (plan : Plan) (s : ServerState) (kept : AreKept s) (before : List TxnId) (was : AreDecided s.lists.links before) (lists : Lists) (components : List (List TxnId)) (told asks : List Outgoing) (h : IsHeard s lists components told asks) where
+  abbrev ts : List TxnId
+  ts = flat_map (λ c. c) components
 
-        sought : (z : Dependency) → Has z (united (flat_map (λ (k : KnownList). k.edges) K)) → (a b c : Bool) → is_known K z.from ≡ a → is_here z.from s.started ≡ b → was_asked_for z.from s.lists.waiting.asked ≡ c → IsSought r.state z.from
-        sought z h true b c e f g = inl (taught_known z.from e)
-        sought z h false true c e f g = inr (inl ((take_same plan ts before_run).here z.from f))
-        sought z h false false true e f g = inr (inr (inl (asked_later z.from (asked_still z.from (missing_from s K) s.lists.waiting.asked g))))
-        sought z h false false false e f g =
-            let is = has_filter (is_missing s K) z (united (flat_map (λ (k : KnownList). k.edges) K)) h
-            (and_from (not (is_known K z.from)) (not (is_here z.from s.started) && not (was_asked_for z.from s.lists.waiting.asked)) (not_from_false (is_known K z.from) e)
-            (and_from (not (is_here z.from s.started)) (not (was_asked_for z.from s.lists.waiting.asked)) (not_from_false (is_here z.from s.started) f) (not_from_false (was_asked_for z.from s.lists.waiting.asked) g))) in
-            inr (inr (inl (asked_later z.from (asked_all (asked_of z) (missing_from s K) s.lists.waiting.asked (has_map asked_of z (filter (is_missing s K) (united (flat_map (λ (k : KnownList). k.edges) K))) is)))))
+  abbrev before_run : ServerState
+  before_run = record s { lists = lists }
 
-    -- lists that are taught keep what is waited for, whatever else is sent
-    pub taught_hears : (more : List Outgoing) → Hears (record r { sends = r.sends ++ more })
-    taught_hears more =
-        record {
-          known = λ t h. inl (still_known t h);
-          says = λ t here d. elim (taught_says t here d) [ inl k ↦ inl k | inr k ↦ inr (front more (commitok_of plan r.state t) k) ];
-          askers = λ a h. elim (taught_askers a h) [ inl k ↦ inl (k.0, front more (known_to (list_with a.id k.0) a) k.1) | inr k ↦ inr k ];
-          asked = λ a h. elim (taught_asked a h) [ inl k ↦ inl k | inr k ↦ inr (front more (fetch_from s.shard a) k) ];
-          waits = taught_waits;
-          seeks = λ h. taught_seeks;
-        }
+  abbrev r : ServerStep
+  r = decides plan s lists components told asks
+
+  lists_are : r.state.lists ≡ lists
+  lists_are = (take_keeps plan ts before_run).0
+
+  pub kept_after : AreKept r.state
+  kept_after c t k m =
+      subst (λ (l : Lists). IsDecided l.links t) (sym lists_are)
+      (elim (has_append c s.lists.taken components (subst (Has c) (ap (λ (l : Lists). l.taken) lists_are ∙ h.taken) k)) [
+        | inl old ↦ h.stays t (kept c t old m)
+        | inr now ↦ (h.new.members.only t (has_listed ts t (has_flat_map (λ c. c) t c components now m))).0
+      ])
+
+  decided_says : (t : TxnId) → is_here t s.started ≡ true → IsDecided r.state.lists.links t → IsDecided s.lists.links t ⊎ IsSaid r.sends s.shard t
+  decided_says t here d = elim (listed_or_not is_txn before t) [
+    | inl l ↦ inl (was.sound t l)
+    | inr n ↦
+        (let l = h.new.members.all t (subst (λ (l : Lists). IsDecided l.links t) lists_are d, λ x. n (was.complete t x)) in
+        let commitoks = map (commitok_of plan r.state) (filter (λ t. is_here t s.started) ts) in
+        let said = has_right (commitok_of plan r.state t) told (commitoks ++ asks)
+        (has_left (commitok_of plan r.state t) commitoks asks (has_map (commitok_of plan r.state) t (filter (λ t. is_here t s.started) ts) (has_filter (λ t. is_here t s.started) t ts (listed_has ts t l) here))) in
+        inr (outs_here plan t r.state.started, subst (λ at. Has (commitok plan at r.state.started t) r.sends) (take_keeps plan ts before_run).1 said))
+  ]
+
+  -- so it is then, whatever else is sent
+  pub decided_hears : (more : List Outgoing) → Hears s (record r { sends = r.sends ++ more })
+  decided_hears more =
+      record {
+        known = λ t k. inl (subst (λ (l : Lists). IsKnown l.known t) (sym lists_are) (h.known t k));
+        says = λ t here d. elim (decided_says t here d) [ inl k ↦ inl k | inr k ↦ inr (k.0, has_left _ r.sends more k.1) ];
+        askers = λ a k. elim (h.askers a k) [
+          | inl q ↦ inl (q.0, has_left q.0 r.sends more (has_left q.0 told (map (commitok_of plan r.state) (filter (λ t. is_here t s.started) ts) ++ asks) q.1), q.2, q.3)
+          | inr j ↦ inr (subst (λ (l : Lists). Has a l.waiting.askers) (sym lists_are) j)
+        ];
+        asked = λ a k. elim (h.asked a (subst (λ (l : Lists). Has a l.waiting.asked) lists_are k)) [
+          | inl j ↦ inl (j, λ e. subst (λ (l : Lists). IsKnown l.known a.id) (sym lists_are) (h.known a.id e))
+          | inr j ↦ inr (has_left (fetch_from s.shard a) r.sends more (has_right (fetch_from s.shard a) told (map (commitok_of plan r.state) (filter (λ t. is_here t s.started) ts) ++ asks)
+              (has_right (fetch_from s.shard a) (map (commitok_of plan r.state) (filter (λ t. is_here t s.started) ts)) asks j)))
+        ];
+        waits = λ w a k.
+            (let q = h.waits w a (subst (λ (l : Lists). Has a l.waiting.askers) lists_are k) in
+            ((take_same plan ts before_run).here a.id q.0, λ e. q.1 (subst (λ (l : Lists). IsKnown l.known a.id) lists_are e)));
+        seeks = λ k j m d e. elim (h.seeks k j (subst (λ (l : Lists). Has j l.links) lists_are m) d e) [
+          | inl known ↦ inl (subst (λ (l : Lists). IsKnown l.links d.from) (sym lists_are) known)
+          | inr (inl here) ↦ inr (inl ((take_same plan ts before_run).here d.from here))
+          | inr (inr asked) ↦ inr (inr (subst (λ (l : Lists). was_asked_for d.from l.waiting.asked ≡ true) (sym lists_are) asked))
+        ];
+      }
+
+  pub same_after : ids_of r.state.lists.links ≡ ids_of r.state.lists.known
+  same_after = subst (λ (l : Lists). ids_of l.links ≡ ids_of l.known) (sym lists_are) h.same
+
+  -- and where the server forgets then
+  pub forgetting_hears : (more : List Outgoing) → Hears s (forgetting (record r { sends = r.sends ++ more }))
+  forgetting_hears more = hears_left s (record r { sends = r.sends ++ more }) kept_after same_after (decided_hears more)

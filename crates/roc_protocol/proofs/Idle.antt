@@ -29,6 +29,7 @@ pub record IsIdle (plan : Plan) (start : Beginning) (w : World) : Type 0 where
   pub order : w.order ≡ []
   pub servers : (n : ℕ) (s : ServerState) → slice_get w.servers n ≡ Some s → s.lists.waiting.asked ≡ []
   pub known : (n : ℕ) (s : ServerState) → slice_get w.servers n ≡ Some s → s.lists.known ≡ []
+  pub links : (n : ℕ) (s : ServerState) → slice_get w.servers n ≡ Some s → s.lists.links ≡ []
   pub coords : (n : ℕ) (c : CoordState) → slice_get w.coords n ≡ Some c → c.pending ≡ []
   pub stores : (n : ℕ) (s : ServerState) → slice_get w.servers n ≡ Some s → s.store ≡ start.stores n
   pub below : (n : ℕ) (s : ServerState) → slice_get w.servers n ≡ Some s → s.below ≡ start.below n
@@ -60,6 +61,7 @@ module _ (plan : Plan) (none : NoTransaction plan) (start : Beginning) where
         order = i.order;
         servers = λ m v h. elim (get-set_cases w.servers shard.0 m s s v there h) [ inl k ↦ ap (λ (v : ServerState). v.lists.waiting.asked) k.1 ∙ i.servers shard.0 s there | inr k ↦ i.servers m v k.1 ];
         known = λ m v h. elim (get-set_cases w.servers shard.0 m s s v there h) [ inl k ↦ ap (λ (v : ServerState). v.lists.known) k.1 ∙ i.known shard.0 s there | inr k ↦ i.known m v k.1 ];
+        links = λ m v h. elim (get-set_cases w.servers shard.0 m s s v there h) [ inl k ↦ ap (λ (v : ServerState). v.lists.links) k.1 ∙ i.links shard.0 s there | inr k ↦ i.links m v k.1 ];
         coords = i.coords;
         stores = λ m v h. elim (get-set_cases w.servers shard.0 m s s v there h) [
           | inl k ↦ subst (λ m. v.store ≡ start.stores m) k.0 (ap (λ (v : ServerState). v.store) k.1 ∙ i.stores shard.0 s there)
@@ -81,6 +83,7 @@ module _ (plan : Plan) (none : NoTransaction plan) (start : Beginning) where
         order = i.order;
         servers = i.servers;
         known = i.known;
+        links = i.links;
         coords = λ m v h. elim (get-set_cases w.coords n m s s v there h) [ inl k ↦ ap (λ (v : CoordState). v.pending) k.1 ∙ i.coords n s there | inr k ↦ i.coords m v k.1 ];
         stores = i.stores;
         below = i.below;
@@ -102,6 +105,7 @@ module _ (plan : Plan) (none : NoTransaction plan) (start : Beginning) where
     order = refl;
     servers = λ n s h. ap (λ (s : ServerState). s.lists.waiting.asked) (found_at (begun_server start) 0 plan.program.shards n s h);
     known = λ n s h. ap (λ (s : ServerState). s.lists.known) (found_at (begun_server start) 0 plan.program.shards n s h);
+    links = λ n s h. ap (λ (s : ServerState). s.lists.links) (found_at (begun_server start) 0 plan.program.shards n s h);
     coords = λ n c h. ap (λ (c : CoordState). c.pending) (found_at (begun_coord start) 0 coords n c h);
     stores = λ n s h.
         (let same : 0 + n ≡ n = omega arith in

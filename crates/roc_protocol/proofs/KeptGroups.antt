@@ -1,16 +1,19 @@
 -- What stays of a server's state as buffered groups run
-use Rattle.std.proofs.Common.{◌≡◌, ℕ, ℤ, Bool, true, false, cond, ◌||◌, List, [], ◌∷◌, Some, refl, ap, ◌∙◌}
-use Rattle.std.proofs.lemmas.Bool.{cond-true, cond-false, or_left, or_right}
-use Rattle.std.specs.Prelude.{if◌then◌else◌}
+use Rattle.std.proofs.Common.{◌≡◌, ℕ, ℤ, Bool, true, false, not, cond, ◌||◌, List, [], ◌∷◌, ◌++◌, Option, Some, None, refl, sym, ap, subst, ◌∙◌, inl, inr}
+use Rattle.std.proofs.lemmas.Bool.{false≢true, false_from_ne_true, cond-true, cond-false, or_left, or_right}
+use Rattle.std.specs.Prelude.{if◌then◌else◌, filter, find, filter_map}
+use Rattle.std.specs.List.{range_with_len}
 use Rattle.roc_sequence.specs.Lists.{Has}
+use Rattle.roc_sequence.proofs.Holds.{any_has, has_any}
+use Rattle.roc_sequence.proofs.Found.{found_has}
 use Rattle.roc_sequence.proofs.Members.{from_has_map}
 use Rattle.roc_base.specs.declared.id.TxnId.{TxnId}
 use Rattle.roc_base.specs.TxnId.{is_txn}
-use Rattle.roc_plan.specs.Groups.{Plan}
+use Rattle.roc_plan.specs.Groups.{Plan, is_immediate_of}
 use Rattle.roc_group.specs.GroupRun.{group_run}
 use Rattle.roc_server.specs.declared.started.StartedGroup.{StartedGroup}
 use Rattle.roc_server.specs.State.{is_here, is_group, find_group, ServerState, unrun}
-use Rattle.roc_server.specs.Runs.{group_call, with_later, run_group, run_groups, buffered_here, take_all}
+use Rattle.roc_server.specs.Runs.{group_call, with_later, run_group, run_groups, buffered_here, all_buffered, take_all, count_of_groups}
 
 -- running groups leaves the lists, the number and the watermarks alone
 groups_keep : (plan : Plan) (es : List StartedGroup) (st : ServerState) → ((run_groups plan st es).lists ≡ st.lists) × ((run_groups plan st es).shard ≡ st.shard) × ((run_groups plan st es).below ≡ st.below)
@@ -92,3 +95,41 @@ take_same plan [] st = same_itself st.started
 take_same plan (t ∷ ts) st =
     let es = buffered_here plan t st.started in
     same_chain st.started (run_groups plan st es).started (take_all plan (run_groups plan st es) ts).started (groups_same plan es st) (take_same plan ts (run_groups plan st es))
+
+-- and no others have groups
+pub same_here : (old new : List StartedGroup) → SameGroups old new → (id : TxnId) → is_here id new ≡ true → is_here id old ≡ true
+same_here old new same id h =
+    let q = any_has (λ (e : StartedGroup). is_txn e.id id) new h in
+    let f = same.from q.0 q.1 in
+    has_any (λ (e : StartedGroup). is_txn e.id id) old f.0 f.1 (subst (λ (e : StartedGroup). is_txn e.id id ≡ true) f.2 q.2)
+
+-- ---- transactions without a group here run nothing
+
+pub buffered_none : (plan : Plan) (t : TxnId) (started : List StartedGroup) → is_here t started ≡ false → buffered_here plan t started ≡ []
+buffered_none plan t started none = go (find (λ (e : StartedGroup). is_txn e.id t) started) refl
+  where
+    go : (o : Option StartedGroup) → find (λ (e : StartedGroup). is_txn e.id t) started ≡ o
+        → filter (λ (e : StartedGroup). not (is_immediate_of plan e.proc e.group)) (filter_map (λ g. find_group t g started) (range_with_len 0 (count_of_groups plan o))) ≡ []
+    go None f = refl
+    go (Some e) f = let k = found_has (λ (e : StartedGroup). is_txn e.id t) started e f in absurd (false≢true (sym none ∙ has_any (λ (e : StartedGroup). is_txn e.id t) started e k.0 k.1))
+
+module _ (plan : Plan) (p : TxnId → Bool) where
+  pub take_some : (ts : List TxnId) (st : ServerState) → ((t : TxnId) → Has t ts → p t ≡ false → is_here t st.started ≡ false) → take_all plan st ts ≡ take_all plan st (filter p ts)
+  take_some [] st none = refl
+  take_some (t ∷ ts) st none = go (p t) refl (take_some ts)
+    where
+      after : ServerState
+      after = run_groups plan st (buffered_here plan t st.started)
+
+      go : (b : Bool) → p t ≡ b → ((st : ServerState) → ((u : TxnId) → Has u ts → p u ≡ false → is_here u st.started ≡ false) → take_all plan st ts ≡ take_all plan st (filter p ts))
+          → take_all plan after ts ≡ take_all plan st (cond b (t ∷ filter p ts) (filter p ts))
+      go true e ih = ih after (λ u h f. false_from_ne_true (is_here u after.started) (λ k. false≢true (sym (none u (inr h) f) ∙ same_here st.started after.started (groups_same plan (buffered_here plan t st.started) st) u k)))
+      go false e ih = ap (λ es. take_all plan (run_groups plan st es) ts) (buffered_none plan t st.started (none t (inl refl) e)) ∙ ih st (λ u h f. none u (inr h) f)
+
+  pub buffered_some : (started : List StartedGroup) (ts : List TxnId) → ((t : TxnId) → Has t ts → p t ≡ false → is_here t started ≡ false) → all_buffered plan started ts ≡ all_buffered plan started (filter p ts)
+  buffered_some started [] none = refl
+  buffered_some started (t ∷ ts) none = go (p t) refl (buffered_some started ts (λ u h f. none u (inr h) f))
+    where
+      go : (b : Bool) → p t ≡ b → all_buffered plan started ts ≡ all_buffered plan started (filter p ts) → buffered_here plan t started ++ all_buffered plan started ts ≡ all_buffered plan started (cond b (t ∷ filter p ts) (filter p ts))
+      go true e ih = ap (λ es. buffered_here plan t started ++ es) ih
+      go false e ih = ap (λ es. es ++ all_buffered plan started ts) (buffered_none plan t started (none t (inl refl) e)) ∙ ih

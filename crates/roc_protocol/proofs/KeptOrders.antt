@@ -27,7 +27,8 @@ use Rattle.roc_protocol.specs.Kept.{ran_in, KeepsWhatRan}
 use Rattle.roc_protocol.specs.Inner.Given.{LogLaws, SerialLaws, StoreLaws}
 use Rattle.roc_protocol.proofs.Changed.{get-set_here, get-set_other}
 use Rattle.roc_protocol.proofs.Idle.{run_idle}
-use Rattle.roc_protocol.proofs.Worlds.{Submitting, is_refused, is_accepted, submitting, submission_ran}
+use Rattle.roc_protocol.proofs.Worlds.{Submitting, is_refused, is_accepted, submitting}
+use Rattle.roc_protocol.proofs.TakesOn.{submission_none}
 use Rattle.roc_protocol.proofs.Witness.{ran_more, replies}
 use Rattle.roc_protocol.proofs.WhatRan.{from_log, to_log}
 use Rattle.roc_protocol.proofs.Serial as serial
@@ -62,7 +63,7 @@ server_stays plan w (Some (Tick (Coord k))) o (s, there, e) n h = subst (λ (o :
 ran_here : (plan : Plan) (w : World) (e : Option Event) (o : Outcome) → Transition plan w e o → (q : RanAt) → Has q o.ran → HasServer w q.shard
 ran_here plan w None o c q h = absurd (subst (λ (o : Outcome). Has q o.ran) c h)
 ran_here plan w (Some (Submit k proc args)) o (s, there, c) q h =
-    absurd (subst (Has q) (submission_ran w k proc args (after_submit plan s proc args).state (after_submit plan s proc args).sends (after_submit plan s proc args).answer o c) h)
+    absurd (subst (Has q) ((submission_none w k proc args (after_submit plan s proc args).state (after_submit plan s proc args).sends (after_submit plan s proc args).answer o c).0) h)
 ran_here plan w (Some (Deliver k)) o (m, some, there, c) q h = go m.to c
   where
     go : (to : Node) → IsReceived plan (mark_delivered w k) m.msg to o → HasServer w q.shard

@@ -1,26 +1,44 @@
 mod Marks
+mod MarksKept
 mod KeptGroups
+mod OneGroupMore
 mod Gone
+mod ForgottenHere
+mod Followed
+mod Flattened
 mod Means
 mod Grows
 pub mod Meets
 pub mod Facts
 mod Local
+mod SaidOfServers
+mod FollowedEdges
 mod Elsewhere
 mod Starting
 mod Buffered
 mod Runs
+mod AncestorsFirst
 pub mod Deciding
+mod TakenNow
+mod Changing
+mod Forgets
+mod Teaching
 pub mod Coordinators
 mod Rounds
 mod Replies
 pub mod Changed
+mod FirstTaken
+mod KeepsTaken
+mod TakesOn
+mod Explains
 pub mod Served
 mod NoStarts
 mod Coordinated
 mod Submissions
 pub mod Firsts
 pub mod Worlds
+mod TakenRuns
+mod KeptRuns
 mod Witness
 mod WhatRan
 mod Idle
@@ -30,7 +48,9 @@ mod Answered
 mod Cells
 mod Resting
 mod Anew
+mod Decisions
 mod Earlier
+mod Taking
 pub mod Carried
 mod Gathered
 mod Networks
@@ -57,17 +77,21 @@ mod Once
 mod Tells
 mod Counted
 mod Hears
+mod HeardLists
 mod Takes
 mod Transactions
 mod Delivered
 mod Hearing
 mod Quieted
 mod Ordered
+mod WhatIsOver
+mod Forgotten
 mod OneRun
 pub mod Named
 mod ServersHere
 mod CoordsHere
 pub mod WorldsFit
+mod OrderParts
 mod Findings
 mod Outcomes
 mod RunsThere

@@ -126,19 +126,23 @@ module _ (plan : Plan) (asked : TxnId → whole.Call) (S : Scheme) (start : Begi
     never_done : CommitsHeard w x.id → ⊥
     never_done said = false≢true (sym (held.waits all_heard) ∙ all_done said)
 
+  -- unless it is answered, each delivered start of it has its startok
+  abbrev IsHeardOf : TxnId → Type 0
+  IsHeardOf t = ((reply : List ℤ) → ¬ Has (Answered t reply) w.history) → StartsHeard w t
+
   -- where it was answered its commits were sent before, and where it is pending they were sent as the last startok came
-  submitted_out : IsPending plan w → (t : TxnId) → WasSubmitted w.history t → StartsHeard w t → AreDelivered w t → CommitsAreOut w t
+  submitted_out : IsPending plan w → (t : TxnId) → WasSubmitted w.history t → IsHeardOf t → AreDelivered w t → CommitsAreOut w t
   submitted_out o t (proc, args, h) heard delivered = elim (g.submitted t proc args h) [
     | inl k ↦ g.out t k.0 k.1
     | inr p ↦
         (let at = subst (λ t. slice_get w.coords t.coord ≡ Some p.coord) (sym p.is) p.there in
         subst (CommitsAreOut w) p.is
         (whole_out plan asked S start is laws w log l o g.holds p.coord p.transaction at p.has
-        (all_heard p.coord p.transaction at p.has (subst (StartsHeard w) (sym p.is) heard) (subst (AreDelivered w) (sym p.is) delivered))))
+        (all_heard p.coord p.transaction at p.has (subst (StartsHeard w) (sym p.is) (heard (λ reply k. g.gone t reply k p.coord p.transaction p.there p.has p.is))) (subst (AreDelivered w) (sym p.is) delivered))))
   ]
 
   -- it is enough to know it of submitted transactions, since only these are started
-  all_out : IsPending plan w → (t : TxnId) → StartsHeard w t → AreDelivered w t → CommitsAreOut w t
+  all_out : IsPending plan w → (t : TxnId) → IsHeardOf t → AreDelivered w t → CommitsAreOut w t
   all_out o t heard delivered =
       record {
         each = λ m shard proc group args inputs h to is_start.
@@ -146,12 +150,13 @@ module _ (plan : Plan) (asked : TxnId → whole.Call) (S : Scheme) (start : Begi
       }
 
   -- no transaction waits for ever, so it was answered
-  all_answered : (t : TxnId) (proc : ℕ) (args : List ℤ) → Has (Submitted t proc args) w.history → StartsHeard w t → (((reply : List ℤ) → ¬ Has (Answered t reply) w.history) → CommitsHeard w t) → AreDelivered w t → (reply : List ℤ) × Has (Answered t reply) w.history
+  all_answered : (t : TxnId) (proc : ℕ) (args : List ℤ) → Has (Submitted t proc args) w.history → (((reply : List ℤ) → ¬ Has (Answered t reply) w.history) → StartsHeard w t) → (((reply : List ℤ) → ¬ Has (Answered t reply) w.history) → CommitsHeard w t) → AreDelivered w t → (reply : List ℤ) × Has (Answered t reply) w.history
   all_answered t proc args h heard said delivered = elim (g.submitted t proc args h) [
     | inl k ↦ k
     | inr p ↦
+        (let unanswered : (reply : List ℤ) → ¬ Has (Answered t reply) w.history = λ reply k. g.gone t reply k p.coord p.transaction p.there p.has p.is in
         absurd (never_done p.coord p.transaction (subst (λ t. slice_get w.coords t.coord ≡ Some p.coord) (sym p.is) p.there) p.has
-        (subst (StartsHeard w) (sym p.is) heard) (subst (AreDelivered w) (sym p.is) delivered) (subst (CommitsHeard w) (sym p.is) (said (λ reply k. g.gone t reply k p.coord p.transaction p.there p.has p.is))))
+        (subst (StartsHeard w) (sym p.is) (heard unanswered)) (subst (AreDelivered w) (sym p.is) delivered) (subst (CommitsHeard w) (sym p.is) (said unanswered))))
   ]
 
 -- ---- every run
@@ -176,8 +181,8 @@ module _ (plan : Plan) (start : Beginning) (begins : IsBeginning plan start) (sc
     ongoing : IsOngoing plan w × AreTaken w
     ongoing = run_ongoing plan calls T start is (laws T sound) stores begins coords steps w run (serial.agrees plan some.0 w (serial.submissions plan start begins schemes laws stores coords steps w run some))
 
-  -- where each delivered start of t has its startok, and all of its messages are delivered, its shards were asked to commit
-  pub commits_are_out : (t : TxnId) → StartsHeard w t → AreDelivered w t → CommitsAreOut w t
+  -- where, unless t is answered, each delivered start of it has its startok, and all of its messages are delivered, its shards were asked to commit
+  pub commits_are_out : (t : TxnId) → (((reply : List ℤ) → ¬ Has (Answered t reply) w.history) → StartsHeard w t) → AreDelivered w t → CommitsAreOut w t
   commits_are_out t heard delivered = elim (transaction_or_none plan) [
     | inl some ↦
         (let x = serial.logged plan start begins schemes laws stores coords steps w run some in
@@ -186,7 +191,7 @@ module _ (plan : Plan) (start : Beginning) (begins : IsBeginning plan start) (sc
   ]
 
   -- and where, unless it is answered, each delivered commit has its commitok too, it is answered
-  pub heard_is_answered : (t : TxnId) (proc : ℕ) (args : List ℤ) → Has (Submitted t proc args) w.history → StartsHeard w t → (((reply : List ℤ) → ¬ Has (Answered t reply) w.history) → CommitsHeard w t) → AreDelivered w t → (reply : List ℤ) × Has (Answered t reply) w.history
+  pub heard_is_answered : (t : TxnId) (proc : ℕ) (args : List ℤ) → Has (Submitted t proc args) w.history → (((reply : List ℤ) → ¬ Has (Answered t reply) w.history) → StartsHeard w t) → (((reply : List ℤ) → ¬ Has (Answered t reply) w.history) → CommitsHeard w t) → AreDelivered w t → (reply : List ℤ) × Has (Answered t reply) w.history
   heard_is_answered t proc args h heard said delivered = elim (transaction_or_none plan) [
     | inl some ↦
         (let x = serial.logged plan start begins schemes laws stores coords steps w run some in

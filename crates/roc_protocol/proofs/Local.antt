@@ -1,5 +1,5 @@
 -- A shard's store is its part of the one store
-use Rattle.std.proofs.Common.{◌≡◌, ◌≢◌, ℕ, ℤ, List, map, sym, ap, ◌∙◌}
+use Rattle.std.proofs.Common.{◌≡◌, ◌≢◌, ℕ, ℤ, List, [], ◌∷◌, ◌++◌, map, refl, sym, ap, ◌∙◌}
 use Rattle.roc_base.specs.declared.id.TxnId.{TxnId}
 use Rattle.roc_rows.specs.declared.cell.Cell.{Cell}
 use Rattle.roc_rows.specs.Store.{Store, read}
@@ -7,7 +7,7 @@ use Rattle.roc_plan.specs.Groups.{Plan, inputs_of}
 use Rattle.roc_whole.specs.Serial as whole
 use Rattle.roc_group.specs.GroupRun.{GroupCall, call, group_run, group_uses, bound_by_run}
 use Rattle.roc_law_orders.specs.Behaviour.{TxnGroup, Yield, DoesSame}
-use Rattle.roc_law_orders.specs.Runs.{Stage, inputs_at, uses_at, yield_at, after_group}
+use Rattle.roc_law_orders.specs.Runs.{Stage, inputs_at, uses_at, yield_at, after_group, after_groups}
 use Rattle.roc_law_orders.proofs.Stages.{after-store, after-yielded_same}
 use Rattle.roc_law_log.specs.Scheme.{Scheme}
 use Rattle.roc_protocol.specs.PlanAssumptions.{picked, called, use_of, IsSchemeOf}
@@ -17,6 +17,11 @@ use Rattle.roc_protocol.proofs.Means.{run_of}
 
 abbrev yield : List ℤ → List ℤ → Yield
 yield bound outs = record { bound = bound; outs = outs }
+
+-- groups that run one after another
+pub after_append : (B : _) (s : Stage) (Q T : List TxnGroup) → after_groups B s (Q ++ T) ≡ after_groups B (after_groups B s Q) T
+after_append B s [] T = refl
+after_append B s (r ∷ Q) T = after_append B (after_group B s r) Q T
 
 module _ (plan : Plan) (asked : TxnId → whole.Call) (S : Scheme) (start : Beginning) (is : IsSchemeOf plan asked S) (laws : LogLaws S start.store) where
   pub call_is : (proc group : ℕ) (args inputs : List ℤ) (id : TxnId) (given : List (List ℤ)) → proc ≡ (asked id).procedure → args ≡ (asked id).arguments → inputs ≡ picked (inputs_of plan (asked id).procedure group) given

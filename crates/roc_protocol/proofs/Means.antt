@@ -3,7 +3,7 @@ use Rattle.std.proofs.Common.{◌≤◌, ◌≡◌, ◌≢◌, ◌↔◌, ◌⊎
 use Rattle.std.specs.Prelude.{slice_get, slice_index_or, pos, filter, flat_map, zip}
 use Rattle.std.specs.List.{AllByRecursion, range_with_len}
 use Rattle.roc_sequence.specs.Lists.{Has}
-use Rattle.roc_sequence.specs.Places.{IsListed}
+use Rattle.roc_sequence.specs.Places.{IsListed, IsListedBefore}
 use Rattle.roc_base.specs.declared.id.TxnId.{TxnId}
 use Rattle.roc_base.specs.declared.node.Node.{Node}
 use Rattle.roc_base.specs.declared.node.Node.TheVariants.{Server, Coord}
@@ -13,20 +13,22 @@ use Rattle.roc_base.specs.Edge.{Dependency}
 use Rattle.roc_rows.specs.declared.cell.Cell.{Cell}
 use Rattle.roc_rows.specs.Store.{Store, read}
 use Rattle.roc_depgraph.specs.declared.known.KnownList.{KnownList}
-use Rattle.roc_depgraph.specs.Deps.{IsDecided}
+use Rattle.roc_depgraph.specs.Deps.{IsAncestor, IsDecided}
+use Rattle.roc_component.specs.Components.{Mates}
 use Rattle.roc_await.specs.declared.waits.OpenFetch.{OpenFetch}
 use Rattle.roc_msg.specs.declared.msg.Msg.{Msg}
-use Rattle.roc_msg.specs.declared.msg.Msg.TheVariants.{Start, StartOk, Commit, CommitOk, Fetch, Known, Ended}
+use Rattle.roc_msg.specs.declared.msg.Msg.TheVariants.{Start, StartOk, Commit, CommitOk, Fetch, Known, Ended, Settled}
 use Rattle.roc_msg.specs.declared.msg.Envelope.{Envelope}
 use Rattle.roc_plan.specs.Groups.{Plan, groups_of, inputs_of, outs_of}
 use Rattle.roc_whole.specs.Serial as whole
 use Rattle.roc_law_orders.specs.Behaviour.{TxnGroup, is_txn_group, is_group_number}
 use Rattle.roc_law_orders.specs.Runs.{Stage, needs, inputs_at, stage_behind, uses_in}
 use Rattle.roc_law_log.specs.Scheme.{Scheme}
-use Rattle.roc_law_log.specs.Log.{Log, PrecedesGroup, shard_at, IsWhole, IsDecidedThroughout}
+use Rattle.roc_law_log.specs.Log.{Log, PrecedesGroup, PrecedesTxn, shard_at, IsWhole, IsDecidedThroughout}
+use Rattle.roc_law_log.specs.Settled.{IsSettled}
 use Rattle.roc_law_log.specs.Steps.{IsReachedLog}
 use Rattle.roc_server.specs.declared.started.StartedGroup.{StartedGroup}
-use Rattle.roc_server.specs.State.{find_group, ServerState}
+use Rattle.roc_server.specs.State.{find_group, is_here, ServerState}
 use Rattle.roc_server.specs.State.{unrun}
 use Rattle.roc_coord.specs.declared.transaction.Transaction.{Transaction}
 use Rattle.roc_coord.specs.declared.transaction.TakenStart.{TakenStart}
@@ -39,6 +41,7 @@ use Rattle.roc_protocol.specs.World.{World}
 use Rattle.roc_protocol.specs.Happens.{RanAt}
 use Rattle.roc_server.specs.Below.{is_ended}
 use Rattle.roc_protocol.proofs.Gone.{IsGone}
+use Rattle.roc_protocol.proofs.Followed.{AreFollowedOf}
 
 abbrev pub run_of : TxnId → ℕ → TxnGroup
 run_of t g = record { txn = t; group = g }
@@ -156,6 +159,7 @@ module _ (plan : Plan) (asked : TxnId → whole.Call) (S : Scheme) (start : Begi
   Means (Fetch id asker) to = IsBegunAt id to
   Means (Known id edges) to = ListMeans id edges × IsServerNode to
   Means (Ended coord mark) to = AreEnded coord mark × IsServerNode to
+  Means (Settled id mark) to = IsSettled S start.store log id × AreEnded id.coord mark × IsServerNode to
   Means msg to = ⊥
 
   -- ---- servers
@@ -191,14 +195,41 @@ module _ (plan : Plan) (asked : TxnId → whole.Call) (S : Scheme) (start : Begi
     pub later : (e : StartedGroup) → Has e started → ran (entry_run e) → S.is_immediate (entry_run e) ≡ false → e.later ≡ Some (now.yielded (entry_run e)).outs
     pub at_once : (e : StartedGroup) → Has e started → S.is_immediate (entry_run e) ≡ true → e.later ≡ None
 
+  -- it is gone, and nobody has to wait for it
+  pub record IsForgotten (s : ServerState) (t : TxnId) : Type 0 where
+    pub gone : IsGone s t
+    pub settled : IsSettled S start.store log t
+
+  -- the components that a server keeps: they hold exactly what is decided, each transaction in one of them
+  pub record AreTakenHere (shard : ℕ) (s : ServerState) : Type 0 where
+    pub decided : (c : List TxnId) (t : TxnId) → Has c s.lists.taken → Has t c → IsDecided s.lists.links t
+    pub all : (t : TxnId) → IsDecided s.lists.links t → (c : List TxnId) × Has c s.lists.taken × Has t c
+    pub one : (c e : List TxnId) (t : TxnId) → Has c s.lists.taken → Has e s.lists.taken → Has t c → Has t e → c ≡ e
+    -- each is a component as a whole, unless nobody has to wait for it
+    pub mates : (c : List TxnId) (t u : TxnId) → Has c s.lists.taken → Has t c → Has u c → Mates (PrecedesTxn S start.store log.past) t u
+    pub whole : (c : List TxnId) (t u : TxnId) → Has c s.lists.taken → Has t c → Mates (PrecedesTxn S start.store log.past) t u → Has u c ⊎ IsSettled S start.store log t
+    -- those of two that have groups here were taken in the order in which the shard decided them
+    pub order :
+        (t u : TxnId) → is_here t s.started ≡ true → is_here u s.started ≡ true → IsListedBefore is_txn (flat_map (λ c. c) s.lists.taken) t u
+        → IsListedBefore is_txn (log.decided shard) t u
+
   pub record ServerMeans (shard : ℕ) (s : ServerState) : Type 0 where
     pub number : s.shard.0 ≡ shard
     pub groups : AreGroupsHere shard (IsGone s) s.started
     pub part : IsPart shard stage Ran s.store s.started
     pub known : AllMean s.lists.known
-    -- what the shard ever decided is decided by its lists, or gone; and what is decided by its lists it decided
-    pub decided : (t : TxnId) → IsListed is_txn (log.decided shard) t → IsDecided s.lists.known t ⊎ IsGone s t
-    pub back : (t : TxnId) → IsDecided s.lists.known t → IsListed is_txn (log.decided shard) t
+    -- nobody has to wait for what an entry names that is not followed
+    pub links : AreFollowedOf (IsSettled S start.store log) s.lists.known s.lists.links
+    -- what the shard ever decided is decided by what is followed, or forgotten; and what is decided so it decided
+    pub decided : (t : TxnId) → IsListed is_txn (log.decided shard) t → IsDecided s.lists.links t ⊎ IsForgotten s t
+    pub back : (t : TxnId) → IsDecided s.lists.links t → IsListed is_txn (log.decided shard) t
+    -- what had a group here and is gone, it decided, and nobody has to wait for it
+    pub forgot : (t : TxnId) → HasBegun t shard → IsGone s t → IsListed is_txn (log.decided shard) t × IsSettled S start.store log t
+    pub taken : AreTakenHere shard s
+    -- what is followed from one that has a group here leads to what was decided first, unless the two are in one component
+    pub follows :
+        (u t : TxnId) → is_here t s.started ≡ true → IsDecided s.lists.links t → IsAncestor s.lists.links u t → ¬ Mates (PrecedesTxn S start.store log.past) t u
+        → IsListedBefore is_txn (log.decided shard) u t
     pub fetched : (a : OpenFetch) → Has a s.lists.waiting.asked → HasBegun a.id a.at.0
     -- what is below a watermark is past
     pub ended : (t : TxnId) → is_ended s.below t ≡ true → IsPast t

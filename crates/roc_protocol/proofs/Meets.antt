@@ -1,9 +1,10 @@
 -- Two lists of uses have a cell in common that one of the two writes: as the plan's tests say it, and as the log machine does
-use Rattle.std.proofs.Common.{◌≡◌, true, ◌&&◌, ◌||◌, List, map, refl, sym, ap, subst, ◌∙◌, inl, inr}
-use Rattle.std.proofs.lemmas.Bool.{and_parts, and_from, or_left, or_right, or_cases}
+use Rattle.std.proofs.Common.{◌≡◌, Bool, true, false, ◌&&◌, ◌||◌, List, map, refl, sym, ap, subst, ◌∙◌, inl, inr}
+use Rattle.std.proofs.lemmas.Bool.{false≢true, and_parts, and_from, or_left, or_right, or_cases}
 use Rattle.roc_sequence.specs.Lists.{Has}
 use Rattle.roc_sequence.proofs.Holds.{any_has, has_any}
 use Rattle.roc_sequence.proofs.Members.{has_map, from_has_map}
+use Rattle.roc_base.specs.Equality.{same_tag}
 use Rattle.roc_rows.specs.declared.cell.Cell.{Cell}
 use Rattle.roc_rows.specs.Cells.{is_cell}
 use Rattle.roc_rows.proofs.CellLaws.{is_cell-same, is_cell-true}
@@ -11,6 +12,12 @@ use Rattle.roc_group.specs.declared.access.Access.{Access}
 use Rattle.roc_group.specs.Accesses.{meets, do_conflict}
 use Rattle.roc_law_orders.specs.Behaviour.{Use, is_used, is_written, Meet}
 use Rattle.roc_protocol.specs.PlanAssumptions.{use_of}
+
+-- two groups are of one class
+pub same_class : (a b : Bool) → a ≡ b → same_tag a b ≡ true
+same_class true b e = sym e
+same_class false true e = absurd (false≢true e)
+same_class false false e = refl
 
 -- a use of a cell, among those of a list
 used_by : (x : Cell) (uses : List Access) (a : Access) → Has a uses → a.cell ≡ x → is_used x (map use_of uses) ≡ true

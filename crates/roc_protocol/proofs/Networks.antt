@@ -146,7 +146,7 @@ module _ (plan : Plan) (asked : TxnId → whole.Call) (S : Scheme) (start : Begi
 
     -- so what a server holds is where it is
     pub holds_there : (n : ℕ) (s : ServerState) → slice_get w.servers n ≡ Some s → HoldsGood (Good w.sent) (IsPlacedOn log n) s
-    holds_there n s there = let g = nw.servers n s there in record { groups = placed n s there; known = g.known; facts = g.facts }
+    holds_there n s there = let g = nw.servers n s there in record { groups = placed n s there; known = g.known; facts = g.facts; same = g.same }
 
     -- and what is asked to start there
     pub starts_there : (m : Envelope) → Has m w.sent → (n : ℕ) → m.to ≡ Server (record { 0 = n }) → StartsHere (IsPlacedOn log n) m.msg
@@ -241,10 +241,10 @@ module _ (plan : Plan) (asked : TxnId → whole.Call) (S : Scheme) (start : Begi
     told_later more x g = record { calls = g.calls; startoks = λ ok h. (let t = g.startoks ok h in (told_more w.sent more x.id ok.group ok.edges ok.facts t.0, λ k j. union_more w.sent more (count k.of) k.of k.edges (t.1 k j))) }
 
     pub holds_later : (more : List Envelope) (s : ServerState) → HoldsGood (Good w.sent) Anywhere s → HoldsGood (Good (w.sent ++ more)) Anywhere s
-    holds_later more s g = record { groups = g.groups; known = λ k h. union_more w.sent more (count k.of) k.of k.edges (g.known k h); facts = λ e h k j. union_more w.sent more (count k.of) k.of k.edges (g.facts e h k j) }
+    holds_later more s g = record { groups = g.groups; known = λ k h. union_more w.sent more (count k.of) k.of k.edges (g.known k h); facts = λ e h k j. union_more w.sent more (count k.of) k.of k.edges (g.facts e h k j); same = g.same }
 
     pub anywhere : (s : ServerState) (n : ℕ) → HoldsGood (Good w.sent) (IsPlacedOn log n) s → HoldsGood (Good w.sent) Anywhere s
-    anywhere s n g = record { groups = λ e h. tt; known = g.known; facts = g.facts }
+    anywhere s n g = record { groups = λ e h. tt; known = g.known; facts = g.facts; same = g.same }
 
     -- ---- startoks behind a step of a server
 
@@ -256,7 +256,7 @@ module _ (plan : Plan) (asked : TxnId → whole.Call) (S : Scheme) (start : Begi
       new_entry : (m : Envelope) → Has m more → (t : TxnId) (h : ℕ) → IsStartOkOf t h m.msg → (e : StartedGroup) × (find_group t h r.state.started ≡ Some e) × (m.msg ≡ (startok_of r.state.shard e).msg)
       new_entry m j t h k =
           let q = from_has_map (sent_by (Server (record { 0 = n }))) m r.sends j in
-          let b = subst (IsToldBy s.shard r.state.started) (ap (λ (m : Envelope). m.msg) (sym q.2) ∙ k.is) (g.told q.0 q.1) in
+          let b = subst (IsToldBy s.shard r.state) (ap (λ (m : Envelope). m.msg) (sym q.2) ∙ k.is) (g.told q.0 q.1) in
           let f = found_is t h r.state.started b.1 b.2 in
           (b.1, b.2, k.is ∙ (λ j. StartOk (sym f.1 j) (sym f.2 j) ((b.0 ∙ sym g.shard) j) (sym b.3 j) (sym b.4 j) (sym b.5 j) (sym b.6 j)))
 
@@ -342,9 +342,9 @@ module _ (plan : Plan) (asked : TxnId → whole.Call) (S : Scheme) (start : Begi
         number : s.shard.0 ≡ n
         number = (o.means.servers n s there).number
 
-        new : (msg : Msg) → IsToldBy s.shard r.state.started msg → IsToldHere (slice_set w.servers n r.state) msg
+        new : (msg : Msg) → IsToldBy s.shard r.state msg → IsToldHere (slice_set w.servers n r.state) msg
         new (StartOk id group at bound outs edges facts) k = (r.state, subst (λ m. slice_get (slice_set w.servers n r.state) m ≡ Some r.state) (sym (ap (λ (s : Shard). s.0) k.0 ∙ number)) (get-set_here w.servers n s r.state there), inl (k.1, k.2))
-        new (CommitOk id at outs) k = (r.state, subst (λ m. slice_get (slice_set w.servers n r.state) m ≡ Some r.state) (sym (ap (λ (s : Shard). s.0) k.0 ∙ number)) (get-set_here w.servers n s r.state there), inl k.1)
+        new (CommitOk id at outs) k = (r.state, subst (λ m. slice_get (slice_set w.servers n r.state) m ≡ Some r.state) (sym (ap (λ (s : Shard). s.0) k.0 ∙ number)) (get-set_here w.servers n s r.state there), k.1)
         new msg k = tt
 
         still_found : (id : TxnId) (group : ℕ) → ((e : StartedGroup) × (find_group id group s.started ≡ Some e)) ⊎ IsGone s id → ((e : StartedGroup) × (find_group id group r.state.started ≡ Some e)) ⊎ IsGone r.state id

@@ -158,5 +158,6 @@ module _ (plan : Plan) (asked : TxnId → whole.Call) (S : Scheme) (start : Begi
               groups = λ e k. asked_later e.id e.group m (l.began (run_of e.id e.group) (means.groups.entries e k).told.began) (g.groups e k);
               known = λ k j. whole_later k.of (list_submitted k.of k.edges (means.known k j)) (g.known k j);
               facts = λ e h k j. whole_later k.of (list_submitted k.of k.edges ((means.groups.entries e h).told.facts k j)) (g.facts e h k j);
+              same = g.same;
             });
       }

@@ -37,6 +37,7 @@ use Rattle.roc_coord.specs.Submit.{next_id, new_transaction, accepted}
 use Rattle.roc_coord.specs.Tick.{awaits_startok, starts_again, commits_again, sent_again, tick_sends}
 use Rattle.roc_audit.specs.declared.entry.Entry.{Entry}
 use Rattle.roc_audit.specs.declared.entry.Entry.TheVariants.{Submitted}
+use Rattle.roc_server_lists.proofs.SameIds.{ids_of}
 use Rattle.roc_protocol.specs.declared.event.Event.{Event}
 use Rattle.roc_protocol.specs.declared.event.Event.TheVariants.{Submit, Deliver, Tick}
 use Rattle.roc_protocol.specs.PlanAssumptions.{IsSchemeOf}
@@ -243,6 +244,7 @@ module _ (plan : Plan) (asked : TxnId → whole.Call) (S : Scheme) (start : Begi
                 groups = λ b j. elim (subst (λ (s : ServerState). Has b s.started) e j) [ ];
                 known = λ k j. elim (subst (λ (s : ServerState). Has k s.lists.known) e j) [ ];
                 facts = λ b j. elim (subst (λ (s : ServerState). Has b s.started) e j) [ ];
+                same = subst (λ (s : ServerState). ids_of s.lists.links ≡ ids_of s.lists.known) (sym e) refl;
               });
         }
     run_pending coords steps w (steps_on {w = v} e o r h) fits =

@@ -27,10 +27,11 @@ use Rattle.roc_msg.specs.declared.msg.Envelope.{Envelope}
 use Rattle.roc_msg.specs.Msg.{id_of}
 use Rattle.roc_plan.specs.Groups.{Plan, groups_of}
 use Rattle.roc_law_log.specs.Scheme.{Scheme, IsSoundScheme}
+use Rattle.roc_law_log.specs.Settled.{IsSettled}
 use Rattle.roc_server.specs.declared.started.StartedGroup.{StartedGroup}
 use Rattle.roc_server.specs.State.{is_here, ServerState}
 use Rattle.roc_server.specs.Below.{is_ended}
-use Rattle.roc_audit.specs.History.{WasAnswered}
+use Rattle.roc_audit.specs.History.{WasSubmitted, WasAnswered}
 use Rattle.roc_protocol.specs.PlanAssumptions.{HasSchemesFrom}
 use Rattle.roc_protocol.specs.Beginnings.{Beginning, IsBeginning}
 use Rattle.roc_protocol.specs.World.{World}
@@ -42,14 +43,17 @@ use Rattle.roc_protocol.proofs.Means.{Means}
 use Rattle.roc_protocol.proofs.Idle.{run_idle}
 use Rattle.roc_protocol.proofs.Facts.{known_has}
 use Rattle.roc_protocol.proofs.Finals.{known_final}
-use Rattle.roc_protocol.proofs.Answered.{heard_answered}
+use Rattle.roc_protocol.proofs.Answered.{submitted_late, heard_answered}
 use Rattle.roc_protocol.proofs.Serial as serial
 use Rattle.roc_protocol.proofs.Heard.{AreDelivered, StartsHeard, CommitsAreOut, CommitsHeard}
 use Rattle.roc_protocol.proofs.Hears.{IsSought}
 use Rattle.roc_protocol.proofs.Delivered.{At, HasCommit, Tells, IsTaken}
 use Rattle.roc_protocol.proofs.Hearing.{HasCome, HasHeard, run_heard}
 use Rattle.roc_protocol.proofs.Transactions.{transaction_or_none}
-use Rattle.roc_protocol.proofs.Gone.{IsGone, none_gone, here_stays}
+use Rattle.roc_protocol.proofs.Gone.{IsGone, here_stays}
+use Rattle.roc_protocol.proofs.Followed.{link_entry}
+use Rattle.roc_protocol.proofs.Served.{StartsAre}
+use Rattle.roc_server_lists.proofs.SameIds.{known_alike}
 
 -- ---- lists
 
@@ -87,7 +91,7 @@ entry_of known u t p =
     let k = known_has known t (entry_known known t a.0 a.1) in
     record { list = k.0; is_known = k.1; of = k.2; entry = a.0; has = subst (Has a.0) k.3 a.1; from = is_txn-true a.0.from u a.2 }
 
-module _ (plan : Plan) (w : World) (o : HasHeard w) (finals : (n : ℕ) (s : ServerState) → slice_get w.servers n ≡ Some s → (k : KnownList) → Has k s.lists.known → IsFinalIn plan w k.of k.edges) (out : (u : TxnId) → AreDelivered w u → CommitsAreOut w u) (Late : TxnId → Type 0) (ended : (n : ℕ) (s : ServerState) → slice_get w.servers n ≡ Some s → (t : TxnId) → Late t → is_ended s.below t ≡ true → (reply : List ℤ) × WasAnswered w.history t reply) where
+module _ (plan : Plan) (marks : ℕ) (w : World) (o : HasHeard marks w) (finals : (n : ℕ) (s : ServerState) → slice_get w.servers n ≡ Some s → (k : KnownList) → Has k s.lists.known → IsFinalIn plan w k.of k.edges) (out : (u : TxnId) → AreDelivered w u → CommitsAreOut w u) (Late : TxnId → Type 0) (ended : (n : ℕ) (s : ServerState) → slice_get w.servers n ≡ Some s → (t : TxnId) → Late t → is_ended s.below t ≡ true → (reply : List ℤ) × WasAnswered w.history t reply) where
   -- a message in the network of a transaction whose messages were delivered came
   came : (u : TxnId) → AreDelivered w u → (k : ℕ) (m : Envelope) → slice_get w.sent k ≡ Some m → id_of m.msg ≡ Some u → HasCome w k
   came u d k m at of = (m, at, d.each k m at of)
@@ -107,6 +111,10 @@ module _ (plan : Plan) (w : World) (o : HasHeard w) (finals : (n : ℕ) (s : Ser
       let a : At w.servers n (HasCommit w.sent u (record { 0 = n })) = taken u d p.0 c.2 p.1 (Commit u c.0 c.1) (Server (record { 0 = n })) c.5 c.4 refl in
       subst (λ (v : ServerState). IsKnown v.lists.known u) (same_there w.servers n a.0 s a.1 there) (elim a.2 [ inl k ↦ k.1 | inr gone ↦ absurd (here_stays s u here (subst (λ (v : ServerState). IsGone v u) (same_there w.servers n a.0 s a.1 there) gone)) ])
 
+  -- what is followed is of the lists that are known
+  same : (n : ℕ) (s : ServerState) → slice_get w.servers n ≡ Some s → (t : TxnId) → is_known s.lists.links t ≡ is_known s.lists.known t
+  same n s there t = known_alike s.lists.known s.lists.links (o.awaits n s there).starts.same t
+
   -- an entry of a known list comes from a startok in the network
   named_sent : (n : ℕ) (s : ServerState) → slice_get w.servers n ≡ Some s → (u t : TxnId) → Precedes s.lists.known u t → PrecedesIn w.sent u t
   named_sent n s there u t p =
@@ -122,9 +130,13 @@ module _ (plan : Plan) (w : World) (o : HasHeard w) (finals : (n : ℕ) (s : Ser
     own : AreDelivered w t
     own = record { each = λ k m at of. quiet.each k m t at of (inl refl) }
 
-    module _ (n : ℕ) (s : ServerState) (there : slice_get w.servers n ≡ Some s) where
-      before : (u : TxnId) → Reaches (Precedes s.lists.known) u t → AreDelivered w u
-      before u p = record { each = λ k m at of. quiet.each k m u at of (inr (weaker_chain (Precedes s.lists.known) (PrecedesIn w.sent) (named_sent n s there) u t p)) }
+    module _ (n : ℕ) (s : ServerState) (there : slice_get w.servers n ≡ Some s) (entry : (t : TxnId) (d : Dependency) → Has d (entries_of s.lists.links t) → Has d (entries_of s.lists.known t)) where
+      -- what is followed is an entry
+      followed : (u t : TxnId) → Precedes s.lists.links u t → Precedes s.lists.known u t
+      followed u t p = let a = any_has (λ (d : Dependency). is_txn d.from u) (entries_of s.lists.links t) p in has_any (λ (d : Dependency). is_txn d.from u) (entries_of s.lists.known t) a.0 (entry t a.0 a.1) a.2
+
+      before : (u : TxnId) → Reaches (Precedes s.lists.links) u t → AreDelivered w u
+      before u p = record { each = λ k m at of. quiet.each k m u at of (inr (weaker_chain (Precedes s.lists.links) (PrecedesIn w.sent) (λ a b e. named_sent n s there a b (followed a b e)) u t p)) }
 
       -- what answers a fetch is a message of its transaction
       told_of : (u : TxnId) (m : Envelope) → Tells u (record { 0 = n }) m → id_of m.msg ≡ Some u
@@ -144,68 +156,81 @@ module _ (plan : Plan) (w : World) (o : HasHeard w) (finals : (n : ℕ) (s : Ser
           ]
 
       -- all that precedes it is known
-      known_before : (u : TxnId) → Reaches (Precedes s.lists.known) u t → IsKnown s.lists.known u
+      known_before : (u : TxnId) → Reaches (Precedes s.lists.links) u t → IsKnown s.lists.links u
       known_before u p =
-          let e = first_edge (Precedes s.lists.known) u t p in
-          let x = entry_of s.lists.known u e.0 e.1 in
+          let e = first_edge (Precedes s.lists.links) u t p in
+          let x = entry_of s.lists.links u e.0 e.1 in
           let d = before u p in
           elim (subst (IsSought s) x.from ((o.awaits n s there).seeks x.list x.is_known x.entry x.has)) [
             | inl k ↦ k
-            | inr (inl here) ↦ known_here u d n s there here
-            | inr (inr (inr gone)) ↦ absurd (none_gone s u gone)
-            | inr (inr (inl asked)) ↦ (let a = any_has (λ (a : OpenFetch). is_txn a.id u) s.lists.waiting.asked asked in answered_known u d a.0 a.1 (is_txn-true a.0.id u a.2) (is_known s.lists.known u) refl)
+            | inr (inl here) ↦ same n s there u ∙ known_here u d n s there here
+            | inr (inr asked) ↦ (let a = any_has (λ (a : OpenFetch). is_txn a.id u) s.lists.waiting.asked asked in same n s there u ∙ answered_known u d a.0 a.1 (is_txn-true a.0.id u a.2) (is_known s.lists.known u) refl)
           ]
 
-      decided_here : is_here t s.started ≡ true → IsDecided s.lists.known t
-      decided_here here = record { own = known_here t own n s there here; ancestors = known_before }
+      decided_here : is_here t s.started ≡ true → IsDecided s.lists.links t
+      decided_here here = record { own = same n s there t ∙ known_here t own n s there here; ancestors = known_before }
 
     -- unless it is answered
-    commits_answered : Late t → ((reply : List ℤ) → ¬ WasAnswered w.history t reply) → CommitsHeard w t
-    commits_answered late unanswered = record {
+    commits_answered : ((n : ℕ) (s : ServerState) → slice_get w.servers n ≡ Some s → (t : TxnId) (d : Dependency) → Has d (entries_of s.lists.links t) → Has d (entries_of s.lists.known t))
+        → Late t → ((reply : List ℤ) → ¬ WasAnswered w.history t reply) → CommitsHeard w t
+    commits_answered entry late unanswered = record {
       each = λ k m shard edges facts at goes is d.
           (let a : At w.servers shard.0 (HasCommit w.sent t shard) = subst (IsTaken w.servers w.sent k (Commit t edges facts)) goes (subst (λ msg. IsTaken w.servers w.sent k msg m.to) is (o.taken k m (m, at, d) at)) in
-          elim a.2 [ inl k ↦ k.2 (decided_here shard.0 a.0 a.1 k.0) | inr gone ↦ absurd (let answer = ended shard.0 a.0 a.1 t late gone.ended in unanswered answer.0 answer.1) ]);
+          elim a.2 [ inl k ↦ k.2 (decided_here shard.0 a.0 a.1 (entry shard.0 a.0 a.1) k.0) | inr gone ↦ absurd (let answer = ended shard.0 a.0 a.1 t late gone.ended in unanswered answer.0 answer.1) ]);
     }
 
 -- ---- every run
 
-module _ (plan : Plan) (start : Beginning) (begins : IsBeginning plan start) (schemes : HasSchemesFrom plan start.store) (laws : (S : Scheme) → IsSoundScheme S → LogLaws S start.store) (stores : StoreLaws) (coords : ℕ) (steps : List Stepped) (w : World) (run : IsRunFrom plan start coords steps w) where
-  heard : HasHeard w
-  heard = run_heard plan start begins schemes laws stores coords steps w run
+module _ (plan : Plan) (start : Beginning) (begins : IsBeginning plan start) (schemes : HasSchemesFrom plan start.store) (laws : (S : Scheme) → IsSoundScheme S → LogLaws S start.store) (stores : StoreLaws) (marks : ℕ) (many : (n : ℕ) → length (start.below n) ≡ marks)
+    (coords : ℕ) (steps : List Stepped) (w : World) (run : IsRunFrom plan start coords steps w) where
+  heard : HasHeard marks w
+  heard = run_heard plan start begins schemes laws stores marks many coords steps w run
 
-  -- each start goes to a server
-  start_to : (m : Envelope) → Has m w.sent → (t : TxnId) (proc group : ℕ) (args inputs : List ℤ) → m.msg ≡ Start t proc group args inputs → (shard : Shard) × (m.to ≡ Server shard)
+  -- each start goes to a server, and is of a transaction that was submitted
+  start_to : (m : Envelope) → Has m w.sent → (t : TxnId) (proc group : ℕ) (args inputs : List ℤ) → m.msg ≡ Start t proc group args inputs → (shard : Shard) × (m.to ≡ Server shard) × WasSubmitted w.history t
   start_to m h t proc group args inputs is = elim (transaction_or_none plan) [
     | inl some ↦
         (let x = serial.logged plan start begins schemes laws stores coords steps w run some in
         let k = subst (λ msg. Means plan (serial.asked plan start begins schemes laws stores coords steps w run some) (serial.S plan start begins schemes laws stores coords steps w run some) start x.0 msg m.to) is (x.1.means.messages m h) in
-        (_, k.to))
+        (_, k.to, subst (StartsAre (WasSubmitted w.history)) is (x.1.starts m h)))
     | inr none ↦ absurd (subst (Has m) (run_idle plan none start begins coords steps w run).sent h)
   ]
 
-  -- each start that was delivered has a startok in the network
-  pub starts_heard : (t : TxnId) → StartsHeard w t
-  starts_heard t = record {
+  -- its sequence was not used before the run began
+  abbrev Late : TxnId → Type 0
+  Late t = start.nexts t.coord ≤ t.seq
+
+  ended : (n : ℕ) (s : ServerState) → slice_get w.servers n ≡ Some s → (t : TxnId) → Late t → is_ended s.below t ≡ true → (reply : List ℤ) × WasAnswered w.history t reply
+  ended = heard_answered plan start begins schemes laws stores coords steps w run
+
+  -- each start that was delivered has a startok in the network, unless it is answered
+  pub starts_heard : (t : TxnId) → ((reply : List ℤ) → ¬ WasAnswered w.history t reply) → StartsHeard w t
+  starts_heard t unanswered = record {
     each = λ k m proc group args inputs at is d.
         (let to = start_to m (has_at w.sent k m at) t proc group args inputs is in
-        subst (IsTaken w.servers w.sent k (Start t proc group args inputs)) to.1 (subst (λ msg. IsTaken w.servers w.sent k msg m.to) is (heard.taken k m (m, at, d) at)));
+        elim (subst (IsTaken w.servers w.sent k (Start t proc group args inputs)) to.1 (subst (λ msg. IsTaken w.servers w.sent k msg m.to) is (heard.taken k m (m, at, d) at))) [
+          | inl told ↦ told
+          | inr over ↦ absurd (let answer = ended to.0.0 over.0 over.1 t (submitted_late plan start begins schemes laws stores coords steps w run t to.2) over.2 in unanswered answer.0 answer.1)
+        ]);
   }
+
+  -- what is followed is an entry of a known list
+  entry : (n : ℕ) (s : ServerState) → slice_get w.servers n ≡ Some s → (t : TxnId) (d : Dependency) → Has d (entries_of s.lists.links t) → Has d (entries_of s.lists.known t)
+  entry n s there t d h = elim (transaction_or_none plan) [
+    | inl some ↦
+        (let l = serial.logged plan start begins schemes laws stores coords steps w run some in
+        link_entry (IsSettled (serial.S plan start begins schemes laws stores coords steps w run some) start.store l.0) s.lists.known s.lists.links (l.1.means.servers n s there).links t d h)
+    | inr none ↦ absurd (subst (λ links. Has d (entries_of links t)) ((run_idle plan none start begins coords steps w run).links n s there) h)
+  ]
 
   module _ (out : (u : TxnId) → AreDelivered w u → CommitsAreOut w u) where
     finals : (n : ℕ) (s : ServerState) → slice_get w.servers n ≡ Some s → (k : KnownList) → Has k s.lists.known → IsFinalIn plan w k.of k.edges
     finals = known_final plan start begins schemes laws stores coords steps w run
 
-    -- its sequence was not used before the run began
-    abbrev Late : TxnId → Type 0
-    Late t = start.nexts t.coord ≤ t.seq
-
-    ended : (n : ℕ) (s : ServerState) → slice_get w.servers n ≡ Some s → (t : TxnId) → Late t → is_ended s.below t ≡ true → (reply : List ℤ) × WasAnswered w.history t reply
-    ended = heard_answered plan start begins schemes laws stores coords steps w run
-
     -- a quiet transaction is decided wherever it has a group
-    pub quiet_is_decided : (t : TxnId) → IsQuiet plan steps w t → (shard : Shard) (s : ServerState) → slice_get w.servers shard.0 ≡ Some s → (e : StartedGroup) → Has e s.started → e.id ≡ t → IsDecided s.lists.known t
-    quiet_is_decided t quiet shard s there e h of = decided_here plan w heard finals out Late ended steps t quiet shard.0 s there (has_any (λ (e : StartedGroup). is_txn e.id t) s.started e h (is_txn-eq e.id t of))
+    pub quiet_is_decided : (t : TxnId) → IsQuiet plan steps w t → (shard : Shard) (s : ServerState) → slice_get w.servers shard.0 ≡ Some s → (e : StartedGroup) → Has e s.started → e.id ≡ t → IsDecided s.lists.links t
+    quiet_is_decided t quiet shard s there e h of = decided_here plan marks w heard finals out Late ended steps t quiet shard.0 s there (entry shard.0 s there) (has_any (λ (e : StartedGroup). is_txn e.id t) s.started e h (is_txn-eq e.id t of))
 
     -- and each commit of it that was delivered has a commitok in the network, unless it is answered
     pub commits_heard : (t : TxnId) → IsQuiet plan steps w t → start.nexts t.coord ≤ t.seq → ((reply : List ℤ) → ¬ WasAnswered w.history t reply) → CommitsHeard w t
-    commits_heard t quiet = commits_answered plan w heard finals out Late ended steps t quiet
+    commits_heard t quiet = commits_answered plan marks w heard finals out Late ended steps t quiet entry

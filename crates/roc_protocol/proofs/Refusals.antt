@@ -1,13 +1,12 @@
 -- A server takes each message that comes
-use Rattle.std.proofs.Common.{◌≡◌, ℕ, ℤ, ◌<◌, ◌==◌, Bool, true, false, not, ◌&&◌, List, [], ◌∷◌, Option, Some, None, length, refl, sym, ap, subst, ◌∙◌, inl, inr, arith, is_none}
-use Rattle.std.proofs.lemmas.Bool.{false≢true, and_parts, and_from, eq-eqb, false_from_ne_true}
+use Rattle.std.proofs.Common.{◌≡◌, ◌⊎◌, ℕ, ℤ, ◌<◌, ◌==◌, Bool, true, false, not, ◌&&◌, List, [], ◌∷◌, Option, Some, None, length, refl, sym, ap, subst, ◌∙◌, inl, inr, arith, is_none}
+use Rattle.std.proofs.lemmas.Bool.{false≢true, and_parts, and_from, eq-eqb, false_from_ne_true, not_from_false}
 use Rattle.std.proofs.lemmas.Bool.Decides.{nat_tests}
 use Rattle.std.proofs.lemmas.List.{length-map}
 use Rattle.std.specs.Prelude.{slice_get, nat_lt, if◌then◌else◌}
 use Rattle.roc_sequence.specs.Lists.{Has}
 use Rattle.roc_sequence.specs.Places.{IsListed}
-use Rattle.roc_sequence.proofs.Holds.{has_any, none_has}
-use Rattle.roc_sequence.proofs.Found.{found_has}
+use Rattle.roc_sequence.proofs.Holds.{none_has}
 use Rattle.roc_base.specs.declared.id.TxnId.{TxnId}
 use Rattle.roc_base.specs.declared.node.Node.TheVariants.{Server, Coord}
 use Rattle.roc_base.specs.declared.node.Shard.{Shard}
@@ -18,9 +17,8 @@ use Rattle.roc_base.specs.Equality.{is_edges, is_nums}
 use Rattle.roc_depgraph.specs.declared.known.KnownList.{KnownList}
 use Rattle.roc_depgraph.specs.Deps.{list_of, is_known}
 use Rattle.roc_msg.specs.declared.msg.Msg.{Msg}
-use Rattle.roc_msg.specs.declared.msg.Msg.TheVariants.{Start, StartOk, Commit, CommitOk, Fetch, Known, Ended}
+use Rattle.roc_msg.specs.declared.msg.Msg.TheVariants.{Start, StartOk, Commit, CommitOk, Fetch, Known, Ended, Settled}
 use Rattle.roc_msg.specs.declared.msg.Envelope.{Envelope}
-use Rattle.roc_msg.specs.declared.reason.Reason.{Reason}
 use Rattle.roc_msg.specs.declared.reason.Reason.TheVariants.{NotHere}
 use Rattle.roc_plan.specs.declared.group.Input.{Input}
 use Rattle.roc_plan.specs.Groups.{Plan, procedure_of, groups_of, inputs_of, shard_of, group_place, is_transaction}
@@ -31,12 +29,14 @@ use Rattle.roc_law_orders.specs.Runs.{needs, inputs_at}
 use Rattle.roc_law_log.specs.Scheme.{Scheme}
 use Rattle.roc_law_log.specs.Log.{Log}
 use Rattle.roc_law_log.specs.Invariants.{LogInvariants}
-use Rattle.roc_server.specs.declared.handled.Handled.TheVariants.{Done}
+use Rattle.roc_server.specs.declared.handled.Handled.{Handled}
+use Rattle.roc_server.specs.declared.handled.Handled.TheVariants.{Done, Gone}
+use Rattle.roc_server.specs.Below.{is_ended}
 use Rattle.roc_server.specs.declared.started.StartedGroup.{StartedGroup}
-use Rattle.roc_server.specs.State.{is_group, is_here, find_group, ignored, ServerState, ServerStep}
-use Rattle.roc_server.specs.Start.{has_procedure, has_counts, differs, start_fault, start_taken, start_judged}
+use Rattle.roc_server.specs.State.{is_here, find_group, refused, ignored, answered, hearing, ServerState, ServerStep}
+use Rattle.roc_server.specs.Start.{has_procedure, has_counts, differs, start_refusal, start_taken, start_judged}
 use Rattle.roc_server_lists.specs.Carried.{list_with, is_unlike}
-use Rattle.roc_server.specs.Lists.{commit_fault, after_commit, fetch_taken, known_fault, after_known}
+use Rattle.roc_server.specs.Lists.{commit_refusal, after_commit, fetch_taken, settled_to, after_fetch, known_refusal, after_known, decides, lists_settled, after_settled}
 use Rattle.roc_server.specs.Step.{Findings, Handles, after_message}
 use Rattle.roc_audit.specs.declared.entry.Entry.TheVariants.{Submitted}
 use Rattle.roc_protocol.specs.PlanAssumptions.{picked, IsSchemeOf}
@@ -45,8 +45,9 @@ use Rattle.roc_protocol.specs.Final.{lists_in}
 use Rattle.roc_protocol.specs.Beginnings.{Beginning}
 use Rattle.roc_protocol.specs.World.{World}
 use Rattle.roc_protocol.specs.Inner.Given.{LogLaws}
-use Rattle.roc_protocol.proofs.Means.{run_of, stage, place, Began, HasBegun, Means, StartIs, ServerMeans}
-use Rattle.roc_protocol.proofs.Gone.{none_gone}
+use Rattle.roc_protocol.proofs.Means.{run_of, stage, place, Began, Means, StartIs, ServerMeans}
+use Rattle.roc_protocol.proofs.SaidOfServers.{begun_here}
+use Rattle.roc_protocol.proofs.Gone.{IsGone}
 use Rattle.roc_protocol.proofs.Starting.{shard_number}
 use Rattle.roc_protocol.proofs.Served.{list_has, StartsAre}
 use Rattle.roc_protocol.proofs.Facts.{known_has}
@@ -60,21 +61,23 @@ length-picked [] given e = refl
 length-picked (i ∷ is) [] e = absurd (omega arith)
 length-picked (i ∷ is) (v ∷ given) e = let r = length-picked is given (omega arith) in omega arith
 
+-- it is taken, or comes too late of a transaction that has ended
+abbrev pub IsTakenAs : Handled → Type 0
+IsTakenAs answer = (answer ≡ Done) ⊎ (answer ≡ Gone)
+
+-- so it is where this is why it is not taken
+abbrev IsTakenOrGone : Option Handled → Type 0
+IsTakenOrGone why = (why ≡ None) ⊎ (why ≡ Some Gone)
+
+just : {a : Handled} → Some a ≡ Some Gone → a ≡ Gone
+just e = cc
+
 module _ (plan : Plan) (asked : TxnId → whole.Call) (S : Scheme) (start : Beginning) (is : IsSchemeOf plan asked S) (laws : LogLaws S start.store) (w : World) (log : Log) (o : IsLogged plan asked S start is laws w log) (nw : IsNetworked plan asked S start is laws w) (ha : HasAsked w) (subs : AreSubmissions plan w.history w.coords) (agrees : Agrees asked w.history) (known : (t : TxnId) → is_transaction plan (asked t).procedure ≡ true) (n : ℕ) (s : ServerState) (there : slice_get w.servers n ≡ Some s) where
   i : LogInvariants S start.store log
   i = laws.holds log o.means.reached
 
   mine : ServerMeans plan asked S start log n s
   mine = o.means.servers n s there
-
-  -- who has begun here is found here
-  begun_here : (t : TxnId) → HasBegun plan asked S start log t n → is_here t s.started ≡ true
-  begun_here t b = elim (mine.groups.finds (run_of t b.group) b.began b.on) [
-    | inl f ↦
-        (let q = found_has (is_group t b.group) s.started f.0 f.1 in
-        has_any (λ (e : StartedGroup). is_txn e.id t) s.started f.0 q.0 (and_parts (is_txn f.0.id t) (f.0.group == b.group) q.1).0)
-    | inr gone ↦ absurd (none_gone s t gone)
-  ]
 
   -- ---- a start
 
@@ -118,12 +121,16 @@ module _ (plan : Plan) (asked : TxnId → whole.Call) (S : Scheme) (start : Begi
         is.group_shard r (inputs_at S.behaviour (stage plan asked S start log) r) ∙ sym (λ j. shard_of plan (group_place plan (k.proc j) group (k.args j) (k.inputs j))) in
         eq-eqb (shard_of plan (group_place plan proc group args inputs)) s.shard.0 (sym e ∙ (on ∙ sym mine.number))
 
-    not_late : is_none (find_group id group s.started) && is_known s.lists.known id ≡ false
-    not_late = false_from_ne_true (is_none (find_group id group s.started) && is_known s.lists.known id) (λ h.
+    -- a group that is not here is of none whose list is known, unless it has ended
+    not_late : is_none (find_group id group s.started) && is_ended s.below id ≡ false → is_none (find_group id group s.started) && is_known s.lists.known id ≡ false
+    not_late first = false_from_ne_true (is_none (find_group id group s.started) && is_known s.lists.known id) (λ h.
         let p = and_parts (is_none (find_group id group s.started)) (is_known s.lists.known id) h in
         let l = known_has s.lists.known id p.1 in
         let began = subst (λ t. Began plan asked S start log (run_of t group)) l.2 ((mine.known l.0 l.1).is_whole group (subst (λ t. IsListed is_group_number (S.behaviour.groups t) group) (sym l.2) k.means.listed)) in
-        elim (mine.groups.finds r began on) [ inl f ↦ clash f.0 f.1 p.0 | inr gone ↦ none_gone s id gone ])
+        elim (mine.groups.finds r began on) [
+          | inl f ↦ clash f.0 f.1 p.0
+          | inr gone ↦ false≢true (sym first ∙ and_from (is_none (find_group id group s.started)) (is_ended s.below id) p.0 gone.ended)
+        ])
       where
         clash : (e : StartedGroup) → find_group id group s.started ≡ Some e → is_none (find_group id group s.started) ≡ true → ⊥
         clash e f h = false≢true (sym (ap is_none f) ∙ h)
@@ -137,8 +144,13 @@ module _ (plan : Plan) (asked : TxnId → whole.Call) (S : Scheme) (start : Begi
         let b = (Decides-is_nums e.args args).1 (q.args ∙ (ap (λ t. (asked t).arguments) same ∙ sym k.args)) in
         false≢true (ap not (sym (and_from (e.proc == proc) (is_nums e.args args) a b)) ∙ p.1)))
 
-    start_taken-here : start_fault plan s id c ≡ None
-    start_taken-here = rw (procedure, group_there, counts, here, not_late, no_other) refl
+    -- so it is taken, or comes too late of one that has ended
+    start_taken-here : IsTakenOrGone (start_refusal plan s id c)
+    start_taken-here = go (is_none (find_group id group s.started) && is_ended s.below id) refl
+      where
+        go : (b : Bool) → is_none (find_group id group s.started) && is_ended s.below id ≡ b → IsTakenOrGone (start_refusal plan s id c)
+        go true e = inr (rw e refl)
+        go false e = inl (rw (e, procedure, group_there, counts, here, not_late e, no_other) refl)
 
   -- ---- lists
 
@@ -153,70 +165,86 @@ module _ (plan : Plan) (asked : TxnId → whole.Call) (S : Scheme) (start : Begi
           let same = one_union plan asked S start is laws w log o nw k.of kept k.edges good g in
           rw e (ap not ((Decides-is_edges kept k.edges).1 same))
 
-  commit_taken-here : (m : Envelope) → Has m w.sent → (id : TxnId) (edges : List Dependency) (facts : List KnownList) → m.msg ≡ Commit id edges facts → m.to ≡ Server (record { 0 = n }) → commit_fault s id edges facts ≡ None
+  commit_taken-here : (m : Envelope) → Has m w.sent → (id : TxnId) (edges : List Dependency) (facts : List KnownList) → m.msg ≡ Commit id edges facts → m.to ≡ Server (record { 0 = n }) → IsTakenOrGone (commit_refusal s id edges facts)
   commit_taken-here m has id edges facts msg to =
       let means = subst (λ to. Means plan asked S start log (Commit id edges facts) to) to (subst (λ msg. Means plan asked S start log msg m.to) msg (o.means.messages m has)) in
       let good : (k : KnownList) → Has k (list_with id edges ∷ facts) → Good plan asked S start is laws w.sent k.of k.edges = λ k h. nw.lists m has k (subst (λ msg. Has k (lists_in msg)) (sym msg) h) in
-      let a = begun_here id means.1 in
       let b = none_has (is_unlike s.lists.known) (list_with id edges ∷ facts) (λ k h. alike k (good k h)) in
       let d = none_has (λ (f : KnownList). is_txn f.of id && not (is_edges f.edges edges)) facts (λ f h. false_from_ne_true (is_txn f.of id && not (is_edges f.edges edges)) (λ j.
       let p = and_parts (is_txn f.of id) (not (is_edges f.edges edges)) j in
       let same = one_union plan asked S start is laws w log o nw id f.edges edges (subst (λ t. Good plan asked S start is laws w.sent t f.edges) (is_txn-true f.of id p.0) (good f (inr h))) (good (list_with id edges) (inl refl)) in
       false≢true (ap not (sym ((Decides-is_edges f.edges edges).1 same)) ∙ p.1))) in
-      rw (a, b, d) refl
+      elim (begun_here plan asked S start log n s mine id means.1) [ inl a ↦ inl (rw (a, b, d) refl) | inr gone ↦ inr (rw (gone.nowhere, gone.ended) refl) ]
 
-  known_taken-here : (m : Envelope) → Has m w.sent → (id : TxnId) (edges : List Dependency) → m.msg ≡ Known id edges → m.to ≡ Server (record { 0 = n }) → known_fault s id edges ≡ None
+  known_taken-here : (m : Envelope) → Has m w.sent → (id : TxnId) (edges : List Dependency) → m.msg ≡ Known id edges → m.to ≡ Server (record { 0 = n }) → IsTakenOrGone (known_refusal s id edges)
   known_taken-here m has id edges msg to =
       let f = subst (λ to. FetchedFor (IsAskedFor w.servers) (Known id edges) to) to (subst (λ msg. FetchedFor (IsAskedFor w.servers) msg m.to) msg (ha.sent m has)) in
-      let a : was_asked_for id s.lists.waiting.asked ≡ true = subst (λ (v : ServerState). was_asked_for id v.lists.waiting.asked ≡ true) (same f.server f.there) (elim f.was [ inl k ↦ k | inr gone ↦ absurd (none_gone f.server id gone) ]) in
       let b = alike (list_with id edges) (nw.lists m has (list_with id edges) (subst (λ msg. Has (list_with id edges) (lists_in msg)) (sym msg) (inl refl))) in
-      rw (a, b) refl
+      go (was_asked_for id s.lists.waiting.asked) refl b (subst (λ (v : ServerState). (was_asked_for id v.lists.waiting.asked ≡ true) ⊎ (is_ended v.below id ≡ true)) (same f.server f.there) f.was)
     where
       same : (v : ServerState) → slice_get w.servers n ≡ Some v → v ≡ s
       same v e = let f = there in cc
 
-  fetch_taken-here : (m : Envelope) → Has m w.sent → (id : TxnId) (asker : Shard) → m.msg ≡ Fetch id asker → m.to ≡ Server (record { 0 = n }) → is_here id s.started ≡ true
+      go : (a : Bool) → was_asked_for id s.lists.waiting.asked ≡ a → is_unlike s.lists.known (list_with id edges) ≡ false → (was_asked_for id s.lists.waiting.asked ≡ true) ⊎ (is_ended s.below id ≡ true) → IsTakenOrGone (known_refusal s id edges)
+      go true a b f = inl (rw (a, b) refl)
+      go false a b (inl f) = absurd (false≢true (sym a ∙ f))
+      go false a b (inr e) = inr (rw (a, e) refl)
+
+  fetch_taken-here : (m : Envelope) → Has m w.sent → (id : TxnId) (asker : Shard) → m.msg ≡ Fetch id asker → m.to ≡ Server (record { 0 = n }) → (is_here id s.started ≡ true) ⊎ IsGone s id
   fetch_taken-here m has id asker msg to =
-      begun_here id (subst (λ to. Means plan asked S start log (Fetch id asker) to) to (subst (λ msg. Means plan asked S start log msg m.to) msg (o.means.messages m has)))
+      begun_here plan asked S start log n s mine id (subst (λ to. Means plan asked S start log (Fetch id asker) to) to (subst (λ msg. Means plan asked S start log msg m.to) msg (o.means.messages m has)))
 
   -- ---- any message
 
-  pub message_taken : (m : Envelope) → Has m w.sent → m.to ≡ Server (record { 0 = n }) → (r : ServerStep) → Handles plan s m.msg r → r.answer ≡ Done
-  message_taken m has to r h = ap (λ (r : ServerStep). r.answer) h.is ∙ go m.msg refl
+  pub message_taken : (m : Envelope) → Has m w.sent → m.to ≡ Server (record { 0 = n }) → (r : ServerStep) → Handles plan s m.msg r → IsTakenAs r.answer
+  message_taken m has to r h = subst (λ (r : ServerStep). IsTakenAs r.answer) (sym h.is) (go m.msg refl)
     where
-      start_done : (f : Findings) (id : TxnId) (c : GroupCall) (x : Option Reason) → x ≡ None → (start_judged plan f.before f.reached s id c x).answer ≡ Done
-      start_done f id c (Some why) e = absurd (cc)
+      start_done : (f : Findings) (id : TxnId) (c : GroupCall) (x : Option Handled) → IsTakenOrGone x → IsTakenAs (start_judged plan f.before f.reached s id c x).answer
+      start_done f id c (Some answer) (inl e) = absurd (cc)
+      start_done f id c (Some answer) (inr e) = inr (just e)
       start_done f id c None e = taken (find_group id c.group s.started)
         where
-          taken : (x : Option StartedGroup) → (start_taken plan f.before f.reached s id c x).answer ≡ Done
-          taken (Some e) = refl
-          taken None = refl
+          taken : (x : Option StartedGroup) → IsTakenAs (start_taken plan f.before f.reached s id c x).answer
+          taken (Some e) = inl refl
+          taken None = inl refl
 
-      commit_done : (before ts : List TxnId) (id : TxnId) (edges : List Dependency) (facts : List KnownList) (x : Option Reason) → x ≡ None → (after_commit plan before ts s id edges facts x).answer ≡ Done
-      commit_done before ts id edges facts (Some why) e = absurd (cc)
-      commit_done before ts id edges facts None e = refl
+      commit_done : (before : List TxnId) (components : List (List TxnId)) (id : TxnId) (edges : List Dependency) (facts : List KnownList) (x : Option Handled) → IsTakenOrGone x → IsTakenAs (after_commit plan before components s id edges facts x).answer
+      commit_done before components id edges facts (Some answer) (inl e) = absurd (cc)
+      commit_done before components id edges facts (Some answer) (inr e) = inr (just e)
+      commit_done before components id edges facts None e = inl refl
 
-      known_done : (ts : List TxnId) (id : TxnId) (edges : List Dependency) (x : Option Reason) → x ≡ None → (after_known plan ts s id edges x).answer ≡ Done
-      known_done ts id edges (Some why) e = absurd (cc)
-      known_done ts id edges None e = refl
+      known_done : (components : List (List TxnId)) (id : TxnId) (edges : List Dependency) (x : Option Handled) → IsTakenOrGone x → IsTakenAs (after_known plan components s id edges x).answer
+      known_done components id edges (Some answer) (inl e) = absurd (cc)
+      known_done components id edges (Some answer) (inr e) = inr (just e)
+      known_done components id edges None e = inl refl
 
-      fetch_done : (id : TxnId) (asker : Shard) (b : Bool) → b ≡ true → (if b then fetch_taken s id asker (list_of id s.lists.known) else ignored s NotHere).answer ≡ Done
-      fetch_done id asker true e = answered (list_of id s.lists.known)
+      fetch_done : (id : TxnId) (asker : Shard) → (is_here id s.started ≡ true) ⊎ IsGone s id → IsTakenAs (after_fetch s id asker).answer
+      fetch_done id asker (inl here) = subst (λ b. IsTakenAs (if not b && is_ended s.below id then answered s (settled_to s id asker ∷ []) else (if b then fetch_taken s id asker (list_of id s.lists.known) else ignored s NotHere)).answer) (sym here) (told (list_of id s.lists.known))
         where
-          answered : (x : Option (List Dependency)) → (fetch_taken s id asker x).answer ≡ Done
-          answered (Some edges) = refl
-          answered None = refl
-      fetch_done id asker false e = absurd (false≢true e)
+          told : (x : Option (List Dependency)) → IsTakenAs (fetch_taken s id asker x).answer
+          told (Some edges) = inl refl
+          told None = inl refl
+      fetch_done id asker (inr gone) =
+          subst (λ b. IsTakenAs (if b then answered s (settled_to s id asker ∷ []) else (if is_here id s.started then fetch_taken s id asker (list_of id s.lists.known) else ignored s NotHere)).answer)
+          (sym (and_from (not (is_here id s.started)) (is_ended s.below id) (not_from_false (is_here id s.started) gone.nowhere) gone.ended)) (inl refl)
+
+      settled_done : (components : List (List TxnId)) (id : TxnId) (mark : ℕ) → IsTakenAs (after_settled plan components s id mark).answer
+      settled_done components id mark = was (was_asked_for id s.lists.waiting.asked)
+        where
+          was : (b : Bool) → IsTakenAs (if b then decides plan (hearing s id.coord mark) (lists_settled s id mark components) components [] [] else refused (hearing s id.coord mark) Gone).answer
+          was true = inl refl
+          was false = inr refl
 
       to_coord : {c : ℕ} → m.to ≡ Coord c → ⊥
       to_coord e = let f = to in cc
 
-      go : (msg : Msg) → m.msg ≡ msg → (after_message plan s h.findings msg).answer ≡ Done
-      go (Start id proc group args inputs) e = start_done h.findings id (call proc group args inputs) (start_fault plan s id (call proc group args inputs)) (start_taken-here m has id proc group args inputs e to)
-      go (Commit id edges facts) e = commit_done h.findings.before h.findings.decided id edges facts (commit_fault s id edges facts) (commit_taken-here m has id edges facts e to)
-      go (Fetch id asker) e = fetch_done id asker (is_here id s.started) (fetch_taken-here m has id asker e to)
-      go (Known id edges) e = known_done h.findings.decided id edges (known_fault s id edges) (known_taken-here m has id edges e to)
+      go : (msg : Msg) → m.msg ≡ msg → IsTakenAs (after_message plan s h.findings msg).answer
+      go (Start id proc group args inputs) e = start_done h.findings id (call proc group args inputs) (start_refusal plan s id (call proc group args inputs)) (start_taken-here m has id proc group args inputs e to)
+      go (Commit id edges facts) e = commit_done h.findings.before h.findings.components id edges facts (commit_refusal s id edges facts) (commit_taken-here m has id edges facts e to)
+      go (Fetch id asker) e = fetch_done id asker (fetch_taken-here m has id asker e to)
+      go (Known id edges) e = known_done h.findings.components id edges (known_refusal s id edges) (known_taken-here m has id edges e to)
       go (StartOk id group shard bound outs edges facts) e = absurd (to_coord (subst (λ msg. Means plan asked S start log msg m.to) e (o.means.messages m has)).2)
       go (CommitOk id shard outs) e = absurd (to_coord (subst (λ msg. Means plan asked S start log msg m.to) e (o.means.messages m has)).1)
-      go (Ended coord mark) e = refl
+      go (Ended coord mark) e = inl refl
+      go (Settled id mark) e = settled_done h.findings.components id mark
       go any e = absurd (subst (λ msg. Means plan asked S start log msg m.to) e (o.means.messages m has))

@@ -32,7 +32,7 @@ use Rattle.roc_protocol.specs.Inner.Given.{LogLaws}
 use Rattle.roc_protocol.proofs.Means.{entry_run, Ran, stage, EntryMeans, AreGroupsHere, IsPart}
 use Rattle.roc_protocol.proofs.Local.{call_is, run_cells, run_elsewhere, run_outs}
 use Rattle.roc_protocol.proofs.Buffered.{buffered_runs}
-use Rattle.roc_protocol.proofs.Starting.{after_append}
+use Rattle.roc_protocol.proofs.Local.{after_append}
 
 find_under : {A : Type 0} (f : A → A) (p : A → Bool) → ((x : A) → p (f x) ≡ p x) → (xs : List A) → find p (map f xs) ≡ option_map f (find p xs)
 find_under f p h [] = refl

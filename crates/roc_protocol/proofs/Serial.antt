@@ -23,6 +23,7 @@ use Rattle.roc_protocol.specs.Kept.{ran_in}
 use Rattle.roc_protocol.specs.Inner.Given.{LogLaws}
 use Rattle.roc_protocol.specs.Inner.Given.{SerialLaws, StoreLaws}
 use Rattle.roc_protocol.proofs.Means.{AreRan}
+use Rattle.roc_protocol.proofs.KeptRuns.{AreKeptIn}
 use Rattle.roc_protocol.proofs.Submissions.{AreSubmissions}
 use Rattle.roc_protocol.proofs.Idle.{IsIdle, run_idle}
 use Rattle.roc_protocol.proofs.Worlds.{submissions_from, Agrees, IsLogged}
@@ -84,7 +85,7 @@ module _ (plan : Plan) (start : Beginning) (begins : IsBeginning plan start) (sc
   pub sound : IsSoundScheme S
   sound = schemes.sound asked known
 
-  pub logged : (log : Log) × IsLogged plan asked S start is (laws S sound) w log × AreRan plan asked S start log (ran_in steps)
+  pub logged : (log : Log) × IsLogged plan asked S start is (laws S sound) w log × AreRan plan asked S start log (ran_in steps) × AreKeptIn plan asked S start w log steps
   logged = run_logged plan asked S start is (laws S sound) stores begins coords steps w run (agrees plan some.0 w submissions)
 
   pub serial : ((S : Scheme) → IsSoundScheme S → SerialLaws S start.store) → IsSerialWitnessFrom plan.program start.store w.history w.order

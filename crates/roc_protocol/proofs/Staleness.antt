@@ -18,7 +18,7 @@ use Rattle.roc_program.specs.Values.{value_of_name}
 use Rattle.roc_depgraph.specs.Deps.{IsDecided}
 use Rattle.roc_depgraph.specs.declared.known.KnownList.{KnownList}
 use Rattle.roc_msg.specs.declared.msg.Msg.{Msg}
-use Rattle.roc_msg.specs.declared.msg.Msg.TheVariants.{Start, StartOk, Commit, CommitOk, Known, Ended}
+use Rattle.roc_msg.specs.declared.msg.Msg.TheVariants.{Start, StartOk, Commit, CommitOk, Known, Ended, Settled}
 use Rattle.roc_msg.specs.declared.msg.Envelope.{Envelope}
 use Rattle.roc_msg.specs.declared.reason.Reason.{Reason}
 use Rattle.roc_msg.specs.declared.reason.Reason.TheVariants.{Stale, Unfit}
@@ -50,6 +50,7 @@ use Rattle.roc_protocol.proofs.Replies.{count_given, places_are, counts_at, leng
 use Rattle.roc_protocol.proofs.Networks.{IsToldHere, IsNetworked}
 use Rattle.roc_protocol.proofs.Pending.{AnsweredAreDone, AskedBy, IsWholeAt, IsPending}
 use Rattle.roc_protocol.proofs.Worlds.{IsLogged}
+use Rattle.roc_server_lists.proofs.SameIds.{known_alike}
 use Rattle.roc_protocol.proofs.Gone.{IsGone}
 
 module _ (plan : Plan) (asked : TxnId → whole.Call) (S : Scheme) (start : Beginning) (is : IsSchemeOf plan asked S) (laws : LogLaws S start.store) (w : World) (log : Log) (l : IsLogged plan asked S start is laws w log) (nw : IsNetworked plan asked S start is laws w) (o : IsPending plan w) (done_with : AnsweredAreDone w) (n : ℕ) (s : CoordState) (there : slice_get w.coords n ≡ Some s) where
@@ -145,8 +146,8 @@ module _ (plan : Plan) (asked : TxnId → whole.Call) (S : Scheme) (start : Begi
     is_whole : (all_started plan x ≡ true) × (x.asked ≡ shards_of x)
     is_whole =
         let v = l.means.servers shard.0 from.0 from.1 in
-        let d : IsDecided from.0.lists.known id = elim (v.decided id done.0.decided) [ inl k ↦ k | inr gone ↦ absurd (gone_nowhere from.0 from.1 gone) ] in
-        let k = known_has from.0.lists.known id d.own in
+        let d : IsDecided from.0.lists.links id = elim (v.decided id done.0.decided) [ inl k ↦ k | inr f ↦ absurd (gone_nowhere from.0 from.1 f.gone) ] in
+        let k = known_has from.0.lists.known id (sym (known_alike from.0.lists.known from.0.lists.links (nw.servers shard.0 from.0 from.1).same id) ∙ d.own) in
         (subst (IsWholeAt plan w.coords) k.2 ((o.servers shard.0 from.0 from.1).known k.0 k.1)) s x found_at pending same
 
     asked_shard : is_asked x shard ≡ true
@@ -217,4 +218,5 @@ module _ (plan : Plan) (asked : TxnId → whole.Call) (S : Scheme) (start : Begi
       go (Commit id edges facts) f e = absurd ((server_alone (Commit id edges facts) f).1)
       go (Known id edges) f e = absurd ((server_alone (Known id edges) f).1)
       go (Ended coord mark) f e = absurd ((server_alone (Ended coord mark) f).1)
+      go (Settled id mark) f e = absurd ((server_alone (Settled id mark) f).2)
       go msg f e = absurd (server_alone msg f)

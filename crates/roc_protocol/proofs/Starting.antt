@@ -1,9 +1,9 @@
 -- A new group starts on a shard
 use Rattle.std.proofs.Common.{◌≡◌, ◌≢◌, ℕ, ℤ, pos, ◌==◌, Bool, true, false, not, cond, ◌&&◌, ◌||◌, List, [], ◌∷◌, ◌++◌, Some, None, map, refl, sym, ap, subst, ◌∙◌, arith, ◌⊎◌, inl, inr, append-nil}
-use Rattle.std.proofs.lemmas.Bool.{false≢true, and_parts, and_from, eq-eqb, eqb-true, cond-true, cond-false, not-true, not_from_false}
-use Rattle.std.specs.Prelude.{if◌then◌else◌, filter, find}
+use Rattle.std.proofs.lemmas.Bool.{false≢true, false_from_ne_true, and_parts, and_from, eq-eqb, cond-true, cond-false, not-true, not_from_false}
+use Rattle.std.specs.Prelude.{if◌then◌else◌, filter, flat_map}
 use Rattle.roc_sequence.specs.Lists.{Has}
-use Rattle.roc_sequence.specs.Places.{place_of, IsListed, is_listed}
+use Rattle.roc_sequence.specs.Places.{place_of, IsListed, IsListedBefore, is_listed}
 use Rattle.roc_sequence.proofs.Members.{has_append, has_one, has_map, from_has_map, has_filter, from_has_filter}
 use Rattle.roc_sequence.proofs.Holds.{all_has, has_all}
 use Rattle.roc_sequence.proofs.Found.{found_has}
@@ -14,7 +14,7 @@ use Rattle.roc_base.specs.declared.id.TxnId.{TxnId}
 use Rattle.roc_base.specs.declared.node.Node.{Node}
 use Rattle.roc_base.specs.declared.node.Node.TheVariants.{Server, Coord}
 use Rattle.roc_base.specs.TxnId.{is_txn}
-use Rattle.roc_base.specs.Equalities.{is_txn-true, is_txn-same}
+use Rattle.roc_base.specs.Equalities.{is_txn-same}
 use Rattle.roc_base.proofs.Ids.{is_txn-false, is_txn-ne}
 use Rattle.roc_base.specs.Edge.{Dependency, joined}
 use Rattle.roc_base.specs.Equality.{same_tag}
@@ -34,32 +34,32 @@ use Rattle.roc_law_orders.proofs.Places.{before_past, before_itself}
 use Rattle.roc_law_log.specs.Scheme.{Scheme}
 use Rattle.roc_law_log.specs.Log.{Log}
 use Rattle.roc_law_log.specs.Steps.{MayStart, with_start, IsReachedLog, LogStep, group_starts, no_steps, one_step_more}
+use Rattle.roc_law_log.specs.Settled.{IsSettled}
 use Rattle.roc_law_log.specs.Invariants.{LogInvariants, LogGrows}
 use Rattle.roc_server.specs.declared.started.StartedGroup.{StartedGroup}
-use Rattle.roc_server.specs.State.{is_group, find_group, ServerState}
+use Rattle.roc_server.specs.State.{is_group, is_here, find_group, unrun, ServerState}
 use Rattle.roc_server.specs.Start.{is_immediate_group, is_predecessor, edge_to, new_group, start_new}
-use Rattle.roc_server.specs.State.{unrun}
 use Rattle.roc_protocol.specs.PlanAssumptions.{called, use_of, IsSchemeOf}
 use Rattle.roc_protocol.specs.Beginnings.{Beginning}
 use Rattle.roc_protocol.specs.Inner.Given.{LogLaws}
 use Rattle.roc_protocol.proofs.Means.{run_of, entry_run, place, Precedes, Ran, Began, stage, EdgesMean, ListMeans, ToldMeans, StartIs, EntryMeans, ServerMeans}
-use Rattle.roc_protocol.proofs.Gone.{IsGone, none_gone, gone_begins}
-use Rattle.roc_protocol.proofs.Grows.{begun_grows, place_grows, values_grow, entry_grows, list_grows, all_grow, past_grows}
-use Rattle.roc_protocol.proofs.Meets.{meet_of, of_meet}
+use Rattle.roc_protocol.proofs.Gone.{IsGone, gone_begins}
+use Rattle.roc_protocol.proofs.Followed.{known_alike}
+use Rattle.roc_protocol.proofs.OneGroupMore.{find_front, find_last, here_now, here_more, here_cases}
+use Rattle.roc_protocol.proofs.Flattened.{flat, before_unlisted}
+use Rattle.roc_protocol.proofs.SaidOfServers.{found_run, group_decided, found_or_decided, taken_decided}
+use Rattle.roc_protocol.proofs.Grows.{mates_grow, settled_grows, links_grow, taken_grows, begun_grows, place_grows, values_grow, entry_grows, list_grows, all_grow, past_grows}
+use Rattle.roc_protocol.proofs.Meets.{same_class, meet_of, of_meet}
 use Rattle.roc_protocol.proofs.Facts.{facts_known}
-use Rattle.roc_protocol.proofs.Local.{call_is, run_cells, run_elsewhere, run_bound, run_outs, run_uses}
+use Rattle.roc_protocol.proofs.Local.{after_append, call_is, run_cells, run_elsewhere, run_bound, run_outs, run_uses}
 use Rattle.roc_protocol.proofs.Elsewhere.{IsQuietOn}
-
-pub after_append : (B : _) (s : Stage) (Q T : List TxnGroup) → after_groups B s (Q ++ T) ≡ after_groups B (after_groups B s Q) T
-after_append B s [] T = refl
-after_append B s (r ∷ Q) T = after_append B (after_group B s r) Q T
 
 abbrev pub shard_number : Node → ℕ
 shard_number (Server s) = s.0
 shard_number (Coord n) = 0
 
 module _ (plan : Plan) (asked : TxnId → whole.Call) (S : Scheme) (start : Beginning) (is : IsSchemeOf plan asked S) (laws : LogLaws S start.store) (c : Log) (reached : IsReachedLog S start.store c) (n : ℕ) (s : ServerState) (o : ServerMeans plan asked S start c n s) where
-  module _ (id : TxnId) (proc group : ℕ) (args inputs : List ℤ) (m : StartIs plan asked S start c id proc group args inputs (Server (record { 0 = n }))) (none : find_group id group s.started ≡ None) (kept : ¬ IsGone s id) (left_out ids : List TxnId) (left : (t : TxnId) → IsListed is_txn left_out t → IsDecided s.lists.known t) (led : (u : TxnId) → IsListed is_txn ids u → IsKnown s.lists.known u) where
+  module _ (id : TxnId) (proc group : ℕ) (args inputs : List ℤ) (m : StartIs plan asked S start c id proc group args inputs (Server (record { 0 = n }))) (none : find_group id group s.started ≡ None) (kept : ¬ IsGone s id) (left_out ids : List TxnId) (left : (t : TxnId) → IsListed is_txn left_out t → IsDecided s.lists.links t) (left_all : (t : TxnId) → IsDecided s.lists.links t → IsListed is_txn left_out t) (led : (u : TxnId) → IsListed is_txn ids u → IsKnown s.lists.links u) where
     abbrev r : TxnGroup
     r = run_of id group
 
@@ -84,20 +84,24 @@ module _ (plan : Plan) (asked : TxnId → whole.Call) (S : Scheme) (start : Begi
         go : (e : StartedGroup) × (find_group id group s.started ≡ Some e) → ⊥
         go f = let a = f.1 in let b = none in cc
 
-    pub may : MayStart S start.store c r left_out
+    -- in the log it leaves out all that the shard ever decided: what is forgotten too
+    abbrev pub out : List TxnId
+    out = c.decided n
+
+    pub may : MayStart S start.store c r out
     may =
         record {
           new = new;
           listed = m.means.listed;
           needs_ran = m.means.needs_ran;
-          out_decided = λ t h. subst (λ s. IsListed is_txn (c.decided s) t) (sym on) (o.back t (left t h));
+          out_decided = λ t h. subst (λ s. IsListed is_txn (c.decided s) t) (sym on) h;
         }
 
     abbrev pub d : Log
-    d = with_start S c r left_out
+    d = with_start S c r out
 
     pub step : LogStep S start.store c d
-    step = group_starts r left_out may
+    step = group_starts r out may
 
     pub reached_after : IsReachedLog S start.store d
     reached_after = one_step_more reached step
@@ -155,8 +159,8 @@ module _ (plan : Plan) (asked : TxnId → whole.Call) (S : Scheme) (start : Begi
         go true e k = (listed_one is_txn_group same_group is_group-same r q k, e)
         go false e k = absurd (omega arith)
 
-    out_new : d.past.left_out r ≡ left_out
-    out_new = cond-true (is_txn_group r r) left_out (c.past.left_out r) (is_group-same r)
+    out_new : d.past.left_out r ≡ out
+    out_new = cond-true (is_txn_group r r) out (c.past.left_out r) (is_group-same r)
 
     pub place_new : place plan asked S start d r ≡ n
     place_new = ap (S.group_shard r) (g.inputs r m.means.needs_ran) ∙ on
@@ -216,7 +220,7 @@ module _ (plan : Plan) (asked : TxnId → whole.Call) (S : Scheme) (start : Begi
                   began = in_new;
                   before = before_new is_txn_group c.past.started (r ∷ []) (entry_run q.of) r k.told.began new;
                   conflict = conflict_of q.of k (meet_of q.of.cells entry.cells p2.1);
-                  kept = λ y. listed_false is_txn left_out q.of.id (not-true (is_listed is_txn left_out q.of.id) p1.0) (subst (IsListed is_txn left_out) q.from (subst (λ l. IsListed is_txn l z.from) out_new y));
+                  kept = λ y. listed_false is_txn left_out q.of.id (not-true (is_listed is_txn left_out q.of.id) p1.0) (left_all q.of.id (group_decided plan asked S start c n s o q.of b.0 (subst (IsListed is_txn out) q.from (subst (λ l. IsListed is_txn l z.from) out_new y))));
                 },
                 q.imm ∙ sym imm_is,
                 q.def ∙ ap not (sym imm_is),
@@ -225,36 +229,30 @@ module _ (plan : Plan) (asked : TxnId → whole.Call) (S : Scheme) (start : Begi
           complete = λ u p.
               (let was = earlier p in
               let same_place : place plan asked S start c p.first ≡ n = sym (place_grows plan asked S start is c d i j g p.first was) ∙ (laws.one_shard d j p.first r p.conflict ∙ place_new) in
-              let f = still_found p.first was same_place in
+              let f = elim (found_or_decided plan asked S start c n s o p.first was same_place) as (λ z. (e : StartedGroup) × (find_group p.first.txn p.first.group s.started ≡ Some e)) [
+                | inl f ↦ f
+                | inr k ↦ absurd (p.kept (subst (λ l. IsListed is_txn l u) (sym out_new) (subst (IsListed is_txn out) p.of_first k)))
+              ] in
               let e = f.0 in
               let found = found_has (is_group p.first.txn p.first.group) s.started e f.1 in
-              let same : entry_run e ≡ p.first = entry_is p.first e found.1 in
+              let same : entry_run e ≡ p.first = found_run p.first e found.1 in
               let k = o.groups.entries e found.0 in
               let cells : uses_in S.behaviour start.store d.past.ran p.first ≡ map use_of e.cells = ap (uses_in S.behaviour start.store d.past.ran) (sym same) ∙ sym (k.cells ∙ sym (g.uses (entry_run e) k.told.began)) in
               let met = of_meet e.cells entry.cells (subst (λ a. Meet a (map use_of entry.cells)) cells (subst (Meet (uses_in S.behaviour start.store d.past.ran p.first)) (sym cells_start) p.conflict)) in
               let from : e.id ≡ u = ap (λ (q : TxnGroup). q.txn) same ∙ p.of_first in
               let apart : e.id ≢ id = λ f. p.other (sym from ∙ f) in
-              let unlisted : ¬ IsListed is_txn left_out e.id = λ z. p.kept (subst (λ l. IsListed is_txn l u) (sym out_new) (subst (IsListed is_txn left_out) from z)) in
+              let unlisted : ¬ IsListed is_txn left_out e.id = λ z. p.kept (subst (λ l. IsListed is_txn l u) (sym out_new) (subst (IsListed is_txn out) from (o.back e.id (left e.id z)))) in
               let class : is_immediate_of plan e.proc e.group ≡ I = class_of e k ∙ (ap S.is_immediate same ∙ (laws.one_class d j p.first r p.conflict ∙ imm_is)) in
               let passes =
               and_from (not (is_txn e.id id)) (not (is_listed is_txn left_out e.id) && rest_test e) (not_from_false (is_txn e.id id) (is_txn-ne e.id id apart))
               (and_from (not (is_listed is_txn left_out e.id)) (rest_test e) (not_from_false (is_listed is_txn left_out e.id) (unlisted_test is_txn left_out e.id unlisted))
-              (and_from (same_tag (is_immediate_of plan e.proc e.group) I) (do_conflict e.cells entry.cells) (same_tag-from (is_immediate_of plan e.proc e.group) I class) met)) in
-              let y = has-united raw (edge_to s.shard I e) (has_map (edge_to s.shard I) e (filter (is_predecessor plan left_out id this entry.cells) s.started) (has_filter (is_predecessor plan left_out id this entry.cells) e s.started found.0 passes)) in
-              (y.0, y.1, y.2.from ∙ from));
+              (and_from (same_tag (is_immediate_of plan e.proc e.group) I) (do_conflict e.cells entry.cells) (same_class (is_immediate_of plan e.proc e.group) I class) met)) in
+              named e u from (has_filter (is_predecessor plan left_out id this entry.cells) e s.started found.0 passes));
         }
       where
-        -- a group that began here is found
-        still_found : (q : TxnGroup) → Began plan asked S start c q → place plan asked S start c q ≡ n → (e : StartedGroup) × (find_group q.txn q.group s.started ≡ Some e)
-        still_found q was here = elim (o.groups.finds q was here) [ inl f ↦ f | inr gone ↦ absurd (none_gone s q.txn gone) ]
-
-        same_tag-from : (a b : Bool) → a ≡ b → same_tag a b ≡ true
-        same_tag-from true b e = sym e
-        same_tag-from false true e = absurd (false≢true e)
-        same_tag-from false false e = refl
-
-        entry_is : (q : TxnGroup) (e : StartedGroup) → is_group q.txn q.group e ≡ true → entry_run e ≡ q
-        entry_is q e h = let p = and_parts (is_txn e.id q.txn) (e.group == q.group) h in λ i. record { txn = is_txn-true e.id q.txn p.0 i; group = eqb-true e.group q.group p.1 i }
+        -- a group that was met is named by an entry
+        named : (e : StartedGroup) (u : TxnId) → e.id ≡ u → Has e (filter (is_predecessor plan left_out id this entry.cells) s.started) → (z : Dependency) × Has z entry.edges × (z.from ≡ u)
+        named e u from h = let y = has-united raw (edge_to s.shard I e) (has_map (edge_to s.shard I) e (filter (is_predecessor plan left_out id this entry.cells) s.started) h) in (y.0, y.1, y.2.from ∙ from)
 
         earlier : {u : TxnId} → (p : Precedes plan asked S start d u r) → Began plan asked S start c p.first
         earlier p = elim (begun_cases p.first (listed_by_before is_txn_group d.past.started p.first r p.before)) [
@@ -278,7 +276,7 @@ module _ (plan : Plan) (asked : TxnId → whole.Call) (S : Scheme) (start : Begi
           outs_later = λ e. cond-false I (group_run plan this s.store).reply [] (sym imm_is ∙ e);
           edges = edges_start;
           facts = λ f h.
-              (let k = facts_known s.lists.known ids led f h in
+              (let k = facts_known s.lists.known ids (λ u k. sym (known_alike (IsSettled S start.store c) s.lists.known s.lists.links o.links u) ∙ led u k) f h in
               subst (λ t. ListIs d t f.edges) k.2 (subst (ListIs d k.0.of) (sym k.3) (list_grows plan asked S start is c d i j g k.0.of k.0.edges (o.known k.0 k.1))));
         }
       where
@@ -321,12 +319,46 @@ module _ (plan : Plan) (asked : TxnId → whole.Call) (S : Scheme) (start : Begi
             ];
           };
           known = all_grow plan asked S start is c d i j g s.lists.known o.known;
-          decided = λ t h. elim (o.decided t h) [ inl k ↦ inl k | inr gone ↦ inr (gone_begins s (start_new plan s this entry).state entry kept t refl refl gone) ];
+          links = links_grow plan asked S start is c d i j g s.lists.known s.lists.links o.links;
+          decided = λ t h. elim (o.decided t h) [
+            | inl k ↦ inl k
+            | inr f ↦ inr (record { gone = gone_begins s (start_new plan s this entry).state entry kept t refl refl f.gone; settled = settled_grows plan asked S start is c d i j g t f.settled })
+          ];
           back = o.back;
+          forgot = λ t h gone. elim (begun_cases (run_of t h.group) h.began) [
+            | inl k ↦
+                (let q = o.forgot t (record { group = h.group; began = k; on = sym (place_grows plan asked S start is c d i j g (run_of t h.group) k) ∙ h.on }) (was_gone t gone) in
+                (q.0, settled_grows plan asked S start is c d i j g t q.1))
+            | inr k ↦ absurd (false≢true (sym gone.nowhere ∙ subst (λ t. is_here t (s.started ++ entry ∷ []) ≡ true) (sym (ap (λ (q : TxnGroup). q.txn) k)) (here_now s.started entry)))
+          ];
+          taken = (let k = taken_grows plan asked S start is c d i j g n s o refl in record { decided = k.decided; all = k.all; one = k.one; mates = k.mates; whole = k.whole; order = taken_in_order });
+          follows = λ u t e k p m. elim (here_cases s.started entry t e) [
+            | inl was ↦ o.follows u t was k p (λ x. m (mates_grow plan asked S start is c d i j g t u x))
+            | inr same ↦ absurd (undecided (subst (IsListed is_txn (c.decided n)) same (o.back t k)))
+          ];
           fetched = λ a h. begun_grows plan asked S start is c d i j g a.id a.at.0 (o.fetched a h);
           ended = λ t h. past_grows plan asked S start is c d i j g t (o.ended t h);
         }
       where
+        was_gone : (t : TxnId) → IsGone (start_new plan s this entry).state t → IsGone s t
+        was_gone t gone = record { nowhere = false_from_ne_true (is_here t s.started) (λ h. false≢true (sym gone.nowhere ∙ here_more s.started entry t h)); ended = gone.ended }
+
+        -- a transaction of which a group starts was decided nowhere
+        undecided : ¬ IsListed is_txn (c.decided n) id
+        undecided h = new (i.whole id (i.in_order n id h) group m.means.listed)
+
+        taken_in_order : (t u : TxnId) → is_here t (s.started ++ entry ∷ []) ≡ true → is_here u (s.started ++ entry ∷ []) ≡ true → IsListedBefore is_txn (flat_map (λ c. c) s.lists.taken) t u → IsListedBefore is_txn (c.decided n) t u
+        taken_in_order t u h k b = elim (here_cases s.started entry t h) [
+          | inr same ↦ absurd (undecided (subst (IsListed is_txn (c.decided n)) same was))
+          | inl first ↦ elim (here_cases s.started entry u k) [
+            | inl second ↦ o.taken.order t u first second b
+            | inr same ↦ before_unlisted (c.decided n) t u was (λ x. undecided (subst (IsListed is_txn (c.decided n)) same x))
+          ]
+        ]
+          where
+            was : IsListed is_txn (c.decided n) t
+            was = taken_decided plan asked S start c n s o t (listed_by_before is_txn (flat s.lists.taken) t u b)
+
         entry_start : EntryMeans plan asked S start d n (unrun entry)
         entry_start =
             record {
@@ -337,28 +369,6 @@ module _ (plan : Plan) (asked : TxnId → whole.Call) (S : Scheme) (start : Begi
               cells = cells_start;
               told = told_start;
             }
-
-        find_front : {A : Type 0} (p : A → Bool) (xs ys : List A) (a : A) → find p xs ≡ Some a → find p (xs ++ ys) ≡ Some a
-        find_front p [] ys a h = absurd (none_some h)
-          where
-            none_some : {A : Type 0} {a : A} → None ≡ Some a → ⊥
-            none_some e = cc
-        find_front p (x ∷ xs) ys a h = go (p x) h (find_front p xs ys a)
-          where
-            go : (b : Bool) → cond b (Some x) (find p xs) ≡ Some a → (find p xs ≡ Some a → find p (xs ++ ys) ≡ Some a) → cond b (Some x) (find p (xs ++ ys)) ≡ Some a
-            go true k ih = k
-            go false k ih = ih k
-
-        find_last : {A : Type 0} (p : A → Bool) (xs : List A) (a : A) → find p xs ≡ None → p a ≡ true → find p (xs ++ a ∷ []) ≡ Some a
-        find_last p [] a h k = cond-true (p a) (Some a) None k
-        find_last p (x ∷ xs) a h k = go (p x) h (find_last p xs a)
-          where
-            go : (b : Bool) → cond b (Some x) (find p xs) ≡ None → (find p xs ≡ None → p a ≡ true → find p (xs ++ a ∷ []) ≡ Some a) → cond b (Some x) (find p (xs ++ a ∷ [])) ≡ Some a
-            go true e ih = absurd (some_none e)
-              where
-                some_none : {A : Type 0} {a : A} → Some a ≡ None → ⊥
-                some_none e = cc
-            go false e ih = ih e k
 
         elsewhere_after : (x : Cell) → S.cell_shard x ≢ n → read (if I then (group_run plan this s.store).store else s.store) x ≡ pos 0
         elsewhere_after x apart = go I

@@ -10,8 +10,6 @@ use Rattle.roc_sequence.proofs.Members.{has_at, has_map}
 use Rattle.roc_sequence.proofs.Places.{place_of-here, place_of-there}
 use Rattle.roc_base.specs.declared.id.TxnId.{TxnId}
 use Rattle.roc_base.specs.TxnId.{is_txn}
-use Rattle.roc_base.specs.Equalities.{is_txn-true}
-use Rattle.std.proofs.lemmas.Bool.{and_parts, eqb-true}
 use Rattle.roc_group.specs.Accesses.{do_conflict}
 use Rattle.roc_plan.specs.Groups.{Plan, is_immediate_of}
 use Rattle.roc_whole.specs.Serial as whole
@@ -32,7 +30,7 @@ use Rattle.roc_protocol.specs.Run.{Stepped}
 use Rattle.roc_protocol.specs.Kept.{ran_in, RanBefore, IsYetToRun, ConflictIn, KeepsWhatRan}
 use Rattle.roc_protocol.specs.Inner.Given.{LogLaws}
 use Rattle.roc_protocol.proofs.Means.{entry_run, place, Ran, Began, EntryMeans, ServerMeans, AreRan}
-use Rattle.roc_protocol.proofs.Gone.{none_gone}
+use Rattle.roc_protocol.proofs.SaidOfServers.{found_run, group_decided, found_or_decided}
 use Rattle.roc_protocol.proofs.Meets.{meet_of, of_meet}
 use Rattle.roc_protocol.proofs.Worlds.{IsLogged}
 use Rattle.roc_protocol.proofs.Witness.{run_listed}
@@ -126,7 +124,7 @@ module _ (plan : Plan) (asked : TxnId → whole.Call) (S : Scheme) (start : Begi
         let r = entry_run e in
         let later : S.is_immediate r ≡ false = is.immediate r ∙ (ap (λ p. is_immediate_of plan p e.group) (sym m.proc) ∙ y.deferrable) in
         let unran : ¬ Ran plan asked S start log r =
-        (λ ran. elim (mine.decided e.id (subst (λ n. IsListed is_txn (log.decided n) e.id) m.on (i.later_decided r ran later))) [ inl d ↦ y.undecided d | inr gone ↦ none_gone y.server e.id gone ]) in
+        (λ ran. y.undecided (group_decided plan asked S start log q.shard y.server mine e y.here (subst (λ n. IsListed is_txn (log.decided n) e.id) m.on (i.later_decided r ran later)))) in
         k.ran_alone r (group_of q) c.second c.first (λ same. c.other (sym same)) (i.are_groups r m.told.began) unran (told_ran q h)
         (other_way (uses q.group) (uses e) (to_conflict q.group e (a.each q h).cells m.cells c.conflict))
 
@@ -177,6 +175,14 @@ module _ (plan : Plan) (asked : TxnId → whole.Call) (S : Scheme) (start : Begi
         })
         (record { first = l; second = g; other = λ same. d (sym same); conflict = of_conflict y.group e (a.each y h).cells m.cells (other_way (uses e) (uses y.group) c) })
 
+    -- what began of a transaction that its shard decided has run
+    ran_decided : (q : TxnGroup) (shard : ℕ) → Began plan asked S start log q → place plan asked S start log q ≡ shard → IsListed is_txn (log.decided shard) q.txn → Ran plan asked S start log q
+    ran_decided q shard began on decided = go (S.is_immediate q) refl
+      where
+        go : (b : Bool) → S.is_immediate q ≡ b → Ran plan asked S start log q
+        go true e = i.now_ran q began e
+        go false e = i.later_ran q began e (subst (λ n. IsListed is_txn (log.decided n) q.txn) (sym on) decided)
+
     log_alone :
         (q : TxnGroup) (y : RanAt) → Has y (ran_in steps) → IsListed is_txn O q.txn → IsListed is_txn O y.group.id → q.txn ≢ y.group.id
         → IsListed is_group_number (S.behaviour.groups q.txn) q.group → ¬ Ran plan asked S start log q → Conflict S.behaviour start.store log.past.ran q (group_of y)
@@ -185,18 +191,15 @@ module _ (plan : Plan) (asked : TxnId → whole.Call) (S : Scheme) (start : Begi
         let began : Began plan asked S start log q = i.whole q.txn (subst (λ l. IsListed is_txn l q.txn) o.means.order (k.from q.txn l)) q.group listed in
         let on : place plan asked S start log q ≡ y.shard = laws.one_shard log i q (group_of y) c ∙ (a.each y h).on in
         let s = there y h in
-        elim ((o.means.servers y.shard s.0 s.1).groups.finds q began on) [
+        elim (found_or_decided plan asked S start log y.shard s.0 (o.means.servers y.shard s.0 s.1) q began on) [
           | inl f ↦
               (let has = found_has (is_group q.txn q.group) s.0.started f.0 f.1 in
-              let parts = and_parts (is_txn f.0.id q.txn) _ has.1 in
-              let id = is_txn-true f.0.id q.txn parts.0 in
-              let number = eqb-true f.0.group q.group parts.1 in
-              let same : entry_run f.0 ≡ q = λ j. record { txn = id j; group = number j } in
+              let same = found_run q f.0 has.1 in
               let P : TxnGroup → Type 0 = λ q.
               Began plan asked S start log q → place plan asked S start log q ≡ y.shard → ¬ Ran plan asked S start log q → IsListed is_txn O q.txn → IsListed is_txn O y.group.id
               → q.txn ≢ y.group.id → Conflict S.behaviour start.store log.past.ran q (group_of y) → IsListedBefore is_txn O y.group.id q.txn in
               subst P same (λ b p u g m d c. alone y h s.0 s.1 f.0 has.0 b p u g m d c) began on unran l m d c)
-          | inr gone ↦ absurd (none_gone s.0 q.txn gone)
+          | inr decided ↦ absurd (unran (ran_decided q y.shard began on decided))
         ]
 
     pub to_log : KeepsRan S start.store log O

@@ -30,13 +30,14 @@ use Rattle.roc_audit.specs.declared.entry.Entry.TheVariants.{Submitted}
 use Rattle.roc_audit.specs.History.{WasSubmitted, WasAnswered}
 use Rattle.roc_audit.specs.Witness.{submitted_call, submitted_calls, reply_in}
 use Rattle.roc_protocol.specs.WitnessFrom.{serial_reply_from, IsSerialWitnessFrom}
+use Rattle.roc_server.specs.State.{ServerState}
 use Rattle.roc_coord.specs.State.{CoordState}
 use Rattle.roc_coord.specs.Step.{after_message}
 use Rattle.roc_coord.specs.Submit.{next_id}
 use Rattle.roc_protocol.specs.declared.event.Event.{Event}
 use Rattle.roc_protocol.specs.declared.event.Event.TheVariants.{Submit, Deliver, Tick}
 use Rattle.roc_protocol.specs.PlanAssumptions.{IsSchemeOf, IsWholeReplyFrom}
-use Rattle.roc_protocol.specs.Beginnings.{Beginning, begun_world, IsBeginning}
+use Rattle.roc_protocol.specs.Beginnings.{Beginning, begun_server, begun_world, IsBeginning}
 use Rattle.roc_protocol.specs.World.{World, mark_delivered}
 use Rattle.roc_protocol.specs.Happens.{RanAt, Outcome, IsReceived, answer_entries}
 use Rattle.roc_protocol.specs.Run.{Stepped, Transition, IsRunFrom, at_beginning, steps_on}
@@ -45,6 +46,8 @@ use Rattle.roc_protocol.specs.Inner.Given.{LogLaws}
 use Rattle.roc_protocol.proofs.Means.{run_of, entry_run, RanMeans, AreRan, Ran, stage, AnswerMeans}
 use Rattle.roc_protocol.specs.Inner.Given.{SerialLaws, StoreLaws}
 use Rattle.roc_protocol.proofs.Firsts.{begun_means, found_at}
+use Rattle.roc_protocol.proofs.TakenRuns.{none_taken}
+use Rattle.roc_protocol.proofs.KeptRuns.{AreKeptIn, none_kept, are_kept_on}
 use Rattle.roc_protocol.proofs.Worlds.{Submitting, is_refused, is_accepted, submitting, submissions_from, Agrees, agrees_before, IsLogged, RunsOn, step_logged, ordered_submitted}
 
 -- ---- a history grows at its end
@@ -99,7 +102,7 @@ module _ (plan : Plan) (asked : TxnId → whole.Call) (S : Scheme) (start : Begi
           let began = i.ran_started q listed in
           record { on = ap (S.group_shard q) (b.grows.inputs q (i.needs_ran q began)) ∙ m.on; cells = m.cells ∙ sym (b.grows.uses q began) }
 
-  pub run_logged : (coords : ℕ) (steps : List Stepped) (w : World) → IsRunFrom plan start coords steps w → Agrees asked w.history → (log : Log) × IsLogged plan asked S start is laws w log × AreRan plan asked S start log (ran_in steps)
+  pub run_logged : (coords : ℕ) (steps : List Stepped) (w : World) → IsRunFrom plan start coords steps w → Agrees asked w.history → (log : Log) × IsLogged plan asked S start is laws w log × AreRan plan asked S start log (ran_in steps) × AreKeptIn plan asked S start w log steps
   run_logged coords steps w at_beginning agrees = (
     first_log,
     record {
@@ -111,6 +114,7 @@ module _ (plan : Plan) (asked : TxnId → whole.Call) (S : Scheme) (start : Begi
       onward = λ t h. absurd h.2;
     },
     record { groups = refl; each = λ r h. absurd h },
+    record { taken = none_taken plan asked S start; kept = λ n s h. none_kept plan asked S start first_log n s (ap (λ (s : ServerState). s.lists.taken) (found_at (begun_server start) 0 plan.program.shards n s h)) },
   )
     where
       nothing : (n : ℕ) (c : CoordState) → slice_get (begun_world plan start coords).coords n ≡ Some c → (x : _) → Has x c.pending → ⊥
@@ -119,7 +123,12 @@ module _ (plan : Plan) (asked : TxnId → whole.Call) (S : Scheme) (start : Begi
       let x = step_extends plan v e o h in
       let before = run_logged coords front v r (agrees_before asked v.history x.more (subst (Agrees asked) x.is agrees)) in
       let now = step_logged plan asked S start is laws v before.0 (submissions_from plan start coords front v r) before.1 e o h agrees in
-      (now.0, now.1, subst (AreRan plan asked S start now.0) (sym (ran_more front (record { event = e; outcome = o }))) (ran_on before.0 now.0 (laws.holds before.0 before.1.means.reached) (ran_in front) o.ran before.2 now.2))
+      let i = laws.holds before.0 before.1.means.reached in (
+        now.0,
+        now.1,
+        subst (AreRan plan asked S start now.0) (sym (ran_more front (record { event = e; outcome = o }))) (ran_on before.0 now.0 i (ran_in front) o.ran before.2 now.2),
+        are_kept_on plan asked S start is before.0 now.0 i (laws.holds now.0 now.1.means.reached) now.2.grows front (record { event = e; outcome = o }) v now.3 before.1.means.servers now.1.means.servers before.3,
+      )
 
 -- ---- replies
 

@@ -1,16 +1,18 @@
 -- Each event keeps what holds in every world
-use Rattle.std.proofs.Common.{◌≡◌, ℕ, ℤ, ◌-◌, ◌≤◌, ◌==◌, Bool, true, false, not, List, [], ◌∷◌, ◌++◌, Option, Some, None, Result, Ok, Err, length, map, refl, sym, ap, subst, ◌∙◌, ◌⊎◌, inl, inr, arith, append-nil}
-use Rattle.std.proofs.lemmas.Bool.{eqb-true}
-use Rattle.std.specs.Prelude.{slice_get, if◌then◌else◌, nat_le}
+use Rattle.std.proofs.Common.{◌≡◌, ◌≢◌, ℕ, ℤ, ◌-◌, ◌≤◌, ◌==◌, Bool, true, false, not, List, [], ◌∷◌, ◌++◌, Option, Some, None, length, map, refl, sym, ap, subst, ◌∙◌, ◌⊎◌, inl, inr, arith, append-nil}
+use Rattle.std.proofs.lemmas.Bool.{eqb-true, cases_eq}
+use Rattle.std.specs.Prelude.{slice_get, if◌then◌else◌, nat_le, flat_map}
 use Rattle.roc_sequence.specs.Lists.{Has}
-use Rattle.roc_sequence.specs.Places.{IsListed, IsListedBefore}
+use Rattle.roc_sequence.specs.Places.{IsListed, IsListedBefore, is_listed}
 use Rattle.roc_sequence.proofs.Members.{has_append, has_one, has_left, has_right, has_at, from_has_map}
 use Rattle.roc_sequence.proofs.Places.{listed_or_not}
-use Rattle.roc_sequence.proofs.Appended.{before_front, before_new}
+use Rattle.roc_sequence.proofs.Appended.{before_front, before_new, listed_either}
+use Rattle.roc_sequence.proofs.Filtered.{from_listed_filter}
 use Rattle.roc_base.specs.declared.id.TxnId.{TxnId}
 use Rattle.roc_base.specs.declared.node.Node.{Node}
 use Rattle.roc_base.specs.declared.node.Node.TheVariants.{Server, Coord}
 use Rattle.roc_base.specs.TxnId.{is_txn}
+use Rattle.roc_base.specs.Equalities.{is_txn-true}
 use Rattle.roc_msg.specs.declared.msg.Msg.{Msg}
 use Rattle.roc_msg.specs.declared.msg.Msg.TheVariants.{Start}
 use Rattle.roc_msg.specs.declared.msg.Envelope.{Envelope}
@@ -20,14 +22,13 @@ use Rattle.roc_whole.specs.Serial as whole
 use Rattle.roc_law_orders.specs.Behaviour.{TxnGroup}
 use Rattle.roc_law_log.specs.Scheme.{Scheme}
 use Rattle.roc_law_log.specs.Log.{Log}
-use Rattle.roc_law_log.specs.Steps.{no_steps}
+use Rattle.roc_law_log.specs.Steps.{no_steps, new_in}
 use Rattle.roc_law_log.specs.Invariants.{LogInvariants, LogGrows}
 use Rattle.roc_server.specs.declared.started.StartedGroup.{StartedGroup}
 use Rattle.roc_server.specs.State.{answered, ServerState, ServerStep}
 use Rattle.roc_server.specs.Step as server
 use Rattle.roc_coord.specs.declared.handled.Handled.{Handled}
 use Rattle.roc_coord.specs.declared.handled.Handled.TheVariants as answer
-use Rattle.roc_coord.specs.declared.handled.SubmitFault.{SubmitFault}
 use Rattle.roc_coord.specs.declared.handled.SubmitFault.TheVariants as fault
 use Rattle.roc_coord.specs.declared.transaction.Transaction.{Transaction}
 use Rattle.roc_coord.specs.State.{CoordState}
@@ -43,13 +44,19 @@ use Rattle.roc_protocol.specs.declared.event.Event.{Event}
 use Rattle.roc_protocol.specs.declared.event.Event.TheVariants.{Submit, Deliver, Tick}
 use Rattle.roc_protocol.specs.PlanAssumptions.{IsSchemeOf}
 use Rattle.roc_protocol.specs.Beginnings.{Beginning, first_beginning}
-use Rattle.roc_protocol.specs.World.{World, sent_by, mark_delivered, at_server, at_coord}
-use Rattle.roc_protocol.specs.Happens.{RanAt, ran_at, Outcome, Submits, IsSubmissionOf, answer_entries, IsReceived, Ticks}
+use Rattle.roc_protocol.specs.World.{World, sent_by, mark_delivered, at_coord}
+use Rattle.roc_protocol.specs.declared.event.Seen.TheVariants as seen
+use Rattle.roc_protocol.specs.Happens.{RanAt, ran_at, served, undecided, Outcome, IsSubmissionOf, answer_entries, IsReceived, Ticks}
 use Rattle.roc_protocol.specs.Run.{Stepped, Transition, IsRun, IsRunFrom, at_beginning, steps_on}
 use Rattle.roc_protocol.specs.Inner.Given.{LogLaws}
 use Rattle.roc_protocol.proofs.Means.{run_of, entry_run, RanMeans, Began, Means, WorldMeans}
 use Rattle.roc_protocol.proofs.Changed.{get-set_cases, comes_means}
-use Rattle.roc_protocol.proofs.Served.{StartsAre, IsExplained, message_explained, tick_explained}
+use Rattle.roc_protocol.proofs.Explains.{IsExplained}
+use Rattle.roc_protocol.proofs.Decisions.{decided_are}
+use Rattle.roc_protocol.proofs.Flattened.{listed_in}
+use Rattle.roc_protocol.proofs.TakesOn.{submission_none, ticks_none, received_on, Takes, takes_nothing, IsTaking, took_nothing, servers_step}
+use Rattle.roc_protocol.proofs.KeepsTaken.{AreApart}
+use Rattle.roc_protocol.proofs.Served.{StartsAre, message_explained, tick_explained}
 use Rattle.roc_protocol.proofs.NoStarts.{no_starts, no_starts_at_tick}
 use Rattle.roc_protocol.proofs.Coordinated.{IsCoordinated, message_coordinated, tick_coordinated, submission_coordinated}
 use Rattle.roc_protocol.proofs.Submissions.{AreSubmissions, no_submission, submissions_kept, submissions_message, submissions_more, unused}
@@ -83,15 +90,6 @@ submitting plan w n proc args s o h = procedure (is_transaction plan proc) refl 
         → IsSubmissionOf w n proc args (refused_or_accepted plan s proc args (if not b then Some fault.NoProc else if not (length args == (procedure_of plan proc).arguments) then Some fault.Args else if nat_le most_transactions s.next then Some fault.Spent else if nat_le most_pending (length s.pending) then Some fault.Busy else None)) o → Submitting plan w n proc args s o
     procedure true e r = arguments (length args == (procedure_of plan proc).arguments) refl e r
     procedure false e r = elim r [ ]
-
--- where something is submitted, nothing runs
-pub submission_ran : (w : World) (n proc : ℕ) (args : List ℤ) (after : CoordState) (outs : List Outgoing) (answer : Result TxnId SubmitFault) (o : Outcome) → Submits w n proc args after outs answer o → o.ran ≡ []
-submission_ran w n proc args after outs (Ok id) o h = ap (λ (o : Outcome). o.ran) h
-submission_ran w n proc args after outs (Err fault.Spent) o h = ap (λ (o : Outcome). o.ran) h
-submission_ran w n proc args after outs (Err fault.Busy) o h = ap (λ (o : Outcome). o.ran) h
-submission_ran w n proc args after outs (Err fault.NoProc) o h = absurd h
-submission_ran w n proc args after outs (Err fault.Args) o h = absurd h
-submission_ran w n proc args after outs (Err fault.NoMemory) o h = absurd h
 
 -- ---- submissions
 
@@ -150,6 +148,16 @@ module _ (plan : Plan) (asked : TxnId → whole.Call) (S : Scheme) (start : Begi
   rests : (log : Log) → LogInvariants S start.store log → RunsOn log log []
   rests log i = record { grows = laws.grows log log i no_steps; groups = sym (append-nil log.past.ran); each = λ r h. absurd h }
 
+  -- the log goes on with what comes of an event
+  abbrev GoesOn : World → Log → (Of : ℕ → Type 0) → Outcome → Type 0
+  GoesOn w log Of v = (later : Log) × IsLogged v.world later × RunsOn log later v.ran × Takes S start w v.world log later Of v.components
+
+  abbrev Anywhere : ℕ → Type 0
+  Anywhere n = Unit {0}
+
+  abbrev IsOf : Node → ℕ → Type 0
+  IsOf to n = to ≡ Server (record { 0 = n })
+
   -- the order has only submitted ones
   pub ordered_submitted : (w : World) (log : Log) → IsLogged w log → (t : TxnId) → IsListed is_txn w.order t → WasSubmitted w.history t
   ordered_submitted w log o t h =
@@ -175,12 +183,16 @@ module _ (plan : Plan) (asked : TxnId → whole.Call) (S : Scheme) (start : Begi
     answered_listed : (t : TxnId) (reply : List ℤ) → WasAnswered w.history t reply → IsListed is_txn w.order t
     answered_listed t reply h = subst (λ l. IsListed is_txn l t) (sym o.means.order) (o.means.answered t reply h).throughout.in_order
 
+    -- what began was not used before the run
+    pub begun_onward : (r : TxnGroup) → Began plan asked S start log r → start.nexts r.txn.coord ≤ r.txn.seq
+    begun_onward r h = o.onward r.txn (o.began r h)
+
     -- ---- a step of a server
 
-    served_logged : (n : ℕ) (s : ServerState) (there : slice_get w.servers n ≡ Some s) (r : ServerStep)
-        → IsExplained plan asked S start is laws log w o.means n s there (WasSubmitted w.history) r → ((out : Outgoing) → Has out r.sends → StartsAre (WasSubmitted w.history) out.msg)
-        → (later : Log) × IsLogged (at_server w n r) later × RunsOn log later (map (ran_at n) r.ran)
-    served_logged n s there r x none = (
+    served_logged : (Of : ℕ → Type 0) (n : ℕ) → Of n → (s : ServerState) (there : slice_get w.servers n ≡ Some s) (r : ServerStep)
+        → IsExplained plan asked S start is laws log w o.means n s there (WasSubmitted w.history) begun_onward r → r.decided ≡ flat_map (λ c. c) r.components → ((out : Outgoing) → Has out r.sends → StartsAre (WasSubmitted w.history) out.msg)
+        → GoesOn w log Of (served w n r)
+    served_logged Of n of s there r x one none = (
       x.log,
       record {
         means = x.means;
@@ -195,8 +207,24 @@ module _ (plan : Plan) (asked : TxnId → whole.Call) (S : Scheme) (start : Begi
         groups = x.ran ∙ ap (λ l. log.past.ran ++ l) (told r.ran);
         each = λ q h. (let e = from_has_map (ran_at n) q r.ran h in subst (RanMeans plan asked S start x.log) (sym e.2) (x.each e.0 e.1));
       },
+      record {
+        shard = n;
+        takes = record { are_decided = x.components; took = λ m t h. taken m t h (cases_eq n m); starts_none = x.starts_none; answers = λ k h. x.answers };
+        of = λ k h. of;
+        servers = servers_step w n s r there x.keeps;
+      },
     )
       where
+        taken : (m : ℕ) (t : TxnId) → IsListed is_txn (x.log.decided m) t → (n ≡ m) ⊎ (n ≢ m) → IsListed is_txn (log.decided m) t ⊎ ((n ≡ m) × (k : List TxnId) × Has k r.components × Has t k)
+        taken m t h (inr other) = inl (subst (λ l. IsListed is_txn l t) (x.elsewhere m other) h)
+        taken m t h (inl same) = elim (listed_either is_txn (log.decided n) (new_in (log.decided n) r.decided) t (subst (λ l. IsListed is_txn l t) x.decides (subst (λ m. IsListed is_txn (x.log.decided m) t) (sym same) h))) [
+          | inl k ↦ inl (subst (λ m. IsListed is_txn (log.decided m) t) same k)
+          | inr k ↦
+              (let f = from_listed_filter is_txn is_txn-true (λ t. not (is_listed is_txn (log.decided n) t)) r.decided t k.1 in
+              let q = listed_in r.components t (subst (λ l. IsListed is_txn l t) one f.1) in
+              inr (same, q.0, q.1, q.2))
+        ]
+
         g : LogGrows S start.store log x.log
         g = laws.grows log x.log i x.steps
 
@@ -215,12 +243,15 @@ module _ (plan : Plan) (asked : TxnId → whole.Call) (S : Scheme) (start : Begi
 
     -- ---- a step of a coordinator
 
-    coordinated_logged : (n : ℕ) (s : CoordState) (there : slice_get w.coords n ≡ Some s) (after : CoordState) (outs : List Outgoing) (tells : List Entry)
+    apart : (s : ServerState) → slice_get w.servers 0 ≡ Some s → AreApart s.lists.taken
+    apart s h = (o.means.servers 0 s h).taken.one
+
+    coordinated_logged : (Of : ℕ → Type 0) (n : ℕ) (s : CoordState) (there : slice_get w.coords n ≡ Some s) (after : CoordState) (outs : List Outgoing) (tells : List Entry)
         → (x : IsCoordinated plan asked S start is laws log i w o.means n s there (WasSubmitted (w.history ++ tells)) (λ x h. submitted_front w.history tells x.id (o.pending n s there x h)) after outs tells)
         → ((t u : TxnId) → IsAnsweredBefore (w.history ++ tells) t u → IsListed is_txn w.order u → IsListedBefore is_txn w.order t u)
         → ((t : TxnId) → WasSubmitted (w.history ++ tells) t → start.nexts t.coord ≤ t.seq)
-        → (later : Log) × IsLogged (at_coord w n after outs tells) later × RunsOn log later []
-    coordinated_logged n s there after outs tells x time onward = (
+        → (later : Log) × IsLogged (at_coord w n after outs tells) later × RunsOn log later [] × Takes S start w (at_coord w n after outs tells) log later Of []
+    coordinated_logged Of n s there after outs tells x time onward = (
       x.log,
       record {
         means = x.means;
@@ -234,6 +265,7 @@ module _ (plan : Plan) (asked : TxnId → whole.Call) (S : Scheme) (start : Begi
         onward = onward;
       },
       record { grows = laws.grows log x.log i x.steps; groups = x.ran ∙ sym (append-nil log.past.ran); each = λ r h. absurd h },
+      takes_nothing S start w (at_coord w n after outs tells) log x.log Of refl apart x.decided,
     )
 
     -- where nothing is submitted, and where something is
@@ -273,33 +305,33 @@ module _ (plan : Plan) (asked : TxnId → whole.Call) (S : Scheme) (start : Begi
     pub comes_logged : (k : ℕ) → IsLogged (mark_delivered w k) log
     comes_logged k = record { means = comes_means plan asked S start is log w k o.means; began = o.began; starts = o.starts; pending = o.pending; in_time = o.in_time; onward = o.onward }
 
-    tick_logged : (node : Node) (v : Outcome) → Ticks plan w node v → (later : Log) × IsLogged v.world later × RunsOn log later v.ran
-    tick_logged (Server shard) v (s, there, e) = subst (λ (v : Outcome). (later : Log) × IsLogged v.world later × RunsOn log later v.ran) (sym e)
-        (served_logged shard.0 s there (answered s (server.tick_sends s)) (tick_explained plan asked S start is laws log w o.means shard.0 s there (WasSubmitted w.history)) (no_starts_at_tick plan s (WasSubmitted w.history)))
-    tick_logged (Coord n) v (s, there, e) = subst (λ (v : Outcome). (later : Log) × IsLogged v.world later × RunsOn log later v.ran) (sym e)
-        (coordinated_logged n s there s (coord.tick_sends plan s) [] (tick_coordinated plan asked S start is laws log i w o.means n s there (WasSubmitted (w.history ++ [])) (λ x h. submitted_front w.history [] x.id (o.pending n s there x h))) (λ t u b. o.in_time t u (subst (λ h. IsAnsweredBefore h t u) (append-nil w.history) b)) (onward_still [] (λ t p a h. h)))
+    tick_logged : (node : Node) (v : Outcome) → Ticks plan w node v → GoesOn w log Anywhere v
+    tick_logged (Server shard) v (s, there, e) = subst (GoesOn w log Anywhere) (sym e)
+        (served_logged Anywhere shard.0 tt s there (answered s (server.tick_sends s)) (tick_explained plan asked S start is laws log w o.means shard.0 s there (WasSubmitted w.history) begun_onward) refl (no_starts_at_tick plan s (WasSubmitted w.history)))
+    tick_logged (Coord n) v (s, there, e) = subst (GoesOn w log Anywhere) (sym e)
+        (coordinated_logged Anywhere n s there s (coord.tick_sends plan s) [] (tick_coordinated plan asked S start is laws log i w o.means n s there (WasSubmitted (w.history ++ [])) (λ x h. submitted_front w.history [] x.id (o.pending n s there x h))) (λ t u b. o.in_time t u (subst (λ h. IsAnsweredBefore h t u) (append-nil w.history) b)) (onward_still [] (λ t p a h. h)))
 
-    receive_logged : (m : Msg) (to : Node) (v : Outcome) → Means plan asked S start log m to → StartsAre (WasSubmitted w.history) m → IsReceived plan w m to v → (later : Log) × IsLogged v.world later × RunsOn log later v.ran
-    receive_logged m (Server shard) v k f (s, r, there, step, e) = subst (λ (v : Outcome). (later : Log) × IsLogged v.world later × RunsOn log later v.ran) (sym e)
-        (served_logged shard.0 s there r (message_explained plan asked S start is laws log w o.means shard.0 s there (WasSubmitted w.history) m r step k f)
+    receive_logged : (m : Msg) (to : Node) (v : Outcome) → Means plan asked S start log m to → StartsAre (WasSubmitted w.history) m → IsReceived plan w m to v → GoesOn w log (IsOf to) v
+    receive_logged m (Server shard) v k f (s, r, there, step, e) = subst (GoesOn w log (IsOf (Server shard))) (sym e)
+        (served_logged (IsOf (Server shard)) shard.0 refl s there r (message_explained plan asked S start is laws log w o.means shard.0 s there (WasSubmitted w.history) begun_onward m r step k f) (decided_are plan s m r step)
         (subst (λ (r : ServerStep). (out : Outgoing) → Has out r.sends → StartsAre (WasSubmitted w.history) out.msg) (sym step.is) (no_starts plan s (WasSubmitted w.history) step.findings m)))
     receive_logged m (Coord n) v k f (s, there, e) =
         let a = (after_message plan s m).answer in
-        subst (λ (v : Outcome). (later : Log) × IsLogged v.world later × RunsOn log later v.ran) (sym e)
-        (coordinated_logged n s there (after_message plan s m).state (after_message plan s m).sends (answer_entries a)
+        subst (GoesOn w log (IsOf (Coord n))) (sym e)
+        (coordinated_logged (IsOf (Coord n)) n s there (after_message plan s m).state (after_message plan s m).sends (answer_entries a)
         (message_coordinated plan asked S start is laws log i w o.means n s there (WasSubmitted (w.history ++ answer_entries a)) (λ x h. submitted_front w.history (answer_entries a) x.id (o.pending n s there x h)) m (Coord n) k)
         (λ t u b l. o.in_time t u (answers_last a t u b) l)
         (onward_still (answer_entries a) (no_submission a)))
 
-    submit_logged : AreSubmissions plan w.history w.coords → (n proc : ℕ) (args : List ℤ) (s : CoordState) → slice_get w.coords n ≡ Some s → (v : Outcome) → Submitting plan w n proc args s v → Agrees asked v.world.history → (later : Log) × IsLogged v.world later × RunsOn log later []
-    submit_logged a n proc args s there v (is_refused e) agrees = subst (λ (v : World). (later : Log) × IsLogged v later × RunsOn log later []) (sym e) (log, o, rests log i)
+    submit_logged : AreSubmissions plan w.history w.coords → (n proc : ℕ) (args : List ℤ) (s : CoordState) → slice_get w.coords n ≡ Some s → (v : Outcome) → Submitting plan w n proc args s v → Agrees asked v.world.history → (later : Log) × IsLogged v.world later × RunsOn log later [] × Takes S start w v.world log later Anywhere []
+    submit_logged a n proc args s there v (is_refused e) agrees = subst (λ (v : World). (later : Log) × IsLogged v later × RunsOn log later [] × Takes S start w v log later Anywhere []) (sym e) (log, o, rests log i, takes_nothing S start w w log log Anywhere refl apart (λ m. refl))
     submit_logged a n proc args s there v (is_accepted known counted e) agrees =
         let more = Submitted (next_id s) proc args ∷ [] in
         let mine : Has (Submitted (next_id s) proc args) (w.history ++ more) = has_right (Submitted (next_id s) proc args) w.history more (inl refl) in
         let g : Agrees asked (w.history ++ more) = subst (λ (v : World). Agrees asked v.history) e agrees in
         let x = new_transaction s proc args in
-        subst (λ (v : World). (later : Log) × IsLogged v later × RunsOn log later []) (sym e)
-        (coordinated_logged n s there (accepted plan s x).state (accepted plan s x).sends more
+        subst (λ (v : World). (later : Log) × IsLogged v later × RunsOn log later [] × Takes S start w v log later Anywhere []) (sym e)
+        (coordinated_logged Anywhere n s there (accepted plan s x).state (accepted plan s x).sends more
         (submission_coordinated plan asked S start is laws log i w o.means n s there (WasSubmitted (w.history ++ more)) (λ y h. submitted_front w.history more y.id (o.pending n s there y h)) proc args more (none (next_id s) proc args) (g.proc (next_id s) proc args mine) (g.args (next_id s) proc args mine) (proc, args, mine))
         (λ t u b l. time t u l (before_cases w.history more t u b))
         (onward_more n s there proc args))
@@ -320,12 +352,19 @@ module _ (plan : Plan) (asked : TxnId → whole.Call) (S : Scheme) (start : Begi
         time t u l (inr (inr (inl (reply, e, was)))) = absurd (was.2)
         time t u l (inr (inr (inr b))) = absurd b
 
-  pub step_logged : (w : World) (log : Log) → AreSubmissions plan w.history w.coords → IsLogged w log → (e : Option Event) (v : Outcome) → Transition plan w e v → Agrees asked v.world.history → (later : Log) × IsLogged v.world later × RunsOn log later v.ran
-  step_logged w log a o None v h agrees = subst (λ (v : Outcome). (later : Log) × IsLogged v.world later × RunsOn log later v.ran) (sym h) (log, o, rests log (laws.holds log o.means.reached))
+  pub step_logged : (w : World) (log : Log) → AreSubmissions plan w.history w.coords → IsLogged w log → (e : Option Event) (v : Outcome) → Transition plan w e v → Agrees asked v.world.history
+      → (later : Log) × IsLogged v.world later × RunsOn log later v.ran × IsTaking S start w log later (record { event = e; outcome = v })
+  step_logged w log a o None v h agrees = subst (λ (v : Outcome). (later : Log) × IsLogged v.world later × RunsOn log later v.ran × IsTaking S start w log later (record { event = None; outcome = v })) (sym h)
+      (log, o, rests log (laws.holds log o.means.reached), took_nothing S start w log log Anywhere (record { event = None; outcome = undecided seen.Done w }) refl (takes_nothing S start w w log log Anywhere refl (apart w log o) (λ m. refl)))
   step_logged w log a o (Some (Submit n proc args)) v (s, there, h) agrees =
       let x = submit_logged w log o a n proc args s there v (submitting plan w n proc args s v h) agrees in
-      (x.0, x.1, subst (RunsOn log x.0) (sym (submission_ran w n proc args (after_submit plan s proc args).state (after_submit plan s proc args).sends (after_submit plan s proc args).answer v h)) x.2)
+      let none = submission_none w n proc args (after_submit plan s proc args).state (after_submit plan s proc args).sends (after_submit plan s proc args).answer v h in
+      (x.0, x.1, subst (RunsOn log x.0) (sym none.0) x.2, took_nothing S start w log x.0 Anywhere (record { event = Some (Submit n proc args); outcome = v }) none.1 (subst (Takes S start w v.world log x.0 Anywhere) (sym none.1) x.3))
   step_logged w log a o (Some (Deliver k)) v (m, some, there, h) agrees =
       let has = has_at w.sent (k - 1) m there in
-      receive_logged (mark_delivered w k) log (comes_logged w log o k) m.msg m.to v (o.means.messages m has) (o.starts m has) h
-  step_logged w log a o (Some (Tick node)) v h agrees = tick_logged w log o node v h
+      let x = receive_logged (mark_delivered w k) log (comes_logged w log o k) m.msg m.to v (o.means.messages m has) (o.starts m has) h in
+      let stands = received_on plan (mark_delivered w k) m.msg m.to v h (k - 1) m there in
+      (x.0, x.1, x.2, record { shard = x.3.shard; takes = x.3.takes; at = λ c t. record { k = k; delivers = refl; message = m; is = stands; to = x.3.of c t; has = t }; servers = record { here = x.3.servers.here; elsewhere = x.3.servers.elsewhere; were = x.3.servers.were } })
+  step_logged w log a o (Some (Tick node)) v h agrees =
+      let x = tick_logged w log o node v h in
+      (x.0, x.1, x.2, took_nothing S start w log x.0 Anywhere (record { event = Some (Tick node); outcome = v }) (ticks_none plan w node v h) x.3)

@@ -98,13 +98,13 @@ module _ (plan : Plan) (w : World) (fits : FitsWorld plan w) where
     server_fits : ServerFits plan s
     server_fits = all_has (ServerFits plan) s w.servers fits.servers (has_at w.servers n s there)
 
-    served_fits : (r : ServerStep) → servers.KeepsServer plan (length w.servers) (length w.coords) s own_shard server_here server_fits r → FitsWorld plan (at_server w n r)
+    served_fits : (r : ServerStep) → servers.KeepsServer plan (length w.servers) (length w.coords) s.shard r → FitsWorld plan (at_server w n r)
     served_fits r k =
         let same : length w.servers ≡ length (slice_set w.servers n r.state) = sym (length-set w.servers n r.state) in
         record {
           some_server = subst (λ c. 0 < c) same fits.some_server;
           shards = sym same ∙ fits.shards;
-          numbers = λ m v h. elim (get-set_cases w.servers n m s r.state v there h) [ inl e ↦ ap (λ (v : ServerState). v.shard.0) e.1 ∙ (ap (λ (x : Shard). x.0) k.shard ∙ (fits.numbers n s there ∙ e.0)) | inr e ↦ fits.numbers m v e.1 ];
+          numbers = λ m v h. elim (get-set_cases w.servers n m s r.state v there h) [ inl e ↦ ap (λ (v : ServerState). v.shard.0) e.1 ∙ (ap (λ (x : Shard). x.0) k.own ∙ (fits.numbers n s there ∙ e.0)) | inr e ↦ fits.numbers m v e.1 ];
           servers = all_set (ServerFits plan) w.servers n r.state fits.servers k.fits;
           coords = fits.coords;
           undelivered = numbers_sent w.sent w.undelivered (Server (record { 0 = n })) r.sends fits.undelivered;
@@ -215,7 +215,7 @@ begun_fits plan start count some =
 
     none_named : (servers coords a n : ℕ) → AllByRecursion (IsServerHere servers coords) (map (begun_server start) (range_with_len a n))
     none_named servers coords a zero = tt
-    none_named servers coords a (suc n) = (record { started = tt; known = tt; asked = tt; askers = tt }, none_named servers coords (a + 1) n)
+    none_named servers coords a (suc n) = (record { started = tt; known = tt; links = tt; asked = tt; askers = tt }, none_named servers coords (a + 1) n)
 
     numbered : (servers coords a n : ℕ) → a + n ≡ coords → AllByRecursion (IsCoordHere servers coords) (map (begun_coord start) (range_with_len a n))
     numbered servers coords a zero e = tt

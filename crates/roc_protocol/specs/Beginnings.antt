@@ -1,5 +1,5 @@
 -- Where a run begins: docs/PROOF.md, "Beginnings"
-use Rattle.std.specs.Prelude.{◌≡◌, ◌≢◌, ℕ, pos, ◌<◌, ◌≤◌, ◌==◌, true, List, [], Option, Some, None, map, filter, slice_get}
+use Rattle.std.specs.Prelude.{◌≡◌, ◌≢◌, ℕ, pos, ◌<◌, ◌≤◌, ◌==◌, true, List, [], Option, Some, None, length, map, filter, slice_get}
 use Rattle.std.specs.List.{range_with_len}
 use Rattle.roc_base.specs.declared.id.TxnId.{TxnId}
 use Rattle.roc_rows.specs.declared.cell.Cell.{Cell}
@@ -23,18 +23,19 @@ pub record Beginning : Type 0 where
   -- the watermarks that each shard's server has heard
   pub below : ℕ → List ℕ
 
--- a server holds the cells of its places and no others; what it has heard of as ended is below its coordinator's next sequence; and a coordinator used no
--- more sequences than it may, and some only where the plan has some transaction
+-- a server holds the cells of its places and no others, and keeps a watermark of each of sixteen coordinators; what it has heard of as ended is below its
+-- coordinator's next sequence; and a coordinator used no more sequences than it may, and some only where the plan has some transaction
 pub record IsBeginning (plan : Plan) (b : Beginning) : Type 0 where
   pub cells : (n : ℕ) (x : Cell) → shard_of plan x.place ≡ n → read (b.stores n) x ≡ read b.store x
   pub elsewhere : (n : ℕ) (x : Cell) → shard_of plan x.place ≢ n → read (b.stores n) x ≡ pos 0
+  pub marks : (n : ℕ) → length (b.below n) ≡ 16
   pub ended : (n : ℕ) (t : TxnId) → is_ended (b.below n) t ≡ true → t.seq < b.nexts t.coord
   pub few : (coord : ℕ) → b.nexts coord ≤ most_transactions
   pub used : (coord : ℕ) → 0 < b.nexts coord → (proc : ℕ) × (is_transaction plan proc ≡ true)
 
 abbrev pub begun_server : Beginning → (shard : ℕ) → ServerState
 begun_server b shard =
-    record { shard = record { 0 = shard }; store = b.stores shard; started = []; lists = record { known = []; waiting = none_waiting }; below = b.below shard }
+    record { shard = record { 0 = shard }; store = b.stores shard; started = []; lists = record { known = []; links = []; waiting = none_waiting; taken = [] }; below = b.below shard }
 
 abbrev pub begun_coord : Beginning → (number : ℕ) → CoordState
 begun_coord b number = record { number = number; next = b.nexts number; pending = [] }

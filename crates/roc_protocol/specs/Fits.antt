@@ -54,6 +54,7 @@ module _ (servers coords : ℕ) where
   pub record IsServerHere (s : ServerState) : Type 0 where
     pub started : AllByRecursion IsStartedHere s.started
     pub known : AreListsHere s.lists.known
+    pub links : AreListsHere s.lists.links
     pub asked : AllByRecursion (λ a. a.at.0 < servers) s.lists.waiting.asked
     pub askers : AllByRecursion (λ a. a.shard.0 < servers) s.lists.waiting.askers
 

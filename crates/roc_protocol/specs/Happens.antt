@@ -36,17 +36,18 @@ pub record RanAt : Type 0 where
 abbrev pub ran_at : (shard : ℕ) → StartedGroup → RanAt
 ran_at shard e = record { shard = shard; group = e }
 
--- what is seen of an event, the transactions newly decided, in the order in which they were taken, the groups that ran, in the order in
--- which they did, and the world after it
+-- what is seen of an event, the components newly decided, as they were taken, and the transactions in them, one after another, the groups
+-- that ran, in the order in which they did, and the world after it
 pub record Outcome : Type 0 where
   pub seen : Seen
+  pub components : List (List TxnId)
   pub decided : List TxnId
   pub ran : List RanAt
   pub world : World
 
 -- a node of which nothing was decided, and on which nothing ran
 abbrev pub undecided : Seen → World → Outcome
-undecided what w = record { seen = what; decided = []; ran = []; world = w }
+undecided what w = record { seen = what; components = []; decided = []; ran = []; world = w }
 
 -- ---- a submission
 
@@ -82,7 +83,7 @@ answer_entries (coord_answer.Ignored reason) = []
 
 -- a server took a message in this world
 abbrev pub served : World → (shard : ℕ) → ServerStep → Outcome
-served w shard r = record { seen = server_seen r.answer; decided = r.decided; ran = map (ran_at shard) r.ran; world = at_server w shard r }
+served w shard r = record { seen = server_seen r.answer; components = r.components; decided = r.decided; ran = map (ran_at shard) r.ran; world = at_server w shard r }
 
 -- a coordinator did
 abbrev pub coordinated : World → (number : ℕ) → CoordStep → Outcome

@@ -33,7 +33,7 @@ pub record IsYetToRun (plan : Plan) (w : World) (shard : ℕ) (e : StartedGroup)
   pub there : slice_get w.servers shard ≡ Some server
   pub here : Has e server.started
   pub deferrable : is_immediate_of plan e.proc e.group ≡ false
-  pub undecided : ¬ IsDecided server.lists.known e.id
+  pub undecided : ¬ IsDecided server.lists.links e.id
 
 -- two groups of two transactions of a list, with a cell in common that one of the two writes
 pub record ConflictIn (O : List TxnId) (q r : StartedGroup) : Type 0 where

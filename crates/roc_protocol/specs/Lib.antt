@@ -5,6 +5,7 @@ pub mod Happens
 pub mod Run
 pub mod Fits
 pub mod Kept
+pub mod Forgotten
 pub mod Unanswered
 pub mod Quiet
 pub mod Final

@@ -1,6 +1,6 @@
 //! What holds in every world of every run that begins at a beginning (`specs/Beginnings.antt`): at any cells, next sequences and
 //! watermarks, with nothing sent, started or pending. What [`laws`](crate::laws) say of runs from the first world are instances.
-ghost use Rattle.std.specs.Prelude.{◌↔◌, ◌≡◌, ◌≢◌, ◌⊎◌, ℕ, ℤ, pos, ◌-◌, ◌<◌, ◌≤◌, true, List, [], Option, Some, None, length, map, slice_get, ◌+◌};
+ghost use Rattle.std.specs.Prelude.{◌↔◌, ◌≡◌, ◌≢◌, ◌⊎◌, ℕ, ℤ, pos, ◌-◌, ◌<◌, ◌≤◌, ◌++◌, true, false, List, [], Option, Some, None, length, map, flat_map, slice_get, ◌+◌};
 ghost use Rattle.roc_sequence.specs.Lists.{Has};
 ghost use Rattle.roc_sequence.specs.Places.{IsListed, IsListedBefore};
 ghost use Rattle.roc_base.specs.declared.id.TxnId.{TxnId};
@@ -9,8 +9,8 @@ ghost use Rattle.roc_base.specs.declared.node.Node.TheVariants as node;
 ghost use Rattle.roc_base.specs.TxnId.{is_txn};
 ghost use Rattle.roc_base.specs.Edge.{Dependency};
 ghost use Rattle.roc_depgraph.specs.declared.known.KnownList.{KnownList};
-ghost use Rattle.roc_depgraph.specs.Deps.{Precedes, IsAncestor, IsDecided};
-ghost use Rattle.roc_component.specs.Components.{Mates};
+ghost use Rattle.roc_depgraph.specs.Deps.{entries_of, IsAncestor, IsDecided};
+ghost use Rattle.roc_component.specs.Components.{HaveSameMembers};
 ghost use Rattle.roc_coord.specs.declared.transaction.Transaction.{Transaction};
 ghost use Rattle.roc_coord.specs.State.{CoordState};
 ghost use Rattle.roc_coord.specs.Ids.{ids_of};
@@ -21,7 +21,8 @@ ghost use Rattle.roc_msg.specs.declared.msg.Msg.TheVariants as msg;
 ghost use Rattle.roc_msg.specs.declared.reason.Reason.{Reason};
 ghost use Rattle.roc_msg.specs.declared.reason.Reason.TheVariants as reason;
 ghost use Rattle.roc_server.specs.Below.{is_ended};
-ghost use Rattle.roc_server.specs.State.{find_group, ServerState};
+ghost use Rattle.roc_server.specs.Forgets.{is_over};
+ghost use Rattle.roc_server.specs.State.{find_group, is_here, ServerState};
 ghost use Rattle.roc_server.specs.declared.started.StartedGroup.{StartedGroup};
 ghost use Rattle.roc_protocol.specs.declared.event.Event.{Event};
 ghost use Rattle.roc_protocol.specs.declared.event.Event.TheVariants as event;
@@ -36,6 +37,7 @@ ghost use Rattle.roc_rows.specs.Store.{read};
 ghost use Rattle.roc_whole.specs.Serial.{serial_store};
 ghost use Rattle.roc_protocol.specs.Final.{lists_in, IsFinalIn};
 ghost use Rattle.roc_protocol.specs.Kept.{KeepsWhatRan};
+ghost use Rattle.roc_protocol.specs.Forgotten.{HasStartedOn, IsSettledIn, IsTakenAt, IsFirstTaken, IsLastTaken};
 ghost use Rattle.roc_protocol.specs.Quiet.{IsQuiet};
 ghost use Rattle.roc_protocol.specs.World.{World, first_world};
 ghost use Rattle.roc_protocol.specs.Beginnings.{Beginning, IsBeginning, begun_world, first_beginning, left_by};
@@ -180,7 +182,7 @@ pub fn ended_is_answered()
 pub fn answered_is_decided()
     ensures { (plan : Plan) (b : Beginning) (coords : ℕ) (steps : List Stepped) (w : World) → IsBeginning plan b → HasSchemesFrom plan b.store → IsRunFrom plan b coords steps w
         → (t : TxnId) (reply : List ℤ) → WasAnswered w.history t reply
-        → (shard : Shard) (s : ServerState) → slice_get w.servers shard.0 ≡ Some s → (e : StartedGroup) → Has e s.started → e.id ≡ t → IsDecided s.lists.known t }
+        → (shard : Shard) (s : ServerState) → slice_get w.servers shard.0 ≡ Some s → (e : StartedGroup) → Has e s.started → e.id ≡ t → IsDecided s.lists.links t }
 {
     machine_laws();
 }
@@ -188,11 +190,13 @@ pub fn answered_is_decided()
 /// What is decided on a server stands in the serial order already, and a transaction of which a group is to start there does not.
 pub fn left_out_is_earlier()
     ensures decided { (plan : Plan) (b : Beginning) (coords : ℕ) (steps : List Stepped) (w : World) → IsBeginning plan b → HasSchemesFrom plan b.store → IsRunFrom plan b coords steps w
-        → (shard : Shard) (s : ServerState) → slice_get w.servers shard.0 ≡ Some s → (t : TxnId) → IsDecided s.lists.known t → IsListed is_txn w.order t }
+        → (shard : Shard) (s : ServerState) → slice_get w.servers shard.0 ≡ Some s → (t : TxnId) → IsDecided s.lists.links t → IsListed is_txn w.order t }
+    ensures taken { (plan : Plan) (b : Beginning) (coords : ℕ) (steps : List Stepped) (w : World) → IsBeginning plan b → HasSchemesFrom plan b.store → IsRunFrom plan b coords steps w
+        → (x : Stepped) (shard : Shard) (c : List TxnId) (t : TxnId) → Has x steps → IsTakenAt x shard c → Has t c → IsListed is_txn w.order t }
     ensures starting { (plan : Plan) (b : Beginning) (coords : ℕ) (steps : List Stepped) (w : World) → IsBeginning plan b → HasSchemesFrom plan b.store → IsRunFrom plan b coords steps w
         → (shard : Shard) (s : ServerState) → slice_get w.servers shard.0 ≡ Some s
         → (m : Envelope) → Has m w.sent → m.to ≡ node.Server shard → (id : TxnId) (proc group : ℕ) (args inputs : List ℤ) → m.msg ≡ msg.Start id proc group args inputs
-        → find_group id group s.started ≡ None → ¬ IsListed is_txn w.order id }
+        → find_group id group s.started ≡ None → is_ended s.below id ≡ false → ¬ IsListed is_txn w.order id }
 {
     machine_laws();
 }
@@ -221,11 +225,11 @@ pub fn told_is_kept()
     machine_laws();
 }
 
-/// A server takes each message that comes, and a coordinator ignores only stale ones.
+/// A server takes each message that comes or finds it too late, and a coordinator ignores only stale ones.
 pub fn nothing_is_refused()
     ensures servers { (plan : Plan) (b : Beginning) (coords : ℕ) (steps : List Stepped) (w : World) → IsBeginning plan b → HasSchemesFrom plan b.store → IsRunFrom plan b coords steps w
         → (k : ℕ) (m : Envelope) (shard : Shard) (o : Outcome) → slice_get w.sent (k - 1) ≡ Some m → m.to ≡ node.Server shard
-        → Happens plan w (event.Deliver k) o → o.seen ≡ seen.Done }
+        → Happens plan w (event.Deliver k) o → (o.seen ≡ seen.Done) ⊎ (o.seen ≡ seen.Gone) }
     ensures coordinators { (plan : Plan) (b : Beginning) (coords : ℕ) (steps : List Stepped) (w : World) → IsBeginning plan b → HasSchemesFrom plan b.store → IsRunFrom plan b coords steps w
         → (k : ℕ) (o : Outcome) (why : Reason) → Happens plan w (event.Deliver k) o → o.seen ≡ seen.Ignored why → why ≡ reason.Stale }
 {
@@ -238,7 +242,7 @@ pub fn quiet_is_answered()
         → (t : TxnId) (proc : ℕ) (args : List ℤ) → Has (entry.Submitted t proc args) w.history → IsQuiet plan steps w t → (reply : List ℤ) × Has (entry.Answered t reply) w.history }
     ensures decided { (plan : Plan) (b : Beginning) (coords : ℕ) (steps : List Stepped) (w : World) → IsBeginning plan b → HasSchemesFrom plan b.store → IsRunFrom plan b coords steps w
         → (t : TxnId) → IsQuiet plan steps w t → (shard : Shard) (s : ServerState) → slice_get w.servers shard.0 ≡ Some s → (e : StartedGroup) → Has e s.started → e.id ≡ t
-        → IsDecided s.lists.known t }
+        → IsDecided s.lists.links t }
 {
     machine_laws();
 }
@@ -259,21 +263,45 @@ pub fn refusals_are_told()
         → (o.seen ≡ seen.Busy) ↔ ((b.nexts coord + length (submitted_at coord w.history) < most_transactions) × (length (unanswered_at coord w.history) ≡ most_pending)) }
 {}
 
-/// Two servers that both decided a transaction know the same ancestors and the same component of it, and take in the serial order what one
-/// is an ancestor of.
+/// Two servers on which groups of a transaction started first took it in components of the same transactions. And of two transactions that
+/// have groups on a server and are decided there, one of which is an ancestor of the other by what is followed there, the one that was taken
+/// first is the earlier one in the serial order.
 pub fn servers_agree()
-    ensures ancestors { (plan : Plan) (b : Beginning) (coords : ℕ) (steps : List Stepped) (w : World) → IsBeginning plan b → HasSchemesFrom plan b.store → IsRunFrom plan b coords steps w
-        → (shard other : Shard) (s v : ServerState) → slice_get w.servers shard.0 ≡ Some s → slice_get w.servers other.0 ≡ Some v
-        → (u t : TxnId) → IsDecided s.lists.known t → IsDecided v.lists.known t → IsAncestor s.lists.known u t → IsAncestor v.lists.known u t }
     ensures components { (plan : Plan) (b : Beginning) (coords : ℕ) (steps : List Stepped) (w : World) → IsBeginning plan b → HasSchemesFrom plan b.store → IsRunFrom plan b coords steps w
-        → (shard other : Shard) (s v : ServerState) → slice_get w.servers shard.0 ≡ Some s → slice_get w.servers other.0 ≡ Some v
-        → (t u : TxnId) → IsDecided s.lists.known t → IsDecided v.lists.known t → Mates (Precedes s.lists.known) t u → Mates (Precedes v.lists.known) t u }
+        → (shard other : Shard) (t : TxnId) (c d : List TxnId) → HasStartedOn w.sent t shard → HasStartedOn w.sent t other
+        → IsFirstTaken steps shard t c → IsFirstTaken steps other t d → HaveSameMembers c d }
     ensures order { (plan : Plan) (b : Beginning) (coords : ℕ) (steps : List Stepped) (w : World) → IsBeginning plan b → HasSchemesFrom plan b.store → IsRunFrom plan b coords steps w
-        → (k : ℕ) (m : Envelope) (shard : Shard) (s v : ServerState) (o : Outcome) → slice_get w.sent (k - 1) ≡ Some m → m.to ≡ node.Server shard
-        → slice_get w.servers shard.0 ≡ Some s → Happens plan w (event.Deliver k) o → slice_get o.world.servers shard.0 ≡ Some v
-        → (a b : TxnId) → IsAncestor v.lists.known a b ⊎ IsAncestor v.lists.known b a
-        → (IsDecided s.lists.known a × IsListed is_txn o.decided b) ⊎ (IsListed is_txn o.decided b × IsListedBefore is_txn o.decided a b)
-        → IsListedBefore is_txn o.world.order a b }
+        → (shard : Shard) (s : ServerState) → slice_get w.servers shard.0 ≡ Some s
+        → (x y : TxnId) → is_here x s.started ≡ true → is_here y s.started ≡ true → IsDecided s.lists.links x → IsDecided s.lists.links y
+        → IsAncestor s.lists.links x y ⊎ IsAncestor s.lists.links y x
+        → IsListedBefore is_txn (flat_map (λ c. c) s.lists.taken) x y → IsListedBefore is_txn w.order x y }
+{
+    machine_laws();
+}
+
+/// A server keeps exactly the transactions of the components that it took and that are not over by the watermarks that it has heard; what is
+/// over has no group there and is not decided there any more. To a fetch it answers that a transaction is settled exactly where the component
+/// in which it first took it is over. And whatever is forgotten, settled, or named by an entry that is done was answered, with all
+/// transactions of its component.
+pub fn forgotten_is_answered()
+    ensures kept { (plan : Plan) (b : Beginning) (coords : ℕ) (steps : List Stepped) (w : World) → IsBeginning plan b → HasSchemesFrom plan b.store → IsRunFrom plan b coords steps w
+        → (shard : Shard) (s : ServerState) → slice_get w.servers shard.0 ≡ Some s
+        → (t : TxnId) → IsDecided s.lists.links t ↔ ((c : List TxnId) × IsLastTaken steps shard t c × (is_over s.below c ≡ false)) }
+    ensures gone { (plan : Plan) (b : Beginning) (coords : ℕ) (steps : List Stepped) (w : World) → IsBeginning plan b → HasSchemesFrom plan b.store → IsRunFrom plan b coords steps w
+        → (shard : Shard) (s : ServerState) → slice_get w.servers shard.0 ≡ Some s
+        → (t : TxnId) (c : List TxnId) → IsLastTaken steps shard t c → is_over s.below c ≡ true
+        → (is_here t s.started ≡ false) × (¬ IsDecided s.lists.links t) × IsSettledIn w t }
+    ensures settled { (plan : Plan) (b : Beginning) (coords : ℕ) (steps : List Stepped) (w : World) → IsBeginning plan b → HasSchemesFrom plan b.store → IsRunFrom plan b coords steps w
+        → (shard : Shard) (s : ServerState) → slice_get w.servers shard.0 ≡ Some s
+        → (k : ℕ) (m : Envelope) (t : TxnId) (asker : Shard) (o : Outcome) (more : List Envelope) → slice_get w.sent (k - 1) ≡ Some m → m.to ≡ node.Server shard
+        → m.msg ≡ msg.Fetch t asker → Happens plan w (event.Deliver k) o → o.world.sent ≡ w.sent ++ more
+        → ((mark : ℕ) × (e : Envelope) × Has e more × (e.msg ≡ msg.Settled t mark)) ↔ ((c : List TxnId) × IsFirstTaken steps shard t c × (is_over s.below c ≡ true)) }
+    ensures done { (plan : Plan) (b : Beginning) (coords : ℕ) (steps : List Stepped) (w : World) → IsBeginning plan b → HasSchemesFrom plan b.store → IsRunFrom plan b coords steps w
+        → (shard : Shard) (s : ServerState) → slice_get w.servers shard.0 ≡ Some s
+        → (k : KnownList) (d : Dependency) → Has k s.lists.known → Has d k.edges → ¬ Has d (entries_of s.lists.links k.of) → IsSettledIn w d.from }
+    ensures sent { (plan : Plan) (b : Beginning) (coords : ℕ) (steps : List Stepped) (w : World) → IsBeginning plan b → HasSchemesFrom plan b.store → IsRunFrom plan b coords steps w
+        → (m : Envelope) (t : TxnId) (mark : ℕ) → Has m w.sent → m.msg ≡ msg.Settled t mark
+        → IsSettledIn w t × ((seq : ℕ) → b.nexts t.coord ≤ seq → seq < mark → (reply : List ℤ) × WasAnswered w.history (record { coord = t.coord; seq = seq }) reply) }
 {
     machine_laws();
 }

@@ -2,7 +2,7 @@
 use Rattle.std.proofs.Common.{◌≡◌, ◌≢◌, ℕ, ℤ, pos, zero, suc, ◌+◌, Bool, true, false, cond, List, [], ◌∷◌, ◌++◌, length, map, filter, Option, Some, None, sym, subst, ◌∙◌, ◌⊎◌, inl, inr, arith}
 use Rattle.std.proofs.lemmas.Bool.{cases_lt}
 use Rattle.std.specs.Prelude.{slice_index_or, if◌then◌else◌}
-use Rattle.std.specs.List.{AllByRecursion, range_with_len}
+use Rattle.std.specs.List.{AllByRecursion, flat_map, range_with_len}
 use Rattle.roc_sequence.proofs.Members.{has_at}
 use Rattle.roc_sequence.proofs.Holds.{all_has, all_set}
 use Rattle.roc_base.specs.declared.node.Node.{Node}
@@ -22,14 +22,15 @@ use Rattle.roc_base.specs.Edge.{Dependency}
 use Rattle.roc_depgraph.specs.Deps.{list_of}
 use Rattle.roc_msg.specs.declared.msg.Msg.{Msg}
 use Rattle.roc_msg.specs.declared.msg.Msg.TheVariants as msg
-use Rattle.roc_msg.specs.declared.reason.Reason.{Reason}
 use Rattle.roc_msg.specs.declared.reason.Reason.TheVariants.{NotHere}
+use Rattle.roc_server.specs.declared.handled.Handled.{Handled}
+use Rattle.roc_server.specs.declared.handled.Handled.TheVariants.{Gone}
 use Rattle.roc_server.specs.declared.started.StartedGroup.{StartedGroup}
-use Rattle.roc_server.specs.State.{ServerState, ServerStep, find_group, is_here, ignored}
+use Rattle.roc_server.specs.State.{ServerState, ServerStep, find_group, hearing, is_here, refused, ignored, answered}
 use Rattle.roc_server.specs.First.{first_server}
-use Rattle.roc_server.specs.Start.{start_fault, start_judged, start_taken, is_immediate_group}
+use Rattle.roc_server.specs.Start.{start_refusal, start_judged, start_taken, is_immediate_group}
 use Rattle.roc_server.specs.Runs.{group_call, buffered_here, run_group, run_groups, take_all}
-use Rattle.roc_server.specs.Lists.{commit_fault, after_commit, fetch_taken, known_fault, after_known}
+use Rattle.roc_server.specs.Lists.{decides, commit_refusal, after_commit, fetch_taken, settled_to, known_refusal, after_known, lists_settled}
 use Rattle.roc_server.specs.Step as server
 use Rattle.roc_server.specs.Step.{Findings}
 use Rattle.roc_protocol.specs.declared.event.Event.{Event}
@@ -134,9 +135,13 @@ module _ (laws : ReadLaws) (plan : Plan) (ok : IsProgram plan.program) where
   either_own true s t h k = h
   either_own false s t h k = k
 
-  start_own : (left_out reached : List TxnId) (s : ServerState) (id : TxnId) (c : GroupCall) (fault : Option Reason) → HoldsOwn plan.program s.store
-      → HoldsOwn plan.program (start_judged plan left_out reached s id c fault).state.store
-  start_own left_out reached s id c (Some reason) h = h
+  either_step : (b : Bool) (r q : ServerStep) → HoldsOwn plan.program r.state.store → HoldsOwn plan.program q.state.store → HoldsOwn plan.program (if b then r else q).state.store
+  either_step true r q h k = h
+  either_step false r q h k = k
+
+  start_own : (left_out reached : List TxnId) (s : ServerState) (id : TxnId) (c : GroupCall) (refusal : Option Handled) → HoldsOwn plan.program s.store
+      → HoldsOwn plan.program (start_judged plan left_out reached s id c refusal).state.store
+  start_own left_out reached s id c (Some answer) h = h
   start_own left_out reached s id c None h = go (find_group id c.group s.started)
     where
       go : (here : Option StartedGroup) → HoldsOwn plan.program (start_taken plan left_out reached s id c here).state.store
@@ -144,28 +149,29 @@ module _ (laws : ReadLaws) (plan : Plan) (ok : IsProgram plan.program) where
       go None = either_own (is_immediate_group plan c) (group_run plan c s.store).store s.store (group_own c s.store h) h
 
   message_own : (s : ServerState) (f : Findings) (m : Msg) → HoldsOwn plan.program s.store → HoldsOwn plan.program (server.after_message plan s f m).state.store
-  message_own s f (msg.Start id proc group args inputs) h = start_own f.before f.reached s id (call proc group args inputs) (start_fault plan s id (call proc group args inputs)) h
-  message_own s f (msg.Commit id edges facts) h = go (commit_fault s id edges facts)
+  message_own s f (msg.Start id proc group args inputs) h = start_own f.before f.reached s id (call proc group args inputs) (start_refusal plan s id (call proc group args inputs)) h
+  message_own s f (msg.Commit id edges facts) h = go (commit_refusal s id edges facts)
     where
-      go : (fault : Option Reason) → HoldsOwn plan.program (after_commit plan f.before f.decided s id edges facts fault).state.store
-      go (Some reason) = h
-      go None = taken_own f.decided _ h
-  message_own s f (msg.Fetch id asker) h = here (is_here id s.started)
+      go : (refusal : Option Handled) → HoldsOwn plan.program (after_commit plan f.before f.components s id edges facts refusal).state.store
+      go (Some answer) = h
+      go None = taken_own (flat_map (λ c. c) f.components) _ h
+  message_own s f (msg.Fetch id asker) h =
+      let taken = fetch_taken s id asker (list_of id s.lists.known) in
+      let unless_settled = either_step (is_here id s.started) taken (ignored s NotHere) (found (list_of id s.lists.known)) h in
+      either_step _ (answered s (settled_to s id asker ∷ [])) (if is_here id s.started then taken else ignored s NotHere) h unless_settled
     where
       found : (list : Option (List Dependency)) → HoldsOwn plan.program (fetch_taken s id asker list).state.store
       found (Some edges) = h
       found None = h
-
-      here : (b : Bool) → HoldsOwn plan.program (if b then fetch_taken s id asker (list_of id s.lists.known) else ignored s NotHere).state.store
-      here true = found (list_of id s.lists.known)
-      here false = h
-  message_own s f (msg.Known id edges) h = go (known_fault s id edges)
+  message_own s f (msg.Known id edges) h = go (known_refusal s id edges)
     where
-      go : (fault : Option Reason) → HoldsOwn plan.program (after_known plan f.decided s id edges fault).state.store
-      go (Some reason) = h
-      go None = taken_own f.decided _ h
-  message_own s f (msg.Ended coord below) h = h
-  message_own s f (msg.Settled id below) h = h
+      go : (refusal : Option Handled) → HoldsOwn plan.program (after_known plan f.components s id edges refusal).state.store
+      go (Some answer) = h
+      go None = taken_own (flat_map (λ c. c) f.components) _ h
+  message_own s f (msg.Ended coord mark) h = h
+  message_own s f (msg.Settled id mark) h =
+      let heard = hearing s id.coord mark in
+      either_step _ (decides plan heard (lists_settled s id mark f.components) f.components [] []) (refused heard Gone) (taken_own (flat_map (λ c. c) f.components) _ h) h
   message_own s f m h = h
 
   -- ---- worlds

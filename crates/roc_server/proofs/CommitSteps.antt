@@ -1,89 +1,122 @@
 -- What comes of messages that teach lists
-use Rattle.std.proofs.Common.{◌≡◌, Bool, true, false, not, cond, List, [], ◌∷◌, ◌++◌, Option, Some, None, refl, sym, subst, append-nil}
+use Rattle.std.proofs.Common.{◌≡◌, Bool, true, false, not, ◌&&◌, cond, List, [], ◌∷◌, ◌++◌, if◌then◌else◌, Option, Some, None, refl, sym, ap, subst, append-nil}
 use Rattle.roc_sequence.specs.Places.{is_listed}
 use Rattle.roc_base.specs.declared.id.TxnId.{TxnId}
 use Rattle.roc_base.specs.declared.node.Shard.{Shard}
 use Rattle.roc_base.specs.Edge.{Dependency}
 use Rattle.roc_base.specs.TxnId.{is_txn}
+use Rattle.roc_await.specs.Waits.{was_asked_for}
 use Rattle.roc_depgraph.specs.declared.known.KnownList.{KnownList}
 use Rattle.roc_depgraph.specs.Deps.{IsDecided}
-use Rattle.roc_server_lists.proofs.InOrder.{nothing_new}
+use Rattle.roc_server_lists.proofs.TakenNew.{nothing_new}
 use Rattle.roc_msg.specs.Outbox.{Collected}
-use Rattle.roc_msg.specs.declared.reason.Reason.{Reason}
 use Rattle.roc_msg.specs.declared.reason.Reason.TheVariants.{NotHere, Differs}
 use Rattle.roc_plan.specs.Groups.{Plan}
 use Rattle.roc_server.specs.declared.handled.Handled.{Handled}
-use Rattle.roc_server.specs.declared.handled.Handled.TheVariants.{Ignored}
+use Rattle.roc_server.specs.declared.handled.Handled.TheVariants.{Gone, Ignored}
 use Rattle.roc_server.specs.declared.server_data.ServerData.{ServerData}
+use Rattle.roc_server.specs.Below.{is_ended}
+use Rattle.roc_server.specs.Forgets.{forgetting}
 use Rattle.roc_server.specs.Runs.{commitok_of}
-use Rattle.roc_server_lists.specs.New.{AreNew}
-use Rattle.roc_server_lists.specs.Carried.{list_with, carried, unknown_of}
-use Rattle.roc_server.specs.Lists.{commit_differs, commit_fault, commit_taken, after_commit, known_fault, after_known, taught}
+use Rattle.roc_server_lists.specs.New.{AreNewTaken}
+use Rattle.roc_server_lists.specs.Carried.{list_with, carried, is_unlike, unknown_of}
+use Rattle.roc_server.specs.Lists.{commit_differs, commit_refusal, commit_taken, after_commit, known_refusal, after_known, links_of, taught}
 use Rattle.roc_server.specs.Inner.ServerData.{state_of}
 use Rattle.roc_server.specs.Inner.Taught.{own_again, with_own, Teaches, Commits, Knows}
-use Rattle.roc_server.specs.State.{ignored, is_here, ServerState, ServerStep}
-use Rattle.roc_server.specs.Step.{Shows, unless_ignored}
+use Rattle.roc_server.specs.State.{refused, is_here, ServerState, ServerStep}
+use Rattle.roc_server.specs.Step.{Shows, unless_refused}
 
--- why a commit is ignored, by its two tests
-pub fault_is : (s : ServerState) (id : TxnId) (edges : List Dependency) (facts : List KnownList) (h d : Bool) → is_here id s.started ≡ h → commit_differs s id edges facts ≡ d → commit_fault s id edges facts ≡ cond (not h) (Some NotHere) (cond d (Some Differs) None)
-fault_is s id edges facts h d p q = λ i. cond (not (p i)) (Some NotHere) (cond (q i) (Some Differs) None)
+-- what a message is answered of a transaction that is not here
+abbrev pub too_late : Bool → Handled
+too_late ended = if ended then Gone else Ignored NotHere
+
+-- a refusal, by its tests
+abbrev pub refusal_by : Bool → Bool → Bool → Option Handled
+refusal_by here ended differs = cond (not here && ended) (Some Gone) (cond (not here) (Some (Ignored NotHere)) (cond differs (Some (Ignored Differs)) None))
+
+pub refused_late : (here ended differs : Bool) → here ≡ false → Some (too_late ended) ≡ refusal_by here ended differs
+refused_late here true differs e = ap (λ h. cond (not h && true) (Some Gone) (cond (not h) (Some (Ignored NotHere)) (cond differs (Some (Ignored Differs)) None))) (sym e)
+refused_late here false differs e = ap (λ h. cond (not h && false) (Some Gone) (cond (not h) (Some (Ignored NotHere)) (cond differs (Some (Ignored Differs)) None))) (sym e)
+
+pub refused_here : (here ended differs : Bool) → here ≡ true → cond differs (Some (Ignored Differs)) None ≡ refusal_by here ended differs
+refused_here here ended differs e = ap (λ h. refusal_by h ended differs) (sym e)
+
+pub commit_refused_by : (s : ServerState) (id : TxnId) (edges : List Dependency) (facts : List KnownList) → refusal_by (is_here id s.started) (is_ended s.below id) (commit_differs s id edges facts) ≡ commit_refusal s id edges facts
+commit_refused_by s id edges facts = refl
+
+pub known_refused_by : (s : ServerState) (id : TxnId) (edges : List Dependency) → refusal_by (was_asked_for id s.lists.waiting.asked) (is_ended s.below id) (is_unlike s.lists.known (list_with id edges)) ≡ known_refusal s id edges
+known_refused_by s id edges = refl
 
 module _ (plan : Plan) (shard : Shard) (old : ServerData) (before : Collected) (id : TxnId) (edges : List Dependency) where
   abbrev s : ServerState
   s = state_of shard old
 
-  ignored_shown : (reason : Reason) → Shows (ignored s reason) (Ignored reason) s before before
-  ignored_shown reason = record { answers = refl; keeps = refl; sends = sym (append-nil before.messages); decides = sym (append-nil before.decided); ran = sym (append-nil before.ran) }
+  pub refused_shown : (answer : Handled) → Shows (refused s answer) answer s before before
+  refused_shown answer = record { answers = refl; keeps = refl; sends = sym (append-nil before.messages); decides = sym (append-nil before.decided); ran = sym (append-nil before.ran) }
+
+  -- what is followed behind these lists, unless they are refused
+  abbrev behind : List KnownList → Option Handled → List KnownList
+  behind lists f = old.links ++ links_of s (unless_refused f lists)
 
   module _ (facts : List KnownList) where
-    abbrev fault : Option Reason
-    fault = commit_fault s id edges facts
+    abbrev refusal : Option Handled
+    refusal = commit_refusal s id edges facts
 
     abbrev lists : List KnownList
-    lists = unknown_of old.deps (carried id edges facts)
+    lists = unknown_of old.known (carried id edges facts)
 
-    pub commit_ignored : (reason : Reason) → fault ≡ Some reason → Commits plan shard old s before before id edges facts (Ignored reason)
-    commit_ignored reason e =
-        let P : Option Reason → Type 0 = λ f. AreNew (IsDecided old.deps) (old.deps ++ unless_ignored f lists) [] in
-        let Q : Option Reason → Type 0 = λ f. Shows (after_commit plan old.decided.ids [] s id edges facts f) (Ignored reason) s before before in
-        record { ids = []; new_ids = subst P (sym e) (nothing_new old.deps); shown = subst Q (sym e) (ignored_shown reason) }
+    pub commit_refused : (answer : Handled) → refusal ≡ Some answer → Commits plan shard old s before before id edges facts answer
+    commit_refused answer e =
+        let P : Option Handled → Type 0 = λ f. AreNewTaken (IsDecided old.links) (behind lists f) [] in
+        let Q : Option Handled → Type 0 = λ f. Shows (after_commit plan old.decided.ids [] s id edges facts f) answer s before before in
+        record { components = []; are_new = subst P (sym e) (nothing_new old.links); shown = subst Q (sym e) (refused_shown answer); groups = λ p h. h }
 
     -- its commitok ends the step, where its transaction was decided before
     own_if : (b : Bool) (r : ServerStep) → own_again plan r.state.shard r.state.started (cond b (Some id) None) ≡ cond b (commitok_of plan r.state id ∷ []) []
     own_if true r = refl
     own_if false r = refl
 
-    pub commit_taught : (state : ServerState) (after : Collected) (news : List KnownList) (again : Option TxnId) (answer : Handled) → fault ≡ None → news ≡ lists
+    pub commit_taught : (state : ServerState) (after : Collected) (news : List KnownList) (again : Option TxnId) (answer : Handled) → refusal ≡ None → news ≡ lists
         → again ≡ cond (is_listed is_txn old.decided.ids id) (Some id) None
         → Teaches plan shard old state before after news again answer → Commits plan shard old state before after id edges facts answer
     commit_taught state after news again answer none is own t =
         let decided : Bool = is_listed is_txn old.decided.ids id in
         let u : Teaches plan shard old state before after lists (cond decided (Some id) None) answer =
         subst (λ a. Teaches plan shard old state before after lists a answer) own (subst (λ ks. Teaches plan shard old state before after ks again answer) is t) in
-        let step : ServerStep = taught plan s lists u.ids in
+        let step : ServerStep = taught plan s lists u.components in
         let ends : with_own plan (cond decided (Some id) None) step ≡ commit_taken plan old.decided.ids s id step = λ i. record step { sends = step.sends ++ own_if decided step i } in
-        let P : Option Reason → Type 0 = λ f. AreNew (IsDecided old.deps) (old.deps ++ unless_ignored f lists) u.ids in
-        let Q : Option Reason → Type 0 = λ f. Shows (after_commit plan old.decided.ids u.ids s id edges facts f) answer state before after in
-        record { ids = u.ids; new_ids = subst P (sym none) u.new_ids; shown = subst Q (sym none) (subst (λ (r : ServerStep). Shows r answer state before after) ends u.shown) }
+        let P : Option Handled → Type 0 = λ f. AreNewTaken (IsDecided old.links) (behind lists f) u.components in
+        let Q : Option Handled → Type 0 = λ f. Shows (after_commit plan old.decided.ids u.components s id edges facts f) answer state before after in
+        record {
+          components = u.components;
+          are_new = subst P (sym none) u.are_new;
+          shown = subst Q (sym none) (subst (λ (r : ServerStep). Shows (forgetting r) answer state before after) ends u.shown);
+          groups = u.groups;
+        }
 
-  abbrev known_why : Option Reason
-  known_why = known_fault s id edges
+  abbrev known_why : Option Handled
+  known_why = known_refusal s id edges
 
   abbrev one : List KnownList
-  one = unknown_of old.deps (list_with id edges ∷ [])
+  one = unknown_of old.known (list_with id edges ∷ [])
 
-  pub known_ignored : (reason : Reason) → known_why ≡ Some reason → Knows plan shard old s before before id edges (Ignored reason)
-  known_ignored reason e =
-      let P : Option Reason → Type 0 = λ f. AreNew (IsDecided old.deps) (old.deps ++ unless_ignored f one) [] in
-      let Q : Option Reason → Type 0 = λ f. Shows (after_known plan [] s id edges f) (Ignored reason) s before before in
-      record { ids = []; new_ids = subst P (sym e) (nothing_new old.deps); shown = subst Q (sym e) (ignored_shown reason) }
+  pub known_refused : (answer : Handled) → known_why ≡ Some answer → Knows plan shard old s before before id edges answer
+  known_refused answer e =
+      let P : Option Handled → Type 0 = λ f. AreNewTaken (IsDecided old.links) (behind one f) [] in
+      let Q : Option Handled → Type 0 = λ f. Shows (after_known plan [] s id edges f) answer s before before in
+      record { components = []; are_new = subst P (sym e) (nothing_new old.links); shown = subst Q (sym e) (refused_shown answer); groups = λ p h. h }
 
   pub known_taught : (state : ServerState) (after : Collected) (news : List KnownList) (answer : Handled) → known_why ≡ None → news ≡ one → Teaches plan shard old state before after news None answer
       → Knows plan shard old state before after id edges answer
   known_taught state after news answer none is t =
       let u : Teaches plan shard old state before after one None answer = subst (λ ks. Teaches plan shard old state before after ks None answer) is t in
-      let step : ServerStep = taught plan s one u.ids in
+      let step : ServerStep = taught plan s one u.components in
       let ends : with_own plan None step ≡ step = λ i. record step { sends = append-nil step.sends i } in
-      let P : Option Reason → Type 0 = λ f. AreNew (IsDecided old.deps) (old.deps ++ unless_ignored f one) u.ids in
-      let Q : Option Reason → Type 0 = λ f. Shows (after_known plan u.ids s id edges f) answer state before after in
-      record { ids = u.ids; new_ids = subst P (sym none) u.new_ids; shown = subst Q (sym none) (subst (λ (r : ServerStep). Shows r answer state before after) ends u.shown) }
+      let P : Option Handled → Type 0 = λ f. AreNewTaken (IsDecided old.links) (behind one f) u.components in
+      let Q : Option Handled → Type 0 = λ f. Shows (after_known plan u.components s id edges f) answer state before after in
+      record {
+        components = u.components;
+        are_new = subst P (sym none) u.are_new;
+        shown = subst Q (sym none) (subst (λ (r : ServerStep). Shows (forgetting r) answer state before after) ends u.shown);
+        groups = u.groups;
+      }

@@ -2,7 +2,11 @@
 use Rattle.std.proofs.Common.{◌≡◌, List, [], not, filter, refl, sym, ap, ◌∙◌, subst, false}
 use Rattle.std.proofs.lemmas.Bool.{false≢true}
 use Rattle.std.specs.List.Sorted.{IsStrictlySortedBy}
+use Rattle.roc_sequence.specs.Lists.{Has}
 use Rattle.roc_sequence.specs.Places.{IsListed, NoneTwice}
+use Rattle.roc_server_lists.specs.Links.{all_entries, AreLinksOf}
+use Rattle.roc_server.specs.Below.{is_ended}
+use Rattle.roc_server.specs.Forgets.{over}
 use Rattle.roc_base.specs.declared.id.TxnId.{TxnId}
 use Rattle.roc_base.specs.TxnId.{is_txn, txn_cmp}
 use Rattle.roc_depgraph.specs.declared.known.KnownList.{KnownList}
@@ -26,17 +30,28 @@ no_lacks = record { each = tt; some = tt; all = λ t h. absurd (false≢true h) 
 no_group_refs : IsIndexOf [] [] []
 no_group_refs c = refl
 
-pub nothing_sound : (k : ServerData) → k.started.groups ≡ [] → k.deps ≡ [] → k.decided.ids ≡ [] → k.ancestors.rows ≡ [] → k.lacks ≡ [] → k.index ≡ [] → k.waits.waiting ≡ none_waiting → k.waits.fetches ≡ [] → IsConsistent k
-nothing_sound k started deps decided ancestors lacks index waiting open_none =
+pub nothing_sound : (k : ServerData) → k.started.groups ≡ [] → k.known ≡ [] → k.links ≡ [] → k.decided.ids ≡ [] → k.ancestors.rows ≡ [] → k.lacks ≡ [] → k.index ≡ [] → k.waits.waiting ≡ none_waiting → k.waits.fetches ≡ []
+    → k.taken.components ≡ [] → IsConsistent k
+nothing_sound k started known links decided ancestors lacks index waiting open_none taken =
     let once : NoneTwice is_same_group [] = tt in
+    let Members : List (List TxnId) → TxnId → Type 0 = λ cs t. IsListed is_txn (flat_map (λ c. c) cs) t in
+    let none_twice : NoneTwice is_txn [] = tt in
     record {
-      groups_once = subst (NoneTwice is_same_group) (sym started) once;
-      decided_rising = subst (IsStrictlySortedBy txn_cmp) (sym decided) none_rise;
-      decided_only = λ t l. absurd (unlisted_none t (subst (λ (ids : List TxnId). IsListed is_txn ids t) decided l));
-      decided_all = λ t d. absurd (none_decided t (subst (λ (ks : List KnownList). IsDecided ks t) deps d));
-      rows = subst (AreRows k.deps) (sym ancestors) (λ t ids is. absurd (none-some ids is));
-      lacks = subst (λ (ks : List KnownList). AreLacks ks k.lacks) (sym deps) (subst (AreLacks []) (sym lacks) no_lacks);
-      index = subst (λ es. IsIndexOf k.index k.decided.ids es) (sym started) (subst (λ ids. IsIndexOf k.index ids []) (sym decided) (subst (λ i. IsIndexOf i [] []) (sym index) no_group_refs));
-      none_left = subst (λ (ks : List KnownList). AllByRecursion (λ d. is_left k d ≡ false) (flat_map (λ list. list.edges) ks)) (sym deps) tt;
-      open_unknown = open_none ∙ sym (ap (λ (w : Waiting). filter (λ a. not (is_known k.deps a.id)) w.asked) waiting);
+      right = record {
+        groups_once = subst (NoneTwice is_same_group) (sym started) once;
+        decided_rising = subst (IsStrictlySortedBy txn_cmp) (sym decided) none_rise;
+        decided_only = λ t l. absurd (unlisted_none t (subst (λ (ids : List TxnId). IsListed is_txn ids t) decided l));
+        decided_all = λ t d. absurd (none_decided t (subst (λ (ks : List KnownList). IsDecided ks t) links d));
+        rows = subst (AreRows k.links) (sym ancestors) (λ t ids is. absurd (none-some ids is));
+        lacks = subst (λ (ks : List KnownList). AreLacks ks k.lacks) (sym links) (subst (AreLacks []) (sym lacks) no_lacks);
+        index = subst (λ es. IsIndexOf k.index k.decided.ids es) (sym started) (subst (λ ids. IsIndexOf k.index ids []) (sym decided) (subst (λ i. IsIndexOf i [] []) (sym index) no_group_refs));
+        none_left = subst (λ (ks : List KnownList). AllByRecursion (λ d. is_left k d ≡ false) (all_entries ks)) (sym links) tt;
+        open_unknown = open_none ∙ sym (ap (λ (w : Waiting). filter (λ a. not (is_known k.links a.id)) w.asked) waiting);
+        linked = subst (λ ks. AreLinksOf (is_ended k.marks) ks k.links) (sym known) (subst (AreLinksOf (is_ended k.marks) []) (sym links) tt);
+        taken_decided = λ t l. absurd (unlisted_none t (subst (λ cs. Members cs t) taken l));
+        decided_taken = λ t l. absurd (unlisted_none t (subst (λ (ids : List TxnId). IsListed is_txn ids t) decided l));
+        taken_once = subst (λ cs. NoneTwice is_txn (flat_map (λ c. c) cs)) (sym taken) none_twice;
+        taken_some = λ c has. absurd (subst (Has c) taken has);
+      };
+      none_over = ap (over k.marks) taken;
     }

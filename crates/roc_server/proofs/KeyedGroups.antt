@@ -1,5 +1,5 @@
 -- Groups by transaction and number
-use Rattle.std.proofs.Common.{◌≡◌, ℕ, zero, suc, ◌+◌, ◌<◌, ◌≤◌, ◌==◌, ◌&&◌, ◌||◌, Bool, true, false, cond, nat_lt, List, [], ◌∷◌, ◌++◌, map, Option, Some, None, find, position, slice_get, slice_set, refl, sym, ap, subst, ◌∙◌, inl, inr, arith}
+use Rattle.std.proofs.Common.{◌≡◌, ℕ, zero, suc, ◌+◌, ◌<◌, ◌≤◌, ◌==◌, ◌&&◌, ◌||◌, Bool, true, false, cond, nat_lt, List, [], ◌∷◌, ◌++◌, map, filter, Option, Some, None, find, position, slice_get, slice_set, refl, sym, ap, subst, ◌∙◌, inl, inr, arith}
 use Rattle.std.proofs.lemmas.Bool.{false≢true, and_parts, and_from, or_cases, or_left, or_right}
 use Rattle.std.proofs.lemmas.Bool.Decides.{nat_tests}
 use Rattle.std.proofs.lemmas.List.{map-append}
@@ -90,6 +90,49 @@ values_more es more k e is = ap values_of is ∙ map-append (λ (p : GroupKey ×
 pub keyed_again : (es others : List (GroupKey × StartedGroup)) (numbers : ℕ) → AreKeyed es numbers → keys_of others ≡ keys_of es → map key_of (values_of others) ≡ map key_of (values_of es) → AreKeyed others numbers
 keyed_again es others numbers keyed same alike =
     record { keys = same ∙ keyed.keys ∙ sym alike; below = λ k h. keyed.below k (subst (Has k) same h) }
+
+-- ---- those of some transactions
+
+-- a test of the transaction leaves keys and groups alike
+pub values_some : (stays : TxnId → Bool) (es : List (GroupKey × StartedGroup)) → keys_of es ≡ map key_of (values_of es)
+    → values_of (filter (λ e. stays e.0.id) es) ≡ filter (λ e. stays e.id) (values_of es)
+values_some stays [] same = refl
+values_some stays (e ∷ es) same =
+    let first : e.0 ≡ key_of e.1 = cc in
+    let rest : keys_of es ≡ map key_of (values_of es) = cc in
+    go (stays e.0.id) (values_some stays es rest) ∙ ap (λ (k : GroupKey). cond (stays k.id) (e.1 ∷ filter (λ x. stays x.id) (values_of es)) (filter (λ x. stays x.id) (values_of es))) first
+  where
+    go : (b : Bool) → values_of (filter (λ e. stays e.0.id) es) ≡ filter (λ x. stays x.id) (values_of es)
+        → values_of (cond b (e ∷ filter (λ e. stays e.0.id) es) (filter (λ e. stays e.0.id) es)) ≡ cond b (e.1 ∷ filter (λ x. stays x.id) (values_of es)) (filter (λ x. stays x.id) (values_of es))
+    go true ih = ap (λ es. e.1 ∷ es) ih
+    go false ih = ih
+
+keys_some : (stays : TxnId → Bool) (es : List (GroupKey × StartedGroup)) → keys_of es ≡ map key_of (values_of es)
+    → keys_of (filter (λ e. stays e.0.id) es) ≡ map key_of (values_of (filter (λ e. stays e.0.id) es))
+keys_some stays [] same = refl
+keys_some stays (e ∷ es) same =
+    let first : e.0 ≡ key_of e.1 = cc in
+    let rest : keys_of es ≡ map key_of (values_of es) = cc in
+    go first (stays e.0.id) (keys_some stays es rest)
+  where
+    some : List (GroupKey × StartedGroup)
+    some = filter (λ e. stays e.0.id) es
+
+    go : e.0 ≡ key_of e.1 → (b : Bool) → keys_of some ≡ map key_of (values_of some) → keys_of (cond b (e ∷ some) some) ≡ map key_of (values_of (cond b (e ∷ some) some))
+    go first true ih = λ i. first i ∷ ih i
+    go first false ih = ih
+
+some_keys : (stays : TxnId → Bool) (es : List (GroupKey × StartedGroup)) (k : GroupKey) → Has k (keys_of (filter (λ e. stays e.0.id) es)) → Has k (keys_of es)
+some_keys stays [] k h = h
+some_keys stays (e ∷ es) k h = go (stays e.0.id) h (some_keys stays es k)
+  where
+    go : (b : Bool) → Has k (keys_of (cond b (e ∷ filter (λ e. stays e.0.id) es) (filter (λ e. stays e.0.id) es))) → (Has k (keys_of (filter (λ e. stays e.0.id) es)) → Has k (keys_of es)) → Has k (keys_of (e ∷ es))
+    go true (inl is) ih = inl is
+    go true (inr m) ih = inr (ih m)
+    go false m ih = inr (ih m)
+
+pub keyed_some : (stays : TxnId → Bool) (es : List (GroupKey × StartedGroup)) (numbers : ℕ) → AreKeyed es numbers → AreKeyed (filter (λ e. stays e.0.id) es) numbers
+keyed_some stays es numbers keyed = record { keys = keys_some stays es keyed.keys; below = λ k h. keyed.below k (some_keys stays es k h) }
 
 pub values-set : (es : List (GroupKey × StartedGroup)) (at : ℕ) (w : StartedGroup) → values_of (set_value_at es at w) ≡ slice_set (values_of es) at w
 values-set [] at w = refl

@@ -14,8 +14,15 @@ mod StartSteps
 mod TaughtParts
 mod TeachSteps
 mod Undone
+mod LeftSteps
+mod SomeLeft
+mod ForgetSteps
+mod NoneOver
+mod SettledSteps
 mod LeftOut
-mod Learning
+mod NewlyDecided
+mod MissingSteps
+mod Alike
 mod Stands
 mod CellByCell
 mod Pairs
@@ -25,3 +32,8 @@ mod Plans
 mod ReadsBefore
 mod Restored
 mod KeyedGroups
+mod DoneSteps
+mod Raised
+mod MarkedLinks
+mod SettledRuns
+mod FoundSettled

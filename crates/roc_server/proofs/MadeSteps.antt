@@ -1,5 +1,5 @@
 -- What was made ahead for a message, and what comes of it
-use Rattle.std.proofs.Common.{◌≡◌, ◌++◌, Bool, true, false, [], Option, Some, None, Result, Ok, Err, IsSome, IsTrue, IfOk, IfSome, OnOk, OnErr, refl, sym, ap, subst, ◌∙◌, inl, inr}
+use Rattle.std.proofs.Common.{◌≡◌, ◌++◌, Bool, true, [], Option, Some, None, Result, Ok, Err, IsSome, IsTrue, IfOk, IfSome, OnOk, OnErr, refl, sym, ap, subst, ◌∙◌, inl, inr}
 use Rattle.std.proofs.lemmas.Bool.{false≢true}
 use Rattle.std.proofs.lemmas.Option.{none-some}
 use Rattle.std.specs.Option.{option_map}
@@ -13,7 +13,7 @@ use Rattle.roc_server.specs.declared.server_data.ServerData.{ServerData}
 use Rattle.roc_server.specs.Ahead.{needs_room, HasRoom, IsMadeFor, ServingFits}
 use Rattle.roc_server.specs.Fits.{AreGroupsOf}
 use Rattle.roc_server.specs.declared.planned.Change.{Change}
-use Rattle.roc_server.specs.declared.planned.Change.TheVariants.{Nothing, Asker, Group, Lists}
+use Rattle.roc_server.specs.declared.planned.Change.TheVariants.{Nothing, Asker, Group, Lists, Marks, Settled}
 use Rattle.roc_server.specs.declared.planned.Planned.{Planned}
 use Rattle.roc_server.specs.Inner.Planned.{after, before, kept_before, made_ahead, rolled, serving, IsHeld, IsPlanned}
 use Rattle.roc_server.specs.Inner.ServerData.{state_of, IsConsistent}
@@ -149,6 +149,8 @@ planned_sound k Nothing p = p
 planned_sound k (Asker asker) p = p.0
 planned_sound k (Group e) p = cells_aside k (rolled k.rows) p.sound
 planned_sound k (Lists l) p = p.sound
+planned_sound k (Marks h) p = p.sound
+planned_sound k (Settled s) p = p.sound
 
 pub held_sound : (k : ServerData) (ahead : Option Ahead) → IsHeld k ahead → IsConsistent (kept_before k ahead)
 held_sound k None h = h

@@ -6,7 +6,7 @@ use Rattle.roc_base.specs.Edge.{Dependency}
 use Rattle.roc_depgraph.specs.declared.known.KnownList.{KnownList}
 use Rattle.roc_group.specs.GroupRun.{call}
 use Rattle.roc_msg.specs.declared.msg.Msg.{Msg}
-use Rattle.roc_msg.specs.declared.msg.Msg.TheVariants.{Start, Commit, Fetch, Known}
+use Rattle.roc_msg.specs.declared.msg.Msg.TheVariants.{Start, Commit, Fetch, Known, Ended, Settled}
 use Rattle.roc_msg.specs.Outbox.{Collected}
 use Rattle.roc_plan.specs.Groups.{Plan}
 use Rattle.roc_server.specs.declared.handled.Handled.{Handled}
@@ -16,11 +16,12 @@ use Rattle.roc_server.specs.Inner.ServerData.{state_of, IsConsistent}
 use Rattle.roc_server.specs.Inner.Planned.{after}
 use Rattle.roc_server.specs.Inner.Starts.{StartTaken}
 use Rattle.roc_server.specs.Inner.Taught.{Commits, Knows}
-use Rattle.roc_server.specs.Lists.{after_fetch}
+use Rattle.roc_server.specs.Lists.{after_ended, after_fetch}
+use Rattle.roc_server.specs.Inner.Settled.{Settles}
 use Rattle.roc_server_lists.specs.New.{AreDecided}
 use Rattle.roc_server.specs.State.{ServerState, ServerStep}
 use Rattle.roc_server.specs.Step.{Findings, AreFindings, after_message, Handles, Shows}
-use Rattle.roc_server_lists.proofs.InOrder.{nothing_new}
+use Rattle.roc_server_lists.proofs.TakenNew.{nothing_new}
 use Rattle.roc_server.proofs.StartSteps.{nothing_led}
 
 -- what is answered, kept and sent is the step of a message
@@ -34,8 +35,8 @@ module _ (plan : Plan) (shard : Shard) (k new : ServerData) (sound : IsConsisten
   abbrev IsStep : Msg → Planned → Type 0
   IsStep msg p = IsStepFor plan s msg (after shard new p.change) before sent p.answer
 
-  decided : AreDecided k.deps k.decided.ids
-  decided = record { rising = sound.decided_rising; sound = sound.decided_only; complete = sound.decided_all }
+  decided : AreDecided k.links k.decided.ids
+  decided = record { rising = sound.right.decided_rising; sound = sound.right.decided_only; complete = sound.right.decided_all }
 
   -- of a message of a kind, by what was found
   comes : (msg m : Msg) (f : Findings) (p : Planned) → msg ≡ m → AreFindings plan s m f → Shows (after_message plan s f m) p.answer (after shard new p.change) before sent → IsStep msg p
@@ -47,25 +48,35 @@ module _ (plan : Plan) (shard : Shard) (k new : ServerData) (sound : IsConsisten
       → IfOk r (λ p. StartTaken plan shard k (after shard new p.change) before sent id (call proc group args2 inputs2) p.answer) → IfOk r (IsStep msg)
   start_comes (Err e) msg id proc group args inputs args2 inputs2 is same same2 h = tt
   start_comes (Ok p) msg id proc group args inputs args2 inputs2 is same same2 h =
-      comes msg (Start id proc group args2 inputs2) (record { before = k.decided.ids; reached = h.reached; decided = [] }) p (is ∙ (λ i. Start id proc group (sym same i) (sym same2 i)))
-      (record { before = decided; reached = h.led; decided = nothing_new k.deps }) h.shown
+      comes msg (Start id proc group args2 inputs2) (record { before = k.decided.ids; reached = h.reached; components = [] }) p (is ∙ (λ i. Start id proc group (sym same i) (sym same2 i)))
+      (record { before = decided; reached = h.led; components = nothing_new k.links }) h.shown
 
   pub commit_comes : {E : Type 0} (r : Result Planned E) (msg : Msg) (id : TxnId) (edges : List Dependency) (facts facts2 : List KnownList) → msg ≡ Commit id edges facts → facts2 ≡ facts
       → IfOk r (λ p. Commits plan shard k (after shard new p.change) before sent id edges facts2 p.answer) → IfOk r (IsStep msg)
   commit_comes (Err e) msg id edges facts facts2 is same h = tt
   commit_comes (Ok p) msg id edges facts facts2 is same h =
-      comes msg (Commit id edges facts2) (record { before = k.decided.ids; reached = []; decided = h.ids }) p (is ∙ (λ i. Commit id edges (sym same i)))
-      (record { before = decided; reached = nothing_led k.deps; decided = h.new_ids }) h.shown
+      comes msg (Commit id edges facts2) (record { before = k.decided.ids; reached = []; components = h.components }) p (is ∙ (λ i. Commit id edges (sym same i)))
+      (record { before = decided; reached = nothing_led k.links; components = h.are_new }) h.shown
 
   pub known_comes : {E : Type 0} (r : Result Planned E) (msg : Msg) (id : TxnId) (edges : List Dependency) → msg ≡ Known id edges → IfOk r (λ p. Knows plan shard k (after shard new p.change) before sent id edges p.answer) → IfOk r (IsStep msg)
   known_comes (Err e) msg id edges is h = tt
   known_comes (Ok p) msg id edges is h =
-      comes msg (Known id edges) (record { before = k.decided.ids; reached = []; decided = h.ids }) p is (record { before = decided; reached = nothing_led k.deps; decided = h.new_ids }) h.shown
+      comes msg (Known id edges) (record { before = k.decided.ids; reached = []; components = h.components }) p is (record { before = decided; reached = nothing_led k.links; components = h.are_new }) h.shown
 
   pub fetch_comes : {E : Type 0} (r : Result Planned E) (msg : Msg) (id : TxnId) (asker : Shard) → msg ≡ Fetch id asker → IfOk r (λ p. Shows (after_fetch s id asker) p.answer (after shard new p.change) before sent) → IfOk r (IsStep msg)
   fetch_comes (Err e) msg id asker is h = tt
   fetch_comes (Ok p) msg id asker is h =
-      comes msg (Fetch id asker) (record { before = k.decided.ids; reached = []; decided = [] }) p is (record { before = decided; reached = nothing_led k.deps; decided = nothing_new k.deps }) h
+      comes msg (Fetch id asker) (record { before = k.decided.ids; reached = []; components = [] }) p is (record { before = decided; reached = nothing_led k.links; components = nothing_new k.links }) h
+
+  pub ended_comes : {E : Type 0} (r : Result Planned E) (msg : Msg) (coord mark : ℕ) → msg ≡ Ended coord mark → IfOk r (λ p. Shows (after_ended s coord mark) p.answer (after shard new p.change) before sent) → IfOk r (IsStep msg)
+  ended_comes (Err e) msg coord mark is h = tt
+  ended_comes (Ok p) msg coord mark is h =
+      comes msg (Ended coord mark) (record { before = k.decided.ids; reached = []; components = [] }) p is (record { before = decided; reached = nothing_led k.links; components = nothing_new k.links }) h
+
+  pub settled_comes : {E : Type 0} (r : Result Planned E) (msg : Msg) (id : TxnId) (mark : ℕ) → msg ≡ Settled id mark → IfOk r (λ p. Settles plan shard k (after shard new p.change) before sent id mark p.answer) → IfOk r (IsStep msg)
+  settled_comes (Err e) msg id mark is h = tt
+  settled_comes (Ok p) msg id mark is h =
+      comes msg (Settled id mark) (record { before = k.decided.ids; reached = []; components = h.components }) p is (record { before = decided; reached = nothing_led k.links; components = h.are_new }) h.shown
 
 -- the same between equal states
 pub comes_from : (plan : Plan) (s t from to : ServerState) (msg : Msg) (old new : Collected) (answer : Handled) → s ≡ t → from ≡ to → IsStepFor plan s msg from old new answer → IsStepFor plan t msg to old new answer

@@ -2,7 +2,7 @@
 use Rattle.std.proofs.Common.{◌≡◌, List, sym, subst, ◌∙◌}
 use Rattle.roc_base.specs.declared.id.TxnId.{TxnId}
 use Rattle.roc_depgraph.specs.Deps.{IsDecided}
-use Rattle.roc_server_lists.proofs.InOrder.{one_new}
+use Rattle.roc_server_lists.proofs.TakenNew.{one_new}
 use Rattle.roc_msg.specs.declared.msg.Msg.{Msg}
 use Rattle.roc_plan.specs.Groups.{Plan}
 use Rattle.roc_server.specs.State.{ServerState, ServerStep}
@@ -14,8 +14,8 @@ pub one_step : (plan : Plan) (s : ServerState) (msg : Msg) (r other : ServerStep
 one_step plan s msg r other h k =
     let f = h.findings in
     let g = k.findings in
-    let before : f.before ≡ g.before = rising_one (IsDecided s.lists.known) f.before g.before h.found.before k.found.before in
-    let Led : List TxnId → Type 0 = λ out. AreLedTo s.lists.known (edges_told plan out s msg) f.reached in
+    let before : f.before ≡ g.before = rising_one (IsDecided s.lists.links) f.before g.before h.found.before k.found.before in
+    let Led : List TxnId → Type 0 = λ out. AreLedTo s.lists.links (edges_told plan out s msg) f.reached in
     let reached : f.reached ≡ g.reached = rising_one _ f.reached g.reached (subst Led before h.found.reached) k.found.reached in
-    let decided : f.decided ≡ g.decided = one_new (IsDecided s.lists.known) _ f.decided g.decided h.found.decided k.found.decided in
-    h.is ∙ (λ i. after_message plan s (record { before = before i; reached = reached i; decided = decided i }) msg) ∙ sym k.is
+    let components : f.components ≡ g.components = one_new (IsDecided s.lists.links) _ f.components g.components h.found.components k.found.components in
+    h.is ∙ (λ i. after_message plan s (record { before = before i; reached = reached i; components = components i }) msg) ∙ sym k.is

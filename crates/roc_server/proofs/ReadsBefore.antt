@@ -10,13 +10,16 @@ use Rattle.roc_depgraph.specs.declared.known.KnownList.{KnownList}
 use Rattle.roc_depgraph.specs.Deps.{is_known, IsDecided}
 use Rattle.roc_depgraph.proofs.RisingLists.{rising_one}
 use Rattle.roc_server_lists.specs.Decided.{DecidedIds}
+use Rattle.roc_server_lists.proofs.FollowedLinks.{links_known}
+use Rattle.roc_server.specs.Below.{is_ended}
+use Rattle.roc_server.proofs.MissingSteps.{filter_alike}
 use Rattle.roc_server_lists.specs.New.{AreDecided}
 use Rattle.roc_group.specs.declared.access.Access.{Access}
 use Rattle.roc_plan.specs.Groups.{Plan}
 use Rattle.roc_server_index.specs.GroupRefs.{group_refs_at}
 use Rattle.roc_server.specs.declared.ahead.Ahead.{Ahead}
 use Rattle.roc_server.specs.declared.planned.Change.{Change}
-use Rattle.roc_server.specs.declared.planned.Change.TheVariants.{Nothing, Asker, Group, Lists}
+use Rattle.roc_server.specs.declared.planned.Change.TheVariants.{Nothing, Asker, Group, Lists, Marks, Settled}
 use Rattle.roc_server.specs.declared.server_data.ServerData.{ServerData}
 use Rattle.roc_server.specs.declared.started.StartedGroup.{StartedGroup}
 use Rattle.roc_server.specs.Fits.{AreGroupsOf}
@@ -42,6 +45,8 @@ untouched_by k Nothing = record { waits = refl; decided = refl; index = refl; ma
 untouched_by k (Asker asker) = record { waits = refl; decided = refl; index = refl; marks = refl }
 untouched_by k (Group e) = record { waits = refl; decided = refl; index = refl; marks = refl }
 untouched_by k (Lists l) = record { waits = refl; decided = refl; index = refl; marks = refl }
+untouched_by k (Marks h) = record { waits = refl; decided = refl; index = refl; marks = refl }
+untouched_by k (Settled s) = record { waits = refl; decided = refl; index = refl; marks = refl }
 
 pub untouched : (k : ServerData) (ahead : Option Ahead) → IsUntouched k (kept_before k ahead)
 untouched k None = record { waits = refl; decided = refl; index = refl; marks = refl }
@@ -54,6 +59,8 @@ same_by k Nothing p = refl
 same_by k (Asker asker) p = refl
 same_by k (Group e) p = refl
 same_by k (Lists l) p = p.groups
+same_by k (Marks h) p = refl
+same_by k (Settled s) p = p.groups
 
 pub same_before : (k : ServerData) (ahead : Option Ahead) → IsHeld k ahead → AreSameGroups (kept_before k ahead).started.groups k.started.groups
 same_before k None h = refl
@@ -63,14 +70,14 @@ pub fits_now : (plan : Plan) (k : ServerData) (ahead : Option Ahead) → IsHeld 
 fits_now plan k ahead h fits = fits_same plan (kept_before k ahead).started.groups k.started.groups (same_before k ahead h) fits
 
 pub once_now : (k : ServerData) (ahead : Option Ahead) → IsHeld k ahead → NoneTwice is_same_group k.started.groups
-once_now k ahead h = once_same (kept_before k ahead).started.groups k.started.groups (same_before k ahead h) (held_sound k ahead h).groups_once
+once_now k ahead h = once_same (kept_before k ahead).started.groups k.started.groups (same_before k ahead h) (held_sound k ahead h).right.groups_once
 
 pub index_now : (k : ServerData) (ahead : Option Ahead) → IsHeld k ahead → IsIndexOf k.index k.decided.ids k.started.groups
 index_now k ahead h c =
     let was = kept_before k ahead in
     let u = untouched k ahead in
     (λ i. group_refs_at c (sym u.index i))
-    ∙ (held_sound k ahead h).index c
+    ∙ (held_sound k ahead h).right.index c
     ∙ (λ i. undecided (u.decided i).ids (group_refs_of c was.started.groups))
     ∙ ap (undecided k.decided.ids) (sym (group_refs_same c was.started.groups k.started.groups (same_before k ahead h)))
 
@@ -103,22 +110,26 @@ as_many_users plan left_out immediate (a ∷ cells) old new same =
 
 -- ---- what is decided
 
-pub decided_before : (k : ServerData) (ahead : Option Ahead) (id : TxnId) (found : Bool) → IsHeld k ahead → found ≡ is_listed is_txn k.decided.ids id → IsTrue found ↔ IsDecided (kept_before k ahead).deps id
+pub decided_before : (k : ServerData) (ahead : Option Ahead) (id : TxnId) (found : Bool) → IsHeld k ahead → found ≡ is_listed is_txn k.decided.ids id → IsTrue found ↔ IsDecided (kept_before k ahead).links id
 decided_before k ahead id found h is =
-    let sound = held_sound k ahead h in
+    let sound = (held_sound k ahead h).right in
     let same : (kept_before k ahead).decided.ids ≡ k.decided.ids = ap (λ (d : DecidedIds). d.ids) (untouched k ahead).decided in (
       λ t. sound.decided_only id (subst (λ ids. IsListed is_txn ids id) (sym same) (listed_true is_txn k.decided.ids id (sym is ∙ t))),
       λ d. is ∙ listed_test is_txn k.decided.ids id (subst (λ ids. IsListed is_txn ids id) same (sound.decided_all id d)),
     )
 
-pub kept_decided : (k : ServerData) (ahead : Option Ahead) → IsHeld k ahead → AreDecided (kept_before k ahead).deps k.decided.ids
+pub kept_decided : (k : ServerData) (ahead : Option Ahead) → IsHeld k ahead → AreDecided (kept_before k ahead).links k.decided.ids
 kept_decided k ahead h =
-    let sound = held_sound k ahead h in
-    subst (AreDecided (kept_before k ahead).deps) (ap (λ (d : DecidedIds). d.ids) (untouched k ahead).decided) (record { rising = sound.decided_rising; sound = sound.decided_only; complete = sound.decided_all })
+    let sound = (held_sound k ahead h).right in
+    subst (AreDecided (kept_before k ahead).links) (ap (λ (d : DecidedIds). d.ids) (untouched k ahead).decided) (record { rising = sound.decided_rising; sound = sound.decided_only; complete = sound.decided_all })
 
 -- what is open is what was asked for and is not known
-pub open_before : (k : ServerData) (ahead : Option Ahead) → IsHeld k ahead → k.waits.fetches ≡ filter (λ a. not (is_known (kept_before k ahead).deps a.id)) (kept_before k ahead).waits.waiting.asked
-open_before k ahead h = ap (λ (w : Awaited). w.fetches) (sym (untouched k ahead).waits) ∙ (held_sound k ahead h).open_unknown
+pub open_before : (k : ServerData) (ahead : Option Ahead) → IsHeld k ahead → k.waits.fetches ≡ filter (λ a. not (is_known (kept_before k ahead).known a.id)) (kept_before k ahead).waits.waiting.asked
+open_before k ahead h =
+    let was = kept_before k ahead in
+    let right = (held_sound k ahead h).right in
+    ap (λ (w : Awaited). w.fetches) (sym (untouched k ahead).waits) ∙ right.open_unknown
+    ∙ filter_alike (λ a. not (is_known was.links a.id)) (λ a. not (is_known was.known a.id)) was.waits.waiting.asked (λ a h. ap not (links_known (is_ended was.marks) was.known was.links right.linked a.id))
 
 -- what holds of the decided ones as they are kept holds of any list of exactly these
 pub for_decided : {A B E : Type 0} (r : Result A E) (read : A → B) (x : List TxnId → B) (known : List KnownList) (kept : List TxnId) → AreDecided known kept → IfOk r (λ a. read a ≡ x kept)

@@ -1,9 +1,11 @@
 -- Groups that differ in nothing but what they gave
-use Rattle.std.proofs.Common.{◌≡◌, ℕ, zero, suc, Bool, true, false, cond, List, [], ◌∷◌, map, Some, slice_get, slice_set, refl, sym, ap, subst, ◌∙◌, arith, ◌||◌}
+use Rattle.std.proofs.Common.{◌≡◌, ℕ, zero, suc, Bool, true, false, cond, List, [], ◌∷◌, map, filter, Some, slice_get, slice_set, refl, sym, ap, subst, ◌∙◌, arith, ◌||◌}
 use Rattle.std.proofs.lemmas.List.{length-map}
 use Rattle.std.proofs.lemmas.Bool.Decides.{nat_tests}
 use Rattle.std.specs.Option.{option_map}
 use Rattle.roc_sequence.specs.Places.{place_of, NoneTwice}
+use Rattle.roc_sequence.proofs.Holds.{all_has, has_all}
+use Rattle.roc_sequence.proofs.Members.{from_has_filter}
 use Rattle.roc_base.specs.declared.id.TxnId.{TxnId}
 use Rattle.roc_base.specs.TxnId.{is_txn}
 use Rattle.roc_plan.specs.Groups.{Plan}
@@ -67,3 +69,7 @@ find-unrun id g (x ∷ xs) = go (is_group id g x) (find-unrun id g xs)
 
 pub find_same : (id : TxnId) (g : ℕ) (old new : List StartedGroup) → AreSameGroups old new → option_map unrun (find_group id g new) ≡ option_map unrun (find_group id g old)
 find_same id g old new same = sym (find-unrun id g new) ∙ ap (find_group id g) same ∙ find-unrun id g old
+
+-- some of the groups of a plan are of it
+pub fits_some : (plan : Plan) (p : StartedGroup → Bool) (es : List StartedGroup) → AreGroupsOf plan es → AreGroupsOf plan (filter p es)
+fits_some plan p es fits = has_all (λ (e : StartedGroup). IsCallOf plan (group_call e)) (filter p es) (λ e h. all_has (λ (e : StartedGroup). IsCallOf plan (group_call e)) e es fits (from_has_filter p e es h).0)

@@ -1,66 +1,63 @@
 -- Lists that are taught, from the parts of what is done
-use Rattle.std.proofs.Common.{◌≡◌, ◌++◌, ◌+◌, ◌-◌, ◌&&◌, not, false, List, Option, Some, Result, Ok, Err, IsOk, OnOk, unwrap_or, length, map, filter, take, refl, sym, ap, subst, ◌∙◌, arith}
-use Rattle.std.proofs.lemmas.Bool.{false≢true}
-use Rattle.std.proofs.lemmas.List.{length-append, take_at}
-use Rattle.std.specs.List.{AllByRecursion, flat_map}
-use Rattle.std.specs.List.Sorted.{IsStrictlySortedBy}
-use Rattle.roc_sequence.specs.Places.{is_listed, IsListed, NoneTwice}
+use Rattle.std.proofs.Common.{◌≡◌, ◌++◌, ◌+◌, ◌-◌, ◌==◌, ◌&&◌, ℕ, suc, not, List, Option, Some, Result, Ok, Err, IsOk, OnOk, unwrap_or, length, map, filter, take, refl, sym, ap, subst, ◌∙◌, arith}
+use Rattle.std.proofs.lemmas.Bool.{false≢true, and_parts}
+use Rattle.std.proofs.lemmas.List.{length-append, length-map, take_at}
+use Rattle.roc_sequence.specs.Places.{is_listed, IsListed}
 use Rattle.roc_base.specs.declared.id.TxnId.{TxnId}
 use Rattle.roc_base.specs.declared.node.Shard.{Shard}
-use Rattle.roc_base.specs.TxnId.{is_txn, txn_cmp}
-use Rattle.roc_base.specs.Edges.{united}
-use Rattle.roc_await.specs.Lacks.{AreLacks}
+use Rattle.roc_base.specs.TxnId.{is_txn}
+use Rattle.roc_base.specs.Edge.{Dependency}
 use Rattle.roc_await.specs.Learning.{AreLearnable}
-use Rattle.roc_await.specs.Waits.{Waiting, was_asked_for}
 use Rattle.roc_depgraph.specs.declared.known.KnownList.{KnownList}
-use Rattle.roc_depgraph.specs.Deps.{is_known, IsDecided}
+use Rattle.roc_depgraph.specs.Deps.{is_known}
+use Rattle.roc_await.specs.Waits.{Waiting, was_asked_for}
+use Rattle.roc_await.specs.Lacks.{AreLacks}
+use Rattle.roc_await.specs.declared.waits.OpenFetch.{OpenFetch}
+use Rattle.roc_base.specs.Edges.{united}
+use Rattle.roc_server_ancestors.specs.Least.{row_of, AreAllRight}
+use Rattle.roc_depgraph.proofs.Laws.{decided_stays}
 use Rattle.roc_msg.specs.Outbox.{Collected, HasSent}
 use Rattle.roc_plan.specs.Groups.{Plan}
 use Rattle.roc_rows.specs.Held.{Held}
 use Rattle.roc_rows.specs.Store.{Store}
-use Rattle.roc_server_ancestors.specs.Least.{AreAllRight, IsRow}
 use Rattle.roc_server_lists.specs.Asking.{asked_of, waiting_after}
-use Rattle.roc_server_lists.specs.New.{AreNew}
-use Rattle.roc_server_index.specs.GroupRefs.{group_refs_at}
+use Rattle.roc_server_lists.specs.Links.{all_entries, least_naming, without_links, AreLinksOf}
+use Rattle.roc_server_lists.specs.New.{AreNewTaken}
+use Rattle.roc_server_lists.proofs.FollowedLinks.{links_ids, links_learnable, links_learnt}
+use Rattle.roc_server_lists.proofs.Learning.{keeps_front}
+use Rattle.roc_server_lists.proofs.SameIds.{ids_without}
 use Rattle.roc_server.specs.declared.found.Found.{Found}
+use Rattle.roc_server.specs.declared.learning.Named.{Named}
 use Rattle.roc_server.specs.declared.server_data.ServerData.{ServerData}
 use Rattle.roc_server.specs.declared.started.StartedGroup.{StartedGroup}
-use Rattle.roc_server.specs.Lists.{is_missing}
-use Rattle.roc_server.specs.Runs.{take_all}
+use Rattle.roc_server.specs.Below.{is_ended}
+use Rattle.roc_server.specs.Lists.{is_done, is_missing, links_of, missing_after}
+use Rattle.roc_server.specs.Runs.{accesses_of, all_buffered, take_all}
 use Rattle.roc_server.specs.State.{is_here, unrun}
-use Rattle.roc_server.specs.declared.planned.Change.TheVariants.{Lists}
 use Rattle.roc_server.specs.declared.planned.Lesson.{Lesson}
-use Rattle.roc_server.specs.Inner.Indexed.{undecided, group_refs_of}
-use Rattle.roc_server.specs.Inner.Planned.{after, unlearnt, AreListsPlanned, IsPlannedFrom}
+use Rattle.roc_server.specs.Inner.Left.{IsOver}
+use Rattle.roc_server.specs.Inner.Planned.{front, unlearnt, with_lists, AreListsPlanned}
 use Rattle.roc_server.specs.Inner.Runs.{restored}
-use Rattle.roc_base.specs.Edge.{Dependency}
-use Rattle.roc_await.specs.declared.waits.OpenFetch.{OpenFetch}
-use Rattle.roc_server.specs.Inner.ServerData.{state_of, holding, is_same_group, AreSameGroups, IsConsistent, IsSame}
-use Rattle.roc_server.specs.Inner.Taught.{all_told, Acts, Finds, HasRoomToKeep, IsLearning, KeepsBesideRuns, RunsDecided, Taken}
+use Rattle.roc_server.specs.Inner.ServerData.{state_of, holding, AreSameGroups, IsConsistent, IsSame}
+use Rattle.roc_server.specs.Inner.Taught.{all_told, asked_by, Acts, AreLearnt, AreListsRight, Finds, HasRoomToKeep, IsLearning, KeepsBesideRuns, Learns, RunsDecided, Taken}
+use Rattle.roc_server.proofs.Alike.{alike_same}
+use Rattle.roc_server.proofs.MissingSteps.{missing_is}
+use Rattle.roc_server.proofs.Undone.{besides_alike}
 
 -- what holds of a call that succeeds
 pub on_done : {A E P : Type 0} (r : Result A E) → IsOk r → OnOk r P → P
 on_done (Ok a) done h = h
 on_done (Err e) done h = absurd (false≢true done)
 
--- ---- the lists are learnt
+-- what is saved is what was
+pub back_to : (saved : Option Store) (now was : Store) → saved ≡ Some was → unwrap_or saved now ≡ was
+back_to saved now was e = ap (λ o. unwrap_or o now) e
 
-module _ (old : ServerData) (news known : List KnownList) (held : Held) (sound : IsConsistent old) where
-  abbrev pub with_lists : ServerData
-  with_lists = record old { deps = known; rows = held }
-
-  pub learning : AreLearnable old.deps news → known ≡ old.deps ++ news → IsLearning with_lists news
-  learning learnable e = record {
-    before = old.deps;
-    known_are = e;
-    learnable = learnable;
-    groups_once = sound.groups_once;
-    decided_only = sound.decided_only;
-    decided_all = sound.decided_all;
-    rows = sound.rows;
-    lacks = sound.lacks;
-    index = sound.index;
-  }
+-- what was put behind is what is left out
+pub front_is : {A : Type 0} (known news all : List A) (count : ℕ) → count ≡ length news → all ≡ known ++ news → front count all ≡ known
+front_is known news all count c e =
+    let n : length all ≡ length known + length news = ap length e ∙ length-append known news in
+    ap (λ ks. take (length all - count) ks) e ∙ take_at known news (length all - count) (omega (arith, n, c))
 
 -- ---- what is done before it is kept
 
@@ -82,99 +79,179 @@ acts plan shard old new held started none some sends news again found ids is ran
       room = room;
     }
 
--- ---- what is found and done is what was planned
+-- ---- the lists are learnt
 
-pub planned_taken : (plan : Plan) (shard : Shard) (old acted : ServerData) (known : List KnownList) (held : Held) (before sent : Collected) (again : Option TxnId) (l : Lesson)
-    → known ≡ old.deps ++ l.news.items → held.store ≡ old.rows.store → Finds (record old { deps = known; rows = held }) l.news.items l.found
-    → KeepsBesideRuns (record old { deps = known; rows = held }) acted → Acts plan shard (record old { deps = known; rows = held }) acted before sent l.news.items again l.found
-    → Taken plan shard old (after shard acted (Lists l)) before sent l.news.items again
-planned_taken plan shard old acted known held before sent again l e h f b a =
-    let news = l.news.items in
-    let ids = l.found.ids.items in
-    let asks = l.found.asks.items in
-    record {
-      ids = ids;
-      asks = asks;
-      chosen = subst (λ ks. AreNew (IsListed is_txn old.decided.ids) ks ids) e f.chosen;
-      missing = f.missing shard ∙ ap (λ ks. map asked_of (filter (is_missing (state_of shard old) ks) (united (flat_map (λ (k : KnownList). k.edges) news)))) e;
-      own = refl;
-      known = b.deps ∙ e;
-      waiting = ap (λ w. waiting_after w news asks) b.waiting;
-      below = b.marks;
-      runs = λ s. (λ i. take_all plan (holding s (sym h i) old.started.groups) ids) ∙ a.runs s;
-      groups = a.groups;
-      told = a.told;
-      ran = a.ran;
-      sent = a.messages ∙ (λ i. before.messages ++ all_told plan shard (b.waiting i).askers acted.started.groups news again ids asks);
-    }
+module _ (shard : Shard) (old mid : ServerData) (held : Held) (news : List KnownList) (named : Named) (sound : IsConsistent old) (learnable : AreLearnable old.known news) (l : Learns shard old mid news named) where
+  -- what was learnt, behind a savepoint
+  abbrev pub learnt : ServerData
+  learnt = record mid { rows = held }
 
--- ---- nothing is done
+  abbrev links : List KnownList
+  links = old.links ++ links_of (state_of shard old) news
 
-pub back_to : (saved : Option Store) (now was : Store) → saved ≡ Some was → unwrap_or saved now ≡ was
-back_to saved now was e = ap (λ o. unwrap_or o now) e
+  known_is : mid.known ≡ old.known ++ news
+  known_is = ap (λ (k : ServerData). k.known) l.is
 
-pub same_again : (old new : ServerData) → IsConsistent old → new.rows.store ≡ old.rows.store → new.started.groups ≡ old.started.groups → KeepsBesideRuns old new → IsSame old new
-same_again old new sound store started k =
-    let Left : List KnownList → List StartedGroup → Waiting → Type 0 =
-    λ ks es w. AllByRecursion (λ d. (not (is_known ks d.from) && (not (is_here d.from es) && not (was_asked_for d.from w.asked))) ≡ false) (flat_map (λ list. list.edges) ks) in
-    record {
-      state = λ shard. λ i. record { shard = shard; store = store i; started = started i; lists = record { known = k.deps i; waiting = k.waiting i }; below = k.marks i };
-      sound = record {
-        groups_once = subst (NoneTwice is_same_group) (sym started) sound.groups_once;
-        decided_rising = subst (IsStrictlySortedBy txn_cmp) (sym k.decided) sound.decided_rising;
-        decided_only = λ t l. subst (λ ks. IsDecided ks t) (sym k.deps) (sound.decided_only t (subst (λ ds. IsListed is_txn ds t) k.decided l));
-        decided_all = λ t d. subst (λ ds. IsListed is_txn ds t) (sym k.decided) (sound.decided_all t (subst (λ ks. IsDecided ks t) k.deps d));
-        rows = λ t row is. subst (λ ks. IsRow ks t row) (sym k.deps) (sound.rows t row (sym (k.ancestors t) ∙ is));
-        lacks = subst (λ ks. AreLacks ks new.lacks) (sym k.deps) (subst (AreLacks old.deps) (sym k.lacks) sound.lacks);
-        index = λ c. ap (group_refs_at c) k.index ∙ sound.index c ∙ (λ i. undecided (sym k.decided i) (group_refs_of c (sym started i)));
-        none_left =
-            subst (λ w. Left new.deps new.started.groups w) (sym k.waiting)
-            (subst (λ es. Left new.deps es old.waits.waiting) (sym started) (subst (λ ks. Left ks old.started.groups old.waits.waiting) (sym k.deps) sound.none_left));
-        open_unknown = k.fetches ∙ sound.open_unknown ∙ (λ i. filter (λ a. not (is_known (sym k.deps i) a.id)) (sym k.waiting i).asked);
-      };
-    }
+  links_is : mid.links ≡ links
+  links_is = ap (λ (k : ServerData). k.links) l.is
 
--- what was learnt last is what is left out
-front_is : (known news all : List KnownList) → all ≡ known ++ news → take (length all - length news) all ≡ known
-front_is known news all e =
-    let n : length all ≡ length known + length news = ap length e ∙ length-append known news in
-    ap (λ ks. take (length all - length news) ks) e ∙ take_at known news (length all - length news) (omega (arith, n))
-
-module _ (old acted : ServerData) (known : List KnownList) (held : Held) (l : Lesson) (sound : IsConsistent old) (e : known ≡ old.deps ++ l.news.items) (saved : held.saved ≡ Some old.rows.store)
-    (b : KeepsBesideRuns (record old { deps = known; rows = held }) acted) (kept : acted.rows.saved ≡ held.saved) (back : restored l.earlier.items acted.started.groups ≡ old.started.groups) where
+  -- all else is as it was
   abbrev was : ServerData
-  was = unlearnt acted l
+  was = record old { known = old.known ++ news; links = links; rows = held }
 
-  was_deps : was.deps ≡ old.deps
-  was_deps = front_is old.deps l.news.items acted.deps (b.deps ∙ e)
+  learnt_is : learnt ≡ was
+  learnt_is i = record (l.is i) { rows = held }
 
-  -- what was tried can be undone
-  pub same_before : IsSame old was
-  same_before =
-      same_again old was sound (back_to acted.rows.saved acted.rows.store old.rows.store (kept ∙ saved)) back
-      (record { deps = was_deps; waiting = b.waiting; fetches = b.fetches; decided = b.decided; ancestors = b.ancestors; lacks = b.lacks; index = b.index; marks = b.marks })
+  pub linked_learnable : AreLearnable old.links (links_of (state_of shard old) news)
+  linked_learnable = links_learnable (is_ended old.marks) (is_done (state_of shard old) (old.known ++ news)) old.known old.links news sound.right.linked learnable
 
-  -- the lists that are missing, by the parts that this goes by
-  abbrev asked_by : List KnownList → List StartedGroup → Waiting → List OpenFetch
-  asked_by ks es w =
-      map asked_of (filter (λ (d : Dependency). not (is_known ks d.from) && (not (is_here d.from es) && not (was_asked_for d.from w.asked))) (united (flat_map (λ (list : KnownList). list.edges) l.news.items)))
+  pub ids_are : map (λ (k : KnownList). k.of) (links_of (state_of shard old) news) ≡ map (λ (k : KnownList). k.of) news
+  ids_are = ids_without (is_done (state_of shard old) (old.known ++ news)) news
 
-  pub lists_planned : AreLearnable old.deps l.news.items → Finds (record old { deps = known; rows = held }) l.news.items l.found → AreSameGroups old.started.groups acted.started.groups → HasRoomToKeep acted l.found
-      → AreListsPlanned acted l
-  lists_planned learnable f groups room = record {
-    sound = same_before.sound;
-    known_are = b.deps ∙ e ∙ ap (λ ks. ks ++ l.news.items) (sym was_deps);
-    learnable = subst (λ ks. AreLearnable ks l.news.items) (sym was_deps) learnable;
-    groups = groups ∙ ap (map unrun) (sym back);
-    missing = λ shard. f.missing shard ∙ (λ i. asked_by (sym b.deps i) (sym back i) (sym b.waiting i));
-    chosen =
-        subst (λ ks. AreNew (IsListed is_txn acted.decided.ids) ks l.found.ids.items) (sym b.deps)
-        (subst (λ ds. AreNew (IsListed is_txn ds) known l.found.ids.items) (sym b.decided) f.chosen);
-    lacks = subst (λ ks. AreLacks ks l.found.lacks.lacks) (sym b.deps) f.lacks;
-    least = subst (λ ks. AreAllRight ks l.found.rows) (sym b.deps) f.least;
-    room = room;
-  }
+  pub learning : IsLearning learnt news
+  learning = subst (λ k. IsLearning k news) (sym learnt_is)
+      (record {
+        before = old.links;
+        linked = links_of (state_of shard old) news;
+        links_are = refl;
+        ids_are = ids_are;
+        learnable = linked_learnable;
+        groups_once = sound.right.groups_once;
+        decided_only = sound.right.decided_only;
+        decided_all = sound.right.decided_all;
+        rows = sound.right.rows;
+        lacks = sound.right.lacks;
+        index = sound.right.index;
+      })
 
-  pub lists_planned_from : AreLearnable old.deps l.news.items → Finds (record old { deps = known; rows = held }) l.news.items l.found → AreSameGroups old.started.groups acted.started.groups → HasRoomToKeep acted l.found
-      → IsPlannedFrom old acted (Lists l)
-  lists_planned_from learnable f groups room = record { planned = lists_planned learnable f groups room; from = same_before.state }
+  linked : AreLinksOf (is_ended old.marks) (old.known ++ news) links
+  linked =
+      links_learnt (is_ended old.marks) (is_done (state_of shard old) (old.known ++ news))
+      (λ u e. (and_parts (is_ended old.marks u) (not (is_here u old.started.groups) && least_naming u (suc shard.0) (all_entries (old.known ++ news)) == shard.0) e).0) old.known old.links news sound.right.linked
+
+  pub lists_right : AreListsRight learnt
+  lists_right = subst AreListsRight (sym learnt_is)
+      (record {
+        same = links_ids (is_ended old.marks) (old.known ++ news) links linked;
+        none_over = sound.none_over;
+        still = λ t d. decided_stays old.links links (keeps_front old.links (links_of (state_of shard old) news)) t (sound.right.decided_only t d);
+        taken_decided = sound.right.taken_decided;
+        decided_taken = sound.right.decided_taken;
+      })
+
+  -- ---- what is found and done is what was planned
+
+  module _ (acted : ServerData) (b : KeepsBesideRuns learnt acted) where
+    pub acted_known : acted.known ≡ old.known ++ news
+    acted_known = b.known ∙ known_is
+
+    pub acted_links : acted.links ≡ links
+    acted_links = b.links ∙ links_is
+
+    -- without what was learnt, all but the cells and the groups is as it was
+    pub beside : KeepsBesideRuns old (record acted { known = old.known; links = old.links })
+    beside =
+        record {
+          known = refl;
+          links = refl;
+          waiting = b.waiting ∙ ap (λ (k : ServerData). k.waits.waiting) learnt_is;
+          fetches = b.fetches ∙ ap (λ (k : ServerData). k.waits.fetches) learnt_is;
+          decided = b.decided ∙ ap (λ (k : ServerData). k.decided.ids) learnt_is;
+          ancestors = λ t. b.ancestors t ∙ ap (λ (k : ServerData). row_of t k.ancestors.rows) learnt_is;
+          lacks = b.lacks ∙ ap (λ (k : ServerData). k.lacks) learnt_is;
+          index = b.index ∙ ap (λ (k : ServerData). k.index) learnt_is;
+          marks = b.marks ∙ ap (λ (k : ServerData). k.marks) learnt_is;
+          taken = b.taken ∙ ap (λ (k : ServerData). k.taken.components) learnt_is;
+        }
+
+    -- what was learnt is what was learnt last
+    abbrev pub learnt_last : (items : List KnownList) → items ≡ news → AreLearnt acted items
+    learnt_last items same = record {
+      known = record { before = old.known; known_are = acted_known ∙ (λ i. old.known ++ sym same i); learnable = subst (AreLearnable old.known) (sym same) learnable };
+      links = record { before = old.links; linked = links_of (state_of shard old) news; links_are = acted_links; of = ids_are ∙ ap (map (λ (k : KnownList). k.of)) (sym same); learnable = linked_learnable };
+    }
+
+    module _ (x : Lesson) (f : Finds learnt named x.found) where
+      abbrev components : List (List TxnId)
+      components = x.found.components.items
+
+      asks_are : x.found.asks.items ≡ missing_after (state_of shard old) news
+      asks_are =
+          missing_is shard old sound.right news x.found.asks.items named.edges named.done.items l.edges l.done
+          (subst (λ (k : ServerData). x.found.asks.items ≡ map (asked_by k.marks k.known) (filter (λ d. not (is_listed is_txn named.done.items d.from) && is_missing (state_of shard k) k.links d) named.edges)) learnt_is (f.missing shard))
+
+      chosen : AreNewTaken (IsListed is_txn old.decided.ids) links components
+      chosen = subst (λ (k : ServerData). AreNewTaken (IsListed is_txn k.decided.ids) k.links components) learnt_is f.chosen
+
+      pub planned_taken : (plan : Plan) (before sent : Collected) (again : Option TxnId) → held.store ≡ old.rows.store → x.news.items ≡ news
+          → Acts plan shard learnt acted before sent news again x.found → Taken plan shard old (with_lists shard acted x) before sent news again
+      planned_taken plan before sent again h same a =
+          record {
+            components = components;
+            chosen = chosen;
+            own = refl;
+            lists = λ i. record {
+              known = acted_known i;
+              links = acted_links i;
+              waiting = waiting_after ((b.waiting ∙ ap (λ (k : ServerData). k.waits.waiting) learnt_is) i) (same i) (asks_are i);
+              taken = (b.taken ∙ ap (λ (k : ServerData). k.taken.components) learnt_is) i ++ components;
+            };
+            below = b.marks ∙ ap (λ (k : ServerData). k.marks) learnt_is;
+            runs = λ s. (λ i. take_all plan (holding s (sym h i) (ap (λ (k : ServerData). k.started.groups) (sym learnt_is) i)) (sym f.ids i)) ∙ a.runs s;
+            groups = a.groups ∙ ap (λ (k : ServerData). map unrun k.started.groups) learnt_is;
+            told = a.told ∙ ap (λ ids. before.decided ++ ids) f.ids;
+            ran = a.ran ∙ (λ i. before.ran ++ accesses_of (all_buffered plan (ap (λ (k : ServerData). k.started.groups) learnt_is i) (f.ids i)));
+            sent = a.messages ∙ (λ i. before.messages ++ all_told plan shard ((b.waiting ∙ ap (λ (k : ServerData). k.waits.waiting) learnt_is) i).askers acted.started.groups news again (f.ids i) (asks_are i));
+          }
+
+      -- ---- nothing is done
+
+      module _ (same : x.news.items ≡ news) (saved : held.saved ≡ Some old.rows.store) (kept : acted.rows.saved ≡ held.saved) (back : restored x.earlier.items acted.started.groups ≡ old.started.groups) where
+        count : length x.news.items ≡ length news
+        count = ap length same
+
+        abbrev undone : ServerData
+        undone = unlearnt acted x
+
+        undone_known : undone.known ≡ old.known
+        undone_known = front_is old.known news acted.known (length x.news.items) count acted_known
+
+        undone_links : undone.links ≡ old.links
+        undone_links = front_is old.links (links_of (state_of shard old) news) acted.links (length x.news.items) (count ∙ sym (length-map news (without_links (is_done (state_of shard old) (old.known ++ news))))) acted_links
+
+        -- the lists that are missing, by the parts that this goes by
+        abbrev missing_by : (known links : List KnownList) → List StartedGroup → Waiting → List OpenFetch
+        missing_by known links es w =
+            map (asked_of known) (filter (λ (d : Dependency). not (is_known links d.from) && (not (is_here d.from es) && not (was_asked_for d.from w.asked))) (united (all_entries links)))
+
+        -- what was tried can be undone
+        pub same_before : IsSame old undone
+        same_before =
+            alike_same old undone (back_to acted.rows.saved acted.rows.store old.rows.store (kept ∙ saved))
+            (besides_alike old undone back (record { known = undone_known; links = undone_links; waiting = beside.waiting; fetches = beside.fetches; decided = beside.decided; ancestors = beside.ancestors; lacks = beside.lacks; index = beside.index; marks = beside.marks; taken = beside.taken })) sound
+
+        pub are_learnt : AreLearnt acted x.news.items
+        are_learnt = record {
+          known = record { before = undone.known; known_are = acted_known ∙ (λ i. sym undone_known i ++ sym same i); learnable = subst (λ ks. AreLearnable ks x.news.items) (sym undone_known) (subst (AreLearnable old.known) (sym same) learnable) };
+          links = record { before = undone.links; linked = links_of (state_of shard old) news; links_are = acted_links ∙ ap (λ ks. ks ++ links_of (state_of shard old) news) (sym undone_links); of = ids_are ∙ ap (map (λ (k : KnownList). k.of)) (sym same); learnable = subst (λ ks. AreLearnable ks (links_of (state_of shard old) news)) (sym undone_links) linked_learnable };
+        }
+
+        pub lists_planned : AreSameGroups old.started.groups acted.started.groups → HasRoomToKeep acted x.found → IsOver acted.marks (acted.taken.components ++ components) acted.links x.left → AreListsPlanned acted x
+        unfolding are_learnt
+        lists_planned groups room left = record {
+          sound = same_before.sound;
+          learnt = are_learnt;
+          known_before = refl;
+          links_before = refl;
+          groups = groups ∙ ap (map unrun) (sym back);
+          missing = λ at. asks_are ∙ (λ i. missing_by (sym acted_known i) (sym acted_links i) (sym back i) (sym beside.waiting i));
+          chosen = subst (λ ids. AreNewTaken (IsListed is_txn ids) acted.links components) (sym (b.decided ∙ ap (λ (k : ServerData). k.decided.ids) learnt_is)) (subst (λ ks. AreNewTaken (IsListed is_txn old.decided.ids) ks components) (sym acted_links) chosen);
+          ids = f.ids;
+          linked =
+              subst (λ marks. AreLinksOf (is_ended marks) acted.known acted.links) (sym beside.marks)
+              (subst (λ ks. AreLinksOf (is_ended old.marks) ks acted.links) (sym acted_known) (subst (AreLinksOf (is_ended old.marks) (old.known ++ news)) (sym acted_links) linked));
+          lacks = subst (λ ks. AreLacks ks x.found.lacks.lacks) (sym b.links) f.lacks;
+          least = subst (λ ks. AreAllRight ks x.found.rows) (sym b.links) f.least;
+          room = room;
+          left = left;
+        }

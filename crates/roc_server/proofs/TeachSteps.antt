@@ -1,61 +1,51 @@
 -- What comes of lists that are taught
 use Rattle.std.proofs.Common.{◌≡◌, List, ◌++◌, Option, map, filter, refl, sym, ap, ◌∙◌}
 use Rattle.std.specs.List.{flat_map}
-use Rattle.roc_server.proofs.LeftOut.{missing_of_news}
 use Rattle.roc_base.specs.declared.id.TxnId.{TxnId}
 use Rattle.roc_base.specs.declared.node.Shard.{Shard}
 use Rattle.roc_depgraph.specs.declared.known.KnownList.{KnownList}
 use Rattle.roc_depgraph.specs.Deps.{IsDecided}
-use Rattle.roc_server_lists.proofs.Learning.{keeps_front}
 use Rattle.roc_msg.specs.Outbox.{Collected}
 use Rattle.roc_msg.specs.declared.outbox.Outgoing.{Outgoing}
 use Rattle.roc_plan.specs.Groups.{Plan}
 use Rattle.roc_server.specs.declared.handled.Handled.TheVariants.{Done}
 use Rattle.roc_server.specs.declared.server_data.ServerData.{ServerData}
+use Rattle.roc_server.specs.Forgets.{forget, forgetting}
 use Rattle.roc_server.specs.Runs.{commitok, commitok_of, take_all}
-use Rattle.roc_server_lists.specs.New.{AreNew}
-use Rattle.roc_server_lists.specs.Asking.{knowns_for, asked_of, fetch_from, waiting_after}
-use Rattle.roc_server.specs.Lists.{missing_from, lists_after, taught}
+use Rattle.roc_server_lists.specs.New.{AreNewTaken}
+use Rattle.roc_server_lists.specs.Asking.{knowns_for, fetch_from}
+use Rattle.roc_server.specs.Lists.{links_of, lists_after, missing_after, taught}
 use Rattle.roc_server.specs.Inner.ServerData.{state_of, AreSameGroups, IsConsistent}
 use Rattle.roc_server.specs.Inner.Taught.{own_again, with_own, Taken, Teaches}
 use Rattle.roc_server.specs.State.{is_here, ServerState, ServerStep}
 use Rattle.roc_server.specs.Step.{Shows}
-use Rattle.roc_server.proofs.SameGroups.{here_same}
+use Rattle.roc_server.proofs.SameGroups.{fits_same, fits_some, here_same}
 
 module _ (plan : Plan) (shard : Shard) (old : ServerData) (state : ServerState) (before after : Collected) (news : List KnownList) (again : Option TxnId) (sound : IsConsistent old) (h : Taken plan shard old state before after news again) where
   abbrev s : ServerState
   s = state_of shard old
 
-  abbrev all : List KnownList
-  all = old.deps ++ news
+  abbrev links : List KnownList
+  links = old.links ++ links_of s news
 
   abbrev ids : List TxnId
-  ids = h.ids
+  ids = flat_map (λ c. c) h.components
 
-  new_ids : AreNew (IsDecided old.deps) all ids
-  new_ids =
+  are_new : AreNewTaken (IsDecided old.links) links h.components
+  are_new =
       record {
         members = record {
-          only = λ t l. let u = h.chosen.members.only t l in (u.0, λ d. u.1 (sound.decided_all t d));
-          all = λ t d. h.chosen.members.all t (d.0, λ l. d.1 (sound.decided_only t l));
+          only = λ t l. let u = h.chosen.members.only t l in (u.0, λ d. u.1 (sound.right.decided_all t d));
+          all = λ t d. h.chosen.members.all t (d.0, λ l. d.1 (sound.right.decided_only t l));
         };
-        ordered = h.chosen.ordered;
+        taken = h.chosen.taken;
       }
 
   abbrev knowing : ServerState
-  knowing = record s { lists = lists_after s news }
-
-  -- what is missing of the new lists is all that is
-  missing_is : h.asks ≡ missing_from s all
-  missing_is = h.missing ∙ ap (map asked_of) (missing_of_news s old.deps news (keeps_front old.deps news) sound.none_left)
-
-  waiting_is : waiting_after old.waits.waiting news (missing_from s all) ≡ state.lists.waiting
-  waiting_is = ap (waiting_after old.waits.waiting news) (sym missing_is) ∙ sym h.waiting
+  knowing = record s { lists = lists_after s news h.components }
 
   reached : take_all plan knowing ids ≡ state
-  reached =
-      h.runs knowing
-      ∙ (λ i. let t : ServerState = record { shard = sym h.own i; store = state.store; started = state.started; lists = record { known = sym h.known i; waiting = waiting_is i }; below = sym h.below i } in t)
+  reached = h.runs knowing ∙ (λ i. let t : ServerState = record { shard = sym h.own i; store = state.store; started = state.started; lists = sym h.lists i; below = sym h.below i } in t)
 
   groups : AreSameGroups old.started.groups state.started
   groups = h.groups
@@ -70,7 +60,7 @@ module _ (plan : Plan) (shard : Shard) (old : ServerData) (state : ServerState) 
   knowns = flat_map (knowns_for old.waits.waiting.askers) news
 
   abbrev step : ServerStep
-  step = with_own plan again (taught plan s news ids)
+  step = with_own plan again (taught plan s news h.components)
 
   own_is : own_again plan shard state.started again ≡ own_again plan (take_all plan knowing ids).shard (take_all plan knowing ids).started again
   own_is = (λ j. own_again plan (sym h.own j) state.started again) ∙ (λ i. let t = sym reached i in own_again plan t.shard t.started again)
@@ -78,10 +68,10 @@ module _ (plan : Plan) (shard : Shard) (old : ServerData) (state : ServerState) 
   sends : after.messages ≡ before.messages ++ step.sends
   sends =
       h.sent
-      ∙ (λ i. before.messages ++ ((knowns ++ (told_here i ++ map (fetch_from shard) (missing_is i))) ++ own_is i))
+      ∙ (λ i. before.messages ++ ((knowns ++ (told_here i ++ map (fetch_from shard) (missing_after s news))) ++ own_is i))
 
-  shown : Shows step Done state before after
-  shown = record { answers = refl; keeps = reached; sends = sends; decides = h.told; ran = h.ran }
+  shown : Shows (forgetting step) Done (forget state) before after
+  shown = record { answers = refl; keeps = ap forget reached; sends = sends; decides = h.told; ran = h.ran }
 
-  pub teaches : Teaches plan shard old state before after news again Done
-  teaches = record { ids = ids; new_ids = new_ids; shown = shown; groups = groups }
+  pub teaches : Teaches plan shard old (forget state) before after news again Done
+  teaches = record { components = h.components; are_new = are_new; shown = shown; groups = λ p fits. fits_some p _ state.started (fits_same p old.started.groups state.started groups fits) }

@@ -1,76 +1,112 @@
--- What was undone leaves the server as it was
-use Rattle.std.proofs.Common.{◌≡◌, false, not, ◌&&◌, filter, List, Some, unwrap_or, refl, sym, ap, subst, ◌∙◌}
-use Rattle.std.specs.List.{AllByRecursion, flat_map}
-use Rattle.std.specs.List.Sorted.{IsStrictlySortedBy}
-use Rattle.roc_sequence.specs.Places.{IsListed, NoneTwice}
-use Rattle.roc_base.specs.declared.id.TxnId.{TxnId}
-use Rattle.roc_base.specs.TxnId.{is_txn, txn_cmp}
-use Rattle.roc_base.specs.Edge.{Dependency}
+-- A step that is undone, and what does not count
+use Rattle.std.proofs.Common.{◌≡◌, ◌++◌, List, Some, unwrap_or, map, refl, sym, ap, subst, ◌∙◌}
+use Rattle.roc_await.specs.Learning.{AreLearnable}
+use Rattle.roc_await.specs.Waits.{Awaited}
 use Rattle.roc_depgraph.specs.declared.known.KnownList.{KnownList}
-use Rattle.roc_depgraph.specs.Deps.{is_known, IsDecided}
-use Rattle.roc_await.specs.Lacks.{AreLacks}
-use Rattle.roc_await.specs.Waits.{Awaited, Waiting, was_asked_for}
-use Rattle.roc_await.specs.declared.waits.OpenFetch.{OpenFetch}
 use Rattle.roc_rows.specs.Held.{Held}
-use Rattle.roc_rows.specs.declared.cell.Cell.{Cell}
-use Rattle.roc_server_ancestors.specs.Least.{AreRows}
-use Rattle.roc_server_index.specs.GroupRefs.{CellRefs, HaveSameRefs}
+use Rattle.roc_server_ancestors.specs.Least.{row_of}
+use Rattle.roc_server_index.specs.GroupRefs.{group_refs_at}
+use Rattle.roc_server.specs.declared.planned.Lesson.{Lesson}
+use Rattle.roc_server.specs.declared.planned.Settlement.{Settlement}
 use Rattle.roc_server.specs.declared.server_data.ServerData.{ServerData}
-use Rattle.roc_server.specs.declared.started.StartedGroup.{StartedGroup}
-use Rattle.roc_server.specs.Inner.Indexed.{group_refs_of, undecided}
-use Rattle.roc_server.specs.Inner.ServerData.{IsConsistent, IsSame, is_same_group}
+use Rattle.roc_server.specs.Inner.Keyed.{Entered}
+use Rattle.roc_server.specs.Inner.Planned.{unlearnt, unsettled, AreListsPlanned}
+use Rattle.roc_server.specs.Inner.Runs.{restored}
+use Rattle.roc_server.specs.Inner.ServerData.{IsConsistent, IsRight, IsSame}
 use Rattle.roc_server.specs.Inner.Starts.{KeepsBeside}
-use Rattle.roc_server.specs.State.{is_here}
+use Rattle.roc_server.specs.Inner.Taught.{AreLearnt, KeepsBesideRuns}
+use Rattle.roc_server.proofs.Alike.{alike_right, alike_same, alike_sound, AreAlike}
 
--- where all but the cells was kept, and the cells are what they were, the server is the same
-pub same_kept : (old new : ServerData) → new.rows.store ≡ old.rows.store → KeepsBeside old new → IsConsistent old → IsSame old new
-same_kept old new cells p h =
-    let Left : List KnownList → List StartedGroup → List OpenFetch → Type 0 =
-    λ ks es asked. AllByRecursion (λ (d : Dependency). (not (is_known ks d.from) && (not (is_here d.from es) && not (was_asked_for d.from asked))) ≡ false)
-    (flat_map (λ (l : KnownList). l.edges) ks) in
-    let Lists : List KnownList → List TxnId → Type 0 = λ ks ids. ((t : TxnId) → IsListed is_txn ids t → IsDecided ks t) × ((t : TxnId) → IsDecided ks t → IsListed is_txn ids t) in
-    let both : Lists new.deps new.decided.ids = subst (λ ks. Lists ks new.decided.ids) (sym p.deps) (subst (λ ids. Lists old.deps ids) (sym p.decided) (h.decided_only, h.decided_all)) in
-    record {
-      state = λ shard i. record { shard = shard; store = cells i; started = p.started i; lists = record { known = p.deps i; waiting = p.waiting i }; below = p.marks i };
-      sound = record {
-        groups_once = subst (NoneTwice is_same_group) (sym p.started) h.groups_once;
-        decided_rising = subst (IsStrictlySortedBy txn_cmp) (sym p.decided) h.decided_rising;
-        decided_only = both.0;
-        decided_all = both.1;
-        rows = subst (λ ks. AreRows ks new.ancestors.rows) (sym p.deps) (subst (AreRows old.deps) (sym p.ancestors) h.rows);
-        lacks = subst (λ ks. AreLacks ks new.lacks) (sym p.deps) (subst (AreLacks old.deps) (sym p.lacks) h.lacks);
-        index = λ c. p.index c ∙ h.index c ∙ (λ i. undecided (sym p.decided i) (group_refs_of c (sym p.started i)));
-        none_left =
-            subst (λ ks. Left ks new.started.groups new.waits.waiting.asked) (sym p.deps)
-            (subst (λ es. Left old.deps es new.waits.waiting.asked) (sym p.started) (subst (λ (w : Waiting). Left old.deps old.started.groups w.asked) (sym p.waiting) h.none_left));
-        open_unknown = p.fetches ∙ h.open_unknown ∙ (λ i. filter (λ (a : OpenFetch). not (is_known (sym p.deps i) a.id)) (sym p.waiting i).asked);
-      };
-    }
+-- where all but the cells was kept, all but the cells is the same
+pub beside_alike : (old new : ServerData) → KeepsBeside old new → AreAlike old new
+beside_alike old new p = record {
+  started = p.started;
+  known = p.known;
+  links = p.links;
+  waiting = p.waiting;
+  fetches = p.fetches;
+  decided = p.decided;
+  ancestors = λ t. ap (row_of t) p.ancestors;
+  lacks = p.lacks;
+  index = p.index;
+  marks = p.marks;
+  taken = p.taken;
+}
+
+-- and where the groups were put back, too
+pub besides_alike : (old new : ServerData) → new.started.groups ≡ old.started.groups → KeepsBesideRuns old new → AreAlike old new
+besides_alike old new started p = record {
+  started = started;
+  known = p.known;
+  links = p.links;
+  waiting = p.waiting;
+  fetches = p.fetches;
+  decided = p.decided;
+  ancestors = p.ancestors;
+  lacks = p.lacks;
+  index = λ c. ap (group_refs_at c) p.index;
+  marks = p.marks;
+  taken = p.taken;
+}
 
 -- what is kept beside the cells does not depend on them
+rows_alike : (k : ServerData) (rows : Held) → AreAlike k (record k { rows = rows })
+rows_alike k rows = record {
+  started = refl;
+  known = refl;
+  links = refl;
+  waiting = refl;
+  fetches = refl;
+  decided = refl;
+  ancestors = λ t. refl;
+  lacks = refl;
+  index = λ c. refl;
+  marks = refl;
+  taken = refl;
+}
+
 pub cells_aside : (k : ServerData) (rows : Held) → IsConsistent k → IsConsistent (record k { rows = rows })
-cells_aside k rows h =
-    record {
-      groups_once = h.groups_once;
-      decided_rising = h.decided_rising;
-      decided_only = h.decided_only;
-      decided_all = h.decided_all;
-      rows = h.rows;
-      lacks = h.lacks;
-      index = h.index;
-      none_left = h.none_left;
-      open_unknown = h.open_unknown;
-    }
+cells_aside k rows h = alike_sound k (record k { rows = rows }) (rows_alike k rows) h
+
+pub cells_beside : (k : ServerData) (rows : Held) → IsRight k → IsRight (record k { rows = rows })
+cells_beside k rows h = alike_right k (record k { rows = rows }) (rows_alike k rows) h
 
 -- a try behind a savepoint that was rolled back
 pub tried_in_vain : (k tried : ServerData) (noted undone : Held) → noted.saved ≡ Some k.rows.store → tried.rows.saved ≡ noted.saved → undone.store ≡ unwrap_or tried.rows.saved tried.rows.store
     → KeepsBeside (record k { rows = noted }) tried → IsConsistent k → IsSame k (record tried { rows = undone })
 tried_in_vain k tried noted undone saved kept back p h =
-    same_kept k (record tried { rows = undone }) (back ∙ ap (λ s. unwrap_or s tried.rows.store) (kept ∙ saved))
-    (record { started = p.started; deps = p.deps; waiting = p.waiting; fetches = p.fetches; decided = p.decided; ancestors = p.ancestors; lacks = p.lacks; index = p.index; marks = p.marks }) h
+    alike_same k (record tried { rows = undone }) (back ∙ ap (λ s. unwrap_or s tried.rows.store) (kept ∙ saved))
+    (beside_alike k (record tried { rows = undone }) (record { started = p.started; known = p.known; links = p.links; waiting = p.waiting; fetches = p.fetches; decided = p.decided; ancestors = p.ancestors; lacks = p.lacks; index = p.index; marks = p.marks; taken = p.taken })) h
+
+-- what ran for a settled transaction is undone
+pub settled_undone : (k : ServerData) (s : Settlement) (held : Held) (started : Entered) → IsConsistent (unsettled k s) → started.groups ≡ restored s.earlier.items k.started.groups → IsConsistent (record k { rows = held; started = started })
+settled_undone k s held started h same =
+    alike_sound (unsettled k s) (record k { rows = held; started = started })
+    (record { started = same; known = refl; links = refl; waiting = refl; fetches = refl; decided = refl; ancestors = λ t. refl; lacks = refl; index = λ c. refl; marks = refl; taken = refl }) h
+
+-- lists that were planned are undone: what ran for them, and that they were learnt
+module _ (k : ServerData) (l : Lesson) (p : AreListsPlanned k l) (held : Held) (started : Entered) (news : List KnownList) (same : news ≡ l.news.items) where
+  abbrev pub run_back : ServerData
+  run_back = record k { rows = held; started = started }
+
+  abbrev were : AreLearnt run_back news
+  were = record {
+    known = record { before = p.learnt.known.before; known_are = p.learnt.known.known_are ∙ ap (λ ks. p.learnt.known.before ++ ks) (sym same); learnable = subst (AreLearnable p.learnt.known.before) (sym same) p.learnt.known.learnable };
+    links = record { before = p.learnt.links.before; linked = p.learnt.links.linked; links_are = p.learnt.links.links_are; of = p.learnt.links.of ∙ ap (map (λ (x : KnownList). x.of)) (sym same); learnable = p.learnt.links.learnable };
+  }
+
+  pub to_unlearn : AreLearnt run_back news
+  to_unlearn = were
+
+  pub lists_undone : (new : ServerData) → held.store ≡ unwrap_or k.rows.saved k.rows.store → started.groups ≡ restored l.earlier.items k.started.groups
+      → ((w : AreLearnt run_back news) → new ≡ record run_back { known = w.known.before; links = w.links.before }) → IsSame (unlearnt k l) new
+  lists_undone new store groups unlearns =
+      subst (IsSame (unlearnt k l)) (sym (unlearns were))
+      (alike_same (unlearnt k l) (record run_back { known = p.learnt.known.before; links = p.learnt.links.before }) store
+      (record { started = groups; known = p.known_before; links = p.links_before; waiting = refl; fetches = refl; decided = refl; ancestors = λ t. refl; lacks = refl; index = λ c. refl; marks = refl; taken = refl }) p.sound)
 
 -- only those who wait were told otherwise, and that was the same
 pub waits_same : (k : ServerData) (waits : Awaited) → waits.waiting ≡ k.waits.waiting → waits.fetches ≡ k.waits.fetches → IsConsistent k → IsSame k (record k { waits = waits })
 waits_same k waits waiting fetches h =
-    same_kept k (record k { waits = waits }) refl
-    (record { started = refl; deps = refl; waiting = waiting; fetches = fetches; decided = refl; ancestors = refl; lacks = refl; index = λ c. refl; marks = refl }) h
+    alike_same k (record k { waits = waits }) refl
+    (record { started = refl; known = refl; links = refl; waiting = waiting; fetches = fetches; decided = refl; ancestors = λ t. refl; lacks = refl; index = λ c. refl; marks = refl; taken = refl }) h

@@ -1,7 +1,7 @@
 -- What was made ahead for a message, so that the message cannot fail for want of memory: docs/PROTOCOL.md, "Want of memory"
-use Rattle.std.specs.Prelude.{◌≡◌, Bool, true, false, Option, Some, IfSome, ◌⊎◌}
+use Rattle.std.specs.Prelude.{◌≡◌, Bool, true, false, Some, IfSome, ◌⊎◌}
 use Rattle.roc_msg.specs.declared.msg.Msg.{Msg}
-use Rattle.roc_msg.specs.declared.msg.Msg.TheVariants.{Start, Commit, Fetch, Known}
+use Rattle.roc_msg.specs.declared.msg.Msg.TheVariants.{Start, Commit, Fetch, Known, Ended, Settled}
 use Rattle.roc_msg.specs.Outbox.{Collected, HasRoomFor}
 use Rattle.roc_plan.specs.Groups.{Plan}
 use Rattle.roc_server.specs.Fits.{AreGroupsOf, ServerFits}
@@ -30,6 +30,8 @@ needs_room (Start id proc group args inputs) = true
 needs_room (Commit id edges facts) = true
 needs_room (Fetch id asker) = true
 needs_room (Known id edges) = true
+needs_room (Ended coord mark) = true
+needs_room (Settled id mark) = true
 needs_room msg = false
 
 -- all of it was made ahead, and the outbox has room for what is sent

@@ -65,9 +65,10 @@ coded_asker = code_by (TxnId × ℕ) (coded× coded_txn coded_ℕ) (λ a. (a.id,
 
 abbrev coded_lists : Coded Lists
 coded_lists =
-    code_by (List KnownList × (List OpenFetch × List Asker)) (coded× (coded_list coded_known) (coded× (coded_list coded_asked) (coded_list coded_asker)))
-    (λ l. (l.known, (l.waiting.asked, l.waiting.askers)))
-    (λ p. record { known = p.0; waiting = record { asked = p.1.0; askers = p.1.1 } }) (λ _. refl)
+    code_by (List KnownList × (List KnownList × ((List OpenFetch × List Asker) × List (List TxnId))))
+    (coded× (coded_list coded_known) (coded× (coded_list coded_known) (coded× (coded× (coded_list coded_asked) (coded_list coded_asker)) (coded_list (coded_list coded_txn)))))
+    (λ l. (l.known, (l.links, ((l.waiting.asked, l.waiting.askers), l.taken))))
+    (λ p. record { known = p.0; links = p.1.0; waiting = record { asked = p.1.1.0.0; askers = p.1.1.0.1 }; taken = p.1.1.1 }) (λ _. refl)
 
 abbrev pub coded_state : Coded ServerState
 coded_state =

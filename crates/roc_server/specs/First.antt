@@ -15,6 +15,6 @@ first_server plan shard =
       shard = shard;
       store = after_inits empty (filter (λ i. shard_of plan i.place == shard.0) plan.program.inits);
       started = [];
-      lists = record { known = []; waiting = none_waiting };
+      lists = record { known = []; links = []; waiting = none_waiting; taken = [] };
       below = none_below;
     }

@@ -1,9 +1,12 @@
 -- What stands here is of private functions alone, or is a law that a type needs
+pub mod Left
 pub mod Indexed
 pub mod ServerData
 pub mod Starts
 pub mod Runs
 pub mod Taught
+pub mod Settled
+pub mod Forgetting
 pub mod Keyed
 pub mod Planned
 pub mod AtOnce

@@ -4,6 +4,7 @@ pub mod State
 pub mod First
 pub mod Start
 pub mod Runs
+pub mod Forgets
 pub mod Lists
 pub mod Fits
 pub mod Step

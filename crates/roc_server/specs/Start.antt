@@ -12,7 +12,6 @@ use Rattle.roc_base.specs.Equality.{is_nums, same_tag}
 use Rattle.roc_depgraph.specs.Deps.{is_known}
 use Rattle.roc_msg.specs.declared.msg.Msg.TheVariants.{StartOk}
 use Rattle.roc_msg.specs.declared.outbox.Outgoing.{Outgoing}
-use Rattle.roc_msg.specs.declared.reason.Reason.{Reason}
 use Rattle.roc_msg.specs.declared.reason.Reason.TheVariants.{BadProc, BadGroup, BadInputs, NotHere, Late, Differs}
 use Rattle.roc_plan.specs.declared.group.Class.{Class}
 use Rattle.roc_plan.specs.declared.group.Class.TheVariants.{Immediate, Deferrable}
@@ -23,16 +22,13 @@ use Rattle.roc_group.specs.GroupRun.{GroupCall, group_run, group_uses, bound_by_
 use Rattle.roc_server_lists.specs.Piggyback.{facts_of}
 use Rattle.roc_rows.specs.declared.cell.Cell.{Cell}
 use Rattle.roc_rows.specs.Cells.{is_cell}
-use Rattle.roc_server.specs.declared.handled.Handled.TheVariants.{Done}
+use Rattle.roc_server.specs.declared.handled.Handled.{Handled}
+use Rattle.roc_server.specs.declared.handled.Handled.TheVariants.{Done, Ignored, Gone}
+use Rattle.roc_server.specs.Below.{is_ended}
 use Rattle.roc_server.specs.declared.started.StartedGroup.{StartedGroup}
-use Rattle.roc_server.specs.State.{ignored, answered, find_group, ServerState, ServerStep}
+use Rattle.roc_server.specs.State.{refused, answered, first_answer, find_group, ServerState, ServerStep}
 
--- ---- reasons to ignore it
-
--- the first reason whose condition holds
-abbrev pub first_reason : List (Bool × Reason) → Option Reason
-first_reason [] = None
-first_reason (c ∷ cs) = if c.0 then Some c.1 else first_reason cs
+-- ---- why it is not taken
 
 -- the plan has the procedure, and it may write: a view has no groups that start
 abbrev pub has_procedure : Plan → ℕ → Bool
@@ -46,16 +42,17 @@ has_counts plan c = length c.args == (procedure_of plan c.proc).arguments && len
 abbrev pub differs : ServerState → TxnId → GroupCall → Bool
 differs s id c = list_any (λ e. is_txn e.id id && not (e.proc == c.proc && is_nums e.args c.args)) s.started
 
--- why a start is ignored, where it is
-abbrev pub start_fault : Plan → ServerState → TxnId → GroupCall → Option Reason
-start_fault plan s id c =
-    first_reason (
-    (not (has_procedure plan c.proc), BadProc)
-    ∷ (not (nat_lt c.group (length (groups_of plan c.proc))), BadGroup)
-    ∷ (not (has_counts plan c), BadInputs)
-    ∷ (not (shard_of plan (group_place plan c.proc c.group c.args c.inputs) == s.shard.0), NotHere)
-    ∷ (is_none (find_group id c.group s.started) && is_known s.lists.known id, Late)
-    ∷ (differs s id c, Differs)
+-- what a start is answered that is not taken: it comes too late of a transaction that is ended, or is ignored
+abbrev pub start_refusal : Plan → ServerState → TxnId → GroupCall → Option Handled
+start_refusal plan s id c =
+    first_answer (
+    (is_none (find_group id c.group s.started) && is_ended s.below id, Gone)
+    ∷ (not (has_procedure plan c.proc), Ignored BadProc)
+    ∷ (not (nat_lt c.group (length (groups_of plan c.proc))), Ignored BadGroup)
+    ∷ (not (has_counts plan c), Ignored BadInputs)
+    ∷ (not (shard_of plan (group_place plan c.proc c.group c.args c.inputs) == s.shard.0), Ignored NotHere)
+    ∷ (is_none (find_group id c.group s.started) && is_known s.lists.known id, Ignored Late)
+    ∷ (differs s id c, Ignored Differs)
     ∷ [])
 
 -- ---- a group that starts now. `left_out` are the transactions that it leaves out
@@ -127,6 +124,7 @@ start_new plan s c e =
       answer = Done;
       state = record s { store = if is_immediate_group plan c then (group_run plan c s.store).store else s.store; started = s.started ++ e ∷ [] };
       sends = startok_of s.shard e ∷ [];
+      components = [];
       decided = [];
       ran = if is_immediate_group plan c then e ∷ [] else [];
     }
@@ -137,9 +135,9 @@ abbrev pub start_taken : Plan → (left_out reached : List TxnId) → ServerStat
 start_taken plan left_out reached s id c (Some e) = answered s (startok_of s.shard e ∷ [])
 start_taken plan left_out reached s id c None = start_new plan s c (new_group plan left_out reached s id c)
 
-abbrev pub start_judged : Plan → (left_out reached : List TxnId) → ServerState → TxnId → GroupCall → Option Reason → ServerStep
-start_judged plan left_out reached s id c (Some reason) = ignored s reason
+abbrev pub start_judged : Plan → (left_out reached : List TxnId) → ServerState → TxnId → GroupCall → Option Handled → ServerStep
+start_judged plan left_out reached s id c (Some answer) = refused s answer
 start_judged plan left_out reached s id c None = start_taken plan left_out reached s id c (find_group id c.group s.started)
 
 abbrev pub after_start : Plan → (left_out reached : List TxnId) → ServerState → TxnId → GroupCall → ServerStep
-after_start plan left_out reached s id c = start_judged plan left_out reached s id c (start_fault plan s id c)
+after_start plan left_out reached s id c = start_judged plan left_out reached s id c (start_refusal plan s id c)

@@ -1,5 +1,5 @@
 -- What a server keeps, and what comes of a message: docs/PROTOCOL.md, "Server"
-use Rattle.std.specs.Prelude.{ℕ, Bool, ◌&&◌, ◌==◌, List, [], Option, None, find}
+use Rattle.std.specs.Prelude.{ℕ, Bool, ◌&&◌, ◌==◌, List, [], ◌∷◌, Option, Some, None, find, if◌then◌else◌}
 use Rattle.std.specs.List.{list_any}
 use Rattle.roc_base.specs.declared.id.TxnId.{TxnId}
 use Rattle.roc_base.specs.declared.node.Shard.{Shard}
@@ -12,14 +12,19 @@ use Rattle.roc_msg.specs.Outbox.{Collected}
 use Rattle.roc_msg.specs.declared.reason.Reason.{Reason}
 use Rattle.roc_rows.specs.Store.{Store}
 use Rattle.roc_server.specs.declared.handled.Handled.{Handled}
-use Rattle.roc_server.specs.declared.handled.Handled.TheVariants.{Done, Ignored, Gone}
+use Rattle.roc_server.specs.declared.handled.Handled.TheVariants.{Done, Ignored}
 use Rattle.roc_server.specs.Below.{raised}
 use Rattle.roc_server.specs.declared.started.StartedGroup.{StartedGroup}
 
--- the dependency lists that a server knows, in the order in which it learnt them; what it asked for, and who asked it
 pub record Lists : Type 0 where
+  -- the dependency lists that a server knows, as it learnt them and in that order
   pub known : List KnownList
+  -- what it follows of each of them: the same, less the entries that are done
+  pub links : List KnownList
+  -- what it asked for, and who asked it
   pub waiting : Waiting
+  -- the components that it has taken and not forgotten, in the order in which it took them, each in its order inside
+  pub taken : List (List TxnId)
 
 pub record ServerState : Type 0 where
   pub shard : Shard
@@ -42,26 +47,32 @@ pub record Serving : Type 0 where
   pub state : ServerState
   pub ahead : Option MadeAhead
 
--- what comes of a message: the answer, the state after it, what is sent, the transactions newly decided, in the order in which they were
--- taken, and the groups that ran, in the order in which they did
+-- what comes of a message: the answer, the state after it, what is sent, the components newly decided, as they were taken, and the
+-- transactions in them, one after another, and the groups that ran, in the order in which they did
 pub record ServerStep : Type 0 where
   pub answer : Handled
   pub state : ServerState
   pub sends : List Outgoing
+  pub components : List (List TxnId)
   pub decided : List TxnId
   pub ran : List StartedGroup
 
+-- a message of which nothing comes but its answer
+abbrev pub refused : ServerState → Handled → ServerStep
+refused s answer = record { answer = answer; state = s; sends = []; components = []; decided = []; ran = [] }
+
 -- an ignored message changes nothing and sends nothing
 abbrev pub ignored : ServerState → Reason → ServerStep
-ignored s reason = record { answer = Ignored reason; state = s; sends = []; decided = []; ran = [] }
-
--- a message that comes too late to change or send anything but a watermark
-abbrev pub gone : ServerState → ServerStep
-gone s = record { answer = Gone; state = s; sends = []; decided = []; ran = [] }
+ignored s reason = refused s (Ignored reason)
 
 -- a message that changes nothing, and what is sent
 abbrev pub answered : ServerState → List Outgoing → ServerStep
-answered s sends = record { answer = Done; state = s; sends = sends; decided = []; ran = [] }
+answered s sends = record { answer = Done; state = s; sends = sends; components = []; decided = []; ran = [] }
+
+-- the first answer whose condition holds
+abbrev pub first_answer : List (Bool × Handled) → Option Handled
+first_answer [] = None
+first_answer (c ∷ cs) = if c.0 then Some c.1 else first_answer cs
 
 -- the watermark of a coordinator is heard
 abbrev pub hearing : ServerState → (coord mark : ℕ) → ServerState

@@ -4,14 +4,18 @@ ghost use Rattle.roc_base.specs.TxnId.{is_txn};
 ghost use Rattle.roc_base.specs.declared.node.Shard.{Shard as At};
 ghost use Rattle.roc_msg.specs.Facts.{AreFacts};
 ghost use Rattle.roc_sequence.specs.Places.{is_listed};
+ghost use Rattle.roc_msg.specs.declared.reason.Reason.TheVariants.{NotHere};
+ghost use Rattle.roc_server.specs.Below.{is_ended};
 ghost use Rattle.roc_server.specs.Fits.{AreGroupsOf};
+ghost use Rattle.roc_server.specs.declared.handled.Handled.TheVariants.{Gone, Ignored};
 ghost use Rattle.roc_server.specs.Inner.Planned.{after, IsPlannedFrom};
 ghost use Rattle.roc_server.specs.Inner.ServerData.{state_of, IsConsistent, IsSame};
 ghost use Rattle.roc_server.specs.Inner.Taught.{Commits, Knows};
-ghost use Rattle.roc_server.specs.Lists.{commit_fault, known_fault};
+ghost use Rattle.roc_server.specs.Lists.{commit_refusal, known_refusal};
 
 use crate::Handled;
 use crate::groups::is_here;
+use crate::marks::Marks;
 use crate::missing::was_asked_for;
 use crate::planned::{Planned, nothing};
 use crate::server_data::ServerData;
@@ -42,11 +46,11 @@ pub(crate) fn plan_commit(
     ensures planned { IfOk result (λ p. IsPlannedFrom kept.old kept.new p.change) }
     ensures err { OnErr result (IsSame kept.old kept.new) }
 {
-    if let Some(reason) = commit_fault(kept, id, edges, facts) {
-        return Ok(nothing(Handled::Ignored(reason)));
+    if let Some(answer) = commit_refusal(kept, id, edges, facts) {
+        return Ok(nothing(answer));
     }
     let again = if_decided(&kept.decided, id);
-    let news = news_of_commit(alloc, &kept.deps, id, edges, facts)?;
+    let news = news_of_commit(alloc, &kept.known, id, edges, facts)?;
     plan_lists(alloc, plan, shard, kept, news, again, sends)
 }
 
@@ -67,10 +71,10 @@ pub(crate) fn plan_known(
     ensures planned { IfOk result (λ p. IsPlannedFrom kept.old kept.new p.change) }
     ensures err { OnErr result (IsSame kept.old kept.new) }
 {
-    if let Some(reason) = known_fault(kept, id, edges) {
-        return Ok(nothing(Handled::Ignored(reason)));
+    if let Some(answer) = known_refusal(kept, id, edges) {
+        return Ok(nothing(answer));
     }
-    let news = news_of_known(alloc, &kept.deps, id, edges)?;
+    let news = news_of_known(alloc, &kept.known, id, edges)?;
     plan_lists(alloc, plan, shard, kept, news, None, sends)
 }
 
@@ -84,28 +88,43 @@ fn if_decided(decided: &Decided, id: TxnId) -> Option<TxnId>
     None
 }
 
-// Why a commit is ignored, where it is.
-fn commit_fault(kept: &ServerData, id: TxnId, edges: &Edges, facts: &[KnownList]) -> Option<Reason>
-    ensures { (shard : At) → result ≡ commit_fault (state_of shard kept.now) id edges.now facts.now }
+// What a commit is answered that is not taken.
+fn commit_refusal(
+    kept: &ServerData,
+    id: TxnId,
+    edges: &Edges,
+    facts: &[KnownList],
+) -> Option<Handled>
+    ensures { (shard : At) → result ≡ commit_refusal (state_of shard kept.now) id edges.now facts.now }
 {
     if !is_here(&kept.started, id) {
-        return Some(Reason::NotHere);
+        return Some(too_late(&kept.marks, id));
     }
-    if commit_differs(&kept.deps, id, edges, facts) {
-        return Some(Reason::Differs);
+    if commit_differs(&kept.known, id, edges, facts) {
+        return Some(Handled::Ignored(Reason::Differs));
     }
     None
 }
 
-// Why an answer to a fetch is ignored, where it is.
-fn known_fault(kept: &ServerData, id: TxnId, edges: &Edges) -> Option<Reason>
-    ensures { (shard : At) → result ≡ known_fault (state_of shard kept.now) id edges.now }
+// What an answer to a fetch is answered, where it is not taken.
+fn known_refusal(kept: &ServerData, id: TxnId, edges: &Edges) -> Option<Handled>
+    ensures { (shard : At) → result ≡ known_refusal (state_of shard kept.now) id edges.now }
 {
     if !was_asked_for(&kept.waits, id) {
-        return Some(Reason::NotHere);
+        return Some(too_late(&kept.marks, id));
     }
-    if is_unlike(&kept.deps, id, edges) {
-        return Some(Reason::Differs);
+    if is_unlike(&kept.known, id, edges) {
+        return Some(Handled::Ignored(Reason::Differs));
     }
     None
+}
+
+// What a message of a transaction that is not here is answered: it comes too late where that is ended.
+fn too_late(marks: &Marks, id: TxnId) -> Handled
+    ensures { result ≡ (if is_ended marks.now id then Gone else Ignored NotHere) }
+{
+    if marks.is_ended(id) {
+        return Handled::Gone;
+    }
+    Handled::Ignored(Reason::NotHere)
 }

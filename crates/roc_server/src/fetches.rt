@@ -1,5 +1,12 @@
 //! Fetches.
-ghost use Rattle.std.specs.Prelude.{◌≡◌, IfOk, OnErr};
+ghost use Rattle.std.specs.Prelude.{◌≡◌, ◌∷◌, [], if◌then◌else◌, IfOk, OnOk, OnErr};
+ghost use Rattle.roc_base.specs.declared.node.Node.TheVariants.{Server};
+ghost use Rattle.roc_msg.specs.Outbox.{HasSent, HoldsSame};
+ghost use Rattle.roc_msg.specs.declared.msg.Msg.TheVariants.{Settled};
+ghost use Rattle.roc_msg.specs.declared.reason.Reason.TheVariants.{NotHere};
+ghost use Rattle.roc_server.specs.Below.{is_ended, mark_of};
+ghost use Rattle.roc_server.specs.declared.handled.Handled.TheVariants.{Done, Ignored};
+ghost use Rattle.roc_server.specs.declared.planned.Change.TheVariants.{Nothing};
 ghost use Rattle.roc_server.specs.Inner.Planned.{after, IsPlannedFrom};
 ghost use Rattle.roc_server.specs.Inner.ServerData.{state_of, IsConsistent, IsSame};
 ghost use Rattle.roc_server.specs.Lists.{after_fetch};
@@ -7,11 +14,12 @@ ghost use Rattle.roc_server.specs.Step.{Shows};
 
 use crate::Handled;
 use crate::groups::is_here;
+use crate::marks::Marks;
 use crate::planned::{Change, Planned, nothing};
 use crate::server_data::ServerData;
 use roc_await::Asker;
-use roc_base::{NoMemory, Shard, TxnId};
-use roc_msg::{Outbox, Reason};
+use roc_base::{NoMemory, Node, Shard, TxnId};
+use roc_msg::{Msg, Outbox, Reason};
 use roc_server_lists::send_known;
 
 // Plans the answer to a fetch, or ignores it.
@@ -29,9 +37,9 @@ pub(crate) fn plan_fetch(
     ensures err { OnErr result (IsSame kept.old kept.new) }
 {
     if !is_here(&kept.started, id) {
-        return Ok(nothing(Handled::Ignored(Reason::NotHere)));
+        return plan_absent(&kept.marks, id, asker, sends);
     }
-    match kept.deps.list(id) {
+    match kept.known.list(id) {
         Some(edges) => {
             send_known(asker, id, edges, sends)?;
             Ok(nothing(Handled::Done))
@@ -44,4 +52,24 @@ pub(crate) fn plan_fetch(
             })
         }
     }
+}
+
+// Answers for a transaction without a group here: nobody has to wait for one that is ended, and else it is not here.
+fn plan_absent(
+    marks: &Marks,
+    id: TxnId,
+    asker: Shard,
+    sends: &mut Outbox,
+) -> Result<Planned, NoMemory>
+    ensures change { IfOk result (λ p. p.change ≡ Nothing) }
+    ensures answer { IfOk result (λ p. p.answer ≡ (if is_ended marks.now id then Done else Ignored NotHere)) }
+    ensures sent { OnOk result (HasSent sends.old sends.new (if is_ended marks.now id then (record { to = Server asker; msg = Settled id (mark_of marks.now id.coord) }) ∷ [] else [])) }
+    ensures err { OnErr result (HoldsSame sends.old sends.new) }
+{
+    if !marks.is_ended(id) {
+        return Ok(nothing(Handled::Ignored(Reason::NotHere)));
+    }
+    let below = marks.of(id.coord);
+    sends.send(Node::Server(asker), Msg::Settled { id, below })?;
+    Ok(nothing(Handled::Done))
 }

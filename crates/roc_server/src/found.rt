@@ -1,44 +1,56 @@
 //! What comes of lists that were learnt: it is found before anything else changes, and kept when nothing can fail any more.
 ghost use Rattle.std.specs.Prelude.{◌≡◌, IfOk, OnOk};
+ghost use Rattle.std.specs.List.Sorted.{IsStrictlySortedBy};
+ghost use Rattle.roc_base.specs.TxnId.{txn_cmp};
 ghost use Rattle.roc_server.specs.Inner.Indexed.{AreGroupRefsOf};
 ghost use Rattle.roc_server.specs.Inner.Taught.{Finds, HasRoomToKeep, IsLearning, KeepsBesideRuns, KeepsFound};
 
 use crate::indexed::take_out;
+use crate::learning::Named;
 use crate::missing::missing_from;
 use crate::server_data::ServerData;
+use crate::taken::push_members;
 use roc_await::{NextLacks, OpenFetch};
 use roc_base::{NoMemory, TxnId};
 use roc_depgraph::KnownList;
+use roc_sequence::Sequence;
 use roc_server_ancestors::NextRows;
-use roc_server_lists::{ids_of_news, newly_decided, wait_for};
+use roc_server_lists::{ids_of_news, newly_taken, wait_for};
 use std::alloc::Global;
 
-// What is missing, what the others lack then, what becomes decided, in component order, and the least of its ancestors.
+// What is missing, what the others lack then, the components that become decided, as they are taken, the transactions in them,
+// one after another, and the least of their ancestors.
 #[derive(Drop)]
 pub(crate) struct Found {
     pub asks: Vec<OpenFetch>,
     pub lacks: NextLacks,
+    pub components: Vec<Sequence<TxnId>>,
     pub ids: Vec<TxnId>,
     pub rows: NextRows,
 }
 
-// Finds what comes of these lists, which were learnt last.
+// Finds what comes of these lists, which were learnt last, and name this.
 pub(crate) fn find_all(
     alloc: Global,
     kept: &ServerData,
     news: &[KnownList],
+    named: &Named,
 ) -> Result<Found, NoMemory>
-    requires { IsLearning kept.now news.now }
-    ensures { IfOk result (Finds kept.now news.now) }
+    requires learning { IsLearning kept.now news.now }
+    requires rising { IsStrictlySortedBy txn_cmp named.now.done.items }
+    ensures { IfOk result (Finds kept.now named.now) }
 {
-    let asks = missing_from(alloc, news, &kept.deps, &kept.started, &kept.waits)?;
+    let asks = missing_from(alloc, kept, named.edges.as_slice(), &named.done)?;
     let of_news = ids_of_news(alloc, news)?;
-    let lacks = kept.lacks.ready(&kept.deps, &of_news)?;
-    let ids = newly_decided(alloc, &kept.deps, lacks.decided())?;
-    let rows = kept.ancestors.ready(&kept.deps, &ids)?;
+    let lacks = kept.lacks.ready(&kept.links, &of_news)?;
+    let components = newly_taken(alloc, &kept.links, lacks.decided())?;
+    let mut ids = Vec::new(alloc);
+    push_members(&components, &mut ids)?;
+    let rows = kept.ancestors.ready(&kept.links, &ids)?;
     Ok(Found {
         asks,
         lacks,
+        components,
         ids,
         rows,
     })
@@ -53,7 +65,8 @@ pub(crate) fn make_room(kept: &mut ServerData, found: &Found) -> Result<(), NoMe
 {
     kept.waits.reserve(found.asks.len())?;
     kept.ancestors.reserve(found.rows.len())?;
-    kept.decided.reserve(found.ids.len())
+    kept.decided.reserve(found.ids.len())?;
+    kept.taken.reserve(found.components.len())
 }
 
 // Keeps what was found of these lists. There is room for it.
@@ -65,6 +78,7 @@ pub(crate) fn keep_found(kept: &mut ServerData, news: &[KnownList], found: Found
     let Found {
         asks,
         lacks,
+        components,
         ids,
         rows,
     } = found;
@@ -73,4 +87,5 @@ pub(crate) fn keep_found(kept: &mut ServerData, news: &[KnownList], found: Found
     kept.ancestors.take(rows).unwrap();
     take_out(&mut kept.index, &kept.started, &ids);
     kept.decided.take(&ids).unwrap();
+    kept.taken.add(components);
 }

@@ -7,7 +7,7 @@ use roc_msg::Reason;
 pub enum Handled {
     /// It was taken.
     Done,
-    /// It came too late: nothing was sent, and nothing changed but that a watermark may have risen.
+    /// It came too late: nothing was sent, and nothing changed but what comes of a watermark that it told.
     Gone,
     /// It was ignored: nothing changed and nothing was sent.
     Ignored(Reason),

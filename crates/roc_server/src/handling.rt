@@ -7,7 +7,7 @@ ghost use Rattle.roc_server.specs.Fits.{AreGroupsOf};
 ghost use Rattle.roc_server.specs.Inner.AtOnce.{at_once};
 ghost use Rattle.roc_server.specs.Inner.Planned.{after, before, serving, IsHeld, IsPlanned};
 ghost use Rattle.roc_server.specs.Inner.ServerData.{state_of, IsConsistent};
-ghost use Rattle.roc_server.specs.State.{hearing, ServerState, ServerStep};
+ghost use Rattle.roc_server.specs.State.{ServerState, ServerStep};
 ghost use Rattle.roc_server.specs.Step.{Handles, Shows};
 
 use crate::Handled;
@@ -43,7 +43,7 @@ pub(crate) fn handle(
 {
     if !needs_room(msg) {
         let_go(kept, ahead);
-        return Ok(take_at_once(kept, msg));
+        return Ok(foreign());
     }
     if is_made(ahead, msg) {
         return take_made(kept, ahead, outbox);
@@ -72,7 +72,7 @@ pub(crate) fn ready(
     ensures held { IsHeld kept.new ahead.new }
 {
     if !needs_room(msg) {
-        return Ok(answer_at_once(msg));
+        return Ok(foreign());
     }
     make_once(alloc, plan, shard, kept, ahead, msg)?;
     make_room(ahead, outbox)
@@ -107,7 +107,12 @@ fn needs_room(msg: &Msg) -> bool
     ensures { result ≡ needs_room msg.now }
 {
     match msg {
-        Msg::Start { .. } | Msg::Commit { .. } | Msg::Fetch { .. } | Msg::Known { .. } => true,
+        Msg::Start { .. }
+        | Msg::Commit { .. }
+        | Msg::Fetch { .. }
+        | Msg::Known { .. }
+        | Msg::Ended { .. }
+        | Msg::Settled { .. } => true,
         _ => false,
     }
 }
@@ -136,39 +141,11 @@ fn let_go(kept: &mut ServerData, ahead: &mut Option<Ahead>)
     }
 }
 
-// Takes a message of a kind that takes no memory, or ignores it.
-fn take_at_once(kept: &mut ServerData, msg: &Msg) -> Handled
-    requires { IsConsistent kept.old }
-    ensures answer { (s : ServerState) → (at_once s msg.now).answer ≡ result }
-    ensures state { needs_room msg.now ≡ false → (shard : At) → (at_once (state_of shard kept.old) msg.now).state ≡ state_of shard kept.new }
-    ensures sound { IsConsistent kept.new }
+// What a message is answered that no server takes. Such a message takes no memory.
+fn foreign() -> Handled
+    ensures { (s : ServerState) → (at_once s).answer ≡ result }
 {
-    match msg {
-        Msg::Ended { coord, below } => hear(kept, *coord, *below),
-        Msg::Settled { id, below } => hear(kept, id.coord, *below),
-        _ => {}
-    }
-    answer_at_once(msg)
-}
-
-// What it is answered.
-fn answer_at_once(msg: &Msg) -> Handled
-    ensures { (s : ServerState) → (at_once s msg.now).answer ≡ result }
-{
-    match msg {
-        Msg::Ended { .. } => Handled::Done,
-        Msg::Settled { .. } => Handled::Gone,
-        _ => Handled::Ignored(Reason::Foreign),
-    }
-}
-
-// Hears the watermark of a coordinator.
-fn hear(kept: &mut ServerData, coord: u16, mark: u32)
-    requires { IsConsistent kept.old }
-    ensures heard { (shard : At) → state_of shard kept.new ≡ hearing (state_of shard kept.old) coord mark }
-    ensures sound { IsConsistent kept.new }
-{
-    kept.marks.raise(coord, mark);
+    Handled::Ignored(Reason::Foreign)
 }
 
 // Takes what was made ahead.

@@ -1,6 +1,6 @@
 //! The watermarks of coordinators.
 ghost use Rattle.std.specs.Prelude.{◌≡◌};
-ghost use Rattle.roc_server.specs.Below.{none_below, is_ended, raised};
+ghost use Rattle.roc_server.specs.Below.{none_below, is_ended, mark_of, raised};
 
 use roc_base::TxnId;
 use std::marker::Model;
@@ -29,13 +29,25 @@ impl Marks {
         Marks { below: [0; 16] }
     }
 
-    // A coordinator told this watermark. One past the last coordinator is not kept, and one that is not higher changes nothing.
-    pub(crate) fn raise(&mut self, coord: u16, mark: u32)
-        ensures { self.new ≡ raised self.old coord mark }
+    // What they are once a coordinator has told this watermark. One past the last coordinator is not kept, and one that is not higher changes nothing.
+    pub(crate) fn raised(&self, coord: u16, mark: u32) -> Marks
+        ensures { result ≡ raised self.now coord mark }
     {
         let at = usize::from(coord);
+        let mut below = self.below;
         if at < 16 {
-            self.below[at] = self.below[at].max(mark);
+            below[at] = below[at].max(mark);
+        }
+        Marks { below }
+    }
+
+    // The watermark of a coordinator, 0 where none was heard.
+    pub(crate) fn of(&self, coord: u16) -> u32
+        ensures { result ≡ mark_of self.now coord }
+    {
+        match self.below.get(usize::from(coord)) {
+            Some(mark) => *mark,
+            None => 0,
         }
     }
 

@@ -4,7 +4,10 @@ ghost use Rattle.roc_server.specs.declared.planned.Change.TheVariants.{Nothing};
 
 use crate::Handled;
 use crate::found::Found;
+use crate::left::Left;
+use crate::marks::Marks;
 use crate::runs::Earlier;
+use crate::settled::Settling;
 use crate::started::StartedGroup;
 use roc_await::Asker;
 use roc_depgraph::KnownList;
@@ -15,6 +18,21 @@ pub(crate) struct Lesson {
     pub news: Vec<KnownList>,
     pub found: Found,
     // What the groups that ran had given before.
+    pub earlier: Vec<Earlier>,
+    pub left: Option<Left>,
+}
+
+// A watermark that is heard.
+#[derive(Drop)]
+pub(crate) struct Heard {
+    pub marks: Marks,
+    pub left: Option<Left>,
+}
+
+// A transaction for which nobody has to wait any more: behind a savepoint of the cells what it decides has run.
+#[derive(Drop)]
+pub(crate) struct Settlement {
+    pub found: Settling,
     pub earlier: Vec<Earlier>,
 }
 
@@ -27,6 +45,8 @@ pub(crate) enum Change {
     // A group starts: behind a savepoint of the cells an immediate one has run.
     Group(StartedGroup),
     Lists(Lesson),
+    Marks(Heard),
+    Settled(Settlement),
 }
 
 // What is answered, and what is to change.

@@ -7,10 +7,12 @@ ghost use Rattle.roc_server.specs.Inner.ServerData.{state_of, IsConsistent, IsSa
 ghost use Rattle.roc_server.specs.State.{ServerStep};
 ghost use Rattle.roc_server.specs.Step.{Handles, Shows};
 
+use crate::Handled;
 use crate::commits::{plan_commit, plan_known};
 use crate::fetches::plan_fetch;
 use crate::planned::Planned;
 use crate::server_data::ServerData;
+use crate::settled::{plan_ended, plan_settled};
 use crate::starts::{Request, plan_start};
 use roc_base::{NoMemory, Nums, Shard, TxnId};
 use roc_msg::{Msg, Outbox};
@@ -59,6 +61,8 @@ pub(crate) fn plan_message(
         }
         Msg::Fetch { id, asker } => plan_fetch(shard, kept, *id, *asker, sends),
         Msg::Known { id, edges } => plan_known(alloc, plan, shard, kept, *id, edges, sends),
+        Msg::Ended { coord, below } => plan_ended(alloc, kept, *coord, *below, Handled::Done),
+        Msg::Settled { id, below } => plan_settled(alloc, plan, shard, kept, *id, *below, sends),
         _ => unreachable!(),
     }
 }

@@ -59,6 +59,20 @@ pub(crate) fn is_same(a: &Msg, b: &Msg) -> bool
                 edges: other_edges,
             },
         ) => *id == *other && *edges == *other_edges,
+        (
+            Msg::Ended { coord, below },
+            Msg::Ended {
+                coord: other,
+                below: other_below,
+            },
+        ) => *coord == *other && *below == *other_below,
+        (
+            Msg::Settled { id, below },
+            Msg::Settled {
+                id: other,
+                below: other_below,
+            },
+        ) => *id == *other && *below == *other_below,
         _ => false,
     }
 }

@@ -111,7 +111,7 @@ impl Server {
         Ok(handled)
     }
 
-    /// Takes a message, or ignores it for the first reason that holds. What it sends and what it
+    /// Takes a message, finds that it came too late, or ignores it for the first reason that holds. What it sends and what it
     /// newly decides is added to `outbox`. `NoMemory` leaves the state and what `outbox` holds as
     /// they were, so the same call may be made again; it does not come where the room is there ([`Server::ready`]). Nothing is made
     /// ahead then.
@@ -157,10 +157,10 @@ impl Server {
         }
     }
 
-    /// Whether a transaction is decided here: its dependency list and those of all its ancestors
-    /// are known. Takes no memory.
+    /// Whether a transaction is decided here: its dependency list and those of all its ancestors are known, by the entries that are
+    /// followed. One that was forgotten is not. Takes no memory.
     pub fn decided(&self, id: TxnId) -> bool
-        ensures { IsTrue result ↔ IsDecided self.now.state.lists.known id }
+        ensures { IsTrue result ↔ IsDecided self.now.state.lists.links id }
     {
         self.kept.decided.contains(id)
     }
@@ -184,9 +184,9 @@ impl Server {
         steps: &mut Steps<L>,
     ) -> Result<Edges, NoMemory>
         requires fits { ServerFits plan.now self.now.state }
-        ensures entries { IfOk result (λ edges. (left_out : List Id) → AreDecided self.now.state.lists.known left_out
+        ensures entries { IfOk result (λ edges. (left_out : List Id) → AreDecided self.now.state.lists.links left_out
             → edges ≡ entries_for plan.now left_out self.now.state id (is_immediate class) cells.now) }
-        ensures steps { (left_out : List Id) → AreDecided self.now.state.lists.known left_out
+        ensures steps { (left_out : List Id) → AreDecided self.now.state.lists.links left_out
             → steps.new ≤ steps.old + length (users plan.now left_out (is_immediate class) cells.now self.now.state.started) }
     {
         let starting = Starting {
@@ -202,7 +202,7 @@ impl Server {
     /// waits here, for an auditor.
     pub fn waiting(&self, plan: &Plan) -> Result<Vec<Waiting>, NoMemory>
         requires fits { ServerFits plan.now self.now.state }
-        ensures { IfOk result (λ groups. (decided : List Id) → AreDecided self.now.state.lists.known decided → groups.items ≡ waiting_groups plan.now decided self.now.state) }
+        ensures { IfOk result (λ groups. (decided : List Id) → AreDecided self.now.state.lists.links decided → groups.items ≡ waiting_groups plan.now decided self.now.state) }
     {
         all_waiting(self.alloc, plan, &self.kept)
     }
@@ -237,8 +237,8 @@ fn cells_before_change(rows: &Rows, change: &Change) -> Result<Vec<(Cell, i64)>,
     ensures { IfOk result (λ cells. (kept : ServerData) → kept.rows ≡ rows.now → cells.items ≡ entries (before kept change.now).rows.store) }
 {
     match change {
-        Change::Nothing | Change::Asker(_) => rows.nonzero(),
-        Change::Group(_) | Change::Lists(_) => rows.nonzero_saved(),
+        Change::Nothing | Change::Asker(_) | Change::Marks(_) => rows.nonzero(),
+        Change::Group(_) | Change::Lists(_) | Change::Settled(_) => rows.nonzero_saved(),
     }
 }
 

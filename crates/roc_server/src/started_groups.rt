@@ -1,7 +1,9 @@
 //! The groups that have started on a server, found by their transactions and numbers.
-ghost use Rattle.std.specs.Prelude.{◌≡◌, ◌<◌, ◌≤◌, ◌++◌, ◌∷◌, [], length, map, position, slice_get, slice_set, None, Some, OnOk};
+ghost use Rattle.std.specs.Prelude.{◌≡◌, ◌<◌, ◌≤◌, ◌++◌, ◌∷◌, [], length, not, map, filter, position, slice_get, slice_set, None, Some, OnOk};
 ghost use Rattle.indexmap.specs.IndexMap.{keys, values, index_map_len, spare};
-ghost use Rattle.roc_base.specs.TxnId.{is_txn};
+ghost use Rattle.std.specs.List.Sorted.{IsStrictlySortedBy};
+ghost use Rattle.roc_base.specs.TxnId.{is_txn, txn_cmp};
+ghost use Rattle.roc_sequence.specs.Places.{is_listed};
 ghost use Rattle.roc_server.specs.declared.started.StartedGroup.{StartedGroup as Group};
 ghost use Rattle.roc_server.specs.Inner.Keyed.{AreBelow, AreKeyed, IsOnceHere, key_of, lesser};
 ghost use Rattle.roc_server.specs.State.{find_group, is_group};
@@ -10,6 +12,7 @@ use crate::StartedGroup;
 use crate::group_key::GroupKey;
 use indexmap::IndexMap;
 use roc_base::{NoMemory, Nums, TxnId};
+use roc_depgraph::is_among_rising;
 use std::alloc::Global;
 use std::marker::Model;
 
@@ -75,6 +78,14 @@ impl StartedGroups {
         put(&mut self.groups, &mut self.numbers, group);
     }
 
+    // Forgets the groups of these transactions, which rise.
+    pub(crate) fn forget(&mut self, ids: &[TxnId])
+        requires { IsStrictlySortedBy txn_cmp ids.now }
+        ensures { self.new.groups ≡ filter (λ e. not (is_listed is_txn ids.now e.id)) self.old.groups }
+    {
+        keep_others(&mut self.groups, ids);
+    }
+
     // Where a group of a transaction stands.
     pub(crate) fn place(&self, id: TxnId, number: usize) -> Option<usize>
         ensures place { result ≡ position (is_group id number) self.now.groups }
@@ -117,6 +128,14 @@ fn put(groups: &mut IndexMap<GroupKey, StartedGroup>, numbers: &mut usize, group
     if *numbers <= number {
         *numbers = number + 1;
     }
+}
+
+// The groups of other transactions than these, which rise, stay.
+fn keep_others(groups: &mut IndexMap<GroupKey, StartedGroup>, ids: &[TxnId])
+    requires { IsStrictlySortedBy txn_cmp ids.now }
+    ensures entries { groups.new.entries ≡ filter (λ e. not (is_listed is_txn ids.now e.0.id)) groups.old.entries }
+{
+    groups.retain(|key, _| !is_among_rising(ids, key.id));
 }
 
 // The lesser of two places, where there are two.

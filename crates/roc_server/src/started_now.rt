@@ -116,7 +116,7 @@ pub(crate) fn new_group(
     requires fits { AreGroupsOf plan.now kept.old.started.groups }
     requires once { NoneTwice is_same_group kept.old.started.groups }
     requires index { IsIndexOf kept.old.index kept.old.decided.ids kept.old.started.groups }
-    requires rows { AreRows kept.old.deps kept.old.ancestors.rows }
+    requires rows { AreRows kept.old.links kept.old.ancestors.rows }
     ensures new { IfOk result (λ e. IsNewGroup plan.now shard kept.old kept.new request.id (asked request) e) }
     ensures beside { KeepsBeside kept.old kept.new }
     ensures saved { kept.new.rows.saved ≡ kept.old.rows.saved }
@@ -143,7 +143,13 @@ pub(crate) fn new_group(
     };
     let blank = Blank::new(1);
     let edges = edges_for::<Brand>(alloc, plan, kept, starting, cells.as_slice(), blank)?;
-    let facts = facts_for(alloc, &kept.deps, &kept.ancestors, edges.as_slice())?;
+    let facts = facts_for(
+        alloc,
+        &kept.known,
+        &kept.links,
+        &kept.ancestors,
+        edges.as_slice(),
+    )?;
     let Known { args, inputs } = known;
     Ok(StartedGroup {
         id,

@@ -1,5 +1,5 @@
 //! Starts.
-ghost use Rattle.std.specs.Prelude.{◌≡◌, ◌∷◌, [], ◌<◌, length, None, false, if◌then◌else◌, IfOk, OnOk, OnErr};
+ghost use Rattle.std.specs.Prelude.{◌≡◌, ◌∷◌, [], ◌<◌, length, None, false, is_none, if◌then◌else◌, IfOk, OnOk, OnErr};
 ghost use Rattle.roc_depgraph.specs.Deps.{is_known};
 ghost use Rattle.roc_msg.specs.Outbox.{HasSent, HasRun, HoldsSame};
 ghost use Rattle.roc_group.specs.GroupRun.{call};
@@ -10,7 +10,8 @@ ghost use Rattle.roc_server.specs.Inner.Planned.{after, IsPlannedFrom};
 ghost use Rattle.roc_server.specs.Inner.ServerData.{state_of, asked, IsConsistent, IsSame};
 ghost use Rattle.roc_server.specs.Inner.Starts.{IsNewGroup, KeepsBeside, StartTaken, StartsNew, TellsStart};
 ghost use Rattle.roc_server.specs.Runs.{accesses_of};
-ghost use Rattle.roc_server.specs.Start.{has_counts, start_fault, startok_of};
+ghost use Rattle.roc_server.specs.Inner.Starts.{start_fault};
+ghost use Rattle.roc_server.specs.Start.{has_counts, start_refusal, startok_of};
 ghost use Rattle.roc_server.specs.State.{find_group};
 
 use crate::groups::{differs, find_group};
@@ -50,8 +51,8 @@ pub(crate) fn plan_start(
     ensures planned { IfOk result (λ p. IsPlannedFrom kept.old kept.new p.change) }
     ensures err { OnErr result (IsSame kept.old kept.new) }
 {
-    if let Some(reason) = start_fault(plan, shard, kept, &request) {
-        return Ok(nothing(Handled::Ignored(reason)));
+    if let Some(answer) = start_refusal(plan, shard, kept, &request) {
+        return Ok(nothing(answer));
     }
     match find_group(&kept.started, request.id, request.group) {
         Some(earlier) => {
@@ -73,7 +74,7 @@ fn plan_new(
 ) -> Result<Planned, NoMemory>
     requires call { IsCallOf plan.now (asked request) }
     requires absent { find_group request.id request.group kept.old.started.groups ≡ None }
-    requires unknown { is_known kept.old.deps request.id ≡ false }
+    requires unknown { is_known kept.old.known request.id ≡ false }
     requires fits { AreGroupsOf plan.now kept.old.started.groups }
     requires sound { IsConsistent kept.old }
     ensures step { IfOk result (λ p. StartsNew plan.now shard kept.old (after shard kept.new p.change) sends.old sends.new request.id (asked request) p.answer) }
@@ -145,8 +146,30 @@ fn note_if_immediate(plan: &Plan, group: &StartedGroup, sends: &mut Outbox) -> R
     Ok(())
 }
 
+// What a start is answered that is not taken: it comes too late, or is ignored for the first reason that holds.
+fn start_refusal(plan: &Plan, shard: Shard, kept: &ServerData, request: &Request) -> Option<Handled>
+    ensures answer { result ≡ start_refusal plan.now (state_of shard kept.now) request.now.id (asked request.now) }
+    ensures fits { result ≡ None → IsCallOf plan.now (asked request.now) }
+{
+    let is_new = find_group(&kept.started, request.id, request.group).is_none();
+    if is_new && kept.marks.is_ended(request.id) {
+        return Some(Handled::Gone);
+    }
+    match start_fault(plan, shard, kept, request, is_new) {
+        Some(reason) => Some(Handled::Ignored(reason)),
+        None => None,
+    }
+}
+
 // Why a start is ignored, where it is: the first reason that holds.
-fn start_fault(plan: &Plan, shard: Shard, kept: &ServerData, request: &Request) -> Option<Reason>
+fn start_fault(
+    plan: &Plan,
+    shard: Shard,
+    kept: &ServerData,
+    request: &Request,
+    is_new: bool,
+) -> Option<Reason>
+    requires { is_new ≡ is_none (find_group request.now.id request.now.group kept.now.started.groups) }
     ensures reason { result ≡ start_fault plan.now (state_of shard kept.now) request.now.id (asked request.now) }
     ensures fits { result ≡ None → IsCallOf plan.now (asked request.now) }
 {
@@ -163,7 +186,7 @@ fn start_fault(plan: &Plan, shard: Shard, kept: &ServerData, request: &Request) 
     if plan.shard_of(plan.place(proc, group, &request.known)) != shard {
         return Some(Reason::NotHere);
     }
-    if kept.deps.list(id).is_some() && find_group(&kept.started, id, group).is_none() {
+    if is_new && kept.known.list(id).is_some() {
         return Some(Reason::Late);
     }
     if differs(&kept.started, id, proc, &request.known.args) {

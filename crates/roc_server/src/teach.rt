@@ -1,19 +1,25 @@
 //! Lists that are new are taught.
-ghost use Rattle.std.specs.Prelude.{◌≡◌, IfOk, OnOk, OnErr};
+ghost use Rattle.std.specs.Prelude.{◌≡◌, ◌++◌, IfOk, OnOk, OnErr};
+ghost use Rattle.std.specs.List.Sorted.{IsStrictlySortedBy};
+ghost use Rattle.roc_base.specs.TxnId.{is_txn, txn_cmp};
 ghost use Rattle.roc_await.specs.Learning.{AreLearnable};
 ghost use Rattle.roc_msg.specs.Outbox.{HasSent};
-ghost use Rattle.roc_sequence.specs.Places.{NoneTwice};
+ghost use Rattle.roc_sequence.specs.Places.{IsListed, NoneTwice};
 ghost use Rattle.roc_server.specs.Fits.{AreGroupsOf};
+ghost use Rattle.roc_server.specs.Inner.Left.{IsOver};
 ghost use Rattle.roc_server.specs.Inner.Runs.{restored};
+ghost use Rattle.roc_server_lists.specs.New.{AreNewTaken};
 ghost use Rattle.roc_server.specs.declared.handled.Handled.TheVariants.{Done};
 ghost use Rattle.roc_server.specs.declared.planned.Change.TheVariants.{Lists};
 ghost use Rattle.roc_server.specs.Inner.Planned.{after, IsPlannedFrom};
 ghost use Rattle.roc_server.specs.Inner.ServerData.{is_same_group, IsConsistent, IsSame};
-ghost use Rattle.roc_server.specs.Inner.Taught.{all_told, own_again, Acts, Finds, IsLearning, KeepsBesideRuns, RunsDecided, Teaches};
+ghost use Rattle.roc_server.specs.Inner.Taught.{all_told, own_again, Acts, AreListsRight, Finds, IsLearning, KeepsBesideRuns, RunsDecided, Teaches};
 
 use crate::Handled;
 use crate::commitoks::{send_commitok, send_commitoks};
 use crate::found::{Found, find_all, make_room};
+use crate::learning::{Named, learn, unlearn};
+use crate::left::{Left, left_if_over, over_among};
 use crate::planned::{Change, Lesson, Planned};
 use crate::ran::note_all;
 use crate::runs::{Earlier, put_back, run_all};
@@ -24,7 +30,8 @@ use roc_depgraph::KnownList;
 use roc_msg::Outbox;
 use roc_plan::Plan;
 use roc_rows::Rows;
-use roc_server_lists::{forget_news, learn_news, send_fetches, tell_all};
+use roc_sequence::Sequence;
+use roc_server_lists::{send_fetches, tell_all};
 use std::alloc::Global;
 
 // Plans what comes of lists of transactions of which none is known, and of the commitok of `again` that is sent once more.
@@ -39,29 +46,39 @@ pub(crate) fn plan_lists(
 ) -> Result<Planned, NoMemory>
     requires fits { AreGroupsOf plan.now kept.old.started.groups }
     requires sound { IsConsistent kept.old }
-    requires learnable { AreLearnable kept.old.deps news.items }
+    requires learnable { AreLearnable kept.old.known news.items }
     ensures ok { IfOk result (λ p. Teaches plan.now shard kept.old (after shard kept.new p.change) sends.old sends.new news.items again p.answer) }
     ensures planned { IfOk result (λ p. IsPlannedFrom kept.old kept.new p.change) }
     ensures err { OnErr result (IsSame kept.old kept.new) }
 {
-    learn_news(&mut kept.deps, &news)?;
+    let named = learn(alloc, shard, kept, &news)?;
     kept.rows.savepoint();
     let mut earlier = Vec::new(alloc);
-    match plan_learnt(alloc, plan, shard, kept, &news, again, &mut earlier, sends) {
-        Ok(found) => Ok(lesson(news, found, earlier)),
+    match plan_learnt(
+        alloc,
+        plan,
+        shard,
+        kept,
+        &news,
+        &named,
+        again,
+        &mut earlier,
+        sends,
+    ) {
+        Ok((found, left)) => Ok(lesson(news, found, earlier, left)),
         Err(fault) => {
             kept.rows.rollback();
             put_back(&mut kept.started, earlier);
-            forget_news(&mut kept.deps, &news);
+            unlearn(kept, &news);
             Err(fault)
         }
     }
 }
 
-// The lists are to be kept, with what was found of them.
-fn lesson(news: Vec<KnownList>, found: Found, earlier: Vec<Earlier>) -> Planned
+// The lists are to be kept, with what was found of them, and what is left.
+fn lesson(news: Vec<KnownList>, found: Found, earlier: Vec<Earlier>, left: Option<Left>) -> Planned
     ensures answer { result.answer ≡ Done }
-    ensures change { result.change ≡ Lists (record { news = news; found = found; earlier = earlier }) }
+    ensures change { result.change ≡ Lists (record { news = news; found = found; earlier = earlier; left = left }) }
 {
     Planned {
         answer: Handled::Done,
@@ -69,6 +86,7 @@ fn lesson(news: Vec<KnownList>, found: Found, earlier: Vec<Earlier>) -> Planned
             news,
             found,
             earlier,
+            left,
         }),
     }
 }
@@ -80,23 +98,49 @@ fn plan_learnt(
     shard: Shard,
     kept: &mut ServerData,
     news: &[KnownList],
+    named: &Named,
     again: Option<TxnId>,
     earlier: &mut Vec<Earlier>,
     sends: &mut Outbox,
-) -> Result<Found, NoMemory>
+) -> Result<(Found, Option<Left>), NoMemory>
     requires fits { AreGroupsOf plan.now kept.old.started.groups }
     requires learning { IsLearning kept.old news.now }
-    ensures finds { IfOk result (λ found. Finds kept.old news.now found) }
-    ensures acts { IfOk result (λ found. Acts plan.now shard kept.old kept.new sends.old sends.new news.now again found) }
+    requires rising { IsStrictlySortedBy txn_cmp named.now.done.items }
+    requires lists { AreListsRight kept.old }
+    ensures finds { IfOk result (λ p. Finds kept.old named.now p.0) }
+    ensures acts { IfOk result (λ p. Acts plan.now shard kept.old kept.new sends.old sends.new news.now again p.0) }
+    ensures left { IfOk result (λ p. IsOver kept.old.marks (kept.old.taken.components ++ p.0.components.items) kept.old.links p.1) }
     ensures beside { KeepsBesideRuns kept.old kept.new }
     ensures restored { restored earlier.new.items kept.new.started.groups ≡ restored earlier.old.items kept.old.started.groups }
     ensures saved { kept.new.rows.saved ≡ kept.old.rows.saved }
 {
-    let found = find_all(alloc, kept, news)?;
+    let found = find_all(alloc, kept, news, named)?;
+    let left = left_behind(alloc, kept, &found.components)?;
     act_on(
         alloc, plan, shard, kept, news, again, &found, earlier, sends,
     )?;
-    Ok(found)
+    Ok((found, left))
+}
+
+// What is left once those of these components are forgotten that are over. None of those taken before is.
+fn left_behind(
+    alloc: Global,
+    kept: &ServerData,
+    components: &[Sequence<TxnId>],
+) -> Result<Option<Left>, NoMemory>
+    requires lists { AreListsRight kept.now }
+    requires chosen { AreNewTaken (IsListed is_txn kept.now.decided.ids) kept.now.links components.now }
+    ensures { IfOk result (IsOver kept.now.marks (kept.now.taken.components ++ components.now) kept.now.links) }
+{
+    let over = over_among(alloc, &kept.marks, &[], components)?;
+    left_if_over(
+        alloc,
+        &kept.known,
+        &kept.links,
+        kept.taken.as_slice(),
+        components,
+        over,
+    )
 }
 
 // Runs what is decided, gathers all that is sent, and takes the room for what is to be kept.
@@ -132,7 +176,7 @@ fn act_on(
 }
 
 // Takes these, which are newly decided: what is buffered of them runs.
-fn run_decided(
+pub(crate) fn run_decided(
     alloc: Global,
     plan: &Plan,
     ids: &[TxnId],

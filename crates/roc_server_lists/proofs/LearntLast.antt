@@ -1,16 +1,16 @@
 -- Lists that were learnt last and are taken back
-use Rattle.std.proofs.Common.{◌≡◌, ℕ, zero, suc, ◌+◌, ◌<◌, Bool, true, false, cond, not, List, [], ◌∷◌, ◌++◌, Option, Some, None, is_some, filter, length, take, drop, get_or, refl, sym, ap, subst, ◌∙◌, append-nil, append_assoc}
+use Rattle.std.proofs.Common.{◌≡◌, ℕ, zero, suc, ◌+◌, ◌<◌, Bool, true, false, cond, not, List, [], ◌∷◌, ◌++◌, Some, None, is_some, filter, length, take, drop, get_or, refl, sym, ap, subst, ◌∙◌, append-nil, append_assoc, arith}
 use Rattle.std.proofs.lemmas.List.Elements.{filter-append}
 use Rattle.std.proofs.lemmas.Option.{none-some}
 use Rattle.roc_sequence.proofs.Fronts.{rest_at}
 use Rattle.roc_base.specs.declared.id.TxnId.{TxnId}
-use Rattle.roc_base.specs.Edge.{Dependency}
 use Rattle.roc_base.specs.TxnId.{is_txn}
 use Rattle.roc_base.specs.Equalities.{is_txn-same}
 use Rattle.roc_base.proofs.Ids.{is_txn-swap}
 use Rattle.roc_depgraph.specs.declared.known.KnownList.{KnownList}
 use Rattle.roc_depgraph.specs.Deps.{list_of, is_known, IsKnown}
 use Rattle.roc_await.specs.Learning.{AreLearnable}
+use Rattle.roc_server_lists.proofs.SameIds.{ids_of, same_at, as_many}
 
 -- where no list of t is known, none is taken out with it
 none_of : (t : TxnId) (ks : List KnownList) → list_of t ks ≡ None → filter (λ k. not (is_txn k.of t)) ks ≡ ks
@@ -76,20 +76,30 @@ one_back before rest k h =
 abbrev pub IsLearntRest : (deps before rest : List KnownList) → Type 0
 IsLearntRest deps before rest = (deps ≡ before ++ rest) × AreLearnable before rest
 
-module _ (deps before news : List KnownList) (at : ℕ) (k : KnownList) (within : at < length news) (is : k ≡ get_or news at k) (h : IsLearntRest deps before (drop at news)) where
-  rest : drop at news ≡ k ∷ drop (at + 1) news
-  rest = rest_at news at k within ∙ ap (λ x. x ∷ drop (at + 1) news) (sym is)
+-- and these are told by the ids of others
+module _ (deps before linked news : List KnownList) (same : ids_of linked ≡ ids_of news) (at : ℕ) (k : KnownList) (within : at < length news) (is : k ≡ get_or news at k) (h : IsLearntRest deps before (drop at linked)) where
+  abbrev x : KnownList
+  x = get_or linked at k
 
-  deps_are : deps ≡ before ++ k ∷ drop (at + 1) news
+  of : x.of ≡ k.of
+  of = same_at news linked at k same within ∙ ap (λ (v : KnownList). v.of) (sym is)
+
+  rest : drop at linked ≡ x ∷ drop (at + 1) linked
+  rest = let long = as_many news linked same in let there : at < length linked = omega (arith, long, within) in rest_at linked at k there
+
+  deps_are : deps ≡ before ++ x ∷ drop (at + 1) linked
   deps_are = h.0 ∙ ap (λ xs. before ++ xs) rest
 
   pub first_known : IsKnown deps k.of
-  first_known = ap (λ ks. is_known ks k.of) deps_are ∙ behind_known before (drop (at + 1) news) k
+  first_known = subst (IsKnown deps) of (ap (λ ks. is_known ks x.of) deps_are ∙ behind_known before (drop (at + 1) linked) x)
 
-  pub less_one : (new : List KnownList) → new ≡ filter (λ x. not (is_txn x.of k.of)) deps → IsLearntRest new before (drop (at + 1) news)
+  pub less_one : (new : List KnownList) → new ≡ filter (λ y. not (is_txn y.of k.of)) deps → IsLearntRest new before (drop (at + 1) linked)
   less_one new e =
-      let learnable : AreLearnable before (k ∷ drop (at + 1) news) = subst (AreLearnable before) rest h.1 in
-      (e ∙ ap (filter (λ x. not (is_txn x.of k.of))) deps_are ∙ one_back before (drop (at + 1) news) k learnable, subst (λ ks. AreLearnable ks (drop (at + 1) news)) (append-nil before) (fewer before [] k (drop (at + 1) news) learnable.1))
+      let learnable : AreLearnable before (x ∷ drop (at + 1) linked) = subst (AreLearnable before) rest h.1 in
+      let without : TxnId → List KnownList = λ t. filter (λ y. not (is_txn y.of t)) deps in (
+        e ∙ ap without (sym of) ∙ ap (filter (λ y. not (is_txn y.of x.of))) deps_are ∙ one_back before (drop (at + 1) linked) x learnable,
+        subst (λ ks. AreLearnable ks (drop (at + 1) linked)) (append-nil before) (fewer before [] x (drop (at + 1) linked) learnable.1),
+      )
 
 -- the first of lists that can be learnt
 pub front_learnable : (known news : List KnownList) (at : ℕ) → AreLearnable known news → AreLearnable known (take at news)

@@ -1,11 +1,18 @@
 pub mod Added
+pub mod FollowedLinks
+pub mod ForgottenLinks
 pub mod NotOfNews
-pub mod InOrder
 pub mod Learnable
 pub mod Learning
 pub mod LearntLast
+pub mod LeastNaming
+mod KnownEntries
+mod LinksLeft
 mod NewsOfFacts
 mod RisingIds
+pub mod SameIds
 pub mod Skipped
+pub mod TakenNew
 mod ToldFacts
 pub mod Unions
+pub mod WithoutLinks

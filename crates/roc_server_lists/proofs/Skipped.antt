@@ -31,7 +31,7 @@ left_by_third false false c e = ap not e
 -- ---- entries that are left out of a union
 
 -- a test of an entry's transaction alone
-abbrev IsOfId : (Dependency → Bool) → Type 0
+abbrev pub IsOfId : (Dependency → Bool) → Type 0
 IsOfId p = (a b : Dependency) → a.from ≡ b.from → p a ≡ p b
 
 module _ (p : Dependency → Bool) (of_id : IsOfId p) where

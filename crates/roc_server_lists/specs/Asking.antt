@@ -11,6 +11,7 @@ use Rattle.roc_await.specs.declared.waits.Asker.{Asker}
 use Rattle.roc_await.specs.Waits.{Waiting, with_all_asked, askers_of}
 use Rattle.roc_msg.specs.declared.msg.Msg.TheVariants.{Fetch, Known}
 use Rattle.roc_msg.specs.declared.outbox.Outgoing.{Outgoing}
+use Rattle.roc_server_lists.specs.Links.{all_entries, least_naming}
 
 -- a list goes to each that asked for it
 abbrev pub known_to : KnownList → Asker → Outgoing
@@ -19,9 +20,9 @@ known_to k a = record { to = Server a.shard; msg = Known k.of k.edges }
 abbrev pub knowns_for : List Asker → KnownList → List Outgoing
 knowns_for askers k = map (known_to k) (askers_of k.of askers)
 
--- the list that an entry names, with the least shard that saw its transaction
-abbrev pub asked_of : Dependency → OpenFetch
-asked_of d = record { id = d.from; at = d.at }
+-- the list that an entry names, with the least shard that saw its transaction by any known list
+abbrev pub asked_of : List KnownList → Dependency → OpenFetch
+asked_of known d = record { id = d.from; at = record { 0 = least_naming d.from d.at.0 (all_entries known) } }
 
 abbrev pub fetch_from : Shard → OpenFetch → Outgoing
 fetch_from shard a = record { to = Server a.at; msg = Fetch a.id shard }

@@ -1,4 +1,5 @@
 pub mod Carried
+pub mod Links
 pub mod Piggyback
 pub mod Asking
 pub mod New

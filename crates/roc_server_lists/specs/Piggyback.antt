@@ -11,8 +11,8 @@ use Rattle.roc_server_lists.specs.New.{AreLedTo}
 abbrev pub facts_of : List KnownList → List TxnId → List KnownList
 facts_of known ids = fitting (map (λ u. record { of = u; edges = entries_of known u }) ids)
 
--- the known lists of what entries lead to, as many as travel along
-pub record AreFactsFor (known : List KnownList) (edges : List Dependency) (facts : List KnownList) : Type 0 where
+-- the known lists of what entries lead to over what is followed of them, as many as travel along
+pub record AreFactsFor (known links : List KnownList) (edges : List Dependency) (facts : List KnownList) : Type 0 where
   pub reached : List TxnId
-  pub led : AreLedTo known edges reached
+  pub led : AreLedTo links edges reached
   pub are : facts ≡ facts_of known reached

@@ -5,11 +5,12 @@ ghost use Rattle.roc_base.specs.TxnId.{is_txn};
 ghost use Rattle.roc_base.specs.declared.id.TxnId.{TxnId as Id};
 ghost use Rattle.roc_depgraph.specs.Closure.{IsRisingListOf};
 ghost use Rattle.roc_sequence.specs.Places.{IsListed, is_listed};
-ghost use Rattle.roc_server_lists.specs.New.{AreAllNew, AreNew};
+ghost use Rattle.roc_server_lists.specs.New.{AreAllNew, AreNewTaken};
 
 use roc_base::{NoMemory, TxnId};
-use roc_component::order;
+use roc_component::taken_components;
 use roc_depgraph::Deps;
+use roc_sequence::Sequence;
 use std::alloc::Global;
 use std::collections::HashSet;
 use std::marker::Model;
@@ -89,9 +90,14 @@ fn add_all(set: &mut HashSet<TxnId>, ids: &[TxnId])
     }
 }
 
-/// What is decided and was not before, in component order. `NoMemory` comes where there is none for the order.
-pub fn newly_decided(alloc: Global, deps: &Deps, ids: &[TxnId]) -> Result<Vec<TxnId>, NoMemory>
-    ensures { IfOk result (λ ordered. (before : List Id) → AreAllNew (IsListed is_txn before) deps.now ids.now → AreNew (IsListed is_txn before) deps.now ordered.items) }
+/// What is decided and was not before, in the components in which it is taken, in that order. `NoMemory` comes where there is none for
+/// these.
+pub fn newly_taken(
+    alloc: Global,
+    links: &Deps,
+    ids: &[TxnId],
+) -> Result<Vec<Sequence<TxnId>>, NoMemory>
+    ensures { IfOk result (λ components. (before : List Id) → AreAllNew (IsListed is_txn before) links.now ids.now → AreNewTaken (IsListed is_txn before) links.now components.items) }
 {
-    order(alloc, deps, ids)
+    taken_components(alloc, links, ids)
 }

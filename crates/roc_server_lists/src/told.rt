@@ -6,30 +6,33 @@ ghost use Rattle.roc_depgraph.specs.Deps.{entries_of};
 ghost use Rattle.roc_server_ancestors.specs.Least.{AreRows};
 ghost use Rattle.roc_server_lists.specs.Piggyback.{facts_of, AreFactsFor};
 
+use crate::known_lists::KnownLists;
 use roc_base::{Edge, Edges, NoMemory, TxnId};
 use roc_depgraph::{Deps, KnownList};
 use roc_msg::{Facts, MOST_FACT_EDGES, MOST_FACTS};
 use roc_server_ancestors::Ancestors;
 use std::alloc::Global;
 
-/// The known lists of what entries lead to, by id rising, as many as travel along with a message. `NoMemory` comes where there is none for them.
+/// The known lists of what entries lead to over what is followed, by id rising, as many as travel along with a message. They are told as
+/// they were learnt. `NoMemory` comes where there is none for them.
 pub fn facts_for(
     alloc: Global,
-    deps: &Deps,
+    known: &KnownLists,
+    links: &Deps,
     ancestors: &Ancestors,
     edges: &[Edge],
 ) -> Result<Facts, NoMemory>
-    requires { AreRows deps.now ancestors.now.rows }
-    ensures { IfOk result (AreFactsFor deps.now edges.now) }
+    requires { AreRows links.now ancestors.now.rows }
+    ensures { IfOk result (AreFactsFor known.now links.now edges.now) }
 {
-    let least = ancestors.led_to(deps, edges)?;
-    facts_of(alloc, deps, &least)
+    let least = ancestors.led_to(links, edges)?;
+    facts_of(alloc, known, &least)
 }
 
 // The known lists of these, which rise strictly, as many as travel along.
-fn facts_of(alloc: Global, deps: &Deps, ids: &[TxnId]) -> Result<Facts, NoMemory>
+fn facts_of(alloc: Global, known: &KnownLists, ids: &[TxnId]) -> Result<Facts, NoMemory>
     requires { IsStrictlySortedBy txn_cmp ids.now }
-    ensures { IfOk result (λ facts. facts ≡ facts_of deps.now ids.now) }
+    ensures { IfOk result (λ facts. facts ≡ facts_of known.now ids.now) }
 {
     let mut facts = Facts::new(alloc);
     let mut room = MOST_FACTS;
@@ -38,7 +41,7 @@ fn facts_of(alloc: Global, deps: &Deps, ids: &[TxnId]) -> Result<Facts, NoMemory
         if room == 0 {
             return Ok(facts);
         }
-        let edges = entries_of(alloc, deps, *id)?;
+        let edges = entries_of(alloc, known, *id)?;
         if edges.len() > left {
             return Ok(facts);
         }
@@ -50,10 +53,10 @@ fn facts_of(alloc: Global, deps: &Deps, ids: &[TxnId]) -> Result<Facts, NoMemory
 }
 
 // The entries of a list; none where it is unknown.
-fn entries_of(alloc: Global, deps: &Deps, id: TxnId) -> Result<Edges, NoMemory>
-    ensures { IfOk result (λ edges. edges ≡ entries_of deps.now id) }
+fn entries_of(alloc: Global, known: &KnownLists, id: TxnId) -> Result<Edges, NoMemory>
+    ensures { IfOk result (λ edges. edges ≡ entries_of known.now id) }
 {
-    match deps.list(id) {
+    match known.list(id) {
         Some(edges) => Ok(edges.clone()?),
         None => Ok(Edges::new(alloc)),
     }

@@ -41,6 +41,9 @@ pub(crate) fn submit(
 
 // A message of a coordinator with an even number is made ahead.
 fn is_made_ahead(msg: &Msg) -> bool {
+    if let Msg::Ended { coord, .. } = msg {
+        return *coord % 2 == 0;
+    }
     match msg.id() {
         Some(id) => id.coord % 2 == 0,
         None => false,

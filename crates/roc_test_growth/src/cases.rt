@@ -174,3 +174,64 @@ proc add(n) { later a at 0 { get v = t[0].x; set t[0].x = v + n; out v; } }
 fn busy_submissions(rt: HostRuntime) {
     passes(&rt, rt.alloc(), &BUSY)
 }
+
+const LATER: TxnId = TxnId { coord: 0, seq: 1 };
+
+// The shards forget what is ended, one behind the other. A list that comes late teaches the first a transaction again, so that it asks for what
+// comes before that one, of which the other answers that it is settled. A start of what is gone is the last message.
+const FORGOTTEN: Case = Case {
+    workload: b"shards 2;
+table acct { bal }
+init acct[0,0].bal = 100;
+init acct[1,0].bal = 100;
+proc pay(f,t,n) {
+  later take at f { get b = acct[0].bal; set acct[0].bal = b - n; out b; }
+  later give at t { get d = acct[0].bal; set acct[0].bal = d + n; out d; }
+}
+",
+    coords: 2,
+    events: &[
+        Event::Submit(1, &[1, 1, 1]),
+        Event::Deliver(1, 4),
+        Event::Submit(0, &[0, 1, 2]),
+        Event::Deliver(6, 9),
+        Event::Deliver(11, 11),
+        Event::Submit(0, &[0, 1, 4]),
+        Event::Deliver(13, 13),
+        Event::Deliver(5, 5),
+        Event::Deliver(15, 15),
+        Event::Deliver(10, 10),
+        Event::Deliver(17, 18),
+        Event::Deliver(16, 16),
+        Event::Deliver(19, 19),
+        Event::Tick(Node::Coord(0)),
+        Event::Tick(Node::Coord(1)),
+        Event::Deliver(22, 22),
+        Event::Deliver(24, 24),
+        Event::Deliver(12, 12),
+        Event::Deliver(14, 14),
+        Event::Deliver(26, 27),
+        Event::Tick(Node::Server(Shard(0))),
+        Event::Submit(0, &[0, 1, 8]),
+        Event::Deliver(31, 31),
+        Event::Deliver(23, 23),
+        Event::Deliver(25, 25),
+        Event::Deliver(29, 29),
+        Event::Deliver(34, 34),
+        Event::Deliver(28, 28),
+        Event::Deliver(35, 36),
+        Event::Deliver(1, 1),
+    ],
+    replies: &[
+        (SECOND, &[100, 99]),
+        (FIRST, &[100, 100]),
+        (LATER, &[98, 102]),
+    ],
+    messages: 36,
+    order: &[SECOND, FIRST, LATER],
+};
+
+#[test]
+fn transactions_that_are_forgotten(rt: HostRuntime) {
+    passes(&rt, rt.alloc(), &FORGOTTEN)
+}

@@ -1,5 +1,6 @@
 -- What an event leaves in the fields of a world is what the definitions say
-use Rattle.std.proofs.Common.{◌≡◌, ℕ, ℤ, zero, suc, ◌-◌, ◌<◌, ◌==◌, not, List, [], ◌∷◌, ◌++◌, Option, Some, None, Result, Err, length, map, filter, get_or, slice_get, slice_set, refl, sym, ap, subst, ◌∙◌}
+use Rattle.std.proofs.Common.{◌≡◌, ℕ, ℤ, zero, suc, ◌-◌, ◌<◌, ◌==◌, not, List, [], ◌∷◌, ◌++◌, Option, Some, None, Result, Ok, Err, length, map, filter, get_or, slice_get, slice_set, refl, sym, ap, subst, ◌∙◌}
+use Rattle.std.proofs.lemmas.List.{append-nil}
 use Rattle.std.proofs.lemmas.Option.{slice_get-get_or}
 use Rattle.roc_base.specs.declared.id.TxnId.{TxnId}
 use Rattle.roc_base.specs.declared.node.Node.{Node}
@@ -15,16 +16,18 @@ use Rattle.roc_coord.specs.declared.handled.Handled.{Handled as CoordHandled}
 use Rattle.roc_coord.specs.declared.handled.SubmitFault.{SubmitFault}
 use Rattle.roc_coord.specs.declared.handled.SubmitFault.TheVariants as fault
 use Rattle.roc_coord.specs.State.{CoordState}
+use Rattle.roc_coord.specs.Tick as coord
 use Rattle.roc_coord.specs.Step.{after_message}
 use Rattle.roc_coord.specs.Submit.{refusal_of, refused_or_accepted, after_submit, UnlessNoMemory}
 use Rattle.roc_audit.specs.Order.{noted}
+use Rattle.roc_audit.specs.declared.entry.Entry.TheVariants as entry
 use Rattle.roc_protocol.specs.declared.event.Event.TheVariants.{Submit, Deliver, Tick}
 use Rattle.roc_protocol.specs.declared.event.Seen.{Seen}
 use Rattle.roc_protocol.specs.declared.event.Seen.TheVariants as seen
 use Rattle.roc_protocol.specs.World.{World, sends, mark_delivered, at_server, at_coord}
 use Rattle.roc_protocol.specs.Happens.{ran_at, Outcome, undecided, Submits, server_seen, coord_seen, answer_entries, served, coordinated, IsReceived}
 use Rattle.roc_world.specs.Inner.Messages.{Messages}
-use Rattle.roc_world.specs.Inner.Nodes.{ServerTakes, CoordTakes, CoordSubmits, ServerTicks}
+use Rattle.roc_world.specs.Inner.Nodes.{ServerTakes, CoordTakes, CoordSubmits, CoordTicks, ServerTicks}
 use Rattle.roc_world.specs.Inner.Parts.{Leads}
 
 -- what was read at a place is there
@@ -52,8 +55,9 @@ module _ (plan : Plan) (w : World) where
         let world_is : after ≡ at_server (mark_delivered w k) shard.0 r =
         after_is ∙ (λ i. record (sends (record w { servers = others i; sent = (network_is i).sent; undelivered = (network_is i).undelivered }) (Server shard) (outs i)) { order = noted w.order (ids i) }) in
         let ran = map (ran_at shard.0) r.ran in
-        let is : record { seen = what; decided = r.decided; ran = ran; world = after } ≡ served (mark_delivered w k) shard.0 r = λ i. record { seen = sees i; decided = r.decided; ran = ran; world = world_is i } in
-        (r.decided, ran, (m, some, there, subst (λ (node : Node). IsReceived plan (mark_delivered w k) m.msg node (record { seen = what; decided = r.decided; ran = ran; world = after })) (sym to) (takes.server, r, takes.there, takes.handles, is)))
+        let o : Outcome = record { seen = what; components = r.components; decided = r.decided; ran = ran; world = after } in
+        let is : o ≡ served (mark_delivered w k) shard.0 r = λ i. record { seen = sees i; components = r.components; decided = r.decided; ran = ran; world = world_is i } in
+        (r.components, r.decided, ran, (m, some, there, subst (λ (node : Node). IsReceived plan (mark_delivered w k) m.msg node o) (sym to) (takes.server, r, takes.there, takes.handles, is)))
 
     pub coord_comes :
         (number : ℕ) → m.to ≡ Coord number → (answer : CoordHandled) (what : Seen) (coords : List CoordState) (noted_in : Messages) (before out : Collected) (after : World)
@@ -68,9 +72,9 @@ module _ (plan : Plan) (w : World) where
         let others = takes.others in
         let world_is : after ≡ at_coord (mark_delivered w k) number r.state r.sends (answer_entries r.answer) =
         after_is ∙ (λ i. record (sends (record w { coords = others i; sent = (network_is i).sent; undelivered = (network_is i).undelivered }) (Coord number) (outs i)) { history = w.history ++ answer_entries (told i) }) in
-        let o : Outcome = record { seen = what; decided = []; ran = []; world = after } in
-        let is : o ≡ coordinated (mark_delivered w k) number r = λ i. record { seen = sees i; decided = []; ran = []; world = world_is i } in
-        ([], [], (m, some, there, subst (λ (node : Node). IsReceived plan (mark_delivered w k) m.msg node o) (sym to) (takes.coord, takes.there, is)))
+        let o : Outcome = record { seen = what; components = []; decided = []; ran = []; world = after } in
+        let is : o ≡ coordinated (mark_delivered w k) number r = λ i. record { seen = sees i; components = []; decided = []; ran = []; world = world_is i } in
+        ([], [], [], (m, some, there, subst (λ (node : Node). IsReceived plan (mark_delivered w k) m.msg node o) (sym to) (takes.coord, takes.there, is)))
 
   -- ---- a tick
 
@@ -83,9 +87,22 @@ module _ (plan : Plan) (w : World) where
       let outs : out.messages ≡ tells = ticks.sent.0 ∙ ap (λ xs. xs ++ tells) none in
       let others = ticks.others in
       let world_is : after ≡ at_server w shard.0 (answered ticks.server tells) = after_is ∙ (λ i. sends (record w { servers = others i }) (Server shard) (outs i)) in
-      let o : Outcome = record { seen = what; decided = []; ran = []; world = after } in
-      let is : o ≡ served w shard.0 (answered ticks.server tells) = λ i. record { seen = sees i; decided = []; ran = []; world = world_is i } in
-      ([], [], (ticks.server, ticks.there, is))
+      let o : Outcome = record { seen = what; components = []; decided = []; ran = []; world = after } in
+      let is : o ≡ served w shard.0 (answered ticks.server tells) = λ i. record { seen = sees i; components = []; decided = []; ran = []; world = world_is i } in
+      ([], [], [], (ticks.server, ticks.there, is))
+
+  pub coord_ticks :
+      (number : ℕ) (what : Seen) (coords : List CoordState) (before out : Collected) (after : World)
+      → before.messages ≡ [] → CoordTicks plan number w.coords coords before out → what ≡ seen.Done → after ≡ sends (record w { coords = coords }) (Coord number) out.messages
+      → Leads plan w (Tick (Coord number)) what after
+  coord_ticks number what coords before out after none ticks sees after_is =
+      let tells = coord.tick_sends plan ticks.coord in
+      let outs : out.messages ≡ tells = ticks.sent.0 ∙ ap (λ xs. xs ++ tells) none in
+      let others = ticks.others in
+      let world_is : after ≡ at_coord w number ticks.coord tells [] = after_is ∙ (λ i. record (sends (record w { coords = others i }) (Coord number) (outs i)) { history = sym (append-nil w.history) i }) in
+      let is : record { seen = what; components = []; decided = []; ran = []; world = after } ≡ undecided seen.Done (at_coord w number ticks.coord tells []) =
+      λ i. record { seen = sees i; components = []; decided = []; ran = []; world = world_is i } in
+      ([], [], [], (ticks.coord, ticks.there, is))
 
   -- ---- a submission
 
@@ -109,21 +126,34 @@ module _ (plan : Plan) (w : World) where
         set_there (y ∷ ys) zero x e = let same : y ≡ x = cc in ap (λ z. z ∷ ys) (sym same)
         set_there (y ∷ ys) (suc i) x e = ap (λ zs. y ∷ zs) (set_there ys i x e)
 
+    pub accepted : (id : TxnId) (what : Seen) (after : World) → before.messages ≡ [] → Submitting (Ok id) → what ≡ seen.Submitted id
+        → after ≡ record (sends (record w { coords = coords }) (Coord number) out.messages) { history = w.history ++ entry.Submitted id proc args ∷ [] } → Leads plan w (Submit number proc args) what after
+    accepted id what after none s sees after_is =
+        let r = after_submit plan s.coord proc args in
+        let outs : out.messages ≡ r.sends = s.submitted.sent.0 ∙ ap (λ xs. xs ++ r.sends) none in
+        let others = s.others in
+        let world_is : after ≡ at_coord w number r.state r.sends (entry.Submitted id proc args ∷ []) =
+        after_is ∙ (λ i. record (sends (record w { coords = others i }) (Coord number) (outs i)) { history = w.history ++ entry.Submitted id proc args ∷ [] }) in
+        let o : Outcome = record { seen = what; components = []; decided = []; ran = []; world = after } in
+        let is : o ≡ undecided (seen.Submitted id) (at_coord w number r.state r.sends (entry.Submitted id proc args ∷ [])) =
+        λ i. record { seen = sees i; components = []; decided = []; ran = []; world = world_is i } in
+        ([], [], [], (s.coord, s.there, subst (λ answer. Submits w number proc args r.state r.sends answer o) s.submitted.answer is))
+
     spent : Submitting (Err fault.Spent) → Leads plan w (Submit number proc args) seen.Spent (record w { coords = coords })
     spent s =
         let r = after_submit plan s.coord proc args in
         let same = coords_same fault.Spent s in
-        let o : Outcome = record { seen = seen.Spent; decided = []; ran = []; world = record w { coords = coords } } in
-        let is : o ≡ undecided seen.Spent w = λ i. record { seen = seen.Spent; decided = []; ran = []; world = record w { coords = same i } } in
-        ([], [], (s.coord, s.there, subst (λ answer. Submits w number proc args r.state r.sends answer o) s.submitted.answer is))
+        let o : Outcome = record { seen = seen.Spent; components = []; decided = []; ran = []; world = record w { coords = coords } } in
+        let is : o ≡ undecided seen.Spent w = λ i. record { seen = seen.Spent; components = []; decided = []; ran = []; world = record w { coords = same i } } in
+        ([], [], [], (s.coord, s.there, subst (λ answer. Submits w number proc args r.state r.sends answer o) s.submitted.answer is))
 
     busy : Submitting (Err fault.Busy) → Leads plan w (Submit number proc args) seen.Busy (record w { coords = coords })
     busy s =
         let r = after_submit plan s.coord proc args in
         let same = coords_same fault.Busy s in
-        let o : Outcome = record { seen = seen.Busy; decided = []; ran = []; world = record w { coords = coords } } in
-        let is : o ≡ undecided seen.Busy w = λ i. record { seen = seen.Busy; decided = []; ran = []; world = record w { coords = same i } } in
-        ([], [], (s.coord, s.there, subst (λ answer. Submits w number proc args r.state r.sends answer o) s.submitted.answer is))
+        let o : Outcome = record { seen = seen.Busy; components = []; decided = []; ran = []; world = record w { coords = coords } } in
+        let is : o ≡ undecided seen.Busy w = λ i. record { seen = seen.Busy; components = []; decided = []; ran = []; world = record w { coords = same i } } in
+        ([], [], [], (s.coord, s.there, subst (λ answer. Submits w number proc args r.state r.sends answer o) s.submitted.answer is))
 
     -- the same of arguments that are these
     module _ (given : List ℤ) (same : given ≡ args) (why : SubmitFault) (submits : UnlessNoMemory (Err why) (CoordSubmits plan number proc given (Err why) w.coords coords before out)) where

@@ -12,11 +12,11 @@ use Rattle.roc_world.specs.Inner.Parts.{Leads}
 module _ (plan : Plan) (w inside after : World) (e : Event) (same : inside ≡ w) where
   pub step_fits : {F : Type 0} (result : Result Seen F) → FitsWorld plan w → IfOk result (λ what. Leads plan inside e what after) → OnOk result (FitsWorld plan after)
   step_fits (Err fault) fits h = tt
-  step_fits (Ok what) fits (decided, ran, h) = kept plan inside (subst (FitsWorld plan) (sym same) fits) e (record { seen = what; decided = decided; ran = ran; world = after }) h
+  step_fits (Ok what) fits (components, decided, ran, h) = kept plan inside (subst (FitsWorld plan) (sym same) fits) e (record { seen = what; components = components; decided = decided; ran = ran; world = after }) h
 
   pub step_count : {F : Type 0} (result : Result Seen F) → IfOk result (λ what. Leads plan inside e what after) → OnOk result (length after.coords ≡ length w.coords)
   step_count (Err fault) h = tt
-  step_count (Ok what) (decided, ran, h) = same_count plan inside e (record { seen = what; decided = decided; ran = ran; world = after }) h ∙ ap (λ (w : World). length w.coords) same
+  step_count (Ok what) (components, decided, ran, h) = same_count plan inside e (record { seen = what; components = components; decided = decided; ran = ran; world = after }) h ∙ ap (λ (w : World). length w.coords) same
 
 pub first_fits : (plan : Plan) (count : ℕ) (w : World) → 0 < plan.program.shards → w ≡ first_world plan count → FitsWorld plan w
 first_fits plan count w some is = subst (FitsWorld plan) (sym is) (first plan count some)

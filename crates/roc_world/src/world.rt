@@ -71,9 +71,9 @@ impl World {
         requires fits { FitsWorld plan.now self.old }
         requires event { IsEventOf plan.now self.old event.now }
 
-        // The step that the definitions fix, with what it newly decides and what runs.
-        ensures step { IfOk result (λ seen. (decided : List TxnId) × (ran : List RanAt)
-            × Happens plan.now self.old event.now (record { seen = seen; decided = decided; ran = ran; world = self.new })) }
+        // The step that the definitions fix, with what it newly decides, by component and one after another, and what runs.
+        ensures step { IfOk result (λ seen. (components : List (List TxnId)) × (decided : List TxnId) × (ran : List RanAt)
+            × Happens plan.now self.old event.now (record { seen = seen; components = components; decided = decided; ran = ran; world = self.new })) }
         ensures fits { OnOk result (FitsWorld plan.now self.new) }
         ensures coords { OnOk result (length self.new.coords ≡ length self.old.coords) }
     {

@@ -1,17 +1,19 @@
 -- What is known of the log machine and of stores, as their laws say it
-use Rattle.std.specs.Prelude.{◌≡◌, ◌≢◌, ℕ, ℤ, pos, Bool, List, IsTrue, ◌⊎◌}
+use Rattle.std.specs.Prelude.{◌≡◌, ◌≢◌, ◌↔◌, ℕ, ℤ, pos, Bool, List, IsTrue, ◌⊎◌}
 use Rattle.roc_sequence.specs.Places.{IsListed, IsListedBefore}
 use Rattle.roc_base.specs.declared.id.TxnId.{TxnId}
 use Rattle.roc_base.specs.TxnId.{is_txn}
 use Rattle.roc_rows.specs.declared.cell.Cell.{Cell}
 use Rattle.roc_rows.specs.Store.{Store, read, write, empty}
+use Rattle.roc_depgraph.specs.declared.known.KnownList.{KnownList}
+use Rattle.roc_depgraph.specs.Deps.{Precedes}
 use Rattle.roc_depgraph.specs.Reach.{Reaches}
-use Rattle.roc_component.specs.Components.{IsComponentOrder}
+use Rattle.roc_component.specs.Components.{among, Mates, IsComponentOrder, IsComponentOrderOf}
 use Rattle.roc_law_orders.specs.Behaviour.{TxnGroup, is_txn_group, is_group_number, DoesSame}
 use Rattle.roc_law_orders.specs.Runs.{Stage, inputs_at, stage_behind, after_group, Conflict, account}
 use Rattle.roc_law_orders.specs.Orders.{one_by_one, StandOneByOne}
 use Rattle.roc_law_log.specs.Scheme.{Scheme}
-use Rattle.roc_law_log.specs.Log.{Log, PrecedesTxn, PrecedesTxnNow, shard_at}
+use Rattle.roc_law_log.specs.Log.{Log, PrecedesTxn, PrecedesTxnNow, shard_at, HasGroup}
 use Rattle.roc_law_log.specs.Taking.{RespectsPrecedence}
 use Rattle.roc_law_log.specs.Edges.{AreEdges}
 use Rattle.roc_law_log.specs.Steps.{LogSteps, IsReachedLog, IsWaived, new_in}
@@ -35,12 +37,18 @@ pub record LogLaws (S : Scheme) (start : Store) : Type 0 where
       → IsListed is_txn (log.decided s) u ⊎ (IsListed is_txn (new_in (log.decided s) all) u ⊎ IsWaived S start log u))
       → IsComponentOrder (λ u t. IsTrue (edge u t)) (λ u t. IsTrue (now u t)) members all
       → RespectsPrecedence (PrecedesTxn S start log.past) (PrecedesTxnNow S start log.past) (IsWaived S start log) (new_in (log.decided s) all)
+  pub chained :
+      (known : List KnownList) (M xs : List TxnId) → IsComponentOrderOf known M xs
+      → (u t : TxnId) → IsListed is_txn xs t → Reaches (among M (Precedes known)) u t → ¬ Mates (among M (Precedes known)) t u → IsListedBefore is_txn xs u t
 
 -- what the log machine's laws say besides
 pub record SerialLaws (S : Scheme) (start : Store) : Type 0 where
-  pub agree :
-      (log : Log) → IsReachedLog S start log → (s : ℕ) (a b : TxnId) → Reaches (PrecedesTxn S start log.past) a b ⊎ Reaches (PrecedesTxn S start log.past) b a
-      → IsListed is_txn (log.decided s) a → IsListed is_txn (log.decided s) b → IsListedBefore is_txn (log.decided s) a b → IsListedBefore is_txn log.order a b
+  pub ancestors :
+      (log : Log) → LogInvariants S start log → (u t : TxnId) → IsListed is_txn log.order t → Reaches (PrecedesTxn S start log.past) u t → ¬ Mates (PrecedesTxn S start log.past) t u
+      → IsListedBefore is_txn log.order u t
+  pub mates :
+      (log : Log) → LogInvariants S start log → (s : ℕ) (t a b : TxnId) → HasGroup S start log.past.ran s t → IsListed is_txn (log.decided s) t
+      → Mates (PrecedesTxn S start log.past) t a → Mates (PrecedesTxn S start log.past) t b → IsListedBefore is_txn (log.decided s) a b ↔ IsListedBefore is_txn log.order a b
   pub order : (log : Log) → IsReachedLog S start log → KeepsRan S start log log.order
   pub same :
       (log : Log) → IsReachedLog S start log → (O : List TxnId) → KeepsRan S start log O

@@ -1,31 +1,39 @@
 -- What a step has planned: what was tried for it, the state that it led away from, and the state that it leads to
-use Rattle.std.specs.Prelude.{◌≡◌, ◌<◌, ◌-◌, ◌++◌, ◌∷◌, [], List, Option, Some, None, length, filter, false, map, option_map, take, unwrap_or}
+use Rattle.std.specs.Prelude.{◌≡◌, ◌<◌, ◌≤◌, ◌-◌, ◌++◌, ◌∷◌, [], ℕ, List, Option, Some, None, Vec, length, true, false, option_map, take, unwrap_or, if◌then◌else◌}
 use Rattle.std.specs.List.{flat_map}
-use Rattle.roc_sequence.specs.Places.{IsListed}
+use Rattle.std.specs.declared.alloc.Global.{Global}
+use Rattle.roc_sequence.specs.Places.{IsListed, is_listed}
+use Rattle.roc_base.specs.declared.id.TxnId.{TxnId}
 use Rattle.roc_base.specs.TxnId.{is_txn}
 use Rattle.roc_base.specs.declared.node.Shard.{Shard}
-use Rattle.roc_base.specs.Edges.{united}
 use Rattle.roc_await.specs.Lacks.{AreLacks}
-use Rattle.roc_await.specs.Learning.{AreLearnable}
-use Rattle.roc_await.specs.Waits.{with_asker}
+use Rattle.roc_await.specs.Waits.{with_asker, without_asked}
 use Rattle.roc_depgraph.specs.Deps.{is_known}
-use Rattle.roc_msg.specs.declared.msg.Msg.{Msg}
 use Rattle.roc_rows.specs.Held.{Held}
 use Rattle.roc_server_ancestors.specs.Least.{AreAllRight}
-use Rattle.roc_server_lists.specs.Asking.{asked_of, waiting_after}
-use Rattle.roc_server_lists.specs.New.{AreNew}
+use Rattle.roc_server_lists.specs.Asking.{waiting_after}
+use Rattle.roc_server_lists.specs.Links.{AreLinksOf}
+use Rattle.roc_server_lists.specs.New.{AreNewTaken}
 use Rattle.roc_server.specs.declared.ahead.Ahead.{Ahead}
 use Rattle.roc_server.specs.declared.planned.Change.{Change}
-use Rattle.roc_server.specs.declared.planned.Change.TheVariants.{Nothing, Asker, Group, Lists}
+use Rattle.roc_server.specs.declared.planned.Change.TheVariants.{Nothing, Asker, Group, Lists, Marks, Settled}
+use Rattle.roc_server.specs.declared.planned.Heard.{Heard}
 use Rattle.roc_server.specs.declared.planned.Lesson.{Lesson}
+use Rattle.roc_server.specs.declared.planned.Settlement.{Settlement}
+use Rattle.roc_server.specs.declared.runs.Earlier.{Earlier}
+use Rattle.roc_server.specs.declared.settled.Settling.{Settling}
 use Rattle.roc_server.specs.declared.server_data.ServerData.{ServerData}
 use Rattle.roc_server.specs.declared.started.StartedGroup.{StartedGroup}
-use Rattle.roc_server.specs.Lists.{is_missing}
+use Rattle.roc_server.specs.Below.{is_ended}
+use Rattle.roc_server.specs.Forgets.{forget}
+use Rattle.roc_server.specs.Lists.{missing_from}
 use Rattle.roc_server.specs.State.{find_group, MadeAhead, ServerState, Serving}
 use Rattle.roc_server.specs.Inner.Indexed.{HasRoomFor}
+use Rattle.roc_server.specs.Inner.Left.{IsOver}
 use Rattle.roc_server.specs.Inner.Runs.{restored}
+use Rattle.roc_server.specs.Inner.Settled.{links_settled, IsSettling}
 use Rattle.roc_server.specs.Inner.ServerData.{state_of, AreSameGroups, IsConsistent}
-use Rattle.roc_server.specs.Inner.Taught.{HasRoomToKeep}
+use Rattle.roc_server.specs.Inner.Taught.{AreLearnt, HasRoomToKeep, KeepsBesideRuns}
 
 -- ---- before a change
 
@@ -33,13 +41,22 @@ use Rattle.roc_server.specs.Inner.Taught.{HasRoomToKeep}
 abbrev pub rolled : Held → Held
 rolled r = record r { store = unwrap_or r.saved r.store }
 
+-- all but the last of these
+abbrev pub front : {A : Type 0} → (news : ℕ) → List A → List A
+front news xs = take (length xs - news) xs
+
 -- without what was learnt, and with the groups and the cells as they were
 abbrev pub unlearnt : ServerData → Lesson → ServerData
 unlearnt k l = record k {
   rows = rolled k.rows;
   started = record k.started { groups = restored l.earlier.items k.started.groups };
-  deps = take (length k.deps - length l.news.items) k.deps;
+  known = front (length l.news.items) k.known;
+  links = front (length l.news.items) k.links;
 }
+
+-- with the groups and the cells as they were
+abbrev pub unsettled : ServerData → Settlement → ServerData
+unsettled k s = record k { rows = rolled k.rows; started = record k.started { groups = restored s.earlier.items k.started.groups } }
 
 -- what is kept, less what was tried
 abbrev pub before : ServerData → Change → ServerData
@@ -47,46 +64,103 @@ before k Nothing = k
 before k (Asker asker) = k
 before k (Group e) = record k { rows = rolled k.rows }
 before k (Lists l) = unlearnt k l
+before k (Marks h) = k
+before k (Settled s) = unsettled k s
 
 -- ---- behind a change
+
+-- the lists behind new ones, before anything is forgotten
+abbrev pub with_lists : Shard → ServerData → Lesson → ServerState
+with_lists shard k l =
+    record (state_of shard k) {
+      lists = record {
+        known = k.known;
+        links = k.links;
+        waiting = waiting_after k.waits.waiting l.news.items l.found.asks.items;
+        taken = k.taken.components ++ l.found.components.items;
+      };
+    }
+
+-- behind a settled transaction
+abbrev pub with_settled : Shard → ServerData → Settlement → ServerState
+with_settled shard k s =
+    record (state_of shard k) {
+      below = s.found.marks;
+      lists = record {
+        known = k.known;
+        links = links_settled k.links s.found.settled.items;
+        waiting = if s.found.is_known then k.waits.waiting else without_asked (is_listed is_txn s.found.settled.items) k.waits.waiting;
+        taken = k.taken.components ++ s.found.components.items;
+      };
+    }
 
 abbrev pub after : Shard → ServerData → Change → ServerState
 after shard k Nothing = state_of shard k
 after shard k (Asker asker) =
-    record (state_of shard k) { lists = record { known = k.deps; waiting = record k.waits.waiting { askers = with_asker asker k.waits.waiting.askers } } }
+    record (state_of shard k) { lists = record (state_of shard k).lists { waiting = record k.waits.waiting { askers = with_asker asker k.waits.waiting.askers } } }
 after shard k (Group e) = record (state_of shard k) { started = k.started.groups ++ e ∷ [] }
-after shard k (Lists l) = record (state_of shard k) { lists = record { known = k.deps; waiting = waiting_after k.waits.waiting l.news.items l.found.asks.items } }
+after shard k (Lists l) = forget (with_lists shard k l)
+after shard k (Marks h) = forget (record (state_of shard k) { below = h.marks })
+after shard k (Settled s) = forget (with_settled shard k s)
 
 -- ---- what was planned is right, and there is room for it
 
 pub record IsGroupPlanned (k : ServerData) (e : StartedGroup) : Type 0 where
   pub sound : IsConsistent k
   pub absent : find_group e.id e.group k.started.groups ≡ None
-  pub unknown : is_known k.deps e.id ≡ false
+  pub unknown : is_known k.known e.id ≡ false
   pub place : 0 < k.started.spare
   pub room : HasRoomFor e.cells k.index
 
 pub record AreListsPlanned (k : ServerData) (l : Lesson) : Type 0 where
   pub sound : IsConsistent (unlearnt k l)
-  pub known_are : k.deps ≡ (unlearnt k l).deps ++ l.news.items
-  pub learnable : AreLearnable (unlearnt k l).deps l.news.items
+  pub learnt : AreLearnt k l.news.items
+  pub known_before : learnt.known.before ≡ (unlearnt k l).known
+  pub links_before : learnt.links.before ≡ (unlearnt k l).links
   pub groups : AreSameGroups (unlearnt k l).started.groups k.started.groups
-  pub missing : (shard : Shard) → l.found.asks.items ≡ map asked_of (filter (is_missing (state_of shard (unlearnt k l)) k.deps) (united (flat_map (λ list. list.edges) l.news.items)))
-  pub chosen : AreNew (IsListed is_txn k.decided.ids) k.deps l.found.ids.items
-  pub lacks : AreLacks k.deps l.found.lacks.lacks
-  pub least : AreAllRight k.deps l.found.rows
+  pub missing : (shard : Shard) → l.found.asks.items ≡ missing_from (state_of shard (unlearnt k l)) k.known k.links
+  pub chosen : AreNewTaken (IsListed is_txn k.decided.ids) k.links l.found.components.items
+  pub ids : l.found.ids.items ≡ flat_map (λ c. c) l.found.components.items
+  pub linked : AreLinksOf (is_ended k.marks) k.known k.links
+  pub lacks : AreLacks k.links l.found.lacks.lacks
+  pub least : AreAllRight k.links l.found.rows
   pub room : HasRoomToKeep k l.found
+  pub left : IsOver k.marks (k.taken.components ++ l.found.components.items) k.links l.left
+
+pub record AreMarksPlanned (k : ServerData) (h : Heard) : Type 0 where
+  pub sound : IsConsistent k
+  pub risen : (t : TxnId) → is_ended k.marks t ≡ true → is_ended h.marks t ≡ true
+  pub left : IsOver h.marks k.taken.components k.links h.left
+
+pub record IsSettledPlanned (k : ServerData) (s : Settlement) : Type 0 where
+  pub sound : IsConsistent (unsettled k s)
+  pub groups : AreSameGroups (unsettled k s).started.groups k.started.groups
+  pub id : TxnId
+  pub mark : ℕ
+  pub found : IsSettling k id mark s.found
+  pub room : length s.found.components.items ≤ k.taken.spare
 
 abbrev pub IsPlanned : ServerData → Change → Type 0
 IsPlanned k Nothing = IsConsistent k
 IsPlanned k (Asker asker) = IsConsistent k × (0 < k.waits.spare)
 IsPlanned k (Group e) = IsGroupPlanned k e
 IsPlanned k (Lists l) = AreListsPlanned k l
+IsPlanned k (Marks h) = AreMarksPlanned k h
+IsPlanned k (Settled s) = IsSettledPlanned k s
 
 -- it was planned from what was kept before
 pub record IsPlannedFrom (old new : ServerData) (change : Change) : Type 0 where
   pub planned : IsPlanned new change
   pub from : (shard : Shard) → state_of shard (before new change) ≡ state_of shard old
+
+-- what was found of a settled transaction is to be kept, and what ran for it can be undone
+pub record IsSettledFrom (old new : ServerData) (found : Settling) (change : Change) : Type 0 where
+  pub earlier : Vec Earlier Global
+  pub is : change ≡ Settled (record { found = found; earlier = earlier })
+  pub beside : KeepsBesideRuns old new
+  pub restored : restored earlier.items new.started.groups ≡ old.started.groups
+  pub saved : new.rows.saved ≡ Some old.rows.store
+  pub spare : new.taken ≡ old.taken
 
 -- ---- a server, of which something may be made ahead
 

@@ -1,7 +1,8 @@
 -- What a server's fields hold, as the definitions see it
-use Rattle.std.specs.Prelude.{◌≡◌, ◌&&◌, not, Bool, false, List, map, filter}
+use Rattle.std.specs.Prelude.{◌≡◌, ◌≢◌, ◌&&◌, not, Bool, false, List, [], map, filter}
 use Rattle.std.specs.List.{AllByRecursion, flat_map}
 use Rattle.std.specs.List.Sorted.{IsStrictlySortedBy}
+use Rattle.roc_sequence.specs.Lists.{Has}
 use Rattle.roc_sequence.specs.Places.{IsListed, NoneTwice}
 use Rattle.roc_base.specs.declared.id.TxnId.{TxnId}
 use Rattle.roc_base.specs.declared.node.Shard.{Shard}
@@ -16,11 +17,14 @@ use Rattle.roc_rows.specs.Store.{Store}
 use Rattle.roc_server.specs.declared.server_data.ServerData.{ServerData}
 use Rattle.roc_server.specs.declared.started.StartedGroup.{StartedGroup}
 use Rattle.roc_server.specs.declared.starts.Request.{Request}
+use Rattle.roc_server_lists.specs.Links.{all_entries, AreLinksOf}
+use Rattle.roc_server.specs.Below.{is_ended}
+use Rattle.roc_server.specs.Forgets.{over}
 use Rattle.roc_server.specs.State.{is_group, is_here, unrun, ServerState}
 use Rattle.roc_server.specs.Inner.Indexed.{IsIndexOf}
 
 abbrev pub state_of : Shard → ServerData → ServerState
-state_of shard k = record { shard = shard; store = k.rows.store; started = k.started.groups; lists = record { known = k.deps; waiting = k.waits.waiting }; below = k.marks }
+state_of shard k = record { shard = shard; store = k.rows.store; started = k.started.groups; lists = record { known = k.known; links = k.links; waiting = k.waits.waiting; taken = k.taken.components }; below = k.marks }
 
 -- the same with these cells and groups
 abbrev pub holding : ServerState → Store → List StartedGroup → ServerState
@@ -32,21 +36,31 @@ is_same_group a b = is_group a.id a.group b
 
 -- what an entry names is unknown, has no group here and was not asked for
 abbrev pub is_left : ServerData → Dependency → Bool
-is_left k d = not (is_known k.deps d.from) && (not (is_here d.from k.started.groups) && not (was_asked_for d.from k.waits.waiting.asked))
+is_left k d = not (is_known k.links d.from) && (not (is_here d.from k.started.groups) && not (was_asked_for d.from k.waits.waiting.asked))
 
--- each group of a transaction once; as decided exactly what is decided by the known lists, rising, and the least of its ancestors; what the
--- others lack, and where their groups are found by the cells that they use; all that known lists name is known, here or asked for; and as open
--- exactly what was asked for and is not known
-pub record IsConsistent (k : ServerData) : Type 0 where
+-- each group of a transaction once; as decided exactly what is decided by what is followed, rising, and the least of its ancestors; what the
+-- others lack, and where their groups are found by the cells that they use; all that is followed is known, here or asked for; as open
+-- exactly what was asked for and is not known; what is followed is of the known lists; and the components taken are of what is decided
+pub record IsRight (k : ServerData) : Type 0 where
   pub groups_once : NoneTwice is_same_group k.started.groups
   pub decided_rising : IsStrictlySortedBy txn_cmp k.decided.ids
-  pub decided_only : (t : TxnId) → IsListed is_txn k.decided.ids t → IsDecided k.deps t
-  pub decided_all : (t : TxnId) → IsDecided k.deps t → IsListed is_txn k.decided.ids t
-  pub rows : AreRows k.deps k.ancestors.rows
-  pub lacks : AreLacks k.deps k.lacks
+  pub decided_only : (t : TxnId) → IsListed is_txn k.decided.ids t → IsDecided k.links t
+  pub decided_all : (t : TxnId) → IsDecided k.links t → IsListed is_txn k.decided.ids t
+  pub rows : AreRows k.links k.ancestors.rows
+  pub lacks : AreLacks k.links k.lacks
   pub index : IsIndexOf k.index k.decided.ids k.started.groups
-  pub none_left : AllByRecursion (λ d. is_left k d ≡ false) (flat_map (λ list. list.edges) k.deps)
-  pub open_unknown : k.waits.fetches ≡ filter (λ a. not (is_known k.deps a.id)) k.waits.waiting.asked
+  pub none_left : AllByRecursion (λ d. is_left k d ≡ false) (all_entries k.links)
+  pub open_unknown : k.waits.fetches ≡ filter (λ a. not (is_known k.links a.id)) k.waits.waiting.asked
+  pub linked : AreLinksOf (is_ended k.marks) k.known k.links
+  pub taken_decided : (t : TxnId) → IsListed is_txn (flat_map (λ c. c) k.taken.components) t → IsListed is_txn k.decided.ids t
+  pub decided_taken : (t : TxnId) → IsListed is_txn k.decided.ids t → IsListed is_txn (flat_map (λ c. c) k.taken.components) t
+  pub taken_once : NoneTwice is_txn (flat_map (λ c. c) k.taken.components)
+  pub taken_some : (c : List TxnId) → Has c k.taken.components → c ≢ []
+
+-- and none of the components is over
+pub record IsConsistent (k : ServerData) : Type 0 where
+  pub right : IsRight k
+  pub none_over : over k.marks k.taken.components ≡ []
 
 -- the same groups, whatever they gave
 abbrev pub AreSameGroups : List StartedGroup → List StartedGroup → Type 0

@@ -1,25 +1,49 @@
 -- A group that starts, as its parts are made
-use Rattle.std.specs.Prelude.{◌≡◌, ◌++◌, ◌∷◌, [], if◌then◌else◌, List}
+use Rattle.std.specs.Prelude.{◌≡◌, ◌++◌, ◌∷◌, [], Bool, not, ◌&&◌, ◌==◌, nat_lt, if◌then◌else◌, List, Option, Some, None, is_none, length}
 use Rattle.roc_base.specs.declared.id.TxnId.{TxnId}
 use Rattle.roc_base.specs.declared.node.Shard.{Shard}
 use Rattle.roc_group.specs.GroupRun.{GroupCall, group_run}
 use Rattle.roc_msg.specs.Outbox.{Collected}
-use Rattle.roc_plan.specs.Groups.{Plan, is_immediate_of}
+use Rattle.roc_depgraph.specs.Deps.{is_known}
+use Rattle.roc_msg.specs.declared.reason.Reason.{Reason}
+use Rattle.roc_msg.specs.declared.reason.Reason.TheVariants.{BadProc, BadGroup, BadInputs, NotHere, Late, Differs}
+use Rattle.roc_plan.specs.Groups.{Plan, groups_of, is_immediate_of, shard_of, group_place}
 use Rattle.roc_server.specs.declared.handled.Handled.{Handled}
 use Rattle.roc_server.specs.declared.server_data.ServerData.{ServerData}
 use Rattle.roc_server.specs.declared.started.StartedGroup.{StartedGroup}
 use Rattle.roc_server.specs.Inner.ServerData.{state_of}
 use Rattle.roc_server_index.specs.GroupRefs.{HaveSameRefs}
 use Rattle.roc_server_lists.specs.New.{AreLedTo}
-use Rattle.roc_server.specs.Start.{is_immediate_group, edges_for, new_group, start_new, startok_of, after_start}
+use Rattle.roc_server.specs.Start.{has_procedure, has_counts, differs, is_immediate_group, edges_for, new_group, start_new, startok_of, after_start}
 use Rattle.roc_server.specs.Runs.{accesses_of}
-use Rattle.roc_server.specs.State.{ServerState}
+use Rattle.roc_server.specs.State.{find_group, ServerState}
 use Rattle.roc_server.specs.Step.{Shows, edges_of_new}
+
+-- the first of these reasons that holds
+abbrev pub first_reason : List (Bool × Reason) → Option Reason
+first_reason [] = None
+first_reason (c ∷ cs) = if c.0 then Some c.1 else first_reason cs
+
+-- why a start may be ignored
+abbrev pub start_reasons : Plan → ServerState → TxnId → GroupCall → List (Bool × Reason)
+start_reasons plan s id c =
+    (not (has_procedure plan c.proc), BadProc)
+    ∷ (not (nat_lt c.group (length (groups_of plan c.proc))), BadGroup)
+    ∷ (not (has_counts plan c), BadInputs)
+    ∷ (not (shard_of plan (group_place plan c.proc c.group c.args c.inputs) == s.shard.0), NotHere)
+    ∷ (is_none (find_group id c.group s.started) && is_known s.lists.known id, Late)
+    ∷ (differs s id c, Differs)
+    ∷ []
+
+-- why one is ignored that does not come too late
+abbrev pub start_fault : Plan → ServerState → TxnId → GroupCall → Option Reason
+start_fault plan s id c = first_reason (start_reasons plan s id c)
 
 -- all but the cells is as it was, room aside
 pub record KeepsBeside (old new : ServerData) : Type 0 where
   pub started : new.started.groups ≡ old.started.groups
-  pub deps : new.deps ≡ old.deps
+  pub known : new.known ≡ old.known
+  pub links : new.links ≡ old.links
   pub waiting : new.waits.waiting ≡ old.waits.waiting
   pub fetches : new.waits.fetches ≡ old.waits.fetches
   pub decided : new.decided.ids ≡ old.decided.ids
@@ -27,21 +51,24 @@ pub record KeepsBeside (old new : ServerData) : Type 0 where
   pub lacks : new.lacks ≡ old.lacks
   pub index : HaveSameRefs old.index new.index
   pub marks : new.marks ≡ old.marks
+  pub taken : new.taken.components ≡ old.taken.components
 
 -- e is what is kept of a group that starts, and an immediate one ran
 pub record IsNewGroup (plan : Plan) (shard : Shard) (old new : ServerData) (id : TxnId) (c : GroupCall) (e : StartedGroup) : Type 0 where
   pub reached : List TxnId
-  pub led : AreLedTo old.deps (edges_for plan old.decided.ids (state_of shard old) id c) reached
+  pub led : AreLedTo old.links (edges_for plan old.decided.ids (state_of shard old) id c) reached
   pub is : e ≡ new_group plan old.decided.ids reached (state_of shard old) id c
   pub store : new.rows.store ≡ (if is_immediate_group plan c then (group_run plan c old.rows.store).store else old.rows.store)
   pub started : new.started.groups ≡ old.started.groups
-  pub deps : new.deps ≡ old.deps
+  pub known : new.known ≡ old.known
+  pub links : new.links ≡ old.links
   pub waits : new.waits ≡ old.waits
   pub decided : new.decided ≡ old.decided
   pub ancestors : new.ancestors ≡ old.ancestors
   pub lacks : new.lacks ≡ old.lacks
   pub index : HaveSameRefs old.index new.index
   pub marks : new.marks ≡ old.marks
+  pub taken : new.taken ≡ old.taken
 
 -- this is told of a group that starts, and one that is immediate ran
 pub record TellsStart (plan : Plan) (shard : Shard) (e : StartedGroup) (before after : Collected) : Type 0 where
@@ -52,11 +79,11 @@ pub record TellsStart (plan : Plan) (shard : Shard) (e : StartedGroup) (before a
 -- a start was taken, or ignored: the state behind it
 pub record StartTaken (plan : Plan) (shard : Shard) (old : ServerData) (state : ServerState) (before after : Collected) (id : TxnId) (c : GroupCall) (answer : Handled) : Type 0 where
   pub reached : List TxnId
-  pub led : AreLedTo old.deps (edges_of_new plan old.decided.ids (state_of shard old) id c) reached
+  pub led : AreLedTo old.links (edges_of_new plan old.decided.ids (state_of shard old) id c) reached
   pub shown : Shows (after_start plan old.decided.ids reached (state_of shard old) id c) answer state before after
 
 -- a new group started
 pub record StartsNew (plan : Plan) (shard : Shard) (old : ServerData) (state : ServerState) (before after : Collected) (id : TxnId) (c : GroupCall) (answer : Handled) : Type 0 where
   pub reached : List TxnId
-  pub led : AreLedTo old.deps (edges_for plan old.decided.ids (state_of shard old) id c) reached
+  pub led : AreLedTo old.links (edges_for plan old.decided.ids (state_of shard old) id c) reached
   pub shown : Shows (start_new plan (state_of shard old) c (new_group plan old.decided.ids reached (state_of shard old) id c)) answer state before after

@@ -13,4 +13,6 @@ world_of p = record { servers = p.servers.items; coords = p.coords.items; sent =
 
 -- the event leads from the one world to the other, and this is seen of it
 abbrev pub Leads : Plan → World → Event → Seen → World → Type 0
-Leads plan w e seen after = (decided : List TxnId) × (ran : List RanAt) × Happens plan w e (record { seen = seen; decided = decided; ran = ran; world = after })
+Leads plan w e seen after =
+    (components : List (List TxnId)) × (decided : List TxnId) × (ran : List RanAt)
+    × Happens plan w e (record { seen = seen; components = components; decided = decided; ran = ran; world = after })

@@ -12,15 +12,15 @@ pub returns-clause-answered : goal.returns-clause-answered
 returns-clause-answered c plan b coords steps w begins schemes run t proc args submitted quiet =
     let laws : (S : Scheme) → IsSoundScheme S → LogLaws S b.store = λ S sound. c.machine_laws.ensures.log S b.store sound in
     let stores = c.machine_laws.ensures.stores in
-    let heard = starts_heard plan b begins schemes laws stores coords steps w run in
+    let heard = starts_heard plan b begins schemes laws stores 16 begins.marks coords steps w run in
     let out : (u : TxnId) → AreDelivered w u → CommitsAreOut w u = λ u delivered. commits_are_out plan b begins schemes laws stores coords steps w run u (heard u) delivered in
     heard_is_answered plan b begins schemes laws stores coords steps w run t proc args submitted (heard t)
-    (commits_heard plan b begins schemes laws stores coords steps w run out t quiet (submitted_late plan b begins schemes laws stores coords steps w run t (proc, args, submitted)))
+    (commits_heard plan b begins schemes laws stores 16 begins.marks coords steps w run out t quiet (submitted_late plan b begins schemes laws stores coords steps w run t (proc, args, submitted)))
     (record { each = λ k m at is. quiet.each k m t at is (inl refl) })
 
 pub returns-clause-decided : goal.returns-clause-decided
 returns-clause-decided c plan b coords steps w begins schemes run t quiet =
     let laws : (S : Scheme) → IsSoundScheme S → LogLaws S b.store = λ S sound. c.machine_laws.ensures.log S b.store sound in
     let stores = c.machine_laws.ensures.stores in
-    let heard = starts_heard plan b begins schemes laws stores coords steps w run in
-    quiet_is_decided plan b begins schemes laws stores coords steps w run (λ u delivered. commits_are_out plan b begins schemes laws stores coords steps w run u (heard u) delivered) t quiet
+    let heard = starts_heard plan b begins schemes laws stores 16 begins.marks coords steps w run in
+    quiet_is_decided plan b begins schemes laws stores 16 begins.marks coords steps w run (λ u delivered. commits_are_out plan b begins schemes laws stores coords steps w run u (heard u) delivered) t quiet

@@ -11,12 +11,14 @@ returns-clause-log c S start sound =
       same = c.stores_are_shared_out.ensures.same S sound;
       cells = c.stores_are_shared_out.ensures.cells S sound;
       taken = λ log i s edge now members all. c.component_order_is_taken.ensures S start log i s edge now members all;
+      chained = c.ancestors_come_first.ensures.taking_order;
     }
 
 pub returns-clause-serial : goal.returns-clause-serial
 returns-clause-serial c S start sound =
     record {
-      agree = λ log r. c.shards_agree.ensures.order S start log sound r;
+      ancestors = λ log i. c.ancestors_come_first.ensures.order S start log i;
+      mates = λ log i. c.shards_keep_order.ensures.mates S start log i;
       order = λ log r. c.lists_that_keep_follow.ensures.order S start log sound (c.logs_keep_invariants.ensures.reached S start log sound r);
       same = λ log r O keeps. c.lists_that_keep_follow.ensures.same S start log sound (c.logs_keep_invariants.ensures.reached S start log sound r) O keeps;
       stand = λ order. c.groups_stand_one_by_one.ensures S.behaviour order sound.lawful;

@@ -8,3 +8,6 @@ returns-in-Group-clause-state c shard = c.undo_group.ensures.state shard ∙ ap 
 
 pub returns-in-Lists-clause-state : goal.returns-in-Lists-clause-state
 returns-in-Lists-clause-state c shard = c.undo_lists.ensures.state shard ∙ ap (λ change. state_of shard (before c.args.kept.now change)) (sym c.in-Lists.is)
+
+pub returns-clause-state : goal.returns-clause-state
+returns-clause-state c shard = c.undo_settled.ensures.state shard ∙ ap (λ change. state_of shard (before c.args.kept.now change)) (sym c.in-Settled.is)

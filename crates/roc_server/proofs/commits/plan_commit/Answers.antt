@@ -1,35 +1,31 @@
-use Rattle.std.proofs.Common.{List, Result, Ok, Err, IfOk, sym, subst, ◌∙◌}
+use Rattle.std.proofs.Common.{sym, subst, ◌∙◌}
 use Rattle.std.proofs.lemmas.Result.{IfOk-weaker}
 use Rattle.roc_await.specs.Learning.{AreLearnable}
-use Rattle.roc_depgraph.specs.declared.known.KnownList.{KnownList}
-use Rattle.roc_server.specs.declared.handled.Handled.TheVariants.{Ignored}
 use Rattle.roc_server.specs.declared.planned.Change.TheVariants.{Nothing}
 use Rattle.roc_server.specs.Inner.Planned.{after}
 use Rattle.roc_server.specs.Inner.Taught.{Commits}
 use Rattle.roc_server_lists.proofs.Learnable.{carried_learnable}
-use Rattle.roc_server.proofs.CommitSteps.{commit_ignored, commit_taught}
+use Rattle.roc_server.proofs.CommitSteps.{commit_refused, commit_taught}
 use Rattle.roc_server.proofs.Plans.{by_parts}
-use Rattle.roc_server.proofs.SameGroups.{fits_same}
 use Rattle.roc_server.proofs.commits.plan_commit.Goals as goal
 
 pub returns-in-Some-clause-step : goal.returns-in-Some-clause-step
 returns-in-Some-clause-step c =
     let k = c.args.kept.now in
-    by_parts (λ a change. Commits c.args.plan.now c.args.shard k (after c.args.shard k change) c.args.sends.now c.args.sends.now c.args.id c.args.edges.now c.args.facts.now a) c.nothing.result (Ignored c.in-Some.reason) Nothing
+    by_parts (λ a change. Commits c.args.plan.now c.args.shard k (after c.args.shard k change) c.args.sends.now c.args.sends.now c.args.id c.args.edges.now c.args.facts.now a) c.nothing.result c.in-Some.answer Nothing
     c.nothing.ensures.answer c.nothing.ensures.change
-    (commit_ignored c.args.plan.now c.args.shard k c.args.sends.now c.args.id c.args.edges.now c.args.facts.now c.in-Some.reason (sym (c.commit_fault.ensures c.args.shard) ∙ c.in-Some.is))
+    (commit_refused c.args.plan.now c.args.shard k c.args.sends.now c.args.id c.args.edges.now c.args.facts.now c.in-Some.answer (sym (c.commit_refusal.ensures c.args.shard) ∙ c.in-Some.is))
 
 pub plan_lists-requires-clause-learnable : goal.plan_lists-requires-clause-learnable
 plan_lists-requires-clause-learnable c =
-    subst (AreLearnable c.args.kept.now.deps) (sym c.in_ok-news.ensures) (carried_learnable c.args.kept.now.deps c.args.id c.args.edges.now c.args.facts.now c.requires.facts)
+    subst (AreLearnable c.args.kept.now.known) (sym c.in_ok-news.ensures) (carried_learnable c.args.kept.now.known c.args.id c.args.edges.now c.args.facts.now c.requires.facts)
 
 pub returns-clause-step : goal.returns-clause-step
 returns-clause-step c =
     IfOk-weaker c.plan_lists.result _ _
     (λ p t. commit_taught c.args.plan.now c.args.shard c.args.kept.now c.args.sends.now c.args.id c.args.edges.now c.args.facts.now (after c.args.shard c.plan_lists.new.kept p.change) c.plan_lists.new.sends c.in_ok-news.news.items
-    c.if_decided-again.result p.answer (sym (c.commit_fault.ensures c.args.shard) ∙ c.in_default.is) c.in_ok-news.ensures c.if_decided-again.ensures t)
+    c.if_decided-again.result p.answer (sym (c.commit_refusal.ensures c.args.shard) ∙ c.in_default.is) c.in_ok-news.ensures c.if_decided-again.ensures t)
     c.plan_lists.ensures.ok
 
 pub returns-clause-fits : goal.returns-clause-fits
-returns-clause-fits c =
-    IfOk-weaker c.plan_lists.result _ _ (λ p t. fits_same c.args.plan.now c.args.kept.now.started.groups (after c.args.shard c.plan_lists.new.kept p.change).started t.groups c.requires.fits) c.plan_lists.ensures.ok
+returns-clause-fits c = IfOk-weaker c.plan_lists.result _ _ (λ p t. t.groups c.args.plan.now c.requires.fits) c.plan_lists.ensures.ok

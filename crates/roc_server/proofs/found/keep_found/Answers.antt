@@ -19,7 +19,8 @@ returns c =
     record {
       rows = refl;
       started = refl;
-      deps = refl;
+      known = refl;
+      links = refl;
       waiting = on_done c.wait_for.result waits c.wait_for.ensures.waiting ∙ ap (waiting_after old.waits.waiting news) asked;
       fetches = on_done c.wait_for.result waits c.wait_for.ensures.fetches ∙ ap (open_after old.waits.fetches news) asked;
       lacks = c.take.ensures.lacks;
@@ -29,4 +30,5 @@ returns c =
           (on_done c.take-3.result decided c.take-3.ensures.ok);
       index = subst (λ (ids : List TxnId). AreOut ids old.index c.take_out.new.index) c.deref-2.ensures.value c.take_out.ensures;
       marks = refl;
+      taken = c.add.ensures;
     }

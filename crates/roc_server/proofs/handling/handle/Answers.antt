@@ -5,7 +5,7 @@ use Rattle.roc_server.specs.Fits.{AreGroupsOf}
 use Rattle.roc_server.specs.Inner.Planned.{serving}
 use Rattle.roc_server.specs.Inner.ServerData.{state_of}
 use Rattle.roc_server.specs.State.{ServerState}
-use Rattle.roc_server.proofs.AtOnce.{groups_at_once, step_at_once}
+use Rattle.roc_server.proofs.AtOnce.{step_at_once}
 use Rattle.roc_server.proofs.MadeSteps.{groups_from, idle_fits, made_fits, made_step}
 use Rattle.roc_server.proofs.MessageSteps.{comes_from}
 use Rattle.roc_server.proofs.handling.handle.Goals as goal
@@ -15,19 +15,14 @@ returns-then-not-needs_room-clause-step c =
     let shard = c.args.shard in
     let kind : needs_room c.args.msg.now ≡ false = sym c.needs_room.ensures ∙ c.if-not-needs_room.true in
     let at = state_of shard c.let_go.new.kept in
-    comes_from c.args.plan.now at (serving shard c.args.kept.now c.args.ahead.now).state (state_of shard c.take_at_once.new.kept) (state_of shard c.take_at_once.new.kept) c.args.msg.now c.args.outbox.now c.args.outbox.now
-    c.take_at_once.result (c.let_go.ensures.state shard) refl
-    (step_at_once c.args.plan.now shard c.let_go.new.kept c.let_go.ensures.sound c.args.msg.now kind c.args.outbox.now c.take_at_once.result (state_of shard c.take_at_once.new.kept)
-    (c.take_at_once.ensures.answer at) (c.take_at_once.ensures.state kind shard))
+    comes_from c.args.plan.now at (serving shard c.args.kept.now c.args.ahead.now).state at at c.args.msg.now c.args.outbox.now c.args.outbox.now c.foreign.result (c.let_go.ensures.state shard) refl
+    (step_at_once c.args.plan.now shard c.let_go.new.kept c.let_go.ensures.sound c.args.msg.now kind c.args.outbox.now c.foreign.result (c.foreign.ensures at))
 
 pub returns-then-not-needs_room-clause-fits : goal.returns-then-not-needs_room-clause-fits
 returns-then-not-needs_room-clause-fits c =
     let shard = c.args.shard in
-    let kind : needs_room c.args.msg.now ≡ false = sym c.needs_room.ensures ∙ c.if-not-needs_room.true in
-    let groups : c.take_at_once.new.kept.started.groups ≡ (serving shard c.args.kept.now c.args.ahead.now).state.started =
-    ap (λ (s : ServerState). s.started) (sym (c.take_at_once.ensures.state kind shard)) ∙ groups_at_once (state_of shard c.let_go.new.kept) c.args.msg.now
-    ∙ ap (λ (s : ServerState). s.started) (c.let_go.ensures.state shard) in
-    idle_fits c.args.plan.now shard c.take_at_once.new.kept c.let_go.new.ahead c.let_go.ensures.none (subst (AreGroupsOf c.args.plan.now) (sym groups) c.requires.fits.0)
+    let groups : c.let_go.new.kept.started.groups ≡ (serving shard c.args.kept.now c.args.ahead.now).state.started = ap (λ (s : ServerState). s.started) (c.let_go.ensures.state shard) in
+    idle_fits c.args.plan.now shard c.let_go.new.kept c.let_go.new.ahead c.let_go.ensures.none (subst (AreGroupsOf c.args.plan.now) (sym groups) c.requires.fits.0)
 
 pub returns-then-is_made-clause-step : goal.returns-then-is_made-clause-step
 returns-then-is_made-clause-step c =

@@ -14,7 +14,7 @@ returns-then-not-needs_room-clause-answer c =
     let shard = c.args.shard in
     let kind : needs_room c.args.msg.now ≡ false = sym c.needs_room.ensures ∙ c.if-not-needs_room.true in
     let k = kept_before c.args.kept.now c.args.ahead.now in
-    (at_once (state_of shard k) c.args.msg.now, handles_at_once c.args.plan.now shard k (held_sound c.args.kept.now c.args.ahead.now c.requires.held) c.args.msg.now kind, c.answer_at_once.ensures (state_of shard k))
+    (at_once (state_of shard k), handles_at_once c.args.plan.now shard k (held_sound c.args.kept.now c.args.ahead.now c.requires.held) c.args.msg.now kind, c.foreign.ensures (state_of shard k))
 
 pub returns-clause-answer : goal.returns-clause-answer
 returns-clause-answer c =

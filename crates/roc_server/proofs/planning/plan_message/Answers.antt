@@ -1,9 +1,17 @@
-use Rattle.std.proofs.Common.{IfOk, refl, subst}
+use Rattle.std.proofs.Common.{◌≡◌, IfOk, refl, sym, subst}
+use Rattle.std.proofs.lemmas.Result.{IfOk-weaker}
+use Rattle.roc_server.specs.declared.handled.Handled.TheVariants.{Done}
 use Rattle.roc_server.specs.declared.starts.Request.{Request}
 use Rattle.roc_server.specs.Inner.Planned.{after}
-use Rattle.roc_server.specs.Inner.ServerData.{asked}
+use Rattle.roc_server.specs.Inner.ServerData.{asked, state_of}
+use Rattle.roc_server.specs.Fits.{AreGroupsOf}
+use Rattle.roc_server.specs.Lists.{after_ended}
+use Rattle.roc_server.specs.Step.{Shows}
+use Rattle.roc_server.specs.Inner.Settled.{IsHearing, Settles}
 use Rattle.roc_server.specs.Inner.Starts.{StartTaken}
-use Rattle.roc_server.proofs.MessageSteps.{start_comes, commit_comes, known_comes, fetch_comes}
+use Rattle.roc_server.proofs.MessageSteps.{start_comes, commit_comes, known_comes, fetch_comes, ended_comes, settled_comes}
+use Rattle.roc_server.proofs.Plans.{IfOk-both}
+use Rattle.roc_server.proofs.SettledRuns.{hears, hearing_keeps}
 use Rattle.roc_server.proofs.planning.plan_message.Goals as goal
 
 pub returns-in-Commit-clause-step : goal.returns-in-Commit-clause-step
@@ -25,3 +33,30 @@ returns-in_ok-request-in-Start-clause-step c =
     start_comes c.args.plan.now c.args.shard c.args.kept.now c.plan_start.new.kept c.requires.sound c.args.sends.now c.plan_start.new.sends c.plan_start.result c.args.msg.now
     c.in-Start.id c.in-Start.proc c.in-Start.group c.in-Start.args c.in-Start.inputs c.in-Start.args c.in-Start.inputs c.in-Start.is refl refl
     (subst P c.in_ok-request-in-Start.ensures c.plan_start.ensures.step)
+
+pub returns-in-Ended-clause-step : goal.returns-in-Ended-clause-step
+returns-in-Ended-clause-step c =
+    let k = c.args.kept.now in
+    ended_comes c.args.plan.now c.args.shard k k c.requires.sound c.args.sends.now c.args.sends.now c.plan_ended.result c.args.msg.now c.in-Ended.coord c.in-Ended.below c.in-Ended.is
+    (IfOk-both c.plan_ended.result (λ p. p.answer ≡ Done) (λ p. IsHearing k c.in-Ended.coord c.in-Ended.below p.change)
+    (λ p. Shows (after_ended (state_of c.args.shard k) c.in-Ended.coord c.in-Ended.below) p.answer (after c.args.shard k p.change) c.args.sends.now c.args.sends.now)
+    (λ p a h. subst (λ answer. Shows (after_ended (state_of c.args.shard k) c.in-Ended.coord c.in-Ended.below) answer (after c.args.shard k p.change) c.args.sends.now c.args.sends.now) (sym a)
+    (hears c.args.shard k c.in-Ended.coord c.in-Ended.below c.args.sends.now Done p.change h))
+    c.plan_ended.ensures.answer c.plan_ended.ensures.change)
+
+pub returns-in-Ended-clause-fits : goal.returns-in-Ended-clause-fits
+returns-in-Ended-clause-fits c =
+    let k = c.args.kept.now in
+    IfOk-weaker c.plan_ended.result (λ p. IsHearing k c.in-Ended.coord c.in-Ended.below p.change) (λ p. AreGroupsOf c.args.plan.now (after c.args.shard k p.change).started)
+    (λ p h. hearing_keeps c.args.shard k c.in-Ended.coord c.in-Ended.below p.change h c.args.plan.now c.requires.fits) c.plan_ended.ensures.change
+
+pub returns-in-Settled-clause-step : goal.returns-in-Settled-clause-step
+returns-in-Settled-clause-step c =
+    settled_comes c.args.plan.now c.args.shard c.args.kept.now c.plan_settled.new.kept c.requires.sound c.args.sends.now c.plan_settled.new.sends c.plan_settled.result c.args.msg.now c.in-Settled.id c.in-Settled.below c.in-Settled.is c.plan_settled.ensures.step
+
+pub returns-in-Settled-clause-fits : goal.returns-in-Settled-clause-fits
+returns-in-Settled-clause-fits c =
+    IfOk-weaker c.plan_settled.result
+    (λ p. Settles c.args.plan.now c.args.shard c.args.kept.now (after c.args.shard c.plan_settled.new.kept p.change) c.args.sends.now c.plan_settled.new.sends c.in-Settled.id c.in-Settled.below p.answer)
+    (λ p. AreGroupsOf c.args.plan.now (after c.args.shard c.plan_settled.new.kept p.change).started)
+    (λ p s. s.groups c.args.plan.now c.requires.fits) c.plan_settled.ensures.step

@@ -1,4 +1,4 @@
-use Rattle.std.proofs.Common.{◌≡◌, length, take}
+use Rattle.std.proofs.Common.{◌≡◌, take}
 use Rattle.roc_server.proofs.same_msg.are_same.Given as goal
 
 abbrev pub invariant-loop-at : goal.invariant-loop-at

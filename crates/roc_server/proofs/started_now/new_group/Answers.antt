@@ -20,7 +20,7 @@ returns-clause-new c =
     let edges : c.in_ok-edges.edges ≡ edges_for plan k.decided.ids s r.id (asked r) = c.in_ok-edges.ensures ∙ (λ i. entries_for plan k.decided.ids s r.id (immediate i) (cells i)) in
     record {
       reached = f.reached;
-      led = subst (λ (es : List Dependency). AreLedTo k.deps es f.reached) (c.as_slice-2.ensures.entries ∙ edges) f.led;
+      led = subst (λ (es : List Dependency). AreLedTo k.links es f.reached) (c.as_slice-2.ensures.entries ∙ edges) f.led;
       is = (λ i. let e : StartedGroup = record {
         id = r.id;
         proc = r.proc;
@@ -36,11 +36,13 @@ returns-clause-new c =
       } in e);
       store = c.in_ok-bound.ensures.store;
       started = refl;
-      deps = refl;
+      known = refl;
+      links = refl;
       waits = refl;
       decided = refl;
       ancestors = refl;
       lacks = refl;
       index = λ d. refl;
       marks = refl;
+      taken = refl;
     }

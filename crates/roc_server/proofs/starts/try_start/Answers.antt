@@ -11,11 +11,13 @@ returns-clause-new c =
       is = n.is;
       store = n.store;
       started = c.reserve.ensures.groups ∙ n.started;
-      deps = n.deps;
+      known = n.known;
+      links = n.links;
       waits = n.waits;
       decided = n.decided;
       ancestors = n.ancestors;
       lacks = n.lacks;
       index = λ d. c.reserve_group.ensures.refs d ∙ n.index d;
       marks = n.marks;
+      taken = n.taken;
     }

@@ -24,7 +24,7 @@ returns c =
       led = l.rising;
       are =
           is
-          ∙ ap (facts_of c.args.deps.now) (c.deref.ensures.value ∙ l.first)
-          ∙ front_of_front (λ u. record { of = u; edges = entries_of c.args.deps.now u }) most_facts most_fact_edges l.all;
+          ∙ ap (facts_of c.args.known.now) (c.deref.ensures.value ∙ l.first)
+          ∙ front_of_front (λ u. record { of = u; edges = entries_of c.args.known.now u }) most_facts most_fact_edges l.all;
     })
     c.facts_of.ensures

@@ -23,5 +23,5 @@ returns c =
     let found : IfOk c.all_waiting.result (λ groups. groups.items ≡ waiting_groups plan k.decided.ids at) =
     subst (λ ws. IfOk c.all_waiting.result (λ groups. groups.items ≡ ws))
     (over_same waiting_of (is_waiting plan k.decided.ids) (λ e. refl) (λ e. refl) was.started.groups k.started.groups (same_before k ahead c.self.invariant)) c.all_waiting.ensures in
-    subst (λ (v : Serving). IfOk c.all_waiting.result (λ groups. (decided : List TxnId) → AreDecided v.state.lists.known decided → groups.items ≡ waiting_groups plan decided v.state)) c.self.view_is
-    (for_decided c.all_waiting.result (λ groups. groups.items) (λ decided. waiting_groups plan decided at) was.deps k.decided.ids (kept_decided k ahead c.self.invariant) found)
+    subst (λ (v : Serving). IfOk c.all_waiting.result (λ groups. (decided : List TxnId) → AreDecided v.state.lists.links decided → groups.items ≡ waiting_groups plan decided v.state)) c.self.view_is
+    (for_decided c.all_waiting.result (λ groups. groups.items) (λ decided. waiting_groups plan decided at) was.links k.decided.ids (kept_decided k ahead c.self.invariant) found)

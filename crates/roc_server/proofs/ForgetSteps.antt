@@ -1,0 +1,258 @@
+-- What is over is forgotten
+use Rattle.std.proofs.Common.{◌≡◌, ◌&&◌, Bool, true, false, not, cond, if◌then◌else◌, List, [], ◌∷◌, Some, map, filter, refl, sym, ap, subst, ◌∙◌}
+use Rattle.std.proofs.lemmas.Bool.{false≢true, not-true, not_from_false}
+use Rattle.std.specs.List.{AllByRecursion}
+use Rattle.roc_sequence.specs.Lists.{Has}
+use Rattle.roc_sequence.specs.Places.{is_listed, IsListed, NoneTwice}
+use Rattle.roc_sequence.proofs.Holds.{all_has, every_has, has_all, same_tests}
+use Rattle.roc_sequence.proofs.Members.{from_has_filter, from_has_flat_map, has_flat_map}
+use Rattle.roc_sequence.proofs.Places.{listed_test, listed_true}
+use Rattle.roc_base.specs.declared.id.TxnId.{TxnId}
+use Rattle.roc_base.specs.declared.node.Shard.{Shard}
+use Rattle.roc_base.specs.TxnId.{is_txn}
+use Rattle.roc_base.specs.Edge.{Dependency}
+use Rattle.roc_await.specs.Lacks.{AreLacks}
+use Rattle.roc_await.specs.Waits.{Awaited, Waiting, was_asked_for, without_asked}
+use Rattle.roc_await.specs.declared.waits.OpenFetch.{OpenFetch}
+use Rattle.roc_depgraph.specs.declared.known.KnownList.{KnownList}
+use Rattle.roc_depgraph.specs.Closure.{IsRisingListOf}
+use Rattle.roc_depgraph.specs.Deps.{is_known, IsDecided}
+use Rattle.roc_depgraph.proofs.Listed.{has_listed, listed_has}
+use Rattle.roc_rows.specs.declared.cell.Cell.{Cell}
+use Rattle.roc_server_lists.specs.Links.{all_entries, without_links, AreLinksOf}
+use Rattle.roc_server_lists.proofs.FollowedLinks.{links_left}
+use Rattle.roc_server_lists.proofs.ForgottenLinks.{decided_left, known_left, lacks_left, left_decided, left_known}
+use Rattle.roc_server_lists.proofs.WithoutLinks.{entries_left}
+use Rattle.roc_server.specs.declared.left.Left.{Left}
+use Rattle.roc_server.specs.declared.server_data.ServerData.{ServerData}
+use Rattle.roc_server.specs.declared.started.StartedGroup.{StartedGroup}
+use Rattle.roc_server.specs.Below.{is_ended}
+use Rattle.roc_server.specs.Forgets.{forget, is_over, over}
+use Rattle.roc_server.specs.Start.{uses_cell}
+use Rattle.roc_server.specs.State.{is_here}
+use Rattle.roc_server.specs.Inner.Forgetting.{Forgets, IsForgettable}
+use Rattle.roc_server.specs.Inner.Indexed.{group_ref_of, group_refs_of, undecided}
+use Rattle.roc_server.specs.Inner.Keyed.{Entered}
+use Rattle.roc_server.specs.Inner.Left.{links_left as links_left_of, IsLeft, IsOver, TakenComponents}
+use Rattle.roc_server.specs.Inner.ServerData.{state_of, is_left, is_same_group, IsConsistent, IsRight}
+use Rattle.roc_server.proofs.IndexSteps.{filter_both}
+use Rattle.roc_server.proofs.SomeLeft.{any_some, members, member_all, member_some, members_once, none_of_others, not_in_two, once_some, some_member}
+
+-- ---- the index has the same references, where what is forgotten was decided and about the rest the same is
+
+index_left : (forgotten : TxnId → Bool) (before after : List TxnId) → ((t : TxnId) → forgotten t ≡ true → is_listed is_txn before t ≡ true)
+    → ((t : TxnId) → forgotten t ≡ false → is_listed is_txn after t ≡ is_listed is_txn before t)
+    → (c : Cell) (es : List StartedGroup) → undecided before (group_refs_of c es) ≡ undecided after (group_refs_of c (filter (λ e. not (forgotten e.id)) es))
+index_left forgotten before after were same c [] = refl
+index_left forgotten before after were same c (e ∷ es) = go (forgotten e.id) refl (uses_cell c e) refl (index_left forgotten before after were same c es)
+  where
+    some : List StartedGroup
+    some = filter (λ x. not (forgotten x.id)) es
+
+    go : (b : Bool) → forgotten e.id ≡ b → (u : Bool) → uses_cell c e ≡ u → undecided before (group_refs_of c es) ≡ undecided after (group_refs_of c some)
+        → undecided before (if u then group_ref_of e ∷ group_refs_of c es else group_refs_of c es) ≡ undecided after (group_refs_of c (cond (not b) (e ∷ some) some))
+    go true f true used ih = ap (λ b. cond (not b) (group_ref_of e ∷ undecided before (group_refs_of c es)) (undecided before (group_refs_of c es))) (were e.id f) ∙ ih
+    go true f false used ih = ih
+    go false f true used ih =
+        (λ i. cond (not (sym (same e.id f) i)) (group_ref_of e ∷ ih i) (ih i))
+        ∙ ap (λ u. undecided after (if u then group_ref_of e ∷ group_refs_of c some else group_refs_of c some)) (sym used)
+    go false f false used ih = ih ∙ ap (λ u. undecided after (if u then group_ref_of e ∷ group_refs_of c some else group_refs_of c some)) (sym used)
+
+-- ---- something is over
+
+module _ (was : ServerData) (left : Left) (right : IsRight was) (o : IsOver was.marks was.taken.components was.links (Some left)) where
+  abbrev gone : List TxnId
+  gone = left.over.items
+
+  abbrev components : List (List TxnId)
+  components = was.taken.components
+
+  abbrev passes : List TxnId → Bool
+  passes c = is_over was.marks c
+
+  abbrev forgotten : TxnId → Bool
+  forgotten t = is_listed is_txn gone t
+
+  abbrev stays : TxnId → Bool
+  stays t = not (forgotten t)
+
+  rest : IsLeft was.links gone left
+  rest = subst (λ ids. IsLeft was.links ids left) (sym o.rest.over_is) o.rest
+
+  are : IsRisingListOf (IsListed is_txn (over was.marks components)) gone
+  are = subst (IsRisingListOf (IsListed is_txn (over was.marks components))) (sym o.rest.over_is) o.are
+
+  is_forgotten : (t : TxnId) → forgotten t ≡ is_listed is_txn (over was.marks components) t
+  is_forgotten t =
+      same_tests (forgotten t) (is_listed is_txn (over was.marks components) t) (λ e. listed_test is_txn (over was.marks components) t (are.sound t (listed_true is_txn gone t e)))
+      (λ e. listed_test is_txn gone t (are.complete t (listed_true is_txn (over was.marks components) t e)))
+
+  -- exactly the members of components that are over are forgotten
+  in_over : (t : TxnId) → forgotten t ≡ true → (c : List TxnId) × Has c components × Has t c × (passes c ≡ true)
+  in_over t e = some_member passes components t (are.sound t (listed_true is_txn gone t e))
+
+  over_gone : (c : List TxnId) (t : TxnId) → Has c components → Has t c → passes c ≡ true → forgotten t ≡ true
+  over_gone c t h k e = listed_test is_txn gone t (are.complete t (member_some passes components c t h k e))
+
+  open_stays : (c : List TxnId) (t : TxnId) → Has c components → Has t c → passes c ≡ false → forgotten t ≡ false
+  open_stays c t h k n = go (forgotten t) refl
+    where
+      go : (b : Bool) → forgotten t ≡ b → b ≡ false
+      go true e = let d = in_over t e in absurd (not_in_two passes components right.taken_once d.0 c t d.1 h d.2 k d.3 n)
+      go false e = refl
+
+  -- they were decided, and are ended
+  was_decided : (t : TxnId) → forgotten t ≡ true → IsDecided was.links t
+  was_decided t e = right.decided_only t (right.taken_decided t (member_all passes components t (are.sound t (listed_true is_txn gone t e))))
+
+  were_ended : (t : TxnId) → forgotten t ≡ true → is_ended was.marks t ≡ true
+  were_ended t e = let c = in_over t e in every_has (is_ended was.marks) c.0 c.3 t c.2
+
+  abbrev left_links : List KnownList
+  left_links = links_left_of was.links gone
+
+  -- about all others nothing changes
+  stays_decided : (t : TxnId) → IsDecided was.links t → forgotten t ≡ false → IsListed is_txn left.decided.ids t
+  stays_decided t d n = rest.decided.complete t (subst (λ ks. IsDecided ks t) (sym rest.links_are) (decided_left forgotten was.links t d n))
+
+  was_so : (t : TxnId) → IsListed is_txn left.decided.ids t → IsDecided was.links t × (forgotten t ≡ false)
+  was_so t l = left_decided forgotten was.links was_decided t (subst (λ ks. IsDecided ks t) rest.links_are (rest.decided.sound t l))
+
+  same_decided : (t : TxnId) → forgotten t ≡ false → is_listed is_txn left.decided.ids t ≡ is_listed is_txn was.decided.ids t
+  same_decided t n =
+      same_tests (is_listed is_txn left.decided.ids t) (is_listed is_txn was.decided.ids t)
+      (λ e. listed_test is_txn was.decided.ids t (right.decided_all t (was_so t (listed_true is_txn left.decided.ids t e)).0))
+      (λ e. listed_test is_txn left.decided.ids t (stays_decided t (right.decided_only t (listed_true is_txn was.decided.ids t e)) n))
+
+  same_known : (t : TxnId) → forgotten t ≡ false → is_known left_links t ≡ is_known was.links t
+  same_known t n = same_tests (is_known left_links t) (is_known was.links t) (λ e. (known_left forgotten was.links t e).0) (λ e. left_known forgotten was.links t e n)
+
+  -- what is followed of what is left is known, here or asked for
+  abbrev left_over : List KnownList → List StartedGroup → List OpenFetch → Dependency → Bool
+  left_over ks es asked d = not (is_known ks d.from) && (not (is_here d.from es) && not (was_asked_for d.from asked))
+
+  abbrev some_started : List StartedGroup
+  some_started = filter (λ e. stays e.id) was.started.groups
+
+  abbrev some_asked : List OpenFetch
+  some_asked = filter (λ a. stays a.id) was.waits.waiting.asked
+
+  none_left_now : AllByRecursion (λ d. left_over left_links some_started some_asked d ≡ false) (all_entries left_links)
+  none_left_now = has_all (λ d. left_over left_links some_started some_asked d ≡ false) (all_entries left_links) one
+    where
+      lists : List KnownList
+      lists = filter (λ k. stays k.of) was.links
+
+      one : (d : Dependency) → Has d (all_entries left_links) → left_over left_links some_started some_asked d ≡ false
+      one d h =
+          let p = from_has_filter (λ (x : Dependency). stays x.from) d (all_entries lists) (subst (Has d) (entries_left forgotten lists) h) in
+          let k = from_has_flat_map (λ (k : KnownList). k.edges) d lists p.0 in
+          let named = has_flat_map (λ (k : KnownList). k.edges) d k.0 was.links (from_has_filter (λ (k : KnownList). stays k.of) k.0 was.links k.1).0 k.2 in
+          let n = not-true (forgotten d.from) p.1 in
+          (λ i. not (same_known d.from n i) && (not (any_some (λ (e : StartedGroup). e.id) forgotten d.from n was.started.groups i) && not (any_some (λ (a : OpenFetch). a.id) forgotten d.from n was.waits.waiting.asked i)))
+          ∙ all_has (λ d. is_left was d ≡ false) d (all_entries was.links) right.none_left named
+
+  -- what is open of what is left is what was asked for and is unknown
+  open_now : filter (λ a. stays a.id) was.waits.fetches ≡ filter (λ (a : OpenFetch). not (is_known left_links a.id)) some_asked
+  open_now =
+      ap (filter (λ (a : OpenFetch). stays a.id)) right.open_unknown
+      ∙ filter_both (λ (a : OpenFetch). not (is_known was.links a.id)) (λ a. stays a.id) (λ a. stays a.id && not (is_known was.links a.id)) (λ a. swap (not (is_known was.links a.id)) (stays a.id)) was.waits.waiting.asked
+      ∙ sym (filter_both (λ (a : OpenFetch). stays a.id) (λ a. not (is_known left_links a.id)) (λ a. stays a.id && not (is_known was.links a.id)) (λ a. alike a (forgotten a.id) refl) was.waits.waiting.asked)
+    where
+      swap : (b c : Bool) → (b && c) ≡ (c && b)
+      swap true true = refl
+      swap true false = refl
+      swap false true = refl
+      swap false false = refl
+
+      alike : (a : OpenFetch) (b : Bool) → forgotten a.id ≡ b → (not b && not (is_known left_links a.id)) ≡ (not b && not (is_known was.links a.id))
+      alike a true e = refl
+      alike a false e = ap not (same_known a.id e)
+
+  -- ---- what is left is consistent
+
+  module _ (started : Entered) (known : List KnownList) (waits : Awaited) (taken : TakenComponents) (groups_are : started.groups ≡ some_started) (known_are : known ≡ filter (λ k. stays k.of) was.known)
+      (waiting_is : waits.waiting ≡ without_asked forgotten was.waits.waiting) (fetches_are : waits.fetches ≡ filter (λ a. stays a.id) was.waits.fetches)
+      (taken_are : taken.components ≡ filter (λ c. not (passes c)) components) where
+    abbrev new : ServerData
+    new = record was { started = started; known = known; links = left.links; waits = waits; decided = left.decided; ancestors = left.ancestors; taken = taken }
+
+    asked_are : waits.waiting.asked ≡ some_asked
+    asked_are = ap (λ (w : Waiting). w.asked) waiting_is
+
+    open_members : (t : TxnId) → IsListed is_txn (members taken.components) t → IsListed is_txn (members components) t × (forgotten t ≡ false)
+    open_members t l =
+        let p = some_member (λ c. not (passes c)) components t (subst (λ cs. IsListed is_txn (members cs) t) taken_are l) in
+        (has_listed (members components) t (has_flat_map (λ c. c) t p.0 components p.1 p.2), open_stays p.0 t p.1 p.2 (not-true (passes p.0) p.3))
+
+    members_open : (t : TxnId) → IsListed is_txn (members components) t → forgotten t ≡ false → IsListed is_txn (members taken.components) t
+    members_open t l n =
+        let c = from_has_flat_map (λ c. c) t components (listed_has (members components) t l) in
+        subst (λ cs. IsListed is_txn (members cs) t) (sym taken_are)
+        (member_some (λ c. not (passes c)) components c.0 t c.1 c.2 (not_from_false (passes c.0) (go c.0 c.1 c.2 (passes c.0) refl)))
+      where
+        go : (c : List TxnId) → Has c components → Has t c → (b : Bool) → passes c ≡ b → b ≡ false
+        go c h k true e = absurd (false≢true (sym n ∙ over_gone c t h k e))
+        go c h k false e = refl
+
+    right_now : IsRight new
+    right_now = record {
+      groups_once = subst (NoneTwice is_same_group) (sym groups_are) (once_some is_same_group (λ e. stays e.id) was.started.groups right.groups_once);
+      decided_rising = rest.decided.rising;
+      decided_only = rest.decided.sound;
+      decided_all = rest.decided.complete;
+      rows = rest.rows;
+      lacks = subst (λ ks. AreLacks ks was.lacks) (sym rest.links_are) (lacks_left forgotten was.links was_decided was.lacks right.lacks);
+      index = λ c.
+          right.index c
+          ∙ index_left forgotten was.decided.ids left.decided.ids (λ t e. listed_test is_txn was.decided.ids t (right.decided_all t (was_decided t e))) same_decided c was.started.groups
+          ∙ ap (λ es. undecided left.decided.ids (group_refs_of c es)) (sym groups_are);
+      none_left =
+          subst (λ es. AllByRecursion (λ d. left_over left.links es waits.waiting.asked d ≡ false) (all_entries left.links)) (sym groups_are)
+          (subst (λ asked. AllByRecursion (λ d. left_over left.links some_started asked d ≡ false) (all_entries left.links)) (sym asked_are)
+          (subst (λ ks. AllByRecursion (λ d. left_over ks some_started some_asked d ≡ false) (all_entries ks)) (sym rest.links_are) none_left_now));
+      open_unknown = fetches_are ∙ open_now ∙ (λ i. filter (λ (a : OpenFetch). not (is_known (sym rest.links_are i) a.id)) (sym asked_are i));
+      linked =
+          subst (λ ks. AreLinksOf (is_ended was.marks) ks left.links) (sym known_are)
+          (subst (AreLinksOf (is_ended was.marks) (filter (λ k. stays k.of) was.known)) (sym rest.links_are) (links_left (is_ended was.marks) forgotten were_ended stays was.known was.links right.linked));
+      taken_decided = λ t l. let p = open_members t l in stays_decided t (right.decided_only t (right.taken_decided t p.0)) p.1;
+      decided_taken = λ t l. let p = was_so t l in members_open t (right.decided_taken t (right.decided_all t p.0)) p.1;
+      taken_once = subst (λ cs. NoneTwice is_txn (members cs)) (sym taken_are) (members_once (λ c. not (passes c)) components right.taken_once);
+      taken_some = λ c h. right.taken_some c (from_has_filter (λ c. not (passes c)) c components (subst (Has c) taken_are h)).0;
+    }
+
+    forgotten_now : IsConsistent new
+    forgotten_now = record { right = right_now; none_over = ap (over was.marks) taken_are ∙ ap members (none_of_others passes components) }
+
+    state_now : (shard : Shard) → state_of shard new ≡ forget (state_of shard was)
+    state_now shard i = record {
+      shard = shard;
+      store = was.rows.store;
+      started = (groups_are ∙ (λ j. filter (λ (e : StartedGroup). not (is_forgotten e.id j)) was.started.groups)) i;
+      lists = record {
+        known = (known_are ∙ (λ j. filter (λ (k : KnownList). not (is_forgotten k.of j)) was.known)) i;
+        links = (rest.links_are ∙ (λ j. map (without_links (λ t. is_forgotten t j)) (filter (λ (k : KnownList). not (is_forgotten k.of j)) was.links))) i;
+        waiting = (waiting_is ∙ (λ j. without_asked (λ t. is_forgotten t j) was.waits.waiting)) i;
+        taken = taken_are i;
+      };
+      below = was.marks;
+    }
+
+    forgets : (old : ServerData) → Forgets old new was
+    forgets old = record { state = state_now; sound = forgotten_now }
+
+-- the same, where other things were made anew already, by the lists of what is forgotten that the calls were given
+pub forgets_from : (old : ServerData) (left : Left) (f : IsForgettable old left) (first second third : List TxnId) (started : Entered) (known : List KnownList) (waits : Awaited) (taken : TakenComponents)
+    → first ≡ left.over.items → second ≡ left.over.items → third ≡ left.over.items → started.groups ≡ filter (λ e. not (is_listed is_txn first e.id)) old.started.groups
+    → known ≡ filter (λ k. not (is_listed is_txn second k.of)) old.known → waits.waiting ≡ without_asked (is_listed is_txn third) old.waits.waiting
+    → waits.fetches ≡ filter (λ a. not (is_listed is_txn third a.id)) old.waits.fetches → taken.components ≡ filter (λ c. not (is_over old.marks c)) old.taken.components
+    → Forgets old (record old { started = started; known = known; links = left.links; waits = waits; decided = left.decided; ancestors = left.ancestors; taken = taken }) f.was
+forgets_from old left f first second third started known waits taken one two three groups_are known_are waiting_is fetches_are taken_are =
+    subst (λ k. Forgets old k f.was)
+    (λ i. record (sym f.same i) { started = started; known = known; links = left.links; waits = waits; decided = left.decided; ancestors = left.ancestors; taken = taken })
+    (forgets f.was left f.is_over.right f.is_over.over started known waits taken
+    (groups_are ∙ (λ i. filter (λ (e : StartedGroup). not (is_listed is_txn (one i) e.id)) (f.same i).started.groups))
+    (known_are ∙ (λ i. filter (λ (k : KnownList). not (is_listed is_txn (two i) k.of)) (f.same i).known))
+    (waiting_is ∙ (λ i. without_asked (is_listed is_txn (three i)) (f.same i).waits.waiting))
+    (fetches_are ∙ (λ i. filter (λ (a : OpenFetch). not (is_listed is_txn (three i) a.id)) (f.same i).waits.fetches))
+    (taken_are ∙ (λ i. filter (λ (c : List TxnId). not (is_over (f.same i).marks c)) (f.same i).taken.components)) old)

@@ -1,0 +1,53 @@
+-- What is left of lists once some of their transactions are forgotten
+use Rattle.std.proofs.Common.{◌≡◌, ◌↔◌, ◌++◌, Bool, not, List, [], map, filter, sym, subst, ◌∙◌}
+use Rattle.std.proofs.lemmas.Bool.{not-true, not_from_false}
+use Rattle.roc_sequence.specs.Places.{is_listed, IsListed}
+use Rattle.roc_sequence.proofs.Filtered.{from_listed_filter, listed_filter}
+use Rattle.roc_sequence.proofs.Places.{listed_true}
+use Rattle.roc_base.specs.declared.id.TxnId.{TxnId}
+use Rattle.roc_base.specs.TxnId.{is_txn}
+use Rattle.roc_base.specs.Equalities.{is_txn-true}
+use Rattle.roc_depgraph.specs.declared.known.KnownList.{KnownList}
+use Rattle.roc_depgraph.specs.Closure.{IsRisingListOf}
+use Rattle.roc_depgraph.specs.Deps.{IsDecided}
+use Rattle.roc_server_lists.specs.Links.{without_links}
+use Rattle.roc_server_lists.proofs.ForgottenLinks.{decided_left, left_decided}
+use Rattle.roc_server.specs.Inner.Left.{links_left}
+
+-- the lists were taken out and their entries left out by lists that are the forgotten ones
+pub links_are : (links left : List KnownList) (over gone done : List TxnId) → gone ≡ over → done ≡ over → left ≡ map (without_links (is_listed is_txn done)) (filter (λ k. not (is_listed is_txn gone k.of)) links)
+    → left ≡ links_left links over
+links_are links left over gone done first second h = h ∙ (λ i. map (without_links (is_listed is_txn (second i))) (filter (λ k. not (is_listed is_txn (first i) k.of)) links))
+
+pub members_are : (all ids over gone : List TxnId) → gone ≡ over → ids ≡ filter (λ t. not (is_listed is_txn gone t)) all → ids ≡ filter (λ t. not (is_listed is_txn over t)) all
+members_are all ids over gone same h = h ∙ (λ i. filter (λ t. not (is_listed is_txn (same i) t)) all)
+
+module _ (links left : List KnownList) (over all : List TxnId) (left_is : left ≡ links_left links over) (decided : (t : TxnId) → IsListed is_txn all t ↔ IsDecided links t)
+    (members : (t : TxnId) → IsListed is_txn over t → IsDecided links t) where
+  abbrev forgotten : TxnId → Bool
+  forgotten t = is_listed is_txn over t
+
+  abbrev stays : TxnId → Bool
+  stays t = not (forgotten t)
+
+  -- the members that are not forgotten are decided by what is left
+  pub some_decided : (t : TxnId) → IsListed is_txn (filter stays all) t → IsDecided left t
+  some_decided t l =
+      let p = from_listed_filter is_txn is_txn-true stays all t l in
+      subst (λ ks. IsDecided ks t) (sym left_is) (decided_left forgotten links t ((decided t).0 p.1) (not-true (forgotten t) p.0))
+
+  -- and nothing else is
+  pub decided_some : (t : TxnId) → IsDecided left t → IsListed is_txn (filter stays all) t
+  decided_some t d =
+      let p = left_decided forgotten links (λ u e. members u (listed_true is_txn over u e)) t (subst (λ ks. IsDecided ks t) left_is d) in
+      listed_filter is_txn is_txn-true stays all t (not_from_false (forgotten t) p.1) ((decided t).1 p.0)
+
+  -- so a rising list of the ones is one of the others
+  pub left_decide : (ids more rising : List TxnId) → ids ≡ filter stays all → more ≡ [] → IsRisingListOf (IsListed is_txn (more ++ ids)) rising → IsRisingListOf (IsDecided left) rising
+  left_decide ids more rising are none h =
+      let same : more ++ ids ≡ filter stays all = (λ i. none i ++ are i) in
+      record {
+        rising = h.rising;
+        sound = λ t l. some_decided t (subst (λ ts. IsListed is_txn ts t) same (h.sound t l));
+        complete = λ t d. h.complete t (subst (λ ts. IsListed is_txn ts t) (sym same) (decided_some t d));
+      }

@@ -1,0 +1,113 @@
+-- What is missing once new lists are learnt, as it is read off the new ones
+use Rattle.std.proofs.Common.{◌≡◌, ◌≢◌, ◌==◌, ◌&&◌, suc, Bool, true, false, not, cond, List, [], ◌∷◌, ◌++◌, map, filter, if◌then◌else◌, refl, sym, ap, subst, ◌∙◌, inl, inr}
+use Rattle.std.proofs.lemmas.Bool.{false≢true, and_parts, not-true}
+use Rattle.roc_sequence.specs.Lists.{Has}
+use Rattle.roc_sequence.specs.Places.{is_listed}
+use Rattle.roc_sequence.proofs.Holds.{all_has}
+use Rattle.roc_sequence.proofs.Members.{from_has_filter, has_filter}
+use Rattle.roc_base.specs.declared.id.TxnId.{TxnId}
+use Rattle.roc_base.specs.declared.node.Shard.{Shard}
+use Rattle.roc_base.specs.TxnId.{is_txn}
+use Rattle.roc_base.specs.Edge.{Dependency}
+use Rattle.roc_base.specs.Edges.{united}
+use Rattle.roc_base.proofs.Members.{IsAllOf-united}
+use Rattle.roc_await.specs.declared.waits.OpenFetch.{OpenFetch}
+use Rattle.roc_await.specs.Waits.{was_asked_for}
+use Rattle.roc_depgraph.specs.declared.known.KnownList.{KnownList}
+use Rattle.roc_depgraph.specs.Deps.{is_known}
+use Rattle.roc_depgraph.proofs.Laws.{known_stays}
+use Rattle.roc_server_lists.specs.Asking.{asked_of}
+use Rattle.roc_server_lists.specs.Links.{all_entries, least_naming}
+use Rattle.roc_server_lists.proofs.FollowedLinks.{followed_among_all}
+use Rattle.roc_server_lists.proofs.Learning.{keeps_front}
+use Rattle.roc_server_lists.proofs.LeastNaming.{least_of_news}
+use Rattle.roc_server_lists.proofs.WithoutLinks.{entries_left, united_left}
+use Rattle.roc_server.specs.declared.server_data.ServerData.{ServerData}
+use Rattle.roc_server.specs.Below.{is_ended}
+use Rattle.roc_server.specs.Lists.{is_done, is_missing, links_of, missing_after}
+use Rattle.roc_server.specs.State.{is_here, ServerState}
+use Rattle.roc_server.specs.Inner.ServerData.{state_of, IsRight}
+use Rattle.roc_server.specs.Inner.Taught.{asked_by}
+use Rattle.roc_server.proofs.IndexSteps.{filter_both}
+use Rattle.roc_server.proofs.LeftOut.{missing_of_news}
+
+-- tests that agree on what is there
+pub filter_alike : {A : Type 0} (p q : A → Bool) (xs : List A) → ((x : A) → Has x xs → p x ≡ q x) → filter p xs ≡ filter q xs
+filter_alike p q [] h = refl
+filter_alike p q (x ∷ xs) h = λ i. cond (h x (inl refl) i) (x ∷ filter_alike p q xs (λ y k. h y (inr k)) i) (filter_alike p q xs (λ y k. h y (inr k)) i)
+
+pub map_alike : {A B : Type 0} (f g : A → B) (xs : List A) → ((x : A) → Has x xs → f x ≡ g x) → map f xs ≡ map g xs
+map_alike f g [] h = refl
+map_alike f g (x ∷ xs) h = λ i. h x (inl refl) i ∷ map_alike f g xs (λ y k. h y (inr k)) i
+
+module _ (shard : Shard) (old : ServerData) (h : IsRight old) (news : List KnownList) where
+  abbrev s : ServerState
+  s = state_of shard old
+
+  abbrev known : List KnownList
+  known = old.known ++ news
+
+  abbrev done : TxnId → Bool
+  done = is_done s known
+
+  abbrev links : List KnownList
+  links = old.links ++ links_of s news
+
+  abbrev named : List Dependency
+  named = united (all_entries news)
+
+  abbrev lacking : Dependency → Bool
+  lacking d = not (done d.from) && is_missing s links d
+
+  -- what new lists name and is missing
+  lacking_is : filter lacking named ≡ filter (is_missing s links) (united (all_entries links))
+  lacking_is =
+      sym (filter_both (λ d. not (done d.from)) (is_missing s links) lacking (λ d. refl) named)
+      ∙ ap (filter (is_missing s links)) (sym (united_left (λ d. not (done d.from)) (λ a b e. ap (λ t. not (done t)) e) (all_entries news)) ∙ ap united (sym (entries_left done news)))
+      ∙ missing_of_news s old.links (links_of s news) (keeps_front old.links (links_of s news)) h.none_left
+
+  -- what is not ended is followed wherever it is named
+  not_done : (t : TxnId) → is_ended old.marks t ≡ false → done t ≡ false
+  not_done t e = ap (λ b. b && (not (is_here t s.started) && least_naming t (suc shard.0) (all_entries known) == shard.0)) e
+
+  -- so of what is missing and not ended no list was known before
+  unnamed : (d : Dependency) → is_missing s links d ≡ true → is_ended old.marks d.from ≡ false → (e : Dependency) → Has e (all_entries old.known) → e.from ≢ d.from
+  unnamed d missing n e has same =
+      let followed = followed_among_all (is_ended old.marks) old.known old.links h.linked e has (ap (is_ended old.marks) same ∙ n) in
+      let left : is_missing s old.links e ≡ false = all_has (λ d. is_missing s old.links d ≡ false) e (all_entries old.links) h.none_left followed in
+      let now = and_parts (not (is_known links d.from)) (not (is_here d.from s.started) && not (was_asked_for d.from s.lists.waiting.asked)) missing in
+      let rest = and_parts (not (is_here d.from s.started)) (not (was_asked_for d.from s.lists.waiting.asked)) now.1 in
+      let left2 : (not (is_known old.links d.from) && (not (is_here d.from s.started) && not (was_asked_for d.from s.lists.waiting.asked))) ≡ false =
+      subst (λ (t : TxnId). (not (is_known old.links t) && (not (is_here t s.started) && not (was_asked_for t s.lists.waiting.asked))) ≡ false) same left in
+      clash (is_known old.links d.from) refl left2 (not-true (is_known links d.from) now.0) rest.0 rest.1
+    where
+      clash : (b : Bool) → is_known old.links d.from ≡ b → (not (is_known old.links d.from) && (not (is_here d.from s.started) && not (was_asked_for d.from s.lists.waiting.asked))) ≡ false
+          → is_known links d.from ≡ false → not (is_here d.from s.started) ≡ true → not (was_asked_for d.from s.lists.waiting.asked) ≡ true → ⊥
+      clash true e l k a b = false≢true (sym k ∙ known_stays old.links links (keeps_front old.links (links_of s news)) d.from e)
+      clash false e l k a b = false≢true (sym l ∙ (λ i. not (e i) && (a i && b i)))
+
+  -- the shard that is asked is the least of all
+  asked_is : (d : Dependency) → Has d (filter lacking named) → asked_by old.marks known d ≡ asked_of known d
+  asked_is d has = go (is_ended old.marks d.from) refl
+    where
+      go : (b : Bool) → is_ended old.marks d.from ≡ b → (if is_ended old.marks d.from then asked_of known d else record { id = d.from; at = d.at }) ≡ asked_of known d
+      go true e = ap (λ b. if b then asked_of known d else record { id = d.from; at = d.at }) e
+      go false e =
+          let f = from_has_filter lacking d named has in
+          let p = and_parts (not (done d.from)) (is_missing s links d) f.1 in
+          let there : Has d (united (all_entries (links_of s news))) =
+          subst (Has d) (sym (united_left (λ d. not (done d.from)) (λ a b e. ap (λ t. not (done t)) e) (all_entries news)) ∙ ap united (sym (entries_left done news)))
+          (has_filter (λ d. not (done d.from)) d named f.0 p.0) in
+          ap (λ b. if b then asked_of known d else record { id = d.from; at = d.at }) e
+          ∙ (λ i. record { id = d.from; at = record { 0 = sym (least_of_news done old.known news d (unnamed d p.1 e) (not_done d.from e) there) i } })
+
+  pub missing_is : (asks : List OpenFetch) (edges : List Dependency) (listed : List TxnId) → edges ≡ named → ((d : Dependency) → Has d (all_entries news) → is_listed is_txn listed d.from ≡ done d.from)
+      → asks ≡ map (asked_by old.marks known) (filter (λ d. not (is_listed is_txn listed d.from) && is_missing s links d) edges) → asks ≡ missing_after s news
+  missing_is asks edges listed are alike found =
+      found
+      ∙ ap (λ es. map (asked_by old.marks known) (filter (λ d. not (is_listed is_txn listed d.from) && is_missing s links d) es)) are
+      ∙ ap (map (asked_by old.marks known)) (filter_alike (λ d. not (is_listed is_txn listed d.from) && is_missing s links d) lacking named
+      (λ d has. let a = (IsAllOf-united (all_entries news) d has).at in
+      ap (λ b. not b && is_missing s links d) (subst (λ t. is_listed is_txn listed t ≡ done t) a.2 (alike a.0 a.1))))
+      ∙ map_alike (asked_by old.marks known) (asked_of known) (filter lacking named) asked_is
+      ∙ ap (map (asked_of known)) lacking_is

@@ -1,0 +1,8 @@
+use Rattle.std.proofs.Common.{◌≡◌, map, filter, take}
+use Rattle.roc_server.specs.Lists.{is_done}
+use Rattle.roc_server.specs.State.{ServerState}
+use Rattle.roc_server.proofs.missing.done_of.Given as goal
+
+abbrev pub invariant-loop-edge : goal.invariant-loop-edge
+invariant-loop-edge l = (s : ServerState) → s.shard ≡ l.shard → s.below ≡ l.kept.marks → s.started ≡ l.kept.started.groups
+    → l.done.items ≡ map (λ d. d.from) (filter (λ d. is_done s l.kept.known d.from) (take l.edge-index l.edges))

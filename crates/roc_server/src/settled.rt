@@ -1,0 +1,249 @@
+//! Watermarks, and transactions for which nobody has to wait any more.
+ghost use Rattle.std.specs.Prelude.{◌≡◌, ◌++◌, ◌&&◌, not, map, filter, IfOk, OnOk, OnErr};
+ghost use Rattle.std.specs.List.Sorted.{IsStrictlySortedBy};
+ghost use Rattle.roc_base.specs.TxnId.{is_txn, txn_cmp};
+ghost use Rattle.roc_base.specs.declared.id.TxnId.{TxnId as Id};
+ghost use Rattle.roc_msg.specs.Outbox.{HoldsSame};
+ghost use Rattle.roc_sequence.specs.Places.{IsListed, NoneTwice, is_listed};
+ghost use Rattle.roc_server.specs.Below.{is_ended};
+ghost use Rattle.roc_server.specs.Fits.{AreGroupsOf};
+ghost use Rattle.roc_server.specs.Inner.Planned.{after, IsPlannedFrom, IsSettledFrom};
+ghost use Rattle.roc_server.specs.Inner.Runs.{restored};
+ghost use Rattle.roc_server.specs.Inner.ServerData.{is_same_group, IsConsistent, IsRight, IsSame};
+ghost use Rattle.roc_server.specs.Inner.Settled.{IsDeciding, IsHearing, IsSettling, Settles, SettlesRuns};
+ghost use Rattle.roc_server.specs.Inner.Taught.{KeepsBesideRuns};
+ghost use Rattle.roc_server.specs.declared.handled.Handled.TheVariants.{Done};
+ghost use Rattle.roc_server.specs.declared.planned.Change.TheVariants.{Settled};
+
+use crate::Handled;
+use crate::commitoks::send_commitoks;
+use crate::left::{Left, left_if_over, left_of, over_among};
+use crate::marks::Marks;
+use crate::missing::was_asked_for;
+use crate::planned::{Change, Heard, Planned, Settlement};
+use crate::runs::{Earlier, put_back};
+use crate::server_data::ServerData;
+use crate::taken::push_members;
+use crate::teach::run_decided;
+use roc_await::{Lacks, NextLacks};
+use roc_base::{NoMemory, Shard, TxnId};
+use roc_depgraph::Deps;
+use roc_msg::Outbox;
+use roc_plan::Plan;
+use roc_sequence::Sequence;
+use roc_server_lists::{Decided, links_without, newly_taken};
+use std::alloc::Global;
+
+// What comes of a settled transaction: the watermarks; the transaction itself, where its watermark ends it, and whether its list is
+// known; what the others lack then; the components that become decided, and the transactions in them, one after another; and what is left.
+#[derive(Drop)]
+pub(crate) struct Settling {
+    pub marks: Marks,
+    pub settled: Vec<TxnId>,
+    pub is_known: bool,
+    pub lacks: NextLacks,
+    pub components: Vec<Sequence<TxnId>>,
+    pub ids: Vec<TxnId>,
+    pub left: Left,
+}
+
+// What is followed once entries are done, and what comes of it.
+#[derive(Drop)]
+struct Deciding {
+    links: Deps,
+    lacks: NextLacks,
+    components: Vec<Sequence<TxnId>>,
+    ids: Vec<TxnId>,
+}
+
+// Plans that a watermark is heard.
+pub(crate) fn plan_ended(
+    alloc: Global,
+    kept: &ServerData,
+    coord: u16,
+    mark: u32,
+    answer: Handled,
+) -> Result<Planned, NoMemory>
+    requires sound { IsConsistent kept.now }
+    ensures answer { IfOk result (λ p. p.answer ≡ answer) }
+    ensures change { IfOk result (λ p. IsHearing kept.now coord mark p.change) }
+{
+    let marks = kept.marks.raised(coord, mark);
+    let taken = kept.taken.as_slice();
+    let over = over_among(alloc, &marks, taken, &[])?;
+    let left = left_if_over(alloc, &kept.known, &kept.links, taken, &[], over)?;
+    Ok(Planned {
+        answer,
+        change: Change::Marks(Heard { marks, left }),
+    })
+}
+
+// Plans that nobody has to wait for a transaction any more. Where it was not asked for, its watermark alone is heard.
+pub(crate) fn plan_settled(
+    alloc: Global,
+    plan: &Plan,
+    shard: Shard,
+    kept: &mut ServerData,
+    id: TxnId,
+    mark: u32,
+    sends: &mut Outbox,
+) -> Result<Planned, NoMemory>
+    requires fits { AreGroupsOf plan.now kept.old.started.groups }
+    requires sound { IsConsistent kept.old }
+    ensures step { IfOk result (λ p. Settles plan.now shard kept.old (after shard kept.new p.change) sends.old sends.new id mark p.answer) }
+    ensures planned { IfOk result (λ p. IsPlannedFrom kept.old kept.new p.change) }
+    ensures err { OnErr result (IsSame kept.old kept.new) }
+{
+    if !was_asked_for(&kept.waits, id) {
+        return plan_ended(alloc, kept, id.coord, mark, Handled::Gone);
+    }
+    let settling = find_settled(alloc, kept, id, mark)?;
+    kept.taken.reserve(settling.components.len())?;
+    plan_runs(alloc, plan, shard, kept, settling, sends)
+}
+
+// Plans it with what was found. Where there is no memory, what ran is undone.
+fn plan_runs(
+    alloc: Global,
+    plan: &Plan,
+    shard: Shard,
+    kept: &mut ServerData,
+    settling: Settling,
+    sends: &mut Outbox,
+) -> Result<Planned, NoMemory>
+    requires fits { AreGroupsOf plan.now kept.old.started.groups }
+    requires sound { IsConsistent kept.old }
+    ensures answer { IfOk result (λ p. p.answer ≡ Done) }
+    ensures acts { OnOk result (SettlesRuns plan.now shard kept.old kept.new sends.old sends.new settling.ids.items) }
+    ensures planned { IfOk result (λ p. IsSettledFrom kept.old kept.new settling p.change) }
+    ensures err { OnErr result (IsSame kept.old kept.new) }
+{
+    kept.rows.savepoint();
+    let mut earlier = Vec::new(alloc);
+    match act_on_settled(alloc, plan, shard, kept, &settling.ids, &mut earlier, sends) {
+        Ok(()) => Ok(settlement(settling, earlier)),
+        Err(fault) => {
+            kept.rows.rollback();
+            put_back(&mut kept.started, earlier);
+            Err(fault)
+        }
+    }
+}
+
+// It is settled, with what was found of it.
+fn settlement(found: Settling, earlier: Vec<Earlier>) -> Planned
+    ensures answer { result.answer ≡ Done }
+    ensures change { result.change ≡ Settled (record { found = found; earlier = earlier }) }
+{
+    Planned {
+        answer: Handled::Done,
+        change: Change::Settled(Settlement { found, earlier }),
+    }
+}
+
+// Runs what is decided, and gathers what is sent.
+fn act_on_settled(
+    alloc: Global,
+    plan: &Plan,
+    shard: Shard,
+    kept: &mut ServerData,
+    ids: &[TxnId],
+    earlier: &mut Vec<Earlier>,
+    sends: &mut Outbox,
+) -> Result<(), NoMemory>
+    requires fits { AreGroupsOf plan.now kept.old.started.groups }
+    requires once { NoneTwice is_same_group kept.old.started.groups }
+    ensures ok { OnOk result (SettlesRuns plan.now shard kept.old kept.new sends.old sends.new ids.now) }
+    ensures beside { KeepsBesideRuns kept.old kept.new }
+    ensures restored { restored earlier.new.items kept.new.started.groups ≡ restored earlier.old.items kept.old.started.groups }
+    ensures saved { kept.new.rows.saved ≡ kept.old.rows.saved }
+    ensures spare { kept.new.taken ≡ kept.old.taken }
+{
+    run_decided(
+        alloc,
+        plan,
+        ids,
+        &mut kept.started,
+        &mut kept.rows,
+        earlier,
+        sends,
+    )?;
+    send_commitoks(alloc, plan, shard, &kept.started, ids, sends)
+}
+
+// Finds what comes of a settled transaction.
+fn find_settled(
+    alloc: Global,
+    kept: &ServerData,
+    id: TxnId,
+    mark: u32,
+) -> Result<Settling, NoMemory>
+    requires sound { IsConsistent kept.now }
+    ensures { IfOk result (IsSettling kept.now id mark) }
+{
+    let marks = kept.marks.raised(id.coord, mark);
+    let settled = if_ended(alloc, &marks, id)?;
+    let Deciding {
+        links,
+        lacks,
+        components,
+        ids,
+    } = find_decided(alloc, kept, &settled)?;
+    let taken = kept.taken.as_slice();
+    let over = over_among(alloc, &marks, taken, &components)?;
+    let left = left_of(alloc, &kept.known, &links, taken, &components, over)?;
+    Ok(Settling {
+        marks,
+        settled,
+        is_known: kept.known.list(id).is_some(),
+        lacks,
+        components,
+        ids,
+        left,
+    })
+}
+
+// A transaction, where its watermark ends it.
+fn if_ended(alloc: Global, marks: &Marks, id: TxnId) -> Result<Vec<TxnId>, NoMemory>
+    ensures listed { IfOk result (λ ids. (t : Id) → is_listed is_txn ids.items t ≡ (is_txn t id && is_ended marks.now t)) }
+    ensures rising { IfOk result (λ ids. IsStrictlySortedBy txn_cmp ids.items) }
+{
+    let mut ids = Vec::new(alloc);
+    if marks.is_ended(id) {
+        ids.push(id)?;
+    }
+    Ok(ids)
+}
+
+// Finds what becomes decided where the entries that name these, which rise, are done.
+fn find_decided(alloc: Global, kept: &ServerData, settled: &[TxnId]) -> Result<Deciding, NoMemory>
+    requires right { IsRight kept.now }
+    requires rising { IsStrictlySortedBy txn_cmp settled.now }
+    ensures { IfOk result (IsDeciding kept.now settled.now) }
+{
+    let links = links_without(alloc, &kept.known, &kept.links, &[], settled)?;
+    let lacks = Lacks::new(alloc).ready(&links, kept.known.ids())?;
+    let newly = not_among(alloc, lacks.decided(), &kept.decided)?;
+    let components = newly_taken(alloc, &links, &newly)?;
+    let mut ids = Vec::new(alloc);
+    push_members(&components, &mut ids)?;
+    Ok(Deciding {
+        links,
+        lacks,
+        components,
+        ids,
+    })
+}
+
+// Those of these that were not decided before.
+fn not_among(alloc: Global, ids: &[TxnId], decided: &Decided) -> Result<Vec<TxnId>, NoMemory>
+    ensures { IfOk result (λ new. new.items ≡ filter (λ t. not (is_listed is_txn decided.now.ids t)) ids.now) }
+{
+    let mut new = Vec::new(alloc);
+    for id in ids {
+        if !decided.contains(*id) {
+            new.push(*id)?;
+        }
+    }
+    Ok(new)
+}
