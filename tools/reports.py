@@ -20,6 +20,7 @@ FORMS = {word: re.compile(word + rest) for word, rest in {
     "none": "",
     "tick": f" ({NODE})",
     "ignored": f" ({REASON})",
+    "gone": "",
     "send": rf" ({NUMBER}) ([a-z]+) ({ID}) ({NODE}) ({NODE})((?: {EDGE})*)((?: \+{ID})*)",
     "answer": f" ({ID})(?: {INTEGER})*",
     "order": f"((?: {ID})*)",
@@ -53,7 +54,7 @@ class Event:
     node: str
     message: Message | None = None
     sends: list[Message] = field(default_factory=list)
-    ignored: str = ""
+    untaken: str = ""
     answer: str = ""
 
     @property
@@ -114,7 +115,7 @@ class Reader:
             self.take_closing(line, match.groups())
             return
         self.ensure(self.closing == "", "an event behind the line `order`")
-        takers = {"ignored": self.take_ignored, "send": self.take_send, "answer": self.take_answer}
+        takers = {"ignored": self.take_untaken, "gone": self.take_untaken, "send": self.take_send, "answer": self.take_answer}
         takers.get(word, self.take_event)(line, match.groups())
 
     def take_event(self, line: str, groups: tuple[str, ...]) -> None:
@@ -134,10 +135,10 @@ class Reader:
         self.ensure(bool(self.report.events), "no event stands before it")
         return self.report.events[-1]
 
-    def take_ignored(self, line: str, groups: tuple[str, ...]) -> None:
+    def take_untaken(self, line: str, groups: tuple[str, ...]) -> None:
         event = self.last()
         self.ensure(event.line == self.number - 1 and event.word == "deliver", "no delivery stands directly before it")
-        event.ignored = line
+        event.untaken = line
 
     def take_send(self, line: str, groups: tuple[str, ...]) -> None:
         number, kind, named, sender, receiver, edges, facts = groups
@@ -147,7 +148,7 @@ class Reader:
         self.ensure(int(number) == len(self.report.messages) + 1, f"message {len(self.report.messages) + 1} is the next one")
         self.ensure(sender[0] + receiver[0] == route, f"a {kind} goes another way")
         self.ensure((may_have_edges or not edges) and (may_have_facts or not facts), f"a {kind} carries no such list")
-        self.ensure(event.word in ("submit", "deliver", "tick") and not event.ignored and not event.answer, "its event sends nothing here")
+        self.ensure(event.word in ("submit", "deliver", "tick") and not event.untaken and not event.answer, "its event sends nothing here")
         self.ensure(event.node == sender, f"{sender} sends, and {event.node} acts")
         message = Message(number, kind, named, receiver, edges.split(), facts.split(), event)
         event.sends.append(message)
@@ -155,7 +156,7 @@ class Reader:
 
     def take_answer(self, line: str, groups: tuple[str, ...]) -> None:
         event = self.last()
-        self.ensure(event.word == "deliver" and not event.ignored and not event.answer, "no delivery that may answer stands before it")
+        self.ensure(event.word == "deliver" and not event.untaken and not event.answer, "no delivery that may answer stands before it")
         self.ensure(event.message.transaction == groups[0], f"the delivery is one of {event.message.transaction}")
         event.answer = line
 
