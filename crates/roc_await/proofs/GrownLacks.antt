@@ -21,7 +21,7 @@ use Rattle.roc_depgraph.proofs.Listed.{has_under, under_has}
 use Rattle.roc_await.specs.declared.lack.Lack.{Lack}
 use Rattle.roc_await.specs.Lacks.{IsMissing, IsLack, AreLacks, AreDecidedBy}
 use Rattle.roc_await.specs.Inner.Grown.{IsGrown, Grows, AreGrown, GrewFrom, others, lacks_none}
-use Rattle.roc_await.specs.Inner.Taken.{AreLacksSince}
+use Rattle.roc_await.specs.Inner.Taken.{AreLacksNow, AreLacksSince}
 use Rattle.roc_await.proofs.OneMore.{u_known, u_unknown, unknown_other, missing_stays, missing_through, missing_split}
 use Rattle.roc_await.proofs.NamedMissing.{other_test, test_other}
 
@@ -141,19 +141,23 @@ lacks_since before lacks are = record {
   all = λ t k. elim (are.all t k) [ inl d ↦ inl d | inr l ↦ inr (has_under (λ (x : Lack). x.of) lacks t l) ];
 }
 
-module _ (before known : List KnownList) (lacks : List Lack) (since : AreLacksSince before known lacks) where
+-- where lists were only learnt, what was decided stays so
+pub since_now : (before known : List KnownList) (lacks : List Lack) → AreLacksSince before known lacks → AreLacksNow before known lacks
+since_now before known lacks since = record { stays = decided_stays before known since.keeps; each = since.each; undecided = since.undecided; all = since.all }
+
+module _ (before known : List KnownList) (lacks : List Lack) (now : AreLacksNow before known lacks) where
   abbrev lacks_some : Lack → Bool
   lacks_some l = not (lacks_none l)
 
   pub some_left : AreLacks known (filter lacks_some lacks)
   some_left = record {
-    each = has_all (IsLack known) (filter lacks_some lacks) (λ l h. since.each l (from_has_filter lacks_some l lacks h).0);
+    each = has_all (IsLack known) (filter lacks_some lacks) (λ l h. now.each l (from_has_filter lacks_some l lacks h).0);
     some = has_all (λ (l : Lack). 0 < length l.missing) (filter lacks_some lacks) (λ l h. some_of_test l (not-true (lacks_none l) (from_has_filter lacks_some l lacks h).1));
-    all = λ t k. elim (since.all t k) [ inl d ↦ inl (decided_stays before known since.keeps t d) | inr w ↦ go t w.0 w.1 w.2 (lacks_none w.0) refl ];
+    all = λ t k. elim (now.all t k) [ inl d ↦ inl (now.stays t d) | inr w ↦ go t w.0 w.1 w.2 (lacks_none w.0) refl ];
   }
     where
       go : (t : TxnId) (l : Lack) → Has l lacks → l.of ≡ t → (b : Bool) → lacks_none l ≡ b → IsDecided known t ⊎ IsListed is_txn (map (λ l. l.of) (filter lacks_some lacks)) t
-      go t l h e true n = inl (subst (IsDecided known) e (none_decided known l (since.each l h) n))
+      go t l h e true n = inl (subst (IsDecided known) e (none_decided known l (now.each l h) n))
       go t l h e false n =
           inr (subst (IsListed is_txn (map (λ l. l.of) (filter lacks_some lacks))) e
           (under_has (λ (x : Lack). x.of) (filter lacks_some lacks) l (has_filter lacks_some l lacks h (ap not n))))
@@ -163,13 +167,13 @@ module _ (before known : List KnownList) (lacks : List Lack) (since : AreLacksSi
     only = λ t h.
         let w = has_under (λ (x : Lack). x.of) (filter lacks_none lacks) t h in
         let f = from_has_filter lacks_none w.0 lacks w.1 in
-        (subst (IsDecided known) w.2 (none_decided known w.0 (since.each w.0 f.0) f.1), λ d. since.undecided w.0 f.0 (subst (IsDecided before) (sym w.2) d));
-    all = λ t d n. elim (since.all t d.own) [ inl was ↦ absurd (n was) | inr w ↦ go t w.0 w.1 w.2 d (lacks_none w.0) refl ];
+        (subst (IsDecided known) w.2 (none_decided known w.0 (now.each w.0 f.0) f.1), λ d. now.undecided w.0 f.0 (subst (IsDecided before) (sym w.2) d));
+    all = λ t d n. elim (now.all t d.own) [ inl was ↦ absurd (n was) | inr w ↦ go t w.0 w.1 w.2 d (lacks_none w.0) refl ];
   }
     where
       go : (t : TxnId) (l : Lack) → Has l lacks → l.of ≡ t → IsDecided known t → (b : Bool) → lacks_none l ≡ b → IsListed is_txn (map (λ l. l.of) (filter lacks_none lacks)) t
       go t l h e d true n = subst (IsListed is_txn (map (λ l. l.of) (filter lacks_none lacks))) e (under_has (λ (x : Lack). x.of) (filter lacks_none lacks) l (has_filter lacks_none l lacks h n))
-      go t l h e d false n = absurd (some_undecided known l (since.each l h) (some_of_test l n) (subst (IsDecided known) (sym e) d))
+      go t l h e d false n = absurd (some_undecided known l (now.each l h) (some_of_test l n) (subst (IsDecided known) (sym e) d))
 
 -- the same ids in another order, and each once
 pub same_decided : (before known : List KnownList) (ids rising : List TxnId) → AreDecidedBy before known ids → IsRisingListOf (IsListed is_txn ids) rising → AreDecidedBy before known rising

@@ -4,6 +4,8 @@ pub mod GrownLacks
 pub mod InGroups
 pub mod NextList
 pub mod Taking
+pub mod Releases
+pub mod ShorterGroups
 pub mod Regrouped
 pub mod Asking
 pub mod Counted

@@ -15,8 +15,8 @@ use Rattle.roc_await.specs.Lacks.{IsMissing, AreLacks, AreDecidedBy}
 use Rattle.roc_await.specs.Learning.{AreLacksBefore}
 use Rattle.roc_await.specs.Inner.Grown.{AreListed, IsMissingFor, AreGrown}
 use Rattle.roc_await.specs.Inner.Groups.{all_lacks, missing_if_named, is_other_unknown, misses_nothing, decided_of}
-use Rattle.roc_await.specs.Inner.Taken.{AreLacksSince, AreLacksTaken}
-use Rattle.roc_await.proofs.GrownLacks.{lacks_since, grown_since, some_left, newly, same_decided}
+use Rattle.roc_await.specs.Inner.Taken.{AreLacksNow, AreLacksSince, AreLacksTaken}
+use Rattle.roc_await.proofs.GrownLacks.{lacks_since, since_now, grown_since, some_left, newly, same_decided}
 use Rattle.roc_await.proofs.InGroups.{lacks_of_filter, decided_are}
 use Rattle.roc_await.proofs.NamedMissing.{are_listed, all_missing}
 use Rattle.roc_await.proofs.NextList.{ofs, IsNext, next_is, IsFirstNew, first_new}
@@ -101,14 +101,15 @@ module _ (before all : List KnownList) (u : TxnId) (later : List TxnId) where
             ap with_of new.of ∙ ap with_edges edges_are
 
 -- what is left to wait, and what is decided now
-pub left_lacks : (before known : List KnownList) (groups after : List Group) → AreLacksSince before known (all_lacks groups) → after ≡ filter (λ g. not (misses_nothing g)) groups → AreLacks known (all_lacks after)
-left_lacks before known groups after since e =
-    subst (AreLacks known) (sym (ap all_lacks e ∙ lacks_of_filter (λ ids. not (length ids == 0)) groups)) (some_left before known (all_lacks groups) since)
+pub left_lacks : (before known : List KnownList) (groups after : List Group) → AreLacksNow before known (all_lacks groups) → after ≡ filter (λ g. not (misses_nothing g)) groups → AreLacks known (all_lacks after)
+left_lacks before known groups after now e =
+    subst (AreLacks known) (sym (ap all_lacks e ∙ lacks_of_filter (λ ids. not (length ids == 0)) groups)) (some_left before known (all_lacks groups) now)
 
-pub now_decided : (before known : List KnownList) (groups : List Group) (ids : List TxnId) → AreLacksSince before known (all_lacks groups) → IsRisingListOf (IsListed is_txn (flat_map decided_of groups)) ids → AreDecidedBy before known ids
-now_decided before known groups ids since r =
-    same_decided before known (flat_map decided_of groups) ids (subst (AreDecidedBy before known) (decided_are groups) (newly before known (all_lacks groups) since)) r
+pub now_decided : (before known : List KnownList) (groups : List Group) (ids : List TxnId) → AreLacksNow before known (all_lacks groups) → IsRisingListOf (IsListed is_txn (flat_map decided_of groups)) ids → AreDecidedBy before known ids
+now_decided before known groups ids now r =
+    same_decided before known (flat_map decided_of groups) ids (subst (AreDecidedBy before known) (decided_are groups) (newly before known (all_lacks groups) now)) r
 
-pub were_others : (all : List KnownList) (ids : List TxnId) (lacks others new : List Lack) → lacks ≡ others → ((were : AreLacksBefore all ids others) → AreLacksSince were.before all new) → (were : AreLacksBefore all ids lacks) → AreLacksSince were.before all new
+pub were_others : (all : List KnownList) (ids : List TxnId) (lacks others new : List Lack) → lacks ≡ others → ((were : AreLacksBefore all ids others) → AreLacksSince were.before all new) → (were : AreLacksBefore all ids lacks) → AreLacksNow were.before all new
 were_others all ids lacks others new e h were =
-    h (record { before = were.before; news = were.news; known_are = were.known_are; ids_are = were.ids_are; learnable = were.learnable; lacks_were = subst (AreLacks were.before) e were.lacks_were })
+    since_now were.before all new
+    (h (record { before = were.before; news = were.news; known_are = were.known_are; ids_are = were.ids_are; learnable = were.learnable; lacks_were = subst (AreLacks were.before) e were.lacks_were }))

@@ -2,4 +2,5 @@
 pub mod Groups
 pub mod Grown
 pub mod Taken
+pub mod Shortened
 pub mod Apart

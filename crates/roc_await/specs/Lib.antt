@@ -1,4 +1,5 @@
 pub mod Waits
 pub mod Lacks
 pub mod Learning
+pub mod Released
 pub mod Inner

@@ -8,8 +8,10 @@ ghost use Rattle.roc_depgraph.specs.Closure.{IsClosure};
 ghost use Rattle.roc_depgraph.specs.Deps.{IsKnown};
 ghost use Rattle.roc_await.specs.Lacks.{AreLacks, AreDecidedBy, count_of_missing};
 ghost use Rattle.roc_await.specs.Learning.{AreLacksBefore};
+ghost use Rattle.roc_await.specs.Released.{AreReleased};
 
 use crate::group::{Group, decided, find_group, undecided};
+use crate::released::released;
 use crate::taught::taught;
 use roc_base::{NoMemory, TxnId};
 use roc_depgraph::Deps;
@@ -87,7 +89,20 @@ impl Lacks {
         Ok(NextLacks { decided, groups })
     }
 
-    /// The new lists are learnt, with what `ready` found. Gives the transactions that became decided by them, rising. Takes no memory.
+    /// What these lists decide without the entries that name some transactions of unknown lists, and what is lacking then
+    /// (`AreReleased`). Nothing is looked for in lists: it takes these out of what is missing. `take` does the rest.
+    pub fn without(&self, gone: &[TxnId]) -> Result<NextLacks, NoMemory>
+        ensures lacks { IfOk result (λ next. (known left : List Told) → AreReleased known left gone.now → AreLacks known self.now → AreLacks left next.lacks) }
+        ensures decided { IfOk result (λ next. (known left : List Told) → AreReleased known left gone.now → AreLacks known self.now → AreDecidedBy known left next.decided) }
+        ensures rising { IfOk result (λ next. IsStrictlySortedBy txn_cmp next.decided) }
+    {
+        let groups = released(self.alloc, &self.groups, gone)?;
+        let decided = decided(self.alloc, &groups)?;
+        let groups = undecided(groups);
+        Ok(NextLacks { decided, groups })
+    }
+
+    /// What `ready` or `without` found is so. Gives the transactions that became decided by them, rising. Takes no memory.
     pub fn take(&mut self, next: NextLacks) -> Vec<TxnId>
         ensures lacks { self.new ≡ next.lacks }
         ensures decided { result.items ≡ next.decided }

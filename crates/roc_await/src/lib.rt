@@ -11,6 +11,8 @@
 //! for it (`specs/Lacks.antt`). The layers above may rely on this: [`Lacks::learnt`] takes in the lists that were
 //! learnt last (`specs/Learning.antt`), gives exactly the transactions that they decide, rising, and leaves all as it
 //! was if memory is wanting. [`Lacks::ready`] finds the same and changes nothing, and then [`Lacks::take`] cannot fail.
+//! [`Lacks::without`] finds what is decided and lacking once the entries that name some transactions of unknown lists
+//! are left out (`specs/Released.antt`); it looks at no list.
 //! [`Lacks::missing`] is how many ids are missing for a transaction whose list is known, as many as its closure names,
 //! and takes no memory. `specs/Inner/` is of this crate alone.
 #![tactic(auto)]
@@ -20,6 +22,7 @@ mod grown;
 mod lack;
 mod lacks;
 mod missing;
+mod released;
 mod taught;
 mod waits;
 

@@ -9,7 +9,7 @@ use Rattle.roc_coord.specs.declared.transaction.SentStart.{SentStart}
 use Rattle.roc_coord.specs.declared.transaction.Transaction.{Transaction}
 use Rattle.roc_coord.specs.Fits.{IsTransactionOf}
 use Rattle.roc_coord.specs.Starts.{shard_for, start_for, sent_start}
-use Rattle.roc_coord.proofs.Sends.{gathered_more, sent_one_more}
+use Rattle.roc_readonly.proofs.Sends.{gathered_more, sent_one_more}
 use Rattle.roc_sequence.proofs.Holds.{all_append}
 
 module _ (plan : Plan) (x y : Transaction) (ready : List ℕ) (i g : ℕ) (within : i < length ready) (at : g ≡ get_or ready i 0) (kept : y ≡ record x { starts = x.starts ++ map (sent_start plan x) (take i ready) }) where

@@ -6,7 +6,6 @@ use Rattle.roc_base.specs.declared.node.Node.TheVariants.{Server}
 use Rattle.roc_msg.specs.declared.msg.Msg.TheVariants.{Ended}
 use Rattle.roc_msg.specs.declared.outbox.Outgoing.{Outgoing}
 use Rattle.roc_plan.specs.Groups.{Plan}
-use Rattle.roc_coord.specs.Ids.{unanswered}
 use Rattle.roc_coord.specs.State.{CoordState}
 
 -- the least sequence of these and of the next one
@@ -16,7 +15,7 @@ least_seq (id ∷ ids) next = min id.seq (least_seq ids next)
 
 -- the watermark of a coordinator: all that it has submitted with a sequence below is answered
 abbrev pub watermark : CoordState → ℕ
-watermark s = least_seq (unanswered s) s.next
+watermark s = least_seq s.unanswered s.next
 
 abbrev pub ended_to : CoordState → (shard : ℕ) → Outgoing
 ended_to s shard = record { to = Server (record { 0 = shard }); msg = Ended s.number (watermark s) }

@@ -12,6 +12,7 @@ use Rattle.roc_coord.specs.declared.transaction.SentStart.{SentStart}
 use Rattle.roc_coord.specs.declared.transaction.TakenStart.{TakenStart}
 use Rattle.roc_coord.specs.declared.transaction.TakenCommit.{TakenCommit}
 use Rattle.roc_coord.specs.declared.transaction.Transaction.{Transaction}
+use Rattle.roc_readonly.specs.declared.view.View.{View}
 
 pub record CoordState : Type 0 where
   -- the coordinator's number
@@ -20,10 +21,14 @@ pub record CoordState : Type 0 where
   pub next : ℕ
   -- the transactions without a reply, by id rising
   pub pending : List Transaction
+  -- the views without a reply, by id rising
+  pub views : List View
+  -- the ids of both, rising
+  pub unanswered : List TxnId
 
 -- before any submission
 abbrev pub first_coord : ℕ → CoordState
-first_coord number = record { number = number; next = 0; pending = [] }
+first_coord number = record { number = number; next = 0; pending = []; views = []; unanswered = [] }
 
 -- what comes of a message: the answer, the state after it, and what is sent
 pub record CoordStep : Type 0 where
@@ -41,6 +46,13 @@ find_transaction id pending = find (λ x. is_txn x.id id) pending
 -- the transaction of x's id is now x
 abbrev pub with_transaction : CoordState → Transaction → CoordState
 with_transaction s x = record s { pending = map (λ y. if is_txn y.id x.id then x else y) s.pending }
+
+abbrev pub find_view : TxnId → List View → Option View
+find_view id views = find (λ v. is_txn v.id id) views
+
+-- the view of v's id is now v
+abbrev pub with_view : CoordState → View → CoordState
+with_view s v = record s { views = map (λ w. if is_txn w.id v.id then v else w) s.views }
 
 abbrev pub find_start : ℕ → List SentStart → Option SentStart
 find_start group starts = find (λ start. start.group == group) starts

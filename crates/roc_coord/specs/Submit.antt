@@ -1,16 +1,18 @@
 -- A submission: docs/PROTOCOL.md, "Coordinator"
-use Rattle.std.specs.Prelude.{◌≡◌, ℕ, ℤ, not, ◌+◌, ◌==◌, nat_le, List, [], ◌∷◌, ◌++◌, Option, Some, None, Result, Ok, Err, length, if◌then◌else◌}
+use Rattle.std.specs.Prelude.{◌≡◌, ℕ, ℤ, not, ◌+◌, ◌==◌, nat_le, nat_lt, List, [], ◌∷◌, ◌++◌, Option, Some, None, Result, Ok, Err, length, if◌then◌else◌}
 use Rattle.roc_base.specs.declared.id.TxnId.{TxnId}
 use Rattle.roc_msg.specs.Outbox.{Collected, HasSent}
 use Rattle.roc_msg.specs.declared.outbox.Outgoing.{Outgoing}
-use Rattle.roc_plan.specs.Groups.{Plan, procedure_of, is_transaction}
+use Rattle.roc_plan.specs.Groups.{Plan, procedure_of, is_view_of}
 use Rattle.roc_coord.specs.declared.handled.SubmitFault.{SubmitFault}
 use Rattle.roc_coord.specs.declared.handled.SubmitFault.TheVariants.{NoProc, Args, Spent, Busy, NoMemory}
 use Rattle.roc_coord.specs.declared.transaction.Transaction.{Transaction}
+use Rattle.roc_readonly.specs.Round.{first_round, reads_of}
+use Rattle.roc_readonly.specs.declared.view.View.{View}
 use Rattle.roc_coord.specs.State.{CoordState}
 use Rattle.roc_coord.specs.Starts.{with_starts, starts_of}
 
--- how many transactions a coordinator may submit, and how many of them may be unanswered at a time
+-- how many transactions and views a coordinator may submit, and how many of them may be unanswered at a time
 abbrev pub most_transactions : ℕ
 most_transactions = 4294967295
 
@@ -41,23 +43,36 @@ abbrev pub accepted : Plan → CoordState → Transaction → Submission
 accepted plan s x =
     record {
       answer = Ok x.id;
-      state = record s { next = s.next + 1; pending = s.pending ++ with_starts plan x ∷ [] };
+      state = record s { next = s.next + 1; pending = s.pending ++ with_starts plan x ∷ []; unanswered = s.unanswered ++ x.id ∷ [] };
       sends = starts_of plan x;
     }
+
+-- the first round of a view begins
+abbrev pub accepted_view : Plan → CoordState → View → Submission
+accepted_view plan s v =
+    record {
+      answer = Ok v.id;
+      state = record s { next = s.next + 1; views = s.views ++ v ∷ []; unanswered = s.unanswered ++ v.id ∷ [] };
+      sends = reads_of plan v;
+    }
+
+abbrev pub accepted_call : Plan → CoordState → ℕ → List ℤ → Submission
+accepted_call plan s proc args =
+    if is_view_of plan proc then accepted_view plan s (first_round (next_id s) proc args) else accepted plan s (new_transaction s proc args)
 
 -- why a submission is refused: the first reason that holds
 abbrev pub refusal_of : Plan → CoordState → ℕ → List ℤ → Option SubmitFault
 refusal_of plan s proc args =
-    if not (is_transaction plan proc) then Some NoProc
+    if not (nat_lt proc (length plan.program.procedures)) then Some NoProc
     else if not (length args == (procedure_of plan proc).arguments) then Some Args
     else if nat_le most_transactions s.next then Some Spent
-    else if nat_le most_pending (length s.pending) then Some Busy
+    else if nat_le most_pending (length s.unanswered) then Some Busy
     else None
 
 -- where there is a reason to, a submission is refused
 abbrev pub refused_or_accepted : Plan → CoordState → ℕ → List ℤ → Option SubmitFault → Submission
 refused_or_accepted plan s proc args (Some fault) = refused s fault
-refused_or_accepted plan s proc args None = accepted plan s (new_transaction s proc args)
+refused_or_accepted plan s proc args None = accepted_call plan s proc args
 
 -- what comes of a submission
 abbrev pub after_submit : Plan → CoordState → ℕ → List ℤ → Submission

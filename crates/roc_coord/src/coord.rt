@@ -1,52 +1,58 @@
 //! A coordinator: submissions and the answers to its requests.
-ghost use Rattle.std.specs.Prelude.{◌≡◌, ◌<◌, ◌++◌, length, None, IfOk, OnOk, OnErr};
+ghost use Rattle.std.specs.Prelude.{◌≡◌, ◌<◌, ◌++◌, false, true, length, None, IfOk, OnOk, OnErr};
 ghost use Rattle.roc_msg.specs.Outbox.{HoldsSame, HasSent};
-ghost use Rattle.roc_plan.specs.Groups.{procedure_of};
+ghost use Rattle.roc_plan.specs.Groups.{procedure_of, is_view_of};
+ghost use Rattle.roc_readonly.specs.Fits.{IsViewOf};
+ghost use Rattle.roc_readonly.specs.Round.{first_round, reads_of};
 ghost use Rattle.roc_coord.specs.State.{first_coord};
-ghost use Rattle.roc_coord.specs.Ids.{ids_of};
 ghost use Rattle.roc_sequence.specs.Rising.{IsRising};
 ghost use Rattle.roc_base.specs.TxnId.{txn_lt};
 ghost use Rattle.roc_coord.specs.Fits.{IsTransactionOf, CoordFits};
 ghost use Rattle.roc_coord.specs.Starts.{with_starts, starts_of};
-ghost use Rattle.roc_coord.specs.Submit.{after_submit, refusal_of, unstarted, IsSubmitted, UnlessNoMemory};
+ghost use Rattle.roc_coord.specs.Submit.{after_submit, accepted, accepted_view, new_transaction, next_id, refusal_of, unstarted, IsSubmitted, UnlessNoMemory};
 ghost use Rattle.roc_coord.specs.Step.{after_message, IsOutcome};
 ghost use Rattle.roc_coord.specs.Tick.{tick_sends};
 
-use crate::pending::Pending;
+use crate::again::send_all_again;
+use crate::ids::{Ids, give};
+use crate::pending::{commitok, startok, unread};
 use crate::starts::send_starts;
+use crate::views::{readok, unasked};
 use crate::{Handled, SubmitFault, TakenCommit, TakenStart, Transaction};
 use roc_base::{NoMemory, Nums, TxnId};
 use roc_msg::{Msg, NodeFault, Outbox, Reason};
 use roc_plan::Plan;
+use roc_readonly::{TakenRead, View};
 use roc_sequence::Sequence;
 use std::alloc::Global;
 use std::marker::Model;
 
-/// How many transactions a coordinator may submit.
+/// How many transactions and views a coordinator may submit.
 const MOST_TRANSACTIONS: u32 = 4_294_967_295;
 
-/// How many of a coordinator's transactions may be unanswered at a time.
+/// How many of these may be unanswered at a time.
 const MOST_PENDING: usize = 16;
 
 /// A coordinator of a plan's transactions, after ROCOCO (OSDI 2014).
 #[derive(Drop)]
 pub struct Coord {
     alloc: Global,
-    number: u16,
-    next: u32,
-    pending: Pending,
+    ids: Ids,
+    /// The transactions without a reply, by id rising.
+    pending: Vec<Transaction>,
+    /// The views without a reply, by id rising.
+    views: Vec<View>,
 }
 
 impl Model for Coord {
     ghost use Rattle.roc_coord.specs.State.{CoordState};
-    ghost use Rattle.roc_coord.specs.Ids.{ids_of};
-    ghost use Rattle.roc_coord.specs.Inner.Given.{AreGiven};
+    ghost use Rattle.roc_coord.specs.Inner.Kept.{kept_state, AreKept};
 
     ghost Value = { CoordState };
 
-    ghost view = { λ c. record { number = c.number; next = c.next; pending = c.pending } };
+    ghost view = { λ c. kept_state c.ids c.pending.items c.views.items };
 
-    ghost invariant = { λ c. AreGiven c.number c.next (ids_of c.pending) };
+    ghost invariant = { λ c. AreKept c.ids c.pending.items c.views.items };
 }
 
 impl Coord {
@@ -56,14 +62,18 @@ impl Coord {
     {
         Coord {
             alloc,
-            number,
-            next: 0,
-            pending: Pending::new(alloc),
+            ids: Ids {
+                number,
+                next: 0,
+                unanswered: Vec::new(alloc),
+            },
+            pending: Vec::new(alloc),
+            views: Vec::new(alloc),
         }
     }
 
-    /// Submits a transaction: a call of a procedure with its arguments. It gets the next id, and
-    /// the starts of the groups whose inputs are known go to the outbox. A refused submission
+    /// Submits a transaction or a view: a call of a procedure with its arguments. It gets the next id, and
+    /// the starts of the groups whose inputs are known, or the reads of its first round, go to the outbox. A refused submission
     /// leaves all as it was. `NoMemory` leaves the coordinator and the outbox as they were, but for their room, so that the same call may
     /// be made again.
     pub fn submit(
@@ -107,8 +117,8 @@ impl Coord {
         }
     }
 
-    /// Sends again, for each transaction without a reply, the starts without a startok, or the commits without a commitok; and behind these
-    /// the watermark to each shard, where it is not 0. It changes nothing. `NoMemory` leaves the outbox as it was, but for its room, so that the same call may be made again.
+    /// Sends again, for each id without a reply, rising, the starts without a startok, or the commits without a commitok, or the reads of its
+    /// round without a readok; and behind these the watermark to each shard, where it is not 0. It changes nothing. `NoMemory` leaves the outbox as it was, but for its room, so that the same call may be made again.
     pub fn tick(&mut self, plan: &Plan, outbox: &mut Outbox) -> Result<(), NodeFault>
         requires { CoordFits plan.now self.old }
         ensures sent { OnOk result (HasSent outbox.old outbox.new (tick_sends plan.now self.old)) }
@@ -116,34 +126,33 @@ impl Coord {
         ensures err { OnErr result (HoldsSame outbox.old outbox.new) }
         ensures fits { CoordFits plan.now self.new }
     {
-        match self
-            .pending
-            .send_again(self.alloc, plan, self.number, self.next, outbox)
-        {
+        let pending = self.pending.as_slice();
+        let views = self.views.as_slice();
+        match send_all_again(self.alloc, plan, &self.ids, pending, views, outbox) {
             Ok(()) => Ok(()),
             Err(NoMemory) => Err(NodeFault::NoMemory),
         }
     }
 
-    /// The ids of the transactions without a reply, rising. Takes no memory.
+    /// The ids of the transactions and views without a reply, rising. Takes no memory.
     pub fn unanswered(&self) -> &[TxnId]
-        ensures ids { result.now ≡ ids_of self.now.pending }
+        ensures ids { result.now ≡ self.now.unanswered }
         ensures rising { IsRising txn_lt result.now }
     {
-        self.pending.ids()
+        self.ids.unanswered.as_slice()
     }
 
     // Why a submission is refused, if it is.
     fn refusal(&self, plan: &Plan, proc: u16, args: &[i64]) -> Option<SubmitFault>
         ensures { result ≡ refusal_of plan.now self.now proc args.now }
     {
-        if !plan.is_transaction(proc) {
+        if proc >= plan.procedures() {
             Some(SubmitFault::NoProc)
         } else if args.len() != usize::from(plan.args(proc)) {
             Some(SubmitFault::Args)
-        } else if self.next >= MOST_TRANSACTIONS {
+        } else if self.ids.next >= MOST_TRANSACTIONS {
             Some(SubmitFault::Spent)
-        } else if self.pending.len() >= MOST_PENDING {
+        } else if self.ids.unanswered.len() >= MOST_PENDING {
             Some(SubmitFault::Busy)
         } else {
             None
@@ -164,14 +173,53 @@ impl Coord {
         ensures err { OnErr result ((self.new ≡ self.old) × HoldsSame outbox.old outbox.new) }
         ensures fits { CoordFits plan.now self.new }
     {
-        let id = TxnId {
-            coord: self.number,
-            seq: self.next,
-        };
+        if plan.is_view(proc) {
+            self.accept_view(plan, proc, args, outbox)
+        } else {
+            self.accept_transaction(plan, proc, args, outbox)
+        }
+    }
+
+    // Accepts a submission of a transaction. `NoMemory` leaves all as it was.
+    fn accept_transaction(
+        &mut self,
+        plan: &Plan,
+        proc: u16,
+        args: &[i64],
+        outbox: &mut Outbox,
+    ) -> Result<TxnId, NoMemory>
+        requires fits { CoordFits plan.now self.old }
+        requires accepted { refusal_of plan.now self.old proc args.now ≡ None }
+        ensures step { IfOk result (λ id. IsSubmitted (accepted plan.now self.old (new_transaction self.old proc args.now)) (Ok id) self.new outbox.old outbox.new) }
+        ensures err { OnErr result ((self.new ≡ self.old) × HoldsSame outbox.old outbox.new) }
+        ensures fits { CoordFits plan.now self.new }
+    {
+        let id = next_id(&self.ids);
         let mut sends = Outbox::new(self.alloc);
         let x = started(self.alloc, plan, id, proc, args, &mut sends)?;
-        self.pending.push(x, sends, outbox)?;
-        self.next += 1;
+        give(&mut self.ids, id, &mut self.pending, x, sends, outbox)?;
+        Ok(id)
+    }
+
+    // Accepts a submission of a view. `NoMemory` leaves all as it was.
+    fn accept_view(
+        &mut self,
+        plan: &Plan,
+        proc: u16,
+        args: &[i64],
+        outbox: &mut Outbox,
+    ) -> Result<TxnId, NoMemory>
+        requires fits { CoordFits plan.now self.old }
+        requires accepted { refusal_of plan.now self.old proc args.now ≡ None }
+        requires is_view { is_view_of plan.now proc ≡ true }
+        ensures step { IfOk result (λ id. IsSubmitted (accepted_view plan.now self.old (first_round (next_id self.old) proc args.now)) (Ok id) self.new outbox.old outbox.new) }
+        ensures err { OnErr result ((self.new ≡ self.old) × HoldsSame outbox.old outbox.new) }
+        ensures fits { CoordFits plan.now self.new }
+    {
+        let id = next_id(&self.ids);
+        let mut sends = Outbox::new(self.alloc);
+        let v = begun(self.alloc, plan, id, proc, args, &mut sends)?;
+        give(&mut self.ids, id, &mut self.views, v, sends, outbox)?;
         Ok(id)
     }
 
@@ -199,16 +247,61 @@ impl Coord {
                     edges: edges.clone()?,
                     facts: facts.clone()?,
                 };
-                self.pending
-                    .startok(self.alloc, plan, *id, ok, *shard, outbox)
+                let absent = unasked(self.views.as_slice(), *id);
+                startok(
+                    self.alloc,
+                    plan,
+                    &mut self.pending,
+                    absent,
+                    *id,
+                    ok,
+                    *shard,
+                    outbox,
+                )
             }
             Msg::CommitOk { id, shard, outs } => {
                 let ok = TakenCommit {
                     shard: *shard,
                     outs: outs.clone()?,
                 };
-                self.pending
-                    .commitok(self.alloc, plan, self.number, self.next, *id, ok, outbox)
+                let absent = unasked(self.views.as_slice(), *id);
+                commitok(
+                    self.alloc,
+                    plan,
+                    &mut self.ids,
+                    &mut self.pending,
+                    absent,
+                    *id,
+                    ok,
+                    outbox,
+                )
+            }
+            Msg::ReadOk {
+                id,
+                round,
+                group,
+                shard,
+                versions,
+                outs,
+            } => {
+                let ok = TakenRead {
+                    group: *group,
+                    versions: versions.clone()?,
+                    outs: outs.clone()?,
+                };
+                let absent = unread(self.pending.as_slice(), *id);
+                readok(
+                    self.alloc,
+                    plan,
+                    &mut self.ids,
+                    &mut self.views,
+                    absent,
+                    *id,
+                    *round,
+                    ok,
+                    *shard,
+                    outbox,
+                )
             }
             _ => Ok(Handled::Ignored(Reason::Foreign)),
         }
@@ -241,4 +334,34 @@ fn started(
     };
     send_starts(alloc, plan, &mut x, outbox)?;
     Ok(x)
+}
+
+// A new view, with the reads of its first round sent.
+fn begun(
+    alloc: Global,
+    plan: &Plan,
+    id: TxnId,
+    proc: u16,
+    args: &[i64],
+    outbox: &mut Outbox,
+) -> Result<View, NoMemory>
+    requires is_view { is_view_of plan.now proc ≡ true }
+    requires args { length args.now ≡ (procedure_of plan.now proc).arguments }
+    ensures kept { IfOk result (λ v. v ≡ first_round id proc args.now) }
+    ensures sent { OnOk result (HasSent outbox.old outbox.new (reads_of plan.now (first_round id proc args.now))) }
+    ensures fits { IfOk result (IsViewOf plan.now) }
+{
+    let v = View::begin(alloc, id, proc, args)?;
+    v.send_reads(alloc, plan, outbox)?;
+    Ok(v)
+}
+
+// The id that is given next.
+fn next_id(ids: &Ids) -> TxnId
+    ensures { result ≡ record { coord = ids.now.number; seq = ids.now.next } }
+{
+    TxnId {
+        coord: ids.number,
+        seq: ids.next,
+    }
 }

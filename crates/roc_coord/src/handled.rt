@@ -9,7 +9,7 @@ use thiserror::Error;
 pub enum Handled {
     /// It was taken.
     Done,
-    /// It was taken, and with it the transaction has its reply.
+    /// It was taken, and with it the transaction or view has its reply.
     Answered { id: TxnId, reply: Nums },
     /// It was ignored: nothing changed and nothing was sent.
     Ignored(Reason),
@@ -24,10 +24,10 @@ pub enum SubmitFault {
     /// Another count of arguments than the procedure takes.
     #[error("arguments")]
     Args,
-    /// The coordinator has submitted as many transactions as it may.
+    /// The coordinator has submitted as many transactions and views as it may.
     #[error("spent")]
     Spent,
-    /// As many transactions are unanswered as may be.
+    /// As many transactions and views are unanswered as may be.
     #[error("busy")]
     Busy,
     /// There is no memory for what comes of the submission. The coordinator and the outbox are as they were, but for the room that they

@@ -1,10 +1,12 @@
 //! The watermark of a coordinator, and how the shards are told.
-ghost use Rattle.std.specs.Prelude.{◌≡◌, ◌<◌, length, map, OnOk, OnErr};
-ghost use Rattle.std.specs.List.{range_with_len, remove};
+ghost use Rattle.std.specs.Prelude.{◌≡◌, not, filter, map, OnOk, OnErr};
+ghost use Rattle.std.specs.List.{range_with_len};
+ghost use Rattle.roc_base.specs.TxnId.{is_txn};
 ghost use Rattle.roc_msg.specs.Outbox.{HoldsSame, HasSent};
 ghost use Rattle.roc_coord.specs.Marks.{least_seq};
-ghost use Rattle.roc_coord.specs.Inner.Rises.{ended_with, ended_by, rise_at, rise_sends};
+ghost use Rattle.roc_coord.specs.Inner.Rises.{ended_with, ended_by, rise_of, rise_sends};
 
+use crate::ids::Ids;
 use roc_base::{NoMemory, Node, Shard, TxnId};
 use roc_msg::{Msg, Outbox};
 use roc_plan::Plan;
@@ -32,23 +34,28 @@ pub(crate) fn least_seq(ids: &[TxnId], next: u32) -> u32
     least
 }
 
-// The same without the id at a place.
-fn least_seq_without(ids: &[TxnId], at: usize, next: u32) -> u32
-    requires { at < length ids.now }
-    ensures { result ≡ least_seq (remove ids.now at) next }
+// The same without an id.
+fn least_seq_without(ids: &[TxnId], id: TxnId, next: u32) -> u32
+    ensures { result ≡ least_seq (filter (λ u. not (is_txn u id)) ids.now) next }
 {
-    least_seq(&ids[..at], least_seq(&ids[at + 1..], next))
+    let mut least = next;
+    for other in ids {
+        if *other != id {
+            least = least.min(other.seq);
+        }
+    }
+    least
 }
 
-/// The watermarks around the answer of the transaction at a place among these ids. Takes no memory.
-pub(crate) fn rise_at(number: u16, next: u32, ids: &[TxnId], at: usize) -> Rise
-    requires { at < length ids.now }
-    ensures { result ≡ rise_at number next ids.now at }
+/// The watermarks around the answer of an id. Takes no memory.
+pub(crate) fn rise_of(ids: &Ids, id: TxnId) -> Rise
+    ensures { result ≡ rise_of ids.now.number ids.now.next ids.now.unanswered.items id }
 {
+    let unanswered = ids.unanswered.as_slice();
     Rise {
-        number,
-        old: least_seq(ids, next),
-        new: least_seq_without(ids, at, next),
+        number: ids.number,
+        old: least_seq(unanswered, ids.next),
+        new: least_seq_without(unanswered, id, ids.next),
     }
 }
 

@@ -5,36 +5,44 @@ use Rattle.roc_base.specs.declared.node.Shard.{Shard}
 use Rattle.roc_msg.specs.declared.msg.Msg.{Msg}
 use Rattle.roc_msg.specs.declared.outbox.Outgoing.{Outgoing}
 use Rattle.roc_plan.specs.Groups.{Plan}
-use Rattle.roc_server.specs.State.{ServerState, ServerStep}
+use Rattle.roc_server.specs.Reads.{AnswersReads, ReadStep}
+use Rattle.roc_server.specs.State.{ServerState, ServerStep, Viewing}
 use Rattle.roc_server.specs.Step.{Handles}
 use Rattle.roc_coord.specs.State.{CoordState}
 use Rattle.roc_law_nodes.specs.Own.{OwnEvent, delivered, ticked, requested}
 use Rattle.roc_law_nodes.specs.Fold.{ServerSteps, IsServerFold, server_begun, server_goes_on, CoordSteps, IsCoordFold, coord_begun, coord_goes_on}
 
-module _ (plan : Plan) (one : (s : ServerState) (msg : Msg) (r other : ServerStep) → Handles plan s msg r → Handles plan s msg other → r ≡ other) where
-  one_server_step : (s : ServerState) (own : OwnEvent) (after next : ServerState) (outs others : List Outgoing) → ServerSteps plan s own after outs → ServerSteps plan s own next others → (after ≡ next) × (outs ≡ others)
-  one_server_step s (delivered msg) after next outs others (r, handles, is, sends) (q, handles2, is2, sends2) =
-      let same : r ≡ q = one s msg r q handles handles2 in
-      (is ∙ (ap (λ (r : ServerStep). r.state) same ∙ sym is2), sends ∙ (ap (λ (r : ServerStep). r.sends) same ∙ sym sends2))
-  one_server_step s ticked after next outs others (is, sends) (is2, sends2) = (is ∙ sym is2, sends ∙ sym sends2)
-  one_server_step s (requested proc args) after next outs others h k = absurd h
+module _ (plan : Plan) (one : (s : ServerState) (msg : Msg) (r other : ServerStep) → Handles plan s msg r → Handles plan s msg other → r ≡ other)
+    (one_read : (v : Viewing) (msg : Msg) (r : ServerStep) (q other : ReadStep) → AnswersReads plan v msg r q → AnswersReads plan v msg r other → q ≡ other) where
+  one_server_step : (s : ServerState) (v : Viewing) (own : OwnEvent) (after next : ServerState) (kept held : Viewing) (outs others : List Outgoing) → ServerSteps plan s v own after kept outs → ServerSteps plan s v own next held others
+      → (after ≡ next) × (kept ≡ held) × (outs ≡ others)
+  one_server_step s v (delivered msg) after next kept held outs others (r, q, handles, answers, is, views, sends) (r2, q2, handles2, answers2, is2, views2, sends2) =
+      let same : r ≡ r2 = one s msg r r2 handles handles2 in
+      let reads : q ≡ q2 = one_read v msg r2 q q2 (subst (λ (r : ServerStep). AnswersReads plan v msg r q) same answers) answers2 in (
+        is ∙ (ap (λ (r : ServerStep). r.state) same ∙ sym is2),
+        views ∙ (ap (λ (q : ReadStep). q.viewing) reads ∙ sym views2),
+        sends ∙ (ap (λ (r : ServerStep). r.sends ++ q.sends) same ∙ (ap (λ (q : ReadStep). r2.sends ++ q.sends) reads ∙ sym sends2)),
+      )
+  one_server_step s v ticked after next kept held outs others (is, views, sends) (is2, views2, sends2) = (is ∙ sym is2, views ∙ sym views2, sends ∙ sym sends2)
+  one_server_step s v (requested proc args) after next kept held outs others h k = absurd h
 
   module _ (shard : Shard) where
-    pub one_server_fold : {events others : List OwnEvent} {s t : ServerState} {messages more : List Outgoing} → IsServerFold plan shard events s messages → IsServerFold plan shard others t more → events ≡ others → (s ≡ t) × (messages ≡ more)
-    one_server_fold server_begun server_begun e = (refl, refl)
-    one_server_fold server_begun (server_goes_on {events = ys} own after outs f k) e = absurd (empty_more ys own e)
-    one_server_fold (server_goes_on {events = xs} own after outs f h) server_begun e = absurd (empty_more xs own (sym e))
-    one_server_fold (server_goes_on {events = xs} {s = s} {messages = m} own after outs f h) (server_goes_on {events = ys} {s = t} {messages = n} other next others g k) e =
+    pub one_server_fold : {events others : List OwnEvent} {s t : ServerState} {v u : Viewing} {messages more : List Outgoing} → IsServerFold plan shard events s v messages → IsServerFold plan shard others t u more → events ≡ others
+        → (s ≡ t) × (v ≡ u) × (messages ≡ more)
+    one_server_fold server_begun server_begun e = (refl, refl, refl)
+    one_server_fold server_begun (server_goes_on {events = ys} own after kept outs f k) e = absurd (empty_more ys own e)
+    one_server_fold (server_goes_on {events = xs} own after kept outs f h) server_begun e = absurd (empty_more xs own (sym e))
+    one_server_fold (server_goes_on {events = xs} {s = s} {v = v} {messages = m} own after kept outs f h) (server_goes_on {events = ys} {s = t} {v = u} {messages = n} other next held others g k) e =
         let ends = same_more xs ys own other e in
         go (one_server_fold f g ends.0) ends.1
       where
-        go : (s ≡ t) × (m ≡ n) → own ≡ other → (after ≡ next) × (m ++ outs ≡ n ++ others)
+        go : (s ≡ t) × (v ≡ u) × (m ≡ n) → own ≡ other → (after ≡ next) × (kept ≡ held) × (m ++ outs ≡ n ++ others)
         go front same =
-            let P : ServerState → OwnEvent → Type 0 = λ u x. ServerSteps plan u x after outs in
-            let moved : ServerSteps plan t other after outs = subst (P t) same (subst (λ (u : ServerState). P u own) front.0 h) in
-            let step = one_server_step t other after next outs others moved k in
+            let P : ServerState → Viewing → OwnEvent → Type 0 = λ s v x. ServerSteps plan s v x after kept outs in
+            let moved : ServerSteps plan t u other after kept outs = subst (P t u) same (subst (λ (v : Viewing). P t v own) front.1 (subst (λ (s : ServerState). P s v own) front.0 h)) in
+            let step = one_server_step t u other after next kept held outs others moved k in
             let both : List Outgoing → List Outgoing → List Outgoing = λ a b. a ++ b in
-            (step.0, (λ i. both (front.1 i) (step.1 i)))
+            (step.0, step.1, (λ i. both (front.2 i) (step.2 i)))
 
 module _ (plan : Plan) (number : ℕ) where
   one_coord_step : (c : CoordState) (own : OwnEvent) (after next : CoordState) (outs others : List Outgoing) → CoordSteps plan c own after outs → CoordSteps plan c own next others → (after ≡ next) × (outs ≡ others)

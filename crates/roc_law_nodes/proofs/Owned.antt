@@ -13,7 +13,7 @@ use Rattle.roc_protocol.specs.declared.event.Event.{Event}
 use Rattle.roc_protocol.specs.World.{World, sent_by}
 use Rattle.roc_protocol.specs.Run.{Stepped, IsRun, begun, goes_on}
 use Rattle.roc_law_nodes.specs.Own.{OwnEvent, own_step, own_events, messages_of}
-use Rattle.roc_law_nodes.proofs.Stepping.{IsStepAt, IsStep, no_step, server_step, coord_step, stepping}
+use Rattle.roc_law_nodes.proofs.Stepping.{IsStepAt, IsStep, no_step, server_step, coord_step, run_stepping}
 
 -- ---- messages
 
@@ -67,8 +67,8 @@ module _ (node : Node) where
   -- what is sent since changes nothing of what happened
   pub own_kept : {plan : Plan} {coords : ℕ} {steps : List Stepped} {w : World} → IsRun plan coords steps w → (more : List Envelope) → own_events node (w.sent ++ more) steps ≡ own_events node w.sent steps
   own_kept begun more = refl
-  own_kept {plan} (goes_on {steps = steps} {w = w} e o r h) more =
-      let a = adds plan w o.world e (stepping plan w e o h) in
+  own_kept {plan} {coords} (goes_on {steps = steps} {w = w} e o r h) more =
+      let a = adds plan w o.world e (run_stepping plan coords r e o h) in
       let x : Stepped = record { event = e; outcome = o } in
       let at = own_more w.sent o.world.sent a.outs steps x a.own (own_kept r) a.is a.grows in
       at more ∙ (sym (at []) ∙ ap (λ l. own_events node l (steps ++ x ∷ [])) (append-nil o.world.sent))

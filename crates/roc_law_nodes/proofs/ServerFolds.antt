@@ -8,7 +8,8 @@ use Rattle.roc_msg.specs.declared.msg.Msg.{Msg}
 use Rattle.roc_msg.specs.declared.msg.Msg.TheVariants.{Stop}
 use Rattle.roc_msg.specs.declared.outbox.Outgoing.{Outgoing}
 use Rattle.roc_plan.specs.Groups.{Plan}
-use Rattle.roc_server.specs.State.{ServerState, ServerStep}
+use Rattle.roc_server.specs.Reads.{AnswersReads, ReadStep}
+use Rattle.roc_server.specs.State.{ServerState, ServerStep, Viewing}
 use Rattle.roc_server.specs.Step.{Handles}
 use Rattle.roc_node.specs.Judgement.{judged}
 use Rattle.roc_node.specs.declared.judging.Judged.{Judged}
@@ -39,56 +40,64 @@ of_message msg false e = ap (λ (b : Bool). cond (not b) (delivered msg ∷ []) 
 module _ (S : NodeSetting) (shard : Shard) where
   -- what the core was given leads to this node
   abbrev Folds : List OwnEvent → ServerNodeState → Type 0
-  Folds own node = IsServerFold S.plan shard own node.state node.messages
+  Folds own node = IsServerFold S.plan shard own node.state node.viewing node.messages
 
   module _ (own : List OwnEvent) (node : ServerNodeState) (fold : Folds own node) where
-    same_still : (next : ServerNodeState) (none : List OwnEvent) → none ≡ [] → next.state ≡ node.state → next.messages ≡ node.messages → Folds (own ++ none) next
-    same_still next none e state messages = server_as S.plan fold (ap (λ l. own ++ l) e ∙ append-nil own) state messages
+    same_still : (next : ServerNodeState) (none : List OwnEvent) → none ≡ [] → next.state ≡ node.state → next.viewing ≡ node.viewing → next.messages ≡ node.messages → Folds (own ++ none) next
+    same_still next none e state viewing messages = server_as S.plan fold (ap (λ l. own ++ l) e ∙ append-nil own) state viewing messages
 
-    message_folds : (heard : ServerNodeState) (msg : Msg) (next : ServerNodeState) → heard.state ≡ node.state → heard.messages ≡ node.messages → (b : Bool) → is_stop msg ≡ b → TakesMessage S heard b msg next → Folds (own ++ for_core (delivered msg ∷ [])) next
-    message_folds heard msg next state messages true e h =
-        same_still next (for_core (delivered msg ∷ [])) (of_message msg true e) (ap (λ (n : ServerNodeState). n.state) h ∙ state) (ap (λ (n : ServerNodeState). n.messages) h ∙ messages)
-    message_folds heard msg next state messages false e (r, handles, is) =
+    message_folds : (heard : ServerNodeState) (msg : Msg) (next : ServerNodeState) → heard.state ≡ node.state → heard.viewing ≡ node.viewing → heard.messages ≡ node.messages → (b : Bool) → is_stop msg ≡ b → TakesMessage S heard b msg next → Folds (own ++ for_core (delivered msg ∷ [])) next
+    message_folds heard msg next state viewing messages true e h =
+        same_still next (for_core (delivered msg ∷ [])) (of_message msg true e) (ap (λ (n : ServerNodeState). n.state) h ∙ state) (ap (λ (n : ServerNodeState). n.viewing) h ∙ viewing) (ap (λ (n : ServerNodeState). n.messages) h ∙ messages)
+    message_folds heard msg next state viewing messages false e (r, q, handles, answers, is) =
         server_as S.plan
-        (server_goes_on (delivered msg) r.state r.sends fold (r, subst (λ (s : ServerState). Handles S.plan s msg r) state handles, refl, refl))
+        (server_goes_on (delivered msg) r.state q.viewing (r.sends ++ q.sends) fold
+        (r, q, subst (λ (s : ServerState). Handles S.plan s msg r) state handles, subst (λ (v : Viewing). AnswersReads S.plan v msg r q) viewing answers, refl, refl, refl))
         (ap (λ l. own ++ l) (of_message msg false e))
         (ap (λ (n : ServerNodeState). n.state) is)
-        (ap (λ (n : ServerNodeState). n.messages) is ∙ ap (λ l. l ++ r.sends) messages)
+        (ap (λ (n : ServerNodeState). n.viewing) is)
+        (ap (λ (n : ServerNodeState). n.messages) is ∙ ap (λ l. l ++ (r.sends ++ q.sends)) messages)
 
     judged_folds : (from : Addr) (j : Judged) (next : ServerNodeState) → TakesJudged S node from j next → Folds (own ++ for_core (judged_brings j)) next
-    judged_folds from (Delivery header msg) next h = message_folds (server_heard node header from) msg next refl refl (is_stop msg) refl h
-    judged_folds from (Skipped skip) next h = same_still next [] refl (ap (λ (n : ServerNodeState). n.state) h) (ap (λ (n : ServerNodeState). n.messages) h)
+    judged_folds from (Delivery header msg) next h = message_folds (server_heard node header from) msg next refl refl refl (is_stop msg) refl h
+    judged_folds from (Skipped skip) next h = same_still next [] refl (ap (λ (n : ServerNodeState). n.state) h) (ap (λ (n : ServerNodeState). n.viewing) h) (ap (λ (n : ServerNodeState). n.messages) h)
 
     event_folds : (event : NodeEvent) (next : ServerNodeState) → AfterEvent S node event next → Folds (own ++ for_core (turn_brings S.header.tag event)) next
     event_folds (took packet) next h = judged_folds packet.address (judged S.header.tag packet.bytes) next h
     event_folds silent next h =
-        server_as S.plan (server_goes_on ticked node.state _ fold (refl, refl)) refl (ap (λ (n : ServerNodeState). n.state) h) (ap (λ (n : ServerNodeState). n.messages) h)
+        server_as S.plan (server_goes_on ticked node.state node.viewing _ fold (refl, refl, refl)) refl (ap (λ (n : ServerNodeState). n.state) h) (ap (λ (n : ServerNodeState). n.viewing) h) (ap (λ (n : ServerNodeState). n.messages) h)
 
-  pub run_folds : {events : List NodeEvent} {node : ServerNodeState} → IsServerRun S shard events node → IsServerFold S.plan shard (filter is_for_core (turns_bring S.header.tag events)) node.state node.messages
+  pub run_folds : {events : List NodeEvent} {node : ServerNodeState} → IsServerRun S shard events node → IsServerFold S.plan shard (filter is_for_core (turns_bring S.header.tag events)) node.state node.viewing node.messages
   run_folds begun = server_begun
   run_folds (goes_on {events = events} {node = node} event next r going after) =
-      server_as S.plan (event_folds (for_core (turns_bring S.header.tag events)) (server_received node event) (run_folds r) event next after) (core_more S.header.tag events event) refl refl
+      server_as S.plan (event_folds (for_core (turns_bring S.header.tag events)) (server_received node event) (run_folds r) event next after) (core_more S.header.tag events event) refl refl refl
 
 -- ---- a stop changes nothing
 
 module _ (plan : Plan) (shard : Shard) where
-  stop_does_nothing : (msg : Msg) (s after : ServerState) (outs : List Outgoing) → is_stop msg ≡ true → ServerSteps plan s (delivered msg) after outs → (after ≡ s) × (outs ≡ [])
-  stop_does_nothing Stop s after outs e (r, handles, state, sends) = (state ∙ ap (λ (r : ServerStep). r.state) handles.is, sends ∙ ap (λ (r : ServerStep). r.sends) handles.is)
-  stop_does_nothing msg s after outs e h = absurd (cc)
+  stop_does_nothing : (msg : Msg) (s : ServerState) (v : Viewing) (after : ServerState) (kept : Viewing) (outs : List Outgoing) → is_stop msg ≡ true → ServerSteps plan s v (delivered msg) after kept outs → (after ≡ s) × (kept ≡ v) × (outs ≡ [])
+  stop_does_nothing Stop s v after kept outs e (r, q, handles, answers, state, views, sends) =
+      let behind = subst (λ (r : ServerStep). AnswersReads plan v Stop r q) handles.is answers in (
+        state ∙ ap (λ (r : ServerStep). r.state) handles.is,
+        views ∙ ap (λ (q : ReadStep). q.viewing) behind.is,
+        sends ∙ (ap (λ (r : ServerStep). r.sends ++ q.sends) handles.is ∙ ap (λ (q : ReadStep). q.sends) behind.is),
+      )
+  stop_does_nothing msg s v after kept outs e h = absurd (cc)
 
-  module _ (front : List OwnEvent) (s : ServerState) (messages : List Outgoing) (fold : IsServerFold plan shard front s messages) where
-    message_more : (msg : Msg) (after : ServerState) (outs : List Outgoing) → ServerSteps plan s (delivered msg) after outs → (b : Bool) → is_stop msg ≡ b → IsServerFold plan shard (front ++ for_core (delivered msg ∷ [])) after (messages ++ outs)
-    message_more msg after outs h true e =
-        let none = stop_does_nothing msg s after outs e h in
-        server_as plan fold (ap (λ l. front ++ l) (of_message msg true e) ∙ append-nil front) none.0 (ap (λ l. messages ++ l) none.1 ∙ append-nil messages)
-    message_more msg after outs h false e = server_as plan (server_goes_on (delivered msg) after outs fold h) (ap (λ l. front ++ l) (of_message msg false e)) refl refl
+  module _ (front : List OwnEvent) (s : ServerState) (v : Viewing) (messages : List Outgoing) (fold : IsServerFold plan shard front s v messages) where
+    message_more : (msg : Msg) (after : ServerState) (kept : Viewing) (outs : List Outgoing) → ServerSteps plan s v (delivered msg) after kept outs → (b : Bool) → is_stop msg ≡ b
+        → IsServerFold plan shard (front ++ for_core (delivered msg ∷ [])) after kept (messages ++ outs)
+    message_more msg after kept outs h true e =
+        let none = stop_does_nothing msg s v after kept outs e h in
+        server_as plan fold (ap (λ l. front ++ l) (of_message msg true e) ∙ append-nil front) none.0 none.1 (ap (λ l. messages ++ l) none.2 ∙ append-nil messages)
+    message_more msg after kept outs h false e = server_as plan (server_goes_on (delivered msg) after kept outs fold h) (ap (λ l. front ++ l) (of_message msg false e)) refl refl refl
 
-    own_more : (own : OwnEvent) (after : ServerState) (outs : List Outgoing) → ServerSteps plan s own after outs → IsServerFold plan shard (front ++ for_core (own ∷ [])) after (messages ++ outs)
-    own_more (delivered msg) after outs h = message_more msg after outs h (is_stop msg) refl
-    own_more ticked after outs h = server_goes_on ticked after outs fold h
-    own_more (requested proc args) after outs h = absurd h
+    own_more : (own : OwnEvent) (after : ServerState) (kept : Viewing) (outs : List Outgoing) → ServerSteps plan s v own after kept outs → IsServerFold plan shard (front ++ for_core (own ∷ [])) after kept (messages ++ outs)
+    own_more (delivered msg) after kept outs h = message_more msg after kept outs h (is_stop msg) refl
+    own_more ticked after kept outs h = server_goes_on ticked after kept outs fold h
+    own_more (requested proc args) after kept outs h = absurd h
 
-  pub without_stops : {own : List OwnEvent} {s : ServerState} {messages : List Outgoing} → IsServerFold plan shard own s messages → IsServerFold plan shard (filter is_for_core own) s messages
+  pub without_stops : {own : List OwnEvent} {s : ServerState} {v : Viewing} {messages : List Outgoing} → IsServerFold plan shard own s v messages → IsServerFold plan shard (filter is_for_core own) s v messages
   without_stops server_begun = server_begun
-  without_stops (server_goes_on {events = events} {s = s} {messages = messages} own after outs fold h) =
-      server_as plan (own_more (for_core events) s messages (without_stops fold) own after outs h) (filter-append is_for_core events (own ∷ [])) refl refl
+  without_stops (server_goes_on {events = events} {s = s} {v = v} {messages = messages} own after kept outs fold h) =
+      server_as plan (own_more (for_core events) s v messages (without_stops fold) own after kept outs h) (filter-append is_for_core events (own ∷ [])) refl refl refl

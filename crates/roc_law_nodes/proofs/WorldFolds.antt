@@ -9,29 +9,37 @@ use Rattle.roc_base.specs.declared.node.Node.TheVariants.{Server, Coord}
 use Rattle.roc_msg.specs.declared.outbox.Outgoing.{Outgoing}
 use Rattle.roc_plan.specs.Groups.{Plan}
 use Rattle.roc_server.specs.First.{first_server}
-use Rattle.roc_server.specs.State.{ServerState}
+use Rattle.roc_server.specs.Reads.{first_viewing}
+use Rattle.roc_server.specs.State.{ServerState, Viewing}
 use Rattle.roc_coord.specs.State.{first_coord, CoordState}
 use Rattle.roc_protocol.specs.World.{World}
 use Rattle.roc_protocol.specs.Run.{Stepped, IsRun, begun, goes_on}
 use Rattle.roc_protocol.proofs.Changed.{get-set_here, get-set_other}
 use Rattle.roc_protocol.proofs.Firsts.{found_at}
 use Rattle.roc_law_nodes.specs.Own.{OwnEvent, own_events, messages_of}
-use Rattle.roc_law_nodes.specs.Fold.{ServerSteps, IsServerFold, server_begun, server_goes_on, CoordSteps, IsCoordFold, coord_begun, coord_goes_on}
-use Rattle.roc_law_nodes.proofs.Stepping.{IsStepAt, IsStep, no_step, server_step, coord_step, stepping}
+use Rattle.roc_law_nodes.specs.Fold.{IsServerFold, server_begun, server_goes_on, CoordSteps, IsCoordFold, coord_begun, coord_goes_on}
+use Rattle.roc_law_nodes.proofs.Stepping.{IsStepAt, StepsUnread, IsStep, no_step, server_step, coord_step, run_stepping}
 use Rattle.roc_law_nodes.proofs.Owned.{Gains, gains_here, gains_elsewhere, gains_nothing}
 
 -- ---- the same fold under equal lists
 
 module _ (plan : Plan) where
-  pub server_as : {shard : Shard} {events others : List OwnEvent} {s t : ServerState} {messages more : List Outgoing} → IsServerFold plan shard events s messages → others ≡ events → t ≡ s → more ≡ messages → IsServerFold plan shard others t more
-  server_as {shard} {events} {others} {s} {t} {messages} {more} f e st m =
-      subst (λ (l : List OwnEvent). IsServerFold plan shard l t more) (sym e) (subst (λ (u : ServerState). IsServerFold plan shard events u more) (sym st) (subst (λ (l : List Outgoing). IsServerFold plan shard events s l) (sym m) f))
+  pub server_as : {shard : Shard} {events others : List OwnEvent} {s t : ServerState} {v u : Viewing} {messages more : List Outgoing} → IsServerFold plan shard events s v messages → others ≡ events → t ≡ s → u ≡ v → more ≡ messages
+      → IsServerFold plan shard others t u more
+  server_as {shard} {events} {others} {s} {t} {v} {u} {messages} {more} f e st view m =
+      subst (λ (l : List OwnEvent). IsServerFold plan shard l t u more) (sym e)
+      (subst (λ (x : ServerState). IsServerFold plan shard events x u more) (sym st)
+      (subst (λ (x : Viewing). IsServerFold plan shard events s x more) (sym view) (subst (λ (l : List Outgoing). IsServerFold plan shard events s v l) (sym m) f)))
 
   pub coord_as : {number : ℕ} {events others : List OwnEvent} {c d : CoordState} {messages more : List Outgoing} → IsCoordFold plan number events c messages → others ≡ events → d ≡ c → more ≡ messages → IsCoordFold plan number others d more
   coord_as {number} {events} {others} {c} {d} {messages} {more} f e st m =
       subst (λ (l : List OwnEvent). IsCoordFold plan number l d more) (sym e) (subst (λ (u : CoordState). IsCoordFold plan number events u more) (sym st) (subst (λ (l : List Outgoing). IsCoordFold plan number events c l) (sym m) f))
 
 -- ---- servers
+
+-- in the world no read waits at a server
+abbrev pub IsUnreadFold : Plan → Shard → List OwnEvent → ServerState → List Outgoing → Type 0
+IsUnreadFold plan shard events s messages = (v : Viewing) × (v.reads ≡ []) × IsServerFold plan shard events s v messages
 
 module _ (plan : Plan) (coords : ℕ) where
   module _ {steps : List Stepped} {w : World} (r : IsRun plan coords steps w) (x : Stepped) (v : World) (shard : Shard) (s : ServerState) (after : slice_get v.servers shard.0 ≡ Some s) where
@@ -40,36 +48,40 @@ module _ (plan : Plan) (coords : ℕ) where
 
     -- what the fold was before
     abbrev ServerWas : Type 0
-    ServerWas = (t : ServerState) → slice_get w.servers shard.0 ≡ Some t → IsServerFold plan shard (own_events at w.sent steps) t (messages_of at w.sent)
+    ServerWas = (t : ServerState) → slice_get w.servers shard.0 ≡ Some t → IsUnreadFold plan shard (own_events at w.sent steps) t (messages_of at w.sent)
 
-    server_rests : v.servers ≡ w.servers → Gains at w v steps x [] [] → ServerWas → IsServerFold plan shard (own_events at v.sent (steps ++ x ∷ [])) s (messages_of at v.sent)
+    server_rests : v.servers ≡ w.servers → Gains at w v steps x [] [] → ServerWas → IsUnreadFold plan shard (own_events at v.sent (steps ++ x ∷ [])) s (messages_of at v.sent)
     server_rests same g was =
-        server_as plan (was s (ap (λ l. slice_get l shard.0) (sym same) ∙ after)) (g.events ∙ append-nil (own_events at w.sent steps)) refl (g.messages ∙ append-nil (messages_of at w.sent))
+        let f = was s (ap (λ l. slice_get l shard.0) (sym same) ∙ after) in
+        (f.0, f.1, server_as plan f.2 (g.events ∙ append-nil (own_events at w.sent steps)) refl refl (g.messages ∙ append-nil (messages_of at w.sent)))
 
-    server_moves : (other : Shard) (own : OwnEvent) (t next : ServerState) (outs : List Outgoing) → IsStepAt w v x.event (Server other) own outs → slice_get w.servers other.0 ≡ Some t → ServerSteps plan t own next outs
-        → v.servers ≡ slice_set w.servers other.0 next → ServerWas → (b : Bool) → (other.0 == shard.0) ≡ b → IsServerFold plan shard (own_events at v.sent (steps ++ x ∷ [])) s (messages_of at v.sent)
+    server_moves : (other : Shard) (own : OwnEvent) (t next : ServerState) (outs : List Outgoing) → IsStepAt w v x.event (Server other) own outs → slice_get w.servers other.0 ≡ Some t → StepsUnread plan t own next outs
+        → v.servers ≡ slice_set w.servers other.0 next → ServerWas → (b : Bool) → (other.0 == shard.0) ≡ b → IsUnreadFold plan shard (own_events at v.sent (steps ++ x ∷ [])) s (messages_of at v.sent)
     server_moves other own t next outs is there goes set was true e =
         let same : other.0 ≡ shard.0 = eqb-true other.0 shard.0 e in
         let here : slice_get w.servers shard.0 ≡ Some t = subst (λ (n : ℕ). slice_get w.servers n ≡ Some t) same there in
         let put : slice_get v.servers shard.0 ≡ Some next = ap (λ l. slice_get l shard.0) set ∙ (ap (λ (n : ℕ). slice_get (slice_set w.servers n next) shard.0) same ∙ get-set_here w.servers shard.0 t next here) in
         let g = gains_here at r x v (Server other) own outs is e in
-        server_as plan (server_goes_on own next outs (was t here) goes) g.events (same_there v.servers shard.0 s next after put) g.messages
+        let f = was t here in
+        let more = goes f.0 f.1 in
+        (more.0, more.1, server_as plan (server_goes_on own next more.0 outs f.2 more.2) g.events (same_there v.servers shard.0 s next after put) refl g.messages)
     server_moves other own t next outs is there goes set was false e =
         let kept : slice_get v.servers shard.0 ≡ slice_get w.servers shard.0 = ap (λ l. slice_get l shard.0) set ∙ get-set_other w.servers other.0 shard.0 next (λ same. false≢true (sym e ∙ eq-eqb other.0 shard.0 same)) in
         let g = gains_elsewhere at r x v (Server other) own outs is e in
-        server_as plan (was s (sym kept ∙ after)) (g.events ∙ append-nil (own_events at w.sent steps)) refl (g.messages ∙ append-nil (messages_of at w.sent))
+        let f = was s (sym kept ∙ after) in
+        (f.0, f.1, server_as plan f.2 (g.events ∙ append-nil (own_events at w.sent steps)) refl refl (g.messages ∙ append-nil (messages_of at w.sent)))
 
-    server_after : IsStep plan w v x.event → ServerWas → IsServerFold plan shard (own_events at v.sent (steps ++ x ∷ [])) s (messages_of at v.sent)
+    server_after : IsStep plan w v x.event → ServerWas → IsUnreadFold plan shard (own_events at v.sent (steps ++ x ∷ [])) s (messages_of at v.sent)
     server_after (no_step same none) was = server_rests (ap (λ (u : World). u.servers) same) (gains_nothing at r x v same none) was
     server_after (coord_step number own c next outs is there goes set same) was = server_rests same (gains_elsewhere at r x v (Coord number) own outs is refl) was
     server_after (server_step other own t next outs is there goes set same) was = server_moves other own t next outs is there goes set was (other.0 == shard.0) refl
 
   pub server_fold : {steps : List Stepped} {w : World} → IsRun plan coords steps w → (shard : Shard) (s : ServerState) → slice_get w.servers shard.0 ≡ Some s
-      → IsServerFold plan shard (own_events (Server shard) w.sent steps) s (messages_of (Server shard) w.sent)
+      → IsUnreadFold plan shard (own_events (Server shard) w.sent steps) s (messages_of (Server shard) w.sent)
   server_fold begun shard s there =
       let first : ℕ → ServerState = λ n. first_server plan (record { 0 = n }) in
-      server_as plan server_begun refl (found_at first 0 plan.program.shards shard.0 s there ∙ ap first (omega arith)) refl
-  server_fold (goes_on {w = w} e o r h) shard s after = server_after r (record { event = e; outcome = o }) o.world shard s after (stepping plan w e o h) (server_fold r shard)
+      (first_viewing, refl, server_as plan server_begun refl (found_at first 0 plan.program.shards shard.0 s there ∙ ap first (omega arith)) refl refl)
+  server_fold (goes_on {w = w} e o r h) shard s after = server_after r (record { event = e; outcome = o }) o.world shard s after (run_stepping plan coords r e o h) (server_fold r shard)
 
 -- ---- coordinators
 
@@ -106,4 +118,4 @@ module _ (plan : Plan) (coords : ℕ) where
   pub coord_fold : {steps : List Stepped} {w : World} → IsRun plan coords steps w → (number : ℕ) (c : CoordState) → slice_get w.coords number ≡ Some c
       → IsCoordFold plan number (own_events (Coord number) w.sent steps) c (messages_of (Coord number) w.sent)
   coord_fold begun number c there = coord_as plan coord_begun refl (found_at first_coord 0 coords number c there ∙ ap first_coord (omega arith)) refl
-  coord_fold (goes_on {w = w} e o r h) number c after = coord_after r (record { event = e; outcome = o }) o.world number c after (stepping plan w e o h) (coord_fold r number)
+  coord_fold (goes_on {w = w} e o r h) number c after = coord_after r (record { event = e; outcome = o }) o.world number c after (run_stepping plan coords r e o h) (coord_fold r number)

@@ -4,7 +4,8 @@ use Rattle.roc_base.specs.declared.node.Shard.{Shard}
 use Rattle.roc_msg.specs.declared.outbox.Outgoing.{Outgoing}
 use Rattle.roc_plan.specs.Groups.{Plan}
 use Rattle.roc_server.specs.First.{first_server}
-use Rattle.roc_server.specs.State.{ServerState, ServerStep}
+use Rattle.roc_server.specs.Reads.{first_viewing, AnswersReads, ReadStep}
+use Rattle.roc_server.specs.State.{ServerState, ServerStep, Viewing}
 use Rattle.roc_server.specs.Step as server
 use Rattle.roc_coord.specs.State.{first_coord, CoordState}
 use Rattle.roc_coord.specs.Step.{after_message}
@@ -14,18 +15,20 @@ use Rattle.roc_law_nodes.specs.Own.{OwnEvent, delivered, ticked, requested}
 
 -- ---- servers
 
--- a server in this state takes an own event, is in that one then, and sends these messages: a tick changes no state, and nothing is
--- submitted to a server
-abbrev pub ServerSteps : Plan → ServerState → OwnEvent → ServerState → List Outgoing → Type 0
-ServerSteps plan s (delivered msg) after outs = (r : ServerStep) × server.Handles plan s msg r × (after ≡ r.state) × (outs ≡ r.sends)
-ServerSteps plan s ticked after outs = (after ≡ s) × (outs ≡ server.tick_sends s)
-ServerSteps plan s (requested proc args) after outs = ⊥
+-- a server in this state, which keeps this for views, takes an own event, is in that state and keeps that then, and sends these messages: a tick
+-- changes nothing, and nothing is submitted to a server
+abbrev pub ServerSteps : Plan → ServerState → Viewing → OwnEvent → ServerState → Viewing → List Outgoing → Type 0
+ServerSteps plan s v (delivered msg) after kept outs =
+    (r : ServerStep) × (q : ReadStep) × server.Handles plan s msg r × AnswersReads plan v msg r q × (after ≡ r.state) × (kept ≡ q.viewing) × (outs ≡ r.sends ++ q.sends)
+ServerSteps plan s v ticked after kept outs = (after ≡ s) × (kept ≡ v) × (outs ≡ server.tick_sends s)
+ServerSteps plan s v (requested proc args) after kept outs = ⊥
 
--- the own events, one by one, lead a shard's server from its first state to this one, and it sends these messages in all
-pub data IsServerFold (plan : Plan) (shard : Shard) : List OwnEvent → ServerState → List Outgoing → Type 0 where
-  server_begun : IsServerFold plan shard [] (first_server plan shard) []
-  server_goes_on : {events : List OwnEvent} {s : ServerState} {messages : List Outgoing} (own : OwnEvent) (after : ServerState) (outs : List Outgoing)
-      → IsServerFold plan shard events s messages → ServerSteps plan s own after outs → IsServerFold plan shard (events ++ own ∷ []) after (messages ++ outs)
+-- the own events, one by one, lead a shard's server from its first state to this one, in which it keeps this for views, and it sends these
+-- messages in all
+pub data IsServerFold (plan : Plan) (shard : Shard) : List OwnEvent → ServerState → Viewing → List Outgoing → Type 0 where
+  server_begun : IsServerFold plan shard [] (first_server plan shard) first_viewing []
+  server_goes_on : {events : List OwnEvent} {s : ServerState} {v : Viewing} {messages : List Outgoing} (own : OwnEvent) (after : ServerState) (kept : Viewing) (outs : List Outgoing)
+      → IsServerFold plan shard events s v messages → ServerSteps plan s v own after kept outs → IsServerFold plan shard (events ++ own ∷ []) after kept (messages ++ outs)
 
 -- ---- coordinators
 

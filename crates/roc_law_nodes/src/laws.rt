@@ -1,5 +1,5 @@
 //! The world's nodes and the nodes that people run are one. Each law is the contract of a function that does nothing.
-ghost use Rattle.std.specs.Prelude.{◌≡◌, ℕ, not, List, Some, filter, slice_get};
+ghost use Rattle.std.specs.Prelude.{◌≡◌, ℕ, not, List, [], Some, filter, slice_get};
 ghost use Rattle.std.specs.List.{AllByRecursion};
 ghost use Rattle.roc_base.specs.declared.node.Shard.{Shard};
 ghost use Rattle.roc_base.specs.declared.node.Node.TheVariants as node;
@@ -16,33 +16,34 @@ ghost use Rattle.roc_law_nodes.specs.Fold.{IsServerFold, IsCoordFold};
 ghost use Rattle.roc_law_nodes.specs.Own.{OwnEvent, own_events, messages_of};
 ghost use Rattle.roc_law_nodes.specs.Turns.{turns_bring, is_for_core, AreTurnsOf, HasTurn, is_request, coord_owns, AreBrought};
 ghost use Rattle.roc_sched.specs.declared.line.Request.{Request};
-ghost use Rattle.roc_server.specs.State.{ServerState};
+ghost use Rattle.roc_server.specs.State.{ServerState, Viewing};
 ghost use Rattle.roc_wire.specs.declared.header.Header.{Header};
 
-use roc_server::laws::step_is_one;
+use roc_server::laws::{read_step_is_one, step_is_one};
 use roc_wire::laws::spelled_is_read;
 
 /// In every run of the world, the state of each node and the messages that the world has from it, in the order in which it sent them,
-/// are those of the fold of its own step over its own events.
+/// are those of the fold of its own step over its own events. No read of a view waits at a server there.
 pub fn world_is_folds()
     ensures servers { (plan : Plan) (coords : ℕ) (steps : List Stepped) (w : World) → IsRun plan coords steps w
         → (shard : Shard) (s : ServerState) → slice_get w.servers shard.0 ≡ Some s
-        → IsServerFold plan shard (own_events (node.Server shard) w.sent steps) s (messages_of (node.Server shard) w.sent) }
+        → (v : Viewing) × (v.reads ≡ []) × IsServerFold plan shard (own_events (node.Server shard) w.sent steps) s v (messages_of (node.Server shard) w.sent) }
     ensures coords { (plan : Plan) (coords : ℕ) (steps : List Stepped) (w : World) → IsRun plan coords steps w
         → (number : ℕ) (c : CoordState) → slice_get w.coords number ≡ Some c
         → IsCoordFold plan number (own_events (node.Coord number) w.sent steps) c (messages_of (node.Coord number) w.sent) }
 {}
 
-/// The fold over a list of own events is one: its state and its messages. For a server's core a stop changes nothing and sends nothing.
+/// The fold over a list of own events is one: its state, what it keeps for views, and its messages. For a server's core a stop changes nothing and sends nothing.
 pub fn fold_is_one()
-    ensures servers { (plan : Plan) (shard : Shard) (events : List OwnEvent) (s t : ServerState) (messages others : List Outgoing)
-        → IsServerFold plan shard events s messages → IsServerFold plan shard events t others → (s ≡ t) × (messages ≡ others) }
+    ensures servers { (plan : Plan) (shard : Shard) (events : List OwnEvent) (s t : ServerState) (v u : Viewing) (messages others : List Outgoing)
+        → IsServerFold plan shard events s v messages → IsServerFold plan shard events t u others → (s ≡ t) × (v ≡ u) × (messages ≡ others) }
     ensures coords { (plan : Plan) (number : ℕ) (events : List OwnEvent) (c d : CoordState) (messages others : List Outgoing)
         → IsCoordFold plan number events c messages → IsCoordFold plan number events d others → (c ≡ d) × (messages ≡ others) }
-    ensures stops { (plan : Plan) (shard : Shard) (events : List OwnEvent) (s : ServerState) (messages : List Outgoing)
-        → IsServerFold plan shard events s messages → IsServerFold plan shard (filter is_for_core events) s messages }
+    ensures stops { (plan : Plan) (shard : Shard) (events : List OwnEvent) (s : ServerState) (v : Viewing) (messages : List Outgoing)
+        → IsServerFold plan shard events s v messages → IsServerFold plan shard (filter is_for_core events) s v messages }
 {
     step_is_one();
+    read_step_is_one();
 }
 
 /// Whatever datagrams and silences a server's node takes, its core's state and messages are the fold over what they bring, but for stops,
@@ -50,9 +51,9 @@ pub fn fold_is_one()
 /// events give the fold over those, and what is skipped between them changes nothing.
 pub fn server_run_is_fold()
     ensures brought { (S : NodeSetting) (shard : Shard) (events : List NodeEvent) (n : ServerNodeState) → IsServerRun S shard events n
-        → IsServerFold S.plan shard (filter is_for_core (turns_bring S.header.tag events)) n.state n.messages }
+        → IsServerFold S.plan shard (filter is_for_core (turns_bring S.header.tag events)) n.state n.viewing n.messages }
     ensures spelled { (S : NodeSetting) (shard : Shard) (events : List NodeEvent) (n : ServerNodeState) → IsServerRun S shard events n
-        → (own : List OwnEvent) → AreTurnsOf S.header.tag events own → IsServerFold S.plan shard (filter is_for_core own) n.state n.messages }
+        → (own : List OwnEvent) → AreTurnsOf S.header.tag events own → IsServerFold S.plan shard (filter is_for_core own) n.state n.viewing n.messages }
 {
     spelled_is_read();
 }
@@ -90,5 +91,6 @@ pub fn node_runs_are_the_world()
         → (n.state ≡ c) × (n.messages ≡ messages_of (node.Coord number) w.sent) }
 {
     step_is_one();
+    read_step_is_one();
     spelled_is_read();
 }

@@ -43,7 +43,7 @@ abbrev submitted_transaction : Transaction
 submitted_transaction = record { id = id; proc = 0; args = []; starts = (record { group = 0; shard = shard }) ∷ []; startoks = []; asked = []; commitoks = [] }
 
 abbrev submitted_coord : CoordState
-submitted_coord = record (first_coord 0) { next = 1; pending = submitted_transaction ∷ [] }
+submitted_coord = record (first_coord 0) { next = 1; pending = submitted_transaction ∷ []; unanswered = id ∷ [] }
 
 abbrev start : Envelope
 start = to_server (Start id 0 0 [] [])
@@ -129,7 +129,7 @@ runs = (commit, omega arith, refl, (started_server, decided_step, refl, commit_h
 -- ---- and it is answered
 
 abbrev pub answered_world : World
-answered_world = record decided_world { coords = (record submitted_coord { pending = [] }) ∷ []; undelivered = []; history = Submitted id 0 [] ∷ Answered id (pos 1 ∷ []) ∷ [] }
+answered_world = record decided_world { coords = (record submitted_coord { pending = []; unanswered = [] }) ∷ []; undelivered = []; history = Submitted id 0 [] ∷ Answered id (pos 1 ∷ []) ∷ [] }
 
 answers : Happens smallest decided_world (Deliver 4) (undecided (seen.Answered id (pos 1 ∷ [])) answered_world)
 answers = (commitok, omega arith, refl, (record submitted_coord { pending = asked_transaction ∷ [] }, refl, refl))

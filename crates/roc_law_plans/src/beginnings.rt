@@ -13,7 +13,8 @@ ghost use Rattle.roc_law_orders.specs.Orders.{one_by_one};
 ghost use Rattle.roc_protocol.specs.PlanAssumptions.{HasSchemesFrom, IsWholeReplyFrom};
 ghost use Rattle.roc_protocol.specs.Beginnings.{Beginning, IsBeginning};
 ghost use Rattle.roc_protocol.specs.WitnessFrom.{IsSerialWitnessFrom};
-ghost use Rattle.roc_protocol.specs.Run.{Stepped, IsRunFrom};
+ghost use Rattle.roc_protocol.specs.Run.{Stepped};
+ghost use Rattle.roc_protocol.specs.Beside.{IsRunBeside};
 ghost use Rattle.roc_protocol.specs.World.{World};
 ghost use Rattle.roc_law_plans.specs.Scheme.{scheme_of, AreOrders, AreCalls};
 
@@ -49,7 +50,7 @@ pub fn accepted_plans_have_schemes_from_any_store()
 /// The headline over every run of every accepted plan from any beginning, whatever the network loses, repeats or reorders: the serial order
 /// explains the history, from the cells of the beginning on.
 pub fn order_is_serial()
-    ensures { (plan : Plan) (b : Beginning) (coords : ℕ) (steps : List Stepped) (w : World) → IsAccepted plan → IsBeginning plan b → IsRunFrom plan b coords steps w
+    ensures { (plan : Plan) (b : Beginning) (coords : ℕ) (steps : List Stepped) (w : World) → IsAccepted plan → IsBeginning plan b → IsRunBeside plan b coords steps w
         → IsSerialWitnessFrom plan.program b.store w.history w.order }
 {
     accepted_plans_have_schemes_from_any_store();

@@ -10,7 +10,8 @@ use Rattle.roc_server.specs.First.{first_server}
 use Rattle.roc_msg.specs.Outbox.{Collected}
 use Rattle.roc_server.specs.declared.handled.Handled.{Handled}
 use Rattle.roc_server.specs.Step.{Handles, Shows}
-use Rattle.roc_server.specs.State.{ServerState, ServerStep}
+use Rattle.roc_server.specs.Reads.{first_viewing, AnswersReads, ReadStep}
+use Rattle.roc_server.specs.State.{ServerState, ServerStep, Viewing}
 use Rattle.roc_node.specs.Posting.{Hearsay, none_heard, packets_for}
 use Rattle.roc_node.specs.Judgement.{judged}
 use Rattle.roc_node.specs.declared.judging.Judged.{Judged}
@@ -35,23 +36,23 @@ abbrev pub behind : List Outgoing → List LinkEvent → ServerNodeState → Ser
 behind messages traffic node = record node { messages = messages ++ node.messages; traffic = traffic ++ node.traffic }
 
 module _ (messages : List Outgoing) (traffic : List LinkEvent) where
-  of_none : (state : ServerState) (heard : Hearsay) (counts : Counts) (stopped : Bool)
-      → behind messages traffic (record { state = state; messages = []; traffic = []; heard = heard; counts = counts; stopped = stopped })
-      ≡ record { state = state; messages = messages; traffic = traffic; heard = heard; counts = counts; stopped = stopped }
-  of_none state heard counts stopped =
-      ap (λ l. record { state = state; messages = l; traffic = traffic ++ []; heard = heard; counts = counts; stopped = stopped }) (append-nil messages)
-      ∙ ap (λ l. record { state = state; messages = messages; traffic = l; heard = heard; counts = counts; stopped = stopped }) (append-nil traffic)
+  of_none : (state : ServerState) (v : Viewing) (heard : Hearsay) (counts : Counts) (stopped : Bool)
+      → behind messages traffic (record { state = state; viewing = v; messages = []; traffic = []; heard = heard; counts = counts; stopped = stopped })
+      ≡ record { state = state; viewing = v; messages = messages; traffic = traffic; heard = heard; counts = counts; stopped = stopped }
+  of_none state v heard counts stopped =
+      ap (λ l. record { state = state; viewing = v; messages = l; traffic = traffic ++ []; heard = heard; counts = counts; stopped = stopped }) (append-nil messages)
+      ∙ ap (λ l. record { state = state; viewing = v; messages = messages; traffic = l; heard = heard; counts = counts; stopped = stopped }) (append-nil traffic)
 
   message_behind : (S : NodeSetting) (server_node : ServerNode) (stops : Bool) (msg : Msg) (next : ServerNodeState)
       → TakesMessage S (bare server_node) stops msg next → TakesMessage S (node_of server_node messages traffic false) stops msg (behind messages traffic next)
-  message_behind S server_node true msg next h = ap (behind messages traffic) h ∙ of_none server_node.server.state server_node.heard _ true
-  message_behind S server_node false msg next h = (h.0, h.1, ap (behind messages traffic) h.2)
+  message_behind S server_node true msg next h = ap (behind messages traffic) h ∙ of_none server_node.server.state server_node.server.viewing server_node.heard _ true
+  message_behind S server_node false msg next h = (h.0, h.1, h.2, h.3, ap (behind messages traffic) h.4)
 
   judged_behind : (S : NodeSetting) (server_node : ServerNode) (from : Addr) (j : Judged) (next : ServerNodeState)
       → TakesJudged S (bare server_node) from j next → TakesJudged S (node_of server_node messages traffic false) from j (behind messages traffic next)
   judged_behind S server_node from (Delivery header msg) next h =
       message_behind S (record server_node { heard = (server_heard (bare server_node) header from).heard }) (is_stop msg) msg next h
-  judged_behind S server_node from (Skipped skip) next h = ap (behind messages traffic) h ∙ of_none server_node.server.state server_node.heard _ false
+  judged_behind S server_node from (Skipped skip) next h = ap (behind messages traffic) h ∙ of_none server_node.server.state server_node.server.viewing server_node.heard _ false
 
   event_behind : (S : NodeSetting) (server_node : ServerNode) (event : NodeEvent) (next : ServerNodeState)
       → AfterEvent S (bare server_node) event next → AfterEvent S (node_of server_node messages traffic false) event (behind messages traffic next)
@@ -61,7 +62,7 @@ module _ (messages : List Outgoing) (traffic : List LinkEvent) where
 -- ---- several turns
 
 -- no turn so far
-pub ran_none : (S : NodeSetting) (shard : Shard) (server_node : ServerNode) (a : LinkView) → server_node ≡ record { server = record { state = first_server S.plan shard; ahead = None }; heard = none_heard; counts = no_counts } → RanSo S shard 0 false server_node a a
+pub ran_none : (S : NodeSetting) (shard : Shard) (server_node : ServerNode) (a : LinkView) → server_node ≡ record { server = record { state = first_server S.plan shard; viewing = first_viewing; ahead = None }; heard = none_heard; counts = no_counts } → RanSo S shard 0 false server_node a a
 ran_none S shard server_node a is = record {
   events = [];
   messages = [];
@@ -138,20 +139,26 @@ cut_off S shard turns count server_node now a b c below r m =
 
 -- ---- a step of the core
 
-abbrev made : List Outgoing → ServerState → List LinkEvent → Hearsay → Counts → Bool → ServerNodeState
-made messages s p h c b = record { state = s; messages = messages; traffic = p; heard = h; counts = c; stopped = b }
+abbrev made : List Outgoing → ServerState → Viewing → List LinkEvent → Hearsay → Counts → Bool → ServerNodeState
+made messages s v p h c b = record { state = s; viewing = v; messages = messages; traffic = p; heard = h; counts = c; stopped = b }
 
-same_node : (messages : List Outgoing) (s t : ServerState) (p q : List LinkEvent) (h i : Hearsay) (c d : Counts) (b e : Bool) → s ≡ t → p ≡ q → h ≡ i → c ≡ d → b ≡ e
-    → made messages s p h c b ≡ made messages t q i d e
-same_node messages s t p q h i c d b e s1 p1 h1 c1 b1 =
-    ap (λ x. made messages x p h c b) s1 ∙ ap (λ x. made messages t x h c b) p1 ∙ ap (λ x. made messages t q x c b) h1 ∙ ap (λ x. made messages t q i x b) c1 ∙ ap (made messages t q i d) b1
+same_node : (messages : List Outgoing) (s t : ServerState) (v w : Viewing) (p q : List LinkEvent) (h i : Hearsay) (c d : Counts) (b e : Bool) → s ≡ t → v ≡ w → p ≡ q → h ≡ i → c ≡ d → b ≡ e
+    → made messages s v p h c b ≡ made messages t w q i d e
+same_node messages s t v w p q h i c d b e s1 v1 p1 h1 c1 b1 = λ j. made messages (s1 j) (v1 j) (p1 j) (h1 j) (c1 j) (b1 j)
 
-pub stepped : (S : NodeSetting) (old new : ServerNode) (output : TurnOutput) (msg : Msg) (answer : Handled) (out_old out_new : Collected) → (r : ServerStep) × Handles S.plan old.server.state msg r × Shows r answer new.server.state out_old out_new
+pub stepped : (S : NodeSetting) (old new : ServerNode) (output : TurnOutput) (msg : Msg) (answer : Handled) (out_old out_new : Collected) → (r : ServerStep) × (q : ReadStep) × Handles S.plan old.server.state msg r × AnswersReads S.plan old.server.viewing msg r q × Shows r q answer new.server.state new.server.viewing out_old out_new
     → out_old.messages ≡ [] → new.heard ≡ old.heard → new.counts ≡ with_answer old.counts answer → output.stopped ≡ false → output.sends.items ≡ packets_for S.header S.cluster old.heard out_new.messages
     → Leads (TakesMessage S (bare old) false msg) new output
 stepped S old new output msg answer out_old out_new step none heard counts stopped sends =
-    let r = step.0 in let shows = step.2 in
-    let gained : out_new.messages ≡ r.sends = shows.sends ∙ ap (λ l. l ++ r.sends) none in record {
-      messages = r.sends;
-      is = (r, step.1, same_node r.sends _ _ _ _ _ _ _ _ _ _ (sym shows.keeps) (ap (map sending) (sends ∙ ap (packets_for S.header S.cluster old.heard) gained)) heard (counts ∙ ap (with_answer old.counts) (sym shows.answers)) stopped);
+    let r = step.0 in let q = step.1 in let shows = step.4 in
+    let gained : out_new.messages ≡ r.sends ++ q.sends = shows.sends ∙ ap (λ l. l ++ (r.sends ++ q.sends)) none in record {
+      messages = r.sends ++ q.sends;
+      is = (
+        r,
+        q,
+        step.2,
+        step.3,
+        same_node (r.sends ++ q.sends) _ _ _ _ _ _ _ _ _ _ _ _ (sym shows.keeps) (sym shows.views) (ap (map sending) (sends ∙ ap (packets_for S.header S.cluster old.heard) gained)) heard
+            (counts ∙ ap (with_answer old.counts) (sym shows.answers)) stopped,
+      );
     }

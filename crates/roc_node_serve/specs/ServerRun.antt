@@ -13,7 +13,8 @@ use Rattle.roc_wire.specs.declared.header.Header.{Header}
 use Rattle.roc_server.specs.declared.handled.Handled.{Handled}
 use Rattle.roc_server.specs.declared.handled.Handled.TheVariants.{Done, Gone, Ignored}
 use Rattle.roc_server.specs.First.{first_server}
-use Rattle.roc_server.specs.State.{ServerState, ServerStep}
+use Rattle.roc_server.specs.Reads.{first_viewing, AnswersReads, ReadStep}
+use Rattle.roc_server.specs.State.{ServerState, ServerStep, Viewing}
 use Rattle.roc_server.specs.Step.{Handles, tick_sends}
 use Rattle.roc_node.specs.Judgement.{judged}
 use Rattle.roc_node.specs.declared.judging.Judged.{Judged}
@@ -28,6 +29,8 @@ use Rattle.roc_node.specs.NodeEvent.{NodeEvent, took, silent, receive_of, NodeSe
 pub record ServerNodeState : Type 0 where
   -- its core
   pub state : ServerState
+  -- what its core keeps for views
+  pub viewing : Viewing
   -- all messages that the core sent
   pub messages : List Outgoing
   -- what it asked of its link, in order: the receive of each turn, and behind it, before the next one, the datagrams that went out for the
@@ -41,7 +44,7 @@ pub record ServerNodeState : Type 0 where
 
 -- before any turn
 abbrev pub first_server_node_state : Plan → Shard → ServerNodeState
-first_server_node_state plan shard = record { state = first_server plan shard; messages = []; traffic = []; heard = none_heard; counts = no_counts; stopped = false }
+first_server_node_state plan shard = record { state = first_server plan shard; viewing = first_viewing; messages = []; traffic = []; heard = none_heard; counts = no_counts; stopped = false }
 
 -- its core sends messages
 abbrev pub server_sends : NodeSetting → ServerNodeState → List Outgoing → ServerNodeState
@@ -53,9 +56,9 @@ with_answer c Done = with_taken c
 with_answer c Gone = with_taken c
 with_answer c (Ignored reason) = record c { taken = one_more c.taken; ignores = one_ignore_more c.ignores reason }
 
--- its core takes a step for a delivery
-abbrev pub server_took : NodeSetting → ServerNodeState → ServerStep → ServerNodeState
-server_took S node r = record (server_sends S node r.sends) { state = r.state; counts = with_answer node.counts r.answer }
+-- its core takes a step for a delivery, and this comes of it for reads
+abbrev pub server_took : NodeSetting → ServerNodeState → ServerStep → ReadStep → ServerNodeState
+server_took S node r q = record (server_sends S node (r.sends ++ q.sends)) { state = r.state; viewing = q.viewing; counts = with_answer node.counts r.answer }
 
 -- one receive gave an event
 abbrev pub server_received : ServerNodeState → NodeEvent → ServerNodeState
@@ -78,7 +81,7 @@ is_stop msg = false
 -- a delivery: a stop is for the node, and any other message for its core, whose step it is
 abbrev pub TakesMessage : NodeSetting → ServerNodeState → (stops : Bool) → Msg → ServerNodeState → Type 0
 TakesMessage S node true msg next = next ≡ server_stopped node
-TakesMessage S node false msg next = (r : ServerStep) × Handles S.plan node.state msg r × (next ≡ server_took S node r)
+TakesMessage S node false msg next = (r : ServerStep) × (q : ReadStep) × Handles S.plan node.state msg r × AnswersReads S.plan node.viewing msg r q × (next ≡ server_took S node r q)
 
 -- a datagram from an address; one that is skipped is counted, and changes nothing else
 abbrev pub TakesJudged : NodeSetting → ServerNodeState → Addr → Judged → ServerNodeState → Type 0

@@ -1,5 +1,5 @@
 -- Submissions, one behind the other.
-use Rattle.std.proofs.Common.{◌≡◌, ℕ, ◌+◌, ◌-◌, ◌<◌, ◌≤◌, ℤ, Bool, true, false, List, [], ◌∷◌, ◌++◌, length, length-drop, get_or, take, drop, refl, sym, ◌∙◌, ap, subst, append-nil, append_assoc, arith, Option, Some, None, Ok, Err, cond}
+use Rattle.std.proofs.Common.{◌≡◌, ℕ, ◌+◌, ◌-◌, ◌<◌, ◌≤◌, ℤ, Bool, true, false, List, [], ◌∷◌, ◌++◌, length, length-drop, get_or, take, drop, refl, sym, ◌∙◌, ap, subst, append-nil, append_assoc, arith, Option, Some, None, Ok, Err, cond, if◌then◌else◌}
 use Rattle.std.proofs.lemmas.Grind.{flat_map-append}
 use Rattle.std.proofs.lemmas.List.{drop-drop}
 use Rattle.roc_sequence.proofs.Fronts.{rest_at, no_rest, front_whole}
@@ -7,14 +7,15 @@ use Rattle.std.specs.Result.{is_ok}
 use Rattle.roc_base.specs.declared.id.TxnId.{TxnId}
 use Rattle.roc_msg.specs.Outbox.{Collected}
 use Rattle.roc_msg.specs.declared.outbox.Outgoing.{Outgoing}
-use Rattle.roc_plan.specs.Groups.{Plan}
+use Rattle.roc_plan.specs.Groups.{Plan, is_view_of}
 use Rattle.roc_program.specs.LookUps.{procedure_named}
 use Rattle.roc_report.specs.Line.{Line, Submit}
 use Rattle.roc_report.specs.Text.{line_text, lines_text}
 use Rattle.roc_sched.specs.declared.line.Request.{Request}
 use Rattle.roc_coord.specs.declared.handled.SubmitFault.{SubmitFault}
 use Rattle.roc_coord.specs.State.{CoordState}
-use Rattle.roc_coord.specs.Submit.{after_submit, refusal_of, refused_or_accepted, IsSubmitted, UnlessNoMemory}
+use Rattle.roc_coord.specs.Submit.{after_submit, refusal_of, refused_or_accepted, accepted, accepted_view, new_transaction, next_id, IsSubmitted, UnlessNoMemory}
+use Rattle.roc_readonly.specs.Round.{first_round}
 use Rattle.roc_node_submit.specs.declared.coord_node.CoordNode.{CoordNode}
 use Rattle.roc_node_submit.specs.CoordRun.{Submissions, none_submitted, accepts, accepts_call, submitted, submitted_call, submitted_all, submit_lines}
 use Rattle.roc_node_submit.specs.Inner.CoordTurn.{SubmitsOne, SubmitsAccepted, RefusesOne, SubmitsSome}
@@ -50,7 +51,11 @@ submits_call plan request proc id old new out_old out_new text_old text_new name
 refused_stays : (plan : Plan) (s : CoordState) (proc : ℕ) (args : List ℤ) (fault : SubmitFault) (why : Option SubmitFault) → Err fault ≡ (refused_or_accepted plan s proc args why).answer
     → ((refused_or_accepted plan s proc args why).state ≡ s) × ((refused_or_accepted plan s proc args why).sends ≡ [])
 refused_stays plan s proc args fault (Some other) e = (refl, refl)
-refused_stays plan s proc args fault None e = absurd (cc)
+refused_stays plan s proc args fault None e = absurd (given (is_view_of plan proc) e)
+  where
+    given : (b : Bool) → Err fault ≡ (if b then accepted_view plan s (first_round (next_id s) proc args) else accepted plan s (new_transaction s proc args)).answer → ⊥
+    given true e = absurd (cc)
+    given false e = absurd (cc)
 
 refuses_call : (plan : Plan) (request : Request) (proc : ℕ) (fault : SubmitFault) (old new : CoordState) (out_old out_new : Collected) (text name : List ℕ) (args : List ℤ) → name ≡ request.name → Some proc ≡ procedure_named plan.program name
     → args ≡ request.args → IsSubmitted (after_submit plan old proc args) (Err fault) new out_old out_new

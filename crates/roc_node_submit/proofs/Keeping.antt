@@ -3,7 +3,7 @@ use Rattle.std.proofs.Common.{◌≡◌, ℕ, ◌+◌, ◌<◌, ◌≤◌, ℤ, 
 use Rattle.std.proofs.lemmas.Bool.{false≢true}
 use Rattle.std.proofs.lemmas.Bool.Decides.{nat_tests}
 use Rattle.std.proofs.lemmas.List.Elements.{filter-append}
-use Rattle.std.proofs.lemmas.List.{length-append, length-map, map-append}
+use Rattle.std.proofs.lemmas.List.{length-append}
 use Rattle.std.specs.Prelude.{filter}
 use Rattle.roc_base.specs.declared.id.TxnId.{TxnId}
 use Rattle.roc_base.specs.TxnId.{is_txn}
@@ -14,12 +14,13 @@ use Rattle.roc_program.specs.LookUps.{procedure_named}
 use Rattle.roc_report.specs.Line.{Line, Submit, Answer}
 use Rattle.roc_sched.specs.declared.line.Request.{Request}
 use Rattle.roc_coord.specs.declared.transaction.Transaction.{Transaction}
-use Rattle.roc_coord.specs.Ids.{ids_of}
+use Rattle.roc_readonly.specs.declared.view.View.{View}
+use Rattle.roc_coord.specs.Ids.{ids_of, view_ids}
 use Rattle.roc_coord.specs.State.{CoordState}
-use Rattle.roc_coord.specs.Step.{without_transaction}
+use Rattle.roc_coord.specs.Step.{without_transaction, without_view}
 use Rattle.roc_coord.specs.Submit.{next_id, most_transactions}
 use Rattle.roc_node_submit.specs.EachAnswered.{is_submission, is_answer, is_answer_to, AreGivenIds, one_given}
-use Rattle.roc_node_submit.proofs.Counts.{one_if, passing_more, waiting, but, none_but, others_but, all_but, ids_but}
+use Rattle.roc_node_submit.proofs.Counts.{one_if, passing_more, waiting, but, none_but, others_but, all_but, ids_but, AreShared, shared_but, shared_swap}
 
 -- how often an id was given, where those below this sequence were
 abbrev pub times_given : (number next : ℕ) → TxnId → ℕ
@@ -46,36 +47,37 @@ pub record Kept (program : Workload) (number : ℕ) (taken : List Request) (stat
   pub next : state.next ≡ length taken
   pub bounded : state.next ≤ most_transactions
   pub given : AreGivenIds program number taken (filter is_submission lines)
-  pub each : (id : TxnId) → length (filter (is_answer_to id) lines) + waiting id (ids_of state.pending) ≡ times_given number state.next id
-  pub all : length (filter is_answer lines) + length state.pending ≡ state.next
+  pub each : (id : TxnId) → length (filter (is_answer_to id) lines) + waiting id state.unanswered ≡ times_given number state.next id
+  pub all : length (filter is_answer lines) + length state.unanswered ≡ state.next
+  pub shared : AreShared (ids_of state.pending) (view_ids state.views) state.unanswered
   pub counted : answered ≡ length (filter is_answer lines)
 
 module _ (program : Workload) (number : ℕ) (taken : List Request) where
   -- nothing was given or answered
-  pub kept_same : (state next : CoordState) (lines : List Line) (answered : ℕ) → next.number ≡ state.number → next.next ≡ state.next → ids_of next.pending ≡ ids_of state.pending
-      → Kept program number taken state lines answered → Kept program number taken next (lines ++ []) answered
-  kept_same state next lines answered same_number same_next same_ids k =
-      let plain : Kept program number taken next lines answered = record {
-        numbered = same_number ∙ k.numbered;
-        next = same_next ∙ k.next;
-        bounded = let b = k.bounded in subst (λ n. n ≤ most_transactions) (sym same_next) b;
+  pub kept_same : (state : CoordState) (pending : List Transaction) (views : List View) (lines : List Line) (answered : ℕ) → ids_of pending ≡ ids_of state.pending → view_ids views ≡ view_ids state.views
+      → Kept program number taken state lines answered → Kept program number taken (record state { pending = pending; views = views }) (lines ++ []) answered
+  kept_same state pending views lines answered same_ids same_views k =
+      let with_pending : List TxnId → Type 0 = λ ids. AreShared ids (view_ids views) state.unanswered in
+      let with_views : List TxnId → Type 0 = λ ids. AreShared (ids_of state.pending) ids state.unanswered in
+      let plain : Kept program number taken (record state { pending = pending; views = views }) lines answered = record {
+        numbered = k.numbered;
+        next = k.next;
+        bounded = k.bounded;
         given = k.given;
-        each = λ id. ap (λ l. length (filter (is_answer_to id) lines) + waiting id l) same_ids ∙ k.each id ∙ ap (λ n. times_given number n id) (sym same_next);
-        all = ap (λ n. length (filter is_answer lines) + n)
-            (sym (length-map next.pending (λ (x : Transaction). x.id)) ∙ ap length same_ids ∙ length-map state.pending (λ (x : Transaction). x.id))
-            ∙ k.all ∙ sym same_next;
+        each = k.each;
+        all = k.all;
+        shared = subst with_pending (sym same_ids) (subst with_views (sym same_views) k.shared);
         counted = k.counted;
       } in
-      subst (λ l. Kept program number taken next l answered) (sym (append-nil lines)) plain
+      subst (λ l. Kept program number taken (record state { pending = pending; views = views }) l answered) (sym (append-nil lines)) plain
 
   -- one more was given
-  pub kept_given : (state : CoordState) (lines : List Line) (answered : ℕ) (request : Request) (proc : ℕ) (x : Transaction) → x.id ≡ next_id state → procedure_named program request.name ≡ Some proc
-      → state.next < most_transactions → Kept program number taken state lines answered
-      → Kept program number (taken ++ request ∷ []) (record state { next = state.next + 1; pending = state.pending ++ x ∷ [] }) (lines ++ Submit (next_id state) proc request.args ∷ []) answered
-  kept_given state lines answered request proc x own named below k =
+  pub kept_given : (state : CoordState) (pending : List Transaction) (views : List View) (lines : List Line) (answered : ℕ) (request : Request) (proc : ℕ) → procedure_named program request.name ≡ Some proc
+      → state.next < most_transactions → AreShared (ids_of pending) (view_ids views) (state.unanswered ++ next_id state ∷ []) → Kept program number taken state lines answered
+      → Kept program number (taken ++ request ∷ []) (record state { next = state.next + 1; pending = pending; views = views; unanswered = state.unanswered ++ next_id state ∷ [] }) (lines ++ Submit (next_id state) proc request.args ∷ []) answered
+  kept_given state pending views lines answered request proc named below shares k =
       let line = Submit (next_id state) proc request.args in
       let place : next_id state ≡ record { coord = number; seq = length taken } = ap (λ n. record { coord = n; seq = state.next }) k.numbered ∙ ap (λ n. record { coord = number; seq = n }) k.next in
-      let mine : x.id ≡ record { coord = number; seq = state.next } = own ∙ ap (λ n. record { coord = n; seq = state.next }) k.numbered in
       let none_more : length (filter is_answer (lines ++ line ∷ [])) ≡ length (filter is_answer lines) = let p = passing_more is_answer lines line in omega arith in record {
         numbered = k.numbered;
         next = ap (λ n. n + 1) k.next ∙ sym (length-append taken (request ∷ []));
@@ -84,68 +86,85 @@ module _ (program : Workload) (number : ℕ) (taken : List Request) where
             (ap (λ (id : TxnId). filter is_submission lines ++ Submit id proc request.args ∷ []) (sym place)
             ∙ sym (filter-append is_submission lines (line ∷ [])))
             (one_given request proc k.given named);
-        each = λ id. each_more id mine;
-        all = let n = length-append state.pending (x ∷ []) in let a = k.all in omega (arith, none_more);
+        each = each_more;
+        all = let n = length-append state.unanswered (next_id state ∷ []) in let a = k.all in omega (arith, none_more);
+        shared = shares;
         counted = k.counted ∙ sym none_more;
       }
     where
-      each_more : (id : TxnId) → x.id ≡ record { coord = number; seq = state.next }
-          → length (filter (is_answer_to id) (lines ++ Submit (next_id state) proc request.args ∷ [])) + waiting id (ids_of (state.pending ++ x ∷ [])) ≡ times_given number (state.next + 1) id
-      each_more id mine =
+      each_more : (id : TxnId) → length (filter (is_answer_to id) (lines ++ Submit (next_id state) proc request.args ∷ [])) + waiting id (state.unanswered ++ next_id state ∷ []) ≡ times_given number (state.next + 1) id
+      each_more id =
+          let mine : next_id state ≡ record { coord = number; seq = state.next } = ap (λ n. record { coord = n; seq = state.next }) k.numbered in
           let none = passing_more (is_answer_to id) lines (Submit (next_id state) proc request.args) in
-          let one = ap (waiting id) (map-append (λ (y : Transaction). y.id) state.pending (x ∷ []))
-          ∙ passing_more (λ own. is_txn own id) (ids_of state.pending) x.id
-          ∙ ap (λ (i : TxnId). waiting id (ids_of state.pending) + one_if (is_txn i id)) mine in
+          let one = passing_more (λ own. is_txn own id) state.unanswered (next_id state) ∙ ap (λ (i : TxnId). waiting id state.unanswered + one_if (is_txn i id)) mine in
           let before = k.each id in
           let more = given_one_more number state.next id in
           omega arith
 
-  -- one that waited was answered
-  pub kept_answered : (state : CoordState) (lines : List Line) (answered : ℕ) (gone : TxnId) (reply : List ℤ) → 1 ≤ waiting gone (ids_of state.pending)
-      → Kept program number taken state lines answered
-      → Kept program number taken (without_transaction state gone) (lines ++ Answer gone reply ∷ []) (one_more answered)
-  kept_answered state lines answered gone reply waited k =
-      let line = Answer gone reply in
-      let one_answer : length (filter is_answer (lines ++ line ∷ [])) ≡ length (filter is_answer lines) + 1 = passing_more is_answer lines line in
-      let no_submission : filter is_submission (lines ++ line ∷ []) ≡ filter is_submission lines = filter-append is_submission lines (line ∷ []) ∙ append-nil (filter is_submission lines) in
-      let less : length (but gone (ids_of state.pending)) + waiting gone (ids_of state.pending) ≡ length (ids_of state.pending) = all_but gone (ids_of state.pending) in
-      let only : waiting gone (ids_of state.pending) ≡ 1 = waits_once in
-      let left = sym (length-map (without_transaction state gone).pending (λ (x : Transaction). x.id)) ∙ ap length (ids_but gone state.pending) in
-      let were = length-map state.pending (λ (x : Transaction). x.id) in
-      let total = k.all in let counted = k.counted in let bounded = k.bounded in record {
-        numbered = k.numbered;
-        next = k.next;
-        bounded = k.bounded;
-        given = subst (λ l. AreGivenIds program number taken l) (sym no_submission) k.given;
-        each = each_then;
-        all = omega arith;
-        counted = counts_one (omega arith) ∙ ap (λ n. n + 1) k.counted ∙ sym one_answer;
-      }
-    where
-      at_most_one : (b : Bool) → one_if b ≤ 1
-      at_most_one true = omega arith
-      at_most_one false = omega arith
+  module _ (state : CoordState) (lines : List Line) (answered : ℕ) (gone : TxnId) (reply : List ℤ) (k : Kept program number taken state lines answered) where
+    at_most_one : (b : Bool) → one_if b ≤ 1
+    at_most_one true = omega arith
+    at_most_one false = omega arith
 
-      waits_once : waiting gone (ids_of state.pending) ≡ 1
-      waits_once = let e = k.each gone in let m = at_most_one (number == gone.coord && nat_lt gone.seq state.next) in omega arith
+    waits_once : 1 ≤ waiting gone state.unanswered → waiting gone state.unanswered ≡ 1
+    waits_once waited = let e = k.each gone in let m = at_most_one (number == gone.coord && nat_lt gone.seq state.next) in omega arith
 
-      counts_one : answered + 1 ≤ 18446744073709551615 → one_more answered ≡ answered + 1
-      counts_one le = omega arith
+    -- one that waited was answered
+    kept_answered : (pending : List Transaction) (views : List View) → 1 ≤ waiting gone state.unanswered → AreShared (ids_of pending) (view_ids views) (but gone state.unanswered)
+        → Kept program number taken (record state { pending = pending; views = views; unanswered = but gone state.unanswered }) (lines ++ Answer gone reply ∷ []) (one_more answered)
+    kept_answered pending views waited shares =
+        let line = Answer gone reply in
+        let one_answer : length (filter is_answer (lines ++ line ∷ [])) ≡ length (filter is_answer lines) + 1 = passing_more is_answer lines line in
+        let no_submission : filter is_submission (lines ++ line ∷ []) ≡ filter is_submission lines = filter-append is_submission lines (line ∷ []) ∙ append-nil (filter is_submission lines) in
+        let less : length (but gone state.unanswered) + waiting gone state.unanswered ≡ length state.unanswered = all_but gone state.unanswered in
+        let only : waiting gone state.unanswered ≡ 1 = waits_once waited in
+        let total = k.all in let counted = k.counted in let bounded = k.bounded in record {
+          numbered = k.numbered;
+          next = k.next;
+          bounded = k.bounded;
+          given = subst (λ l. AreGivenIds program number taken l) (sym no_submission) k.given;
+          each = each_then;
+          all = omega arith;
+          shared = shares;
+          counted = counts_one (omega arith) ∙ ap (λ n. n + 1) k.counted ∙ sym one_answer;
+        }
+      where
+        counts_one : answered + 1 ≤ 18446744073709551615 → one_more answered ≡ answered + 1
+        counts_one le = omega arith
 
-      each_then : (id : TxnId) → length (filter (is_answer_to id) (lines ++ Answer gone reply ∷ [])) + waiting id (ids_of (without_transaction state gone).pending) ≡ times_given number state.next id
-      each_then id = go (is_txn gone id) refl
-        where
-          go : (b : Bool) → is_txn gone id ≡ b
-              → length (filter (is_answer_to id) (lines ++ Answer gone reply ∷ [])) + waiting id (ids_of (without_transaction state gone).pending) ≡ times_given number state.next id
-          go true e =
-              let more = passing_more (is_answer_to id) lines (Answer gone reply) ∙ ap (λ b. length (filter (is_answer_to id) lines) + one_if b) e in
-              let same = is_txn-true gone id e in
-              let none = ap (waiting id) (ids_but gone state.pending) ∙ ap (λ i. waiting i (but gone (ids_of state.pending))) (sym same) ∙ none_but gone (ids_of state.pending) in
-              let once = ap (λ i. waiting i (ids_of state.pending)) (sym same) ∙ waits_once in
-              let before = k.each id in
-              omega arith
-          go false e =
-              let more = passing_more (is_answer_to id) lines (Answer gone reply) ∙ ap (λ b. length (filter (is_answer_to id) lines) + one_if b) e in
-              let others = ap (waiting id) (ids_but gone state.pending) ∙ others_but gone id (ids_of state.pending) e in
-              let before = k.each id in
-              omega arith
+        each_then : (id : TxnId) → length (filter (is_answer_to id) (lines ++ Answer gone reply ∷ [])) + waiting id (but gone state.unanswered) ≡ times_given number state.next id
+        each_then id = go (is_txn gone id) refl
+          where
+            go : (b : Bool) → is_txn gone id ≡ b → length (filter (is_answer_to id) (lines ++ Answer gone reply ∷ [])) + waiting id (but gone state.unanswered) ≡ times_given number state.next id
+            go true e =
+                let more = passing_more (is_answer_to id) lines (Answer gone reply) ∙ ap (λ b. length (filter (is_answer_to id) lines) + one_if b) e in
+                let same = is_txn-true gone id e in
+                let none = ap (λ i. waiting i (but gone state.unanswered)) (sym same) ∙ none_but gone state.unanswered in
+                let once = ap (λ i. waiting i state.unanswered) (sym same) ∙ waits_once waited in
+                let before = k.each id in
+                omega arith
+            go false e =
+                let more = passing_more (is_answer_to id) lines (Answer gone reply) ∙ ap (λ b. length (filter (is_answer_to id) lines) + one_if b) e in
+                let others = others_but gone id state.unanswered e in
+                let before = k.each id in
+                omega arith
+
+    -- a transaction was, or a view
+    pub kept_replied : 1 ≤ waiting gone (ids_of state.pending) → Kept program number taken (without_transaction state gone) (lines ++ Answer gone reply ∷ []) (one_more answered)
+    kept_replied waited =
+        let e = k.shared gone in
+        let there : 1 ≤ waiting gone state.unanswered = omega arith in
+        let are_shared : List TxnId → Type 0 = λ ids. AreShared ids (view_ids state.views) (but gone state.unanswered) in
+        kept_answered (without_transaction state gone).pending state.views there
+        (subst are_shared (sym (ids_but (λ (x : Transaction). x.id) gone state.pending)) (shared_but (ids_of state.pending) (view_ids state.views) state.unanswered gone k.shared (waits_once there) waited))
+
+    pub kept_read : 1 ≤ waiting gone (view_ids state.views) → Kept program number taken (without_view state gone) (lines ++ Answer gone reply ∷ []) (one_more answered)
+    kept_read waited =
+        let e = k.shared gone in
+        let there : 1 ≤ waiting gone state.unanswered = omega arith in
+        let ps = ids_of state.pending in
+        let vs = view_ids state.views in
+        let are_shared : List TxnId → Type 0 = λ ids. AreShared ps ids (but gone state.unanswered) in
+        kept_answered state.pending (without_view state gone).views there
+        (subst are_shared (sym (ids_but (λ (v : View). v.id) gone state.views))
+        (shared_swap (but gone vs) ps (but gone state.unanswered) (shared_but vs ps state.unanswered gone (shared_swap ps vs state.unanswered k.shared) (waits_once there) waited)))

@@ -1,7 +1,8 @@
 -- A run keeps each id that it gives until the id is answered, and at its end each was
-use Rattle.std.proofs.Common.{◌≡◌, ℕ, ◌+◌, ◌<◌, ℤ, Bool, true, false, not, ◌&&◌, ◌==◌, nat_lt, nat_le, List, [], ◌∷◌, ◌++◌, length, Option, Some, None, refl, sym, ◌∙◌, ap, subst, append-nil, append_assoc, arith}
+use Rattle.std.proofs.Common.{◌≡◌, ℕ, ◌<◌, ℤ, Bool, true, false, not, ◌&&◌, ◌==◌, nat_lt, nat_le, List, [], ◌∷◌, ◌++◌, length, Option, Some, None, refl, sym, ◌∙◌, ap, subst, append-nil, append_assoc, arith}
 use Rattle.std.proofs.lemmas.Bool.{false≢true, leb-false, lt-ltb, eq-eqb, eqb-true, and_parts}
 use Rattle.std.proofs.lemmas.Bool.Decides.{nat_tests}
+use Rattle.std.proofs.lemmas.List.{map-append}
 use Rattle.std.specs.Prelude.{filter, if◌then◌else◌}
 use Rattle.std.specs.Result.{is_ok}
 use Rattle.roc_sequence.proofs.Found.{found_has}
@@ -10,36 +11,41 @@ use Rattle.roc_base.specs.declared.id.TxnId.{TxnId}
 use Rattle.roc_base.specs.TxnId.{is_txn}
 use Rattle.roc_base.specs.declared.node.Shard.{Shard}
 use Rattle.roc_program.specs.LookUps.{procedure_named}
-use Rattle.roc_plan.specs.Groups.{Plan, procedure_of, is_transaction}
+use Rattle.roc_plan.specs.Groups.{Plan, procedure_of, is_view_of}
 use Rattle.roc_report.specs.Line.{Line, Submit}
 use Rattle.roc_sched.specs.declared.line.Request.{Request}
 use Rattle.roc_msg.specs.declared.msg.Msg.{Msg}
-use Rattle.roc_msg.specs.declared.msg.Msg.TheVariants.{StartOk, CommitOk}
+use Rattle.roc_msg.specs.declared.msg.Msg.TheVariants.{StartOk, CommitOk, ReadOk}
 use Rattle.roc_msg.specs.declared.reason.Reason.{Reason}
 use Rattle.roc_coord.specs.declared.transaction.Transaction.{Transaction}
+use Rattle.roc_readonly.specs.declared.view.Round.{Round}
+use Rattle.roc_readonly.specs.declared.view.Round.TheVariants.{Waits, Ends, GoesOn}
+use Rattle.roc_readonly.specs.declared.view.TakenRead.{TakenRead}
+use Rattle.roc_readonly.specs.declared.view.View.{View}
+use Rattle.roc_readonly.specs.Round.{first_round, with_readok, readok_refusal, round_of, next_round}
 use Rattle.roc_coord.specs.declared.transaction.TakenStart.{TakenStart}
 use Rattle.roc_coord.specs.declared.transaction.TakenCommit.{TakenCommit}
 use Rattle.roc_coord.specs.declared.handled.SubmitFault.{SubmitFault}
 use Rattle.roc_coord.specs.declared.handled.SubmitFault.TheVariants.{NoProc, Args, Spent, Busy}
-use Rattle.roc_coord.specs.Ids.{ids_of}
+use Rattle.roc_coord.specs.Ids.{ids_of, view_ids}
 use Rattle.roc_coord.specs.Starts.{with_starts}
-use Rattle.roc_coord.specs.State.{CoordState, CoordStep, find_transaction, with_transaction}
-use Rattle.roc_coord.specs.Step.{after_message, after_startok, after_commitok, unless_refused, startok_taken, startok_refusal, with_startok, with_commits, commitok_taken, commitok_refusal, with_commitok, reply_now}
-use Rattle.roc_coord.specs.Submit.{new_transaction, next_id, most_transactions, most_pending, refusal_of, refused_or_accepted}
+use Rattle.roc_coord.specs.State.{CoordState, CoordStep, find_transaction, with_transaction, find_view, with_view}
+use Rattle.roc_coord.specs.Step.{after_message, after_startok, after_commitok, unless_refused, startok_taken, startok_refusal, with_startok, with_commits, commitok_taken, commitok_refusal, with_commitok, reply_now, after_readok, readok_taken}
+use Rattle.roc_coord.specs.Submit.{accepted, accepted_view, new_transaction, next_id, most_transactions, most_pending, refusal_of, refused_or_accepted}
 use Rattle.roc_node.specs.Judgement.{judged}
 use Rattle.roc_node.specs.declared.judging.Judged.{Judged}
 use Rattle.roc_node.specs.declared.judging.Judged.TheVariants.{Delivery, Skipped}
 use Rattle.roc_node.specs.NodeEvent.{NodeEvent, took, silent, NodeSetting}
 use Rattle.roc_node_submit.specs.CoordRun.{CoordNodeState, Submissions, accepts, accepts_call, with_submission, submitted, submitted_call, submitted_all, submissions_of, none_submitted, coord_submitted, step_of_judged, reply_lines, answered_then, coord_turn, IsCoordRun, begun, goes_on, is_answered}
 use Rattle.roc_node_submit.specs.EachAnswered.{is_submission, is_answer_to, AreGivenIds, AreEachAnswered, none_given}
-use Rattle.roc_node_submit.proofs.Counts.{one_if, waiting, waits, ids_with}
-use Rattle.roc_node_submit.proofs.Keeping.{Kept, kept_same, kept_given, kept_answered, times_given}
+use Rattle.roc_node_submit.proofs.Counts.{one_if, waiting, waits, ids_with, AreShared, shared_more, shared_swap}
+use Rattle.roc_node_submit.proofs.Keeping.{Kept, kept_same, kept_given, kept_replied, kept_read, times_given}
 
 -- a submission that is not refused has a sequence number left
 unspent : (plan : Plan) (s : CoordState) (proc : ℕ) (args : List ℤ) → refusal_of plan s proc args ≡ None → s.next < most_transactions
 unspent plan s proc args e = leb-false most_transactions s.next
-    (go (not (is_transaction plan proc)) (not (length args == (procedure_of plan proc).arguments))
-    (nat_le most_transactions s.next) (nat_le most_pending (length s.pending)) e)
+    (go (not (nat_lt proc (length plan.program.procedures))) (not (length args == (procedure_of plan proc).arguments))
+    (nat_le most_transactions s.next) (nat_le most_pending (length s.unanswered)) e)
   where
     go : (a b c d : Bool) → (if a then Some NoProc else if b then Some Args else if c then Some Spent else if d then Some Busy else None) ≡ None → c ≡ false
     go true b c d e = absurd (cc)
@@ -59,11 +65,44 @@ module _ (plan : Plan) (number : ℕ) (before : List Line) (answered : ℕ) wher
       go : (why : Option SubmitFault) → refusal_of plan s.state proc request.args ≡ why → is_ok (refused_or_accepted plan s.state proc request.args why).answer ≡ true
           → KeptBehind (taken ++ request ∷ []) (with_submission s proc request.args (refused_or_accepted plan s.state proc request.args why))
       go (Some fault) is e = absurd (false≢true e)
-      go None is e =
-          let x = with_starts plan (new_transaction s.state proc request.args) in
-          subst (λ l. Kept plan.program number (taken ++ request ∷ []) (record s.state { next = s.state.next + 1; pending = s.state.pending ++ x ∷ [] }) l answered)
-          (append_assoc before s.lines (Submit (next_id s.state) proc request.args ∷ []))
-          (kept_given plan.program number taken s.state (before ++ s.lines) answered request proc x refl named (unspent plan s.state proc request.args is) k)
+      go None is e = given_as (is_view_of plan proc)
+        where
+          behind : CoordState → List Line → Type 0
+          behind state lines = Kept plan.program number (taken ++ request ∷ []) state lines answered
+
+          grown : List Line
+          grown = before ++ (s.lines ++ Submit (next_id s.state) proc request.args ∷ [])
+
+          same_lines : (before ++ s.lines) ++ Submit (next_id s.state) proc request.args ∷ [] ≡ grown
+          same_lines = append_assoc before s.lines (Submit (next_id s.state) proc request.args ∷ [])
+
+          shared : AreShared (ids_of s.state.pending) (view_ids s.state.views) s.state.unanswered
+          shared = k.shared
+
+          as_transaction : behind (accepted plan s.state (new_transaction s.state proc request.args)).state grown
+          as_transaction =
+              let x = with_starts plan (new_transaction s.state proc request.args) in
+              let are_shared : List TxnId → Type 0 = λ ids. AreShared ids (view_ids s.state.views) (s.state.unanswered ++ next_id s.state ∷ []) in
+              subst (behind (accepted plan s.state (new_transaction s.state proc request.args)).state) same_lines
+              (kept_given plan.program number taken s.state (s.state.pending ++ x ∷ []) s.state.views (before ++ s.lines) answered request proc named (unspent plan s.state proc request.args is)
+              (subst are_shared (sym (map-append (λ (y : Transaction). y.id) s.state.pending (x ∷ []))) (shared_more (ids_of s.state.pending) (view_ids s.state.views) s.state.unanswered (next_id s.state) shared)) k)
+
+          as_view : behind (accepted_view plan s.state (first_round (next_id s.state) proc request.args)).state grown
+          as_view =
+              let v = first_round (next_id s.state) proc request.args in
+              let ps = ids_of s.state.pending in
+              let vs = view_ids s.state.views in
+              let all = s.state.unanswered ++ next_id s.state ∷ [] in
+              let are_shared : List TxnId → Type 0 = λ ids. AreShared ps ids all in
+              subst (behind (accepted_view plan s.state v).state) same_lines
+              (kept_given plan.program number taken s.state s.state.pending (s.state.views ++ v ∷ []) (before ++ s.lines) answered request proc named (unspent plan s.state proc request.args is)
+              (subst are_shared (sym (map-append (λ (w : View). w.id) s.state.views (v ∷ [])))
+              (shared_swap (vs ++ next_id s.state ∷ []) ps all (shared_more vs ps s.state.unanswered (next_id s.state) (shared_swap ps vs s.state.unanswered shared)))) k)
+
+          given_as : (b : Bool)
+              → KeptBehind (taken ++ request ∷ []) (with_submission s proc request.args (if b then accepted_view plan s.state (first_round (next_id s.state) proc request.args) else accepted plan s.state (new_transaction s.state proc request.args)))
+          given_as true = as_view
+          given_as false = as_transaction
 
   -- more of the requests were given ids, and these are left
   record KeptMore (taken requests : List Request) (after : Submissions) : Type 0 where
@@ -95,20 +134,23 @@ module _ (plan : Plan) (number : ℕ) (taken : List Request) (state : CoordState
   KeptStep r = Kept plan.program number taken r.state (lines ++ reply_lines r.answer) (answered_then answered r.answer)
 
   nothing_new : Kept plan.program number taken state (lines ++ []) answered
-  nothing_new = kept_same plan.program number taken state state lines answered refl refl refl k
+  nothing_new = kept_same plan.program number taken state state.pending state.views lines answered refl refl k
 
   changed : (x : Transaction) → Kept plan.program number taken (with_transaction state x) (lines ++ []) answered
-  changed x = kept_same plan.program number taken state (with_transaction state x) lines answered refl refl (ids_with x state.pending) k
+  changed x = kept_same plan.program number taken state (with_transaction state x).pending state.views lines answered (ids_with (λ (y : Transaction). y.id) x state.pending) refl k
 
-  kept_startok : (found : Option Transaction) (ok : TakenStart) (shard : Shard) → KeptStep (after_startok plan state found ok shard)
-  kept_startok None ok shard = nothing_new
-  kept_startok (Some x) ok shard = go (startok_refusal plan x ok shard)
+  read : (v : View) → Kept plan.program number taken (with_view state v) (lines ++ []) answered
+  read v = kept_same plan.program number taken state state.pending (with_view state v).views lines answered refl (ids_with (λ (w : View). w.id) v state.views) k
+
+  kept_startok : (id : TxnId) (found : Option Transaction) (ok : TakenStart) (shard : Shard) → KeptStep (after_startok plan state id found ok shard)
+  kept_startok id None ok shard = nothing_new
+  kept_startok id (Some x) ok shard = go (startok_refusal plan x ok shard)
     where
       go : (why : Option Reason) → KeptStep (unless_refused state why (startok_taken plan state (with_startok x ok)))
       go (Some reason) = nothing_new
       go None = changed (with_commits plan (with_starts plan (with_startok x ok)))
 
-  kept_commitok : (id : TxnId) (found : Option Transaction) (ok : TakenCommit) → find_transaction id state.pending ≡ found → KeptStep (after_commitok plan state found ok)
+  kept_commitok : (id : TxnId) (found : Option Transaction) (ok : TakenCommit) → find_transaction id state.pending ≡ found → KeptStep (after_commitok plan state id found ok)
   kept_commitok id None ok e = nothing_new
   kept_commitok id (Some x) ok e = go (commitok_refusal plan x ok)
     where
@@ -116,15 +158,31 @@ module _ (plan : Plan) (number : ℕ) (taken : List Request) (state : CoordState
       replied None = changed (with_commitok x ok)
       replied (Some reply) =
           let has = found_has (λ (y : Transaction). is_txn y.id id) state.pending x e in
-          kept_answered plan.program number taken state lines answered x.id reply (waits x.id (ids_of state.pending) (has_map (λ (y : Transaction). y.id) x state.pending has.0)) k
+          kept_replied plan.program number taken state lines answered x.id reply k (waits x.id (ids_of state.pending) (has_map (λ (y : Transaction). y.id) x state.pending has.0))
 
       go : (why : Option Reason) → KeptStep (unless_refused state why (commitok_taken plan state (with_commitok x ok) (reply_now plan (with_commitok x ok))))
       go (Some reason) = nothing_new
       go None = replied (reply_now plan (with_commitok x ok))
 
+  kept_readok : (id : TxnId) (found : Option View) (round : ℕ) (ok : TakenRead) (shard : Shard) → find_view id state.views ≡ found → KeptStep (after_readok plan state id found round ok shard)
+  kept_readok id None round ok shard e = nothing_new
+  kept_readok id (Some v) round ok shard e = go (readok_refusal plan v round ok shard)
+    where
+      came_to : (r : Round) → KeptStep (readok_taken plan state (with_readok v ok) r)
+      came_to Waits = read (with_readok v ok)
+      came_to (Ends reply) =
+          let has = found_has (λ (w : View). is_txn w.id id) state.views v e in
+          kept_read plan.program number taken state lines answered v.id reply k (waits v.id (view_ids state.views) (has_map (λ (w : View). w.id) v state.views has.0))
+      came_to GoesOn = read (next_round (with_readok v ok))
+
+      go : (why : Option Reason) → KeptStep (unless_refused state why (readok_taken plan state (with_readok v ok) (round_of plan (with_readok v ok))))
+      go (Some reason) = nothing_new
+      go None = came_to (round_of plan (with_readok v ok))
+
   kept_message : (msg : Msg) → KeptStep (after_message plan state msg)
-  kept_message (StartOk id group shard bound outs edges facts) = kept_startok (find_transaction id state.pending) _ shard
+  kept_message (StartOk id group shard bound outs edges facts) = kept_startok id (find_transaction id state.pending) _ shard
   kept_message (CommitOk id shard outs) = kept_commitok id (find_transaction id state.pending) _ refl
+  kept_message (ReadOk id round group shard versions outs) = kept_readok id (find_view id state.views) round _ shard refl
   kept_message msg = nothing_new
 
   kept_judged : (j : Judged) → KeptStep (step_of_judged plan state j)
@@ -170,37 +228,37 @@ module _ (S : NodeSetting) (number : ℕ) where
   kept_run begun = record {
     taken = [];
     parts = refl;
-    kept = record { numbered = refl; next = refl; bounded = omega arith; given = none_given; each = none_below; all = refl; counted = refl };
+    kept = record { numbered = refl; next = refl; bounded = omega arith; given = none_given; each = none_below; all = refl; shared = λ id. refl; counted = refl };
   }
   kept_run {requests} (goes_on {node = node} event run going) = turned requests node event (kept_run run)
 
   pub each_answered : (requests : List Request) (events : List NodeEvent) (node : CoordNodeState) → IsCoordRun S number requests events node → is_answered node ≡ true
       → AreEachAnswered S.plan.program number requests node
   each_answered requests events node run e =
-      let both = and_parts (length node.left == 0) (length node.state.pending == 0) e in
-      answers (kept_run run) (none_left node.left both.0) (none_left node.state.pending both.1)
+      let both = and_parts (length node.left == 0) (length node.state.unanswered == 0) e in
+      answers (kept_run run) (none_left node.left both.0) (none_left node.state.unanswered both.1)
     where
       none_left : {A : Type 0} (xs : List A) → (length xs == 0) ≡ true → xs ≡ []
       none_left [] e = refl
       none_left (x ∷ xs) e = absurd (let n = eqb-true (length (x ∷ xs)) 0 e in omega arith)
 
-      answers : KeptRun requests node → node.left ≡ [] → node.state.pending ≡ [] → AreEachAnswered S.plan.program number requests node
-      answers r left pending =
+      answers : KeptRun requests node → node.left ≡ [] → node.state.unanswered ≡ [] → AreEachAnswered S.plan.program number requests node
+      answers r left none_waits =
           let k = r.kept in
           let whole : requests ≡ r.taken = r.parts ∙ ap (λ (l : List Request). r.taken ++ l) left ∙ append-nil r.taken in
-          let none = ap (λ (l : List Transaction). length l) pending in
+          let none = ap (λ (l : List TxnId). length l) none_waits in
           let total = k.all in let next = k.next in let count = ap (λ (l : List Request). length l) whole in record {
             given = subst (λ l. AreGivenIds S.plan.program number l (filter is_submission node.lines)) (sym whole) k.given;
-            answers = λ seq below. once r.taken k pending seq (omega arith);
+            answers = λ seq below. once r.taken k none_waits seq (omega arith);
             all = omega arith;
             counted = let c = k.counted in omega arith;
           }
         where
-          once : (taken : List Request) → Kept S.plan.program number taken node.state node.lines node.answered → node.state.pending ≡ [] → (seq : ℕ) → seq < length taken
+          once : (taken : List Request) → Kept S.plan.program number taken node.state node.lines node.answered → node.state.unanswered ≡ [] → (seq : ℕ) → seq < length taken
               → length (filter (is_answer_to (record { coord = number; seq = seq })) node.lines) ≡ 1
-          once taken k pending seq below =
+          once taken k none_waits seq below =
               let id : TxnId = record { coord = number; seq = seq } in
               let each = k.each id in
-              let none = ap (λ (l : List Transaction). waiting id (ids_of l)) pending in
+              let none = ap (waiting id) none_waits in
               let given = ap (λ b. one_if (b && nat_lt seq node.state.next)) (eq-eqb number number refl) ∙ ap one_if (lt-ltb seq node.state.next (let n = k.next in omega arith)) in
               omega arith

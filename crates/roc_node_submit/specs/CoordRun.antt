@@ -44,7 +44,7 @@ first_coord_node_state number requests = record { state = first_coord number; le
 
 -- no request is left, and none is unanswered
 abbrev pub is_answered : CoordNodeState → Bool
-is_answered node = length node.left == 0 && length node.state.pending == 0
+is_answered node = length node.left == 0 && length node.state.unanswered == 0
 
 -- ---- submissions
 

@@ -1,6 +1,5 @@
 -- How submitting ends, what the link took and the sink: docs/PROTOCOL.md, "Running nodes"
 use Rattle.std.specs.Prelude.{◌≡◌, ℕ, ◌+◌, ◌<◌, ◌≤◌, Bool, true, false, List, [], ◌∷◌, ◌++◌, length, map, if◌then◌else◌}
-use Rattle.roc_coord.specs.Ids.{ids_of}
 use Rattle.roc_io.specs.declared.link.Addr.{Addr}
 use Rattle.roc_io.specs.Link.{Reception, receiving, vain}
 use Rattle.roc_io.specs.Observed.{Adds, AddsThenFront}
@@ -34,7 +33,7 @@ submit_sink_failed NoMemory = false
 
 -- the lines at the end: the ids without a reply, rising, and the counts
 abbrev pub closing_node_lines : CoordNodeState → List NodeLine
-closing_node_lines node = map UnansweredLine (ids_of node.state.pending) ++ EndSubmit node.answered (length node.state.pending) (length node.left) ∷ []
+closing_node_lines node = map UnansweredLine node.state.unanswered ++ EndSubmit node.answered (length node.state.unanswered) (length node.left) ∷ []
 
 abbrev pub closing_text : CoordNodeState → List ℕ
 closing_text node = node_lines_text (closing_node_lines node)

@@ -1,6 +1,5 @@
 -- Servers agree on the components of transactions
 use Rattle.std.proofs.Common.{ℕ, List, sym, subst, inl, inr}
-use Rattle.roc_sequence.specs.Lists.{Has}
 use Rattle.roc_sequence.specs.Places.{IsListed}
 use Rattle.roc_base.specs.declared.id.TxnId.{TxnId}
 use Rattle.roc_base.specs.declared.node.Shard.{Shard}
@@ -16,14 +15,16 @@ use Rattle.roc_protocol.specs.PlanAssumptions.{HasSchemesFrom}
 use Rattle.roc_protocol.specs.Beginnings.{Beginning, IsBeginning}
 use Rattle.roc_protocol.specs.World.{World}
 use Rattle.roc_protocol.specs.Forgotten.{HasStartedOn, IsFirstTaken}
-use Rattle.roc_protocol.specs.Run.{Stepped, IsRunFrom}
+use Rattle.roc_protocol.specs.Run.{Stepped}
+use Rattle.roc_protocol.specs.Beside.{IsRunBeside}
 use Rattle.roc_protocol.specs.Inner.Given.{LogLaws, StoreLaws}
 use Rattle.roc_protocol.proofs.Means.{HasBegun, Means, WorldMeans}
 use Rattle.roc_protocol.proofs.FirstTaken.{first_step}
 use Rattle.roc_protocol.proofs.TakenRuns.{AreTakenIn}
-use Rattle.roc_protocol.proofs.Idle.{run_idle}
+use Rattle.roc_protocol.proofs.Idle.{run_idle, idle_mark}
 use Rattle.roc_protocol.proofs.Serial as serial
 use Rattle.roc_protocol.proofs.Transactions.{transaction_or_none, HasTransaction}
+use Rattle.roc_protocol.proofs.Marks.{IsMark}
 
 -- what is told of as started on a shard began there
 pub started_begun : (plan : Plan) (asked : TxnId → whole.Call) (S : Scheme) (start : Beginning) (log : Log) (w : World) → WorldMeans plan asked S start log w → (t : TxnId) (shard : Shard)
@@ -39,12 +40,12 @@ module _ (plan : Plan) (asked : TxnId → whole.Call) (S : Scheme) (start : Begi
   members_of shard other c d began f g u h = has_listed d u (a.whole other d t u g began (a.mates f.step shard c t u (first_step steps shard t c f) f.taken f.member (listed_has c u h)))
 
 module _ (plan : Plan) (start : Beginning) (begins : IsBeginning plan start) (schemes : HasSchemesFrom plan start.store) (laws : (S : Scheme) → IsSoundScheme S → LogLaws S start.store)
-    (stores : StoreLaws) (coords : ℕ) (steps : List Stepped) (w : World) (run : IsRunFrom plan start coords steps w) where
+    (stores : StoreLaws) (coords : ℕ) (steps : List Stepped) (w : World) (run : IsRunBeside plan start coords steps w) where
   pub components_agree : (shard other : Shard) (t : TxnId) (c d : List TxnId) → HasStartedOn w.sent t shard → HasStartedOn w.sent t other → IsFirstTaken steps shard t c
       → IsFirstTaken steps other t d → HaveSameMembers c d
   components_agree shard other t c d here there f g = elim (transaction_or_none plan) [
     | inl some ↦ agree some
-    | inr none ↦ absurd (subst (Has here.message) (run_idle plan none start begins coords steps w run).sent here.has)
+    | inr none ↦ absurd (subst IsMark here.is (idle_mark plan start w (run_idle plan none start begins coords steps w run) here.message here.has))
   ]
     where
       agree : HasTransaction plan → HaveSameMembers c d

@@ -1,6 +1,5 @@
 -- Where all are answered, the nodes as they stand are a beginning
 use Rattle.std.proofs.Common.{◌≡◌, ◌≢◌, ℕ, pos, ◌<◌, ◌≤◌, true, List, Option, Some, None, length, refl, sym, subst, inl, inr, arith}
-use Rattle.std.proofs.lemmas.Bool.{cases_lt}
 use Rattle.std.specs.Prelude.{slice_get}
 use Rattle.roc_base.specs.declared.id.TxnId.{TxnId}
 use Rattle.roc_rows.specs.declared.cell.Cell.{Cell}
@@ -16,19 +15,21 @@ use Rattle.roc_audit.specs.Witness.{submitted_calls}
 use Rattle.roc_protocol.specs.PlanAssumptions.{HasSchemesFrom}
 use Rattle.roc_protocol.specs.Beginnings.{Beginning, IsBeginning, store_in, next_in, below_in, left_by}
 use Rattle.roc_protocol.specs.World.{World}
-use Rattle.roc_protocol.specs.Run.{Stepped, IsRunFrom}
+use Rattle.roc_protocol.specs.Run.{Stepped}
+use Rattle.roc_protocol.specs.Beside.{IsRunBeside}
 use Rattle.roc_protocol.specs.Inner.Given.{LogLaws, SerialLaws, StoreLaws}
 use Rattle.roc_protocol.proofs.Idle.{run_idle}
 use Rattle.roc_protocol.proofs.Worlds.{submissions_from}
 use Rattle.roc_protocol.proofs.Counted.{run_counted}
 use Rattle.roc_protocol.proofs.Named.{shard_below}
 use Rattle.roc_protocol.proofs.Serial.{order_serial}
-use Rattle.roc_protocol.proofs.Answered.{nexts_onward, heard_answered}
+use Rattle.roc_protocol.proofs.Serial as serial
+use Rattle.roc_protocol.proofs.Answered.{nexts_onward}
 use Rattle.roc_protocol.proofs.Cells.{AreAllAnswered, cells_serial, cells_apart, run_servers}
 use Rattle.roc_protocol.proofs.Hearing.{run_heard}
-use Rattle.roc_protocol.proofs.Transactions.{HasTransaction, transaction_or_none}
+use Rattle.roc_protocol.proofs.Transactions.{transaction_or_none}
 
-module _ (plan : Plan) (start : Beginning) (begins : IsBeginning plan start) (schemes : HasSchemesFrom plan start.store) (laws : (S : Scheme) → IsSoundScheme S → LogLaws S start.store) (serials : (S : Scheme) → IsSoundScheme S → SerialLaws S start.store) (stores : StoreLaws) (coords : ℕ) (steps : List Stepped) (w : World) (run : IsRunFrom plan start coords steps w) where
+module _ (plan : Plan) (start : Beginning) (begins : IsBeginning plan start) (schemes : HasSchemesFrom plan start.store) (laws : (S : Scheme) → IsSoundScheme S → LogLaws S start.store) (serials : (S : Scheme) → IsSoundScheme S → SerialLaws S start.store) (stores : StoreLaws) (coords : ℕ) (steps : List Stepped) (w : World) (run : IsRunBeside plan start coords steps w) where
   -- a next sequence only rises
   onward : (n : ℕ) → start.nexts n ≤ next_in (start.nexts n) (slice_get w.coords n)
   onward n = go (slice_get w.coords n) refl
@@ -46,18 +47,27 @@ module _ (plan : Plan) (start : Beginning) (begins : IsBeginning plan start) (sc
 
       go : (o : Option ServerState) → slice_get w.servers n ≡ o → is_ended (below_in (start.below n) o) t ≡ true → t.seq < next_in (start.nexts t.coord) (slice_get w.coords t.coord)
       go None e h = early (begins.ended n t h)
-      go (Some s) e h = elim (cases_lt t.seq (start.nexts t.coord)) [
-        | inl l ↦ early l
-        | inr late ↦
-            (let a = heard_answered plan start begins schemes laws stores coords steps w run n s e t (omega arith) h in
-            let o = order_serial plan start begins schemes laws serials stores coords steps w run in
-            let was = o.submitted t (o.answered t a.0 a.1) in
-            let k = (submissions_from plan start coords steps w run).numbered t was.0 was.1 was.2 in
-            subst (λ (o : Option CoordState). t.seq < next_in (start.nexts t.coord) o) (sym k.there) k.below)
+      go (Some s) e h = elim (transaction_or_none plan) [
+        | inl some ↦ elim (((serial.logged plan start begins schemes laws stores coords steps w run some).1.means.servers n s e).ended t h) [
+          | inl answered ↦
+              (let a = ((serial.logged plan start begins schemes laws stores coords steps w run some).1.means.answers t).0 answered in
+              let o = order_serial plan start begins schemes laws serials stores coords steps w run in
+              let was = o.submitted t (o.answered t a.0 a.1) in
+              let k = (submissions_from plan start coords steps w run).numbered t was.0 was.1 was.2 in
+              used k.coord k.there k.below)
+          | inr other ↦ elim other [
+            | inl before ↦ early before
+            | inr apart ↦ (let c = serial.other_used plan some.0 w (submissions_from plan start coords steps w run) t apart in used c.0 c.1 c.2)
+          ]
+        ]
+        | inr none ↦ ((run_idle plan none start begins coords steps w run).servers n s e).ended t h
       ]
+        where
+          used : (c : CoordState) → slice_get w.coords t.coord ≡ Some c → t.seq < c.next → t.seq < next_in (start.nexts t.coord) (slice_get w.coords t.coord)
+          used c at l = subst (λ (o : Option CoordState). t.seq < next_in (start.nexts t.coord) o) (sym at) l
 
   pub begins_anew : 0 < plan.program.shards → AreAllAnswered w → IsBeginning plan (left_by start w (serial_store plan.program start.store (submitted_calls w.history w.order)))
-  begins_anew some all = record { cells = cells; elsewhere = elsewhere; marks = marks; ended = heard_below; few = few; used = used }
+  begins_anew some all = record { cells = cells; elsewhere = elsewhere; marks = marks; ended = heard_below; few = few }
     where
       cells : (n : ℕ) (x : Cell) → shard_of plan x.place ≡ n → read (store_in (start.stores n) (slice_get w.servers n)) x ≡ read (serial_store plan.program start.store (submitted_calls w.history w.order)) x
       cells n x e =
@@ -86,13 +96,3 @@ module _ (plan : Plan) (start : Beginning) (begins : IsBeginning plan start) (sc
           go : (o : Option CoordState) → slice_get w.coords n ≡ o → next_in (start.nexts n) o ≤ most_transactions
           go (Some c) e = ((run_counted plan start begins coords steps w run).few n c e).0
           go None e = begins.few n
-
-      used : (n : ℕ) → 0 < next_in (start.nexts n) (slice_get w.coords n) → HasTransaction plan
-      used n = go (slice_get w.coords n) refl
-        where
-          go : (o : Option CoordState) → slice_get w.coords n ≡ o → 0 < next_in (start.nexts n) o → HasTransaction plan
-          go (Some c) e l = elim (transaction_or_none plan) [
-            | inl found ↦ found
-            | inr none ↦ absurd (let z = (run_idle plan none start begins coords steps w run).nexts n c e in omega arith)
-          ]
-          go None e l = begins.used n l

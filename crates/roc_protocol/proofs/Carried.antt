@@ -17,7 +17,7 @@ use Rattle.roc_depgraph.specs.Deps.{list_of, is_known, IsKnown}
 use Rattle.roc_await.specs.declared.waits.OpenFetch.{OpenFetch}
 use Rattle.roc_await.specs.Waits.{was_asked_for, askers_of}
 use Rattle.roc_msg.specs.declared.msg.Msg.{Msg}
-use Rattle.roc_msg.specs.declared.msg.Msg.TheVariants.{Start, StartOk, Commit, CommitOk, Fetch, Known, Ended, Settled}
+use Rattle.roc_msg.specs.declared.msg.Msg.TheVariants.{Start, StartOk, Commit, CommitOk, Fetch, Known, Ended, Settled, Read}
 use Rattle.roc_msg.specs.declared.outbox.Outgoing.{Outgoing}
 use Rattle.roc_msg.specs.declared.reason.Reason.TheVariants.{NotHere, Foreign}
 use Rattle.roc_msg.specs.Facts.{is_fact_before}
@@ -41,11 +41,12 @@ use Rattle.roc_protocol.proofs.KeptGroups.{take_keeps, take_same}
 use Rattle.roc_protocol.proofs.OneGroupMore.{find_front, find_last, here_more}
 use Rattle.roc_protocol.proofs.Gone.{IsGone, gone_same, gone_hears, gone_begins, gone_taught}
 use Rattle.roc_protocol.proofs.ForgottenHere.{forgotten, was_there, gone_still, here_or_gone, found_or_gone, same_left, same_learnt}
-use Rattle.roc_protocol.proofs.Marks.{ended_still}
+use Rattle.roc_server.proofs.Raised.{ended_still}
 use Rattle.roc_protocol.proofs.MarksKept.{below_mark}
 use Rattle.roc_protocol.proofs.Taking.{starts_here, commits_here}
 use Rattle.roc_server.specs.declared.handled.Handled.{Handled}
 use Rattle.roc_server.specs.declared.handled.Handled.TheVariants.{Done, Ignored, Gone}
+use Rattle.roc_protocol.proofs.ReadsHere.{for_read}
 
 -- ---- a step of a server
 
@@ -359,6 +360,7 @@ module _ (plan : Plan) (Good : TxnId → List Dependency → Type 0) (Here : Txn
         go (Known id edges) f found g k = known_good s holds f.components id edges (g (list_with id edges) (inl refl)) (known_refusal s id edges)
         go (Ended coord mark) f found g k = hears_first s coord mark (after_ended s coord mark) (left_good (hearing s coord mark) (heard s holds coord mark) Done)
         go (Settled id mark) f found g k = settled_good f.components id mark
+        go (Read id round proc group args) f found g k = for_read plan s (record { id = id; round = round; proc = proc; group = group; args = args }) (KeepsGood s) (refuses s holds)
         go msg f found g k = refuses s holds (Ignored Foreign)
 
     pub tick_good : KeepsGood s (answered s (tick_sends s))

@@ -29,7 +29,8 @@ use Rattle.roc_protocol.specs.declared.event.Event.TheVariants.{Submit, Deliver,
 use Rattle.roc_protocol.specs.Beginnings.{Beginning, IsBeginning, begun_server}
 use Rattle.roc_protocol.specs.World.{World, mark_delivered}
 use Rattle.roc_protocol.specs.Happens.{Outcome, IsReceived}
-use Rattle.roc_protocol.specs.Run.{Stepped, Transition, IsRunFrom, at_beginning, steps_on}
+use Rattle.roc_protocol.specs.Run.{Stepped}
+use Rattle.roc_protocol.specs.Beside.{Moves, IsRunBeside, beside_begins, beside_goes_on}
 use Rattle.roc_protocol.specs.Inner.Given.{LogLaws, SerialLaws, StoreLaws}
 use Rattle.roc_protocol.proofs.Means.{Began}
 use Rattle.roc_protocol.proofs.Changed.{get-set_here, get-set_other}
@@ -81,13 +82,13 @@ module _ (plan : Plan) (asked : TxnId → whole.Call) (S : Scheme) (start : Begi
 
 idle_cells : (plan : Plan) (start : Beginning) → IsBeginning plan start → (w : World) → IsIdle plan start w → (x : Cell) → IsCellSerial plan start w x
 idle_cells plan start begins w i x s there =
-    ap (λ (store : Store). read store x) (i.stores (shard_of plan x.place) s there)
+    ap (λ (store : Store). read store x) (i.servers (shard_of plan x.place) s there).store
     ∙ (begins.cells (shard_of plan x.place) x refl
     ∙ ap (λ order. read (serial_store plan.program start.store (submitted_calls w.history order)) x) (sym i.order))
 
 pub cells_serial :
     (plan : Plan) (start : Beginning) → IsBeginning plan start → HasSchemesFrom plan start.store → ((S : Scheme) → IsSoundScheme S → LogLaws S start.store) → ((S : Scheme) → IsSoundScheme S → SerialLaws S start.store) → StoreLaws
-    → (coords : ℕ) (steps : List Stepped) (w : World) → IsRunFrom plan start coords steps w → AreAllAnswered w → (x : Cell) → IsCellSerial plan start w x
+    → (coords : ℕ) (steps : List Stepped) (w : World) → IsRunBeside plan start coords steps w → AreAllAnswered w → (x : Cell) → IsCellSerial plan start w x
 cells_serial plan start begins schemes laws serials stores coords steps w run all x = elim (transaction_or_none plan) [
   | inl some ↦
       (let asked = serial.asked plan start begins schemes laws stores coords steps w run some in
@@ -103,7 +104,7 @@ cells_serial plan start begins schemes laws serials stores coords steps w run al
 -- a server holds nothing of the cells of other shards
 pub cells_apart :
     (plan : Plan) (start : Beginning) → IsBeginning plan start → HasSchemesFrom plan start.store → ((S : Scheme) → IsSoundScheme S → LogLaws S start.store) → (stores : StoreLaws)
-    → (coords : ℕ) (steps : List Stepped) (w : World) → IsRunFrom plan start coords steps w
+    → (coords : ℕ) (steps : List Stepped) (w : World) → IsRunBeside plan start coords steps w
     → (n : ℕ) (s : ServerState) → slice_get w.servers n ≡ Some s → (x : Cell) → shard_of plan x.place ≢ n → read s.store x ≡ pos 0
 cells_apart plan start begins schemes laws stores coords steps w run n s there x apart = elim (transaction_or_none plan) [
   | inl some ↦
@@ -111,7 +112,7 @@ cells_apart plan start begins schemes laws stores coords steps w run n s there x
       let l = serial.logged plan start begins schemes laws stores coords steps w run some in
       (l.1.means.servers n s there).part.elsewhere x (λ e. apart (sym (is.cell_shard x) ∙ e)))
   | inr none ↦
-      ap (λ (store : Store). read store x) ((run_idle plan none start begins coords steps w run).stores n s there)
+      ap (λ (store : Store). read store x) ((run_idle plan none start begins coords steps w run).servers n s there).store
       ∙ begins.elsewhere n x apart
 ]
 
@@ -132,8 +133,9 @@ all_set xs count i a b e h n l = elim (cases_eq i n) [
   | inr other ↦ (let x = h n l in (x.0, get-set_other xs i n b other ∙ x.1))
 ]
 
-step_servers : (plan : Plan) (w : World) (count : ℕ) → HasAll w.servers count → (e : Option Event) (o : Outcome) → Transition plan w e o → HasAll o.world.servers count
-step_servers plan w count h None o c = subst (λ (o : Outcome). HasAll o.world.servers count) (sym c) h
+step_servers : (plan : Plan) (w : World) (count : ℕ) → HasAll w.servers count → (e : Option Event) (o : Outcome) → Moves plan w e o → HasAll o.world.servers count
+step_servers plan w count h None o (inl c) = subst (λ (o : Outcome). HasAll o.world.servers count) (sym c) h
+step_servers plan w count h None o (inr x) = subst (λ (o : Outcome). HasAll o.world.servers count) (sym x.is) h
 step_servers plan w count h (Some (Submit n proc args)) o (s, there, c) = go (submitting plan w n proc args s o c)
   where
     go : Submitting plan w n proc args s o → HasAll o.world.servers count
@@ -147,9 +149,9 @@ step_servers plan w count h (Some (Deliver k)) o (m, some, there, c) = go m.to c
 step_servers plan w count h (Some (Tick (Server shard))) o (s, there, e) = subst (λ (o : Outcome). HasAll o.world.servers count) (sym e) (all_set w.servers count shard.0 s s there h)
 step_servers plan w count h (Some (Tick (Coord n))) o (s, there, e) = subst (λ (o : Outcome). HasAll o.world.servers count) (sym e) h
 
-all_servers : (plan : Plan) (start : Beginning) (coords : ℕ) (steps : List Stepped) (w : World) → IsRunFrom plan start coords steps w → HasAll w.servers plan.program.shards
-all_servers plan start coords steps w at_beginning = all_ranged (begun_server start) 0 plan.program.shards
-all_servers plan start coords steps w (steps_on {w = v} e o r h) = step_servers plan v plan.program.shards (all_servers plan start coords _ v r) e o h
+all_servers : (plan : Plan) (start : Beginning) (coords : ℕ) (steps : List Stepped) (w : World) → IsRunBeside plan start coords steps w → HasAll w.servers plan.program.shards
+all_servers plan start coords steps w beside_begins = all_ranged (begun_server start) 0 plan.program.shards
+all_servers plan start coords steps w (beside_goes_on {w = v} e o r h) = step_servers plan v plan.program.shards (all_servers plan start coords _ v r) e o h
 
-pub run_servers : (plan : Plan) (start : Beginning) (coords : ℕ) (steps : List Stepped) (w : World) → IsRunFrom plan start coords steps w → (n : ℕ) → n < plan.program.shards → (s : ServerState) × (slice_get w.servers n ≡ Some s)
+pub run_servers : (plan : Plan) (start : Beginning) (coords : ℕ) (steps : List Stepped) (w : World) → IsRunBeside plan start coords steps w → (n : ℕ) → n < plan.program.shards → (s : ServerState) × (slice_get w.servers n ≡ Some s)
 run_servers plan start coords steps w run = all_servers plan start coords steps w run

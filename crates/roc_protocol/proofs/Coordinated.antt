@@ -15,7 +15,7 @@ use Rattle.roc_base.specs.TxnId.{is_txn}
 use Rattle.roc_base.specs.Equalities.{is_txn-true}
 use Rattle.roc_depgraph.proofs.Listed.{listed_one, in_one}
 use Rattle.roc_msg.specs.declared.msg.Msg.{Msg}
-use Rattle.roc_msg.specs.declared.msg.Msg.TheVariants.{StartOk, CommitOk, Ended}
+use Rattle.roc_msg.specs.declared.msg.Msg.TheVariants.{StartOk, CommitOk, Ended, ReadOk}
 use Rattle.roc_msg.specs.declared.outbox.Outgoing.{Outgoing}
 use Rattle.roc_msg.specs.declared.reason.Reason.TheVariants.{Stale, Unfit}
 use Rattle.roc_plan.specs.Groups.{Plan}
@@ -34,11 +34,12 @@ use Rattle.roc_coord.specs.Starts.{group_numbers, can_start, is_ready, ready_gro
 use Rattle.roc_coord.specs.Commits.{all_committed, reply_of, places_on}
 use Rattle.roc_coord.specs.Step.{unless_refused, is_fit_startok, with_commits, commits_for, with_startok, sends_after, startok_taken, after_startok, is_asked, is_fit_commitok, with_commitok, reply_now, without_transaction, commitok_taken, after_commitok, after_message, answered_sends}
 use Rattle.roc_coord.specs.Submit.{next_id, new_transaction, accepted}
-use Rattle.roc_coord.specs.Tick.{awaits_startok, starts_again, commits_again, sent_again, tick_sends}
+use Rattle.roc_coord.specs.Tick.{awaits_startok, starts_again, commits_again, sent_again}
 use Rattle.roc_audit.specs.declared.entry.Entry.{Entry}
 use Rattle.roc_audit.specs.declared.entry.Entry.TheVariants as entry
 use Rattle.roc_protocol.specs.PlanAssumptions.{IsSchemeOf}
 use Rattle.roc_protocol.specs.Beginnings.{Beginning}
+use Rattle.roc_protocol.specs.Aside.{transaction_tick_sends}
 use Rattle.roc_protocol.specs.World.{World, at_coord}
 use Rattle.roc_protocol.specs.Happens.{answer_entries}
 use Rattle.roc_protocol.specs.Inner.Given.{LogLaws}
@@ -78,7 +79,7 @@ module _ (plan : Plan) (asked : TxnId → whole.Call) (S : Scheme) (start : Begi
   means = mine.pending
 
   -- the log does nothing, and nobody is answered
-  still : (after : CoordState) (outs : List Outgoing) (tells : List Entry) → CoordMeans plan asked S start c after → ((out : Outgoing) → Has out outs → Means plan asked S start c out.msg out.to)
+  pub still : (after : CoordState) (outs : List Outgoing) (tells : List Entry) → CoordMeans plan asked S start c after → ((out : Outgoing) → Has out outs → Means plan asked S start c out.msg out.to)
       → ((t : TxnId) (reply : List ℤ) → ¬ Has (entry.Answered t reply) tells)
       → ((out : Outgoing) → Has out outs → StartsAre Of out.msg) → ((x : Transaction) → Has x after.pending → Of x.id) → IsCoordinated after outs tells
   still after outs tells holds sends none starts pending =
@@ -124,11 +125,13 @@ module _ (plan : Plan) (asked : TxnId → whole.Call) (S : Scheme) (start : Begi
       go true e = sym (is_txn-true y.id x.id e)
       go false e = refl
 
-  changes : (x : Transaction) → TxnMeans plan asked S start c x → Of x.id → (outs : List Outgoing) → ((out : Outgoing) → Has out outs → Means plan asked S start c out.msg out.to) → ((out : Outgoing) → Has out outs → StartsAre Of out.msg) → IsCoordinated (with_transaction s x) outs []
-  changes x m k outs sends starts =
+  changes : (x : Transaction) → TxnMeans plan asked S start c x → Has x.id s.unanswered → Of x.id → (outs : List Outgoing) → ((out : Outgoing) → Has out outs → Means plan asked S start c out.msg out.to) → ((out : Outgoing) → Has out outs → StartsAre Of out.msg) → IsCoordinated (with_transaction s x) outs []
+  changes x m listed_id k outs sends starts =
       still (with_transaction s x) outs []
       (record {
         pending = λ z h. elim (kept x z h) [ inl e ↦ subst (TxnMeans plan asked S start c) (sym e) m | inr j ↦ means z j ];
+        unanswered = λ z h. elim (kept x z h) [ inl e ↦ subst (λ (z : Transaction). Has z.id s.unanswered) (sym e) listed_id | inr j ↦ mine.unanswered z j ];
+        views = mine.views;
         all = λ q l. elim (mine.all q l) [ inl p ↦ (let z = stays x p.0 p.1 in inl (z.0, z.1, z.2 ∙ p.2)) | inr h ↦ inr h ];
         onward = mine.onward;
       })
@@ -148,17 +151,17 @@ module _ (plan : Plan) (asked : TxnId → whole.Call) (S : Scheme) (start : Begi
     new_mean : (out : Outgoing) → Has out (starts_of plan x) → Means plan asked S start c out.msg out.to
     new_mean out h = starts_mean plan asked S start is c i x (told plan asked S start is c i x m) (can_start plan x) (λ g l e. (and_parts (is_ready plan x g) (is_none (find_start g x.starts)) e).0) out h
 
-    round : IsCoordinated (with_transaction s (with_commits plan (with_starts plan x))) (sends_after plan x) []
-    round =
+    round : Has x.id s.unanswered → IsCoordinated (with_transaction s (with_commits plan (with_starts plan x))) (sends_after plan x) []
+    round listed_id =
         let y = with_starts plan x in
         let my = starts_means plan asked S start is c i x m in
-        changes (with_commits plan y) (commits_means plan asked S start is c i y my) (of_commits y (all_started plan y)) (sends_after plan x)
+        changes (with_commits plan y) (commits_means plan asked S start is c i y my) (of_commits (λ t. Has t s.unanswered) listed_id y (all_started plan y)) (of_commits Of k y (all_started plan y)) (sends_after plan x)
         (λ out h. elim (has_append out (starts_of plan x) (commits_for plan y) h) [ inl j ↦ new_mean out j | inr j ↦ commits_for-mean plan asked S start is c i y (told plan asked S start is c i y my) (shards_begun plan asked S start is c i y my) out j ])
         (λ out h. elim (has_append out (starts_of plan x) (commits_for plan y) h) [ inl j ↦ starts_of-it x k (ready_groups plan x) out j | inr j ↦ none y out (all_started plan y) j ])
       where
-        of_commits : (y : Transaction) (b : Bool) → Of (cond b (record (with_starts plan x) { asked = shards_of y }) (with_starts plan x)).id
-        of_commits y true = k
-        of_commits y false = k
+        of_commits : (P : TxnId → Type 0) → P x.id → (y : Transaction) (b : Bool) → P (cond b (record (with_starts plan x) { asked = shards_of y }) (with_starts plan x)).id
+        of_commits P p y true = p
+        of_commits P p y false = p
 
         none : (y : Transaction) (out : Outgoing) (b : Bool) → Has out (cond b (commits_of y) []) → StartsAre Of out.msg
         none y out true h = commits_start-none y (shards_of y) out h
@@ -166,7 +169,7 @@ module _ (plan : Plan) (asked : TxnId → whole.Call) (S : Scheme) (start : Begi
 
   startok_explained : (ok : TakenStart) (shard : Shard) (id : TxnId) → ToldMeans plan asked S start c (run_of id ok.group) ok.bound ok.outs ok.edges ok.facts → shard.0 ≡ place plan asked S start c (run_of id ok.group)
       → (x : Option Transaction) → find_transaction id s.pending ≡ x
-      → IsCoordinated (after_startok plan s x ok shard).state (after_startok plan s x ok shard).sends (answer_entries (after_startok plan s x ok shard).answer)
+      → IsCoordinated (after_startok plan s id x ok shard).state (after_startok plan s id x ok shard).sends (answer_entries (after_startok plan s id x ok shard).answer)
   startok_explained ok shard id d on None e = ignores
   startok_explained ok shard id d on (Some x) e = fresh (is_some (find_startok ok.group x.startoks))
     where
@@ -185,23 +188,24 @@ module _ (plan : Plan) (asked : TxnId → whole.Call) (S : Scheme) (start : Begi
           (subst (λ t. shard.0 ≡ place plan asked S start c (run_of t ok.group)) same_id on)
           (subst (λ t. ToldMeans plan asked S start c (run_of t ok.group) ok.bound ok.outs ok.edges ok.facts) same_id d))
           (of x found.0)
+          (mine.unanswered x found.0)
 
       fresh : (b : Bool) → IsCoordinated (unless_refused s (if b then Some Stale else (if not (is_fit_startok plan x ok shard) then Some Unfit else None)) (startok_taken plan s (with_startok x ok))).state (unless_refused s (if b then Some Stale else (if not (is_fit_startok plan x ok shard) then Some Unfit else None)) (startok_taken plan s (with_startok x ok))).sends (answer_entries (unless_refused s (if b then Some Stale else (if not (is_fit_startok plan x ok shard) then Some Unfit else None)) (startok_taken plan s (with_startok x ok))).answer)
       fresh true = ignores
       fresh false = unfit (is_fit_startok plan x ok shard) refl
 
   -- the watermark of what a coordinator holds, where these are answered
-  mark_means : (log : Log) (after : CoordState) → CoordMeans plan asked S start log after → (out : Outgoing) → IsMarkOf plan after out → Means plan asked S start log out.msg out.to
+  pub mark_means : (log : Log) (after : CoordState) → CoordMeans plan asked S start log after → (out : Outgoing) → IsMarkOf plan after out → Means plan asked S start log out.msg out.to
   mark_means log after holds out q =
       subst (λ (out : Outgoing). Means plan asked S start log out.msg out.to) (sym q.is) (
         λ k l. let bound = mark_next after in elim (holds.all k (omega arith)) [
-          | inl p ↦ absurd (let least = mark_least after p.0 p.1 in let same : p.0.id.seq ≡ k = ap (λ (t : TxnId). t.seq) p.2 in omega arith)
+          | inl p ↦ absurd (let least = mark_least after p.0.id (holds.unanswered p.0 p.1) in let same : p.0.id.seq ≡ k = ap (λ (t : TxnId). t.seq) p.2 in omega arith)
           | inr h ↦ h
         ],
         tt,
       )
 
-  mark_starts : (after : CoordState) (out : Outgoing) → IsMarkOf plan after out → StartsAre Of out.msg
+  pub mark_starts : (after : CoordState) (out : Outgoing) → IsMarkOf plan after out → StartsAre Of out.msg
   mark_starts after out q = subst (λ (out : Outgoing). StartsAre Of out.msg) (sym q.is) tt
 
   -- ---- an answer
@@ -211,8 +215,8 @@ module _ (plan : Plan) (asked : TxnId → whole.Call) (S : Scheme) (start : Begi
     abbrev d : Log
     d = with_answer c t
 
-    steps_on : LogSteps S start.store c d
-    steps_on = one_step_more no_steps (is_answered t a.throughout)
+    beside_goes_on : LogSteps S start.store c d
+    beside_goes_on = one_step_more no_steps (is_answered t a.throughout)
 
     reached : IsReachedLog S start.store d
     reached = one_step_more o.reached (is_answered t a.throughout)
@@ -221,7 +225,7 @@ module _ (plan : Plan) (asked : TxnId → whole.Call) (S : Scheme) (start : Begi
     j = laws.holds d reached
 
     g : LogGrows S start.store c d
-    g = laws.grows c d i steps_on
+    g = laws.grows c d i beside_goes_on
 
     quiet : (shard : ℕ) → IsQuietOn plan asked S start c d shard
     quiet shard = record { began = λ r b p. b; ran = λ r h imm p. h; cells = λ x e. refl; decided = refl }
@@ -236,6 +240,8 @@ module _ (plan : Plan) (asked : TxnId → whole.Call) (S : Scheme) (start : Begi
     without_means =
         record {
           pending = λ z k. txn_grows plan asked S start is c d i j g z (means z (rest z k));
+          unanswered = λ z k. has_filter (λ u. not (is_txn u t)) z.id s.unanswered (mine.unanswered z (rest z k)) (from_has_filter (λ (y : Transaction). not (is_txn y.id t)) z s.pending k).1;
+          views = mine.views;
           all = λ q l. elim (mine.all q l) [
             | inl p ↦ go p.0 p.1 q p.2 (is_txn p.0.id t) refl
             | inr h ↦ inr (past_grows plan asked S start is c d i j g (record { coord = s.number; seq = q }) h)
@@ -255,7 +261,7 @@ module _ (plan : Plan) (asked : TxnId → whole.Call) (S : Scheme) (start : Begi
     is_answered_here =
         record {
           log = d;
-          steps = steps_on;
+          steps = beside_goes_on;
           means = coord_means plan asked S start is c d i j g reached w o n s (without_transaction s t) (answered_sends plan s (without_transaction s t)) tells there
               (λ m v h. server_elsewhere plan asked S start is c d i j g m (quiet m) v (o.servers m v h))
               o.order without_means (λ out k. mark_means d (without_transaction s t) without_means out (mark_told plan s (without_transaction s t) out k))
@@ -286,7 +292,7 @@ module _ (plan : Plan) (asked : TxnId → whole.Call) (S : Scheme) (start : Begi
   -- ---- a commitok
 
   commitok_explained : (ok : TakenCommit) (id : TxnId) → DoneMeans plan asked S start c id ok.shard.0 ok.outs → (x : Option Transaction) → find_transaction id s.pending ≡ x
-      → IsCoordinated (after_commitok plan s x ok).state (after_commitok plan s x ok).sends (answer_entries (after_commitok plan s x ok).answer)
+      → IsCoordinated (after_commitok plan s id x ok).state (after_commitok plan s id x ok).sends (answer_entries (after_commitok plan s id x ok).answer)
   commitok_explained ok id d None e = ignores
   commitok_explained ok id d (Some x) e = fresh (has_commitok ok.shard x.commitoks)
     where
@@ -307,7 +313,7 @@ module _ (plan : Plan) (asked : TxnId → whole.Call) (S : Scheme) (start : Begi
 
       answers : (a : Shard) → Has a x.asked → (b : Bool) → all_committed (with_commitok x ok) ≡ b
           → IsCoordinated (commitok_taken plan s (with_commitok x ok) (if b then Some (reply_of plan (with_commitok x ok)) else None)).state (commitok_taken plan s (with_commitok x ok) (if b then Some (reply_of plan (with_commitok x ok)) else None)).sends (answer_entries (commitok_taken plan s (with_commitok x ok) (if b then Some (reply_of plan (with_commitok x ok)) else None)).answer)
-      answers a h false f = changes (with_commitok x ok) m (of x found.0) [] (λ out h. absurd h) (λ out h. absurd h)
+      answers a h false f = changes (with_commitok x ok) m (mine.unanswered x found.0) (of x found.0) [] (λ out h. absurd h) (λ out h. absurd h)
       answers a h true f =
           let all = m.asked_whole a h in
           let in_order = i.in_order ok.shard.0 x.id decided in
@@ -330,11 +336,12 @@ module _ (plan : Plan) (asked : TxnId → whole.Call) (S : Scheme) (start : Begi
   pub message_coordinated : (msg : Msg) (to : Node) → Means plan asked S start c msg to → IsCoordinated (after_message plan s msg).state (after_message plan s msg).sends (answer_entries (after_message plan s msg).answer)
   message_coordinated (StartOk id group shard bound outs edges facts) to m = startok_explained (record { group = group; bound = bound; outs = outs; edges = edges; facts = facts }) shard id m.0 m.1 (find_transaction id s.pending) refl
   message_coordinated (CommitOk id shard outs) to m = commitok_explained (record { shard = shard; outs = outs }) id m.0 (find_transaction id s.pending) refl
+  message_coordinated (ReadOk id round group shard versions outs) to m = absurd m
   message_coordinated msg to m = ignores
 
-  pub tick_coordinated : IsCoordinated s (tick_sends plan s) []
+  pub tick_coordinated : IsCoordinated s (transaction_tick_sends plan s) []
   tick_coordinated =
-      same (tick_sends plan s)
+      same (transaction_tick_sends plan s)
       (λ out h. elim (has_append out (flat_map (sent_again plan) s.pending) (ended_sends plan s) h) [
         | inl k ↦ (let q = from_has_flat_map (sent_again plan) out s.pending k in again_mean q.0 (means q.0 q.1) out (all_started plan q.0) refl q.2)
         | inr k ↦ mark_means c s mine out (mark_sent plan s out k)
@@ -371,6 +378,11 @@ module _ (plan : Plan) (asked : TxnId → whole.Call) (S : Scheme) (start : Begi
       still (accepted plan s x).state (accepted plan s x).sends tells
       (record {
         pending = λ z h. elim (has_append z s.pending (with_starts plan x ∷ []) h) [ inl j ↦ means z j | inr j ↦ subst (TxnMeans plan asked S start c) (sym (has_one z (with_starts plan x) j)) (starts_means plan asked S start is c i x m) ];
+        unanswered = λ z h. elim (has_append z s.pending (with_starts plan x ∷ []) h) [
+          | inl j ↦ has_left z.id s.unanswered (next_id s ∷ []) (mine.unanswered z j)
+          | inr j ↦ has_right z.id s.unanswered (next_id s ∷ []) (inl (ap (λ (z : Transaction). z.id) (has_one z (with_starts plan x) j)))
+        ];
+        views = mine.views;
         all = λ q l. elim (cases_eq q s.next) [
           | inl e ↦ inl (with_starts plan x, has_right (with_starts plan x) s.pending (with_starts plan x ∷ []) (inl refl), λ k. record { coord = s.number; seq = sym e k })
           | inr e ↦ elim (mine.all q (omega arith)) [

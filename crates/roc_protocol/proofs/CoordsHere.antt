@@ -14,7 +14,7 @@ use Rattle.roc_base.specs.TxnId.{is_txn}
 use Rattle.roc_base.specs.Edge.{Dependency}
 use Rattle.roc_depgraph.specs.declared.known.KnownList.{KnownList}
 use Rattle.roc_msg.specs.declared.msg.Msg.{Msg}
-use Rattle.roc_msg.specs.declared.msg.Msg.TheVariants.{StartOk, Commit, CommitOk}
+use Rattle.roc_msg.specs.declared.msg.Msg.TheVariants.{StartOk, Commit, CommitOk, ReadOk}
 use Rattle.roc_msg.specs.declared.outbox.Outgoing.{Outgoing}
 use Rattle.roc_msg.specs.declared.reason.Reason.{Reason}
 use Rattle.roc_msg.specs.declared.reason.Reason.TheVariants.{Stale, Unfit}
@@ -29,7 +29,8 @@ use Rattle.roc_coord.specs.State.{find_transaction, with_transaction, find_start
 use Rattle.roc_coord.specs.Starts.{group_numbers, inputs_for, can_start, ready_groups, shards_below, shards_of, start_for, sent_start, with_starts, starts_of, all_started, all_edges, all_facts, gathered, commit_to, commits_of, bound_count, out_count}
 use Rattle.roc_coord.specs.Step.{unless_refused, is_fit_startok, with_commits, commits_for, with_startok, startok_taken, after_startok, with_commitok, reply_now, commitok_taken, commitok_refusal, after_commitok, after_message, without_transaction}
 use Rattle.roc_coord.specs.Submit.{new_transaction, accepted}
-use Rattle.roc_coord.specs.Tick.{awaits_startok, starts_again, commits_again, sent_again, tick_sends}
+use Rattle.roc_coord.specs.Tick.{awaits_startok, starts_again, commits_again, sent_again}
+use Rattle.roc_protocol.specs.Aside.{transaction_tick_sends}
 use Rattle.roc_protocol.specs.Fits.{AreSeenHere, AreListsHere, NamesNodes, IsTransactionHere}
 use Rattle.roc_protocol.proofs.Coordinators.{from_gathered}
 use Rattle.roc_protocol.proofs.Facts.{has_fitting}
@@ -134,7 +135,7 @@ module _ (plan : Plan) (servers coords : ℕ) (some : 0 < plan.program.shards) (
     abbrev After : CoordStep → Type 0
     After r = KeepsCoord r.state r.sends
 
-    startok_keeps : (ok : TakenStart) (shard : Shard) (id : TxnId) → AreSeenHere servers coords ok.edges → AreListsHere servers coords ok.facts → (x : Option Transaction) → find_transaction id s.pending ≡ x → After (after_startok plan s x ok shard)
+    startok_keeps : (ok : TakenStart) (shard : Shard) (id : TxnId) → AreSeenHere servers coords ok.edges → AreListsHere servers coords ok.facts → (x : Option Transaction) → find_transaction id s.pending ≡ x → After (after_startok plan s id x ok shard)
     startok_keeps ok shard id edges facts None e = same [] tt
     startok_keeps ok shard id edges facts (Some x) e = refused (is_some (find_startok ok.group x.startoks)) (is_fit_startok plan x ok shard) refl
       where
@@ -197,7 +198,7 @@ module _ (plan : Plan) (servers coords : ℕ) (some : 0 < plan.program.shards) (
     answered_told after same true = told_here after same
     answered_told after same false = tt
 
-    commitok_keeps : (ok : TakenCommit) (id : TxnId) (x : Option Transaction) → find_transaction id s.pending ≡ x → After (after_commitok plan s x ok)
+    commitok_keeps : (ok : TakenCommit) (id : TxnId) (x : Option Transaction) → find_transaction id s.pending ≡ x → After (after_commitok plan s id x ok)
     commitok_keeps ok id None e = same [] tt
     commitok_keeps ok id (Some x) e = refused (commitok_refusal plan x ok) (reply_now plan (with_commitok x ok))
       where
@@ -214,11 +215,12 @@ module _ (plan : Plan) (servers coords : ℕ) (some : 0 < plan.program.shards) (
     pub message_keeps : (msg : Msg) → NamesNodes servers coords msg → After (after_message plan s msg)
     message_keeps (StartOk id group shard bound outs edges facts) k = startok_keeps (record { group = group; bound = bound; outs = outs; edges = edges; facts = facts }) shard id k.0 k.1 (find_transaction id s.pending) refl
     message_keeps (CommitOk id shard outs) k = commitok_keeps (record { shard = shard; outs = outs }) id (find_transaction id s.pending) refl
+    message_keeps (ReadOk id round group shard versions outs) k = absurd k
     message_keeps msg k = same [] tt
 
-    pub tick_keeps : KeepsCoord s (tick_sends plan s)
+    pub tick_keeps : KeepsCoord s (transaction_tick_sends plan s)
     tick_keeps =
-        same (tick_sends plan s)
+        same (transaction_tick_sends plan s)
         (all_append (IsOutHere servers coords) (flat_map (sent_again plan) s.pending) (ended_sends plan s)
         (all_flat (IsOutHere servers coords) (sent_again plan) s.pending (has_all (λ x. AreOutsHere (sent_again plan x)) s.pending (λ x h. again x (held x h) (all_started plan x))))
         (told_here s refl))

@@ -8,7 +8,7 @@ use Rattle.roc_depgraph.specs.declared.known.KnownList.{KnownList}
 use Rattle.roc_depgraph.specs.Deps.{list_of}
 use Rattle.roc_await.specs.Waits.{was_asked_for}
 use Rattle.roc_msg.specs.declared.msg.Msg.{Msg}
-use Rattle.roc_msg.specs.declared.msg.Msg.TheVariants.{Start, Commit, Fetch, Known, Settled}
+use Rattle.roc_msg.specs.declared.msg.Msg.TheVariants.{Start, Commit, Fetch, Known, Settled, Read}
 use Rattle.roc_msg.specs.declared.reason.Reason.TheVariants.{NotHere}
 use Rattle.roc_plan.specs.Groups.{Plan}
 use Rattle.roc_group.specs.GroupRun.{GroupCall, call}
@@ -21,6 +21,7 @@ use Rattle.roc_server.specs.State.{refused, ignored, answered, hearing, is_here,
 use Rattle.roc_server.specs.Start.{start_refusal, start_taken, start_judged}
 use Rattle.roc_server.specs.Lists.{commit_refusal, after_commit, fetch_taken, settled_to, after_fetch, known_refusal, after_known, decides, lists_settled, after_settled}
 use Rattle.roc_server.specs.Step.{Findings, Handles, after_message}
+use Rattle.roc_protocol.proofs.ReadsHere.{for_read}
 
 abbrev AreOne : ServerStep → Type 0
 AreOne r = r.decided ≡ flat_map (λ c. c) r.components
@@ -70,6 +71,7 @@ module _ (plan : Plan) (s : ServerState) where
   message_one f (Fetch id asker) = fetch_one id asker
   message_one f (Known id edges) = known_one f.components id edges (known_refusal s id edges)
   message_one f (Settled id mark) = settled_one f.components id mark
+  message_one f (Read id round proc group args) = for_read plan s (record { id = id; round = round; proc = proc; group = group; args = args }) AreOne (λ a. refl)
   message_one f msg = refl
 
   pub decided_are : (msg : Msg) (r : ServerStep) → Handles plan s msg r → r.decided ≡ flat_map (λ c. c) r.components

@@ -141,7 +141,7 @@ pub record IsLater (sent more : List Envelope) (n : ℕ) (v z : ServerState) : T
   pub marks : length z.below ≡ length v.below
   pub commit : (t : TxnId) → HasCommit sent t (record { 0 = n }) v → HasCommit (sent ++ more) t (record { 0 = n }) z
   pub asker : (a : Asker) → Has a v.lists.waiting.askers → ((m : Envelope) × Has m more × Tells a.id a.shard m) ⊎ Has a z.lists.waiting.askers
-  -- what is asked for was, and its list is known where it was; or it is asked for now
+  -- what is asked for was, and its list is known where it was; or its fetch is among what is sent
   pub asked : (a : OpenFetch) → Has a z.lists.waiting.asked → (Has a v.lists.waiting.asked × (IsKnown v.lists.known a.id → IsKnown z.lists.known a.id)) ⊎ IsFetchedIn more n a
 
 pub record Later (servers after : List ServerState) (sent more : List Envelope) : Type 0 where

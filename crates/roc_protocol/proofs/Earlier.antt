@@ -21,24 +21,26 @@ use Rattle.roc_law_log.specs.Scheme.{Scheme, IsSoundScheme}
 use Rattle.roc_law_log.specs.Invariants.{Continues}
 use Rattle.roc_server.specs.State.{find_group, ServerState}
 use Rattle.roc_server.specs.Below.{is_ended}
-use Rattle.roc_coord.specs.Submit.{after_submit}
 use Rattle.roc_audit.specs.Order.{noted, noted_one}
+use Rattle.roc_protocol.specs.Aside.{after_transaction}
 use Rattle.roc_protocol.specs.declared.event.Event.{Event}
 use Rattle.roc_protocol.specs.declared.event.Event.TheVariants.{Submit, Deliver, Tick}
 use Rattle.roc_protocol.specs.PlanAssumptions.{HasSchemesFrom}
 use Rattle.roc_protocol.specs.Beginnings.{Beginning, IsBeginning}
 use Rattle.roc_protocol.specs.World.{World, mark_delivered}
 use Rattle.roc_protocol.specs.Happens.{Outcome, IsReceived}
-use Rattle.roc_protocol.specs.Run.{Stepped, Transition, IsRunFrom, at_beginning, steps_on}
+use Rattle.roc_protocol.specs.Run.{Stepped}
+use Rattle.roc_protocol.specs.Beside.{Moves, IsRunBeside, beside_begins, beside_goes_on}
 use Rattle.roc_protocol.proofs.Decisions.{decided_are}
 use Rattle.roc_protocol.specs.Inner.Given.{LogLaws, StoreLaws}
 use Rattle.roc_protocol.proofs.Means.{run_of, Means}
 use Rattle.roc_protocol.proofs.Starting.{shard_number}
-use Rattle.roc_protocol.proofs.Idle.{run_idle}
+use Rattle.roc_protocol.proofs.Idle.{run_idle, idle_mark}
 use Rattle.roc_protocol.proofs.TakesOn.{submission_none}
 use Rattle.roc_protocol.proofs.Worlds.{Submitting, is_refused, is_accepted, submitting}
 use Rattle.roc_protocol.proofs.Serial.{S, asked, logged, sound}
 use Rattle.roc_protocol.proofs.Transactions.{transaction_or_none}
+use Rattle.roc_protocol.proofs.Marks.{IsMark}
 
 -- ---- the order grows at its end
 
@@ -52,8 +54,9 @@ noted_goes_on order (t ∷ ts) = go (if is_listed is_txn order t then [] else t 
 same_order : (w : World) → Continues w.order w.order
 same_order w = ([], sym (append-nil w.order))
 
-pub order_goes_on : (plan : Plan) (w : World) (e : Option Event) (o : Outcome) → Transition plan w e o → Continues w.order o.world.order
-order_goes_on plan w None o h = subst (λ (o : Outcome). Continues w.order o.world.order) (sym h) (same_order w)
+pub order_goes_on : (plan : Plan) (w : World) (e : Option Event) (o : Outcome) → Moves plan w e o → Continues w.order o.world.order
+order_goes_on plan w None o (inl h) = subst (λ (o : Outcome). Continues w.order o.world.order) (sym h) (same_order w)
+order_goes_on plan w None o (inr x) = subst (λ (o : Outcome). Continues w.order o.world.order) (sym x.is) (same_order w)
 order_goes_on plan w (Some (Submit n proc args)) o (s, there, h) = go (submitting plan w n proc args s o h)
   where
     go : Submitting plan w n proc args s o → Continues w.order o.world.order
@@ -84,9 +87,10 @@ noted_all (u ∷ ts) order t (inl e) = go (is_listed is_txn order u) refl
 -- what an event decides is what it takes
 module _ (plan : Plan) (c : List TxnId) (t : TxnId) (member : Has t c) where
   -- a component that an event takes is in the order then
-  taken_noted : (w : World) (e : Option Event) (o : Outcome) → Transition plan w e o → Has c o.components → IsListed is_txn o.world.order t
-  taken_noted w None o h k = absurd (subst (λ (o : Outcome). Has c o.components) h k)
-  taken_noted w (Some (Submit n proc args)) o (s, there, h) k = absurd (subst (Has c) (submission_none w n proc args (after_submit plan s proc args).state (after_submit plan s proc args).sends (after_submit plan s proc args).answer o h).1 k)
+  taken_noted : (w : World) (e : Option Event) (o : Outcome) → Moves plan w e o → Has c o.components → IsListed is_txn o.world.order t
+  taken_noted w None o (inl h) k = absurd (subst (λ (o : Outcome). Has c o.components) h k)
+  taken_noted w None o (inr x) k = absurd (subst (λ (o : Outcome). Has c o.components) x.is k)
+  taken_noted w (Some (Submit n proc args)) o (s, there, h) k = absurd (subst (Has c) (submission_none w n proc args (after_transaction plan s proc args).state (after_transaction plan s proc args).sends (after_transaction plan s proc args).answer o h).1 k)
   taken_noted w (Some (Deliver k)) o (m, some, there, h) has = go m.to h
     where
       go : (to : Node) → IsReceived plan (mark_delivered w k) m.msg to o → IsListed is_txn o.world.order t
@@ -98,9 +102,9 @@ module _ (plan : Plan) (c : List TxnId) (t : TxnId) (member : Has t c) where
   taken_noted w (Some (Tick (Server shard))) o (s, there, e) k = absurd (subst (λ (o : Outcome). Has c o.components) e k)
   taken_noted w (Some (Tick (Coord n))) o (s, there, e) k = absurd (subst (λ (o : Outcome). Has c o.components) e k)
 
-  pub taken_ordered : (start : Beginning) (coords : ℕ) (steps : List Stepped) (w : World) → IsRunFrom plan start coords steps w → (x : Stepped) → Has x steps → Has c x.outcome.components → IsListed is_txn w.order t
-  taken_ordered start coords _ _ at_beginning x h k = absurd h
-  taken_ordered start coords _ _ (steps_on {steps = steps} {w = w} e o run h) x has k =
+  pub taken_ordered : (start : Beginning) (coords : ℕ) (steps : List Stepped) (w : World) → IsRunBeside plan start coords steps w → (x : Stepped) → Has x steps → Has c x.outcome.components → IsListed is_txn w.order t
+  taken_ordered start coords _ _ beside_begins x h k = absurd h
+  taken_ordered start coords _ _ (beside_goes_on {steps = steps} {w = w} e o run h) x has k =
       elim (has_more x (record { event = e; outcome = o }) steps has) [
         | inl was ↦ listed_on w.order o.world.order t (order_goes_on plan w e o h) (taken_ordered start coords steps w run x was k)
         | inr now ↦ taken_noted w e o h (subst (λ (x : Stepped). Has c x.outcome.components) now k)
@@ -108,14 +112,14 @@ module _ (plan : Plan) (c : List TxnId) (t : TxnId) (member : Has t c) where
 
 -- ---- what is decided, and what is yet to start
 
-module _ (plan : Plan) (start : Beginning) (begins : IsBeginning plan start) (schemes : HasSchemesFrom plan start.store) (laws : (S : Scheme) → IsSoundScheme S → LogLaws S start.store) (stores : StoreLaws) (coords : ℕ) (steps : List Stepped) (w : World) (run : IsRunFrom plan start coords steps w) where
+module _ (plan : Plan) (start : Beginning) (begins : IsBeginning plan start) (schemes : HasSchemesFrom plan start.store) (laws : (S : Scheme) → IsSoundScheme S → LogLaws S start.store) (stores : StoreLaws) (coords : ℕ) (steps : List Stepped) (w : World) (run : IsRunBeside plan start coords steps w) where
   pub decided_ordered : (n : ℕ) (s : ServerState) → slice_get w.servers n ≡ Some s → (t : TxnId) → IsDecided s.lists.links t → IsListed is_txn w.order t
   decided_ordered n s there t d = elim (transaction_or_none plan) [
     | inl some ↦
         (let x = logged plan start begins schemes laws stores coords steps w run some in
         let i = (laws (S plan start begins schemes laws stores coords steps w run some) (sound plan start begins schemes laws stores coords steps w run some)).holds x.0 x.1.means.reached in
         subst (λ l. IsListed is_txn l t) (sym x.1.means.order) (i.in_order n t ((x.1.means.servers n s there).back t d)))
-    | inr none ↦ absurd (nothing s.lists.links ((run_idle plan none start begins coords steps w run).links n s there) d)
+    | inr none ↦ absurd (nothing s.lists.links ((run_idle plan none start begins coords steps w run).servers n s there).links d)
   ]
     where
       nothing : (links : List KnownList) → links ≡ [] → IsDecided links t → ⊥
@@ -131,7 +135,7 @@ module _ (plan : Plan) (start : Beginning) (begins : IsBeginning plan start) (sc
         let k = subst (λ msg. Means plan (asked plan start begins schemes laws stores coords steps w run some) T start x.0 msg m.to) msg (x.1.means.messages m has) in
         let began = i.whole id (subst (λ l. IsListed is_txn l id) x.1.means.order h) group k.means.listed in
         elim ((x.1.means.servers n s there).groups.finds (run_of id group) began (ap shard_number (sym k.to ∙ to))) [ inl f ↦ clash f.0 f.1 | inr gone ↦ false≢true (sym kept ∙ gone.ended) ])
-    | inr none ↦ subst (Has m) (run_idle plan none start begins coords steps w run).sent has
+    | inr none ↦ absurd (subst IsMark msg (idle_mark plan start w (run_idle plan none start begins coords steps w run) m has))
   ]
     where
       clash : (e : _) → find_group id group s.started ≡ Some e → ⊥

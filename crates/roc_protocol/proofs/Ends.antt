@@ -1,25 +1,24 @@
 -- What is seen of a submission, by its coordinator's state; and of a message that comes to a server
-use Rattle.std.proofs.Common.{◌⊎◌, sym, if◌then◌else◌, ◌≡◌, ℕ, ℤ, ◌-◌, ◌<◌, ◌≤◌, Bool, true, false, not, ◌==◌, List, Some, None, length, refl, ap, subst, ◌∙◌, arith, inl, inr}
-use Rattle.std.proofs.lemmas.Bool.Decides.{nat_tests}
-use Rattle.std.specs.Prelude.{nat_le, slice_get}
-use Rattle.roc_sequence.specs.Lists.{Has}
+use Rattle.std.proofs.Common.{◌⊎◌, sym, ◌≡◌, ℕ, ℤ, ◌-◌, ◌<◌, ◌≤◌, List, Some, length, refl, ap, subst, ◌∙◌, inl, inr}
+use Rattle.std.specs.Prelude.{slice_get}
 use Rattle.roc_sequence.proofs.Members.{has_at}
 use Rattle.roc_base.specs.declared.node.Shard.{Shard}
 use Rattle.roc_base.specs.declared.node.Node.{Node}
 use Rattle.roc_base.specs.declared.node.Node.TheVariants.{Server, Coord}
 use Rattle.roc_msg.specs.declared.msg.Envelope.{Envelope}
-use Rattle.roc_plan.specs.Groups.{Plan, procedure_of, is_transaction}
+use Rattle.roc_plan.specs.Groups.{Plan}
 use Rattle.roc_law_log.specs.Scheme.{Scheme, IsSoundScheme}
-use Rattle.roc_coord.specs.declared.handled.SubmitFault.TheVariants as fault
 use Rattle.roc_coord.specs.State.{CoordState}
-use Rattle.roc_coord.specs.Submit.{Submission, refused_or_accepted, after_submit, most_transactions, most_pending}
+use Rattle.roc_coord.specs.Submit.{Submission, most_transactions, most_pending}
+use Rattle.roc_protocol.specs.Aside.{after_transaction}
 use Rattle.roc_protocol.specs.declared.event.Event.TheVariants.{Deliver}
 use Rattle.roc_protocol.specs.declared.event.Seen.TheVariants as seen
 use Rattle.roc_protocol.specs.PlanAssumptions.{HasSchemesFrom}
 use Rattle.roc_protocol.specs.Beginnings.{Beginning, IsBeginning}
 use Rattle.roc_protocol.specs.World.{World, mark_delivered}
 use Rattle.roc_protocol.specs.Happens.{Outcome, IsSubmissionOf, IsReceived, Happens, server_seen, coord_seen}
-use Rattle.roc_protocol.specs.Run.{Stepped, IsRunFrom}
+use Rattle.roc_protocol.specs.Run.{Stepped}
+use Rattle.roc_protocol.specs.Beside.{IsRunBeside}
 use Rattle.roc_protocol.specs.Inner.Given.{LogLaws, StoreLaws}
 use Rattle.roc_protocol.proofs.AskedFor.{run_asked}
 use Rattle.roc_msg.specs.declared.reason.Reason.{Reason}
@@ -31,41 +30,30 @@ use Rattle.roc_protocol.proofs.PendingRuns.{run_pending}
 use Rattle.roc_protocol.proofs.OngoingRuns.{run_ongoing}
 use Rattle.roc_protocol.proofs.Staleness.{message_stale}
 use Rattle.roc_protocol.proofs.Refusals.{message_taken}
-use Rattle.roc_protocol.proofs.Idle.{run_idle}
+use Rattle.roc_protocol.proofs.Idle.{run_idle, idle_takes}
 use Rattle.roc_protocol.proofs.Finals.{networked}
 use Rattle.roc_protocol.proofs.Serial as serial
 use Rattle.roc_protocol.proofs.Transactions.{transaction_or_none, HasTransaction}
+use Rattle.roc_protocol.proofs.SubmissionEnds as submission
 
 -- ---- a submission
 
 -- which of the three ends it has
 pub data Ends (c : CoordState) (o : Outcome) : Type 0 where
   spent : most_transactions ≤ c.next → o.seen ≡ seen.Spent → Ends c o
-  busy : c.next < most_transactions → most_pending ≤ length c.pending → o.seen ≡ seen.Busy → Ends c o
-  taken : c.next < most_transactions → length c.pending < most_pending → o.seen ≡ seen.Submitted (record { coord = c.number; seq = c.next }) → Ends c o
+  busy : c.next < most_transactions → most_pending ≤ length c.unanswered → o.seen ≡ seen.Busy → Ends c o
+  taken : c.next < most_transactions → length c.unanswered < most_pending → o.seen ≡ seen.Submitted (record { coord = c.number; seq = c.next }) → Ends c o
 
 pub submission_ends : (plan : Plan) (w : World) (coord proc : ℕ) (args : List ℤ) (d c : CoordState) (o : Outcome) → slice_get w.coords coord ≡ Some d → slice_get w.coords coord ≡ Some c
-    → IsSubmissionOf w coord proc args (after_submit plan d proc args) o → Ends c o
-submission_ends plan w coord proc args d c o e f s = let same : d ≡ c = cc in subst (λ (x : CoordState). Ends x o) same (procedure (is_transaction plan proc) s)
+    → IsSubmissionOf w coord proc args (after_transaction plan d proc args) o → Ends c o
+submission_ends plan w coord proc args d c o e f s = let same : d ≡ c = cc in subst (λ (x : CoordState). Ends x o) same (go (after_transaction plan d proc args) (submission.submission_is plan d proc args) s)
   where
-    Of : Submission → Type 0
-    Of r = IsSubmissionOf w coord proc args r o
-
-    free : (b : Bool) → nat_le most_pending (length d.pending) ≡ b → d.next < most_transactions → Of (refused_or_accepted plan d proc args (if b then Some fault.Busy else None)) → Ends d o
-    free true k l r = busy l (grind (arith, nat_tests)) (ap (λ (x : Outcome). x.seen) r)
-    free false k l r = taken l (grind (arith, nat_tests)) (ap (λ (x : Outcome). x.seen) r)
-
-    unspent : (b : Bool) → nat_le most_transactions d.next ≡ b → Of (refused_or_accepted plan d proc args (if b then Some fault.Spent else if nat_le most_pending (length d.pending) then Some fault.Busy else None)) → Ends d o
-    unspent true k r = spent (grind (arith, nat_tests)) (ap (λ (x : Outcome). x.seen) r)
-    unspent false k r = free (nat_le most_pending (length d.pending)) refl (grind (arith, nat_tests)) r
-
-    arguments : (b : Bool) → Of (refused_or_accepted plan d proc args (if not b then Some fault.Args else if nat_le most_transactions d.next then Some fault.Spent else if nat_le most_pending (length d.pending) then Some fault.Busy else None)) → Ends d o
-    arguments true r = unspent (nat_le most_transactions d.next) refl r
-    arguments false r = elim r [ ]
-
-    procedure : (b : Bool) → Of (refused_or_accepted plan d proc args (if not b then Some fault.NoProc else if not (length args == (procedure_of plan proc).arguments) then Some fault.Args else if nat_le most_transactions d.next then Some fault.Spent else if nat_le most_pending (length d.pending) then Some fault.Busy else None)) → Ends d o
-    procedure true r = arguments (length args == (procedure_of plan proc).arguments) r
-    procedure false r = elim r [ ]
+    go : (r : Submission) → submission.IsTransactionSubmission plan d proc args r → IsSubmissionOf w coord proc args r o → Ends d o
+    go r (submission.unknown e) h = absurd h
+    go r (submission.miscounted e) h = absurd h
+    go r (submission.spent known counted l) h = spent l (ap (λ (x : Outcome). x.seen) h)
+    go r (submission.busy known counted l m) h = busy l m (ap (λ (x : Outcome). x.seen) h)
+    go r (submission.taken known counted l m) h = taken l m (ap (λ (x : Outcome). x.seen) h)
 
 -- ---- a delivery
 
@@ -73,11 +61,11 @@ submission_ends plan w coord proc args d c o e f s = let same : d ≡ c = cc in 
 abbrev IsSeenAs : Outcome → Type 0
 IsSeenAs o = (o.seen ≡ seen.Done) ⊎ (o.seen ≡ seen.Gone)
 
-module _ (plan : Plan) (start : Beginning) (begins : IsBeginning plan start) (schemes : HasSchemesFrom plan start.store) (laws : (S : Scheme) → IsSoundScheme S → LogLaws S start.store) (stores : StoreLaws) (coords : ℕ) (steps : List Stepped) (w : World) (run : IsRunFrom plan start coords steps w) where
+module _ (plan : Plan) (start : Beginning) (begins : IsBeginning plan start) (schemes : HasSchemesFrom plan start.store) (laws : (S : Scheme) → IsSoundScheme S → LogLaws S start.store) (stores : StoreLaws) (coords : ℕ) (steps : List Stepped) (w : World) (run : IsRunBeside plan start coords steps w) where
   pub server_takes : (k : ℕ) (m : Envelope) (shard : Shard) (o : Outcome) → slice_get w.sent (k - 1) ≡ Some m → m.to ≡ Server shard → Happens plan w (Deliver k) o → IsSeenAs o
   server_takes k m shard o there to (b, first, at, h) = elim (transaction_or_none plan) [
     | inl some ↦ taken_by some b at (let same : b ≡ m = cc in ap (λ (m : Envelope). m.to) same ∙ to) h
-    | inr none ↦ absurd (subst (Has m) (run_idle plan none start begins coords steps w run).sent (has_at w.sent (k - 1) m there))
+    | inr none ↦ inl (idle_takes plan none start w (run_idle plan none start begins coords steps w run) (mark_delivered w k) b (has_at w.sent (k - 1) b at) o h)
   ]
     where
       taken_by : HasTransaction plan → (b : Envelope) → slice_get w.sent (k - 1) ≡ Some b → b.to ≡ Server shard → IsReceived plan (mark_delivered w k) b.msg b.to o → IsSeenAs o
@@ -99,7 +87,7 @@ module _ (plan : Plan) (start : Beginning) (begins : IsBeginning plan start) (sc
   pub coordinator_ignores : (k : ℕ) (o : Outcome) (why : Reason) → Happens plan w (Deliver k) o → o.seen ≡ seen.Ignored why → why ≡ Stale
   coordinator_ignores k o why (b, first, at, h) ignored = elim (transaction_or_none plan) [
     | inl some ↦ by_node some b.to refl h
-    | inr none ↦ absurd (subst (Has b) (run_idle plan none start begins coords steps w run).sent (has_at w.sent (k - 1) b at))
+    | inr none ↦ (let done = idle_takes plan none start w (run_idle plan none start begins coords steps w run) (mark_delivered w k) b (has_at w.sent (k - 1) b at) o h in absurd (cc))
   ]
     where
       was_ignored : (a : CoordHandled) → coord_seen a ≡ seen.Ignored why → a ≡ coord_answer.Ignored why

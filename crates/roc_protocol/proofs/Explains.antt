@@ -1,5 +1,5 @@
 -- Steps of a server that steps of the log explain: where the log does nothing, and where the server's lists change
-use Rattle.std.proofs.Common.{append-nil, ◌≡◌, ◌≢◌, ◌≤◌, ℕ, true, not, List, [], ◌∷◌, ◌++◌, Some, map, refl, sym, ap, subst, ◌∙◌, ◌⊎◌, inl, inr}
+use Rattle.std.proofs.Common.{append-nil, ◌≡◌, ◌≢◌, ℕ, true, not, List, [], ◌∷◌, ◌++◌, Some, map, refl, sym, ap, subst, ◌∙◌, ◌⊎◌, inl, inr}
 use Rattle.std.proofs.lemmas.List.{map-append}
 use Rattle.std.proofs.lemmas.List.Elements.{filter-append}
 use Rattle.std.specs.List.{range_with_len}
@@ -32,7 +32,7 @@ use Rattle.roc_protocol.specs.Beginnings.{Beginning}
 use Rattle.roc_protocol.specs.World.{World, at_server}
 use Rattle.roc_protocol.specs.Happens.{ran_at}
 use Rattle.roc_protocol.specs.Inner.Given.{LogLaws}
-use Rattle.roc_protocol.proofs.Means.{entry_run, RanMeans, Began, Means, DoneMeans, ServerMeans, WorldMeans}
+use Rattle.roc_protocol.proofs.Means.{IsOther, entry_run, RanMeans, Began, Means, DoneMeans, ServerMeans, WorldMeans}
 use Rattle.roc_protocol.proofs.KeptGroups.{take_same, buffered_some}
 use Rattle.roc_protocol.proofs.Gone.{here_stays}
 use Rattle.roc_protocol.proofs.Flattened.{flat, in_listed}
@@ -58,7 +58,7 @@ was_buffered plan started ts e h =
 
 module _ (plan : Plan) (asked : TxnId → whole.Call) (S : Scheme) (start : Beginning) (is : IsSchemeOf plan asked S) (laws : LogLaws S start.store) (c : Log) (w : World)
     (o : WorldMeans plan asked S start c w) (n : ℕ) (s : ServerState) (there : slice_get w.servers n ≡ Some s) (Fresh : TxnId → Type 0)
-    (onward : (r : TxnGroup) → Began plan asked S start c r → start.nexts r.txn.coord ≤ r.txn.seq) where
+    (called : (r : TxnGroup) → Began plan asked S start c r → ¬ IsOther asked start r.txn) where
   -- some steps of the log explain the world after a step of the server
   pub record IsExplained (r : ServerStep) : Type 0 where
     pub log : Log
@@ -107,7 +107,7 @@ module _ (plan : Plan) (asked : TxnId → whole.Call) (S : Scheme) (start : Begi
   -- it does nothing, and what is over is forgotten
   pub forgets_still : (r : ServerStep) → ServerMeans plan asked S start c n r.state → ((out : Outgoing) → Has out r.sends → Means plan asked S start c out.msg out.to)
       → KeepsState s r.state → r.components ≡ [] → r.decided ≡ [] → r.ran ≡ [] → IsExplained (forgetting r)
-  forgets_still r after sends kept apart none idle = still (forgetting r) (forget_means plan asked S start is c i onward n r.state after) sends (keeps_forgetting_none s r.state kept after.taken.one) apart none idle
+  forgets_still r after sends kept apart none idle = still (forgetting r) (forget_means plan asked S start is c i called n r.state after) sends (keeps_forgetting_none s r.state kept after.taken.one) apart none idle
 
   -- ---- lists change, in a state that means what the log says
 
@@ -192,7 +192,7 @@ module _ (plan : Plan) (asked : TxnId → whole.Call) (S : Scheme) (start : Begi
           log = d;
           steps = one_step_more no_steps (deciding.step plan asked S start is laws c o.reached n v ov lists comps change);
           means = server_means plan asked S start is c d i j g (deciding.reached_after plan asked S start is laws c o.reached n v ov lists comps change) w o n s r there
-              (subst (ServerMeans plan asked S start d n) (sym state) (forget_means plan asked S start is d j onward n after then_means))
+              (subst (ServerMeans plan asked S start d n) (sym state) (forget_means plan asked S start is d j called n after then_means))
               (λ k apart v2 h. server_elsewhere plan asked S start is c d i j g k (deciding.quiet_elsewhere plan asked S start is laws c o.reached n v ov lists comps change k apart) v2 (o.servers k v2 h))
               sends
               (ap (noted w.order) decided ∙ (noted-new w.order all change.new.taken.order.once ∙ (ap (λ l. l ++ new_in l all) o.order ∙ ap (λ l. c.order ++ l) (sym (new_in-less (c.decided n) c.order all (i.in_order n))))))

@@ -22,7 +22,7 @@ use Rattle.roc_await.specs.declared.waits.Asker.{Asker}
 use Rattle.roc_await.specs.Waits.{is_asker_before, was_asked_for, with_all_asked, without_asked, askers_of}
 use Rattle.roc_await.proofs.Asking.{asked_still, asked_all}
 use Rattle.roc_msg.specs.declared.msg.Msg.{Msg}
-use Rattle.roc_msg.specs.declared.msg.Msg.TheVariants.{Start, Commit, Fetch, Known, Ended, Settled}
+use Rattle.roc_msg.specs.declared.msg.Msg.TheVariants.{Start, Commit, Fetch, Known, Ended, Settled, Read, ReadOk}
 use Rattle.roc_msg.specs.declared.msg.Envelope.{Envelope}
 use Rattle.roc_msg.specs.declared.outbox.Outgoing.{Outgoing}
 use Rattle.roc_msg.specs.declared.reason.Reason.TheVariants.{NotHere, Foreign}
@@ -45,9 +45,12 @@ use Rattle.roc_protocol.specs.World.{World, sent_by, mark_delivered, at_server, 
 use Rattle.roc_protocol.proofs.Gathered.{IsRound}
 use Rattle.roc_protocol.proofs.Changed.{get-set_here, get-set_other, get-set_cases}
 use Rattle.roc_protocol.proofs.ForgottenHere.{forgotten, over_ended, asked_some}
-use Rattle.roc_protocol.proofs.Marks.{ended_still}
+use Rattle.roc_server.proofs.Raised.{ended_still}
 use Rattle.roc_server.specs.declared.handled.Handled.{Handled}
 use Rattle.roc_server.specs.declared.handled.Handled.TheVariants.{Done, Ignored, Gone}
+use Rattle.roc_protocol.proofs.ReadsHere.{for_read}
+use Rattle.roc_protocol.specs.Aside.{IsNoRead}
+use Rattle.roc_protocol.proofs.Submissions.{IsNoReadOk}
 
 -- ---- a step of a server. For says that a shard has asked for a list
 
@@ -55,13 +58,25 @@ abbrev pub FetchedFor : (For : TxnId → ℕ → Type 0) → Msg → Node → Ty
 FetchedFor For (Fetch id asker) to = For id asker.0
 FetchedFor For (Known id edges) (Server shard) = For id shard.0
 FetchedFor For (Known id edges) (Coord number) = Unit {0}
+FetchedFor For (Read id round proc group args) to = ⊥
+FetchedFor For (ReadOk id round group shard versions outs) to = ⊥
 FetchedFor For msg to = Unit {0}
 
 fetched_later : (P Q : TxnId → ℕ → Type 0) → ((t : TxnId) (n : ℕ) → P t n → Q t n) → (msg : Msg) (to : Node) → FetchedFor P msg to → FetchedFor Q msg to
 fetched_later P Q f (Fetch id asker) to k = f id asker.0 k
 fetched_later P Q f (Known id edges) (Server shard) k = f id shard.0 k
 fetched_later P Q f (Known id edges) (Coord number) k = tt
+fetched_later P Q f (Read id round proc group args) to k = k
+fetched_later P Q f (ReadOk id round group shard versions outs) to k = k
 fetched_later P Q f msg to k = tt
+
+pub fetched_none : (For : TxnId → ℕ → Type 0) (msg : Msg) (to : Node) → FetchedFor For msg to → IsNoReadOk msg
+fetched_none For (ReadOk id round group shard versions outs) to k = k
+fetched_none For msg to k = tt
+
+pub fetched_no_read : (For : TxnId → ℕ → Type 0) (msg : Msg) (to : Node) → FetchedFor For msg to → IsNoRead msg
+fetched_no_read For (Read id round proc group args) to k = k
+fetched_no_read For msg to k = tt
 
 -- the list of id was asked for here, or it has ended
 abbrev pub WasAskedFor : TxnId → ServerState → Type 0
@@ -260,6 +275,7 @@ module _ (plan : Plan) (For : TxnId → ℕ → Type 0) where
         go (Known id edges) k = known_fetches s waits h.findings.components id edges (known_refusal s id edges)
         go (Ended coord mark) k = heard_first s coord mark (after_ended s coord mark) (forgets (hearing s coord mark) (answered (hearing s coord mark) []) (refuses (hearing s coord mark) waits Done))
         go (Settled id mark) k = settled_fetches h.findings.components id mark
+        go (Read id round proc group args) k = for_read plan s (record { id = id; round = round; proc = proc; group = group; args = args }) (KeepsFetches s) (refuses s waits)
         go msg k = refuses s waits (Ignored Foreign)
 
     pub tick_fetches : KeepsFetches s (answered s (tick_sends s))

@@ -10,7 +10,7 @@ use Rattle.roc_base.specs.declared.node.Shard.{Shard}
 use Rattle.roc_base.specs.Edge.{Dependency}
 use Rattle.roc_depgraph.specs.declared.known.KnownList.{KnownList}
 use Rattle.roc_msg.specs.declared.msg.Msg.{Msg}
-use Rattle.roc_msg.specs.declared.msg.Msg.TheVariants.{Start, StartOk, Commit, Ended}
+use Rattle.roc_msg.specs.declared.msg.Msg.TheVariants.{Start, StartOk, Commit, Ended, ReadOk}
 use Rattle.roc_msg.specs.declared.msg.Envelope.{Envelope}
 use Rattle.roc_msg.specs.declared.outbox.Outgoing.{Outgoing}
 use Rattle.roc_plan.specs.Groups.{Plan, groups_of}
@@ -23,32 +23,37 @@ use Rattle.roc_server.specs.Step as server
 use Rattle.roc_coord.specs.State.{CoordState}
 use Rattle.roc_coord.specs.Step.{after_message}
 use Rattle.roc_coord.specs.Submit.{next_id, new_transaction, accepted}
-use Rattle.roc_coord.specs.Tick as coord
 use Rattle.roc_audit.specs.declared.entry.Entry.{Entry}
 use Rattle.roc_audit.specs.declared.entry.Entry.TheVariants.{Submitted}
 use Rattle.roc_audit.specs.History.{WasSubmitted}
 use Rattle.roc_server_lists.proofs.SameIds.{ids_of}
+use Rattle.roc_protocol.specs.Aside.{transaction_tick_sends}
 use Rattle.roc_protocol.specs.declared.event.Event.{Event}
 use Rattle.roc_protocol.specs.declared.event.Event.TheVariants.{Submit, Deliver, Tick}
 use Rattle.roc_protocol.specs.PlanAssumptions.{IsSchemeOf, HasSchemesFrom}
 use Rattle.roc_protocol.specs.Beginnings.{Beginning, IsBeginning, begun_server, begun_coord}
 use Rattle.roc_protocol.specs.World.{World, sent_by, mark_delivered, at_coord}
 use Rattle.roc_protocol.specs.Happens.{Outcome, answer_entries, IsReceived, Ticks}
-use Rattle.roc_protocol.specs.Run.{Stepped, Transition, IsRunFrom, at_beginning, steps_on}
+use Rattle.roc_protocol.specs.Run.{Stepped}
+use Rattle.roc_protocol.specs.Beside.{Moves, IsRunBeside, beside_begins, beside_goes_on}
 use Rattle.roc_protocol.specs.Final.{lists_in, IsUnionIn, IsFinalIn}
 use Rattle.roc_protocol.specs.Inner.Given.{LogLaws, StoreLaws}
 use Rattle.roc_protocol.proofs.Means.{run_of, Means}
 use Rattle.roc_protocol.proofs.Changed.{get-set_cases}
 use Rattle.roc_protocol.proofs.Carried.{message_good, tick_good}
-use Rattle.roc_protocol.proofs.Gathered.{IsRound, KeepsGathered, Tells, message_gathered, tick_gathered, submission_gathered}
+use Rattle.roc_protocol.proofs.Gathered.{IsRound, KeepsGathered, Tells, message_gathered, tick_gathered, submission_gathered, aside_gathered}
 use Rattle.roc_protocol.proofs.Networks.{IsStartOkOf, found_is, IsToldHere, IsPlacedOn, Good, Told, Calls, told_facts, IsNetworked, one_startok, holds_there, starts_there, gathered_good, lists_after, told_later, holds_later, served_networked}
 use Rattle.roc_protocol.proofs.Firsts.{found_at}
-use Rattle.roc_protocol.proofs.Idle.{run_idle}
-use Rattle.roc_protocol.proofs.Worlds.{comes_logged, Submitting, is_refused, is_accepted, submitting, Agrees, agrees_before, IsLogged}
-use Rattle.roc_protocol.proofs.Witness.{step_extends, run_logged}
+use Rattle.roc_protocol.proofs.Idle.{run_idle, idle_mark}
+use Rattle.roc_protocol.proofs.Worlds.{comes_logged, Submitting, is_refused, is_accepted, submitting, Agrees, IsLogged, submissions_from}
+use Rattle.roc_protocol.proofs.Onward.{agrees_before}
+use Rattle.roc_protocol.proofs.Witness.{run_logged}
+use Rattle.roc_protocol.proofs.KeptAside.{kept_aside}
 use Rattle.roc_protocol.proofs.Serial.{S, asked, logged, sound, agrees, submissions}
 use Rattle.roc_protocol.proofs.Serial as serial
 use Rattle.roc_protocol.proofs.Transactions.{transaction_or_none, HasTransaction}
+use Rattle.roc_protocol.proofs.Served.{StartsAre}
+use Rattle.roc_protocol.proofs.Marks.{IsMark}
 
 module _ (plan : Plan) (asked : TxnId → whole.Call) (S : Scheme) (start : Beginning) (is : IsSchemeOf plan asked S) (laws : LogLaws S start.store) where
   module _ (w : World) (log : Log) (o : IsLogged plan asked S start is laws w log) (nw : IsNetworked plan asked S start is laws w) where
@@ -101,12 +106,13 @@ module _ (plan : Plan) (asked : TxnId → whole.Call) (S : Scheme) (start : Begi
     tick_networked (Server shard) v (s, there, e) = subst (λ (v : Outcome). IsNetworked plan asked S start is laws v.world) (sym e)
         (served_networked plan asked S start is laws w log o nw shard.0 s there (answered s (server.tick_sends s)) (tick_good plan Goods (IsPlacedOn plan asked S start is laws log shard.0) s (holds_there plan asked S start is laws w log o nw shard.0 s there)))
     tick_networked (Coord n) v (s, there, e) = subst (λ (v : Outcome). IsNetworked plan asked S start is laws v.world) (sym e)
-        (coordinated_networked n s there s (coord.tick_sends plan s) [] (tick_gathered plan Goods (Told plan asked S start is laws w.sent) (Calls plan asked S start is laws) (told_facts plan asked S start is laws w.sent) s (λ x h. nw.taken n s there x h) (gathered_good plan asked S start is laws w log o nw)))
+        (coordinated_networked n s there s (transaction_tick_sends plan s) [] (tick_gathered plan Goods (Told plan asked S start is laws w.sent) (Calls plan asked S start is laws) (told_facts plan asked S start is laws w.sent) s (λ x h. nw.taken n s there x h) (gathered_good plan asked S start is laws w log o nw)))
 
     -- a message in the network tells what it tells
     tells : (m : Envelope) → Has m w.sent → (msg : Msg) → m.msg ≡ msg → ((k : KnownList) → Has k (lists_in msg) → Good plan asked S start is laws w.sent k.of k.edges) → (n : ℕ) (s : CoordState) (there : slice_get w.coords n ≡ Some s)
         → Tells plan Goods (Told plan asked S start is laws w.sent) (Calls plan asked S start is laws) (told_facts plan asked S start is laws w.sent) s (λ x h. nw.taken n s there x h) (gathered_good plan asked S start is laws w log o nw) msg
     tells m h (StartOk id group shard bound outs edges facts) e good n s there = (record { message = m; has = h; shard = shard; bound = bound; outs = outs; is = e }, good)
+    tells m h (ReadOk id round group shard versions outs) e good n s there = subst (StartsAre (WasSubmitted w.history)) e (o.starts m h)
     tells m h msg e good n s there = tt
 
     receive_networked : (m : Envelope) → Has m w.sent → (to : Node) → m.to ≡ to → (v : Outcome) → IsReceived plan w m.msg to v → IsNetworked plan asked S start is laws v.world
@@ -116,26 +122,32 @@ module _ (plan : Plan) (asked : TxnId → whole.Call) (S : Scheme) (start : Begi
         (coordinated_networked n s there (after_message plan s m.msg).state (after_message plan s m.msg).sends (answer_entries (after_message plan s m.msg).answer)
         (message_gathered plan Goods (Told plan asked S start is laws w.sent) (Calls plan asked S start is laws) (told_facts plan asked S start is laws w.sent) s (λ x h. nw.taken n s there x h) (gathered_good plan asked S start is laws w log o nw) m.msg (tells m h m.msg refl (nw.lists m h) n s there)))
 
-    submit_networked : (n proc : ℕ) (args : List ℤ) (s : CoordState) → slice_get w.coords n ≡ Some s → (v : Outcome) → Submitting plan w n proc args s v → Agrees asked v.world.history → IsNetworked plan asked S start is laws v.world
+    submit_networked : (n proc : ℕ) (args : List ℤ) (s : CoordState) → slice_get w.coords n ≡ Some s → (v : Outcome) → Submitting plan w n proc args s v → Agrees asked v.world → IsNetworked plan asked S start is laws v.world
     submit_networked n proc args s there v (is_refused e) fits = subst (IsNetworked plan asked S start is laws) (sym e) nw
     submit_networked n proc args s there v (is_accepted known counted e) fits =
         let more = Submitted (next_id s) proc args ∷ [] in
-        let g : Agrees asked (w.history ++ more) = subst (λ (v : World). Agrees asked v.history) e fits in
+        let r = accepted plan s (new_transaction s proc args) in
+        let g : Agrees asked (at_coord w n r.state r.sends more) = subst (Agrees asked) e fits in
         subst (IsNetworked plan asked S start is laws) (sym e)
         (coordinated_networked n s there (accepted plan s (new_transaction s proc args)).state (accepted plan s (new_transaction s proc args)).sends more
         (submission_gathered plan Goods (Told plan asked S start is laws w.sent) (Calls plan asked S start is laws) (told_facts plan asked S start is laws w.sent) s (λ x h. nw.taken n s there x h) (gathered_good plan asked S start is laws w log o nw) proc args
         (g.proc (next_id s) proc args (has_right (Submitted (next_id s) proc args) w.history more (inl refl)))))
 
-  step_networked : (w : World) (log : Log) → IsLogged plan asked S start is laws w log → IsNetworked plan asked S start is laws w → (e : Option Event) (v : Outcome) → Transition plan w e v → Agrees asked v.world.history → IsNetworked plan asked S start is laws v.world
-  step_networked w log o nw None v h fits = subst (λ (v : Outcome). IsNetworked plan asked S start is laws v.world) (sym h) nw
+  step_networked : (w : World) (log : Log) → IsLogged plan asked S start is laws w log → IsNetworked plan asked S start is laws w → (e : Option Event) (v : Outcome) → Moves plan w e v → Agrees asked v.world → IsNetworked plan asked S start is laws v.world
+  step_networked w log o nw None v (inl h) fits = subst (λ (v : Outcome). IsNetworked plan asked S start is laws v.world) (sym h) nw
+  step_networked w log o nw None v (inr x) fits =
+      let k = kept_aside plan x.before x.after x.sends x.does in
+      subst (λ (v : Outcome). IsNetworked plan asked S start is laws v.world) (sym x.is)
+      (coordinated_networked w log o nw x.number x.before x.there x.after x.sends []
+      (aside_gathered plan (Good plan asked S start is laws w.sent) (Told plan asked S start is laws w.sent) (Calls plan asked S start is laws) (told_facts plan asked S start is laws w.sent) x.before (λ y h. nw.taken x.number x.before x.there y h) (gathered_good plan asked S start is laws w log o nw) x.after k.pending x.sends k.marks))
   step_networked w log o nw (Some (Submit n proc args)) v (s, there, h) fits = submit_networked w log o nw n proc args s there v (submitting plan w n proc args s v h) fits
   step_networked w log o nw (Some (Deliver k)) v (m, some, there, h) fits =
       receive_networked (mark_delivered w k) log (comes_logged plan asked S start is laws w log o k) (comes_networked w log o nw k) m (has_at w.sent (k - 1) m there) m.to refl v h
   step_networked w log o nw (Some (Tick node)) v h fits = tick_networked w log o nw node v h
 
   module _ (stores : StoreLaws) (begins : IsBeginning plan start) where
-    pub run_networked : (coords : ℕ) (steps : List Stepped) (w : World) → IsRunFrom plan start coords steps w → Agrees asked w.history → IsNetworked plan asked S start is laws w
-    run_networked coords steps w at_beginning fits =
+    pub run_networked : (coords : ℕ) (steps : List Stepped) (w : World) → IsRunBeside plan start coords steps w → Agrees asked w → IsNetworked plan asked S start is laws w
+    run_networked coords steps w beside_begins fits =
         record {
           told = λ m h. absurd h;
           one = λ m k h. absurd h;
@@ -145,15 +157,14 @@ module _ (plan : Plan) (asked : TxnId → whole.Call) (S : Scheme) (start : Begi
               record { groups = λ b j. tt; known = λ k j. elim (subst (λ (s : ServerState). Has k s.lists.known) e j) [ ]; facts = λ b j. elim (subst (λ (s : ServerState). Has b s.started) e j) [ ]; same = subst (λ (s : ServerState). ids_of s.lists.links ≡ ids_of s.lists.known) (sym e) refl });
           taken = λ n c e x h. elim (subst (λ (c : CoordState). Has x c.pending) (found_at (begun_coord start) 0 coords n c e) h) [ ];
         }
-    run_networked coords steps w (steps_on {w = v} e o r h) fits =
-        let x = step_extends plan v e o h in
-        let g = agrees_before asked v.history x.more (subst (Agrees asked) x.is fits) in
+    run_networked coords steps w (beside_goes_on {w = v} e o r h) fits =
+        let g = agrees_before plan v (submissions_from plan start coords _ v r) asked e o h fits in
         let l = run_logged plan asked S start is laws stores begins coords _ v r g in
         step_networked v l.0 l.1 (run_networked coords _ v r g) e o h fits
 
 -- ---- the laws
 
-module _ (plan : Plan) (start : Beginning) (begins : IsBeginning plan start) (schemes : HasSchemesFrom plan start.store) (laws : (S : Scheme) → IsSoundScheme S → LogLaws S start.store) (stores : StoreLaws) (coords : ℕ) (steps : List Stepped) (w : World) (run : IsRunFrom plan start coords steps w) where
+module _ (plan : Plan) (start : Beginning) (begins : IsBeginning plan start) (schemes : HasSchemesFrom plan start.store) (laws : (S : Scheme) → IsSoundScheme S → LogLaws S start.store) (stores : StoreLaws) (coords : ℕ) (steps : List Stepped) (w : World) (run : IsRunBeside plan start coords steps w) where
   module _ (some : HasTransaction plan) where
     abbrev T : Scheme
     T = S plan start begins schemes laws stores coords steps w run some
@@ -181,13 +192,13 @@ module _ (plan : Plan) (start : Beginning) (begins : IsBeginning plan start) (sc
   pub known_final : (n : ℕ) (s : ServerState) → slice_get w.servers n ≡ Some s → (k : KnownList) → Has k s.lists.known → IsFinalIn plan w k.of k.edges
   known_final n s there k h = elim (transaction_or_none plan) [
     | inl some ↦ final_of some k.of k.edges (((networked some).servers n s there).known k h)
-    | inr none ↦ absurd (subst (Has k) ((run_idle plan none start begins coords steps w run).known n s there) h)
+    | inr none ↦ absurd (subst (Has k) ((run_idle plan none start begins coords steps w run).servers n s there).known h)
   ]
 
   pub sent_final : (m : Envelope) → Has m w.sent → (k : KnownList) → Has k (lists_in m.msg) → IsFinalIn plan w k.of k.edges
   sent_final m h k j = elim (transaction_or_none plan) [
     | inl some ↦ final_of some k.of k.edges ((networked some).lists m h k j)
-    | inr none ↦ absurd (subst (Has m) (run_idle plan none start begins coords steps w run).sent h)
+    | inr none ↦ absurd (subst (λ msg. Has k (lists_in msg)) ((run_idle plan none start begins coords steps w run).sent m h).is j)
   ]
 
   pub startoks_one : (m other : Envelope) → Has m w.sent → Has other w.sent → (t : TxnId) (g : ℕ) (shard at : Shard) (bound outs values gave : List ℤ) (es ds : List Dependency) (fs hs : List KnownList)
@@ -196,7 +207,7 @@ module _ (plan : Plan) (start : Beginning) (begins : IsBeginning plan start) (sc
     | inl some ↦
         (let x = logged plan start begins schemes laws stores coords steps w run some in
         one_startok plan (calls some) (T some) start (serial.is plan start begins schemes laws stores coords steps w run some) (laws (T some) (sound plan start begins schemes laws stores coords steps w run some)) w x.0 x.1 (networked some) m other h k t g shard at bound outs values gave es ds fs hs e f)
-    | inr none ↦ absurd (subst (Has m) (run_idle plan none start begins coords steps w run).sent h)
+    | inr none ↦ absurd (subst IsMark e (idle_mark plan start w (run_idle plan none start begins coords steps w run) m h))
   ]
 
   -- a startok of a group that is found on a server says what is kept of it
@@ -209,5 +220,5 @@ module _ (plan : Plan) (start : Beginning) (begins : IsBeginning plan start) (sc
         let q = found_is t g s.started e f in
         let number : s.shard.0 ≡ n = (x.1.means.servers n s there).number in
         k ∙ (λ j. StartOk (q.1 j) (q.2 j) (record { 0 = number j }) e.bound e.outs e.edges e.facts))
-    | inr none ↦ absurd (subst (Has m) (run_idle plan none start begins coords steps w run).sent h)
+    | inr none ↦ absurd (subst IsMark is (idle_mark plan start w (run_idle plan none start begins coords steps w run) m h))
   ]

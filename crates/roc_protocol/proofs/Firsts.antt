@@ -1,5 +1,5 @@
 -- Where runs begin
-use Rattle.std.proofs.Common.{◌≡◌, ◌≢◌, ◌≤◌, ℕ, zero, suc, ◌+◌, ◌==◌, Bool, true, false, cond, List, [], ◌∷◌, Some, map, refl, sym, ap, subst, ◌∙◌, inr, arith}
+use Rattle.std.proofs.Common.{◌≡◌, ◌≢◌, ◌≤◌, ℕ, zero, suc, ◌+◌, ◌==◌, Bool, true, false, cond, List, [], ◌∷◌, Option, Some, None, map, refl, sym, ap, subst, ◌∙◌, inl, inr, arith}
 use Rattle.std.proofs.lemmas.Bool.{false≢true, eq-eqb, eqb-true}
 use Rattle.std.specs.Prelude.{slice_get, filter}
 use Rattle.std.specs.List.{range_with_len}
@@ -18,9 +18,12 @@ use Rattle.roc_law_log.specs.Steps.{no_steps}
 use Rattle.roc_coord.specs.State.{CoordState}
 use Rattle.roc_coord.specs.Submit.{most_transactions}
 use Rattle.roc_protocol.specs.PlanAssumptions.{IsSchemeOf}
+use Rattle.roc_protocol.specs.declared.event.Event.{Event}
 use Rattle.roc_protocol.specs.World.{World}
+use Rattle.roc_protocol.specs.Happens.{Outcome}
 use Rattle.roc_protocol.specs.Beginnings.{Beginning, IsBeginning, begun_server, begun_coord, begun_world, first_beginning}
-use Rattle.roc_protocol.specs.Run.{Stepped, IsRun, begun, goes_on, IsRunFrom, at_beginning, steps_on}
+use Rattle.roc_protocol.specs.Run.{Stepped, Transition, IsRun, begun, goes_on, IsRunFrom, at_beginning, steps_on}
+use Rattle.roc_protocol.specs.Beside.{Moves, IsRunBeside, beside_begins, beside_goes_on}
 use Rattle.roc_protocol.proofs.Means.{ServerMeans, CoordMeans, WorldMeans}
 use Rattle.roc_protocol.specs.Inner.Given.{StoreLaws}
 use Rattle.roc_protocol.proofs.Submissions.{AreSubmissions}
@@ -70,7 +73,6 @@ first_begins laws plan =
       marks = λ n. refl;
       ended = λ n t h. absurd (false≢true (sym (none_ended t) ∙ h));
       few = λ coord. let l : 0 ≤ most_transactions = omega arith in l;
-      used = λ coord l. absurd (omega arith);
     }
 
 module _ (plan : Plan) (asked : TxnId → whole.Call) (S : Scheme) (start : Beginning) (is : IsSchemeOf plan asked S) (begins : IsBeginning plan start) (coords : ℕ) where
@@ -87,7 +89,7 @@ module _ (plan : Plan) (asked : TxnId → whole.Call) (S : Scheme) (start : Begi
         };
         known = λ k h. absurd h;
         fetched = λ a h. absurd h;
-        ended = λ t h. inr (begins.ended n t h);
+        ended = λ t h. inr (inl (begins.ended n t h));
         links = tt;
         decided = λ t h. absurd (omega arith);
         back = λ t d. absurd (false≢true d.own);
@@ -104,7 +106,7 @@ module _ (plan : Plan) (asked : TxnId → whole.Call) (S : Scheme) (start : Begi
       }
 
   begun_coord_means : (n : ℕ) → CoordMeans plan asked S start first_log (begun_coord start n)
-  begun_coord_means n = record { pending = λ x h. absurd h; all = λ q l. inr (inr l); onward = omega arith }
+  begun_coord_means n = record { pending = λ x h. absurd h; unanswered = λ x h. absurd h; views = λ u h. absurd h; all = λ q l. inr (inr (inl l)); onward = omega arith }
 
   pub begun_means : WorldMeans plan asked S start first_log (begun_world plan start coords)
   begun_means =
@@ -141,6 +143,18 @@ run_from plan coords steps w (goes_on {steps = front} {w = v} e o r h) = steps_o
 pub from_run : (plan : Plan) (coords : ℕ) (steps : List Stepped) (w : World) → IsRunFrom plan (first_beginning plan) coords steps w → IsRun plan coords steps w
 from_run plan coords steps w at_beginning = begun
 from_run plan coords steps w (steps_on {steps = front} {w = v} e o r h) = goes_on e o (from_run plan coords front v r) h
+
+-- nothing has to be done aside
+pub moves : (plan : Plan) (w : World) (e : Option Event) (o : Outcome) → Transition plan w e o → Moves plan w e o
+moves plan w None o h = inl h
+moves plan w (Some e) o h = h
+
+pub beside_from : (plan : Plan) (start : Beginning) (coords : ℕ) (steps : List Stepped) (w : World) → IsRunFrom plan start coords steps w → IsRunBeside plan start coords steps w
+beside_from plan start coords steps w at_beginning = beside_begins
+beside_from plan start coords steps w (steps_on {steps = front} {w = v} e o r h) = beside_goes_on e o (beside_from plan start coords front v r) (moves plan v e o h)
+
+pub run_beside : (plan : Plan) (coords : ℕ) (steps : List Stepped) (w : World) → IsRun plan coords steps w → IsRunBeside plan (first_beginning plan) coords steps w
+run_beside plan coords steps w run = beside_from plan (first_beginning plan) coords steps w (run_from plan coords steps w run)
 
 -- and no sequence was used before
 pub none_before : (plan : Plan) (coord q : ℕ) → (first_beginning plan).nexts coord ≤ q

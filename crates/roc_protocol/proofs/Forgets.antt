@@ -1,5 +1,5 @@
 -- A server forgets what is over
-use Rattle.std.proofs.Common.{◌≡◌, ◌≤◌, ℕ, Bool, true, false, not, List, refl, sym, ap, ◌∙◌, arith, ◌⊎◌, inl, inr}
+use Rattle.std.proofs.Common.{◌≡◌, ℕ, Bool, true, false, not, List, refl, sym, ap, ◌∙◌, ◌⊎◌, inl, inr}
 use Rattle.std.proofs.lemmas.Bool.{false≢true, false_from_ne_true, not-true, not-false, not_from_false}
 use Rattle.roc_sequence.specs.Lists.{Has}
 use Rattle.roc_sequence.specs.Places.{IsListed}
@@ -25,23 +25,21 @@ use Rattle.roc_server.specs.Below.{is_ended}
 use Rattle.roc_server.specs.Forgets.{is_over, forget}
 use Rattle.roc_protocol.specs.PlanAssumptions.{IsSchemeOf}
 use Rattle.roc_protocol.specs.Beginnings.{Beginning}
-use Rattle.roc_protocol.proofs.Means.{run_of, Began, IsPast, IsForgotten, ServerMeans}
+use Rattle.roc_protocol.proofs.Means.{IsOther, run_of, Began, IsPast, IsForgotten, ServerMeans}
 use Rattle.roc_protocol.proofs.Gone.{IsGone}
 use Rattle.roc_protocol.proofs.ForgottenHere.{forgotten, forgets, over_of, was_here, here_kept, gone_still, gone_now, found_or_gone}
 use Rattle.roc_protocol.proofs.Followed.{followed_left}
 use Rattle.roc_protocol.proofs.Flattened.{before_all}
 
 module _ (plan : Plan) (asked : TxnId → whole.Call) (S : Scheme) (start : Beginning) (is : IsSchemeOf plan asked S) (c : Log) (i : LogInvariants S start.store c)
-    (onward : (r : TxnGroup) → Began plan asked S start c r → start.nexts r.txn.coord ≤ r.txn.seq) (n : ℕ) (s : ServerState) (o : ServerMeans plan asked S start c n s) where
+    (called : (r : TxnGroup) → Began plan asked S start c r → ¬ IsOther asked start r.txn) (n : ℕ) (s : ServerState) (o : ServerMeans plan asked S start c n s) where
   pub over_decided : (t : TxnId) → forgotten s t ≡ true → IsDecided s.lists.links t
   over_decided t h = let k = over_of s t h in o.taken.decided k.component t k.has k.member
 
   -- what a shard decided began in this run; so it is answered, if it is past
   answered : (t : TxnId) → IsListed is_txn (c.decided n) t → IsPast plan asked S start c t → IsListed is_txn c.answered t
   answered t h (inl k) = k
-  answered t h (inr early) =
-      let late = onward (run_of t 0) (i.whole t (i.in_order n t h) 0 ((is.groups t 0).1 (is.some t))) in
-      absurd (omega (arith, early, late))
+  answered t h (inr other) = absurd (called (run_of t 0) (i.whole t (i.in_order n t h) 0 ((is.groups t 0).1 (is.some t))) other)
 
   pub over_settled : (t : TxnId) → forgotten s t ≡ true → IsSettled S start.store c t
   over_settled t h m mate =

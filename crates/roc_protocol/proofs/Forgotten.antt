@@ -1,5 +1,5 @@
 -- What is forgotten was answered, in every run
-use Rattle.std.proofs.Common.{◌≡◌, ◌≤◌, ◌<◌, ◌-◌, ℕ, ℤ, true, false, List, [], ◌++◌, Some, subst, ◌∙◌, inl, inr, arith}
+use Rattle.std.proofs.Common.{◌≡◌, ◌<◌, ◌-◌, ℕ, ℤ, true, false, List, [], ◌++◌, Some, subst, ◌∙◌, inl, inr, arith}
 use Rattle.std.proofs.lemmas.Bool.{false≢true}
 use Rattle.std.specs.Prelude.{slice_get, ◌↔◌}
 use Rattle.roc_sequence.specs.Lists.{Has}
@@ -24,7 +24,8 @@ use Rattle.roc_protocol.specs.PlanAssumptions.{HasSchemesFrom}
 use Rattle.roc_protocol.specs.Beginnings.{Beginning, IsBeginning}
 use Rattle.roc_protocol.specs.World.{World, mark_delivered}
 use Rattle.roc_protocol.specs.Happens.{Outcome, IsReceived, Happens}
-use Rattle.roc_protocol.specs.Run.{Stepped, IsRunFrom}
+use Rattle.roc_protocol.specs.Run.{Stepped}
+use Rattle.roc_protocol.specs.Beside.{IsRunBeside}
 use Rattle.roc_protocol.specs.Forgotten.{IsSettledIn, IsFirstTaken, IsLastTaken}
 use Rattle.roc_protocol.specs.Inner.Given.{LogLaws, StoreLaws}
 use Rattle.roc_protocol.proofs.Facts.{known_has}
@@ -32,14 +33,16 @@ use Rattle.roc_protocol.proofs.Hears.{has_known}
 use Rattle.roc_protocol.proofs.Networks.{Good, one_union}
 use Rattle.roc_protocol.proofs.Finals.{networked}
 use Rattle.roc_protocol.proofs.Earlier.{taken_ordered}
+use Rattle.roc_protocol.proofs.Answered.{IsUsedAside, other_aside}
 use Rattle.roc_protocol.proofs.FirstTaken.{last_step}
 use Rattle.roc_protocol.proofs.WhatIsOver.{decided_is_kept, over_is_gone, fetch_is_answered, done_is_settled, sent_settled}
-use Rattle.roc_protocol.proofs.Idle.{run_idle}
+use Rattle.roc_protocol.proofs.Idle.{run_idle, idle_mark}
 use Rattle.roc_protocol.proofs.Serial as serial
 use Rattle.roc_protocol.proofs.Transactions.{transaction_or_none, HasTransaction, NoTransaction}
+use Rattle.roc_protocol.proofs.Marks.{IsMark}
 
 module _ (plan : Plan) (start : Beginning) (begins : IsBeginning plan start) (schemes : HasSchemesFrom plan start.store) (laws : (S : Scheme) → IsSoundScheme S → LogLaws S start.store)
-    (stores : StoreLaws) (coords : ℕ) (steps : List Stepped) (w : World) (run : IsRunFrom plan start coords steps w) where
+    (stores : StoreLaws) (coords : ℕ) (steps : List Stepped) (w : World) (run : IsRunBeside plan start coords steps w) where
   -- where the plan has no transaction, nothing was taken
   none_taken : NoTransaction plan → (shard : Shard) (t : TxnId) (c : List TxnId) → ¬ IsLastTaken steps shard t c
   none_taken none shard t c l =
@@ -53,7 +56,7 @@ module _ (plan : Plan) (start : Beginning) (begins : IsBeginning plan start) (sc
           (let x = serial.logged plan start begins schemes laws stores coords steps w run some in
           decided_is_kept plan (serial.asked plan start begins schemes laws stores coords steps w run some) (serial.S plan start begins schemes laws stores coords steps w run some) start x.0 w x.1.means steps x.3 shard s there t)
       | inr none ↦ (
-        λ d. absurd (let k : IsDecided [] t = subst (λ l. IsDecided l t) ((run_idle plan none start begins coords steps w run).links shard.0 s there) d in false≢true k.own),
+        λ d. absurd (let k : IsDecided [] t = subst (λ l. IsDecided l t) ((run_idle plan none start begins coords steps w run).servers shard.0 s there).links d in false≢true k.own),
         λ (c, l, e). absurd (none_taken none shard t c l),
       )
     ]
@@ -77,13 +80,13 @@ module _ (plan : Plan) (start : Beginning) (begins : IsBeginning plan start) (sc
               let same = same_there w.sent (k - 1) b m found at in
               fetch_is_answered plan (serial.asked plan start begins schemes laws stores coords steps w run some) (serial.S plan start begins schemes laws stores coords steps w run some) start x.0 w x.1.means steps x.3 shard s there m t asker k o more has to is
               (subst (λ (m : Envelope). IsReceived plan (mark_delivered w k) m.msg m.to o) same h) on)
-          | inr none ↦ absurd (subst (Has m) (run_idle plan none start begins coords steps w run).sent has)
+          | inr none ↦ absurd (subst IsMark is (idle_mark plan start w (run_idle plan none start begins coords steps w run) m has))
         ]
 
     pub done : (k : KnownList) (d : Dependency) → Has k s.lists.known → Has d k.edges → ¬ Has d (entries_of s.lists.links k.of) → IsSettledIn w d.from
     done k d has h none = elim (transaction_or_none plan) [
       | inl some ↦ followed some
-      | inr idle ↦ absurd (subst (Has k) ((run_idle plan idle start begins coords steps w run).known shard.0 s there) has)
+      | inr idle ↦ absurd (subst (Has k) ((run_idle plan idle start begins coords steps w run).servers shard.0 s there).known has)
     ]
       where
         -- a known list is the one that is found
@@ -101,10 +104,11 @@ module _ (plan : Plan) (start : Beginning) (begins : IsBeginning plan start) (sc
             (q.3 ∙ one_union plan asked S start scheme l w x.0 x.1 nw k.of q.0.edges k.edges p ((nw.servers shard.0 s there).known k has)) h none
 
   pub sent : (m : Envelope) (t : TxnId) (mark : ℕ) → Has m w.sent → m.msg ≡ Settled t mark
-      → IsSettledIn w t × ((seq : ℕ) → start.nexts t.coord ≤ seq → seq < mark → (reply : List ℤ) × WasAnswered w.history (record { coord = t.coord; seq = seq }) reply)
+      → IsSettledIn w t × ((seq : ℕ) → ¬ IsUsedAside start w (record { coord = t.coord; seq = seq }) → seq < mark → (reply : List ℤ) × WasAnswered w.history (record { coord = t.coord; seq = seq }) reply)
   sent m t mark has is = elim (transaction_or_none plan) [
     | inl some ↦
         (let x = serial.logged plan start begins schemes laws stores coords steps w run some in
-        sent_settled plan (serial.asked plan start begins schemes laws stores coords steps w run some) (serial.S plan start begins schemes laws stores coords steps w run some) start x.0 w x.1.means m t mark has is)
-    | inr none ↦ absurd (subst (Has m) (run_idle plan none start begins coords steps w run).sent has)
+        let k = sent_settled plan (serial.asked plan start begins schemes laws stores coords steps w run some) (serial.S plan start begins schemes laws stores coords steps w run some) start x.0 w x.1.means m t mark has is in
+        (k.0, λ seq own. k.1 seq (λ other. own (other_aside plan start begins schemes laws stores coords steps w run some (record { coord = t.coord; seq = seq }) other))))
+    | inr none ↦ absurd (subst IsMark is (idle_mark plan start w (run_idle plan none start begins coords steps w run) m has))
   ]

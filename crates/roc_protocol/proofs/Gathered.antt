@@ -11,7 +11,7 @@ use Rattle.roc_base.specs.Equalities.{is_txn-true}
 use Rattle.roc_base.specs.Edge.{Dependency}
 use Rattle.roc_depgraph.specs.declared.known.KnownList.{KnownList}
 use Rattle.roc_msg.specs.declared.msg.Msg.{Msg}
-use Rattle.roc_msg.specs.declared.msg.Msg.TheVariants.{Start, StartOk, Commit, CommitOk, Ended}
+use Rattle.roc_msg.specs.declared.msg.Msg.TheVariants.{Start, StartOk, Commit, CommitOk, Ended, ReadOk}
 use Rattle.roc_msg.specs.declared.outbox.Outgoing.{Outgoing}
 use Rattle.roc_msg.specs.declared.reason.Reason.{Reason}
 use Rattle.roc_plan.specs.Groups.{Plan}
@@ -22,7 +22,8 @@ use Rattle.roc_coord.specs.State.{find_transaction, with_transaction, has_commit
 use Rattle.roc_coord.specs.Starts.{group_numbers, ready_groups, start_for, with_starts, starts_of, all_started, all_edges, gathered, shards_of, commit_to, commits_of}
 use Rattle.roc_coord.specs.Step.{unless_refused, with_commits, commits_for, with_startok, sends_after, startok_taken, startok_refusal, after_startok, with_commitok, reply_now, commitok_taken, commitok_refusal, after_commitok, after_message, without_transaction}
 use Rattle.roc_coord.specs.Submit.{next_id, new_transaction, accepted}
-use Rattle.roc_coord.specs.Tick.{awaits_startok, starts_again, commits_again, sent_again, tick_sends}
+use Rattle.roc_coord.specs.Tick.{awaits_startok, starts_again, commits_again, sent_again}
+use Rattle.roc_protocol.specs.Aside.{transaction_tick_sends}
 use Rattle.roc_protocol.specs.Final.{lists_in}
 use Rattle.roc_protocol.proofs.Coordinators.{from_gathered}
 use Rattle.roc_protocol.proofs.Facts.{has_fitting}
@@ -53,6 +54,14 @@ module _ (plan : Plan) (Good : TxnId → List Dependency → Type 0) (Told : Txn
 
     same : (outs : List Outgoing) → ((out : Outgoing) → Has out outs → AllGood (lists_in out.msg) × IsRound out.msg) → KeepsGathered s outs
     same outs sends = record { pending = old; sends = sends }
+
+    -- where its transactions stay, and watermarks alone are sent
+    pub aside_gathered : (after : CoordState) → after.pending ≡ s.pending → (outs : List Outgoing) → ((out : Outgoing) → Has out outs → IsMarkOf plan after out) → KeepsGathered after outs
+    aside_gathered after e outs marks =
+        record {
+          pending = λ x h. old x (subst (λ l. Has x l) e h);
+          sends = λ out h. subst (λ (out : Outgoing). AllGood (lists_in out.msg) × IsRound out.msg) (sym (marks out h).is) (λ k j. absurd j, tt);
+        }
 
     ignores : KeepsGathered s []
     ignores = same [] (λ out h. absurd h)
@@ -106,7 +115,7 @@ module _ (plan : Plan) (Good : TxnId → List Dependency → Type 0) (Told : Txn
     told_carry : {after : CoordState} {out : Outgoing} → IsMarkOf plan after out → AllGood (lists_in out.msg) × IsRound out.msg
     told_carry q = subst (λ (out : Outgoing). AllGood (lists_in out.msg) × IsRound out.msg) (sym q.is) (λ k j. absurd j, tt)
 
-    startok_gathered : (ok : TakenStart) (shard : Shard) (id : TxnId) → Told id ok → (x : Option Transaction) → find_transaction id s.pending ≡ x → After (after_startok plan s x ok shard)
+    startok_gathered : (ok : TakenStart) (shard : Shard) (id : TxnId) → Told id ok → (x : Option Transaction) → find_transaction id s.pending ≡ x → After (after_startok plan s id x ok shard)
     startok_gathered ok shard id t None e = ignores
     startok_gathered ok shard id t (Some x) e = refused (startok_refusal plan x ok shard)
       where
@@ -126,7 +135,7 @@ module _ (plan : Plan) (Good : TxnId → List Dependency → Type 0) (Told : Txn
         refused (Some why) = ignores
         refused None = round (with_startok x ok) gathered_now
 
-    commitok_gathered : (ok : TakenCommit) (id : TxnId) → (x : Option Transaction) → find_transaction id s.pending ≡ x → After (after_commitok plan s x ok)
+    commitok_gathered : (ok : TakenCommit) (id : TxnId) → (x : Option Transaction) → find_transaction id s.pending ≡ x → After (after_commitok plan s id x ok)
     commitok_gathered ok id None e = ignores
     commitok_gathered ok id (Some x) e = refused (commitok_refusal plan x ok) (reply_now plan (with_commitok x ok))
       where
@@ -141,15 +150,17 @@ module _ (plan : Plan) (Good : TxnId → List Dependency → Type 0) (Told : Txn
     -- what a startok that comes tells
     abbrev pub Tells : Msg → Type 0
     Tells (StartOk id group shard bound outs edges facts) = Told id (record { group = group; bound = bound; outs = outs; edges = edges; facts = facts })
+    Tells (ReadOk id round group shard versions outs) = ⊥
     Tells msg = Unit {0}
 
     pub message_gathered : (msg : Msg) → Tells msg → After (after_message plan s msg)
     message_gathered (StartOk id group shard bound outs edges facts) t = startok_gathered (record { group = group; bound = bound; outs = outs; edges = edges; facts = facts }) shard id t (find_transaction id s.pending) refl
     message_gathered (CommitOk id shard outs) t = commitok_gathered (record { shard = shard; outs = outs }) id (find_transaction id s.pending) refl
+    message_gathered (ReadOk id round group shard versions outs) t = absurd t
     message_gathered msg t = ignores
 
-    pub tick_gathered : KeepsGathered s (tick_sends plan s)
-    tick_gathered = same (tick_sends plan s) (λ out h. elim (has_append out (flat_map (sent_again plan) s.pending) (ended_sends plan s) h) [
+    pub tick_gathered : KeepsGathered s (transaction_tick_sends plan s)
+    tick_gathered = same (transaction_tick_sends plan s) (λ out h. elim (has_append out (flat_map (sent_again plan) s.pending) (ended_sends plan s) h) [
       | inl k ↦ (let q = from_has_flat_map (sent_again plan) out s.pending k in again q.0 (old q.0 q.1) out (all_started plan q.0) refl q.2)
       | inr k ↦ told_carry (mark_sent plan s out k)
     ])

@@ -12,7 +12,7 @@ use Rattle.roc_server.specs.State.{is_here, Lists, ServerState, hearing}
 use Rattle.roc_server.specs.Below.{is_ended}
 use Rattle.roc_server.specs.Forgets.{without}
 use Rattle.roc_server.specs.Runs.{take_all}
-use Rattle.roc_protocol.proofs.Marks.{ended_still}
+use Rattle.roc_server.proofs.Raised.{ended_still}
 use Rattle.roc_protocol.proofs.OneGroupMore.{here_cases}
 use Rattle.roc_protocol.proofs.KeptGroups.{take_keeps, take_same, same_here}
 

@@ -241,6 +241,8 @@ module _ (plan : Plan) (asked : TxnId → whole.Call) (S : Scheme) (start : Begi
   coord_grows s o =
       record {
         pending = λ x h. txn_grows x (o.pending x h);
+        unanswered = o.unanswered;
+        views = o.views;
         all = λ q l. elim (o.all q l) [ inl p ↦ inl p | inr k ↦ inr (past_grows (record { coord = s.number; seq = q }) k) ];
         onward = o.onward;
       }

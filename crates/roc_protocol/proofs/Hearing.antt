@@ -20,9 +20,9 @@ use Rattle.roc_server.specs.State.{answered, ServerState, ServerStep}
 use Rattle.roc_server.specs.Step as server
 use Rattle.roc_coord.specs.Step.{after_message}
 use Rattle.roc_coord.specs.Submit.{next_id, new_transaction, accepted}
-use Rattle.roc_coord.specs.Tick as coord
 use Rattle.roc_audit.specs.declared.entry.Entry.TheVariants.{Submitted}
 use Rattle.roc_server_lists.proofs.SameIds.{ids_of}
+use Rattle.roc_protocol.specs.Aside.{transaction_tick_sends}
 use Rattle.roc_protocol.specs.declared.event.Event.{Event}
 use Rattle.roc_protocol.specs.declared.event.Event.TheVariants.{Submit, Deliver, Tick}
 use Rattle.roc_protocol.specs.declared.event.Seen.TheVariants as seen
@@ -30,12 +30,13 @@ use Rattle.roc_protocol.specs.PlanAssumptions.{HasSchemesFrom}
 use Rattle.roc_protocol.specs.Beginnings.{Beginning, IsBeginning, begun_server}
 use Rattle.roc_protocol.specs.World.{World, sent_by, mark_delivered, at_server, at_coord}
 use Rattle.roc_protocol.specs.Happens.{Outcome, server_seen, answer_entries, IsReceived, Happens}
-use Rattle.roc_protocol.specs.Run.{Stepped, Transition, IsRunFrom, at_beginning, steps_on}
+use Rattle.roc_protocol.specs.Run.{Stepped}
+use Rattle.roc_protocol.specs.Beside.{Moves, IsRunBeside, beside_begins, beside_goes_on}
 use Rattle.roc_protocol.specs.Quiet.{WasDelivered}
 use Rattle.roc_protocol.specs.Inner.Given.{LogLaws, StoreLaws}
 use Rattle.roc_protocol.proofs.Changed.{get-front, get-set_cases}
 use Rattle.roc_protocol.proofs.Carried.{StartsHere, KeepsGood, message_good, tick_good}
-use Rattle.roc_protocol.proofs.Fetches.{HasAsked}
+use Rattle.roc_protocol.proofs.Fetches.{HasAsked, fetched_none, IsAskedFor}
 use Rattle.roc_protocol.proofs.AskedFor.{message_round, tick_round, submission_round, run_asked}
 use Rattle.roc_protocol.proofs.Gathered.{IsRound}
 use Rattle.roc_protocol.proofs.Firsts.{found_at}
@@ -50,6 +51,7 @@ use Rattle.roc_protocol.proofs.Transactions.{transaction_or_none}
 use Rattle.roc_protocol.proofs.Takes.{EndsIt, nothing_changes, message_result}
 use Rattle.roc_protocol.proofs.Undelivered.{delivered_before, delivered_or_comes}
 use Rattle.roc_protocol.proofs.Delivered.{IsStartedIn, IsTaken, EndsWaiting, Awaits, IsMarked, Heard, later_sends, awaits_more, heard_next, heard_comes, heard_weaker, later_served, marked_now, taken_now, ends_now, awaits_after}
+use Rattle.roc_protocol.proofs.KeptAside.{kept_aside}
 
 -- the message at place k of the network was delivered
 abbrev pub HasCome : World → ℕ → Type 0
@@ -159,14 +161,20 @@ module _ (plan : Plan) (marks : ℕ) (w : World) (ha : HasAsked w) (takes : (k :
       let v2 = at_coord (mark_delivered w k) n a.state a.sends (answer_entries a.answer) in
       let sent = w.sent ++ map (sent_by (Coord n)) a.sends in
       subst (λ (v : Outcome). HasHeard marks v.world) (sym e)
-      (heard_comes marks w.servers sent (HasCome w) (HasCome v2) (k - 1) b (coordinated_heard marks w o n a.sends (message_round plan s b.msg))
+      (heard_comes marks w.servers sent (HasCome w) (HasCome v2) (k - 1) b (coordinated_heard marks w o n a.sends (message_round plan s b.msg (fetched_none (IsAskedFor w.servers) b.msg b.to (ha.sent b (has_at w.sent (k - 1) b there)))))
       (λ j c. came_or_comes w k some j (came_before (mark_delivered w k) (Coord n) a.sends v2 refl refl j c))
       (get-front w.sent (map (sent_by (Coord n)) a.sends) (k - 1) b there)
       (subst (IsTaken w.servers sent (k - 1) b.msg) (sym to) (coord_takes w.servers sent (k - 1) b.msg n))
       (coord_ends w.servers b n to))
 
-  step_heard : (e : Option Event) (v : Outcome) → Transition plan w e v → HasHeard marks v.world
-  step_heard None v h = subst (λ (v : Outcome). HasHeard marks v.world) (sym h) o
+  step_heard : (e : Option Event) (v : Outcome) → Moves plan w e v → HasHeard marks v.world
+  step_heard None v (inl h) = subst (λ (v : Outcome). HasHeard marks v.world) (sym h) o
+  step_heard None v (inr x) =
+      let k = kept_aside plan x.before x.after x.sends x.does in
+      let v2 = at_coord w x.number x.after x.sends [] in
+      subst (λ (v : Outcome). HasHeard marks v.world) (sym x.is)
+      (heard_weaker marks w.servers (w.sent ++ map (sent_by (Coord x.number)) x.sends) (HasCome w) (HasCome v2)
+      (coordinated_heard marks w o x.number x.sends (λ out h. subst (λ (out : Outgoing). IsRound out.msg) (sym (k.marks out h).is) tt)) (came_before w (Coord x.number) x.sends v2 refl refl))
   step_heard (Some (Submit n proc args)) v (s, there, h) = go (submitting plan w n proc args s v h)
     where
       go : Submitting plan w n proc args s v → HasHeard marks v.world
@@ -184,22 +192,22 @@ module _ (plan : Plan) (marks : ℕ) (w : World) (ha : HasAsked w) (takes : (k :
       (heard_weaker marks (slice_set w.servers shard.0 r.state) (w.sent ++ map (sent_by (Server shard)) r.sends) (HasCome w) (HasCome v2)
       (served_heard plan marks w o shard.0 s there (ha.numbers shard.0 s there) r (nothing_changes plan s (server.tick_sends s)) g) (came_before w (Server shard) r.sends v2 refl refl))
   step_heard (Some (Tick (Coord n))) v (s, there, e) =
-      let outs = coord.tick_sends plan s in
+      let outs = transaction_tick_sends plan s in
       let v2 = at_coord w n s outs [] in
       subst (λ (v : Outcome). HasHeard marks v.world) (sym e) (heard_weaker marks w.servers (w.sent ++ map (sent_by (Coord n)) outs) (HasCome w) (HasCome v2) (coordinated_heard marks w o n outs (tick_round plan s)) (came_before w (Coord n) outs v2 refl refl))
 
 -- what is kept as taken is decided
-kept_there : (plan : Plan) (start : Beginning) → IsBeginning plan start → HasSchemesFrom plan start.store → ((S : Scheme) → IsSoundScheme S → LogLaws S start.store) → StoreLaws → (coords : ℕ) (steps : List Stepped) (w : World) → IsRunFrom plan start coords steps w
+kept_there : (plan : Plan) (start : Beginning) → IsBeginning plan start → HasSchemesFrom plan start.store → ((S : Scheme) → IsSoundScheme S → LogLaws S start.store) → StoreLaws → (coords : ℕ) (steps : List Stepped) (w : World) → IsRunBeside plan start coords steps w
     → (m : Envelope) → Has m w.sent → (n : ℕ) (s : ServerState) → slice_get w.servers n ≡ Some s → AreKept s
 kept_there plan start begins schemes laws stores coords steps w run m has n s there = elim (transaction_or_none plan) [
   | inl some ↦ ((serial.logged plan start begins schemes laws stores coords steps w run some).1.means.servers n s there).taken.decided
-  | inr none ↦ absurd (subst (Has m) (run_idle plan none start begins coords steps w run).sent has)
+  | inr none ↦ λ c t h. absurd (subst (Has c) ((run_idle plan none start begins coords steps w run).servers n s there).taken h)
 ]
 
 -- so it is in every world of every run, where each server keeps as many watermarks as the others
 pub run_heard : (plan : Plan) (start : Beginning) → IsBeginning plan start → HasSchemesFrom plan start.store → ((S : Scheme) → IsSoundScheme S → LogLaws S start.store) → StoreLaws → (marks : ℕ) → ((n : ℕ) → length (start.below n) ≡ marks)
-    → (coords : ℕ) (steps : List Stepped) (w : World) → IsRunFrom plan start coords steps w → HasHeard marks w
-run_heard plan start begins schemes laws stores marks many coords steps w at_beginning =
+    → (coords : ℕ) (steps : List Stepped) (w : World) → IsRunBeside plan start coords steps w → HasHeard marks w
+run_heard plan start begins schemes laws stores marks many coords steps w beside_begins =
     record {
       keeps = λ n s h. ap (λ (s : ServerState). length s.below) (found_at (begun_server start) 0 plan.program.shards n s h) ∙ many (0 + n);
       marked = λ m h. absurd h;
@@ -221,5 +229,5 @@ run_heard plan start begins schemes laws stores marks many coords steps w at_beg
   where
     nothing : (k : ℕ) (m : Envelope) → slice_get [] k ≡ Some m → ⊥
     nothing k m e = cc
-run_heard plan start begins schemes laws stores marks many coords steps w (steps_on {w = v} e o r h) =
+run_heard plan start begins schemes laws stores marks many coords steps w (beside_goes_on {w = v} e o r h) =
     step_heard plan marks v (run_asked plan start coords _ v r) (server_takes plan start begins schemes laws stores coords _ v r) (kept_there plan start begins schemes laws stores coords _ v r) (run_heard plan start begins schemes laws stores marks many coords _ v r) e o h

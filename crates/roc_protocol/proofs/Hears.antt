@@ -93,11 +93,11 @@ AreKept v = (c : List TxnId) (t : TxnId) → Has c v.lists.taken → Has t c →
 
 pub record Hears (s : ServerState) (r : ServerStep) : Type 0 where
   pub known : (t : TxnId) → IsKnown s.lists.known t → IsKnown r.state.lists.known t ⊎ IsGone r.state t
-  -- what is decided now and has a group here is told of, or was decided
+  -- what is decided behind the step and has a group here is told of, or was decided
   pub says : (t : TxnId) → is_here t s.started ≡ true → IsDecided r.state.lists.links t → IsDecided s.lists.links t ⊎ IsSaid r.sends s.shard t
   -- who asked is answered, or asks still
   pub askers : (a : Asker) → Has a s.lists.waiting.askers → IsAnswered r.sends a ⊎ Has a r.state.lists.waiting.askers
-  -- what is asked for was, and its list is known where it was; or it is asked for now
+  -- what is asked for was, and its list is known where it was; or its fetch is sent
   pub asked : (a : OpenFetch) → Has a r.state.lists.waiting.asked → (Has a s.lists.waiting.asked × (IsKnown s.lists.known a.id → IsKnown r.state.lists.known a.id)) ⊎ Has (fetch_from s.shard a) r.sends
   pub waits : AreWaiting s → AreWaiting r.state
   pub seeks : SeeksAll s → SeeksAll r.state

@@ -10,7 +10,7 @@ use Rattle.roc_base.specs.declared.node.Shard.{Shard}
 use Rattle.roc_base.specs.TxnId.{is_txn}
 use Rattle.roc_base.proofs.Ids.{is_txn-eq}
 use Rattle.roc_msg.specs.declared.msg.Msg.{Msg}
-use Rattle.roc_msg.specs.declared.msg.Msg.TheVariants.{StartOk, CommitOk}
+use Rattle.roc_msg.specs.declared.msg.Msg.TheVariants.{StartOk, CommitOk, ReadOk}
 use Rattle.roc_msg.specs.declared.reason.Reason.{Reason}
 use Rattle.roc_plan.specs.Groups.{Plan}
 use Rattle.roc_coord.specs.declared.transaction.Transaction.{Transaction}
@@ -20,6 +20,7 @@ use Rattle.roc_coord.specs.State.{find_transaction, with_transaction, find_start
 use Rattle.roc_coord.specs.Starts.{group_numbers, ready_groups, shard_for, sent_start, with_starts, all_started, shards_of}
 use Rattle.roc_coord.specs.Step.{unless_refused, with_commits, with_startok, startok_taken, startok_refusal, after_startok, with_commitok, reply_now, without_transaction, commitok_taken, commitok_refusal, after_commitok, after_message}
 use Rattle.roc_coord.specs.Submit.{next_id, new_transaction, accepted}
+use Rattle.roc_protocol.proofs.Submissions.{readok_pending}
 
 -- ---- a transaction goes on
 
@@ -35,8 +36,14 @@ pub record Advances (plan : Plan) (s after : CoordState) : Type 0 where
   pub once : (y z : Transaction) → Has y after.pending → Has z after.pending → y.id ≡ z.id → y ≡ z
 
 module _ (plan : Plan) (s : CoordState) (once : (y z : Transaction) → Has y s.pending → Has z s.pending → y.id ≡ z.id → y ≡ z) where
+  -- where its transactions stay
+  pub stays_aside : (after : CoordState) → after.pending ≡ s.pending → Advances plan s after
+  stays_aside after e =
+      let old = λ (y : Transaction) (h : Has y after.pending). subst (λ l. Has y l) e h in
+      record { from = λ y h. inl (y, old y h, record { id = refl; asked = λ g s k. k; whole = λ a b. (a, b) }); once = λ y z h k. once y z (old y h) (old z k) }
+
   pub stays : Advances plan s s
-  stays = record { from = λ y h. inl (y, h, record { id = refl; asked = λ g s k. k; whole = λ a b. (a, b) }); once = once }
+  stays = stays_aside s refl
 
   pub with_cases : (x z : Transaction) → Has z (with_transaction s x).pending → (z ≡ x) ⊎ (Has z s.pending × (z.id ≢ x.id))
   with_cases x z h = let q = from_has_map (λ (y : Transaction). if is_txn y.id x.id then x else y) z s.pending h in go q.0 q.1 (is_txn q.0.id x.id) refl q.2
@@ -117,7 +124,7 @@ module _ (plan : Plan) (s : CoordState) (once : (y z : Transaction) → Has y s.
   pub message_advances : (msg : Msg) → Advances plan s (after_message plan s msg).state
   message_advances (StartOk id group shard bound outs edges facts) = go (find_transaction id s.pending) refl
     where
-      go : (x : Option Transaction) → find_transaction id s.pending ≡ x → Advances plan s (after_startok plan s x (record { group = group; bound = bound; outs = outs; edges = edges; facts = facts }) shard).state
+      go : (x : Option Transaction) → find_transaction id s.pending ≡ x → Advances plan s (after_startok plan s id x (record { group = group; bound = bound; outs = outs; edges = edges; facts = facts }) shard).state
       go None e = stays plan s once
       go (Some x) e = refused (startok_refusal plan x (record { group = group; bound = bound; outs = outs; edges = edges; facts = facts }) shard)
         where
@@ -126,7 +133,7 @@ module _ (plan : Plan) (s : CoordState) (once : (y z : Transaction) → Has y s.
           refused None = changes plan s once x (with_commits plan (with_starts plan (with_startok x (record { group = group; bound = bound; outs = outs; edges = edges; facts = facts })))) (found_has (λ (x : Transaction). is_txn x.id id) s.pending x e).0 (startok_goes_on plan x (record { group = group; bound = bound; outs = outs; edges = edges; facts = facts }))
   message_advances (CommitOk id shard outs) = go (find_transaction id s.pending) refl
     where
-      go : (x : Option Transaction) → find_transaction id s.pending ≡ x → Advances plan s (after_commitok plan s x (record { shard = shard; outs = outs })).state
+      go : (x : Option Transaction) → find_transaction id s.pending ≡ x → Advances plan s (after_commitok plan s id x (record { shard = shard; outs = outs })).state
       go None e = stays plan s once
       go (Some x) e = refused (commitok_refusal plan x (record { shard = shard; outs = outs })) (reply_now plan (with_commitok x (record { shard = shard; outs = outs })))
         where
@@ -136,6 +143,7 @@ module _ (plan : Plan) (s : CoordState) (once : (y z : Transaction) → Has y s.
           refused None (Some reply) =
               let old = λ (z : Transaction) (h : Has z (without_transaction s x.id).pending). (from_has_filter (λ (z : Transaction). not (is_txn z.id x.id)) z s.pending h).0 in
               record { from = λ y h. inl (y, old y h, record { id = refl; asked = λ g s k. k; whole = λ a b. (a, b) }); once = λ y z h k e. once y z (old y h) (old z k) e }
+  message_advances (ReadOk id round group shard versions outs) = stays_aside plan s once (after_message plan s (ReadOk id round group shard versions outs)).state (readok_pending plan s id round group shard versions outs)
   message_advances msg = stays plan s once
 
   pub submission_advances : (proc : ℕ) (args : List ℤ) → ((x : Transaction) → Has x s.pending → x.id ≢ next_id s) → Advances plan s (accepted plan s (new_transaction s proc args)).state

@@ -11,7 +11,7 @@ use Rattle.roc_plan.specs.Groups.{Plan}
 use Rattle.roc_server.specs.Runs.{take_all}
 use Rattle.roc_server.specs.State.{is_here, hearing, Lists, ServerState}
 use Rattle.roc_protocol.proofs.Gone.{IsGone, gone_hears, gone_taught}
-use Rattle.roc_protocol.proofs.Marks.{ended_still}
+use Rattle.roc_server.proofs.Raised.{ended_still}
 use Rattle.roc_protocol.proofs.KeptGroups.{take_keeps, take_same}
 use Rattle.roc_protocol.proofs.ForgottenHere.{forgotten, forgets, over_of, gone_still, gone_now, here_kept}
 

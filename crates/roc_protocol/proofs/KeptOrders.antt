@@ -13,8 +13,8 @@ use Rattle.roc_plan.specs.Groups.{Plan}
 use Rattle.roc_law_log.specs.Scheme.{Scheme, IsSoundScheme}
 use Rattle.roc_law_log.specs.Kept.{KeepsRan}
 use Rattle.roc_server.specs.State.{ServerState}
-use Rattle.roc_coord.specs.Submit.{after_submit}
 use Rattle.roc_audit.specs.History.{WasAnswered, IsAnsweredBefore}
+use Rattle.roc_protocol.specs.Aside.{after_transaction}
 use Rattle.roc_protocol.specs.WitnessFrom.{serial_reply_from, IsSerialWitnessFrom}
 use Rattle.roc_protocol.specs.declared.event.Event.{Event}
 use Rattle.roc_protocol.specs.declared.event.Event.TheVariants.{Submit, Deliver, Tick}
@@ -22,12 +22,13 @@ use Rattle.roc_protocol.specs.PlanAssumptions.{HasSchemesFrom}
 use Rattle.roc_protocol.specs.Beginnings.{Beginning, IsBeginning}
 use Rattle.roc_protocol.specs.World.{World, mark_delivered}
 use Rattle.roc_protocol.specs.Happens.{RanAt, ran_at, Outcome, IsReceived}
-use Rattle.roc_protocol.specs.Run.{Stepped, Transition, IsRunFrom, at_beginning, steps_on}
+use Rattle.roc_protocol.specs.Run.{Stepped}
+use Rattle.roc_protocol.specs.Beside.{Moves, IsRunBeside, beside_begins, beside_goes_on}
 use Rattle.roc_protocol.specs.Kept.{ran_in, KeepsWhatRan}
 use Rattle.roc_protocol.specs.Inner.Given.{LogLaws, SerialLaws, StoreLaws}
 use Rattle.roc_protocol.proofs.Changed.{get-set_here, get-set_other}
 use Rattle.roc_protocol.proofs.Idle.{run_idle}
-use Rattle.roc_protocol.proofs.Worlds.{Submitting, is_refused, is_accepted, submitting}
+use Rattle.roc_protocol.proofs.Worlds.{Submitting, is_refused, is_accepted, submitting, ordered_submitted}
 use Rattle.roc_protocol.proofs.TakesOn.{submission_none}
 use Rattle.roc_protocol.proofs.Witness.{ran_more, replies}
 use Rattle.roc_protocol.proofs.WhatRan.{from_log, to_log}
@@ -45,8 +46,9 @@ set_there xs at n a b c e h = elim (cases_eq at n) [
   | inr other ↦ (c, get-set_other xs at n b other ∙ h)
 ]
 
-server_stays : (plan : Plan) (w : World) (e : Option Event) (o : Outcome) → Transition plan w e o → (n : ℕ) → HasServer w n → HasServer o.world n
-server_stays plan w None o c n h = subst (λ (o : Outcome). HasServer o.world n) (sym c) h
+server_stays : (plan : Plan) (w : World) (e : Option Event) (o : Outcome) → Moves plan w e o → (n : ℕ) → HasServer w n → HasServer o.world n
+server_stays plan w None o (inl c) n h = subst (λ (o : Outcome). HasServer o.world n) (sym c) h
+server_stays plan w None o (inr x) n h = subst (λ (o : Outcome). HasServer o.world n) (sym x.is) h
 server_stays plan w (Some (Submit k proc args)) o (s, there, c) n h = go (submitting plan w k proc args s o c)
   where
     go : Submitting plan w k proc args s o → HasServer o.world n
@@ -60,10 +62,11 @@ server_stays plan w (Some (Deliver k)) o (m, some, there, c) n h = go m.to c
 server_stays plan w (Some (Tick (Server shard))) o (s, there, e) n h = subst (λ (o : Outcome). HasServer o.world n) (sym e) (set_there w.servers shard.0 n s s h.0 there h.1)
 server_stays plan w (Some (Tick (Coord k))) o (s, there, e) n h = subst (λ (o : Outcome). HasServer o.world n) (sym e) h
 
-ran_here : (plan : Plan) (w : World) (e : Option Event) (o : Outcome) → Transition plan w e o → (q : RanAt) → Has q o.ran → HasServer w q.shard
-ran_here plan w None o c q h = absurd (subst (λ (o : Outcome). Has q o.ran) c h)
+ran_here : (plan : Plan) (w : World) (e : Option Event) (o : Outcome) → Moves plan w e o → (q : RanAt) → Has q o.ran → HasServer w q.shard
+ran_here plan w None o (inl c) q h = absurd (subst (λ (o : Outcome). Has q o.ran) c h)
+ran_here plan w None o (inr x) q h = absurd (subst (λ (o : Outcome). Has q o.ran) x.is h)
 ran_here plan w (Some (Submit k proc args)) o (s, there, c) q h =
-    absurd (subst (Has q) ((submission_none w k proc args (after_submit plan s proc args).state (after_submit plan s proc args).sends (after_submit plan s proc args).answer o c).0) h)
+    absurd (subst (Has q) ((submission_none w k proc args (after_transaction plan s proc args).state (after_transaction plan s proc args).sends (after_transaction plan s proc args).answer o c).0) h)
 ran_here plan w (Some (Deliver k)) o (m, some, there, c) q h = go m.to c
   where
     go : (to : Node) → IsReceived plan (mark_delivered w k) m.msg to o → HasServer w q.shard
@@ -74,9 +77,9 @@ ran_here plan w (Some (Deliver k)) o (m, some, there, c) q h = go m.to c
 ran_here plan w (Some (Tick (Server shard))) o (s, there, e) q h = absurd (subst (λ (o : Outcome). Has q o.ran) e h)
 ran_here plan w (Some (Tick (Coord k))) o (s, there, e) q h = absurd (subst (λ (o : Outcome). Has q o.ran) e h)
 
-ran_there : (plan : Plan) (start : Beginning) (coords : ℕ) (steps : List Stepped) (w : World) → IsRunFrom plan start coords steps w → (q : RanAt) → Has q (ran_in steps) → HasServer w q.shard
-ran_there plan start coords steps w at_beginning q h = absurd h
-ran_there plan start coords steps w (steps_on {steps = front} {w = v} e o r c) q h =
+ran_there : (plan : Plan) (start : Beginning) (coords : ℕ) (steps : List Stepped) (w : World) → IsRunBeside plan start coords steps w → (q : RanAt) → Has q (ran_in steps) → HasServer w q.shard
+ran_there plan start coords steps w beside_begins q h = absurd h
+ran_there plan start coords steps w (beside_goes_on {steps = front} {w = v} e o r c) q h =
     elim (has_append q (ran_in front) o.ran (subst (Has q) (ran_more front (record { event = e; outcome = o })) h)) [
       | inl k ↦ server_stays plan v e o c q.shard (ran_there plan start coords front v r q k)
       | inr k ↦ server_stays plan v e o c q.shard (ran_here plan v e o c q k)
@@ -84,7 +87,7 @@ ran_there plan start coords steps w (steps_on {steps = front} {w = v} e o r c) q
 
 -- ---- orders
 
-module _ (plan : Plan) (start : Beginning) (begins : IsBeginning plan start) (schemes : HasSchemesFrom plan start.store) (laws : (S : Scheme) → IsSoundScheme S → LogLaws S start.store) (serials : (S : Scheme) → IsSoundScheme S → SerialLaws S start.store) (stores : StoreLaws) (coords : ℕ) (steps : List Stepped) (w : World) (run : IsRunFrom plan start coords steps w) where
+module _ (plan : Plan) (start : Beginning) (begins : IsBeginning plan start) (schemes : HasSchemesFrom plan start.store) (laws : (S : Scheme) → IsSoundScheme S → LogLaws S start.store) (serials : (S : Scheme) → IsSoundScheme S → SerialLaws S start.store) (stores : StoreLaws) (coords : ℕ) (steps : List Stepped) (w : World) (run : IsRunBeside plan start coords steps w) where
   pub order_keeps : KeepsWhatRan plan steps w w.order
   order_keeps = elim (transaction_or_none plan) [
     | inl some ↦
@@ -117,7 +120,7 @@ module _ (plan : Plan) (start : Beginning) (begins : IsBeginning plan start) (sc
         let submissions = serial.submissions plan start begins schemes laws stores coords steps w run some in
         let keeps : KeepsRan S start.store l.0 O = to_log plan asked S start is (laws S sound) steps w l.0 l.1 l.2 (ran_there plan start coords steps w run) O k in
         replies plan asked S start is (laws S sound) (serials S sound) w l.0 l.1 O keeps (serial.calls plan some.0 w submissions)
-        (λ u listed. schemes.replies asked known O keeps.once (λ u m. serial.ids plan some.0 w submissions u) u listed) t reply h)
+        (λ u listed. schemes.replies asked known O keeps.once (λ u m. serial.ids plan some.0 w submissions u (ordered_submitted plan asked S start is (laws S sound) w l.0 l.1 u (subst (λ l. IsListed is_txn l u) (sym l.1.means.order) (keeps.from u m)))) u listed) t reply h)
     | inr none ↦ absurd (subst (Has _) (run_idle plan none start begins coords steps w run).history h)
   ]
 

@@ -1,12 +1,17 @@
 mod Marks
 mod MarksKept
+pub mod Thinned
+pub mod KeptAside
+pub mod ViewSteps
+pub mod SubmissionEnds
+pub mod ReadsHere
 mod KeptGroups
 mod OneGroupMore
 mod Gone
 mod ForgottenHere
 mod Followed
 mod Flattened
-mod Means
+pub mod Means
 mod Grows
 pub mod Meets
 pub mod Facts
@@ -16,8 +21,7 @@ mod FollowedEdges
 mod Elsewhere
 mod Starting
 mod Buffered
-mod Runs
-mod AncestorsFirst
+pub mod Runs
 pub mod Deciding
 mod TakenNow
 mod Changing
@@ -34,15 +38,17 @@ mod Explains
 pub mod Served
 mod NoStarts
 mod Coordinated
-mod Submissions
+mod AsideSteps
+pub mod Submissions
 pub mod Firsts
 pub mod Worlds
+pub mod Onward
 mod TakenRuns
 mod KeptRuns
-mod Witness
-mod WhatRan
+pub mod Witness
+pub mod WhatRan
 mod Idle
-mod Serial
+pub mod Serial
 mod KeptOrders
 mod Answered
 mod Cells
@@ -56,7 +62,7 @@ mod Gathered
 mod Networks
 mod Finals
 mod Fetches
-mod AskedFor
+pub mod AskedFor
 mod Refusals
 mod Agree
 mod Held
@@ -74,12 +80,13 @@ mod Ongoing
 mod OngoingRuns
 mod Liveness
 mod Once
-mod Tells
-mod Counted
+pub mod Tells
+pub mod Counted
+pub mod SubmissionCounts
 mod Hears
 mod HeardLists
 mod Takes
-mod Transactions
+pub mod Transactions
 mod Delivered
 mod Hearing
 mod Quieted
@@ -87,11 +94,14 @@ mod Ordered
 mod WhatIsOver
 mod Forgotten
 mod OneRun
+pub mod PlainRuns
+pub mod PlainSteps
+pub mod NoReads
 pub mod Named
 mod ServersHere
 mod CoordsHere
 pub mod WorldsFit
 mod OrderParts
-mod Findings
+pub mod Findings
 mod Outcomes
 mod RunsThere

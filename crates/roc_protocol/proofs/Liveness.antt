@@ -30,14 +30,15 @@ use Rattle.roc_audit.specs.History.{WasSubmitted}
 use Rattle.roc_protocol.specs.PlanAssumptions.{IsSchemeOf, HasSchemesFrom}
 use Rattle.roc_protocol.specs.Beginnings.{Beginning, IsBeginning}
 use Rattle.roc_protocol.specs.World.{World}
-use Rattle.roc_protocol.specs.Run.{Stepped, IsRunFrom}
+use Rattle.roc_protocol.specs.Run.{Stepped}
+use Rattle.roc_protocol.specs.Beside.{IsRunBeside}
 use Rattle.roc_protocol.specs.Inner.Given.{LogLaws, StoreLaws}
 use Rattle.roc_protocol.proofs.Heard.{AreDelivered, StartsHeard, CommitsAreOut, CommitsHeard}
 use Rattle.roc_protocol.proofs.Means.{run_of, Means, TxnMeans}
 use Rattle.roc_protocol.proofs.Rounds.{told}
 use Rattle.roc_protocol.proofs.Coordinators.{there, number_below}
 use Rattle.roc_protocol.proofs.Served.{StartsAre}
-use Rattle.roc_protocol.proofs.Idle.{run_idle}
+use Rattle.roc_protocol.proofs.Idle.{run_idle, idle_mark}
 use Rattle.roc_protocol.proofs.Worlds.{IsLogged}
 use Rattle.roc_protocol.proofs.Serial as serial
 use Rattle.roc_protocol.proofs.Pending.{IsPending}
@@ -48,6 +49,7 @@ use Rattle.roc_protocol.proofs.Undelivered.{number_of}
 use Rattle.roc_protocol.proofs.Ongoing.{IsOngoing, whole_out}
 use Rattle.roc_protocol.proofs.OngoingRuns.{AreTaken, run_ongoing}
 use Rattle.roc_protocol.proofs.Transactions.{transaction_or_none, HasTransaction}
+use Rattle.roc_protocol.proofs.Marks.{IsMark}
 
 module _ (plan : Plan) (asked : TxnId → whole.Call) (S : Scheme) (start : Beginning) (is : IsSchemeOf plan asked S) (laws : LogLaws S start.store) (sound : IsSoundScheme S) (w : World) (log : Log) (l : IsLogged plan asked S start is laws w log) (g : IsOngoing plan w) (a : AreTaken w) where
   i : LogInvariants S start.store log
@@ -161,7 +163,7 @@ module _ (plan : Plan) (asked : TxnId → whole.Call) (S : Scheme) (start : Begi
 
 -- ---- every run
 
-module _ (plan : Plan) (start : Beginning) (begins : IsBeginning plan start) (schemes : HasSchemesFrom plan start.store) (laws : (S : Scheme) → IsSoundScheme S → LogLaws S start.store) (stores : StoreLaws) (coords : ℕ) (steps : List Stepped) (w : World) (run : IsRunFrom plan start coords steps w) where
+module _ (plan : Plan) (start : Beginning) (begins : IsBeginning plan start) (schemes : HasSchemesFrom plan start.store) (laws : (S : Scheme) → IsSoundScheme S → LogLaws S start.store) (stores : StoreLaws) (coords : ℕ) (steps : List Stepped) (w : World) (run : IsRunBeside plan start coords steps w) where
   module _ (some : HasTransaction plan) where
     abbrev T : Scheme
     T = serial.S plan start begins schemes laws stores coords steps w run some
@@ -187,7 +189,7 @@ module _ (plan : Plan) (start : Beginning) (begins : IsBeginning plan start) (sc
     | inl some ↦
         (let x = serial.logged plan start begins schemes laws stores coords steps w run some in
         all_out plan (calls some) (T some) start (is some) (laws (T some) (sound some)) (sound some) w x.0 x.1 (ongoing some).0 (ongoing some).1 (pending some) t heard delivered)
-    | inr none ↦ record { each = λ m shard proc group args inputs h. absurd (subst (Has m) (run_idle plan none start begins coords steps w run).sent h) }
+    | inr none ↦ record { each = λ m shard proc group args inputs h to is_start. absurd (subst IsMark is_start (idle_mark plan start w (run_idle plan none start begins coords steps w run) m h)) }
   ]
 
   -- and where, unless it is answered, each delivered commit has its commitok too, it is answered

@@ -1,5 +1,5 @@
 -- What coordinators tell of what they have answered, and what servers hear of it
-use Rattle.std.proofs.Common.{◌≡◌, ◌<◌, ◌≤◌, ◌∙◌, ◌==◌, ℕ, Bool, true, false, cond, nat_lt, max, List, [], ◌∷◌, zero, suc, refl, sym, ap, arith, slice_set, slice_index_or, map, ◌⊎◌, inl, inr, replicate}
+use Rattle.std.proofs.Common.{◌≡◌, ◌<◌, ◌≤◌, ◌∙◌, ◌==◌, ℕ, Bool, true, false, cond, nat_lt, max, List, [], ◌∷◌, zero, suc, refl, sym, ap, arith, slice_index_or, map, ◌⊎◌, inl, inr, replicate}
 use Rattle.std.proofs.lemmas.Bool.Decides.{nat_tests}
 use Rattle.std.specs.List.{range_with_len}
 use Rattle.roc_sequence.specs.Lists.{Has}
@@ -10,9 +10,8 @@ use Rattle.roc_msg.specs.declared.msg.Msg.TheVariants.{Ended}
 use Rattle.roc_msg.specs.declared.outbox.Outgoing.{Outgoing}
 use Rattle.roc_plan.specs.Groups.{Plan}
 use Rattle.roc_server.specs.Below.{none_below, mark_of, is_ended, raised}
+use Rattle.roc_server.proofs.Raised.{set_cases}
 use Rattle.roc_coord.specs.State.{CoordState}
-use Rattle.roc_coord.specs.declared.transaction.Transaction.{Transaction}
-use Rattle.roc_coord.specs.Ids.{ids_of}
 use Rattle.roc_coord.specs.Marks.{least_seq, watermark, ended_to, ended_sends, passes_mark}
 use Rattle.roc_coord.specs.Step.{answered_sends}
 
@@ -42,29 +41,21 @@ mark_told plan old new out h = go (passes_mark old new) h
     go true k = mark_sent plan new out k
     go false k = absurd k
 
--- no transaction without a reply is below the watermark
-least_of : (x : Transaction) (pending : List Transaction) (next : ℕ) → Has x pending → least_seq (ids_of pending) next ≤ x.id.seq
-least_of x [] next h = elim h [ ]
-least_of x (y ∷ ys) next (inl e) = let same : x.id.seq ≡ y.id.seq = ap (λ (x : Transaction). x.id.seq) e in omega arith
-least_of x (y ∷ ys) next (inr h) = let rest = least_of x ys next h in omega arith
+-- none without a reply is below the watermark
+least_of : (id : TxnId) (ids : List TxnId) (next : ℕ) → Has id ids → least_seq ids next ≤ id.seq
+least_of id [] next h = elim h [ ]
+least_of id (u ∷ us) next (inl e) = let same : id.seq ≡ u.seq = ap (λ (t : TxnId). t.seq) e in omega arith
+least_of id (u ∷ us) next (inr h) = let rest = least_of id us next h in omega arith
 
-least_next : (pending : List Transaction) (next : ℕ) → least_seq (ids_of pending) next ≤ next
+least_next : (ids : List TxnId) (next : ℕ) → least_seq ids next ≤ next
 least_next [] next = omega arith
-least_next (y ∷ ys) next = let rest = least_next ys next in omega arith
+least_next (u ∷ us) next = let rest = least_next us next in omega arith
 
-pub mark_least : (s : CoordState) (x : Transaction) → Has x s.pending → watermark s ≤ x.id.seq
-mark_least s x h = least_of x s.pending s.next h
+pub mark_least : (s : CoordState) (id : TxnId) → Has id s.unanswered → watermark s ≤ id.seq
+mark_least s id h = least_of id s.unanswered s.next h
 
 pub mark_next : (s : CoordState) → watermark s ≤ s.next
-mark_next s = least_next s.pending s.next
-
--- a place that is set has the new value, and every other what it had
-set_cases : (below : List ℕ) (i j v : ℕ) → (slice_index_or (slice_set below i v) j 0 ≡ slice_index_or below j 0) ⊎ ((j ≡ i) × (slice_index_or (slice_set below i v) j 0 ≡ v))
-set_cases [] i j v = inl refl
-set_cases (x ∷ xs) zero zero v = inr (refl, refl)
-set_cases (x ∷ xs) zero (suc j) v = inl refl
-set_cases (x ∷ xs) (suc i) zero v = inl refl
-set_cases (x ∷ xs) (suc i) (suc j) v = elim (set_cases xs i j v) [ inl h ↦ inl h | inr h ↦ inr (ap (λ n. suc n) h.0, h.1) ]
+mark_next s = least_next s.unanswered s.next
 
 -- what is below a watermark that was heard was so before, or is below the new one
 pub ended_cases : (below : List ℕ) (coord mark : ℕ) (t : TxnId) → is_ended (raised below coord mark) t ≡ true → (is_ended below t ≡ true) ⊎ ((t.coord ≡ coord) × (t.seq < mark))
@@ -78,18 +69,6 @@ ended_cases below coord mark t h = elim (set_cases below coord t.coord (max (mar
     go false e same k =
         let above : nat_lt t.seq (mark_of below coord) ≡ false = ap (λ c. nat_lt t.seq (mark_of below c)) (sym same) ∙ e in
         inr (same, grind (arith, nat_tests))
-
--- and what was below one is so still
-pub ended_still : (below : List ℕ) (coord mark : ℕ) (t : TxnId) → is_ended below t ≡ true → is_ended (raised below coord mark) t ≡ true
-ended_still below coord mark t h = elim (set_cases below coord t.coord (max (mark_of below coord) mark)) [
-  | inl same ↦ ap (nat_lt t.seq) same ∙ h
-  | inr new ↦
-      (let was : nat_lt t.seq (mark_of below coord) ≡ true = ap (λ c. nat_lt t.seq (mark_of below c)) (sym new.0) ∙ h in
-      ap (nat_lt t.seq) new.1 ∙ higher was)
-]
-  where
-    higher : nat_lt t.seq (mark_of below coord) ≡ true → nat_lt t.seq (max (mark_of below coord) mark) ≡ true
-    higher was = grind (arith, nat_tests)
 
 all_zero : (n c : ℕ) → ◌≡◌ {A = ℕ} (slice_index_or {A = ℕ} (replicate n 0) c 0) 0
 all_zero zero c = refl

@@ -33,6 +33,7 @@ use Rattle.roc_server.specs.State.{unrun}
 use Rattle.roc_coord.specs.declared.transaction.Transaction.{Transaction}
 use Rattle.roc_coord.specs.declared.transaction.TakenStart.{TakenStart}
 use Rattle.roc_coord.specs.State.{was_asked, CoordState}
+use Rattle.roc_coord.specs.Ids.{view_ids}
 use Rattle.roc_coord.specs.Starts.{is_ready, all_started, shards_of}
 use Rattle.roc_audit.specs.declared.entry.Entry.TheVariants.{Answered}
 use Rattle.roc_protocol.specs.PlanAssumptions.{picked, use_of}
@@ -52,6 +53,10 @@ IsServerNode (Coord number) = ⊥
 
 abbrev pub entry_run : StartedGroup → TxnGroup
 entry_run e = run_of e.id e.group
+
+-- it is the id of no transaction of the run: its sequence was used before the run began, or nothing is asked by it
+abbrev pub IsOther : (TxnId → whole.Call) → Beginning → TxnId → Type 0
+IsOther asked start t = (t.seq < start.nexts t.coord) ⊎ ((asked t).id ≢ t)
 
 module _ (plan : Plan) (asked : TxnId → whole.Call) (S : Scheme) (start : Beginning) (log : Log) where
   abbrev pub stage : Stage
@@ -143,9 +148,9 @@ module _ (plan : Plan) (asked : TxnId → whole.Call) (S : Scheme) (start : Begi
     pub means : StartMeans (run_of id group) (place (run_of id group))
     pub to : node ≡ Server (record { 0 = place (run_of id group) })
 
-  -- it was answered, or its sequence was used before the run began
+  -- it was answered, or is that of no transaction of the run
   abbrev pub IsPast : TxnId → Type 0
-  IsPast t = IsListed is_txn log.answered t ⊎ (t.seq < start.nexts t.coord)
+  IsPast t = IsListed is_txn log.answered t ⊎ IsOther asked start t
 
   -- all of this coordinator with a sequence below is past
   abbrev pub AreEnded : (coord mark : ℕ) → Type 0
@@ -254,6 +259,8 @@ module _ (plan : Plan) (asked : TxnId → whole.Call) (S : Scheme) (start : Begi
 
   pub record CoordMeans (c : CoordState) : Type 0 where
     pub pending : (x : Transaction) → Has x c.pending → TxnMeans x
+    pub unanswered : (x : Transaction) → Has x c.pending → Has x.id c.unanswered
+    pub views : (u : TxnId) → Has u (view_ids c.views) → IsOther asked start u
     -- each sequence number below the next one is of a transaction that is pending, or past
     pub all : (q : ℕ) → q < c.next → ((x : Transaction) × Has x c.pending × (x.id ≡ numbered_id c q)) ⊎ IsPast (numbered_id c q)
     -- the run began at this next one or before

@@ -13,7 +13,7 @@ use Rattle.roc_depgraph.specs.Deps.{list_of, is_known}
 use Rattle.roc_await.specs.declared.waits.OpenFetch.{OpenFetch}
 use Rattle.roc_await.specs.Waits.{was_asked_for, askers_of}
 use Rattle.roc_msg.specs.declared.msg.Msg.{Msg}
-use Rattle.roc_msg.specs.declared.msg.Msg.TheVariants.{Start, Commit, Fetch, Known, Settled}
+use Rattle.roc_msg.specs.declared.msg.Msg.TheVariants.{Start, Commit, Fetch, Known, Settled, Read}
 use Rattle.roc_msg.specs.declared.outbox.Outgoing.{Outgoing}
 use Rattle.roc_msg.specs.declared.reason.Reason.TheVariants.{NotHere}
 use Rattle.roc_plan.specs.Groups.{Plan}
@@ -31,6 +31,7 @@ use Rattle.roc_server_lists.specs.Asking.{known_to, knowns_for, fetch_from}
 use Rattle.roc_server.specs.Lists.{missing_after, lists_after, decides, taught, commit_refusal, after_commit, fetch_taken, settled_to, after_fetch, known_refusal, after_known, lists_settled, after_settled}
 use Rattle.roc_server.specs.Step.{Findings, after_message, tick_sends}
 use Rattle.roc_protocol.proofs.Served.{StartsAre}
+use Rattle.roc_protocol.proofs.ReadsHere.{for_read}
 
 module _ (plan : Plan) (Of : TxnId → Type 0) where
   abbrev AreNone : List Outgoing → Type 0
@@ -121,6 +122,7 @@ module _ (plan : Plan) (s : ServerState) (Of : TxnId → Type 0) where
   no_starts f (Fetch id asker) out h = fetch_none plan Of s id asker out h
   no_starts f (Known id edges) out h = known_none plan Of s f.components id edges (known_refusal s id edges) out h
   no_starts f (Settled id mark) out h = settled_none plan Of s f.components id mark out h
+  no_starts f (Read id round proc group args) out h = for_read plan s (record { id = id; round = round; proc = proc; group = group; args = args }) (λ r. Has out r.sends → StartsAre Of out.msg) (λ a j. absurd j) h
   no_starts f msg out h = absurd h
 
   pub no_starts_at_tick : SendsNone plan Of (answered s (tick_sends s))

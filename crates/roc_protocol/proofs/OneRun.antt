@@ -17,8 +17,7 @@ use Rattle.roc_coord.specs.declared.handled.SubmitFault.{SubmitFault}
 use Rattle.roc_coord.specs.declared.handled.SubmitFault.TheVariants as fault
 use Rattle.roc_coord.specs.State.{CoordState}
 use Rattle.roc_coord.specs.Step.{after_message}
-use Rattle.roc_coord.specs.Submit.{after_submit}
-use Rattle.roc_coord.specs.Tick as coord
+use Rattle.roc_protocol.specs.Aside.{after_transaction, transaction_tick_sends}
 use Rattle.roc_protocol.specs.declared.event.Event.{Event}
 use Rattle.roc_protocol.specs.declared.event.Event.TheVariants.{Submit, Deliver, Tick}
 use Rattle.roc_protocol.specs.declared.event.Seen.TheVariants as seen
@@ -52,12 +51,12 @@ module _ (plan : Plan) (one : (s : ServerState) (msg : Msg) (r other : ServerSte
         is ∙ (ap (λ (u : ServerState). served w shard.0 (answered u (server.tick_sends u))) same ∙ sym is2)
     one_tick (Coord n) o other (s, there, is) (t, there2, is2) =
         let same : s ≡ t = same_there w.coords n s t there there2 in
-        is ∙ (ap (λ (u : CoordState). undecided seen.Done (at_coord w n u (coord.tick_sends plan u) [])) same ∙ sym is2)
+        is ∙ (ap (λ (u : CoordState). undecided seen.Done (at_coord w n u (transaction_tick_sends plan u) [])) same ∙ sym is2)
 
   pub one_event : (w : World) (e : Event) (o other : Outcome) → Happens plan w e o → Happens plan w e other → o ≡ other
   one_event w (Submit n proc args) o other (s, there, h) (t, there2, k) =
       let same : s ≡ t = same_there w.coords n s t there there2 in
-      one_submission w n proc args (after_submit plan t proc args).state (after_submit plan t proc args).sends (after_submit plan t proc args).answer o other (subst (λ (u : CoordState). IsSubmissionOf w n proc args (after_submit plan u proc args) o) same h) k
+      one_submission w n proc args (after_transaction plan t proc args).state (after_transaction plan t proc args).sends (after_transaction plan t proc args).answer o other (subst (λ (u : CoordState). IsSubmissionOf w n proc args (after_transaction plan u proc args) o) same h) k
   one_event w (Deliver k) o other (m, some, there, c) (n, some2, there2, d) =
       let same : m ≡ n = same_there w.sent (k - 1) m n there there2 in
       one_delivery (mark_delivered w k) n.msg n.to o other (subst (λ (x : Envelope). IsReceived plan (mark_delivered w k) x.msg x.to o) same c) d

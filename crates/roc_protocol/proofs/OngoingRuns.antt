@@ -9,7 +9,7 @@ use Rattle.roc_base.specs.declared.node.Node.{Node}
 use Rattle.roc_base.specs.declared.node.Node.TheVariants.{Server, Coord}
 use Rattle.roc_base.specs.declared.node.Shard.{Shard}
 use Rattle.roc_msg.specs.declared.msg.Msg.{Msg}
-use Rattle.roc_msg.specs.declared.msg.Msg.TheVariants.{Start, StartOk}
+use Rattle.roc_msg.specs.declared.msg.Msg.TheVariants.{Start, StartOk, ReadOk}
 use Rattle.roc_msg.specs.declared.msg.Envelope.{Envelope}
 use Rattle.roc_msg.specs.declared.outbox.Outgoing.{Outgoing}
 use Rattle.roc_plan.specs.Groups.{Plan, groups_of}
@@ -24,16 +24,17 @@ use Rattle.roc_coord.specs.State.{CoordState}
 use Rattle.roc_coord.specs.Starts.{group_numbers, with_starts, all_started}
 use Rattle.roc_coord.specs.Step.{after_message}
 use Rattle.roc_coord.specs.Submit.{next_id, new_transaction, accepted}
-use Rattle.roc_coord.specs.Tick.{tick_sends}
 use Rattle.roc_audit.specs.declared.entry.Entry.{Entry}
 use Rattle.roc_audit.specs.declared.entry.Entry.TheVariants.{Submitted, Answered}
+use Rattle.roc_protocol.specs.Aside.{transaction_tick_sends}
 use Rattle.roc_protocol.specs.declared.event.Event.{Event}
 use Rattle.roc_protocol.specs.declared.event.Event.TheVariants.{Submit, Deliver, Tick}
 use Rattle.roc_protocol.specs.PlanAssumptions.{IsSchemeOf}
 use Rattle.roc_protocol.specs.Beginnings.{Beginning, IsBeginning, begun_coord}
 use Rattle.roc_protocol.specs.World.{World, mark_delivered, at_server, at_coord}
 use Rattle.roc_protocol.specs.Happens.{Outcome, answer_entries, IsReceived}
-use Rattle.roc_protocol.specs.Run.{Stepped, Transition, IsRunFrom, at_beginning, steps_on}
+use Rattle.roc_protocol.specs.Run.{Stepped}
+use Rattle.roc_protocol.specs.Beside.{Moves, IsRunBeside, beside_begins, beside_goes_on}
 use Rattle.roc_protocol.specs.Quiet.{WasDelivered}
 use Rattle.roc_protocol.specs.Inner.Given.{LogLaws, StoreLaws}
 use Rattle.roc_protocol.proofs.Means.{run_of, Means}
@@ -46,15 +47,17 @@ use Rattle.roc_protocol.proofs.Served.{StartsAre}
 use Rattle.roc_protocol.proofs.NoStarts.{no_starts, no_starts_at_tick}
 use Rattle.roc_protocol.proofs.Submissions.{AreSubmissions, no_submission, unused}
 use Rattle.roc_protocol.proofs.Firsts.{found_at}
-use Rattle.roc_protocol.proofs.Worlds.{Submitting, is_refused, is_accepted, submitting, submissions_from, comes_logged, Agrees, agrees_before, IsLogged}
-use Rattle.roc_protocol.proofs.Witness.{step_extends, run_logged}
+use Rattle.roc_protocol.proofs.Worlds.{Submitting, is_refused, is_accepted, submitting, submissions_from, comes_logged, Agrees, IsLogged}
+use Rattle.roc_protocol.proofs.Onward.{agrees_before}
+use Rattle.roc_protocol.proofs.Witness.{run_logged}
+use Rattle.roc_protocol.proofs.KeptAside.{IsKeptAside, kept_aside}
 use Rattle.roc_protocol.proofs.Networks.{IsNetworked}
 use Rattle.roc_protocol.proofs.Finals.{run_networked, comes_networked}
 use Rattle.roc_protocol.proofs.Pending.{IsPending}
 use Rattle.roc_protocol.proofs.PendingRuns.{run_pending}
 use Rattle.roc_protocol.proofs.Staleness.{message_stale}
 use Rattle.roc_protocol.proofs.Taken.{IsTakenBy, message_taken}
-use Rattle.roc_protocol.proofs.OutstandingSteps.{Proceeds, IsOfGroup, same, message_goes_on, submission_goes_on}
+use Rattle.roc_protocol.proofs.OutstandingSteps.{Proceeds, IsOfGroup, same, message_goes_on, submission_goes_on, same_aside}
 use Rattle.roc_protocol.proofs.Undelivered.{delivered_before, delivered_or_comes}
 use Rattle.roc_protocol.proofs.Ongoing.{IsOngoing, served_ongoing, answered_submitted, still_taken, not_answered, coordinated_ongoing}
 
@@ -103,6 +106,7 @@ module _ (plan : Plan) (asked : TxnId → whole.Call) (S : Scheme) (start : Begi
           (subst (λ t. group < length (groups_of plan (asked t).procedure)) (sym e) below)),
     )
     of_group n s there (Start id proc group args inputs) m = tt
+    of_group n s there (ReadOk id round group shard versions outs) m = m
     of_group n s there msg m = tt
 
     module _ (n : ℕ) (s : CoordState) (there : slice_get w.coords n ≡ Some s) where
@@ -114,13 +118,24 @@ module _ (plan : Plan) (asked : TxnId → whole.Call) (S : Scheme) (start : Begi
 
       -- ---- a tick
 
-      tick_goes : Proceeds plan w.sent (Coord n) s s (tick_sends plan s) []
-      tick_goes = same plan w.sent (Coord n) s (o.once n s there) (g.holds n s there) is_whole (tick_sends plan s)
+      tick_goes : Proceeds plan w.sent (Coord n) s s (transaction_tick_sends plan s) []
+      tick_goes = same plan w.sent (Coord n) s (o.once n s there) (g.holds n s there) is_whole (transaction_tick_sends plan s)
 
-      tick_ongoing : IsOngoing plan (at_coord w n s (tick_sends plan s) [])
+      tick_ongoing : IsOngoing plan (at_coord w n s (transaction_tick_sends plan s) [])
       tick_ongoing =
-          coordinated_ongoing plan asked S start is laws w log l subs o g n s there s (tick_sends plan s) [] tick_goes (λ t proc args h. absurd h)
+          coordinated_ongoing plan asked S start is laws w log l subs o g n s there s (transaction_tick_sends plan s) [] tick_goes (λ t proc args h. absurd h)
           (λ t reply h. (tick_coordinated plan asked S start is laws log i w l.means n s there (λ u. u ≢ t) (not_of t reply h)).starts)
+
+      -- ---- aside
+
+      module _ (after : CoordState) (outs : List Outgoing) (k : IsKeptAside plan s after outs) where
+        aside_goes : Proceeds plan w.sent (Coord n) s after outs []
+        aside_goes = same_aside plan w.sent (Coord n) s (o.once n s there) (g.holds n s there) is_whole after k.pending outs
+
+        aside_ongoing : IsOngoing plan (at_coord w n after outs [])
+        aside_ongoing =
+            coordinated_ongoing plan asked S start is laws w log l subs o g n s there after outs [] aside_goes (λ t proc args h. absurd h)
+            (λ t reply h out j. subst (λ (out : Outgoing). StartsAre (λ u. u ≢ t) out.msg) (sym (k.marks out j).is) tt)
 
       -- ---- a message
 
@@ -180,11 +195,12 @@ module _ (plan : Plan) (asked : TxnId → whole.Call) (S : Scheme) (start : Begi
         coordinated_taken w n after outs tells
         (λ j number m c e d to f. still_taken plan asked S start is laws w log l subs o n s there after k.before m (has_at w.sent j m e) number c (λ b h. a.each j number m b e d to h) f)
 
-    submit_ongoing : (n proc : ℕ) (args : List ℤ) (s : CoordState) → slice_get w.coords n ≡ Some s → (v : Outcome) → Submitting plan w n proc args s v → Agrees asked v.world.history → Goes v.world
+    submit_ongoing : (n proc : ℕ) (args : List ℤ) (s : CoordState) → slice_get w.coords n ≡ Some s → (v : Outcome) → Submitting plan w n proc args s v → Agrees asked v.world → Goes v.world
     submit_ongoing n proc args s there v (is_refused e) fits = subst Goes (sym e) (g, a)
     submit_ongoing n proc args s there v (is_accepted known counted e) fits =
         let more = Submitted (next_id s) proc args ∷ [] in
-        let f : Agrees asked (w.history ++ more) = subst (λ (v : World). Agrees asked v.history) e fits in
+        let r = accepted plan s (new_transaction s proc args) in
+        let f : Agrees asked (at_coord w n r.state r.sends more) = subst (Agrees asked) e fits in
         let mine : Has (Submitted (next_id s) proc args) (w.history ++ more) = has_right (Submitted (next_id s) proc args) w.history more (inl refl) in
         let p = f.proc (next_id s) proc args mine in
         let x = f.args (next_id s) proc args mine in
@@ -193,14 +209,14 @@ module _ (plan : Plan) (asked : TxnId → whole.Call) (S : Scheme) (start : Begi
           kept_taken n s (accepted plan s (new_transaction s proc args)).state (accepted plan s (new_transaction s proc args)).sends more there (submission_goes w log l subs o g n s there proc args p x),
         )
 
-    tick_all : (node : Node) (v : Outcome) → Transition plan w (Some (Tick node)) v → Goes v.world
+    tick_all : (node : Node) (v : Outcome) → Moves plan w (Some (Tick node)) v → Goes v.world
     tick_all (Server shard) v (s, there, e) = subst (λ (v : Outcome). Goes v.world) (sym e) (
       served_ongoing plan w g shard.0 (answered s (server.tick_sends s)) (λ t. no_starts_at_tick plan s (λ u. u ≢ t)),
       served_taken w shard.0 (answered s (server.tick_sends s)) a.each,
     )
     tick_all (Coord n) v (s, there, e) = subst (λ (v : Outcome). Goes v.world) (sym e) (
       tick_ongoing w log l subs o g n s there,
-      kept_taken n s s (tick_sends plan s) [] there (tick_goes w log l subs o g n s there),
+      kept_taken n s s (transaction_tick_sends plan s) [] there (tick_goes w log l subs o g n s there),
     )
 
     -- ---- a delivery
@@ -249,16 +265,22 @@ module _ (plan : Plan) (asked : TxnId → whole.Call) (S : Scheme) (start : Begi
               let one : after ≡ c = cc in
               subst (λ (c : CoordState). IsTakenBy c.pending msg) one k
 
-    step_ongoing : (e : Option Event) (v : Outcome) → Transition plan w e v → Agrees asked v.world.history → Goes v.world
-    step_ongoing None v h fits = subst (λ (v : Outcome). Goes v.world) (sym h) (g, a)
+    step_ongoing : (e : Option Event) (v : Outcome) → Moves plan w e v → Agrees asked v.world → Goes v.world
+    step_ongoing None v (inl h) fits = subst (λ (v : Outcome). Goes v.world) (sym h) (g, a)
+    step_ongoing None v (inr x) fits =
+        let k = kept_aside plan x.before x.after x.sends x.does in
+        subst (λ (v : Outcome). Goes v.world) (sym x.is) (
+          aside_ongoing w log l subs o g x.number x.before x.there x.after x.sends k,
+          kept_taken x.number x.before x.after x.sends [] x.there (aside_goes w log l subs o g x.number x.before x.there x.after x.sends k),
+        )
     step_ongoing (Some (Submit n proc args)) v (s, there, h) fits = submit_ongoing n proc args s there v (submitting plan w n proc args s v h) fits
     step_ongoing (Some (Deliver k)) v (m, some, there, h) fits = receive_all k m some there m.to refl v h
     step_ongoing (Some (Tick node)) v h fits = tick_all node v h
 
   module _ (stores : StoreLaws) (begins : IsBeginning plan start) where
     -- every world of every run
-    pub run_ongoing : (coords : ℕ) (steps : List Stepped) (w : World) → IsRunFrom plan start coords steps w → Agrees asked w.history → Goes w
-    run_ongoing coords steps w at_beginning fits = (
+    pub run_ongoing : (coords : ℕ) (steps : List Stepped) (w : World) → IsRunBeside plan start coords steps w → Agrees asked w → Goes w
+    run_ongoing coords steps w beside_begins fits = (
       record {
         submitted = λ t proc args h. absurd h;
         holds = λ n c e x h. elim (subst (λ (c : CoordState). Has x c.pending) (found_at (begun_coord start) 0 coords n c e) h) [ ];
@@ -267,9 +289,8 @@ module _ (plan : Plan) (asked : TxnId → whole.Call) (S : Scheme) (start : Begi
       },
       record { each = λ k number m c e. absurd (cc) },
     )
-    run_ongoing coords steps w (steps_on {w = v} e o r h) fits =
-        let x = step_extends plan v e o h in
-        let before = agrees_before asked v.history x.more (subst (Agrees asked) x.is fits) in
+    run_ongoing coords steps w (beside_goes_on {w = v} e o r h) fits =
+        let before = agrees_before plan v (submissions_from plan start coords _ v r) asked e o h fits in
         let lg = run_logged plan asked S start is laws stores begins coords _ v r before in
         let earlier = run_ongoing coords _ v r before in
         step_ongoing v lg.0 lg.1 (run_networked plan asked S start is laws stores begins coords _ v r before) (submissions_from plan start coords _ v r) (run_pending plan asked S start is laws stores begins coords _ v r before) earlier.0 earlier.1 e o h fits

@@ -24,7 +24,8 @@ use Rattle.roc_server.specs.State.{is_here, ServerState}
 use Rattle.roc_protocol.specs.PlanAssumptions.{HasSchemesFrom}
 use Rattle.roc_protocol.specs.Beginnings.{Beginning, IsBeginning}
 use Rattle.roc_protocol.specs.World.{World}
-use Rattle.roc_protocol.specs.Run.{Stepped, IsRunFrom}
+use Rattle.roc_protocol.specs.Run.{Stepped}
+use Rattle.roc_protocol.specs.Beside.{IsRunBeside}
 use Rattle.roc_protocol.specs.Inner.Given.{LogLaws, SerialLaws, StoreLaws}
 use Rattle.roc_protocol.proofs.Means.{run_of, ServerMeans}
 use Rattle.roc_protocol.proofs.SaidOfServers.{here_begun}
@@ -67,13 +68,13 @@ module _ (plan : Plan) (asked : TxnId → whole.Call) (S : Scheme) (start : Begi
       not_mates (inr p) k m = let z = o.follows b a here da p m in absurd (omega arith)
 
 module _ (plan : Plan) (start : Beginning) (begins : IsBeginning plan start) (schemes : HasSchemesFrom plan start.store) (laws : (S : Scheme) → IsSoundScheme S → LogLaws S start.store)
-    (serials : (S : Scheme) → IsSoundScheme S → SerialLaws S start.store) (stores : StoreLaws) (coords : ℕ) (steps : List Stepped) (w : World) (run : IsRunFrom plan start coords steps w) where
+    (serials : (S : Scheme) → IsSoundScheme S → SerialLaws S start.store) (stores : StoreLaws) (coords : ℕ) (steps : List Stepped) (w : World) (run : IsRunBeside plan start coords steps w) where
   pub taken_in_order : (shard : Shard) (s : ServerState) → slice_get w.servers shard.0 ≡ Some s → (a b : TxnId) → is_here a s.started ≡ true → is_here b s.started ≡ true
       → IsDecided s.lists.links a → IsDecided s.lists.links b
       → IsAncestor s.lists.links a b ⊎ IsAncestor s.lists.links b a → IsListedBefore is_txn (flat_map (λ c. c) s.lists.taken) a b → IsListedBefore is_txn w.order a b
   taken_in_order shard s there a b ha hb da db related before = elim (transaction_or_none plan) [
     | inl some ↦ in_order some
-    | inr none ↦ absurd (let k : IsDecided [] a = subst (λ l. IsDecided l a) ((run_idle plan none start begins coords steps w run).links shard.0 s there) da in false≢true k.own)
+    | inr none ↦ absurd (let k : IsDecided [] a = subst (λ l. IsDecided l a) ((run_idle plan none start begins coords steps w run).servers shard.0 s there).links da in false≢true k.own)
   ]
     where
       in_order : HasTransaction plan → IsListedBefore is_txn w.order a b

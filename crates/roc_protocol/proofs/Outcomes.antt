@@ -1,8 +1,8 @@
 -- Each event has an outcome
-use Rattle.std.proofs.Common.{◌≡◌, ℕ, ℤ, zero, suc, ◌-◌, ◌<◌, ◌==◌, Bool, true, false, not, List, [], ◌∷◌, Some, None, length, refl, sym, ◌∙◌, arith}
-use Rattle.std.proofs.lemmas.Bool.{false≢true, eq-eqb, eqb-true}
+use Rattle.std.proofs.Common.{◌≡◌, ℕ, ℤ, zero, suc, ◌-◌, ◌<◌, true, List, [], ◌∷◌, Some, length, refl, sym, ◌∙◌, arith}
+use Rattle.std.proofs.lemmas.Bool.{false≢true, eq-eqb}
 use Rattle.std.proofs.lemmas.Option.{slice_get_within}
-use Rattle.std.specs.Prelude.{slice_get, if◌then◌else◌, nat_le}
+use Rattle.std.specs.Prelude.{slice_get}
 use Rattle.roc_sequence.proofs.Holds.{all_has}
 use Rattle.roc_sequence.proofs.Members.{has_at}
 use Rattle.roc_base.specs.declared.node.Node.{Node}
@@ -12,12 +12,11 @@ use Rattle.roc_msg.specs.declared.msg.Msg.{Msg}
 use Rattle.roc_plan.specs.Groups.{Plan, procedure_of, is_transaction}
 use Rattle.roc_server.specs.State.{answered}
 use Rattle.roc_server.specs.Step as server
-use Rattle.roc_coord.specs.declared.handled.SubmitFault.TheVariants as fault
 use Rattle.roc_coord.specs.State.{CoordState}
 use Rattle.roc_coord.specs.Step.{after_message}
-use Rattle.roc_coord.specs.Submit.{next_id, new_transaction, accepted, Submission, refused_or_accepted, after_submit, most_transactions, most_pending}
-use Rattle.roc_coord.specs.Tick as coord
+use Rattle.roc_coord.specs.Submit.{next_id, new_transaction, accepted, Submission}
 use Rattle.roc_audit.specs.declared.entry.Entry.TheVariants.{Submitted}
+use Rattle.roc_protocol.specs.Aside.{after_transaction, transaction_tick_sends}
 use Rattle.roc_protocol.specs.declared.event.Event.{Event}
 use Rattle.roc_protocol.specs.declared.event.Event.TheVariants.{Submit, Deliver, Tick}
 use Rattle.roc_protocol.specs.declared.event.Seen.TheVariants as seen
@@ -29,6 +28,7 @@ use Rattle.roc_base.specs.declared.id.TxnId.{TxnId}
 use Rattle.roc_depgraph.specs.declared.known.KnownList.{KnownList}
 use Rattle.roc_protocol.proofs.WorldsFit.{kept}
 use Rattle.roc_protocol.proofs.Findings.{handled}
+use Rattle.roc_protocol.proofs.SubmissionEnds as ends
 
 -- what stands at a place of a list
 there : {A : Type 0} (xs : List A) (n : ℕ) → n < length xs → (a : A) × (slice_get xs n ≡ Some a)
@@ -38,45 +38,26 @@ there (x ∷ xs) (suc n) l = there xs n (omega arith)
 
 -- ---- a submission
 
-abbrev IsThere : World → (n proc : ℕ) → List ℤ → Submission → Type 0
-IsThere w n proc args r = (o : Outcome) × IsSubmissionOf w n proc args r o
-
-submission : (plan : Plan) (w : World) (n proc : ℕ) (args : List ℤ) (s : CoordState) → is_transaction plan proc ≡ true → length args ≡ (procedure_of plan proc).arguments → (o : Outcome) × IsSubmissionOf w n proc args (after_submit plan s proc args) o
-submission plan w n proc args s known counted = procedure (is_transaction plan proc) refl
+submission : (plan : Plan) (w : World) (n proc : ℕ) (args : List ℤ) (s : CoordState) → is_transaction plan proc ≡ true → length args ≡ (procedure_of plan proc).arguments → (o : Outcome) × IsSubmissionOf w n proc args (after_transaction plan s proc args) o
+submission plan w n proc args s known counted = go (after_transaction plan s proc args) (ends.submission_is plan s proc args)
   where
-    free : (b : Bool) → IsThere w n proc args (refused_or_accepted plan s proc args (if b then Some fault.Busy else None))
-    free true = (undecided seen.Busy w, refl)
-    free false = let r = accepted plan s (new_transaction s proc args) in (undecided (seen.Submitted (next_id s)) (at_coord w n r.state r.sends (Submitted (next_id s) proc args ∷ [])), refl)
-
-    unspent : (b : Bool) → IsThere w n proc args (refused_or_accepted plan s proc args (if b then Some fault.Spent else if nat_le most_pending (length s.pending) then Some fault.Busy else None))
-    unspent true = (undecided seen.Spent w, refl)
-    unspent false = free (nat_le most_pending (length s.pending))
-
-    arguments : (b : Bool) → (length args == (procedure_of plan proc).arguments) ≡ b
-        → IsThere w n proc args (refused_or_accepted plan s proc args (if not b then Some fault.Args else if nat_le most_transactions s.next then Some fault.Spent else if nat_le most_pending (length s.pending) then Some fault.Busy else None))
-    arguments true e = unspent (nat_le most_transactions s.next)
-    arguments false e = absurd (false≢true (sym e ∙ eq-eqb (length args) (procedure_of plan proc).arguments counted))
-
-    procedure : (b : Bool) → is_transaction plan proc ≡ b
-        → (o : Outcome) × IsSubmissionOf w n proc args (refused_or_accepted plan s proc args (if not b then Some fault.NoProc else if not (length args == (procedure_of plan proc).arguments) then Some fault.Args else if nat_le most_transactions s.next then Some fault.Spent else if nat_le most_pending (length s.pending) then Some fault.Busy else None)) o
-    procedure true e = arguments (length args == (procedure_of plan proc).arguments) refl
-    procedure false e = absurd (false≢true (sym e ∙ known))
+    go : (r : Submission) → ends.IsTransactionSubmission plan s proc args r → (o : Outcome) × IsSubmissionOf w n proc args r o
+    go r (ends.unknown none) = absurd (none known)
+    go r (ends.miscounted e) = absurd (false≢true (sym e ∙ eq-eqb (length args) (procedure_of plan proc).arguments counted))
+    go r (ends.spent k c l) = (undecided seen.Spent w, refl)
+    go r (ends.busy k c l m) = (undecided seen.Busy w, refl)
+    go r (ends.taken k c l m) = let r = accepted plan s (new_transaction s proc args) in (undecided (seen.Submitted (next_id s)) (at_coord w n r.state r.sends (Submitted (next_id s) proc args ∷ [])), refl)
 
 -- and what is submitted fits
-submitted : (plan : Plan) (w : World) (n proc : ℕ) (args : List ℤ) (s : CoordState) (o : Outcome) → IsSubmissionOf w n proc args (after_submit plan s proc args) o → (is_transaction plan proc ≡ true) × (length args ≡ (procedure_of plan proc).arguments)
-submitted plan w n proc args s o h = procedure (is_transaction plan proc) refl h
+submitted : (plan : Plan) (w : World) (n proc : ℕ) (args : List ℤ) (s : CoordState) (o : Outcome) → IsSubmissionOf w n proc args (after_transaction plan s proc args) o → (is_transaction plan proc ≡ true) × (length args ≡ (procedure_of plan proc).arguments)
+submitted plan w n proc args s o h = go (after_transaction plan s proc args) (ends.submission_is plan s proc args) h
   where
-    arguments : (b : Bool) → (length args == (procedure_of plan proc).arguments) ≡ b
-        → IsSubmissionOf w n proc args (refused_or_accepted plan s proc args (if not b then Some fault.Args else if nat_le most_transactions s.next then Some fault.Spent else if nat_le most_pending (length s.pending) then Some fault.Busy else None)) o
-        → length args ≡ (procedure_of plan proc).arguments
-    arguments true e r = eqb-true (length args) (procedure_of plan proc).arguments e
-    arguments false e r = elim r [ ]
-
-    procedure : (b : Bool) → is_transaction plan proc ≡ b
-        → IsSubmissionOf w n proc args (refused_or_accepted plan s proc args (if not b then Some fault.NoProc else if not (length args == (procedure_of plan proc).arguments) then Some fault.Args else if nat_le most_transactions s.next then Some fault.Spent else if nat_le most_pending (length s.pending) then Some fault.Busy else None)) o
-        → (is_transaction plan proc ≡ true) × (length args ≡ (procedure_of plan proc).arguments)
-    procedure true e r = (e, arguments (length args == (procedure_of plan proc).arguments) refl r)
-    procedure false e r = elim r [ ]
+    go : (r : Submission) → ends.IsTransactionSubmission plan s proc args r → IsSubmissionOf w n proc args r o → (is_transaction plan proc ≡ true) × (length args ≡ (procedure_of plan proc).arguments)
+    go r (ends.unknown e) h = absurd h
+    go r (ends.miscounted e) h = absurd h
+    go r (ends.spent known counted l) h = (known, counted)
+    go r (ends.busy known counted l m) h = (known, counted)
+    go r (ends.taken known counted l m) h = (known, counted)
 
 -- ---- any event
 
@@ -106,7 +87,7 @@ module _ (exists : (known : List KnownList) (M : List TxnId) → (xs : List TxnI
       let o = received exists one plan (mark_delivered w k) m.0.msg m.0.to here.to in
       (o.0, (m.0, some, m.1, o.1))
   happens (Tick (Server shard)) l = let s = there w.servers shard.0 l in (served w shard.0 (answered s.0 (server.tick_sends s.0)), (s.0, s.1, refl))
-  happens (Tick (Coord n)) l = let s = there w.coords n l in (undecided seen.Done (at_coord w n s.0 (coord.tick_sends plan s.0) []), (s.0, s.1, refl))
+  happens (Tick (Coord n)) l = let s = there w.coords n l in (undecided seen.Done (at_coord w n s.0 (transaction_tick_sends plan s.0) []), (s.0, s.1, refl))
 
   pub outcome : (e : Event) → IsEventOf plan w e → (o : Outcome) × Happens plan w e o × FitsWorld plan o.world
   outcome e event = let o = happens e event in (o.0, o.1, kept plan w fits e o.0 o.1)

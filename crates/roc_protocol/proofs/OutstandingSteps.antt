@@ -13,7 +13,7 @@ use Rattle.roc_base.specs.TxnId.{is_txn}
 use Rattle.roc_base.specs.Equalities.{is_txn-true}
 use Rattle.roc_base.proofs.Ids.{is_txn-eq}
 use Rattle.roc_msg.specs.declared.msg.Msg.{Msg}
-use Rattle.roc_msg.specs.declared.msg.Msg.TheVariants.{StartOk, CommitOk}
+use Rattle.roc_msg.specs.declared.msg.Msg.TheVariants.{StartOk, CommitOk, ReadOk}
 use Rattle.roc_msg.specs.declared.msg.Envelope.{Envelope}
 use Rattle.roc_msg.specs.declared.outbox.Outgoing.{Outgoing}
 use Rattle.roc_msg.specs.declared.reason.Reason.TheVariants.{Stale, Unfit}
@@ -46,6 +46,7 @@ pub record Proceeds (plan : Plan) (sent : List Envelope) (from : Node) (s after 
 -- a startok is of a group of its procedure, from one of few shards
 abbrev pub IsOfGroup : Plan → List Transaction → Msg → Type 0
 IsOfGroup plan pending (StartOk id group shard bound outs edges facts) = (shard.0 < 64) × ((x : Transaction) → Has x pending → x.id ≡ id → Has group (group_numbers plan x.proc))
+IsOfGroup plan pending (ReadOk id round group shard versions outs) = ⊥
 IsOfGroup plan pending msg = Unit {0}
 
 module _ (plan : Plan) (sent : List Envelope) (from : Node) (s : CoordState) (once : (y z : Transaction) → Has y s.pending → Has z s.pending → y.id ≡ z.id → y ≡ z)
@@ -54,14 +55,17 @@ module _ (plan : Plan) (sent : List Envelope) (from : Node) (s : CoordState) (on
   Goes after outs tells = Proceeds plan sent from s after outs tells
 
   -- no transaction changes
-  pub same : (outs : List Outgoing) → Goes s outs []
-  same outs =
+  pub same_aside : (after : CoordState) → after.pending ≡ s.pending → (outs : List Outgoing) → Goes after outs []
+  same_aside after e outs =
       record {
-        before = λ y h. inl (y, h, as_it_was y);
-        stays = λ x h. inl (x, h, refl);
-        holds = λ y h. outstanding_stays plan sent (map (sent_by from) outs) y (old y h);
+        before = λ y h. inl (y, subst (λ l. Has y l) e h, as_it_was y);
+        stays = λ x h. inl (x, subst (λ l. Has x l) (sym e) h, refl);
+        holds = λ y h. outstanding_stays plan sent (map (sent_by from) outs) y (old y (subst (λ l. Has y l) e h));
         answers = λ t reply h. absurd h;
       }
+
+  pub same : (outs : List Outgoing) → Goes s outs []
+  same = same_aside s refl
 
   -- it stands where the old one stood
   there : (x y : Transaction) → Has x s.pending → y.id ≡ x.id → Has y (with_transaction s y).pending
@@ -99,7 +103,7 @@ module _ (plan : Plan) (sent : List Envelope) (from : Node) (s : CoordState) (on
   -- ---- a startok
 
   startok_goes_on : (ok : TakenStart) (shard : Shard) (id : TxnId) → shard.0 < 64 → ((x : Transaction) → Has x s.pending → x.id ≡ id → Has ok.group (group_numbers plan x.proc)) → (x : Option Transaction) → find_transaction id s.pending ≡ x
-      → Goes (after_startok plan s x ok shard).state (after_startok plan s x ok shard).sends (answer_entries (after_startok plan s x ok shard).answer)
+      → Goes (after_startok plan s id x ok shard).state (after_startok plan s id x ok shard).sends (answer_entries (after_startok plan s id x ok shard).answer)
   startok_goes_on ok shard id few number None e = same []
   startok_goes_on ok shard id few number (Some x) e = fresh (is_some (find_startok ok.group x.startoks)) refl
     where
@@ -121,7 +125,7 @@ module _ (plan : Plan) (sent : List Envelope) (from : Node) (s : CoordState) (on
 
   -- ---- a commitok
 
-  commitok_goes_on : (ok : TakenCommit) (id : TxnId) (x : Option Transaction) → find_transaction id s.pending ≡ x → Goes (after_commitok plan s x ok).state (after_commitok plan s x ok).sends (answer_entries (after_commitok plan s x ok).answer)
+  commitok_goes_on : (ok : TakenCommit) (id : TxnId) (x : Option Transaction) → find_transaction id s.pending ≡ x → Goes (after_commitok plan s id x ok).state (after_commitok plan s id x ok).sends (answer_entries (after_commitok plan s id x ok).answer)
   commitok_goes_on ok id None e = same []
   commitok_goes_on ok id (Some x) e = fresh (has_commitok ok.shard x.commitoks)
     where
@@ -169,6 +173,7 @@ module _ (plan : Plan) (sent : List Envelope) (from : Node) (s : CoordState) (on
   pub message_goes_on : (msg : Msg) → IsOfGroup plan s.pending msg → Goes (after_message plan s msg).state (after_message plan s msg).sends (answer_entries (after_message plan s msg).answer)
   message_goes_on (StartOk id group shard bound outs edges facts) f = startok_goes_on (record { group = group; bound = bound; outs = outs; edges = edges; facts = facts }) shard id f.0 f.1 (find_transaction id s.pending) refl
   message_goes_on (CommitOk id shard outs) f = commitok_goes_on (record { shard = shard; outs = outs }) id (find_transaction id s.pending) refl
+  message_goes_on (ReadOk id round group shard versions outs) f = absurd f
   message_goes_on msg f = same []
 
   -- a submission that is accepted

@@ -15,7 +15,7 @@ use Rattle.roc_base.proofs.Ids.{is_txn-eq}
 use Rattle.roc_base.specs.Edge.{Dependency}
 use Rattle.roc_depgraph.specs.declared.known.KnownList.{KnownList}
 use Rattle.roc_msg.specs.declared.msg.Msg.{Msg}
-use Rattle.roc_msg.specs.declared.msg.Msg.TheVariants.{StartOk, CommitOk}
+use Rattle.roc_msg.specs.declared.msg.Msg.TheVariants.{StartOk, CommitOk, ReadOk}
 use Rattle.roc_msg.specs.declared.msg.Envelope.{Envelope}
 use Rattle.roc_msg.specs.declared.outbox.Outgoing.{Outgoing}
 use Rattle.roc_msg.specs.declared.reason.Reason.{Reason}
@@ -34,10 +34,11 @@ use Rattle.roc_coord.specs.State.{find_transaction, with_transaction, find_start
 use Rattle.roc_coord.specs.Starts.{group_numbers, ready_groups, shard_for, start_for, with_starts, starts_of, all_started, commit_to}
 use Rattle.roc_coord.specs.Step.{unless_refused, with_commits, with_startok, sends_after, startok_taken, startok_refusal, after_startok, with_commitok, reply_now, commitok_taken, commitok_refusal, after_commitok, after_message, answered_sends, without_transaction}
 use Rattle.roc_coord.specs.Submit.{next_id, new_transaction, accepted}
-use Rattle.roc_coord.specs.Tick.{awaits_startok, starts_again, commits_again, sent_again, tick_sends}
+use Rattle.roc_coord.specs.Tick.{awaits_startok, starts_again, commits_again, sent_again}
 use Rattle.roc_audit.specs.declared.entry.Entry.{Entry}
 use Rattle.roc_audit.specs.declared.entry.Entry.TheVariants.{Submitted}
 use Rattle.roc_server_lists.proofs.SameIds.{ids_of}
+use Rattle.roc_protocol.specs.Aside.{transaction_tick_sends}
 use Rattle.roc_protocol.specs.declared.event.Event.{Event}
 use Rattle.roc_protocol.specs.declared.event.Event.TheVariants.{Submit, Deliver, Tick}
 use Rattle.roc_protocol.specs.PlanAssumptions.{IsSchemeOf}
@@ -45,7 +46,8 @@ use Rattle.roc_protocol.specs.Final.{lists_in}
 use Rattle.roc_protocol.specs.Beginnings.{Beginning, IsBeginning, begun_server, begun_coord}
 use Rattle.roc_protocol.specs.World.{World, mark_delivered, at_coord}
 use Rattle.roc_protocol.specs.Happens.{Outcome, answer_entries, IsReceived}
-use Rattle.roc_protocol.specs.Run.{Stepped, Transition, IsRunFrom, at_beginning, steps_on}
+use Rattle.roc_protocol.specs.Run.{Stepped}
+use Rattle.roc_protocol.specs.Beside.{Moves, IsRunBeside, beside_begins, beside_goes_on}
 use Rattle.roc_protocol.specs.Inner.Given.{LogLaws, StoreLaws}
 use Rattle.roc_protocol.proofs.Means.{TxnMeans}
 use Rattle.roc_protocol.proofs.Rounds.{told}
@@ -55,15 +57,18 @@ use Rattle.roc_protocol.proofs.Served.{StartsAre}
 use Rattle.roc_protocol.proofs.NoStarts.{no_starts, no_starts_at_tick}
 use Rattle.roc_protocol.proofs.Networks.{IsNetworked}
 use Rattle.roc_protocol.proofs.Finals.{run_networked, comes_networked}
-use Rattle.roc_protocol.proofs.Held.{commits_id, Advances, stays, message_advances, submission_advances, starts_asked}
+use Rattle.roc_protocol.proofs.Held.{commits_id, Advances, stays, message_advances, submission_advances, starts_asked, stays_aside}
 use Rattle.roc_protocol.proofs.Pending.{AskedBy, IsWholeAt, StartsOn, IsPending, starts_here, served_pending, coordinated_pending, lists_later}
 use Rattle.roc_protocol.proofs.PendingSends.{start_on, commit_lists, commit_starts, start_lists, round_starts, round_lists}
 use Rattle.roc_protocol.proofs.Firsts.{found_at}
 use Rattle.roc_protocol.proofs.Submissions.{AreSubmissions, unused}
-use Rattle.roc_protocol.proofs.Worlds.{Submitting, is_refused, is_accepted, submitting, submissions_from, comes_logged, Agrees, agrees_before, IsLogged}
-use Rattle.roc_protocol.proofs.Witness.{step_extends, run_logged}
+use Rattle.roc_protocol.proofs.Worlds.{Submitting, is_refused, is_accepted, submitting, submissions_from, comes_logged, Agrees, IsLogged}
+use Rattle.roc_protocol.proofs.Onward.{agrees_before}
+use Rattle.roc_protocol.proofs.Witness.{run_logged}
+use Rattle.roc_protocol.proofs.KeptAside.{kept_aside}
 use Rattle.roc_protocol.proofs.Marks.{IsMarkOf, mark_sent, mark_told}
 use Rattle.roc_coord.specs.Marks.{ended_sends}
+use Rattle.roc_audit.specs.History.{WasSubmitted}
 
 module _ (plan : Plan) (asked : TxnId → whole.Call) (S : Scheme) (start : Beginning) (is : IsSchemeOf plan asked S) (laws : LogLaws S start.store) where
   module _ (w : World) (log : Log) (l : IsLogged plan asked S start is laws w log) (nw : IsNetworked plan asked S start is laws w) (subs : AreSubmissions plan w.history w.coords) (o : IsPending plan w) where
@@ -95,8 +100,8 @@ module _ (plan : Plan) (asked : TxnId → whole.Call) (S : Scheme) (start : Begi
 
       startok_pending : (m : Envelope) → Has m w.sent → (id : TxnId) (group : ℕ) (shard : Shard) (bound outs : List ℤ) (edges : List Dependency) (facts : List KnownList) → m.msg ≡ StartOk id group shard bound outs edges facts
           → (x : Option Transaction) → find_transaction id s.pending ≡ x
-          → Advances plan s (after_startok plan s x (record { group = group; bound = bound; outs = outs; edges = edges; facts = facts }) shard).state
-          → Result n (after_startok plan s x (record { group = group; bound = bound; outs = outs; edges = edges; facts = facts }) shard).state (after_startok plan s x (record { group = group; bound = bound; outs = outs; edges = edges; facts = facts }) shard).sends
+          → Advances plan s (after_startok plan s id x (record { group = group; bound = bound; outs = outs; edges = edges; facts = facts }) shard).state
+          → Result n (after_startok plan s id x (record { group = group; bound = bound; outs = outs; edges = edges; facts = facts }) shard).state (after_startok plan s id x (record { group = group; bound = bound; outs = outs; edges = edges; facts = facts }) shard).sends
       startok_pending m has id group shard bound outs edges facts e None f a = silent s a
       startok_pending m has id group shard bound outs edges facts e (Some x) f a = refused (startok_refusal plan x (record { group = group; bound = bound; outs = outs; edges = edges; facts = facts }) shard) a
         where
@@ -134,9 +139,9 @@ module _ (plan : Plan) (asked : TxnId → whole.Call) (S : Scheme) (start : Begi
       mark_lists : {after : CoordState} (out : Outgoing) → IsMarkOf plan after out → (k : KnownList) → Has k (lists_in out.msg) → ⊥
       mark_lists out q k h = subst (λ (out : Outgoing). Has k (lists_in out.msg)) q.is h
 
-      commitok_pending : (ok : TakenCommit) (x : Option Transaction) → Advances plan s (after_commitok plan s x ok).state → Result n (after_commitok plan s x ok).state (after_commitok plan s x ok).sends
-      commitok_pending ok None a = silent s a
-      commitok_pending ok (Some x) a = refused (commitok_refusal plan x ok) (reply_now plan (with_commitok x ok)) a
+      commitok_pending : (ok : TakenCommit) (id : TxnId) (x : Option Transaction) → Advances plan s (after_commitok plan s id x ok).state → Result n (after_commitok plan s id x ok).state (after_commitok plan s id x ok).sends
+      commitok_pending ok id None a = silent s a
+      commitok_pending ok id (Some x) a = refused (commitok_refusal plan x ok) (reply_now plan (with_commitok x ok)) a
         where
           refused : (r : Option Reason) (reply : Option (List ℤ)) → Advances plan s (unless_refused s r (commitok_taken plan s (with_commitok x ok) reply)).state
               → Result n (unless_refused s r (commitok_taken plan s (with_commitok x ok) reply)).state (unless_refused s r (commitok_taken plan s (with_commitok x ok) reply)).sends
@@ -149,15 +154,24 @@ module _ (plan : Plan) (asked : TxnId → whole.Call) (S : Scheme) (start : Begi
 
       message_pending : (m : Envelope) → Has m w.sent → (msg : Msg) → m.msg ≡ msg → Advances plan s (after_message plan s msg).state → Result n (after_message plan s msg).state (after_message plan s msg).sends
       message_pending m has (StartOk id group shard bound outs edges facts) e a = startok_pending m has id group shard bound outs edges facts e (find_transaction id s.pending) refl a
-      message_pending m has (CommitOk id shard outs) e a = commitok_pending (record { shard = shard; outs = outs }) (find_transaction id s.pending) a
+      message_pending m has (CommitOk id shard outs) e a = commitok_pending (record { shard = shard; outs = outs }) id (find_transaction id s.pending) a
+      message_pending m has (ReadOk id round group shard versions outs) e a = absurd (subst (StartsAre (WasSubmitted w.history)) e (l.starts m has))
       message_pending m has msg e a = silent s a
+
+      -- ---- aside
+
+      aside_pending : (after : CoordState) → after.pending ≡ s.pending → (outs : List Outgoing) → ((out : Outgoing) → Has out outs → IsMarkOf plan after out) → Result n after outs
+      aside_pending after e outs marks tells =
+          let a = stays_aside plan s once after e in
+          coordinated_pending plan asked S start is laws w log l subs o n s there after a outs tells (own_after after a)
+          (λ out h. mark_on (slice_set w.coords n after) out (marks out h)) (λ out h k j. absurd (mark_lists out (marks out h) k j))
 
       -- ---- a tick
 
-      tick_pending : Result n s (tick_sends plan s)
+      tick_pending : Result n s (transaction_tick_sends plan s)
       tick_pending tells =
           let a = stays plan s once in
-          coordinated_pending plan asked S start is laws w log l subs o n s there s a (tick_sends plan s) tells (own_after s a)
+          coordinated_pending plan asked S start is laws w log l subs o n s there s a (transaction_tick_sends plan s) tells (own_after s a)
           (λ out h. elim (has_append out (flat_map (sent_again plan) s.pending) (ended_sends plan s) h) [
             | inl k ↦ (let q = from_has_flat_map (sent_again plan) out s.pending k in again_starts a q.0 q.1 out (all_started plan q.0) q.2)
             | inr k ↦ mark_on (slice_set w.coords n s) out (mark_sent plan s out k)
@@ -208,8 +222,11 @@ module _ (plan : Plan) (asked : TxnId → whole.Call) (S : Scheme) (start : Begi
 
   -- ---- worlds
 
-  step_pending : (w : World) (log : Log) → IsLogged plan asked S start is laws w log → IsNetworked plan asked S start is laws w → AreSubmissions plan w.history w.coords → IsPending plan w → (e : Option Event) (v : Outcome) → Transition plan w e v → IsPending plan v.world
-  step_pending w log l nw subs o None v h = subst (λ (v : Outcome). IsPending plan v.world) (sym h) o
+  step_pending : (w : World) (log : Log) → IsLogged plan asked S start is laws w log → IsNetworked plan asked S start is laws w → AreSubmissions plan w.history w.coords → IsPending plan w → (e : Option Event) (v : Outcome) → Moves plan w e v → IsPending plan v.world
+  step_pending w log l nw subs o None v (inl h) = subst (λ (v : Outcome). IsPending plan v.world) (sym h) o
+  step_pending w log l nw subs o None v (inr x) =
+      let k = kept_aside plan x.before x.after x.sends x.does in
+      subst (λ (v : Outcome). IsPending plan v.world) (sym x.is) (aside_pending w log l nw subs o x.number x.before x.there x.after k.pending x.sends k.marks [])
   step_pending w log l nw subs o (Some (Submit n proc args)) v (s, there, h) = go (submitting plan w n proc args s v h)
     where
       go : Submitting plan w n proc args s v → IsPending plan v.world
@@ -232,8 +249,8 @@ module _ (plan : Plan) (asked : TxnId → whole.Call) (S : Scheme) (start : Begi
   step_pending w log l nw subs o (Some (Tick (Coord n))) v (s, there, e) = subst (λ (v : Outcome). IsPending plan v.world) (sym e) (tick_pending w log l nw subs o n s there [])
 
   module _ (stores : StoreLaws) (begins : IsBeginning plan start) where
-    pub run_pending : (coords : ℕ) (steps : List Stepped) (w : World) → IsRunFrom plan start coords steps w → Agrees asked w.history → IsPending plan w
-    run_pending coords steps w at_beginning fits =
+    pub run_pending : (coords : ℕ) (steps : List Stepped) (w : World) → IsRunBeside plan start coords steps w → Agrees asked w → IsPending plan w
+    run_pending coords steps w beside_begins fits =
         record {
           own = λ n c e x h. elim (subst (λ (c : CoordState). Has x c.pending) (found_at (begun_coord start) 0 coords n c e) h) [ ];
           once = λ n c e y z h. elim (subst (λ (c : CoordState). Has y c.pending) (found_at (begun_coord start) 0 coords n c e) h) [ ];
@@ -247,8 +264,7 @@ module _ (plan : Plan) (asked : TxnId → whole.Call) (S : Scheme) (start : Begi
                 same = subst (λ (s : ServerState). ids_of s.lists.links ≡ ids_of s.lists.known) (sym e) refl;
               });
         }
-    run_pending coords steps w (steps_on {w = v} e o r h) fits =
-        let x = step_extends plan v e o h in
-        let g = agrees_before asked v.history x.more (subst (Agrees asked) x.is fits) in
+    run_pending coords steps w (beside_goes_on {w = v} e o r h) fits =
+        let g = agrees_before plan v (submissions_from plan start coords _ v r) asked e o h fits in
         let lg = run_logged plan asked S start is laws stores begins coords _ v r g in
         step_pending v lg.0 lg.1 (run_networked plan asked S start is laws stores begins coords _ v r g) (submissions_from plan start coords _ v r) (run_pending coords _ v r g) e o h

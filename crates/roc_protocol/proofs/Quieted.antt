@@ -1,5 +1,5 @@
 -- A quiet transaction is decided wherever it has a group, and its commits are answered
-use Rattle.std.proofs.Common.{◌≤◌, ◌≡◌, ℕ, ℤ, suc, ◌<◌, Bool, true, false, List, [], ◌∷◌, Option, Some, None, length, refl, sym, ap, subst, ◌∙◌, inl, inr, arith, is_some, unwrap_or}
+use Rattle.std.proofs.Common.{◌≡◌, ℕ, ℤ, suc, ◌<◌, Bool, true, false, List, [], ◌∷◌, Option, Some, None, length, refl, sym, ap, subst, ◌∙◌, inl, inr, arith, is_some, unwrap_or}
 use Rattle.std.proofs.lemmas.Bool.{false≢true}
 use Rattle.std.specs.Prelude.{slice_get, flat_map}
 use Rattle.std.specs.List.{range_with_len}
@@ -35,15 +35,16 @@ use Rattle.roc_audit.specs.History.{WasSubmitted, WasAnswered}
 use Rattle.roc_protocol.specs.PlanAssumptions.{HasSchemesFrom}
 use Rattle.roc_protocol.specs.Beginnings.{Beginning, IsBeginning}
 use Rattle.roc_protocol.specs.World.{World}
-use Rattle.roc_protocol.specs.Run.{Stepped, IsRunFrom}
+use Rattle.roc_protocol.specs.Run.{Stepped}
+use Rattle.roc_protocol.specs.Beside.{IsRunBeside}
 use Rattle.roc_protocol.specs.Quiet.{IsToldIn, PrecedesIn, IsQuiet}
 use Rattle.roc_protocol.specs.Final.{IsFinalIn}
 use Rattle.roc_protocol.specs.Inner.Given.{LogLaws, StoreLaws}
 use Rattle.roc_protocol.proofs.Means.{Means}
-use Rattle.roc_protocol.proofs.Idle.{run_idle}
+use Rattle.roc_protocol.proofs.Idle.{run_idle, idle_mark}
 use Rattle.roc_protocol.proofs.Facts.{known_has}
 use Rattle.roc_protocol.proofs.Finals.{known_final}
-use Rattle.roc_protocol.proofs.Answered.{submitted_late, heard_answered}
+use Rattle.roc_protocol.proofs.Answered.{submitted_own, heard_answered}
 use Rattle.roc_protocol.proofs.Serial as serial
 use Rattle.roc_protocol.proofs.Heard.{AreDelivered, StartsHeard, CommitsAreOut, CommitsHeard}
 use Rattle.roc_protocol.proofs.Hears.{IsSought}
@@ -54,6 +55,7 @@ use Rattle.roc_protocol.proofs.Gone.{IsGone, here_stays}
 use Rattle.roc_protocol.proofs.Followed.{link_entry}
 use Rattle.roc_protocol.proofs.Served.{StartsAre}
 use Rattle.roc_server_lists.proofs.SameIds.{known_alike}
+use Rattle.roc_protocol.proofs.Marks.{IsMark}
 
 -- ---- lists
 
@@ -91,7 +93,7 @@ entry_of known u t p =
     let k = known_has known t (entry_known known t a.0 a.1) in
     record { list = k.0; is_known = k.1; of = k.2; entry = a.0; has = subst (Has a.0) k.3 a.1; from = is_txn-true a.0.from u a.2 }
 
-module _ (plan : Plan) (marks : ℕ) (w : World) (o : HasHeard marks w) (finals : (n : ℕ) (s : ServerState) → slice_get w.servers n ≡ Some s → (k : KnownList) → Has k s.lists.known → IsFinalIn plan w k.of k.edges) (out : (u : TxnId) → AreDelivered w u → CommitsAreOut w u) (Late : TxnId → Type 0) (ended : (n : ℕ) (s : ServerState) → slice_get w.servers n ≡ Some s → (t : TxnId) → Late t → is_ended s.below t ≡ true → (reply : List ℤ) × WasAnswered w.history t reply) where
+module _ (plan : Plan) (marks : ℕ) (w : World) (o : HasHeard marks w) (finals : (n : ℕ) (s : ServerState) → slice_get w.servers n ≡ Some s → (k : KnownList) → Has k s.lists.known → IsFinalIn plan w k.of k.edges) (out : (u : TxnId) → AreDelivered w u → CommitsAreOut w u) (Asked : TxnId → Type 0) (ended : (n : ℕ) (s : ServerState) → slice_get w.servers n ≡ Some s → (t : TxnId) → Asked t → is_ended s.below t ≡ true → (reply : List ℤ) × WasAnswered w.history t reply) where
   -- a message in the network of a transaction whose messages were delivered came
   came : (u : TxnId) → AreDelivered w u → (k : ℕ) (m : Envelope) → slice_get w.sent k ≡ Some m → id_of m.msg ≡ Some u → HasCome w k
   came u d k m at of = (m, at, d.each k m at of)
@@ -172,17 +174,17 @@ module _ (plan : Plan) (marks : ℕ) (w : World) (o : HasHeard marks w) (finals 
 
     -- unless it is answered
     commits_answered : ((n : ℕ) (s : ServerState) → slice_get w.servers n ≡ Some s → (t : TxnId) (d : Dependency) → Has d (entries_of s.lists.links t) → Has d (entries_of s.lists.known t))
-        → Late t → ((reply : List ℤ) → ¬ WasAnswered w.history t reply) → CommitsHeard w t
-    commits_answered entry late unanswered = record {
+        → Asked t → ((reply : List ℤ) → ¬ WasAnswered w.history t reply) → CommitsHeard w t
+    commits_answered entry asked unanswered = record {
       each = λ k m shard edges facts at goes is d.
           (let a : At w.servers shard.0 (HasCommit w.sent t shard) = subst (IsTaken w.servers w.sent k (Commit t edges facts)) goes (subst (λ msg. IsTaken w.servers w.sent k msg m.to) is (o.taken k m (m, at, d) at)) in
-          elim a.2 [ inl k ↦ k.2 (decided_here shard.0 a.0 a.1 (entry shard.0 a.0 a.1) k.0) | inr gone ↦ absurd (let answer = ended shard.0 a.0 a.1 t late gone.ended in unanswered answer.0 answer.1) ]);
+          elim a.2 [ inl k ↦ k.2 (decided_here shard.0 a.0 a.1 (entry shard.0 a.0 a.1) k.0) | inr gone ↦ absurd (let answer = ended shard.0 a.0 a.1 t asked gone.ended in unanswered answer.0 answer.1) ]);
     }
 
 -- ---- every run
 
 module _ (plan : Plan) (start : Beginning) (begins : IsBeginning plan start) (schemes : HasSchemesFrom plan start.store) (laws : (S : Scheme) → IsSoundScheme S → LogLaws S start.store) (stores : StoreLaws) (marks : ℕ) (many : (n : ℕ) → length (start.below n) ≡ marks)
-    (coords : ℕ) (steps : List Stepped) (w : World) (run : IsRunFrom plan start coords steps w) where
+    (coords : ℕ) (steps : List Stepped) (w : World) (run : IsRunBeside plan start coords steps w) where
   heard : HasHeard marks w
   heard = run_heard plan start begins schemes laws stores marks many coords steps w run
 
@@ -193,15 +195,11 @@ module _ (plan : Plan) (start : Beginning) (begins : IsBeginning plan start) (sc
         (let x = serial.logged plan start begins schemes laws stores coords steps w run some in
         let k = subst (λ msg. Means plan (serial.asked plan start begins schemes laws stores coords steps w run some) (serial.S plan start begins schemes laws stores coords steps w run some) start x.0 msg m.to) is (x.1.means.messages m h) in
         (_, k.to, subst (StartsAre (WasSubmitted w.history)) is (x.1.starts m h)))
-    | inr none ↦ absurd (subst (Has m) (run_idle plan none start begins coords steps w run).sent h)
+    | inr none ↦ absurd (subst IsMark is (idle_mark plan start w (run_idle plan none start begins coords steps w run) m h))
   ]
 
-  -- its sequence was not used before the run began
-  abbrev Late : TxnId → Type 0
-  Late t = start.nexts t.coord ≤ t.seq
-
-  ended : (n : ℕ) (s : ServerState) → slice_get w.servers n ≡ Some s → (t : TxnId) → Late t → is_ended s.below t ≡ true → (reply : List ℤ) × WasAnswered w.history t reply
-  ended = heard_answered plan start begins schemes laws stores coords steps w run
+  ended : (n : ℕ) (s : ServerState) → slice_get w.servers n ≡ Some s → (t : TxnId) → WasSubmitted w.history t → is_ended s.below t ≡ true → (reply : List ℤ) × WasAnswered w.history t reply
+  ended n s there t was = heard_answered plan start begins schemes laws stores coords steps w run n s there t (submitted_own plan start begins schemes laws stores coords steps w run t was)
 
   -- each start that was delivered has a startok in the network, unless it is answered
   pub starts_heard : (t : TxnId) → ((reply : List ℤ) → ¬ WasAnswered w.history t reply) → StartsHeard w t
@@ -210,7 +208,7 @@ module _ (plan : Plan) (start : Beginning) (begins : IsBeginning plan start) (sc
         (let to = start_to m (has_at w.sent k m at) t proc group args inputs is in
         elim (subst (IsTaken w.servers w.sent k (Start t proc group args inputs)) to.1 (subst (λ msg. IsTaken w.servers w.sent k msg m.to) is (heard.taken k m (m, at, d) at))) [
           | inl told ↦ told
-          | inr over ↦ absurd (let answer = ended to.0.0 over.0 over.1 t (submitted_late plan start begins schemes laws stores coords steps w run t to.2) over.2 in unanswered answer.0 answer.1)
+          | inr over ↦ absurd (let answer = ended to.0.0 over.0 over.1 t to.2 over.2 in unanswered answer.0 answer.1)
         ]);
   }
 
@@ -220,7 +218,7 @@ module _ (plan : Plan) (start : Beginning) (begins : IsBeginning plan start) (sc
     | inl some ↦
         (let l = serial.logged plan start begins schemes laws stores coords steps w run some in
         link_entry (IsSettled (serial.S plan start begins schemes laws stores coords steps w run some) start.store l.0) s.lists.known s.lists.links (l.1.means.servers n s there).links t d h)
-    | inr none ↦ absurd (subst (λ links. Has d (entries_of links t)) ((run_idle plan none start begins coords steps w run).links n s there) h)
+    | inr none ↦ absurd (subst (λ links. Has d (entries_of links t)) ((run_idle plan none start begins coords steps w run).servers n s there).links h)
   ]
 
   module _ (out : (u : TxnId) → AreDelivered w u → CommitsAreOut w u) where
@@ -229,8 +227,8 @@ module _ (plan : Plan) (start : Beginning) (begins : IsBeginning plan start) (sc
 
     -- a quiet transaction is decided wherever it has a group
     pub quiet_is_decided : (t : TxnId) → IsQuiet plan steps w t → (shard : Shard) (s : ServerState) → slice_get w.servers shard.0 ≡ Some s → (e : StartedGroup) → Has e s.started → e.id ≡ t → IsDecided s.lists.links t
-    quiet_is_decided t quiet shard s there e h of = decided_here plan marks w heard finals out Late ended steps t quiet shard.0 s there (entry shard.0 s there) (has_any (λ (e : StartedGroup). is_txn e.id t) s.started e h (is_txn-eq e.id t of))
+    quiet_is_decided t quiet shard s there e h of = decided_here plan marks w heard finals out (WasSubmitted w.history) ended steps t quiet shard.0 s there (entry shard.0 s there) (has_any (λ (e : StartedGroup). is_txn e.id t) s.started e h (is_txn-eq e.id t of))
 
     -- and each commit of it that was delivered has a commitok in the network, unless it is answered
-    pub commits_heard : (t : TxnId) → IsQuiet plan steps w t → start.nexts t.coord ≤ t.seq → ((reply : List ℤ) → ¬ WasAnswered w.history t reply) → CommitsHeard w t
-    commits_heard t quiet = commits_answered plan marks w heard finals out Late ended steps t quiet entry
+    pub commits_heard : (t : TxnId) → IsQuiet plan steps w t → WasSubmitted w.history t → ((reply : List ℤ) → ¬ WasAnswered w.history t reply) → CommitsHeard w t
+    commits_heard t quiet = commits_answered plan marks w heard finals out (WasSubmitted w.history) ended steps t quiet entry

@@ -72,7 +72,7 @@ IsTakenOrGone why = (why ≡ None) ⊎ (why ≡ Some Gone)
 just : {a : Handled} → Some a ≡ Some Gone → a ≡ Gone
 just e = cc
 
-module _ (plan : Plan) (asked : TxnId → whole.Call) (S : Scheme) (start : Beginning) (is : IsSchemeOf plan asked S) (laws : LogLaws S start.store) (w : World) (log : Log) (o : IsLogged plan asked S start is laws w log) (nw : IsNetworked plan asked S start is laws w) (ha : HasAsked w) (subs : AreSubmissions plan w.history w.coords) (agrees : Agrees asked w.history) (known : (t : TxnId) → is_transaction plan (asked t).procedure ≡ true) (n : ℕ) (s : ServerState) (there : slice_get w.servers n ≡ Some s) where
+module _ (plan : Plan) (asked : TxnId → whole.Call) (S : Scheme) (start : Beginning) (is : IsSchemeOf plan asked S) (laws : LogLaws S start.store) (w : World) (log : Log) (o : IsLogged plan asked S start is laws w log) (nw : IsNetworked plan asked S start is laws w) (ha : HasAsked w) (subs : AreSubmissions plan w.history w.coords) (agrees : Agrees asked w) (known : (t : TxnId) → is_transaction plan (asked t).procedure ≡ true) (n : ℕ) (s : ServerState) (there : slice_get w.servers n ≡ Some s) where
   i : LogInvariants S start.store log
   i = laws.holds log o.means.reached
 

@@ -30,7 +30,8 @@ use Rattle.roc_protocol.specs.Beginnings.{Beginning}
 use Rattle.roc_protocol.specs.WitnessFrom.{IsSerialWitnessFrom}
 use Rattle.roc_protocol.specs.World.{World, mark_delivered}
 use Rattle.roc_protocol.specs.Happens.{Outcome, IsReceived, answer_entries}
-use Rattle.roc_protocol.specs.Run.{Stepped, Transition, IsRunFrom, steps_on}
+use Rattle.roc_protocol.specs.Run.{Stepped}
+use Rattle.roc_protocol.specs.Beside.{Moves, IsRunBeside, beside_goes_on}
 use Rattle.roc_protocol.proofs.Submissions.{no_submission}
 use Rattle.roc_protocol.proofs.Worlds.{Submitting, is_refused, is_accepted, submitting}
 use Rattle.roc_protocol.proofs.Earlier.{order_goes_on}
@@ -42,8 +43,9 @@ data Leaves (w : World) (o : World) : Type 0 where
   leaves_all : o.servers ≡ w.servers → o.order ≡ w.order → Leaves w o
   submits_none : (more : List Entry) → o.history ≡ w.history ++ more → ((t : TxnId) (p : ℕ) (a : List ℤ) → ¬ Has (Submitted t p a) more) → Leaves w o
 
-leaves : (plan : Plan) (w : World) (e : Option Event) (o : Outcome) → Transition plan w e o → Leaves w o.world
-leaves plan w None o h = subst (λ (o : Outcome). Leaves w o.world) (sym h) (leaves_all refl refl)
+leaves : (plan : Plan) (w : World) (e : Option Event) (o : Outcome) → Moves plan w e o → Leaves w o.world
+leaves plan w None o (inl h) = subst (λ (o : Outcome). Leaves w o.world) (sym h) (leaves_all refl refl)
+leaves plan w None o (inr x) = subst (λ (o : Outcome). Leaves w o.world) (sym x.is) (leaves_all refl refl)
 leaves plan w (Some (Submit n proc args)) o (s, there, h) = go (submitting plan w n proc args s o h)
   where
     go : Submitting plan w n proc args s o → Leaves w o.world
@@ -71,8 +73,8 @@ none_behind order (t ∷ rest) once all =
     twice : (xs : List TxnId) → NoneTwice is_txn (xs ++ t ∷ rest) → ¬ IsListed is_txn xs t
     twice xs o l = apart xs (t ∷ rest) t o (listed_head is_txn t rest (is_txn-same t)) l
 
-module _ (plan : Plan) (start : Beginning) (coords : ℕ) (steps : List Stepped) (w : World) (run : IsRunFrom plan start coords steps w) (serials : (steps : List Stepped) (v : World) → IsRunFrom plan start coords steps v → IsSerialWitnessFrom plan.program start.store v.history v.order) where
-  order_by : AreAllAnswered w → (o : World) (steps : List Stepped) → IsRunFrom plan start coords steps o → (rest : List TxnId) → o.order ≡ w.order ++ rest → Leaves w o → o.order ≡ w.order
+module _ (plan : Plan) (start : Beginning) (coords : ℕ) (steps : List Stepped) (w : World) (run : IsRunBeside plan start coords steps w) (serials : (steps : List Stepped) (v : World) → IsRunBeside plan start coords steps v → IsSerialWitnessFrom plan.program start.store v.history v.order) where
+  order_by : AreAllAnswered w → (o : World) (steps : List Stepped) → IsRunBeside plan start coords steps o → (rest : List TxnId) → o.order ≡ w.order ++ rest → Leaves w o → o.order ≡ w.order
   order_by all o after there rest grown (leaves_all servers same) = same
   order_by all o after there rest grown (submits_none more is none) =
       let later = serials after o there in
@@ -85,13 +87,13 @@ module _ (plan : Plan) (start : Beginning) (coords : ℕ) (steps : List Stepped)
       let a = all t (s.0, s.1, old) in
       (serials steps w run).answered t a.0 a.1))
 
-  pub order_rests : AreAllAnswered w → (e : Option Event) (o : Outcome) → Transition plan w e o → o.world.order ≡ w.order
-  order_rests all e o h = let g = order_goes_on plan w e o h in order_by all o.world (steps ++ (record { event = e; outcome = o }) ∷ []) (steps_on e o run h) g.0 g.1 (leaves plan w e o h)
+  pub order_rests : AreAllAnswered w → (e : Option Event) (o : Outcome) → Moves plan w e o → o.world.order ≡ w.order
+  order_rests all e o h = let g = order_goes_on plan w e o h in order_by all o.world (steps ++ (record { event = e; outcome = o }) ∷ []) (beside_goes_on e o run h) g.0 g.1 (leaves plan w e o h)
 
-  module _ (cells : (steps : List Stepped) (v : World) → IsRunFrom plan start coords steps v → AreAllAnswered v → (x : Cell) → IsCellSerial plan start v x)
-      (apart_cells : (steps : List Stepped) (v : World) → IsRunFrom plan start coords steps v → (n : ℕ) (s : ServerState) → slice_get v.servers n ≡ Some s → (x : Cell) → shard_of plan x.place ≢ n → read s.store x ≡ pos 0)
+  module _ (cells : (steps : List Stepped) (v : World) → IsRunBeside plan start coords steps v → AreAllAnswered v → (x : Cell) → IsCellSerial plan start v x)
+      (apart_cells : (steps : List Stepped) (v : World) → IsRunBeside plan start coords steps v → (n : ℕ) (s : ServerState) → slice_get v.servers n ≡ Some s → (x : Cell) → shard_of plan x.place ≢ n → read s.store x ≡ pos 0)
       (alike : (s t : Store) → ((x : Cell) → read s x ≡ read t x) → s ≡ t) where
-    stores_by : AreAllAnswered w → (o : World) (after : List Stepped) → IsRunFrom plan start coords after o → o.order ≡ w.order → Leaves w o → (n : ℕ) (s v : ServerState) → slice_get w.servers n ≡ Some s → slice_get o.servers n ≡ Some v → v.store ≡ s.store
+    stores_by : AreAllAnswered w → (o : World) (after : List Stepped) → IsRunBeside plan start coords after o → o.order ≡ w.order → Leaves w o → (n : ℕ) (s v : ServerState) → slice_get w.servers n ≡ Some s → slice_get o.servers n ≡ Some v → v.store ≡ s.store
     stores_by all o after there order (leaves_all servers same) n s v at now =
         let both : Some v ≡ Some s = sym now ∙ (ap (λ l. slice_get l n) servers ∙ at) in
         let one : v ≡ s = cc in
@@ -119,5 +121,5 @@ module _ (plan : Plan) (start : Beginning) (coords : ℕ) (steps : List Stepped)
             (let c = call_of-submitted is_txn-same w.history t ((serials steps w run).submitted t (has_listed w.order t h)) in
             ap (submitted_call t) is ∙ call_of-append w.history more t c.0 c.1 ∙ sym c.1))
 
-    pub stores_rest : AreAllAnswered w → (e : Option Event) (o : Outcome) → Transition plan w e o → (n : ℕ) (s v : ServerState) → slice_get w.servers n ≡ Some s → slice_get o.world.servers n ≡ Some v → v.store ≡ s.store
-    stores_rest all e o h = stores_by all o.world (steps ++ (record { event = e; outcome = o }) ∷ []) (steps_on e o run h) (order_rests all e o h) (leaves plan w e o h)
+    pub stores_rest : AreAllAnswered w → (e : Option Event) (o : Outcome) → Moves plan w e o → (n : ℕ) (s v : ServerState) → slice_get w.servers n ≡ Some s → slice_get o.world.servers n ≡ Some v → v.store ≡ s.store
+    stores_rest all e o h = stores_by all o.world (steps ++ (record { event = e; outcome = o }) ∷ []) (beside_goes_on e o run h) (order_rests all e o h) (leaves plan w e o h)

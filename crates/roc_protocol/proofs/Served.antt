@@ -1,5 +1,5 @@
 -- What comes of a message at a server
-use Rattle.std.proofs.Common.{arith, ◌≡◌, ◌≤◌, ◌<◌, ◌&&◌, ℕ, ℤ, Bool, true, false, not, cond, nat_lt, List, [], ◌∷◌, ◌++◌, Option, Some, None, map, refl, sym, ap, subst, ◌∙◌, ◌⊎◌, inl, inr, append-nil}
+use Rattle.std.proofs.Common.{arith, ◌≡◌, ◌<◌, ◌&&◌, ℕ, ℤ, Bool, true, false, not, cond, nat_lt, List, [], ◌∷◌, ◌++◌, Option, Some, None, map, refl, sym, ap, subst, ◌∙◌, ◌⊎◌, inl, inr, append-nil}
 use Rattle.std.proofs.lemmas.Bool.{false≢true, and_parts, not-true}
 use Rattle.std.proofs.lemmas.Bool.Decides.{nat_tests}
 use Rattle.std.specs.Prelude.{slice_get, filter, flat_map, if◌then◌else◌}
@@ -19,7 +19,7 @@ use Rattle.roc_depgraph.specs.Deps.{list_of, is_known, IsKnown, IsDecided}
 use Rattle.roc_await.specs.declared.waits.OpenFetch.{OpenFetch}
 use Rattle.roc_await.specs.Waits.{was_asked_for, askers_of}
 use Rattle.roc_msg.specs.declared.msg.Msg.{Msg}
-use Rattle.roc_msg.specs.declared.msg.Msg.TheVariants.{Start, Commit, Fetch, Known, Ended, Settled}
+use Rattle.roc_msg.specs.declared.msg.Msg.TheVariants.{Start, Commit, Fetch, Known, Ended, Settled, Read, ReadOk}
 use Rattle.roc_msg.specs.declared.outbox.Outgoing.{Outgoing}
 use Rattle.roc_msg.specs.declared.reason.Reason.TheVariants.{NotHere, Foreign}
 use Rattle.roc_msg.specs.Facts.{is_fact_before}
@@ -50,7 +50,7 @@ use Rattle.roc_protocol.specs.PlanAssumptions.{IsSchemeOf}
 use Rattle.roc_protocol.specs.Beginnings.{Beginning}
 use Rattle.roc_protocol.specs.World.{World}
 use Rattle.roc_protocol.specs.Inner.Given.{LogLaws}
-use Rattle.roc_protocol.proofs.Means.{HasBegun, IsPast, IsForgotten, entry_run, Began, Means, ListMeans, AllMean, StartIs, AreGroupsHere, ServerMeans, WorldMeans, AreEnded}
+use Rattle.roc_protocol.proofs.Means.{IsOther, HasBegun, IsPast, IsForgotten, entry_run, Began, Means, ListMeans, AllMean, StartIs, AreGroupsHere, ServerMeans, WorldMeans, AreEnded}
 use Rattle.roc_protocol.proofs.Gone.{IsGone, gone_same, gone_hears, gone_begins}
 use Rattle.roc_protocol.proofs.Grows.{decided_grows}
 use Rattle.roc_protocol.proofs.Changed.{server_means}
@@ -75,14 +75,16 @@ list_has (k ∷ known) id edges h = go (is_txn k.of id) refl h (list_has known i
     go true e m ih = (k, inl refl, is_txn-true k.of id e, cc)
     go false e m ih = let r = ih m in (r.0, inr r.1, r.2, r.3)
 
--- of what a start is
+-- of what a start is; and nothing is of a view
 abbrev pub StartsAre : (TxnId → Type 0) → Msg → Type 0
 StartsAre Of (Start id proc group args inputs) = Of id
+StartsAre Of (Read id round proc group args) = ⊥
+StartsAre Of (ReadOk id round group shard versions outs) = ⊥
 StartsAre Of msg = Unit {0}
 
-module _ (plan : Plan) (asked : TxnId → whole.Call) (S : Scheme) (start : Beginning) (is : IsSchemeOf plan asked S) (laws : LogLaws S start.store) (c : Log) (w : World) (o : WorldMeans plan asked S start c w) (n : ℕ) (s : ServerState) (there : slice_get w.servers n ≡ Some s) (Fresh : TxnId → Type 0) (onward : (r : TxnGroup) → Began plan asked S start c r → start.nexts r.txn.coord ≤ r.txn.seq) where
+module _ (plan : Plan) (asked : TxnId → whole.Call) (S : Scheme) (start : Beginning) (is : IsSchemeOf plan asked S) (laws : LogLaws S start.store) (c : Log) (w : World) (o : WorldMeans plan asked S start c w) (n : ℕ) (s : ServerState) (there : slice_get w.servers n ≡ Some s) (Fresh : TxnId → Type 0) (called : (r : TxnGroup) → Began plan asked S start c r → ¬ IsOther asked start r.txn) where
   abbrev Explained : ServerStep → Type 0
-  Explained r = IsExplained plan asked S start is laws c w o n s there Fresh onward r
+  Explained r = IsExplained plan asked S start is laws c w o n s there Fresh called r
 
   mine : ServerMeans plan asked S start c n s
   mine = o.servers n s there
@@ -92,13 +94,13 @@ module _ (plan : Plan) (asked : TxnId → whole.Call) (S : Scheme) (start : Begi
 
   -- it does nothing
   still : (r : ServerStep) → ServerMeans plan asked S start c n r.state → ((out : Outgoing) → Has out r.sends → Means plan asked S start c out.msg out.to) → KeepsTaken s r.state [] → r.components ≡ [] → r.decided ≡ [] → r.ran ≡ [] → Explained r
-  still r = explains.still plan asked S start is laws c w o n s there Fresh onward r
+  still r = explains.still plan asked S start is laws c w o n s there Fresh called r
 
   kept_all : KeepsTaken s s []
   kept_all = keeps_still s s (state_itself s) refl mine.taken.one
 
   refuses : (answer : Handled) → Explained (refused s answer)
-  refuses answer = explains.refuses plan asked S start is laws c w o n s there Fresh onward mine answer
+  refuses answer = explains.refuses plan asked S start is laws c w o n s there Fresh called mine answer
 
   -- ---- a state with the same groups and watermarks, and one with others
 
@@ -233,11 +235,11 @@ module _ (plan : Plan) (asked : TxnId → whole.Call) (S : Scheme) (start : Begi
 
   module _ (news : List KnownList) (lists : AllMean plan asked S start c news) (comps : List (List TxnId)) (new : AreNewTaken (IsDecided s.lists.links) (s.lists.links ++ links_of s news) comps) where
     abbrev d2 : Log
-    d2 = explains.d plan asked S start is laws c w o n s there Fresh onward s mine (lists_after s news comps) comps (taught_change plan asked S start laws c i n s mine news lists comps new)
+    d2 = explains.d plan asked S start is laws c w o n s there Fresh called s mine (lists_after s news comps) comps (taught_change plan asked S start laws c i n s mine news lists comps new)
 
     taught_mean : (out : Outgoing) → Has out (taught plan s news comps).sends → Means plan asked S start d2 out.msg out.to
     taught_mean =
-        explains.sends_mean plan asked S start is laws c w o n s there Fresh onward s mine (lists_after s news comps) comps (taught_change plan asked S start laws c i n s mine news lists comps new)
+        explains.sends_mean plan asked S start is laws c w o n s there Fresh called s mine (lists_after s news comps) comps (taught_change plan asked S start laws c i n s mine news lists comps new)
         (flat_map (knowns_for s.lists.waiting.askers) news) (map (fetch_from s.shard) (missing_after s news))
         (λ out k.
         let p = from_has_flat_map (knowns_for s.lists.waiting.askers) out news k in
@@ -251,7 +253,7 @@ module _ (plan : Plan) (asked : TxnId → whole.Call) (S : Scheme) (start : Begi
     taught_explained : (more : List Outgoing) → ((out : Outgoing) → Has out more → Means plan asked S start d2 out.msg out.to)
         → Explained (forgetting (record (taught plan s news comps) { sends = (taught plan s news comps).sends ++ more }))
     taught_explained more means =
-        explains.changed_explained plan asked S start is laws c w o n s there Fresh onward s mine (lists_after s news comps) comps (taught_change plan asked S start laws c i n s mine news lists comps new)
+        explains.changed_explained plan asked S start is laws c w o n s there Fresh called s mine (lists_after s news comps) comps (taught_change plan asked S start laws c i n s mine news lists comps new)
         (forgetting (record (taught plan s news comps) { sends = (taught plan s news comps).sends ++ more })) refl refl refl refl
         (λ out h. elim (has_append out (taught plan s news comps).sends more h) [ inl k ↦ taught_mean out k | inr k ↦ means out k ]) (state_itself s)
 
@@ -279,9 +281,9 @@ module _ (plan : Plan) (asked : TxnId → whole.Call) (S : Scheme) (start : Begi
           again : (out : Outgoing) (b : Bool) → is_listed is_txn f.before id ≡ b → Has out (cond b (commitok_of plan (taught plan s news f.components).state id ∷ []) []) → Means plan asked S start (d2 news lists f.components new) out.msg out.to
           again out true e k =
               let change = taught_change plan asked S start laws c i n s mine news lists f.components new in
-              let decided = decided_grows plan asked S start is c (d2 news lists f.components new) i (explains.j plan asked S start is laws c w o n s there Fresh onward s mine (lists_after s news f.components) f.components change) (explains.g plan asked S start is laws c w o n s there Fresh onward s mine (lists_after s news f.components) f.components change) n id (mine.back id (found.before.sound id (listed_true is_txn f.before id e))) in
+              let decided = decided_grows plan asked S start is c (d2 news lists f.components new) i (explains.j plan asked S start is laws c w o n s there Fresh called s mine (lists_after s news f.components) f.components change) (explains.g plan asked S start is laws c w o n s there Fresh called s mine (lists_after s news f.components) f.components change) n id (mine.back id (found.before.sound id (listed_true is_txn f.before id e))) in
               subst (λ (out : Outgoing). Means plan asked S start (d2 news lists f.components new) out.msg out.to) (sym (has_one out (commitok_of plan (taught plan s news f.components).state id) k))
-              (explains.commitok_means plan asked S start is laws c w o n s there Fresh onward s mine (lists_after s news f.components) f.components change id (commits_here s id edges facts passed) decided)
+              (explains.commitok_means plan asked S start is laws c w o n s there Fresh called s mine (lists_after s news f.components) f.components change id (commits_here s id edges facts passed) decided)
           again out false e k = absurd k
 
   -- ---- a fetch
@@ -333,7 +335,7 @@ module _ (plan : Plan) (asked : TxnId → whole.Call) (S : Scheme) (start : Begi
       judged : (x : Option Handled) → AreNewTaken (IsDecided s.lists.links) (s.lists.links ++ links_of s (unless_refused x news)) f.components → Explained (after_known plan f.components s id edges x)
       judged (Some answer) new = refuses answer
       judged None new =
-          explains.changed_explained plan asked S start is laws c w o n s there Fresh onward s mine (lists_after s news f.components) f.components (taught_change plan asked S start laws c i n s mine news lists f.components new)
+          explains.changed_explained plan asked S start is laws c w o n s there Fresh called s mine (lists_after s news f.components) f.components (taught_change plan asked S start laws c i n s mine news lists f.components new)
           (forgetting (taught plan s news f.components)) refl refl refl refl (taught_mean news lists f.components new) (state_itself s)
 
   settled_explained : (f : Findings) (id : TxnId) (mark : ℕ) → AreFindings plan s (Settled id mark) f → IsSettled S start.store c id → AreEnded plan asked S start c id.coord mark → Explained (after_settled plan f.components s id mark)
@@ -346,10 +348,10 @@ module _ (plan : Plan) (asked : TxnId → whole.Call) (S : Scheme) (start : Begi
           → Explained (forgetting (if b then decides plan (hearing s id.coord mark) (lists_settled s id mark f.components) f.components [] [] else refused (hearing s id.coord mark) Gone))
       asked_for true new =
           let change = settled_change plan asked S start laws c i n s id mark heard settled f.components new in
-          explains.changed_explained plan asked S start is laws c w o n s there Fresh onward (hearing s id.coord mark) heard (lists_settled s id mark f.components) f.components change
+          explains.changed_explained plan asked S start is laws c w o n s there Fresh called (hearing s id.coord mark) heard (lists_settled s id mark f.components) f.components change
           (forgetting (decides plan (hearing s id.coord mark) (lists_settled s id mark f.components) f.components [] [])) refl refl refl refl
-          (explains.sends_mean plan asked S start is laws c w o n s there Fresh onward (hearing s id.coord mark) heard (lists_settled s id mark f.components) f.components change [] [] (λ out h. absurd h) (λ out h. absurd h)) (state_hearing s id.coord mark)
-      asked_for false new = explains.forgets_still plan asked S start is laws c w o n s there Fresh onward (refused (hearing s id.coord mark) Gone) heard (λ out h. absurd h) (state_hearing s id.coord mark) refl refl refl
+          (explains.sends_mean plan asked S start is laws c w o n s there Fresh called (hearing s id.coord mark) heard (lists_settled s id mark f.components) f.components change [] [] (λ out h. absurd h) (λ out h. absurd h)) (state_hearing s id.coord mark)
+      asked_for false new = explains.forgets_still plan asked S start is laws c w o n s there Fresh called (refused (hearing s id.coord mark) Gone) heard (λ out h. absurd h) (state_hearing s id.coord mark) refl refl refl
 
   -- ---- any message
 
@@ -361,8 +363,9 @@ module _ (plan : Plan) (asked : TxnId → whole.Call) (S : Scheme) (start : Begi
       go (Commit id edges facts) f found m k = commit_explained f id edges facts found m.0
       go (Fetch id asker) f found m k = fetch_explained id asker m
       go (Known id edges) f found m k = known_explained f id edges found m.0
-      go (Ended coord mark) f found m k = explains.forgets_still plan asked S start is laws c w o n s there Fresh onward (answered (hearing s coord mark) []) (hears coord mark m.0) (λ out h. absurd h) (state_hearing s coord mark) refl refl refl
+      go (Ended coord mark) f found m k = explains.forgets_still plan asked S start is laws c w o n s there Fresh called (answered (hearing s coord mark) []) (hears coord mark m.0) (λ out h. absurd h) (state_hearing s coord mark) refl refl refl
       go (Settled id mark) f found m k = settled_explained f id mark found m.0 m.1
+      go (Read id round proc group args) f found m k = absurd m
       go msg f found m k = refuses (Ignored Foreign)
 
   pub tick_explained : Explained (answered s (tick_sends s))

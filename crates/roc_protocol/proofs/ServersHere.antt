@@ -21,7 +21,7 @@ use Rattle.roc_await.specs.declared.waits.OpenFetch.{OpenFetch}
 use Rattle.roc_await.specs.declared.waits.Asker.{Asker}
 use Rattle.roc_await.specs.Waits.{is_asked_before, is_asker_before, was_asked_for, with_asked, with_all_asked, without_asked, askers_of}
 use Rattle.roc_msg.specs.declared.msg.Msg.{Msg}
-use Rattle.roc_msg.specs.declared.msg.Msg.TheVariants.{Start, Commit, Fetch, Known, Ended, Settled}
+use Rattle.roc_msg.specs.declared.msg.Msg.TheVariants.{Start, Commit, Fetch, Known, Ended, Settled, Read}
 use Rattle.roc_msg.specs.declared.outbox.Outgoing.{Outgoing}
 use Rattle.roc_msg.specs.declared.reason.Reason.TheVariants.{NotHere, Foreign, Differs, Late, BadProc, BadGroup, BadInputs}
 use Rattle.roc_msg.specs.Facts.{is_fact_before}
@@ -382,6 +382,7 @@ module _ (plan : Plan) (servers coords : ℕ) where
         go (Known id edges) f k = known_keeps s own here of_plan f.components id edges k (known_refusal s id edges)
         go (Ended coord mark) f k = ended_keeps coord mark
         go (Settled id mark) f k = settled_keeps f.components id mark
+        go (Read id round proc group args) f k = absurd k
         go msg f k = refuses s own here of_plan (Ignored Foreign)
 
     pub tick_keeps : KeepsServer s.shard (answered s (tick_sends s))

@@ -1,5 +1,5 @@
 -- A coordinator ignores only what is stale
-use Rattle.std.proofs.Common.{◌≡◌, ℕ, ℤ, ◌<◌, ◌==◌, Bool, true, false, not, ◌&&◌, List, Option, Some, None, length, refl, sym, ap, subst, ◌∙◌, inl, inr, is_some, arith}
+use Rattle.std.proofs.Common.{◌≡◌, ℕ, ℤ, ◌<◌, ◌==◌, Bool, true, false, not, ◌&&◌, List, Option, Some, None, length, refl, sym, ap, subst, ◌∙◌, inl, inr, is_some}
 use Rattle.std.proofs.lemmas.Bool.{false≢true, and_parts, and_from, eq-eqb, eqb-true}
 use Rattle.std.proofs.lemmas.List.{length-map}
 use Rattle.std.specs.Prelude.{slice_get, filter, if◌then◌else◌}
@@ -36,10 +36,10 @@ use Rattle.roc_server.specs.State.{is_group, is_here, ServerState}
 use Rattle.roc_coord.specs.declared.handled.Handled.TheVariants.{Ignored}
 use Rattle.roc_coord.specs.declared.transaction.Transaction.{Transaction}
 use Rattle.roc_coord.specs.declared.transaction.SentStart.{SentStart}
-use Rattle.roc_coord.specs.State.{find_transaction, find_startok, was_asked, has_commitok, CoordState}
+use Rattle.roc_coord.specs.State.{find_transaction, find_startok, was_asked, has_commitok, CoordState, find_view}
 use Rattle.roc_coord.specs.Starts.{all_started, shards_of, bound_count, out_count}
 use Rattle.roc_coord.specs.Commits.{places_on}
-use Rattle.roc_coord.specs.Step.{unless_refused, is_fit_startok, with_startok, startok_taken, after_startok, is_asked, is_fit_commitok, with_commitok, reply_now, commitok_taken, after_commitok, after_message}
+use Rattle.roc_coord.specs.Step.{unless_refused, is_fit_startok, with_startok, startok_taken, after_startok, is_asked, is_fit_commitok, with_commitok, reply_now, commitok_taken, after_commitok, after_message, unasked}
 use Rattle.roc_protocol.specs.PlanAssumptions.{called, IsSchemeOf}
 use Rattle.roc_protocol.specs.Beginnings.{Beginning}
 use Rattle.roc_protocol.specs.World.{World}
@@ -49,9 +49,14 @@ use Rattle.roc_protocol.proofs.Facts.{known_has}
 use Rattle.roc_protocol.proofs.Replies.{count_given, places_are, counts_at, lengths_of_flat, few_place, shard_listed}
 use Rattle.roc_protocol.proofs.Networks.{IsToldHere, IsNetworked}
 use Rattle.roc_protocol.proofs.Pending.{AnsweredAreDone, AskedBy, IsWholeAt, IsPending}
-use Rattle.roc_protocol.proofs.Worlds.{IsLogged}
+use Rattle.roc_protocol.proofs.Worlds.{IsLogged, ordered_submitted}
 use Rattle.roc_server_lists.proofs.SameIds.{known_alike}
 use Rattle.roc_protocol.proofs.Gone.{IsGone}
+use Rattle.roc_coord.specs.Ids.{view_ids}
+use Rattle.roc_readonly.specs.declared.view.View.{View}
+use Rattle.roc_audit.specs.History.{WasSubmitted}
+use Rattle.roc_sequence.proofs.Members.{has_map}
+use Rattle.roc_sequence.specs.Places.{IsListed}
 
 module _ (plan : Plan) (asked : TxnId → whole.Call) (S : Scheme) (start : Beginning) (is : IsSchemeOf plan asked S) (laws : LogLaws S start.store) (w : World) (log : Log) (l : IsLogged plan asked S start is laws w log) (nw : IsNetworked plan asked S start is laws w) (o : IsPending plan w) (done_with : AnsweredAreDone w) (n : ℕ) (s : CoordState) (there : slice_get w.coords n ≡ Some s) where
   i : LogInvariants S start.store log
@@ -71,7 +76,7 @@ module _ (plan : Plan) (asked : TxnId → whole.Call) (S : Scheme) (start : Begi
   not_gone x at pending m v there gone =
       elim ((l.means.servers m v there).ended x.id gone.ended) [
         | inl k ↦ (let a = (l.means.answers x.id).0 k in done_with x.id a.0 a.1 s x at pending refl)
-        | inr early ↦ (let late = l.onward x.id (l.pending x.id.coord s at x pending) in absurd (omega arith))
+        | inr other ↦ absurd (l.called x.id (l.pending x.id.coord s at x pending) other)
       ]
 
   -- ---- a startok
@@ -180,9 +185,19 @@ module _ (plan : Plan) (asked : TxnId → whole.Call) (S : Scheme) (start : Begi
       only : Ignored Stale ≡ Ignored why → why ≡ Stale
       only e = cc
 
+      -- what was submitted as a transaction is the id of no view
+      unawaited : (id : TxnId) → WasSubmitted w.history id → (v : Option View) → find_view id s.views ≡ v → Ignored (unasked v) ≡ Ignored why → why ≡ Stale
+      unawaited id was None f e = only e
+      unawaited id was (Some v) f e =
+          let q = found_has (λ (v : View). is_txn v.id id) s.views v f in
+          let named : Has id (view_ids s.views) = subst (λ t. Has t (view_ids s.views)) (is_txn-true v.id id q.1) (has_map (λ (v : View). v.id) v s.views q.0) in
+          absurd (l.called id was ((l.means.coords n s there).views id named))
+
       startok : (id : TxnId) (g : ℕ) (shard : Shard) (bound outs : List ℤ) (edges : List Dependency) (facts : List KnownList) → m.msg ≡ StartOk id g shard bound outs edges facts → (x : Option Transaction) → find_transaction id s.pending ≡ x
-          → (after_startok plan s x (record { group = g; bound = bound; outs = outs; edges = edges; facts = facts }) shard).answer ≡ Ignored why → why ≡ Stale
-      startok id g shard bound outs edges facts msg None f e = only e
+          → (after_startok plan s id x (record { group = g; bound = bound; outs = outs; edges = edges; facts = facts }) shard).answer ≡ Ignored why → why ≡ Stale
+      startok id g shard bound outs edges facts msg None f e =
+          let means = subst (λ msg. Means plan asked S start log msg m.to) msg (l.means.messages m has) in
+          unawaited id (l.began (run_of id g) means.0.began) (find_view id s.views) refl e
       startok id g shard bound outs edges facts msg (Some x) f e =
           let q = found_has (λ (x : Transaction). is_txn x.id id) s.pending x f in
           judged (is_some (find_startok g x.startoks)) (is_fit_startok plan x (record { group = g; bound = bound; outs = outs; edges = edges; facts = facts }) shard)
@@ -193,8 +208,10 @@ module _ (plan : Plan) (asked : TxnId → whole.Call) (S : Scheme) (start : Begi
           judged false true fit e = absurd (cc)
           judged false false fit e = absurd (false≢true fit)
 
-      commitok : (id : TxnId) (shard : Shard) (outs : List ℤ) → m.msg ≡ CommitOk id shard outs → (x : Option Transaction) → find_transaction id s.pending ≡ x → (after_commitok plan s x (record { shard = shard; outs = outs })).answer ≡ Ignored why → why ≡ Stale
-      commitok id shard outs msg None f e = only e
+      commitok : (id : TxnId) (shard : Shard) (outs : List ℤ) → m.msg ≡ CommitOk id shard outs → (x : Option Transaction) → find_transaction id s.pending ≡ x → (after_commitok plan s id x (record { shard = shard; outs = outs })).answer ≡ Ignored why → why ≡ Stale
+      commitok id shard outs msg None f e =
+          let means = subst (λ msg. Means plan asked S start log msg m.to) msg (l.means.messages m has) in
+          unawaited id (ordered_submitted plan asked S start is laws w log l id (subst (λ l. IsListed is_txn l id) (sym l.means.order) (i.in_order shard.0 id means.0.decided))) (find_view id s.views) refl e
       commitok id shard outs msg (Some x) f e =
           let q = found_has (λ (x : Transaction). is_txn x.id id) s.pending x f in
           judged (has_commitok shard x.commitoks) (is_fit_commitok plan x (record { shard = shard; outs = outs })) (commitok_fit m has to id shard outs msg x q.0 (is_txn-true x.id id q.1)) (reply_now plan (with_commitok x (record { shard = shard; outs = outs }))) e

@@ -5,16 +5,22 @@ use Rattle.std.specs.Prelude.{slice_get, slice_set}
 use Rattle.roc_sequence.specs.Lists.{Has}
 use Rattle.roc_sequence.proofs.Members.{has_append, has_one}
 use Rattle.roc_base.specs.declared.id.TxnId.{TxnId}
+use Rattle.roc_base.specs.declared.node.Shard.{Shard}
 use Rattle.roc_msg.specs.declared.msg.Msg.{Msg}
-use Rattle.roc_msg.specs.declared.msg.Msg.TheVariants.{StartOk, CommitOk}
+use Rattle.roc_msg.specs.declared.msg.Msg.TheVariants.{StartOk, CommitOk, ReadOk}
 use Rattle.roc_msg.specs.declared.reason.Reason.{Reason}
 use Rattle.roc_plan.specs.Groups.{Plan, procedure_of, is_transaction}
 use Rattle.roc_coord.specs.declared.handled.Handled.{Handled}
 use Rattle.roc_coord.specs.declared.handled.Handled.TheVariants as answer
 use Rattle.roc_coord.specs.declared.transaction.Transaction.{Transaction}
-use Rattle.roc_coord.specs.State.{find_transaction, CoordState}
-use Rattle.roc_coord.specs.Step.{unless_refused, with_startok, startok_taken, startok_refusal, after_startok, with_commitok, reply_now, commitok_taken, commitok_refusal, after_commitok, after_message}
+use Rattle.roc_coord.specs.State.{find_transaction, find_view, CoordState}
+use Rattle.roc_coord.specs.Step.{unless_refused, with_startok, startok_taken, startok_refusal, after_startok, with_commitok, reply_now, commitok_taken, commitok_refusal, after_commitok, readok_taken, after_readok, after_message}
 use Rattle.roc_coord.specs.Submit.{next_id}
+use Rattle.roc_readonly.specs.Round.{with_readok, readok_refusal, round_of}
+use Rattle.roc_readonly.specs.declared.view.Round.{Round}
+use Rattle.roc_readonly.specs.declared.view.Round.TheVariants.{Waits, Ends, GoesOn}
+use Rattle.roc_readonly.specs.declared.view.TakenRead.{TakenRead}
+use Rattle.roc_readonly.specs.declared.view.View.{View}
 use Rattle.roc_audit.specs.declared.entry.Entry.{Entry}
 use Rattle.roc_audit.specs.declared.entry.Entry.TheVariants.{Submitted}
 use Rattle.roc_protocol.specs.Happens.{answer_entries}
@@ -43,7 +49,7 @@ pub record KeepsNumber (s after : CoordState) : Type 0 where
 pub keeps_number : (plan : Plan) (s : CoordState) (msg : Msg) → KeepsNumber s (after_message plan s msg).state
 keeps_number plan s (StartOk id group shard bound outs edges facts) = go (find_transaction id s.pending)
   where
-    go : (x : Option Transaction) → KeepsNumber s (after_startok plan s x (record { group = group; bound = bound; outs = outs; edges = edges; facts = facts }) shard).state
+    go : (x : Option Transaction) → KeepsNumber s (after_startok plan s id x (record { group = group; bound = bound; outs = outs; edges = edges; facts = facts }) shard).state
     go None = record { number = refl; next = refl }
     go (Some x) = refused (startok_refusal plan x (record { group = group; bound = bound; outs = outs; edges = edges; facts = facts }) shard)
       where
@@ -52,7 +58,7 @@ keeps_number plan s (StartOk id group shard bound outs edges facts) = go (find_t
         refused None = record { number = refl; next = refl }
 keeps_number plan s (CommitOk id shard outs) = go (find_transaction id s.pending)
   where
-    go : (x : Option Transaction) → KeepsNumber s (after_commitok plan s x (record { shard = shard; outs = outs })).state
+    go : (x : Option Transaction) → KeepsNumber s (after_commitok plan s id x (record { shard = shard; outs = outs })).state
     go None = record { number = refl; next = refl }
     go (Some x) = refused (commitok_refusal plan x (record { shard = shard; outs = outs })) (reply_now plan (with_commitok x (record { shard = shard; outs = outs })))
       where
@@ -60,7 +66,40 @@ keeps_number plan s (CommitOk id shard outs) = go (find_transaction id s.pending
         refused (Some why) reply = record { number = refl; next = refl }
         refused None (Some reply) = record { number = refl; next = refl }
         refused None None = record { number = refl; next = refl }
+keeps_number plan s (ReadOk id round group shard versions outs) = go (find_view id s.views)
+  where
+    go : (v : Option View) → KeepsNumber s (after_readok plan s id v round (record { group = group; versions = versions; outs = outs }) shard).state
+    go None = record { number = refl; next = refl }
+    go (Some v) = refused (readok_refusal plan v round (record { group = group; versions = versions; outs = outs }) shard) (round_of plan (with_readok v (record { group = group; versions = versions; outs = outs })))
+      where
+        refused : (o : Option Reason) (round_is : Round) → KeepsNumber s (unless_refused s o (readok_taken plan s (with_readok v (record { group = group; versions = versions; outs = outs })) round_is)).state
+        refused (Some why) round_is = record { number = refl; next = refl }
+        refused None Waits = record { number = refl; next = refl }
+        refused None (Ends reply) = record { number = refl; next = refl }
+        refused None GoesOn = record { number = refl; next = refl }
 keeps_number plan s msg = record { number = refl; next = refl }
+
+-- it answers no read
+abbrev pub IsNoReadOk : Msg → Type 0
+IsNoReadOk (ReadOk id round group shard versions outs) = ⊥
+IsNoReadOk msg = Unit {0}
+
+-- an answer to a read changes nothing of transactions
+pub readok_pending : (plan : Plan) (s : CoordState) (id : TxnId) (round group : ℕ) (shard : Shard) (versions : List ℕ) (outs : List ℤ) → (after_message plan s (ReadOk id round group shard versions outs)).state.pending ≡ s.pending
+readok_pending plan s id round group shard versions outs = go (find_view id s.views)
+  where
+    ok : TakenRead
+    ok = record { group = group; versions = versions; outs = outs }
+
+    go : (v : Option View) → (after_readok plan s id v round ok shard).state.pending ≡ s.pending
+    go None = refl
+    go (Some v) = refused (readok_refusal plan v round ok shard) (round_of plan (with_readok v ok))
+      where
+        refused : (o : Option Reason) (round_is : Round) → (unless_refused s o (readok_taken plan s (with_readok v ok) round_is)).state.pending ≡ s.pending
+        refused (Some why) round_is = refl
+        refused None Waits = refl
+        refused None (Ends reply) = refl
+        refused None GoesOn = refl
 
 pub no_submission : (a : Handled) (t : TxnId) (p : ℕ) (args : List ℤ) → ¬ Has (Submitted t p args) (answer_entries a)
 no_submission (answer.Answered id reply) t p args (inl e) = absurd (cc)

@@ -116,8 +116,8 @@ module _ (plan : Plan) (s : CoordState) (once : (y z : Transaction) → Has y s.
   -- ---- a startok
 
   startok_here : (id : TxnId) (ok : TakenStart) (shard : Shard) (x : Option Transaction) → find_transaction id s.pending ≡ x
-      → ((why : Reason) → (after_startok plan s x ok shard).answer ≡ Ignored why → why ≡ Stale)
-      → AllTook id (HasStartok ok.group) (after_startok plan s x ok shard).state.pending
+      → ((why : Reason) → (after_startok plan s id x ok shard).answer ≡ Ignored why → why ≡ Stale)
+      → AllTook id (HasStartok ok.group) (after_startok plan s id x ok shard).state.pending
   startok_here id ok shard None e only = nobody id (HasStartok ok.group) e
   startok_here id ok shard (Some x) e only = judged (is_some (find_startok ok.group x.startoks)) (is_fit_startok plan x ok shard) refl only
     where
@@ -135,8 +135,8 @@ module _ (plan : Plan) (s : CoordState) (once : (y z : Transaction) → Has y s.
   -- ---- a commitok
 
   commitok_here : (id : TxnId) (ok : TakenCommit) (x : Option Transaction) → find_transaction id s.pending ≡ x
-      → ((why : Reason) → (after_commitok plan s x ok).answer ≡ Ignored why → why ≡ Stale)
-      → AllTook id (HasCommitok ok.shard) (after_commitok plan s x ok).state.pending
+      → ((why : Reason) → (after_commitok plan s id x ok).answer ≡ Ignored why → why ≡ Stale)
+      → AllTook id (HasCommitok ok.shard) (after_commitok plan s id x ok).state.pending
   commitok_here id ok None e only = nobody id (HasCommitok ok.shard) e
   commitok_here id ok (Some x) e only = judged (has_commitok ok.shard x.commitoks) (is_fit_commitok plan x ok) (reply_now plan (with_commitok x ok)) refl only
     where

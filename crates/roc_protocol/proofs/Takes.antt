@@ -22,7 +22,7 @@ use Rattle.roc_await.specs.declared.waits.OpenFetch.{OpenFetch}
 use Rattle.roc_await.specs.declared.waits.Asker.{Asker}
 use Rattle.roc_await.specs.Waits.{is_asker_before, was_asked_for, with_asker, without_asked}
 use Rattle.roc_msg.specs.declared.msg.Msg.{Msg}
-use Rattle.roc_msg.specs.declared.msg.Msg.TheVariants.{Start, Commit, Fetch, Known, Ended, Settled}
+use Rattle.roc_msg.specs.declared.msg.Msg.TheVariants.{Start, Commit, Fetch, Known, Ended, Settled, Read}
 use Rattle.roc_msg.specs.declared.outbox.Outgoing.{Outgoing}
 use Rattle.roc_msg.specs.declared.reason.Reason.TheVariants.{NotHere, Foreign}
 use Rattle.roc_msg.specs.Facts.{is_fact_before}
@@ -52,6 +52,7 @@ use Rattle.roc_protocol.proofs.Taking.{IsIgnored, start_late, commit_late, known
 use Rattle.roc_protocol.proofs.Refusals.{IsTakenAs}
 use Rattle.roc_protocol.proofs.Gone.{IsGone}
 use Rattle.roc_server.specs.declared.handled.Handled.{Handled}
+use Rattle.roc_protocol.proofs.ReadsHere.{for_read}
 
 -- ---- who asks
 
@@ -310,4 +311,5 @@ module _ (plan : Plan) (s : ServerState) (kept : AreKept s) (same : ids_of s.lis
       go (Known id edges) f ends found = known_result plan s kept same f found.before id edges (known_refusal s id edges) refl found.components
       go (Ended coord mark) f ends found = (left_hears coord mark Done, λ d. tt)
       go (Settled id mark) f ends found = settled_result f found.before id mark ends (was_asked_for id s.lists.waiting.asked) refl found.components
+      go (Read id round proc group args) f ends found = for_read plan s (record { id = id; round = round; proc = proc; group = group; args = args }) (Result plan s (Read id round proc group args)) (λ a. (unchanged plan s a [], λ d. tt))
       go msg f ends found = (unchanged plan s (Ignored Foreign) [], λ d. absurd (not_ignored plan s (Ignored Foreign) (Foreign, refl) d))

@@ -11,22 +11,30 @@ use Rattle.roc_base.specs.declared.id.TxnId.{TxnId}
 use Rattle.roc_base.specs.TxnId.{is_txn}
 use Rattle.roc_base.specs.Equalities.{is_txn-true}
 use Rattle.roc_msg.specs.declared.msg.Msg.{Msg}
-use Rattle.roc_msg.specs.declared.msg.Msg.TheVariants.{StartOk, CommitOk}
+use Rattle.roc_msg.specs.declared.msg.Msg.TheVariants.{StartOk, CommitOk, ReadOk}
 use Rattle.roc_msg.specs.declared.reason.Reason.{Reason}
 use Rattle.roc_plan.specs.Groups.{Plan}
 use Rattle.roc_coord.specs.declared.handled.Handled.{Handled}
 use Rattle.roc_coord.specs.declared.handled.Handled.TheVariants as answer
 use Rattle.roc_coord.specs.declared.transaction.Transaction.{Transaction}
 use Rattle.roc_coord.specs.Ids.{ids_of}
-use Rattle.roc_coord.specs.State.{find_transaction, CoordState}
+use Rattle.roc_coord.specs.State.{find_transaction, CoordState, find_view}
 use Rattle.roc_coord.specs.Starts.{with_starts}
-use Rattle.roc_coord.specs.Step.{unless_refused, with_commits, with_startok, startok_taken, startok_refusal, after_startok, with_commitok, reply_now, commitok_taken, commitok_refusal, after_commitok, after_message}
+use Rattle.roc_coord.specs.Step.{unless_refused, with_commits, with_startok, startok_taken, startok_refusal, after_startok, with_commitok, reply_now, commitok_taken, commitok_refusal, after_commitok, after_message, readok_taken, after_readok}
 use Rattle.roc_audit.specs.declared.entry.Entry.{Entry}
 use Rattle.roc_audit.specs.declared.entry.Entry.TheVariants.{Submitted, Answered}
 use Rattle.roc_audit.specs.History.{WasSubmitted, WasAnswered}
 use Rattle.roc_protocol.specs.Unanswered.{submitted_at, answers, unanswered_at}
 use Rattle.roc_protocol.proofs.Grows.{filter_same}
 use Rattle.roc_protocol.proofs.Buffered.{filter_and, filter_map_under}
+use Rattle.roc_protocol.proofs.Submissions.{IsNoReadOk}
+use Rattle.roc_coord.specs.declared.transaction.TakenStart.{TakenStart}
+use Rattle.roc_coord.specs.declared.transaction.TakenCommit.{TakenCommit}
+use Rattle.roc_readonly.specs.declared.view.TakenRead.{TakenRead}
+use Rattle.roc_readonly.specs.declared.view.View.{View}
+use Rattle.roc_readonly.specs.declared.view.Round.{Round}
+use Rattle.roc_readonly.specs.declared.view.Round.TheVariants.{Waits, Ends, GoesOn}
+use Rattle.roc_readonly.specs.Round.{with_readok, readok_refusal, round_of}
 
 -- ---- lists
 
@@ -116,12 +124,12 @@ same_ids z (y ∷ xs) = go (is_txn y.id z.id) refl (same_ids z xs)
     go true e ih = let same = sym (is_txn-true y.id z.id e) in λ i. same i ∷ ih i
     go false e ih = ap (λ l. y.id ∷ l) ih
 
-pub ids_left : (plan : Plan) (s : CoordState) (msg : Msg) → ids_of (after_message plan s msg).state.pending ≡ left_by (after_message plan s msg).answer (ids_of s.pending)
-ids_left plan s (StartOk id group shard bound outs edges facts) = go (find_transaction id s.pending)
+pub ids_left : (plan : Plan) (s : CoordState) (msg : Msg) → IsNoReadOk msg → ids_of (after_message plan s msg).state.pending ≡ left_by (after_message plan s msg).answer (ids_of s.pending)
+ids_left plan s (StartOk id group shard bound outs edges facts) k = go (find_transaction id s.pending)
   where
     After : Option Transaction → Type 0
     After x =
-        let r = after_startok plan s x (record { group = group; bound = bound; outs = outs; edges = edges; facts = facts }) shard in
+        let r = after_startok plan s id x (record { group = group; bound = bound; outs = outs; edges = edges; facts = facts }) shard in
         ids_of r.state.pending ≡ left_by r.answer (ids_of s.pending)
 
     go : (x : Option Transaction) → After x
@@ -134,10 +142,10 @@ ids_left plan s (StartOk id group shard bound outs edges facts) = go (find_trans
         refused : (o : Option Reason) → ids_of (unless_refused s o (startok_taken plan s told)).state.pending ≡ left_by (unless_refused s o (startok_taken plan s told)).answer (ids_of s.pending)
         refused (Some why) = refl
         refused None = same_ids (with_commits plan (with_starts plan told)) s.pending
-ids_left plan s (CommitOk id shard outs) = go (find_transaction id s.pending)
+ids_left plan s (CommitOk id shard outs) k = go (find_transaction id s.pending)
   where
     After : Option Transaction → Type 0
-    After x = let r = after_commitok plan s x (record { shard = shard; outs = outs }) in ids_of r.state.pending ≡ left_by r.answer (ids_of s.pending)
+    After x = let r = after_commitok plan s id x (record { shard = shard; outs = outs }) in ids_of r.state.pending ≡ left_by r.answer (ids_of s.pending)
 
     go : (x : Option Transaction) → After x
     go None = refl
@@ -151,4 +159,50 @@ ids_left plan s (CommitOk id shard outs) = go (find_transaction id s.pending)
         refused (Some why) reply = refl
         refused None None = same_ids told s.pending
         refused None (Some reply) = sym (filter_map_under (λ (y : Transaction). y.id) (λ t. not (is_txn t told.id)) s.pending)
-ids_left plan s msg = refl
+ids_left plan s (ReadOk id round group shard versions outs) k = absurd k
+ids_left plan s msg k = refl
+
+-- and of the ids of transactions and views, whatever it is
+pub unanswered_left : (plan : Plan) (s : CoordState) (msg : Msg) → (after_message plan s msg).state.unanswered ≡ left_by (after_message plan s msg).answer s.unanswered
+unanswered_left plan s (StartOk id group shard bound outs edges facts) = go (find_transaction id s.pending)
+  where
+    ok : TakenStart
+    ok = record { group = group; bound = bound; outs = outs; edges = edges; facts = facts }
+
+    go : (x : Option Transaction) → (after_startok plan s id x ok shard).state.unanswered ≡ left_by (after_startok plan s id x ok shard).answer s.unanswered
+    go None = refl
+    go (Some x) = refused (startok_refusal plan x ok shard)
+      where
+        refused : (o : Option Reason) → (unless_refused s o (startok_taken plan s (with_startok x ok))).state.unanswered ≡ left_by (unless_refused s o (startok_taken plan s (with_startok x ok))).answer s.unanswered
+        refused (Some why) = refl
+        refused None = refl
+unanswered_left plan s (CommitOk id shard outs) = go (find_transaction id s.pending)
+  where
+    ok : TakenCommit
+    ok = record { shard = shard; outs = outs }
+
+    go : (x : Option Transaction) → (after_commitok plan s id x ok).state.unanswered ≡ left_by (after_commitok plan s id x ok).answer s.unanswered
+    go None = refl
+    go (Some x) = refused (commitok_refusal plan x ok) (reply_now plan (with_commitok x ok))
+      where
+        refused : (o : Option Reason) (reply : Option (List ℤ))
+            → (unless_refused s o (commitok_taken plan s (with_commitok x ok) reply)).state.unanswered ≡ left_by (unless_refused s o (commitok_taken plan s (with_commitok x ok) reply)).answer s.unanswered
+        refused (Some why) reply = refl
+        refused None None = refl
+        refused None (Some reply) = refl
+unanswered_left plan s (ReadOk id round group shard versions outs) = go (find_view id s.views)
+  where
+    ok : TakenRead
+    ok = record { group = group; versions = versions; outs = outs }
+
+    go : (v : Option View) → (after_readok plan s id v round ok shard).state.unanswered ≡ left_by (after_readok plan s id v round ok shard).answer s.unanswered
+    go None = refl
+    go (Some v) = refused (readok_refusal plan v round ok shard) (round_of plan (with_readok v ok))
+      where
+        refused : (o : Option Reason) (came : Round)
+            → (unless_refused s o (readok_taken plan s (with_readok v ok) came)).state.unanswered ≡ left_by (unless_refused s o (readok_taken plan s (with_readok v ok) came)).answer s.unanswered
+        refused (Some why) came = refl
+        refused None Waits = refl
+        refused None (Ends reply) = refl
+        refused None GoesOn = refl
+unanswered_left plan s msg = refl

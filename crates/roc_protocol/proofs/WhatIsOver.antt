@@ -1,5 +1,5 @@
 -- What is over was answered, and what is kept is not over
-use Rattle.std.proofs.Common.{◌≡◌, ◌≤◌, ◌<◌, ℕ, ℤ, Bool, true, false, not, ◌&&◌, if◌then◌else◌, List, [], ◌∷◌, ◌++◌, Option, Some, None, map, refl, sym, ap, subst, ◌∙◌, inl, inr, arith}
+use Rattle.std.proofs.Common.{◌≡◌, ◌<◌, ℕ, ℤ, Bool, true, false, not, ◌&&◌, if◌then◌else◌, List, [], ◌∷◌, ◌++◌, Option, Some, None, map, refl, sym, ap, subst, ◌∙◌, inl, inr}
 use Rattle.std.proofs.lemmas.Bool.{false≢true, and_parts, and_from, not-true, not_from_false, false_from_ne_true}
 use Rattle.std.proofs.lemmas.List.{append_cancel_left}
 use Rattle.std.specs.Prelude.{slice_get, ◌↔◌}
@@ -37,7 +37,7 @@ use Rattle.roc_protocol.specs.Happens.{Outcome, IsReceived}
 use Rattle.roc_protocol.specs.Quiet.{PrecedesIn}
 use Rattle.roc_protocol.specs.Run.{Stepped}
 use Rattle.roc_protocol.specs.Forgotten.{IsSettledIn, IsFirstTaken, IsLastTaken}
-use Rattle.roc_protocol.proofs.Means.{run_of, HasBegun, Means, ServerMeans, WorldMeans}
+use Rattle.roc_protocol.proofs.Means.{IsOther, run_of, HasBegun, Means, ServerMeans, WorldMeans}
 use Rattle.roc_protocol.proofs.Followed.{entry_followed}
 use Rattle.roc_protocol.proofs.FirstTaken.{last_step}
 use Rattle.roc_protocol.proofs.KeptRuns.{KeptHere, AreKeptIn}
@@ -86,10 +86,10 @@ module _ (plan : Plan) (asked : TxnId → whole.Call) (S : Scheme) (start : Begi
 
   -- and so was what is said to be settled, and what is below the watermark that is told
   pub sent_settled : (m : Envelope) (t : TxnId) (mark : ℕ) → Has m w.sent → m.msg ≡ Settled t mark
-      → IsSettledIn w t × ((seq : ℕ) → start.nexts t.coord ≤ seq → seq < mark → (reply : List ℤ) × WasAnswered w.history (record { coord = t.coord; seq = seq }) reply)
+      → IsSettledIn w t × ((seq : ℕ) → ¬ IsOther asked start (record { coord = t.coord; seq = seq }) → seq < mark → (reply : List ℤ) × WasAnswered w.history (record { coord = t.coord; seq = seq }) reply)
   sent_settled m t mark has is =
       let k = subst (λ (msg : Msg). Means plan asked S start log msg m.to) is (o.messages m has) in
-      (settled_in t k.0, λ seq late l. elim (k.1 seq l) [ inl h ↦ (o.answers (record { coord = t.coord; seq = seq })).0 h | inr early ↦ absurd (omega (arith, early, late)) ])
+      (settled_in t k.0, λ seq own l. elim (k.1 seq l) [ inl h ↦ (o.answers (record { coord = t.coord; seq = seq })).0 h | inr other ↦ absurd (own other) ])
 
   module _ (steps : List Stepped) (a : AreKeptIn plan asked S start w log steps) (shard : Shard) (s : ServerState) (there : slice_get w.servers shard.0 ≡ Some s) where
     mine : ServerMeans plan asked S start log shard.0 s

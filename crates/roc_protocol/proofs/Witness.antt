@@ -1,5 +1,5 @@
 -- The order is a serial witness of the history
-use Rattle.std.proofs.Common.{◌≡◌, ℕ, ℤ, pos, suc, ◌<◌, List, [], ◌∷◌, ◌++◌, Option, Some, None, length, map, refl, sym, ap, subst, ◌∙◌, inl, inr, arith, append-nil}
+use Rattle.std.proofs.Common.{◌≡◌, ℕ, ℤ, pos, suc, ◌<◌, List, [], ◌∷◌, ◌++◌, Some, length, map, refl, sym, ap, subst, ◌∙◌, inl, inr, arith, append-nil}
 use Rattle.std.specs.Prelude.{slice_get, slice_index_or, zip}
 use Rattle.std.specs.List.{cons_option}
 use Rattle.std.proofs.lemmas.List.{map-append}
@@ -9,8 +9,6 @@ use Rattle.roc_sequence.proofs.Members.{has_append, has_map}
 use Rattle.roc_sequence.proofs.Places.{listed_head, listed_tail}
 use Rattle.roc_sequence.specs.Places.{IsListed, NoneTwice}
 use Rattle.roc_base.specs.declared.id.TxnId.{TxnId}
-use Rattle.roc_base.specs.declared.node.Node.{Node}
-use Rattle.roc_base.specs.declared.node.Node.TheVariants.{Server, Coord}
 use Rattle.roc_base.specs.TxnId.{is_txn}
 use Rattle.roc_depgraph.proofs.Listed.{has_listed}
 use Rattle.roc_plan.specs.Groups.{Plan, outs_of}
@@ -26,21 +24,17 @@ use Rattle.roc_law_log.specs.Log.{Log, first_log}
 use Rattle.roc_law_log.specs.Kept.{KeepsRan}
 use Rattle.roc_law_log.specs.Invariants.{LogInvariants}
 use Rattle.roc_audit.specs.declared.entry.Entry.{Entry}
-use Rattle.roc_audit.specs.declared.entry.Entry.TheVariants.{Submitted}
 use Rattle.roc_audit.specs.History.{WasSubmitted, WasAnswered}
 use Rattle.roc_audit.specs.Witness.{submitted_call, submitted_calls, reply_in}
 use Rattle.roc_protocol.specs.WitnessFrom.{serial_reply_from, IsSerialWitnessFrom}
 use Rattle.roc_server.specs.State.{ServerState}
 use Rattle.roc_coord.specs.State.{CoordState}
-use Rattle.roc_coord.specs.Step.{after_message}
-use Rattle.roc_coord.specs.Submit.{next_id}
-use Rattle.roc_protocol.specs.declared.event.Event.{Event}
-use Rattle.roc_protocol.specs.declared.event.Event.TheVariants.{Submit, Deliver, Tick}
 use Rattle.roc_protocol.specs.PlanAssumptions.{IsSchemeOf, IsWholeReplyFrom}
 use Rattle.roc_protocol.specs.Beginnings.{Beginning, begun_server, begun_world, IsBeginning}
-use Rattle.roc_protocol.specs.World.{World, mark_delivered}
-use Rattle.roc_protocol.specs.Happens.{RanAt, Outcome, IsReceived, answer_entries}
-use Rattle.roc_protocol.specs.Run.{Stepped, Transition, IsRunFrom, at_beginning, steps_on}
+use Rattle.roc_protocol.specs.World.{World}
+use Rattle.roc_protocol.specs.Happens.{RanAt}
+use Rattle.roc_protocol.specs.Run.{Stepped}
+use Rattle.roc_protocol.specs.Beside.{IsRunBeside, beside_begins, beside_goes_on}
 use Rattle.roc_protocol.specs.Kept.{ran_in}
 use Rattle.roc_protocol.specs.Inner.Given.{LogLaws}
 use Rattle.roc_protocol.proofs.Means.{run_of, entry_run, RanMeans, AreRan, Ran, stage, AnswerMeans}
@@ -48,31 +42,8 @@ use Rattle.roc_protocol.specs.Inner.Given.{SerialLaws, StoreLaws}
 use Rattle.roc_protocol.proofs.Firsts.{begun_means, found_at}
 use Rattle.roc_protocol.proofs.TakenRuns.{none_taken}
 use Rattle.roc_protocol.proofs.KeptRuns.{AreKeptIn, none_kept, are_kept_on}
-use Rattle.roc_protocol.proofs.Worlds.{Submitting, is_refused, is_accepted, submitting, submissions_from, Agrees, agrees_before, IsLogged, RunsOn, step_logged, ordered_submitted}
-
--- ---- a history grows at its end
-
-pub record Extends (old new : List Entry) : Type 0 where
-  pub more : List Entry
-  pub is : new ≡ old ++ more
-
-by_none : (h : List Entry) → Extends h h
-by_none h = record { more = []; is = sym (append-nil h) }
-
-pub step_extends : (plan : Plan) (w : World) (e : Option Event) (o : Outcome) → Transition plan w e o → Extends w.history o.world.history
-step_extends plan w None o h = subst (λ (o : Outcome). Extends w.history o.world.history) (sym h) (by_none w.history)
-step_extends plan w (Some (Submit n proc args)) o (s, there, h) = go (submitting plan w n proc args s o h)
-  where
-    go : Submitting plan w n proc args s o → Extends w.history o.world.history
-    go (is_refused e) = subst (λ (v : World). Extends w.history v.history) (sym e) (by_none w.history)
-    go (is_accepted known counted e) = subst (λ (v : World). Extends w.history v.history) (sym e) (record { more = Submitted (next_id s) proc args ∷ []; is = refl })
-step_extends plan w (Some (Deliver k)) o (m, some, there, h) = go m.to h
-  where
-    go : (to : Node) → IsReceived plan (mark_delivered w k) m.msg to o → Extends w.history o.world.history
-    go (Server shard) (s, r, at, step, e) = subst (λ (o : Outcome). Extends w.history o.world.history) (sym e) (by_none w.history)
-    go (Coord n) (s, at, e) = subst (λ (o : Outcome). Extends w.history o.world.history) (sym e) (record { more = answer_entries (after_message plan s m.msg).answer; is = refl })
-step_extends plan w (Some (Tick (Server shard))) o (s, there, e) = subst (λ (o : Outcome). Extends w.history o.world.history) (sym e) (by_none w.history)
-step_extends plan w (Some (Tick (Coord n))) o (s, there, e) = subst (λ (o : Outcome). Extends w.history o.world.history) (sym e) (record { more = []; is = refl })
+use Rattle.roc_protocol.proofs.Worlds.{submissions_from, Agrees, IsLogged, RunsOn, step_logged, ordered_submitted}
+use Rattle.roc_protocol.proofs.Onward.{agrees_before}
 
 -- ---- what ran
 
@@ -102,26 +73,30 @@ module _ (plan : Plan) (asked : TxnId → whole.Call) (S : Scheme) (start : Begi
           let began = i.ran_started q listed in
           record { on = ap (S.group_shard q) (b.grows.inputs q (i.needs_ran q began)) ∙ m.on; cells = m.cells ∙ sym (b.grows.uses q began) }
 
-  pub run_logged : (coords : ℕ) (steps : List Stepped) (w : World) → IsRunFrom plan start coords steps w → Agrees asked w.history → (log : Log) × IsLogged plan asked S start is laws w log × AreRan plan asked S start log (ran_in steps) × AreKeptIn plan asked S start w log steps
-  run_logged coords steps w at_beginning agrees = (
-    first_log,
-    record {
-      means = begun_means plan asked S start is begins coords;
-      began = λ r h. absurd (omega arith);
-      starts = λ m h. absurd h;
-      pending = λ n c e x h. elim (nothing n c e x h) [ ];
-      in_time = λ t u b l. absurd b;
-      onward = λ t h. absurd h.2;
-    },
-    record { groups = refl; each = λ r h. absurd h },
-    record { taken = none_taken plan asked S start; kept = λ n s h. none_kept plan asked S start first_log n s (ap (λ (s : ServerState). s.lists.taken) (found_at (begun_server start) 0 plan.program.shards n s h)) },
-  )
+  -- the log of the world where a run begins
+  pub begun_logged : (coords : ℕ) → IsLogged plan asked S start is laws (begun_world plan start coords) first_log
+  begun_logged coords =
+      record {
+        means = begun_means plan asked S start is begins coords;
+        began = λ r h. absurd (omega arith);
+        starts = λ m h. absurd h;
+        pending = λ n c e x h. absurd (nothing n c e x h);
+        in_time = λ t u b l. absurd b;
+        called = λ t h. absurd h.2;
+      }
     where
       nothing : (n : ℕ) (c : CoordState) → slice_get (begun_world plan start coords).coords n ≡ Some c → (x : _) → Has x c.pending → ⊥
       nothing n c e x h = subst (λ (c : CoordState). Has x c.pending) (found_at _ 0 coords n c e) h
-  run_logged coords steps w (steps_on {steps = front} {w = v} e o r h) agrees =
-      let x = step_extends plan v e o h in
-      let before = run_logged coords front v r (agrees_before asked v.history x.more (subst (Agrees asked) x.is agrees)) in
+
+  pub run_logged : (coords : ℕ) (steps : List Stepped) (w : World) → IsRunBeside plan start coords steps w → Agrees asked w → (log : Log) × IsLogged plan asked S start is laws w log × AreRan plan asked S start log (ran_in steps) × AreKeptIn plan asked S start w log steps
+  run_logged coords steps w beside_begins agrees = (
+    first_log,
+    begun_logged coords,
+    record { groups = refl; each = λ r h. absurd h },
+    record { taken = none_taken plan asked S start; kept = λ n s h. none_kept plan asked S start first_log n s (ap (λ (s : ServerState). s.lists.taken) (found_at (begun_server start) 0 plan.program.shards n s h)) },
+  )
+  run_logged coords steps w (beside_goes_on {steps = front} {w = v} e o r h) agrees =
+      let before = run_logged coords front v r (agrees_before plan v (submissions_from plan start coords front v r) asked e o h agrees) in
       let now = step_logged plan asked S start is laws v before.0 (submissions_from plan start coords front v r) before.1 e o h agrees in
       let i = laws.holds before.0 before.1.means.reached in (
         now.0,

@@ -1,10 +1,10 @@
 -- Each event keeps what holds in every world
-use Rattle.std.proofs.Common.{◌≡◌, ◌≢◌, ℕ, ℤ, ◌-◌, ◌≤◌, ◌==◌, Bool, true, false, not, List, [], ◌∷◌, ◌++◌, Option, Some, None, length, map, refl, sym, ap, subst, ◌∙◌, ◌⊎◌, inl, inr, arith, append-nil}
-use Rattle.std.proofs.lemmas.Bool.{eqb-true, cases_eq}
-use Rattle.std.specs.Prelude.{slice_get, if◌then◌else◌, nat_le, flat_map}
+use Rattle.std.proofs.Common.{◌≡◌, ◌≢◌, ℕ, ℤ, ◌-◌, ◌<◌, true, not, List, [], ◌∷◌, ◌++◌, Option, Some, None, length, map, refl, sym, ap, subst, ◌∙◌, ◌⊎◌, inl, inr, arith, append-nil}
+use Rattle.std.proofs.lemmas.Bool.{cases_eq}
+use Rattle.std.specs.Prelude.{slice_get, slice_set, flat_map}
 use Rattle.roc_sequence.specs.Lists.{Has}
 use Rattle.roc_sequence.specs.Places.{IsListed, IsListedBefore, is_listed}
-use Rattle.roc_sequence.proofs.Members.{has_append, has_one, has_left, has_right, has_at, from_has_map}
+use Rattle.roc_sequence.proofs.Members.{has_append, has_one, has_right, has_at, from_has_map}
 use Rattle.roc_sequence.proofs.Places.{listed_or_not}
 use Rattle.roc_sequence.proofs.Appended.{before_front, before_new, listed_either}
 use Rattle.roc_sequence.proofs.Filtered.{from_listed_filter}
@@ -14,7 +14,7 @@ use Rattle.roc_base.specs.declared.node.Node.TheVariants.{Server, Coord}
 use Rattle.roc_base.specs.TxnId.{is_txn}
 use Rattle.roc_base.specs.Equalities.{is_txn-true}
 use Rattle.roc_msg.specs.declared.msg.Msg.{Msg}
-use Rattle.roc_msg.specs.declared.msg.Msg.TheVariants.{Start}
+use Rattle.roc_msg.specs.declared.msg.Msg.TheVariants.{Start, Read, ReadOk}
 use Rattle.roc_msg.specs.declared.msg.Envelope.{Envelope}
 use Rattle.roc_msg.specs.declared.outbox.Outgoing.{Outgoing}
 use Rattle.roc_plan.specs.Groups.{Plan, procedure_of, is_transaction}
@@ -22,19 +22,17 @@ use Rattle.roc_whole.specs.Serial as whole
 use Rattle.roc_law_orders.specs.Behaviour.{TxnGroup}
 use Rattle.roc_law_log.specs.Scheme.{Scheme}
 use Rattle.roc_law_log.specs.Log.{Log}
-use Rattle.roc_law_log.specs.Steps.{no_steps, new_in}
+use Rattle.roc_law_log.specs.Steps.{LogSteps, no_steps, new_in}
 use Rattle.roc_law_log.specs.Invariants.{LogInvariants, LogGrows}
 use Rattle.roc_server.specs.declared.started.StartedGroup.{StartedGroup}
 use Rattle.roc_server.specs.State.{answered, ServerState, ServerStep}
 use Rattle.roc_server.specs.Step as server
 use Rattle.roc_coord.specs.declared.handled.Handled.{Handled}
 use Rattle.roc_coord.specs.declared.handled.Handled.TheVariants as answer
-use Rattle.roc_coord.specs.declared.handled.SubmitFault.TheVariants as fault
 use Rattle.roc_coord.specs.declared.transaction.Transaction.{Transaction}
 use Rattle.roc_coord.specs.State.{CoordState}
 use Rattle.roc_coord.specs.Step.{after_message}
-use Rattle.roc_coord.specs.Submit.{next_id, new_transaction, accepted, refused_or_accepted, after_submit, most_transactions, most_pending}
-use Rattle.roc_coord.specs.Tick as coord
+use Rattle.roc_coord.specs.Submit.{Submission, next_id, new_transaction, accepted}
 use Rattle.roc_audit.specs.declared.entry.Entry.{Entry}
 use Rattle.roc_audit.specs.declared.entry.Entry.TheVariants.{Submitted, Answered}
 use Rattle.roc_audit.specs.History.{WasSubmitted, WasAnswered, IsAnsweredBefore}
@@ -44,13 +42,15 @@ use Rattle.roc_protocol.specs.declared.event.Event.{Event}
 use Rattle.roc_protocol.specs.declared.event.Event.TheVariants.{Submit, Deliver, Tick}
 use Rattle.roc_protocol.specs.PlanAssumptions.{IsSchemeOf}
 use Rattle.roc_protocol.specs.Beginnings.{Beginning, first_beginning}
+use Rattle.roc_protocol.specs.Aside.{after_transaction, transaction_tick_sends}
 use Rattle.roc_protocol.specs.World.{World, sent_by, mark_delivered, at_coord}
 use Rattle.roc_protocol.specs.declared.event.Seen.TheVariants as seen
 use Rattle.roc_protocol.specs.Happens.{RanAt, ran_at, served, undecided, Outcome, IsSubmissionOf, answer_entries, IsReceived, Ticks}
-use Rattle.roc_protocol.specs.Run.{Stepped, Transition, IsRun, IsRunFrom, at_beginning, steps_on}
+use Rattle.roc_protocol.specs.Run.{Stepped, IsRun}
+use Rattle.roc_protocol.specs.Beside.{Moves, IsRunBeside, beside_begins, beside_goes_on}
 use Rattle.roc_protocol.specs.Inner.Given.{LogLaws}
-use Rattle.roc_protocol.proofs.Means.{run_of, entry_run, RanMeans, Began, Means, WorldMeans}
-use Rattle.roc_protocol.proofs.Changed.{get-set_cases, comes_means}
+use Rattle.roc_protocol.proofs.Means.{IsOther, run_of, entry_run, RanMeans, Began, Means, WorldMeans}
+use Rattle.roc_protocol.proofs.Changed.{get-set_here, get-set_cases, comes_means}
 use Rattle.roc_protocol.proofs.Explains.{IsExplained}
 use Rattle.roc_protocol.proofs.Decisions.{decided_are}
 use Rattle.roc_protocol.proofs.Flattened.{listed_in}
@@ -59,8 +59,11 @@ use Rattle.roc_protocol.proofs.KeepsTaken.{AreApart}
 use Rattle.roc_protocol.proofs.Served.{StartsAre, message_explained, tick_explained}
 use Rattle.roc_protocol.proofs.NoStarts.{no_starts, no_starts_at_tick}
 use Rattle.roc_protocol.proofs.Coordinated.{IsCoordinated, message_coordinated, tick_coordinated, submission_coordinated}
+use Rattle.roc_protocol.proofs.SubmissionEnds as ends
+use Rattle.roc_protocol.proofs.KeptAside.{IsKeptAside, kept_aside, aside_onward}
+use Rattle.roc_protocol.proofs.AsideSteps.{aside_coordinated}
 use Rattle.roc_protocol.proofs.Submissions.{AreSubmissions, no_submission, submissions_kept, submissions_message, submissions_more, unused}
-use Rattle.roc_protocol.proofs.Firsts.{begun_submissions, run_from}
+use Rattle.roc_protocol.proofs.Firsts.{begun_submissions, run_beside}
 
 -- ---- what an accepted submission is
 
@@ -69,32 +72,24 @@ pub data Submitting (plan : Plan) (w : World) (n proc : ℕ) (args : List ℤ) (
   is_refused : o.world ≡ w → Submitting plan w n proc args s o
   is_accepted : is_transaction plan proc ≡ true → length args ≡ (procedure_of plan proc).arguments → o.world ≡ at_coord w n (accepted plan s (new_transaction s proc args)).state (accepted plan s (new_transaction s proc args)).sends (Submitted (next_id s) proc args ∷ []) → Submitting plan w n proc args s o
 
-pub submitting : (plan : Plan) (w : World) (n proc : ℕ) (args : List ℤ) (s : CoordState) (o : Outcome) → IsSubmissionOf w n proc args (after_submit plan s proc args) o → Submitting plan w n proc args s o
-submitting plan w n proc args s o h = procedure (is_transaction plan proc) refl h
+pub submitting : (plan : Plan) (w : World) (n proc : ℕ) (args : List ℤ) (s : CoordState) (o : Outcome) → IsSubmissionOf w n proc args (after_transaction plan s proc args) o → Submitting plan w n proc args s o
+submitting plan w n proc args s o h = go (after_transaction plan s proc args) (ends.submission_is plan s proc args) h
   where
-    free : (b : Bool) → is_transaction plan proc ≡ true → length args ≡ (procedure_of plan proc).arguments → IsSubmissionOf w n proc args (refused_or_accepted plan s proc args (if b then Some fault.Busy else None)) o → Submitting plan w n proc args s o
-    free true known counted r = is_refused (ap (λ (o : Outcome). o.world) r)
-    free false known counted r = is_accepted known counted (ap (λ (o : Outcome). o.world) r)
-
-    unspent : (b : Bool) → is_transaction plan proc ≡ true → length args ≡ (procedure_of plan proc).arguments
-        → IsSubmissionOf w n proc args (refused_or_accepted plan s proc args (if b then Some fault.Spent else if nat_le most_pending (length s.pending) then Some fault.Busy else None)) o → Submitting plan w n proc args s o
-    unspent true known counted r = is_refused (ap (λ (o : Outcome). o.world) r)
-    unspent false known counted r = free (nat_le most_pending (length s.pending)) known counted r
-
-    arguments : (b : Bool) → (length args == (procedure_of plan proc).arguments) ≡ b → is_transaction plan proc ≡ true
-        → IsSubmissionOf w n proc args (refused_or_accepted plan s proc args (if not b then Some fault.Args else if nat_le most_transactions s.next then Some fault.Spent else if nat_le most_pending (length s.pending) then Some fault.Busy else None)) o → Submitting plan w n proc args s o
-    arguments true e known r = unspent (nat_le most_transactions s.next) known (eqb-true (length args) (procedure_of plan proc).arguments e) r
-    arguments false e known r = elim r [ ]
-
-    procedure : (b : Bool) → is_transaction plan proc ≡ b
-        → IsSubmissionOf w n proc args (refused_or_accepted plan s proc args (if not b then Some fault.NoProc else if not (length args == (procedure_of plan proc).arguments) then Some fault.Args else if nat_le most_transactions s.next then Some fault.Spent else if nat_le most_pending (length s.pending) then Some fault.Busy else None)) o → Submitting plan w n proc args s o
-    procedure true e r = arguments (length args == (procedure_of plan proc).arguments) refl e r
-    procedure false e r = elim r [ ]
+    go : (r : Submission) → ends.IsTransactionSubmission plan s proc args r → IsSubmissionOf w n proc args r o → Submitting plan w n proc args s o
+    go r (ends.unknown e) h = absurd h
+    go r (ends.miscounted e) h = absurd h
+    go r (ends.spent known counted l) h = is_refused (ap (λ (o : Outcome). o.world) h)
+    go r (ends.busy known counted l m) h = is_refused (ap (λ (o : Outcome). o.world) h)
+    go r (ends.taken known counted l m) h = is_accepted known counted (ap (λ (o : Outcome). o.world) h)
 
 -- ---- submissions
 
-pub submissions_step : (plan : Plan) (w : World) → AreSubmissions plan w.history w.coords → (e : Option Event) (o : Outcome) → Transition plan w e o → AreSubmissions plan o.world.history o.world.coords
-submissions_step plan w a None o h = subst (λ (o : Outcome). AreSubmissions plan o.world.history o.world.coords) (sym h) a
+pub submissions_step : (plan : Plan) (w : World) → AreSubmissions plan w.history w.coords → (e : Option Event) (o : Outcome) → Moves plan w e o → AreSubmissions plan o.world.history o.world.coords
+submissions_step plan w a None o (inl h) = subst (λ (o : Outcome). AreSubmissions plan o.world.history o.world.coords) (sym h) a
+submissions_step plan w a None o (inr x) =
+    let k = kept_aside plan x.before x.after x.sends x.does in
+    subst (λ (o : Outcome). AreSubmissions plan o.world.history o.world.coords) (sym x.is)
+    (submissions_kept plan w.history w.coords a x.number x.before x.there x.after k.number (aside_onward plan x.before x.after x.sends k) [] (λ t p a h. h))
 submissions_step plan w a (Some (Submit n proc args)) o (s, there, h) = go (submitting plan w n proc args s o h)
   where
     go : Submitting plan w n proc args s o → AreSubmissions plan o.world.history o.world.coords
@@ -108,23 +103,22 @@ submissions_step plan w a (Some (Deliver k)) o (m, some, there, h) = go m.to h
 submissions_step plan w a (Some (Tick (Server shard))) o (s, there, e) = subst (λ (o : Outcome). AreSubmissions plan o.world.history o.world.coords) (sym e) a
 submissions_step plan w a (Some (Tick (Coord n))) o (s, there, e) = subst (λ (o : Outcome). AreSubmissions plan o.world.history o.world.coords) (sym e) (submissions_kept plan w.history w.coords a n s there s refl (omega arith) [] (λ t p x h. h))
 
-pub submissions_from : (plan : Plan) (start : Beginning) (coords : ℕ) (steps : List Stepped) (w : World) → IsRunFrom plan start coords steps w → AreSubmissions plan w.history w.coords
-submissions_from plan start coords steps w at_beginning = begun_submissions plan start coords
-submissions_from plan start coords steps w (steps_on {w = v} e o r h) = submissions_step plan v (submissions_from plan start coords _ v r) e o h
+pub submissions_from : (plan : Plan) (start : Beginning) (coords : ℕ) (steps : List Stepped) (w : World) → IsRunBeside plan start coords steps w → AreSubmissions plan w.history w.coords
+submissions_from plan start coords steps w beside_begins = begun_submissions plan start coords
+submissions_from plan start coords steps w (beside_goes_on {w = v} e o r h) = submissions_step plan v (submissions_from plan start coords _ v r) e o h
 
 -- and in a run from the first world
 pub run_submissions : (plan : Plan) (coords : ℕ) (steps : List Stepped) (w : World) → IsRun plan coords steps w → AreSubmissions plan w.history w.coords
-run_submissions plan coords steps w run = submissions_from plan (first_beginning plan) coords steps w (run_from plan coords steps w run)
+run_submissions plan coords steps w run = submissions_from plan (first_beginning plan) coords steps w (run_beside plan coords steps w run)
 
 -- ---- all of it
 
--- what is asked is what was submitted
-pub record Agrees (asked : TxnId → whole.Call) (h : List Entry) : Type 0 where
-  pub proc : (t : TxnId) (p : ℕ) (a : List ℤ) → Has (Submitted t p a) h → p ≡ (asked t).procedure
-  pub args : (t : TxnId) (p : ℕ) (a : List ℤ) → Has (Submitted t p a) h → a ≡ (asked t).arguments
-
-pub agrees_before : (asked : TxnId → whole.Call) (h more : List Entry) → Agrees asked (h ++ more) → Agrees asked h
-agrees_before asked h more g = record { proc = λ t p a k. g.proc t p a (has_left (Submitted t p a) h more k); args = λ t p a k. g.args t p a (has_left (Submitted t p a) h more k) }
+-- what is asked is what was submitted, by its id; and nothing is asked by an id that was used for no submission
+pub record Agrees (asked : TxnId → whole.Call) (w : World) : Type 0 where
+  pub proc : (t : TxnId) (p : ℕ) (a : List ℤ) → Has (Submitted t p a) w.history → p ≡ (asked t).procedure
+  pub args : (t : TxnId) (p : ℕ) (a : List ℤ) → Has (Submitted t p a) w.history → a ≡ (asked t).arguments
+  pub id : (t : TxnId) (p : ℕ) (a : List ℤ) → Has (Submitted t p a) w.history → (asked t).id ≡ t
+  pub used : (t : TxnId) (c : CoordState) → slice_get w.coords t.coord ≡ Some c → t.seq < c.next → (asked t).id ≡ t → WasSubmitted w.history t
 
 module _ (plan : Plan) (asked : TxnId → whole.Call) (S : Scheme) (start : Beginning) (is : IsSchemeOf plan asked S) (laws : LogLaws S start.store) where
   pub record IsLogged (w : World) (log : Log) : Type 0 where
@@ -135,18 +129,19 @@ module _ (plan : Plan) (asked : TxnId → whole.Call) (S : Scheme) (start : Begi
     pub pending : (n : ℕ) (c : CoordState) → slice_get w.coords n ≡ Some c → (x : Transaction) → Has x c.pending → WasSubmitted w.history x.id
     -- who was answered before another's submission stands before it
     pub in_time : (t u : TxnId) → IsAnsweredBefore w.history t u → IsListed is_txn w.order u → IsListedBefore is_txn w.order t u
-    -- what was submitted is none that was used before the run began
-    pub onward : (t : TxnId) → WasSubmitted w.history t → start.nexts t.coord ≤ t.seq
+    -- what was submitted is a transaction of the run
+    pub called : (t : TxnId) → WasSubmitted w.history t → ¬ IsOther asked start t
 
   -- from a log to a later one these groups run
   pub record RunsOn (log later : Log) (ran : List RanAt) : Type 0 where
+    pub steps : LogSteps S start.store log later
     pub grows : LogGrows S start.store log later
     pub groups : later.past.ran ≡ log.past.ran ++ map (λ r. entry_run r.group) ran
     pub each : (r : RanAt) → Has r ran → RanMeans plan asked S start later r
 
   -- none do
   rests : (log : Log) → LogInvariants S start.store log → RunsOn log log []
-  rests log i = record { grows = laws.grows log log i no_steps; groups = sym (append-nil log.past.ran); each = λ r h. absurd h }
+  rests log i = record { steps = no_steps; grows = laws.grows log log i no_steps; groups = sym (append-nil log.past.ran); each = λ r h. absurd h }
 
   -- the log goes on with what comes of an event
   abbrev GoesOn : World → Log → (Of : ℕ → Type 0) → Outcome → Type 0
@@ -166,6 +161,8 @@ module _ (plan : Plan) (asked : TxnId → whole.Call) (S : Scheme) (start : Begi
 
   starts_later : (h more : List Entry) (m : Msg) → StartsAre (WasSubmitted h) m → StartsAre (WasSubmitted (h ++ more)) m
   starts_later h more (Start id proc group args inputs) k = submitted_front h more id k
+  starts_later h more (Read id round proc group args) k = absurd k
+  starts_later h more (ReadOk id round group shard versions outs) k = absurd k
   starts_later h more msg k = tt
 
   starts_after : (h : List Entry) (sent : List Envelope) (from : Node) (outs : List Outgoing) → ((m : Envelope) → Has m sent → StartsAre (WasSubmitted h) m.msg) → ((out : Outgoing) → Has out outs → StartsAre (WasSubmitted h) out.msg) → (m : Envelope) → Has m (sent ++ map (sent_by from) outs) → StartsAre (WasSubmitted h) m.msg
@@ -183,14 +180,14 @@ module _ (plan : Plan) (asked : TxnId → whole.Call) (S : Scheme) (start : Begi
     answered_listed : (t : TxnId) (reply : List ℤ) → WasAnswered w.history t reply → IsListed is_txn w.order t
     answered_listed t reply h = subst (λ l. IsListed is_txn l t) (sym o.means.order) (o.means.answered t reply h).throughout.in_order
 
-    -- what began was not used before the run
-    pub begun_onward : (r : TxnGroup) → Began plan asked S start log r → start.nexts r.txn.coord ≤ r.txn.seq
-    begun_onward r h = o.onward r.txn (o.began r h)
+    -- and so is what began
+    pub begun_called : (r : TxnGroup) → Began plan asked S start log r → ¬ IsOther asked start r.txn
+    begun_called r h = o.called r.txn (o.began r h)
 
     -- ---- a step of a server
 
     served_logged : (Of : ℕ → Type 0) (n : ℕ) → Of n → (s : ServerState) (there : slice_get w.servers n ≡ Some s) (r : ServerStep)
-        → IsExplained plan asked S start is laws log w o.means n s there (WasSubmitted w.history) begun_onward r → r.decided ≡ flat_map (λ c. c) r.components → ((out : Outgoing) → Has out r.sends → StartsAre (WasSubmitted w.history) out.msg)
+        → IsExplained plan asked S start is laws log w o.means n s there (WasSubmitted w.history) begun_called r → r.decided ≡ flat_map (λ c. c) r.components → ((out : Outgoing) → Has out r.sends → StartsAre (WasSubmitted w.history) out.msg)
         → GoesOn w log Of (served w n r)
     served_logged Of n of s there r x one none = (
       x.log,
@@ -200,9 +197,10 @@ module _ (plan : Plan) (asked : TxnId → whole.Call) (S : Scheme) (start : Begi
         starts = starts_after w.history w.sent (Server (record { 0 = n })) r.sends o.starts none;
         pending = o.pending;
         in_time = λ t u b l. later t u b (listed_or_not is_txn w.order u);
-        onward = o.onward;
+        called = o.called;
       },
       record {
+        steps = x.steps;
         grows = g;
         groups = x.ran ∙ ap (λ l. log.past.ran ++ l) (told r.ran);
         each = λ q h. (let e = from_has_map (ran_at n) q r.ran h in subst (RanMeans plan asked S start x.log) (sym e.2) (x.each e.0 e.1));
@@ -249,9 +247,9 @@ module _ (plan : Plan) (asked : TxnId → whole.Call) (S : Scheme) (start : Begi
     coordinated_logged : (Of : ℕ → Type 0) (n : ℕ) (s : CoordState) (there : slice_get w.coords n ≡ Some s) (after : CoordState) (outs : List Outgoing) (tells : List Entry)
         → (x : IsCoordinated plan asked S start is laws log i w o.means n s there (WasSubmitted (w.history ++ tells)) (λ x h. submitted_front w.history tells x.id (o.pending n s there x h)) after outs tells)
         → ((t u : TxnId) → IsAnsweredBefore (w.history ++ tells) t u → IsListed is_txn w.order u → IsListedBefore is_txn w.order t u)
-        → ((t : TxnId) → WasSubmitted (w.history ++ tells) t → start.nexts t.coord ≤ t.seq)
+        → ((t : TxnId) → WasSubmitted (w.history ++ tells) t → ¬ IsOther asked start t)
         → (later : Log) × IsLogged (at_coord w n after outs tells) later × RunsOn log later [] × Takes S start w (at_coord w n after outs tells) log later Of []
-    coordinated_logged Of n s there after outs tells x time onward = (
+    coordinated_logged Of n s there after outs tells x time called = (
       x.log,
       record {
         means = x.means;
@@ -262,23 +260,25 @@ module _ (plan : Plan) (asked : TxnId → whole.Call) (S : Scheme) (start : Begi
           | inr k ↦ submitted_front w.history tells y.id (o.pending m c k.1 y h)
         ];
         in_time = time;
-        onward = onward;
+        called = called;
       },
-      record { grows = laws.grows log x.log i x.steps; groups = x.ran ∙ sym (append-nil log.past.ran); each = λ r h. absurd h },
+      record { steps = x.steps; grows = laws.grows log x.log i x.steps; groups = x.ran ∙ sym (append-nil log.past.ran); each = λ r h. absurd h },
       takes_nothing S start w (at_coord w n after outs tells) log x.log Of refl apart x.decided,
     )
 
     -- where nothing is submitted, and where something is
-    onward_still : (tells : List Entry) → ((t : TxnId) (p : ℕ) (a : List ℤ) → ¬ Has (Submitted t p a) tells) → (t : TxnId) → WasSubmitted (w.history ++ tells) t → start.nexts t.coord ≤ t.seq
-    onward_still tells none t (p, a, h) = elim (has_append (Submitted t p a) w.history tells h) [ inl k ↦ o.onward t (p, a, k) | inr k ↦ absurd (none t p a k) ]
+    called_still : (tells : List Entry) → ((t : TxnId) (p : ℕ) (a : List ℤ) → ¬ Has (Submitted t p a) tells) → (t : TxnId) → WasSubmitted (w.history ++ tells) t → ¬ IsOther asked start t
+    called_still tells none t (p, a, h) = elim (has_append (Submitted t p a) w.history tells h) [ inl k ↦ o.called t (p, a, k) | inr k ↦ absurd (none t p a k) ]
 
-    onward_more : (n : ℕ) (s : CoordState) → slice_get w.coords n ≡ Some s → (proc : ℕ) (args : List ℤ) (t : TxnId) → WasSubmitted (w.history ++ Submitted (next_id s) proc args ∷ []) t → start.nexts t.coord ≤ t.seq
-    onward_more n s there proc args t (p, a, h) = elim (has_append (Submitted t p a) w.history (Submitted (next_id s) proc args ∷ []) h) [
-      | inl k ↦ o.onward t (p, a, k)
+    called_more : (n : ℕ) (s : CoordState) → slice_get w.coords n ≡ Some s → (proc : ℕ) (args : List ℤ) → (asked (next_id s)).id ≡ next_id s
+        → (t : TxnId) → WasSubmitted (w.history ++ Submitted (next_id s) proc args ∷ []) t → ¬ IsOther asked start t
+    called_more n s there proc args own t (p, a, h) = elim (has_append (Submitted t p a) w.history (Submitted (next_id s) proc args ∷ []) h) [
+      | inl k ↦ o.called t (p, a, k)
       | inr k ↦
           (let e = has_one (Submitted t p a) (Submitted (next_id s) proc args) k in
           let same : t ≡ next_id s = cc in
-          subst (λ (t : TxnId). start.nexts t.coord ≤ t.seq) (sym same) (o.means.coords n s there).onward)
+          let late = (o.means.coords n s there).onward in
+          subst (λ (t : TxnId). ¬ IsOther asked start t) (sym same) (λ other. elim other [ inl early ↦ absurd (omega arith) | inr none ↦ none own ]))
     ]
 
     -- an answer at the end is before no submission
@@ -303,17 +303,17 @@ module _ (plan : Plan) (asked : TxnId → whole.Call) (S : Scheme) (start : Begi
     -- ---- any event
 
     pub comes_logged : (k : ℕ) → IsLogged (mark_delivered w k) log
-    comes_logged k = record { means = comes_means plan asked S start is log w k o.means; began = o.began; starts = o.starts; pending = o.pending; in_time = o.in_time; onward = o.onward }
+    comes_logged k = record { means = comes_means plan asked S start is log w k o.means; began = o.began; starts = o.starts; pending = o.pending; in_time = o.in_time; called = o.called }
 
     tick_logged : (node : Node) (v : Outcome) → Ticks plan w node v → GoesOn w log Anywhere v
     tick_logged (Server shard) v (s, there, e) = subst (GoesOn w log Anywhere) (sym e)
-        (served_logged Anywhere shard.0 tt s there (answered s (server.tick_sends s)) (tick_explained plan asked S start is laws log w o.means shard.0 s there (WasSubmitted w.history) begun_onward) refl (no_starts_at_tick plan s (WasSubmitted w.history)))
+        (served_logged Anywhere shard.0 tt s there (answered s (server.tick_sends s)) (tick_explained plan asked S start is laws log w o.means shard.0 s there (WasSubmitted w.history) begun_called) refl (no_starts_at_tick plan s (WasSubmitted w.history)))
     tick_logged (Coord n) v (s, there, e) = subst (GoesOn w log Anywhere) (sym e)
-        (coordinated_logged Anywhere n s there s (coord.tick_sends plan s) [] (tick_coordinated plan asked S start is laws log i w o.means n s there (WasSubmitted (w.history ++ [])) (λ x h. submitted_front w.history [] x.id (o.pending n s there x h))) (λ t u b. o.in_time t u (subst (λ h. IsAnsweredBefore h t u) (append-nil w.history) b)) (onward_still [] (λ t p a h. h)))
+        (coordinated_logged Anywhere n s there s (transaction_tick_sends plan s) [] (tick_coordinated plan asked S start is laws log i w o.means n s there (WasSubmitted (w.history ++ [])) (λ x h. submitted_front w.history [] x.id (o.pending n s there x h))) (λ t u b. o.in_time t u (subst (λ h. IsAnsweredBefore h t u) (append-nil w.history) b)) (called_still [] (λ t p a h. h)))
 
     receive_logged : (m : Msg) (to : Node) (v : Outcome) → Means plan asked S start log m to → StartsAre (WasSubmitted w.history) m → IsReceived plan w m to v → GoesOn w log (IsOf to) v
     receive_logged m (Server shard) v k f (s, r, there, step, e) = subst (GoesOn w log (IsOf (Server shard))) (sym e)
-        (served_logged (IsOf (Server shard)) shard.0 refl s there r (message_explained plan asked S start is laws log w o.means shard.0 s there (WasSubmitted w.history) begun_onward m r step k f) (decided_are plan s m r step)
+        (served_logged (IsOf (Server shard)) shard.0 refl s there r (message_explained plan asked S start is laws log w o.means shard.0 s there (WasSubmitted w.history) begun_called m r step k f) (decided_are plan s m r step)
         (subst (λ (r : ServerStep). (out : Outgoing) → Has out r.sends → StartsAre (WasSubmitted w.history) out.msg) (sym step.is) (no_starts plan s (WasSubmitted w.history) step.findings m)))
     receive_logged m (Coord n) v k f (s, there, e) =
         let a = (after_message plan s m).answer in
@@ -321,20 +321,29 @@ module _ (plan : Plan) (asked : TxnId → whole.Call) (S : Scheme) (start : Begi
         (coordinated_logged (IsOf (Coord n)) n s there (after_message plan s m).state (after_message plan s m).sends (answer_entries a)
         (message_coordinated plan asked S start is laws log i w o.means n s there (WasSubmitted (w.history ++ answer_entries a)) (λ x h. submitted_front w.history (answer_entries a) x.id (o.pending n s there x h)) m (Coord n) k)
         (λ t u b l. o.in_time t u (answers_last a t u b) l)
-        (onward_still (answer_entries a) (no_submission a)))
+        (called_still (answer_entries a) (no_submission a)))
 
-    submit_logged : AreSubmissions plan w.history w.coords → (n proc : ℕ) (args : List ℤ) (s : CoordState) → slice_get w.coords n ≡ Some s → (v : Outcome) → Submitting plan w n proc args s v → Agrees asked v.world.history → (later : Log) × IsLogged v.world later × RunsOn log later [] × Takes S start w v.world log later Anywhere []
+    aside_logged : AreSubmissions plan w.history w.coords → (n : ℕ) (s : CoordState) → slice_get w.coords n ≡ Some s → (after : CoordState) (outs : List Outgoing) → IsKeptAside plan s after outs → Agrees asked (at_coord w n after outs [])
+        → GoesOn w log Anywhere (undecided seen.Done (at_coord w n after outs []))
+    aside_logged a n s there after outs k agrees =
+        coordinated_logged Anywhere n s there after outs []
+        (aside_coordinated plan asked S start is laws log i w o.means n s there (WasSubmitted (w.history ++ [])) (λ x h. submitted_front w.history [] x.id (o.pending n s there x h)) after outs k
+        (λ e. inr (λ own. let was = agrees.used (next_id s) after (subst (λ m. slice_get (slice_set w.coords n after) m ≡ Some after) (sym (a.numbers n s there)) (get-set_here w.coords n s after there)) (omega (arith, e)) own in
+        unused plan w.history w.coords a n s there was.0 was.1 (subst (Has (Submitted (next_id s) was.0 was.1)) (append-nil w.history) was.2))))
+        (λ t u b. o.in_time t u (subst (λ h. IsAnsweredBefore h t u) (append-nil w.history) b)) (called_still [] (λ t p a h. h))
+
+    submit_logged : AreSubmissions plan w.history w.coords → (n proc : ℕ) (args : List ℤ) (s : CoordState) → slice_get w.coords n ≡ Some s → (v : Outcome) → Submitting plan w n proc args s v → Agrees asked v.world → (later : Log) × IsLogged v.world later × RunsOn log later [] × Takes S start w v.world log later Anywhere []
     submit_logged a n proc args s there v (is_refused e) agrees = subst (λ (v : World). (later : Log) × IsLogged v later × RunsOn log later [] × Takes S start w v log later Anywhere []) (sym e) (log, o, rests log i, takes_nothing S start w w log log Anywhere refl apart (λ m. refl))
     submit_logged a n proc args s there v (is_accepted known counted e) agrees =
         let more = Submitted (next_id s) proc args ∷ [] in
         let mine : Has (Submitted (next_id s) proc args) (w.history ++ more) = has_right (Submitted (next_id s) proc args) w.history more (inl refl) in
-        let g : Agrees asked (w.history ++ more) = subst (λ (v : World). Agrees asked v.history) e agrees in
+        let g : Agrees asked (at_coord w n (accepted plan s (new_transaction s proc args)).state (accepted plan s (new_transaction s proc args)).sends more) = subst (Agrees asked) e agrees in
         let x = new_transaction s proc args in
         subst (λ (v : World). (later : Log) × IsLogged v later × RunsOn log later [] × Takes S start w v log later Anywhere []) (sym e)
         (coordinated_logged Anywhere n s there (accepted plan s x).state (accepted plan s x).sends more
         (submission_coordinated plan asked S start is laws log i w o.means n s there (WasSubmitted (w.history ++ more)) (λ y h. submitted_front w.history more y.id (o.pending n s there y h)) proc args more (none (next_id s) proc args) (g.proc (next_id s) proc args mine) (g.args (next_id s) proc args mine) (proc, args, mine))
         (λ t u b l. time t u l (before_cases w.history more t u b))
-        (onward_more n s there proc args))
+        (called_more n s there proc args (g.id (next_id s) proc args mine)))
       where
         none : (id : TxnId) (proc : ℕ) (args : List ℤ) (t : TxnId) (reply : List ℤ) → ¬ Has (Answered t reply) (Submitted id proc args ∷ [])
         none id proc args t reply (inl e) = absurd (cc)
@@ -352,13 +361,17 @@ module _ (plan : Plan) (asked : TxnId → whole.Call) (S : Scheme) (start : Begi
         time t u l (inr (inr (inl (reply, e, was)))) = absurd (was.2)
         time t u l (inr (inr (inr b))) = absurd b
 
-  pub step_logged : (w : World) (log : Log) → AreSubmissions plan w.history w.coords → IsLogged w log → (e : Option Event) (v : Outcome) → Transition plan w e v → Agrees asked v.world.history
+  pub step_logged : (w : World) (log : Log) → AreSubmissions plan w.history w.coords → IsLogged w log → (e : Option Event) (v : Outcome) → Moves plan w e v → Agrees asked v.world
       → (later : Log) × IsLogged v.world later × RunsOn log later v.ran × IsTaking S start w log later (record { event = e; outcome = v })
-  step_logged w log a o None v h agrees = subst (λ (v : Outcome). (later : Log) × IsLogged v.world later × RunsOn log later v.ran × IsTaking S start w log later (record { event = None; outcome = v })) (sym h)
+  step_logged w log a o None v (inl h) agrees = subst (λ (v : Outcome). (later : Log) × IsLogged v.world later × RunsOn log later v.ran × IsTaking S start w log later (record { event = None; outcome = v })) (sym h)
       (log, o, rests log (laws.holds log o.means.reached), took_nothing S start w log log Anywhere (record { event = None; outcome = undecided seen.Done w }) refl (takes_nothing S start w w log log Anywhere refl (apart w log o) (λ m. refl)))
+  step_logged w log a o None v (inr x) agrees =
+      let k = kept_aside plan x.before x.after x.sends x.does in
+      let y = subst (λ (v : Outcome). GoesOn w log Anywhere v) (sym x.is) (aside_logged w log o a x.number x.before x.there x.after x.sends k (subst (λ (v : Outcome). Agrees asked v.world) x.is agrees)) in
+      (y.0, y.1, y.2, took_nothing S start w log y.0 Anywhere (record { event = None; outcome = v }) (ap (λ (v : Outcome). v.components) x.is) y.3)
   step_logged w log a o (Some (Submit n proc args)) v (s, there, h) agrees =
       let x = submit_logged w log o a n proc args s there v (submitting plan w n proc args s v h) agrees in
-      let none = submission_none w n proc args (after_submit plan s proc args).state (after_submit plan s proc args).sends (after_submit plan s proc args).answer v h in
+      let none = submission_none w n proc args (after_transaction plan s proc args).state (after_transaction plan s proc args).sends (after_transaction plan s proc args).answer v h in
       (x.0, x.1, subst (RunsOn log x.0) (sym none.0) x.2, took_nothing S start w log x.0 Anywhere (record { event = Some (Submit n proc args); outcome = v }) none.1 (subst (Takes S start w v.world log x.0 Anywhere) (sym none.1) x.3))
   step_logged w log a o (Some (Deliver k)) v (m, some, there, h) agrees =
       let has = has_at w.sent (k - 1) m there in

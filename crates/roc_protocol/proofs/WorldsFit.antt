@@ -18,17 +18,18 @@ use Rattle.roc_server.specs.State.{answered, ServerState, ServerStep}
 use Rattle.roc_server.specs.Step as server
 use Rattle.roc_coord.specs.declared.transaction.Transaction.{Transaction}
 use Rattle.roc_coord.specs.Fits.{IsTransactionOf, CoordFits}
+use Rattle.roc_readonly.specs.Fits.{IsViewOf}
 use Rattle.roc_coord.specs.State.{CoordState}
 use Rattle.roc_coord.specs.Step.{after_message}
 use Rattle.roc_coord.specs.Submit.{next_id, new_transaction, accepted}
-use Rattle.roc_coord.specs.Tick as coord
 use Rattle.roc_audit.specs.declared.entry.Entry.{Entry}
 use Rattle.roc_audit.specs.declared.entry.Entry.TheVariants.{Submitted}
+use Rattle.roc_protocol.specs.Aside.{transaction_tick_sends}
 use Rattle.roc_protocol.specs.declared.event.Event.{Event}
 use Rattle.roc_protocol.specs.declared.event.Event.TheVariants.{Submit, Deliver, Tick}
 use Rattle.roc_protocol.specs.Beginnings.{Beginning, begun_server, begun_coord, begun_world, first_beginning}
 use Rattle.roc_protocol.specs.World.{World, first_world, sent_by, mark_delivered, at_server, at_coord}
-use Rattle.roc_protocol.specs.Fits.{NamesNodes, IsSentHere, IsServerHere, IsTransactionHere, IsCoordHere, FitsWorld}
+use Rattle.roc_protocol.specs.Fits.{NamesNodes, IsSentHere, IsServerHere, IsTransactionHere, IsPlain, IsCoordHere, FitsWorld}
 use Rattle.roc_protocol.specs.Happens.{Outcome, answer_entries, IsReceived, Happens}
 use Rattle.roc_protocol.proofs.Changed.{get-set_cases}
 use Rattle.roc_protocol.proofs.Firsts.{found_at}
@@ -36,6 +37,7 @@ use Rattle.roc_protocol.proofs.Worlds.{Submitting, is_refused, is_accepted, subm
 use Rattle.roc_protocol.proofs.Named.{all_filter, IsOutHere}
 use Rattle.roc_protocol.proofs.ServersHere as servers
 use Rattle.roc_protocol.proofs.CoordsHere as coords
+use Rattle.roc_protocol.proofs.PlainSteps.{begun_plain, message_plain, submission_plain}
 
 -- ---- the network
 
@@ -119,23 +121,26 @@ module _ (plan : Plan) (w : World) (fits : FitsWorld plan w) where
     coord_here : IsCoordHere (length w.servers) (length w.coords) s
     coord_here = all_has (IsCoordHere (length w.servers) (length w.coords)) s w.coords fits.coords_here (has_at w.coords n s there)
 
+    coord_fits : CoordFits plan s
+    coord_fits = all_has (CoordFits plan) s w.coords fits.coords (has_at w.coords n s there)
+
     coord_held : (x : Transaction) → Has x s.pending → coords.IsHeld plan (length w.servers) (length w.coords) some_shard fits.shards x
     coord_held x h =
         record {
           here = all_has (IsTransactionHere (length w.servers) (length w.coords)) x s.pending coord_here.pending h;
-          of = all_has (IsTransactionOf plan) x s.pending (all_has (CoordFits plan) s w.coords fits.coords (has_at w.coords n s there)) h;
+          of = all_has (IsTransactionOf plan) x s.pending coord_fits.0 h;
         }
 
-    coordinated_fits : (after : CoordState) (outs : List Outgoing) (told : List Entry) → coords.KeepsCoord plan (length w.servers) (length w.coords) some_shard fits.shards s coord_here.number coord_held after outs → FitsWorld plan (at_coord w n after outs told)
-    coordinated_fits after outs told k =
+    coordinated_fits : (after : CoordState) (outs : List Outgoing) (told : List Entry) → coords.KeepsCoord plan (length w.servers) (length w.coords) some_shard fits.shards s coord_here.number coord_held after outs → IsPlain after → FitsWorld plan (at_coord w n after outs told)
+    coordinated_fits after outs told k plain =
         let same : length w.coords ≡ length (slice_set w.coords n after) = sym (length-set w.coords n after) in
-        let here : IsCoordHere (length w.servers) (length w.coords) after = record { number = k.number; pending = has_all (IsTransactionHere (length w.servers) (length w.coords)) after.pending (λ x h. (k.pending x h).here) } in
+        let here : IsCoordHere (length w.servers) (length w.coords) after = record { number = k.number; pending = has_all (IsTransactionHere (length w.servers) (length w.coords)) after.pending (λ x h. (k.pending x h).here); plain = plain } in
         record {
           some_server = fits.some_server;
           shards = fits.shards;
           numbers = fits.numbers;
           servers = fits.servers;
-          coords = all_set (CoordFits plan) w.coords n after fits.coords (has_all (IsTransactionOf plan) after.pending (λ x h. (k.pending x h).of));
+          coords = all_set (CoordFits plan) w.coords n after fits.coords (has_all (IsTransactionOf plan) after.pending (λ x h. (k.pending x h).of), subst (AllByRecursion (IsViewOf plan)) (sym plain.views) tt);
           undelivered = numbers_sent w.sent w.undelivered (Coord n) outs fits.undelivered;
           sent_here = subst (λ c. AllByRecursion (IsSentHere (length w.servers) c) (w.sent ++ map (sent_by (Coord n)) outs)) same (sent_more (length w.servers) (length w.coords) w.sent (Coord n) outs fits.sent_here k.sends);
           servers_here = subst (λ c. AllByRecursion (IsServerHere (length w.servers) c) w.servers) same fits.servers_here;
@@ -151,7 +156,8 @@ received_fits plan w fits m names (Server shard) o (s, r, there, step, e) =
 received_fits plan w fits m names (Coord n) o (s, there, e) =
     let r = after_message plan s m.msg in
     subst (λ (o : Outcome). FitsWorld plan o.world) (sym e)
-    (coordinated_fits plan w fits n s there r.state r.sends (answer_entries r.answer) (coords.message_keeps plan (length w.servers) (length w.coords) (some_shard plan w fits) fits.shards s (coord_here plan w fits n s there).number (coord_held plan w fits n s there) m.msg names))
+    (coordinated_fits plan w fits n s there r.state r.sends (answer_entries r.answer) (coords.message_keeps plan (length w.servers) (length w.coords) (some_shard plan w fits) fits.shards s (coord_here plan w fits n s there).number (coord_held plan w fits n s there) m.msg names)
+    (message_plain plan s (coord_here plan w fits n s there).plain m.msg))
 
 pub kept : (plan : Plan) (w : World) → FitsWorld plan w → (e : Event) (o : Outcome) → Happens plan w e o → FitsWorld plan o.world
 kept plan w fits (Submit n proc args) o (s, there, h) = go (submitting plan w n proc args s o h)
@@ -161,7 +167,8 @@ kept plan w fits (Submit n proc args) o (s, there, h) = go (submitting plan w n 
     go (is_accepted known counted e) =
         let r = accepted plan s (new_transaction s proc args) in
         subst (FitsWorld plan) (sym e)
-        (coordinated_fits plan w fits n s there r.state r.sends (Submitted (next_id s) proc args ∷ []) (coords.submission_keeps plan (length w.servers) (length w.coords) (some_shard plan w fits) fits.shards s (coord_here plan w fits n s there).number (coord_held plan w fits n s there) proc args known counted))
+        (coordinated_fits plan w fits n s there r.state r.sends (Submitted (next_id s) proc args ∷ []) (coords.submission_keeps plan (length w.servers) (length w.coords) (some_shard plan w fits) fits.shards s (coord_here plan w fits n s there).number (coord_held plan w fits n s there) proc args known counted)
+        (submission_plain plan s (coord_here plan w fits n s there).plain proc args))
 kept plan w fits (Deliver k) o (m, some, there, h) =
     let here = all_has (IsSentHere (length w.servers) (length w.coords)) m w.sent fits.sent_here (has_at w.sent (k - 1) m there) in
     received_fits plan (mark_delivered w k) (comes_fits plan w fits k) m here.names m.to o h
@@ -170,7 +177,7 @@ kept plan w fits (Tick (Server shard)) o (s, there, e) =
     (served_fits plan w fits shard.0 s there (answered s (server.tick_sends s)) (servers.tick_keeps plan (length w.servers) (length w.coords) s (own_shard plan w fits shard.0 s there) (server_here plan w fits shard.0 s there) (server_fits plan w fits shard.0 s there)))
 kept plan w fits (Tick (Coord n)) o (s, there, e) =
     subst (λ (o : Outcome). FitsWorld plan o.world) (sym e)
-    (coordinated_fits plan w fits n s there s (coord.tick_sends plan s) [] (coords.tick_keeps plan (length w.servers) (length w.coords) (some_shard plan w fits) fits.shards s (coord_here plan w fits n s there).number (coord_held plan w fits n s there)))
+    (coordinated_fits plan w fits n s there s (transaction_tick_sends plan s) [] (coords.tick_keeps plan (length w.servers) (length w.coords) (some_shard plan w fits) fits.shards s (coord_here plan w fits n s there).number (coord_held plan w fits n s there)) (coord_here plan w fits n s there).plain)
 
 -- an event adds no coordinator
 pub same_count : (plan : Plan) (w : World) (e : Event) (o : Outcome) → Happens plan w e o → length o.world.coords ≡ length w.coords
@@ -211,7 +218,7 @@ begun_fits plan start count some =
 
     coords_of : (a n : ℕ) → AllByRecursion (CoordFits plan) (map (begun_coord start) (range_with_len a n))
     coords_of a zero = tt
-    coords_of a (suc n) = (tt, coords_of (a + 1) n)
+    coords_of a (suc n) = ((tt, tt), coords_of (a + 1) n)
 
     none_named : (servers coords a n : ℕ) → AllByRecursion (IsServerHere servers coords) (map (begun_server start) (range_with_len a n))
     none_named servers coords a zero = tt
@@ -219,7 +226,7 @@ begun_fits plan start count some =
 
     numbered : (servers coords a n : ℕ) → a + n ≡ coords → AllByRecursion (IsCoordHere servers coords) (map (begun_coord start) (range_with_len a n))
     numbered servers coords a zero e = tt
-    numbered servers coords a (suc n) e = (record { number = omega arith; pending = tt }, numbered servers coords (a + 1) n (omega arith))
+    numbered servers coords a (suc n) e = (record { number = omega arith; pending = tt; plain = begun_plain start a }, numbered servers coords (a + 1) n (omega arith))
 
 -- and the first world
 pub first : (plan : Plan) (count : ℕ) → 0 < plan.program.shards → FitsWorld plan (first_world plan count)

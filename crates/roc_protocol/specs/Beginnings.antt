@@ -4,7 +4,7 @@ use Rattle.std.specs.List.{range_with_len}
 use Rattle.roc_base.specs.declared.id.TxnId.{TxnId}
 use Rattle.roc_rows.specs.declared.cell.Cell.{Cell}
 use Rattle.roc_rows.specs.Store.{Store, read, empty}
-use Rattle.roc_plan.specs.Groups.{Plan, shard_of, is_transaction}
+use Rattle.roc_plan.specs.Groups.{Plan, shard_of}
 use Rattle.roc_whole.specs.Serial.{after_inits, start_store}
 use Rattle.roc_await.specs.Waits.{none_waiting}
 use Rattle.roc_server.specs.Below.{none_below, is_ended}
@@ -24,21 +24,20 @@ pub record Beginning : Type 0 where
   pub below : ℕ → List ℕ
 
 -- a server holds the cells of its places and no others, and keeps a watermark of each of sixteen coordinators; what it has heard of as ended is below its
--- coordinator's next sequence; and a coordinator used no more sequences than it may, and some only where the plan has some transaction
+-- coordinator's next sequence; and a coordinator used no more sequences than it may
 pub record IsBeginning (plan : Plan) (b : Beginning) : Type 0 where
   pub cells : (n : ℕ) (x : Cell) → shard_of plan x.place ≡ n → read (b.stores n) x ≡ read b.store x
   pub elsewhere : (n : ℕ) (x : Cell) → shard_of plan x.place ≢ n → read (b.stores n) x ≡ pos 0
   pub marks : (n : ℕ) → length (b.below n) ≡ 16
   pub ended : (n : ℕ) (t : TxnId) → is_ended (b.below n) t ≡ true → t.seq < b.nexts t.coord
   pub few : (coord : ℕ) → b.nexts coord ≤ most_transactions
-  pub used : (coord : ℕ) → 0 < b.nexts coord → (proc : ℕ) × (is_transaction plan proc ≡ true)
 
 abbrev pub begun_server : Beginning → (shard : ℕ) → ServerState
 begun_server b shard =
     record { shard = record { 0 = shard }; store = b.stores shard; started = []; lists = record { known = []; links = []; waiting = none_waiting; taken = [] }; below = b.below shard }
 
 abbrev pub begun_coord : Beginning → (number : ℕ) → CoordState
-begun_coord b number = record { number = number; next = b.nexts number; pending = [] }
+begun_coord b number = record { number = number; next = b.nexts number; pending = []; views = []; unanswered = [] }
 
 -- nothing is sent, started or pending
 abbrev pub begun_world : Plan → Beginning → (coords : ℕ) → World

@@ -1,12 +1,16 @@
 -- What a world holds is of a plan, and names only nodes that are there: docs/PROTOCOL.md, "World"
-use Rattle.std.specs.Prelude.{◌≡◌, ℕ, ◌<◌, ◌≤◌, List, Some, length, slice_get}
+use Rattle.std.specs.Prelude.{◌≡◌, ℕ, ◌<◌, ◌≤◌, List, [], Some, length, slice_get}
 use Rattle.std.specs.List.{AllByRecursion}
+use Rattle.roc_sequence.specs.Lists.{Has}
+use Rattle.roc_sequence.specs.Places.{NoneTwice}
+use Rattle.roc_base.specs.declared.id.TxnId.{TxnId}
+use Rattle.roc_base.specs.TxnId.{is_txn}
 use Rattle.roc_base.specs.declared.node.Node.{Node}
 use Rattle.roc_base.specs.declared.node.Node.TheVariants.{Server, Coord}
 use Rattle.roc_base.specs.Edge.{Dependency}
 use Rattle.roc_depgraph.specs.declared.known.KnownList.{KnownList}
 use Rattle.roc_msg.specs.declared.msg.Msg.{Msg}
-use Rattle.roc_msg.specs.declared.msg.Msg.TheVariants.{Start, StartOk, Commit, Fetch, Known, Ended}
+use Rattle.roc_msg.specs.declared.msg.Msg.TheVariants.{Start, StartOk, Commit, Fetch, Known, Ended, Read, ReadOk}
 use Rattle.roc_msg.specs.declared.msg.Envelope.{Envelope}
 use Rattle.roc_plan.specs.Groups.{Plan}
 use Rattle.roc_server.specs.declared.started.StartedGroup.{StartedGroup}
@@ -15,7 +19,17 @@ use Rattle.roc_server.specs.Fits.{ServerFits}
 use Rattle.roc_coord.specs.declared.transaction.Transaction.{Transaction}
 use Rattle.roc_coord.specs.State.{CoordState}
 use Rattle.roc_coord.specs.Fits.{CoordFits}
+use Rattle.roc_coord.specs.Ids.{ids_of}
 use Rattle.roc_protocol.specs.World.{World}
+
+-- ---- a coordinator without views
+
+-- what is unanswered is what is pending: each once, with a sequence that was used
+pub record IsPlain (c : CoordState) : Type 0 where
+  pub views : c.views ≡ []
+  pub unanswered : c.unanswered ≡ ids_of c.pending
+  pub once : NoneTwice is_txn (ids_of c.pending)
+  pub below : (u : TxnId) → Has u (ids_of c.pending) → u.seq < c.next
 
 -- ---- so many servers and coordinators are there
 
@@ -31,7 +45,7 @@ module _ (servers coords : ℕ) where
   abbrev pub AreListsHere : List KnownList → Type 0
   AreListsHere lists = AllByRecursion (λ k. AreSeenHere k.edges) lists
 
-  -- what a message names is there
+  -- what a message names is there; and it is of no view
   abbrev pub NamesNodes : Msg → Type 0
   NamesNodes (Start id proc group args inputs) = id.coord < coords
   NamesNodes (StartOk id group shard bound outs edges facts) = AreSeenHere edges × AreListsHere facts
@@ -39,6 +53,8 @@ module _ (servers coords : ℕ) where
   NamesNodes (Fetch id asker) = asker.0 < servers
   NamesNodes (Known id edges) = AreSeenHere edges
   NamesNodes (Ended coord mark) = coord < coords
+  NamesNodes (Read id round proc group args) = ⊥
+  NamesNodes (ReadOk id round group shard versions outs) = ⊥
   NamesNodes msg = Unit {0}
 
   -- it goes to a node that is there
@@ -67,8 +83,9 @@ module _ (servers coords : ℕ) where
   pub record IsCoordHere (c : CoordState) : Type 0 where
     pub number : c.number < coords
     pub pending : AllByRecursion IsTransactionHere c.pending
+    pub plain : IsPlain c
 
--- each node fits the plan, there is a server for each shard, all that is named is there, and what was not delivered was sent
+-- each node fits the plan, there are no views, there is a server for each shard, all that is named is there, and what was not delivered was sent
 pub record FitsWorld (plan : Plan) (w : World) : Type 0 where
   pub some_server : 0 < length w.servers
   pub shards : length w.servers ≡ plan.program.shards

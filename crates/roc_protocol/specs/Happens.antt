@@ -18,8 +18,8 @@ use Rattle.roc_coord.specs.declared.handled.SubmitFault.{SubmitFault}
 use Rattle.roc_coord.specs.declared.handled.SubmitFault.TheVariants as fault
 use Rattle.roc_coord.specs.State.{CoordState, CoordStep}
 use Rattle.roc_coord.specs.Step.{after_message}
-use Rattle.roc_coord.specs.Submit.{Submission, after_submit}
-use Rattle.roc_coord.specs.Tick as coord
+use Rattle.roc_coord.specs.Submit.{Submission}
+use Rattle.roc_protocol.specs.Aside.{after_transaction, transaction_tick_sends}
 use Rattle.roc_audit.specs.declared.entry.Entry.{Entry}
 use Rattle.roc_audit.specs.declared.entry.Entry.TheVariants as entry
 use Rattle.roc_protocol.specs.declared.event.Event.{Event}
@@ -98,12 +98,12 @@ IsReceived plan w msg (Coord number) o = (s : CoordState) × (slice_get w.coords
 
 abbrev pub Ticks : Plan → World → Node → Outcome → Type 0
 Ticks plan w (Server shard) o = (s : ServerState) × (slice_get w.servers shard.0 ≡ Some s) × (o ≡ served w shard.0 (answered s (server.tick_sends s)))
-Ticks plan w (Coord number) o = (s : CoordState) × (slice_get w.coords number ≡ Some s) × (o ≡ undecided seen.Done (at_coord w number s (coord.tick_sends plan s) []))
+Ticks plan w (Coord number) o = (s : CoordState) × (slice_get w.coords number ≡ Some s) × (o ≡ undecided seen.Done (at_coord w number s (transaction_tick_sends plan s) []))
 
 -- ---- any event
 
 -- o is what comes of an event
 abbrev pub Happens : Plan → World → Event → Outcome → Type 0
-Happens plan w (Submit number proc args) o = (s : CoordState) × (slice_get w.coords number ≡ Some s) × IsSubmissionOf w number proc args (after_submit plan s proc args) o
+Happens plan w (Submit number proc args) o = (s : CoordState) × (slice_get w.coords number ≡ Some s) × IsSubmissionOf w number proc args (after_transaction plan s proc args) o
 Happens plan w (Deliver k) o = (m : Envelope) × (0 < k) × (slice_get w.sent (k - 1) ≡ Some m) × IsReceived plan (mark_delivered w k) m.msg m.to o
 Happens plan w (Tick node) o = Ticks plan w node o

@@ -1,8 +1,10 @@
 pub mod World
 pub mod Beginnings
 pub mod WitnessFrom
+pub mod Aside
 pub mod Happens
 pub mod Run
+pub mod Beside
 pub mod Fits
 pub mod Kept
 pub mod Forgotten

@@ -43,7 +43,8 @@ ghost use Rattle.roc_protocol.specs.World.{World, first_world};
 ghost use Rattle.roc_protocol.specs.Beginnings.{Beginning, IsBeginning, begun_world, first_beginning, left_by};
 ghost use Rattle.roc_protocol.specs.WitnessFrom.{serial_reply_from, IsSerialWitnessFrom};
 ghost use Rattle.roc_protocol.specs.Fits.{FitsWorld};
-ghost use Rattle.roc_protocol.specs.Run.{Stepped, Transition, IsRun, IsRunFrom, MayHappenFrom};
+ghost use Rattle.roc_protocol.specs.Run.{Stepped, IsRun, IsRunFrom, MayHappenFrom};
+ghost use Rattle.roc_protocol.specs.Beside.{Moves, IsRunBeside};
 ghost use Rattle.roc_protocol.specs.PlanAssumptions.{HasSchemesFrom};
 
 use crate::laws::{events_have_outcomes, machine_laws};
@@ -56,13 +57,14 @@ pub fn runs_begin_at_the_first_world()
     ensures beginning { (plan : Plan) → IsBeginning plan (first_beginning plan) }
     ensures world { (plan : Plan) (coords : ℕ) → begun_world plan (first_beginning plan) coords ≡ first_world plan coords }
     ensures runs { (plan : Plan) (coords : ℕ) (steps : List Stepped) (w : World) → IsRun plan coords steps w ↔ IsRunFrom plan (first_beginning plan) coords steps w }
+    ensures beside { (plan : Plan) (b : Beginning) (coords : ℕ) (steps : List Stepped) (w : World) → IsRunFrom plan b coords steps w → IsRunBeside plan b coords steps w }
 {
     machine_laws();
 }
 
 /// In every world the serial order explains the history, from the cells of the beginning on.
 pub fn order_is_serial()
-    ensures { (plan : Plan) (b : Beginning) (coords : ℕ) (steps : List Stepped) (w : World) → IsBeginning plan b → HasSchemesFrom plan b.store → IsRunFrom plan b coords steps w
+    ensures { (plan : Plan) (b : Beginning) (coords : ℕ) (steps : List Stepped) (w : World) → IsBeginning plan b → HasSchemesFrom plan b.store → IsRunBeside plan b coords steps w
         → IsSerialWitnessFrom plan.program b.store w.history w.order }
 {
     machine_laws();
@@ -70,7 +72,7 @@ pub fn order_is_serial()
 
 /// The order is one that keeps what ran.
 pub fn order_keeps_what_ran()
-    ensures { (plan : Plan) (b : Beginning) (coords : ℕ) (steps : List Stepped) (w : World) → IsBeginning plan b → HasSchemesFrom plan b.store → IsRunFrom plan b coords steps w
+    ensures { (plan : Plan) (b : Beginning) (coords : ℕ) (steps : List Stepped) (w : World) → IsBeginning plan b → HasSchemesFrom plan b.store → IsRunBeside plan b coords steps w
         → KeepsWhatRan plan steps w w.order }
 {
     machine_laws();
@@ -78,10 +80,10 @@ pub fn order_keeps_what_ran()
 
 /// Any order of the same transactions that keeps what ran, and real time, explains as much.
 pub fn kept_orders_are_serial()
-    ensures replies { (plan : Plan) (b : Beginning) (coords : ℕ) (steps : List Stepped) (w : World) → IsBeginning plan b → HasSchemesFrom plan b.store → IsRunFrom plan b coords steps w
+    ensures replies { (plan : Plan) (b : Beginning) (coords : ℕ) (steps : List Stepped) (w : World) → IsBeginning plan b → HasSchemesFrom plan b.store → IsRunBeside plan b coords steps w
         → (O : List TxnId) → KeepsWhatRan plan steps w O
         → (t : TxnId) (reply : List ℤ) → WasAnswered w.history t reply → serial_reply_from plan.program b.store w.history O t ≡ Some reply }
-    ensures witness { (plan : Plan) (b : Beginning) (coords : ℕ) (steps : List Stepped) (w : World) → IsBeginning plan b → HasSchemesFrom plan b.store → IsRunFrom plan b coords steps w
+    ensures witness { (plan : Plan) (b : Beginning) (coords : ℕ) (steps : List Stepped) (w : World) → IsBeginning plan b → HasSchemesFrom plan b.store → IsRunBeside plan b coords steps w
         → (O : List TxnId) → KeepsWhatRan plan steps w O
         → ((t u : TxnId) → IsAnsweredBefore w.history t u → IsListed is_txn O u → IsListedBefore is_txn O t u) → IsSerialWitnessFrom plan.program b.store w.history O }
 {
@@ -91,7 +93,7 @@ pub fn kept_orders_are_serial()
 
 /// Where each submitted transaction is answered, the servers hold what the serial order leaves, from the cells of the beginning on.
 pub fn cells_are_serial()
-    ensures { (plan : Plan) (b : Beginning) (coords : ℕ) (steps : List Stepped) (w : World) → IsBeginning plan b → HasSchemesFrom plan b.store → IsRunFrom plan b coords steps w
+    ensures { (plan : Plan) (b : Beginning) (coords : ℕ) (steps : List Stepped) (w : World) → IsBeginning plan b → HasSchemesFrom plan b.store → IsRunBeside plan b coords steps w
         → ((t : TxnId) → WasSubmitted w.history t → (reply : List ℤ) × WasAnswered w.history t reply)
         → (x : Cell) (s : ServerState) → slice_get w.servers (shard_of plan x.place) ≡ Some s
         → read s.store x ≡ read (serial_store plan.program b.store (submitted_calls w.history w.order)) x }
@@ -101,14 +103,14 @@ pub fn cells_are_serial()
 
 /// Where each submitted transaction is answered, no event changes the order or a cell, and no coordinator has a transaction left.
 pub fn answered_worlds_rest()
-    ensures order { (plan : Plan) (b : Beginning) (coords : ℕ) (steps : List Stepped) (w : World) → IsBeginning plan b → HasSchemesFrom plan b.store → IsRunFrom plan b coords steps w
+    ensures order { (plan : Plan) (b : Beginning) (coords : ℕ) (steps : List Stepped) (w : World) → IsBeginning plan b → HasSchemesFrom plan b.store → IsRunBeside plan b coords steps w
         → ((t : TxnId) → WasSubmitted w.history t → (reply : List ℤ) × WasAnswered w.history t reply)
-        → (e : Option Event) (o : Outcome) → Transition plan w e o → o.world.order ≡ w.order }
-    ensures cells { (plan : Plan) (b : Beginning) (coords : ℕ) (steps : List Stepped) (w : World) → IsBeginning plan b → HasSchemesFrom plan b.store → IsRunFrom plan b coords steps w
+        → (e : Option Event) (o : Outcome) → Moves plan w e o → o.world.order ≡ w.order }
+    ensures cells { (plan : Plan) (b : Beginning) (coords : ℕ) (steps : List Stepped) (w : World) → IsBeginning plan b → HasSchemesFrom plan b.store → IsRunBeside plan b coords steps w
         → ((t : TxnId) → WasSubmitted w.history t → (reply : List ℤ) × WasAnswered w.history t reply)
-        → (e : Option Event) (o : Outcome) → Transition plan w e o
+        → (e : Option Event) (o : Outcome) → Moves plan w e o
         → (n : ℕ) (s v : ServerState) → slice_get w.servers n ≡ Some s → slice_get o.world.servers n ≡ Some v → v.store ≡ s.store }
-    ensures pending { (plan : Plan) (b : Beginning) (coords : ℕ) (steps : List Stepped) (w : World) → IsBeginning plan b → HasSchemesFrom plan b.store → IsRunFrom plan b coords steps w
+    ensures pending { (plan : Plan) (b : Beginning) (coords : ℕ) (steps : List Stepped) (w : World) → IsBeginning plan b → HasSchemesFrom plan b.store → IsRunBeside plan b coords steps w
         → ((t : TxnId) → WasSubmitted w.history t → (reply : List ℤ) × WasAnswered w.history t reply)
         → (n : ℕ) (c : CoordState) → slice_get w.coords n ≡ Some c → c.pending ≡ [] }
 {
@@ -121,7 +123,7 @@ pub fn answered_worlds_rest()
 
 /// And there the nodes as they stand are a beginning again, at the cells that the serial order leaves.
 pub fn answered_worlds_begin()
-    ensures { (plan : Plan) (b : Beginning) (coords : ℕ) (steps : List Stepped) (w : World) → IsBeginning plan b → HasSchemesFrom plan b.store → IsRunFrom plan b coords steps w
+    ensures { (plan : Plan) (b : Beginning) (coords : ℕ) (steps : List Stepped) (w : World) → IsBeginning plan b → HasSchemesFrom plan b.store → IsRunBeside plan b coords steps w
         → 0 < plan.program.shards → ((t : TxnId) → WasSubmitted w.history t → (reply : List ℤ) × WasAnswered w.history t reply)
         → IsBeginning plan (left_by b w (serial_store plan.program b.store (submitted_calls w.history w.order))) }
 {
@@ -130,28 +132,32 @@ pub fn answered_worlds_begin()
 
 /// Each shard has its server, which holds no cell of another shard.
 pub fn cells_are_in_their_place()
-    ensures servers { (plan : Plan) (b : Beginning) (coords : ℕ) (steps : List Stepped) (w : World) → IsRunFrom plan b coords steps w → (n : ℕ) → n < plan.program.shards
+    ensures servers { (plan : Plan) (b : Beginning) (coords : ℕ) (steps : List Stepped) (w : World) → IsRunBeside plan b coords steps w → (n : ℕ) → n < plan.program.shards
         → (s : ServerState) × (slice_get w.servers n ≡ Some s) }
-    ensures apart { (plan : Plan) (b : Beginning) (coords : ℕ) (steps : List Stepped) (w : World) → IsBeginning plan b → HasSchemesFrom plan b.store → IsRunFrom plan b coords steps w
+    ensures apart { (plan : Plan) (b : Beginning) (coords : ℕ) (steps : List Stepped) (w : World) → IsBeginning plan b → HasSchemesFrom plan b.store → IsRunBeside plan b coords steps w
         → (shard : Shard) (s : ServerState) → slice_get w.servers shard.0 ≡ Some s → (x : Cell) → shard_of plan x.place ≢ shard.0 → read s.store x ≡ pos 0 }
 {
     machine_laws();
 }
 
-/// A transaction of the run has a sequence number from the beginning's next one on. Each one from there up to a coordinator's next one is that
-/// of a transaction that was submitted, and that is pending there or was answered; and none is both.
+/// A transaction of the run has a sequence number from the beginning's next one on. Each one below a coordinator's next one is that of a
+/// transaction that was submitted, and that is pending there or was answered, or else it was used before the run or aside; and none is both.
+/// Where nothing is done aside, each that was not used before the run is that of one that was submitted.
 pub fn submissions_are_kept()
-    ensures late { (plan : Plan) (b : Beginning) (coords : ℕ) (steps : List Stepped) (w : World) → IsBeginning plan b → HasSchemesFrom plan b.store → IsRunFrom plan b coords steps w
+    ensures late { (plan : Plan) (b : Beginning) (coords : ℕ) (steps : List Stepped) (w : World) → IsBeginning plan b → HasSchemesFrom plan b.store → IsRunBeside plan b coords steps w
         → (t : TxnId) → WasSubmitted w.history t → b.nexts t.coord ≤ t.seq }
-    ensures numbers { (plan : Plan) (b : Beginning) (coords : ℕ) (steps : List Stepped) (w : World) → IsBeginning plan b → HasSchemesFrom plan b.store → IsRunFrom plan b coords steps w
-        → (coord seq : ℕ) (c : CoordState) → slice_get w.coords coord ≡ Some c → b.nexts coord ≤ seq → seq < c.next
-        → WasSubmitted w.history (record { coord = coord; seq = seq })
-        × (((x : Transaction) × Has x c.pending × (x.id ≡ record { coord = coord; seq = seq })) ⊎ ((reply : List ℤ) × WasAnswered w.history (record { coord = coord; seq = seq }) reply)) }
-    ensures submitted { (plan : Plan) (b : Beginning) (coords : ℕ) (steps : List Stepped) (w : World) → IsBeginning plan b → HasSchemesFrom plan b.store → IsRunFrom plan b coords steps w
+    ensures numbers { (plan : Plan) (b : Beginning) (coords : ℕ) (steps : List Stepped) (w : World) → IsBeginning plan b → HasSchemesFrom plan b.store → IsRunBeside plan b coords steps w
+        → (coord seq : ℕ) (c : CoordState) → slice_get w.coords coord ≡ Some c → seq < c.next
+        → (WasSubmitted w.history (record { coord = coord; seq = seq })
+        × (((x : Transaction) × Has x c.pending × (x.id ≡ record { coord = coord; seq = seq })) ⊎ ((reply : List ℤ) × WasAnswered w.history (record { coord = coord; seq = seq }) reply)))
+        ⊎ (¬ WasSubmitted w.history (record { coord = coord; seq = seq })) }
+    ensures used { (plan : Plan) (b : Beginning) (coords : ℕ) (steps : List Stepped) (w : World) → IsRunFrom plan b coords steps w
+        → (coord seq : ℕ) (c : CoordState) → slice_get w.coords coord ≡ Some c → b.nexts coord ≤ seq → seq < c.next → WasSubmitted w.history (record { coord = coord; seq = seq }) }
+    ensures submitted { (plan : Plan) (b : Beginning) (coords : ℕ) (steps : List Stepped) (w : World) → IsBeginning plan b → HasSchemesFrom plan b.store → IsRunBeside plan b coords steps w
         → (t : TxnId) → WasSubmitted w.history t
         → (c : CoordState) × (slice_get w.coords t.coord ≡ Some c)
         × (((x : Transaction) × Has x c.pending × (x.id ≡ t)) ⊎ ((reply : List ℤ) × WasAnswered w.history t reply)) }
-    ensures gone { (plan : Plan) (b : Beginning) (coords : ℕ) (steps : List Stepped) (w : World) → IsBeginning plan b → HasSchemesFrom plan b.store → IsRunFrom plan b coords steps w
+    ensures gone { (plan : Plan) (b : Beginning) (coords : ℕ) (steps : List Stepped) (w : World) → IsBeginning plan b → HasSchemesFrom plan b.store → IsRunBeside plan b coords steps w
         → (t : TxnId) (reply : List ℤ) → WasAnswered w.history t reply → (n : ℕ) (c : CoordState) → slice_get w.coords n ≡ Some c → (x : Transaction)
         → Has x c.pending → x.id ≢ t }
 {
@@ -160,7 +166,7 @@ pub fn submissions_are_kept()
 
 /// Of the submissions in the history no two have one id; and an id has at most one answer, which stands behind its submission.
 pub fn ids_are_told_once()
-    ensures { (plan : Plan) (b : Beginning) (coords : ℕ) (steps : List Stepped) (w : World) → IsBeginning plan b → HasSchemesFrom plan b.store → IsRunFrom plan b coords steps w
+    ensures { (plan : Plan) (b : Beginning) (coords : ℕ) (steps : List Stepped) (w : World) → IsBeginning plan b → HasSchemesFrom plan b.store → IsRunBeside plan b coords steps w
         → IsToldOnce w.history }
 {
     machine_laws();
@@ -168,11 +174,11 @@ pub fn ids_are_told_once()
 
 /// Of the transactions of the run, each below a watermark that is told or was heard was answered.
 pub fn ended_is_answered()
-    ensures told { (plan : Plan) (b : Beginning) (coords : ℕ) (steps : List Stepped) (w : World) → IsBeginning plan b → HasSchemesFrom plan b.store → IsRunFrom plan b coords steps w
-        → (m : Envelope) → Has m w.sent → (coord mark : ℕ) → m.msg ≡ msg.Ended coord mark → (seq : ℕ) → b.nexts coord ≤ seq → seq < mark
-        → (reply : List ℤ) × WasAnswered w.history (record { coord = coord; seq = seq }) reply }
-    ensures heard { (plan : Plan) (b : Beginning) (coords : ℕ) (steps : List Stepped) (w : World) → IsBeginning plan b → HasSchemesFrom plan b.store → IsRunFrom plan b coords steps w
-        → (n : ℕ) (s : ServerState) → slice_get w.servers n ≡ Some s → (t : TxnId) → b.nexts t.coord ≤ t.seq → is_ended s.below t ≡ true
+    ensures told { (plan : Plan) (b : Beginning) (coords : ℕ) (steps : List Stepped) (w : World) → IsBeginning plan b → HasSchemesFrom plan b.store → IsRunBeside plan b coords steps w
+        → (m : Envelope) → Has m w.sent → (coord mark : ℕ) → m.msg ≡ msg.Ended coord mark
+        → (seq : ℕ) → WasSubmitted w.history (record { coord = coord; seq = seq }) → seq < mark → (reply : List ℤ) × WasAnswered w.history (record { coord = coord; seq = seq }) reply }
+    ensures heard { (plan : Plan) (b : Beginning) (coords : ℕ) (steps : List Stepped) (w : World) → IsBeginning plan b → HasSchemesFrom plan b.store → IsRunBeside plan b coords steps w
+        → (n : ℕ) (s : ServerState) → slice_get w.servers n ≡ Some s → (t : TxnId) → WasSubmitted w.history t → is_ended s.below t ≡ true
         → (reply : List ℤ) × WasAnswered w.history t reply }
 {
     machine_laws();
@@ -180,7 +186,7 @@ pub fn ended_is_answered()
 
 /// Who is answered is decided on every server where it has a group.
 pub fn answered_is_decided()
-    ensures { (plan : Plan) (b : Beginning) (coords : ℕ) (steps : List Stepped) (w : World) → IsBeginning plan b → HasSchemesFrom plan b.store → IsRunFrom plan b coords steps w
+    ensures { (plan : Plan) (b : Beginning) (coords : ℕ) (steps : List Stepped) (w : World) → IsBeginning plan b → HasSchemesFrom plan b.store → IsRunBeside plan b coords steps w
         → (t : TxnId) (reply : List ℤ) → WasAnswered w.history t reply
         → (shard : Shard) (s : ServerState) → slice_get w.servers shard.0 ≡ Some s → (e : StartedGroup) → Has e s.started → e.id ≡ t → IsDecided s.lists.links t }
 {
@@ -189,11 +195,11 @@ pub fn answered_is_decided()
 
 /// What is decided on a server stands in the serial order already, and a transaction of which a group is to start there does not.
 pub fn left_out_is_earlier()
-    ensures decided { (plan : Plan) (b : Beginning) (coords : ℕ) (steps : List Stepped) (w : World) → IsBeginning plan b → HasSchemesFrom plan b.store → IsRunFrom plan b coords steps w
+    ensures decided { (plan : Plan) (b : Beginning) (coords : ℕ) (steps : List Stepped) (w : World) → IsBeginning plan b → HasSchemesFrom plan b.store → IsRunBeside plan b coords steps w
         → (shard : Shard) (s : ServerState) → slice_get w.servers shard.0 ≡ Some s → (t : TxnId) → IsDecided s.lists.links t → IsListed is_txn w.order t }
-    ensures taken { (plan : Plan) (b : Beginning) (coords : ℕ) (steps : List Stepped) (w : World) → IsBeginning plan b → HasSchemesFrom plan b.store → IsRunFrom plan b coords steps w
+    ensures taken { (plan : Plan) (b : Beginning) (coords : ℕ) (steps : List Stepped) (w : World) → IsBeginning plan b → HasSchemesFrom plan b.store → IsRunBeside plan b coords steps w
         → (x : Stepped) (shard : Shard) (c : List TxnId) (t : TxnId) → Has x steps → IsTakenAt x shard c → Has t c → IsListed is_txn w.order t }
-    ensures starting { (plan : Plan) (b : Beginning) (coords : ℕ) (steps : List Stepped) (w : World) → IsBeginning plan b → HasSchemesFrom plan b.store → IsRunFrom plan b coords steps w
+    ensures starting { (plan : Plan) (b : Beginning) (coords : ℕ) (steps : List Stepped) (w : World) → IsBeginning plan b → HasSchemesFrom plan b.store → IsRunBeside plan b coords steps w
         → (shard : Shard) (s : ServerState) → slice_get w.servers shard.0 ≡ Some s
         → (m : Envelope) → Has m w.sent → m.to ≡ node.Server shard → (id : TxnId) (proc group : ℕ) (args inputs : List ℤ) → m.msg ≡ msg.Start id proc group args inputs
         → find_group id group s.started ≡ None → is_ended s.below id ≡ false → ¬ IsListed is_txn w.order id }
@@ -203,11 +209,11 @@ pub fn left_out_is_earlier()
 
 /// Lists are final, and two startoks of one group are equal.
 pub fn lists_are_final()
-    ensures known { (plan : Plan) (b : Beginning) (coords : ℕ) (steps : List Stepped) (w : World) → IsBeginning plan b → HasSchemesFrom plan b.store → IsRunFrom plan b coords steps w
+    ensures known { (plan : Plan) (b : Beginning) (coords : ℕ) (steps : List Stepped) (w : World) → IsBeginning plan b → HasSchemesFrom plan b.store → IsRunBeside plan b coords steps w
         → (shard : Shard) (s : ServerState) → slice_get w.servers shard.0 ≡ Some s → (k : KnownList) → Has k s.lists.known → IsFinalIn plan w k.of k.edges }
-    ensures carried { (plan : Plan) (b : Beginning) (coords : ℕ) (steps : List Stepped) (w : World) → IsBeginning plan b → HasSchemesFrom plan b.store → IsRunFrom plan b coords steps w
+    ensures carried { (plan : Plan) (b : Beginning) (coords : ℕ) (steps : List Stepped) (w : World) → IsBeginning plan b → HasSchemesFrom plan b.store → IsRunBeside plan b coords steps w
         → (m : Envelope) → Has m w.sent → (k : KnownList) → Has k (lists_in m.msg) → IsFinalIn plan w k.of k.edges }
-    ensures one { (plan : Plan) (b : Beginning) (coords : ℕ) (steps : List Stepped) (w : World) → IsBeginning plan b → HasSchemesFrom plan b.store → IsRunFrom plan b coords steps w
+    ensures one { (plan : Plan) (b : Beginning) (coords : ℕ) (steps : List Stepped) (w : World) → IsBeginning plan b → HasSchemesFrom plan b.store → IsRunBeside plan b coords steps w
         → (m other : Envelope) → Has m w.sent → Has other w.sent
         → (t : TxnId) (g : ℕ) (shard at : Shard) (bound outs values gave : List ℤ) (edges entries : List Dependency) (facts lists : List KnownList)
         → m.msg ≡ msg.StartOk t g shard bound outs edges facts → other.msg ≡ msg.StartOk t g at values gave entries lists → m.msg ≡ other.msg }
@@ -217,7 +223,7 @@ pub fn lists_are_final()
 
 /// What a startok tells of a group is what its server keeps.
 pub fn told_is_kept()
-    ensures { (plan : Plan) (b : Beginning) (coords : ℕ) (steps : List Stepped) (w : World) → IsBeginning plan b → HasSchemesFrom plan b.store → IsRunFrom plan b coords steps w
+    ensures { (plan : Plan) (b : Beginning) (coords : ℕ) (steps : List Stepped) (w : World) → IsBeginning plan b → HasSchemesFrom plan b.store → IsRunBeside plan b coords steps w
         → (shard : Shard) (s : ServerState) → slice_get w.servers shard.0 ≡ Some s → (t : TxnId) (g : ℕ) (e : StartedGroup) → find_group t g s.started ≡ Some e
         → (m : Envelope) → Has m w.sent → (at : Shard) (bound outs : List ℤ) (edges : List Dependency) (facts : List KnownList)
         → m.msg ≡ msg.StartOk t g at bound outs edges facts → m.msg ≡ msg.StartOk t g shard e.bound e.outs e.edges e.facts }
@@ -227,10 +233,10 @@ pub fn told_is_kept()
 
 /// A server takes each message that comes or finds it too late, and a coordinator ignores only stale ones.
 pub fn nothing_is_refused()
-    ensures servers { (plan : Plan) (b : Beginning) (coords : ℕ) (steps : List Stepped) (w : World) → IsBeginning plan b → HasSchemesFrom plan b.store → IsRunFrom plan b coords steps w
+    ensures servers { (plan : Plan) (b : Beginning) (coords : ℕ) (steps : List Stepped) (w : World) → IsBeginning plan b → HasSchemesFrom plan b.store → IsRunBeside plan b coords steps w
         → (k : ℕ) (m : Envelope) (shard : Shard) (o : Outcome) → slice_get w.sent (k - 1) ≡ Some m → m.to ≡ node.Server shard
         → Happens plan w (event.Deliver k) o → (o.seen ≡ seen.Done) ⊎ (o.seen ≡ seen.Gone) }
-    ensures coordinators { (plan : Plan) (b : Beginning) (coords : ℕ) (steps : List Stepped) (w : World) → IsBeginning plan b → HasSchemesFrom plan b.store → IsRunFrom plan b coords steps w
+    ensures coordinators { (plan : Plan) (b : Beginning) (coords : ℕ) (steps : List Stepped) (w : World) → IsBeginning plan b → HasSchemesFrom plan b.store → IsRunBeside plan b coords steps w
         → (k : ℕ) (o : Outcome) (why : Reason) → Happens plan w (event.Deliver k) o → o.seen ≡ seen.Ignored why → why ≡ reason.Stale }
 {
     machine_laws();
@@ -238,16 +244,26 @@ pub fn nothing_is_refused()
 
 /// A submitted transaction that is quiet has its reply, and a quiet one is decided wherever it has a group.
 pub fn quiet_is_answered()
-    ensures answered { (plan : Plan) (b : Beginning) (coords : ℕ) (steps : List Stepped) (w : World) → IsBeginning plan b → HasSchemesFrom plan b.store → IsRunFrom plan b coords steps w
+    ensures answered { (plan : Plan) (b : Beginning) (coords : ℕ) (steps : List Stepped) (w : World) → IsBeginning plan b → HasSchemesFrom plan b.store → IsRunBeside plan b coords steps w
         → (t : TxnId) (proc : ℕ) (args : List ℤ) → Has (entry.Submitted t proc args) w.history → IsQuiet plan steps w t → (reply : List ℤ) × Has (entry.Answered t reply) w.history }
-    ensures decided { (plan : Plan) (b : Beginning) (coords : ℕ) (steps : List Stepped) (w : World) → IsBeginning plan b → HasSchemesFrom plan b.store → IsRunFrom plan b coords steps w
+    ensures decided { (plan : Plan) (b : Beginning) (coords : ℕ) (steps : List Stepped) (w : World) → IsBeginning plan b → HasSchemesFrom plan b.store → IsRunBeside plan b coords steps w
         → (t : TxnId) → IsQuiet plan steps w t → (shard : Shard) (s : ServerState) → slice_get w.servers shard.0 ≡ Some s → (e : StartedGroup) → Has e s.started → e.id ≡ t
         → IsDecided s.lists.links t }
 {
     machine_laws();
 }
 
-/// A coordinator has used the sequences that were used before the run began, and one for each submission in the history; and those that are
+/// What is pending at a coordinator is what the history leaves unanswered of its submissions, in their order, and no more than may be. It has used
+/// the sequences that were used before the run began, one for each submission in the history, and those that it used aside: no more than it may.
+pub fn pending_is_told()
+    ensures kept { (plan : Plan) (b : Beginning) (coords : ℕ) (steps : List Stepped) (w : World) → IsBeginning plan b → IsRunBeside plan b coords steps w
+        → (coord : ℕ) (c : CoordState) → slice_get w.coords coord ≡ Some c
+        → (b.nexts coord + length (submitted_at coord w.history) ≤ c.next) × (ids_of c.pending ≡ unanswered_at coord w.history) }
+    ensures few { (plan : Plan) (b : Beginning) (coords : ℕ) (steps : List Stepped) (w : World) → IsBeginning plan b → IsRunBeside plan b coords steps w
+        → (coord : ℕ) (c : CoordState) → slice_get w.coords coord ≡ Some c → (c.next ≤ most_transactions) × (length c.pending ≤ most_pending) }
+{}
+
+/// Where nothing is done aside, a coordinator has used the sequences that were used before the run began, and one for each submission in the history; and those that are
 /// pending are those that the history leaves unanswered. So a submission is refused as spent and as busy exactly where these are so many.
 pub fn refusals_are_told()
     ensures kept { (plan : Plan) (b : Beginning) (coords : ℕ) (steps : List Stepped) (w : World) → IsBeginning plan b → IsRunFrom plan b coords steps w
@@ -267,10 +283,10 @@ pub fn refusals_are_told()
 /// have groups on a server and are decided there, one of which is an ancestor of the other by what is followed there, the one that was taken
 /// first is the earlier one in the serial order.
 pub fn servers_agree()
-    ensures components { (plan : Plan) (b : Beginning) (coords : ℕ) (steps : List Stepped) (w : World) → IsBeginning plan b → HasSchemesFrom plan b.store → IsRunFrom plan b coords steps w
+    ensures components { (plan : Plan) (b : Beginning) (coords : ℕ) (steps : List Stepped) (w : World) → IsBeginning plan b → HasSchemesFrom plan b.store → IsRunBeside plan b coords steps w
         → (shard other : Shard) (t : TxnId) (c d : List TxnId) → HasStartedOn w.sent t shard → HasStartedOn w.sent t other
         → IsFirstTaken steps shard t c → IsFirstTaken steps other t d → HaveSameMembers c d }
-    ensures order { (plan : Plan) (b : Beginning) (coords : ℕ) (steps : List Stepped) (w : World) → IsBeginning plan b → HasSchemesFrom plan b.store → IsRunFrom plan b coords steps w
+    ensures order { (plan : Plan) (b : Beginning) (coords : ℕ) (steps : List Stepped) (w : World) → IsBeginning plan b → HasSchemesFrom plan b.store → IsRunBeside plan b coords steps w
         → (shard : Shard) (s : ServerState) → slice_get w.servers shard.0 ≡ Some s
         → (x y : TxnId) → is_here x s.started ≡ true → is_here y s.started ≡ true → IsDecided s.lists.links x → IsDecided s.lists.links y
         → IsAncestor s.lists.links x y ⊎ IsAncestor s.lists.links y x
@@ -284,29 +300,30 @@ pub fn servers_agree()
 /// in which it first took it is over. And whatever is forgotten, settled, or named by an entry that is done was answered, with all
 /// transactions of its component.
 pub fn forgotten_is_answered()
-    ensures kept { (plan : Plan) (b : Beginning) (coords : ℕ) (steps : List Stepped) (w : World) → IsBeginning plan b → HasSchemesFrom plan b.store → IsRunFrom plan b coords steps w
+    ensures kept { (plan : Plan) (b : Beginning) (coords : ℕ) (steps : List Stepped) (w : World) → IsBeginning plan b → HasSchemesFrom plan b.store → IsRunBeside plan b coords steps w
         → (shard : Shard) (s : ServerState) → slice_get w.servers shard.0 ≡ Some s
         → (t : TxnId) → IsDecided s.lists.links t ↔ ((c : List TxnId) × IsLastTaken steps shard t c × (is_over s.below c ≡ false)) }
-    ensures gone { (plan : Plan) (b : Beginning) (coords : ℕ) (steps : List Stepped) (w : World) → IsBeginning plan b → HasSchemesFrom plan b.store → IsRunFrom plan b coords steps w
+    ensures gone { (plan : Plan) (b : Beginning) (coords : ℕ) (steps : List Stepped) (w : World) → IsBeginning plan b → HasSchemesFrom plan b.store → IsRunBeside plan b coords steps w
         → (shard : Shard) (s : ServerState) → slice_get w.servers shard.0 ≡ Some s
         → (t : TxnId) (c : List TxnId) → IsLastTaken steps shard t c → is_over s.below c ≡ true
         → (is_here t s.started ≡ false) × (¬ IsDecided s.lists.links t) × IsSettledIn w t }
-    ensures settled { (plan : Plan) (b : Beginning) (coords : ℕ) (steps : List Stepped) (w : World) → IsBeginning plan b → HasSchemesFrom plan b.store → IsRunFrom plan b coords steps w
+    ensures settled { (plan : Plan) (b : Beginning) (coords : ℕ) (steps : List Stepped) (w : World) → IsBeginning plan b → HasSchemesFrom plan b.store → IsRunBeside plan b coords steps w
         → (shard : Shard) (s : ServerState) → slice_get w.servers shard.0 ≡ Some s
         → (k : ℕ) (m : Envelope) (t : TxnId) (asker : Shard) (o : Outcome) (more : List Envelope) → slice_get w.sent (k - 1) ≡ Some m → m.to ≡ node.Server shard
         → m.msg ≡ msg.Fetch t asker → Happens plan w (event.Deliver k) o → o.world.sent ≡ w.sent ++ more
         → ((mark : ℕ) × (e : Envelope) × Has e more × (e.msg ≡ msg.Settled t mark)) ↔ ((c : List TxnId) × IsFirstTaken steps shard t c × (is_over s.below c ≡ true)) }
-    ensures done { (plan : Plan) (b : Beginning) (coords : ℕ) (steps : List Stepped) (w : World) → IsBeginning plan b → HasSchemesFrom plan b.store → IsRunFrom plan b coords steps w
+    ensures done { (plan : Plan) (b : Beginning) (coords : ℕ) (steps : List Stepped) (w : World) → IsBeginning plan b → HasSchemesFrom plan b.store → IsRunBeside plan b coords steps w
         → (shard : Shard) (s : ServerState) → slice_get w.servers shard.0 ≡ Some s
         → (k : KnownList) (d : Dependency) → Has k s.lists.known → Has d k.edges → ¬ Has d (entries_of s.lists.links k.of) → IsSettledIn w d.from }
-    ensures sent { (plan : Plan) (b : Beginning) (coords : ℕ) (steps : List Stepped) (w : World) → IsBeginning plan b → HasSchemesFrom plan b.store → IsRunFrom plan b coords steps w
+    ensures sent { (plan : Plan) (b : Beginning) (coords : ℕ) (steps : List Stepped) (w : World) → IsBeginning plan b → HasSchemesFrom plan b.store → IsRunBeside plan b coords steps w
         → (m : Envelope) (t : TxnId) (mark : ℕ) → Has m w.sent → m.msg ≡ msg.Settled t mark
-        → IsSettledIn w t × ((seq : ℕ) → b.nexts t.coord ≤ seq → seq < mark → (reply : List ℤ) × WasAnswered w.history (record { coord = t.coord; seq = seq }) reply) }
+        → IsSettledIn w t × ((seq : ℕ) → WasSubmitted w.history (record { coord = t.coord; seq = seq }) → seq < mark
+        → (reply : List ℤ) × WasAnswered w.history (record { coord = t.coord; seq = seq }) reply) }
 {
     machine_laws();
 }
 
-/// Of a list of events there is one run.
+/// Of a list of events there is one run without asides.
 pub fn run_is_one()
     ensures { (plan : Plan) (b : Beginning) (coords : ℕ) (steps others : List Stepped) (w v : World) → IsRunFrom plan b coords steps w → IsRunFrom plan b coords others v
         → map (λ s. s.event) steps ≡ map (λ s. s.event) others → (steps ≡ others) × (w ≡ v) }
@@ -314,13 +331,13 @@ pub fn run_is_one()
     server_step_is_one();
 }
 
-/// The world of a beginning fits a plan with some shard, and so does each world of a run.
+/// The world of a beginning fits a plan with some shard, and so does each world of a run without asides.
 pub fn worlds_fit()
     ensures first { (plan : Plan) (b : Beginning) (coords : ℕ) → 0 < plan.program.shards → FitsWorld plan (begun_world plan b coords) }
     ensures runs { (plan : Plan) (b : Beginning) (coords : ℕ) (steps : List Stepped) (w : World) → 0 < plan.program.shards → IsRunFrom plan b coords steps w → FitsWorld plan w }
 {}
 
-/// A list of events each of which may happen in the world that it meets has a run.
+/// A list of events each of which may happen in the world that it meets has a run, without asides.
 pub fn events_have_runs()
     ensures { (plan : Plan) (b : Beginning) (coords : ℕ) (events : List (Option Event)) → 0 < plan.program.shards → MayHappenFrom plan b coords events
         → (steps : List Stepped) × (w : World) × IsRunFrom plan b coords steps w × (map (λ s. s.event) steps ≡ events) }

@@ -59,8 +59,8 @@ use roc_law_orders::laws::{groups_stand_one_by_one, last_values_are_serial};
 use roc_rows::laws::reads_after_writes;
 use roc_server::laws::step_is_one as server_step_is_one;
 
-// What the laws below rest on.
-pub(crate) fn machine_laws()
+/// What the laws of the protocol rest on: those of the log machine for each sound scheme, and those of stores.
+pub fn machine_laws()
     ensures log { (S : Scheme) (start : Store) → IsSoundScheme S → LogLaws S start }
     ensures serial { (S : Scheme) (start : Store) → IsSoundScheme S → SerialLaws S start }
     ensures stores { StoreLaws }
@@ -136,9 +136,6 @@ pub fn answered_worlds_rest()
         → (n : ℕ) (c : CoordState) → slice_get w.coords n ≡ Some c → c.pending ≡ [] }
 {
     machine_laws();
-    order_is_serial();
-    cells_are_serial();
-    cells_are_in_their_place();
     reads_after_writes();
 }
 
@@ -264,18 +261,18 @@ pub fn quiet_is_answered()
     machine_laws();
 }
 
-/// A submission is refused only as spent or busy: spent exactly where the coordinator has submitted as many transactions as it may, and
-/// busy exactly where it has not and as many are pending as may be.
+/// A submission is refused only as spent or busy: spent exactly where the coordinator has used as many sequences as it may, and busy exactly
+/// where it has not and as many ids are unanswered as may be.
 pub fn submissions_are_taken()
     ensures spent { (plan : Plan) (w : World) (coord proc : ℕ) (args : List ℤ) (c : CoordState) (o : Outcome) → slice_get w.coords coord ≡ Some c
         → Happens plan w (event.Submit coord proc args) o → (o.seen ≡ seen.Spent → most_transactions ≤ c.next) × (most_transactions ≤ c.next → o.seen ≡ seen.Spent) }
     ensures busy { (plan : Plan) (w : World) (coord proc : ℕ) (args : List ℤ) (c : CoordState) (o : Outcome) → slice_get w.coords coord ≡ Some c
         → Happens plan w (event.Submit coord proc args) o
-        → (o.seen ≡ seen.Busy → (c.next < most_transactions) × (most_pending ≤ length c.pending))
-        × (c.next < most_transactions → most_pending ≤ length c.pending → o.seen ≡ seen.Busy) }
+        → (o.seen ≡ seen.Busy → (c.next < most_transactions) × (most_pending ≤ length c.unanswered))
+        × (c.next < most_transactions → most_pending ≤ length c.unanswered → o.seen ≡ seen.Busy) }
     ensures taken { (plan : Plan) (w : World) (coord proc : ℕ) (args : List ℤ) (c : CoordState) (o : Outcome) → slice_get w.coords coord ≡ Some c
         → Happens plan w (event.Submit coord proc args) o
-        → c.next < most_transactions → length c.pending < most_pending → o.seen ≡ seen.Submitted (record { coord = c.number; seq = c.next }) }
+        → c.next < most_transactions → length c.unanswered < most_pending → o.seen ≡ seen.Submitted (record { coord = c.number; seq = c.next }) }
 {}
 
 /// What a coordinator keeps is what the history tells of it: it has submitted as many transactions as the history has submissions of it,

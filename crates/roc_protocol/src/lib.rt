@@ -1,11 +1,14 @@
-//! The whole protocol: all nodes and the network, and what comes of each event (`docs/PROTOCOL.md`, "World"). No code
+//! The whole protocol of transactions: all nodes and the network, and what comes of each event (`docs/PROTOCOL.md`, "World"). No code
 //! stands here but [`Event`] and [`Seen`].
 //!
 //! `specs/World.antt` has the world: servers, coordinators, every message ever sent, the history and the serial order.
 //! `specs/Happens.antt` has what comes of an event: one event changes one node, by that node's own step.
-//! `specs/Run.antt` has runs, `specs/Beginnings.antt` where a run may begin, `specs/WitnessFrom.antt` orders that explain a
-//! history from there on, `specs/Fits.antt` worlds that fit a plan, `specs/Final.antt` lists as startoks make them,
-//! `specs/Quiet.antt` transactions whose messages were all delivered, `specs/Kept.antt` orders that keep what ran, and
+//! `specs/Run.antt` has runs, `specs/Beginnings.antt` where a run may begin, `specs/WitnessFrom.antt` orders that explain a history from there
+//! on. `specs/Aside.antt` has what a coordinator does aside of transactions, where it uses a sequence for a view, reads for one or answers it: of
+//! views this world has no more. `specs/Beside.antt` has runs in which coordinators do such things between events: a crate above projects its
+//! runs to these. `specs/Fits.antt` has worlds that fit a plan, `specs/Final.antt` lists as startoks make them,
+//! `specs/Quiet.antt` transactions whose messages were all delivered, `specs/Kept.antt` orders that keep what ran,
+//! `specs/Forgotten.antt` what servers took and nobody has to wait for, and
 //! `specs/PlanAssumptions.antt` what the laws ask of a plan: schemes of the log machine (`HasSchemes`), which every accepted
 //! plan has (`roc_law_plans`).
 //!
@@ -18,8 +21,8 @@
 //! Of every plan: a submission is refused exactly as spent or busy, and so exactly where the history tells of too many
 //! submissions or too many without an answer (`specs/Unanswered.antt`); what comes of an event, or of a list of events, is
 //! one; and of every plan with a shard, whatever may happen in a world that fits has an outcome, so a list of such events
-//! has a run. What holds of all runs is stated in [`beginnings`] of
-//! runs that begin at any cells, next sequences and watermarks.
+//! has a run. What holds of all runs is stated in [`beginnings`] of runs that begin at any cells, next sequences and watermarks, and in which
+//! coordinators do something aside.
 #![tactic(auto)]
 
 pub mod beginnings;

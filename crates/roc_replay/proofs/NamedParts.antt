@@ -1,7 +1,7 @@
 -- The lines of a run name procedures and cells that the program has
-use Rattle.std.proofs.Common.{◌≡◌, ◌≢◌, ◌↔◌, ℕ, ℤ, pos, ◌+◌, ◌==◌, Bool, true, false, not, List, [], ◌∷◌, ◌++◌, Option, Some, None, length, drop, map, refl, sym, subst, ◌∙◌}
+use Rattle.std.proofs.Common.{◌≡◌, ◌≢◌, ◌↔◌, ℕ, ℤ, pos, ◌+◌, Bool, true, false, not, List, [], ◌∷◌, ◌++◌, Option, Some, None, length, drop, map, refl, sym, subst, ◌∙◌}
 use Rattle.std.proofs.lemmas.Bool.{ltb-true, and_parts}
-use Rattle.std.specs.Prelude.{Contains, if◌then◌else◌, nat_le, nat_lt}
+use Rattle.std.specs.Prelude.{Contains, if◌then◌else◌, nat_lt}
 use Rattle.std.specs.List.{AllByRecursion}
 use Rattle.roc_sequence.specs.Lists.{Has}
 use Rattle.roc_sequence.proofs.Members.{from_has_flat_map}
@@ -11,12 +11,13 @@ use Rattle.roc_rows.specs.declared.cell.Cell.{Cell}
 use Rattle.roc_rows.specs.Store.{Store, read, entries}
 use Rattle.roc_program.specs.LookUps.{is_view_in}
 use Rattle.roc_plan.specs.Accepted.{IsAccepted}
-use Rattle.roc_plan.specs.Groups.{Plan, procedure_of, is_transaction}
+use Rattle.roc_plan.specs.Groups.{Plan, is_transaction}
 use Rattle.roc_msg.specs.declared.msg.Envelope.{Envelope}
 use Rattle.roc_server.specs.State.{ServerState}
 use Rattle.roc_coord.specs.declared.handled.SubmitFault.TheVariants as fault
 use Rattle.roc_coord.specs.State.{CoordState}
-use Rattle.roc_coord.specs.Submit.{refused_or_accepted, after_submit, most_transactions, most_pending}
+use Rattle.roc_coord.specs.Submit.{refused, after_submit}
+use Rattle.roc_protocol.specs.Aside.{after_transaction}
 use Rattle.roc_protocol.specs.declared.event.Event.{Event}
 use Rattle.roc_protocol.specs.declared.event.Event.TheVariants.{Submit, Deliver, Tick}
 use Rattle.roc_protocol.specs.declared.event.Seen.{Seen}
@@ -36,11 +37,11 @@ use Rattle.roc_replay.proofs.ShownCells.{has_contains, from_by_cell}
 -- ---- a step
 
 -- what is submitted is a transaction of the plan
-known_procedure : (plan : Plan) (w : World) (n proc : ℕ) (args : List ℤ) (s : CoordState) (o : Outcome) → IsSubmissionOf w n proc args (after_submit plan s proc args) o → is_transaction plan proc ≡ true
+known_procedure : (plan : Plan) (w : World) (n proc : ℕ) (args : List ℤ) (s : CoordState) (o : Outcome) → IsSubmissionOf w n proc args (after_transaction plan s proc args) o → is_transaction plan proc ≡ true
 known_procedure plan w n proc args s o h = go (is_transaction plan proc) refl h
   where
     go : (b : Bool) → is_transaction plan proc ≡ b
-        → IsSubmissionOf w n proc args (refused_or_accepted plan s proc args (if not b then Some fault.NoProc else if not (length args == (procedure_of plan proc).arguments) then Some fault.Args else if nat_le most_transactions s.next then Some fault.Spent else if nat_le most_pending (length s.pending) then Some fault.Busy else None)) o
+        → IsSubmissionOf w n proc args (if b then after_submit plan s proc args else refused s fault.NoProc) o
         → is_transaction plan proc ≡ true
     go true e r = e
     go false e r = elim r [ ]

@@ -38,6 +38,7 @@ use Rattle.roc_protocol.specs.declared.event.Event.TheVariants.{Submit, Deliver,
 use Rattle.roc_protocol.specs.World.{World, mark_delivered}
 use Rattle.roc_protocol.specs.Happens.{Outcome, IsReceived}
 use Rattle.roc_protocol.specs.Run.{Stepped, Transition, IsRun, begun, goes_on}
+use Rattle.roc_protocol.proofs.ReadsHere.{for_read}
 use Rattle.roc_protocol.proofs.Worlds.{Submitting, is_refused, is_accepted, submitting}
 use Rattle.roc_report.specs.ReportLine.{IsCellOf}
 
@@ -172,6 +173,8 @@ module _ (laws : ReadLaws) (plan : Plan) (ok : IsProgram plan.program) where
   message_own s f (msg.Settled id mark) h =
       let heard = hearing s id.coord mark in
       either_step _ (decides plan heard (lists_settled s id mark f.components) f.components [] []) (refused heard Gone) (taken_own (flat_map (λ c. c) f.components) _ h) h
+  message_own s f (msg.Read id round proc group args) h =
+      for_read plan s (record { id = id; round = round; proc = proc; group = group; args = args }) (λ (r : ServerStep). HoldsOwn plan.program r.state.store) (λ answer. h)
   message_own s f m h = h
 
   -- ---- worlds

@@ -181,15 +181,17 @@ module _ (plan : Plan) (w : World)
 
 -- where none is shown as pending, each that was submitted was answered
 pub all_answered : (steps : List Stepped) (w : World) → pending_in (report steps w) ≡ []
+    → ((n : ℕ) (c : CoordState) → slice_get w.coords n ≡ Some c → c.unanswered ≡ ids_of c.pending)
     → ((t : TxnId) → WasSubmitted w.history t
     → (c : CoordState) × (slice_get w.coords t.coord ≡ Some c) × (((x : Transaction) × Has x c.pending × (x.id ≡ t)) ⊎ ((reply : List ℤ) × WasAnswered w.history t reply)))
     → (t : TxnId) → WasSubmitted w.history t → (reply : List ℤ) × WasAnswered w.history t reply
-all_answered steps w none kept t h =
+all_answered steps w none plain kept t h =
     let k = kept t h in
     elim k.2 [
       | inl p ↦
           absurd (none_pending steps w none t
           (subst (λ t. Has t (unanswered_of w)) p.2
-          (has_flat_map (λ (c : CoordState). ids_of c.pending) p.0.id k.0 w.coords (has_at w.coords t.coord k.0 k.1) (has_map (λ (x : Transaction). x.id) p.0 k.0.pending p.1))))
+          (has_flat_map (λ (c : CoordState). c.unanswered) p.0.id k.0 w.coords (has_at w.coords t.coord k.0 k.1)
+          (subst (Has p.0.id) (sym (plain t.coord k.0 k.1)) (has_map (λ (x : Transaction). x.id) p.0 k.0.pending p.1)))))
       | inr a ↦ a
     ]

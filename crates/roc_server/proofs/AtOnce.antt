@@ -3,7 +3,7 @@ use Rattle.std.proofs.Common.{◌≡◌, [], false, refl, sym, append-nil}
 use Rattle.std.proofs.lemmas.Bool.{false≢true}
 use Rattle.roc_base.specs.declared.node.Shard.{Shard}
 use Rattle.roc_msg.specs.declared.msg.Msg.{Msg}
-use Rattle.roc_msg.specs.declared.msg.Msg.TheVariants.{Start, Commit, Fetch, Known, Ended, Settled}
+use Rattle.roc_msg.specs.declared.msg.Msg.TheVariants.{Start, Commit, Fetch, Known, Ended, Settled, Read}
 use Rattle.roc_msg.specs.Outbox.{Collected}
 use Rattle.roc_plan.specs.Groups.{Plan}
 use Rattle.roc_server.specs.declared.handled.Handled.{Handled}
@@ -12,10 +12,10 @@ use Rattle.roc_server.specs.Ahead.{needs_room}
 use Rattle.roc_server.specs.Inner.AtOnce.{at_once}
 use Rattle.roc_server.specs.Inner.ServerData.{state_of, IsConsistent}
 use Rattle.roc_server_lists.specs.New.{AreDecided}
-use Rattle.roc_server.specs.State.{ServerState}
+use Rattle.roc_server.specs.Inner.Held.{IsServed}
+use Rattle.roc_server.specs.State.{ServerState, Viewing}
 use Rattle.roc_server.specs.Step.{Findings, AreFindings, after_message, Handles}
 use Rattle.roc_server_lists.proofs.TakenNew.{nothing_new}
-use Rattle.roc_server.proofs.MessageSteps.{IsStepFor}
 use Rattle.roc_server.proofs.StartSteps.{nothing_led}
 
 -- it is the step, whatever is found
@@ -26,6 +26,7 @@ comes_at_once plan s (Fetch id asker) f e = absurd (false≢true (sym e))
 comes_at_once plan s (Known id edges) f e = absurd (false≢true (sym e))
 comes_at_once plan s (Ended coord mark) f e = absurd (false≢true (sym e))
 comes_at_once plan s (Settled id mark) f e = absurd (false≢true (sym e))
+comes_at_once plan s (Read id round proc group args) f e = absurd (false≢true (sym e))
 comes_at_once plan s msg f e = refl
 
 module _ (plan : Plan) (shard : Shard) (k : ServerData) (sound : IsConsistent k) (msg : Msg) (kind : needs_room msg ≡ false) where
@@ -45,14 +46,18 @@ module _ (plan : Plan) (shard : Shard) (k : ServerData) (sound : IsConsistent k)
       none_found (Known id edges) e = absurd (false≢true (sym e))
       none_found (Ended coord mark) e = absurd (false≢true (sym e))
       none_found (Settled id mark) e = absurd (false≢true (sym e))
+      none_found (Read id round proc group args) e = absurd (false≢true (sym e))
       none_found m e = record { before = decided; reached = nothing_led k.links; components = nothing_new k.links }
 
   pub handles_at_once : Handles plan (state_of shard k) msg (at_once (state_of shard k))
   handles_at_once = record { findings = nothing; found = found; is = comes_at_once plan (state_of shard k) msg nothing kind }
 
-  pub step_at_once : (out : Collected) (answer : Handled) → (at_once (state_of shard k)).answer ≡ answer → IsStepFor plan (state_of shard k) msg (state_of shard k) out out answer
-  step_at_once out answer is = (
+  -- nothing comes of it for reads
+  pub served_at_once : (v : Viewing) (out : Collected) (answer : Handled) → (at_once (state_of shard k)).answer ≡ answer → IsServed plan (state_of shard k) v msg answer (state_of shard k) v out out
+  served_at_once v out answer is = (
     at_once (state_of shard k),
+    record { viewing = v; sends = [] },
     handles_at_once,
-    record { answers = is; keeps = refl; sends = sym (append-nil out.messages); decides = sym (append-nil out.decided); ran = sym (append-nil out.ran) },
+    record { decided = k.decided.ids; found = decided; is = refl },
+    record { answers = is; keeps = refl; views = refl; sends = sym (append-nil out.messages); decides = sym (append-nil out.decided); ran = sym (append-nil out.ran) },
   )

@@ -24,7 +24,8 @@ use Rattle.roc_server.specs.Lists.{commit_differs, commit_refusal, commit_taken,
 use Rattle.roc_server.specs.Inner.ServerData.{state_of}
 use Rattle.roc_server.specs.Inner.Taught.{own_again, with_own, Teaches, Commits, Knows}
 use Rattle.roc_server.specs.State.{refused, is_here, ServerState, ServerStep}
-use Rattle.roc_server.specs.Step.{Shows, unless_refused}
+use Rattle.roc_server.specs.Step.{unless_refused}
+use Rattle.roc_server.specs.Inner.Shown.{ShowsStep}
 
 -- what a message is answered of a transaction that is not here
 abbrev pub too_late : Bool → Handled
@@ -51,7 +52,7 @@ module _ (plan : Plan) (shard : Shard) (old : ServerData) (before : Collected) (
   abbrev s : ServerState
   s = state_of shard old
 
-  pub refused_shown : (answer : Handled) → Shows (refused s answer) answer s before before
+  pub refused_shown : (answer : Handled) → ShowsStep (refused s answer) answer s before before
   refused_shown answer = record { answers = refl; keeps = refl; sends = sym (append-nil before.messages); decides = sym (append-nil before.decided); ran = sym (append-nil before.ran) }
 
   -- what is followed behind these lists, unless they are refused
@@ -68,7 +69,7 @@ module _ (plan : Plan) (shard : Shard) (old : ServerData) (before : Collected) (
     pub commit_refused : (answer : Handled) → refusal ≡ Some answer → Commits plan shard old s before before id edges facts answer
     commit_refused answer e =
         let P : Option Handled → Type 0 = λ f. AreNewTaken (IsDecided old.links) (behind lists f) [] in
-        let Q : Option Handled → Type 0 = λ f. Shows (after_commit plan old.decided.ids [] s id edges facts f) answer s before before in
+        let Q : Option Handled → Type 0 = λ f. ShowsStep (after_commit plan old.decided.ids [] s id edges facts f) answer s before before in
         record { components = []; are_new = subst P (sym e) (nothing_new old.links); shown = subst Q (sym e) (refused_shown answer); groups = λ p h. h }
 
     -- its commitok ends the step, where its transaction was decided before
@@ -86,11 +87,11 @@ module _ (plan : Plan) (shard : Shard) (old : ServerData) (before : Collected) (
         let step : ServerStep = taught plan s lists u.components in
         let ends : with_own plan (cond decided (Some id) None) step ≡ commit_taken plan old.decided.ids s id step = λ i. record step { sends = step.sends ++ own_if decided step i } in
         let P : Option Handled → Type 0 = λ f. AreNewTaken (IsDecided old.links) (behind lists f) u.components in
-        let Q : Option Handled → Type 0 = λ f. Shows (after_commit plan old.decided.ids u.components s id edges facts f) answer state before after in
+        let Q : Option Handled → Type 0 = λ f. ShowsStep (after_commit plan old.decided.ids u.components s id edges facts f) answer state before after in
         record {
           components = u.components;
           are_new = subst P (sym none) u.are_new;
-          shown = subst Q (sym none) (subst (λ (r : ServerStep). Shows (forgetting r) answer state before after) ends u.shown);
+          shown = subst Q (sym none) (subst (λ (r : ServerStep). ShowsStep (forgetting r) answer state before after) ends u.shown);
           groups = u.groups;
         }
 
@@ -103,7 +104,7 @@ module _ (plan : Plan) (shard : Shard) (old : ServerData) (before : Collected) (
   pub known_refused : (answer : Handled) → known_why ≡ Some answer → Knows plan shard old s before before id edges answer
   known_refused answer e =
       let P : Option Handled → Type 0 = λ f. AreNewTaken (IsDecided old.links) (behind one f) [] in
-      let Q : Option Handled → Type 0 = λ f. Shows (after_known plan [] s id edges f) answer s before before in
+      let Q : Option Handled → Type 0 = λ f. ShowsStep (after_known plan [] s id edges f) answer s before before in
       record { components = []; are_new = subst P (sym e) (nothing_new old.links); shown = subst Q (sym e) (refused_shown answer); groups = λ p h. h }
 
   pub known_taught : (state : ServerState) (after : Collected) (news : List KnownList) (answer : Handled) → known_why ≡ None → news ≡ one → Teaches plan shard old state before after news None answer
@@ -113,10 +114,10 @@ module _ (plan : Plan) (shard : Shard) (old : ServerData) (before : Collected) (
       let step : ServerStep = taught plan s one u.components in
       let ends : with_own plan None step ≡ step = λ i. record step { sends = append-nil step.sends i } in
       let P : Option Handled → Type 0 = λ f. AreNewTaken (IsDecided old.links) (behind one f) u.components in
-      let Q : Option Handled → Type 0 = λ f. Shows (after_known plan u.components s id edges f) answer state before after in
+      let Q : Option Handled → Type 0 = λ f. ShowsStep (after_known plan u.components s id edges f) answer state before after in
       record {
         components = u.components;
         are_new = subst P (sym none) u.are_new;
-        shown = subst Q (sym none) (subst (λ (r : ServerStep). Shows (forgetting r) answer state before after) ends u.shown);
+        shown = subst Q (sym none) (subst (λ (r : ServerStep). ShowsStep (forgetting r) answer state before after) ends u.shown);
         groups = u.groups;
       }

@@ -1,6 +1,6 @@
 -- What comes of a watermark, or of a settled transaction, is found
-use Rattle.std.proofs.Common.{◌≡◌, ◌↔◌, ◌++◌, ◌&&◌, ℕ, Bool, not, List, [], Option, Some, None, Bor, is_some, map, filter, refl, sym, ap, subst, ◌∙◌, inl, inr, append-nil}
-use Rattle.std.proofs.lemmas.Bool.{false≢true, not-true, not_from_false}
+use Rattle.std.proofs.Common.{◌≡◌, ◌↔◌, ◌++◌, ◌&&◌, ℕ, Bool, true, false, not, List, [], Option, Some, None, Bor, is_some, map, filter, refl, sym, ap, subst, ◌∙◌, inl, inr}
+use Rattle.std.proofs.lemmas.Bool.{and_parts, false≢true, not-true, not_from_false}
 use Rattle.std.proofs.lemmas.Grind.{flat_map-append}
 use Rattle.std.proofs.lemmas.List.Elements.{filter-append}
 use Rattle.std.specs.List.Sorted.{IsStrictlySortedBy}
@@ -8,13 +8,14 @@ use Rattle.std.specs.Option.{option_copied}
 use Rattle.roc_sequence.specs.Places.{is_listed, IsListed}
 use Rattle.roc_sequence.proofs.Appended.{listed_front, listed_behind, listed_either}
 use Rattle.roc_sequence.proofs.Filtered.{from_listed_filter, listed_filter}
-use Rattle.roc_sequence.proofs.Places.{listed_false, listed_or_not, unlisted_test}
+use Rattle.roc_sequence.proofs.Places.{listed_false, listed_or_not, listed_test, unlisted_test}
 use Rattle.roc_base.specs.declared.id.TxnId.{TxnId}
 use Rattle.roc_base.specs.TxnId.{is_txn, txn_cmp}
 use Rattle.roc_base.specs.Edge.{Dependency}
 use Rattle.roc_base.specs.Equalities.{is_txn-true}
 use Rattle.roc_await.specs.Lacks.{AreDecidedBy, AreLacks, NextLacks}
 use Rattle.roc_await.specs.Learning.{AreLacksBefore, AreLearnable}
+use Rattle.roc_await.specs.Released.{AreReleased}
 use Rattle.roc_await.specs.declared.lack.Lack.{Lack}
 use Rattle.roc_depgraph.specs.declared.known.KnownList.{KnownList}
 use Rattle.roc_depgraph.specs.Closure.{IsRisingListOf}
@@ -22,18 +23,21 @@ use Rattle.roc_depgraph.specs.Deps.{is_known, list_of, IsDecided}
 use Rattle.roc_server_lists.specs.Links.{without_links}
 use Rattle.roc_server_lists.specs.New.{AreAllNew, AreNewTaken}
 use Rattle.roc_server_lists.proofs.FollowedLinks.{links_ids}
-use Rattle.roc_server_lists.proofs.SameIds.{ids_of, ids_without}
+use Rattle.roc_server_lists.proofs.SameIds.{ids_of, ids_without, known_alike}
+use Rattle.roc_server_ancestors.specs.Least.{AreRows}
 use Rattle.roc_server.specs.declared.left.Left.{Left}
 use Rattle.roc_server.specs.declared.settled.Deciding.{Deciding}
 use Rattle.roc_server.specs.declared.settled.Settling.{Settling}
 use Rattle.roc_server.specs.declared.server_data.ServerData.{ServerData}
 use Rattle.roc_server.specs.Below.{is_ended, raised}
 use Rattle.roc_server.specs.Forgets.{is_over, over}
-use Rattle.roc_server.specs.Inner.Left.{IsLeft, IsLeftAfter, IsOver}
+use Rattle.roc_server.specs.Inner.Behind.{IsBehind}
+use Rattle.roc_server.specs.Inner.Left.{IsLeftAfter, IsOver}
 use Rattle.roc_server.specs.Inner.ServerData.{IsRight}
-use Rattle.roc_server.specs.Inner.Settled.{links_settled, IsDeciding, IsSettling}
+use Rattle.roc_server.specs.Inner.Settled.{links_settled, AreUnknown, HasNewlyDecided, IsDeciding, IsSettling}
 use Rattle.roc_server.proofs.IndexSteps.{filter_all}
 use Rattle.roc_server.proofs.MarkedLinks.{still_decided}
+use Rattle.roc_server.proofs.ReleasedRows.{released, rows_stay}
 use Rattle.roc_server.proofs.SomeLeft.{member_all, members}
 
 -- ---- what is over among components that were taken and more
@@ -55,32 +59,11 @@ over_found marks taken more all links ids left same are rest = record {
   rest = rest;
 }
 
--- all that lists decide is decided by them newly, where none was known before
-all_decided : (known : List KnownList) (decided : List TxnId) → AreDecidedBy [] known decided → IsStrictlySortedBy txn_cmp decided → IsRisingListOf (IsDecided known) decided
-all_decided known decided by rising = record {
-  rising = rising;
-  sound = λ t l. (by.only t l).0;
-  complete = λ t d. by.all t d (λ none. false≢true none.own);
-}
-
--- ---- a watermark
+-- ---- a settled transaction
 
 module _ (k : ServerData) (right : IsRight k) where
   pub same_ids : ids_of k.links ≡ ids_of k.known
   same_ids = links_ids (is_ended k.marks) k.known k.links right.linked
-
-  -- all members of the components that were taken are decided
-  pub members_decided : (taken : List (List TxnId)) → taken ≡ k.taken.components → (t : TxnId) → IsListed is_txn (members taken ++ []) t → IsDecided k.links t
-  members_decided taken same t l = right.decided_only t (right.taken_decided t (subst (λ ts. IsListed is_txn ts t) (append-nil (members taken) ∙ ap members same) l))
-
-  module _ (marks : List ℕ) (taken : List (List TxnId)) (same : taken ≡ k.taken.components) (ids : List TxnId) (are : IsRisingListOf (IsListed is_txn (over marks taken ++ [])) ids) where
-    pub over_decided : (t : TxnId) → IsListed is_txn ids t → IsDecided k.links t
-    over_decided t l = members_decided taken same t (over_among_all marks taken [] t (are.sound t l))
-
-    pub over_heard : (left : Option Left) → IsLeftAfter k.links ids left → IsOver marks k.taken.components k.links left
-    over_heard left rest = over_found marks taken [] k.taken.components k.links ids left (sym (append-nil taken ∙ same)) are rest
-
-  -- ---- a settled transaction
 
   module _ (settled : List TxnId) where
     abbrev links : List KnownList
@@ -103,10 +86,40 @@ module _ (k : ServerData) (right : IsRight k) where
       lacks_were = were;
     }
 
-    pub found_decided : (made : List KnownList) (ids : List TxnId) (lacks : List Lack) (is : made ≡ links) (ids_are : ids ≡ ids_of k.known) (learnable : AreLearnable [] made) (were : AreLacks [] lacks) (decided : List TxnId)
-        → ((were : AreLacksBefore made ids lacks) → AreDecidedBy were.before made decided) → IsStrictlySortedBy txn_cmp decided → IsRisingListOf (IsDecided made) decided
+    -- all that they decide is decided newly, where none was known before
+    pub found_anew : (made : List KnownList) (ids : List TxnId) (lacks : List Lack) (is : made ≡ links) (ids_are : ids ≡ ids_of k.known) (learnable : AreLearnable [] made) (were : AreLacks [] lacks) (decided : List TxnId)
+        → ((were : AreLacksBefore made ids lacks) → AreDecidedBy were.before made decided) → HasNewlyDecided k.links made decided
     unfolding lacks_before
-    found_decided made ids lacks is ids_are learnable were decided by rising = all_decided made decided (by (lacks_before made ids lacks is ids_are learnable were)) rising
+    found_anew made ids lacks is ids_are learnable were decided by =
+        let found : AreDecidedBy [] made decided = by (lacks_before made ids lacks is ids_are learnable were) in
+        record { sound = λ t l. (found.only t l).0; complete = λ t d n. found.all t d (λ none. false≢true none.own) }
+
+    -- where no list of these is known, it is found from what was lacking
+    module _ (made : List KnownList) (is : made ≡ links) (unknown : AreUnknown k.links settled) (next : NextLacks) where
+      pub lacks_released : ((known left : List KnownList) → AreReleased known left settled → AreLacks known k.lacks → AreLacks left next.lacks) → AreLacks made next.lacks
+      lacks_released h = subst (λ ks. AreLacks ks next.lacks) (sym is) (h k.links links (released k.links settled unknown) right.lacks)
+
+      pub found_released : ((known left : List KnownList) → AreReleased known left settled → AreLacks known k.lacks → AreDecidedBy known left next.decided) → HasNewlyDecided k.links made next.decided
+      found_released h =
+          let found : AreDecidedBy k.links links next.decided = h k.links links (released k.links settled unknown) right.lacks in
+          subst (λ ks. HasNewlyDecided k.links ks next.decided) (sym is) (record { sound = λ t l. (found.only t l).0; complete = found.all })
+
+    -- those that were not decided before are new
+    pub new_are : (made : List KnownList) (all lent newly found : List TxnId) → HasNewlyDecided k.links made all → lent ≡ all → newly ≡ filter (λ t. not (is_listed is_txn k.decided.ids t)) lent → found ≡ newly
+        → AreAllNew (IsListed is_txn k.decided.ids) made found
+    new_are made all lent newly found has same is is2 = record {
+      only = λ t l. let p = from_listed_filter is_txn is_txn-true new all t (subst (λ ts. IsListed is_txn ts t) found_is l) in
+          (has.sound t p.1, listed_false is_txn k.decided.ids t (not-true (is_listed is_txn k.decided.ids t) p.0));
+      all = λ t n.
+          subst (λ ts. IsListed is_txn ts t) (sym found_is)
+          (listed_filter is_txn is_txn-true new all t (not_from_false (is_listed is_txn k.decided.ids t) (unlisted_test is_txn k.decided.ids t n.1)) (has.complete t n.0 (λ d. n.1 (right.decided_all t d))));
+    }
+      where
+        new : TxnId → Bool
+        new t = not (is_listed is_txn k.decided.ids t)
+
+        found_is : found ≡ filter new all
+        found_is = is2 ∙ is ∙ ap (filter new) same
 
     -- ---- what is left of it
 
@@ -117,70 +130,58 @@ module _ (k : ServerData) (right : IsRight k) where
       was_decided : (t : TxnId) → IsListed is_txn k.decided.ids t → IsDecided d.links t
       was_decided t l = subst (λ ks. IsDecided ks t) (sym is.links) (still_decided (is_listed is_txn settled) k.links t (right.decided_only t l))
 
-      module _ (taken more : List (List TxnId)) (taken_is : taken ≡ k.taken.components) (more_is : more ≡ d.components.items) where
-        taken_members : members taken ≡ members k.taken.components
-        taken_members = ap members taken_is
-
+      -- the members of components are what is decided
+      module _ (more : List (List TxnId)) (more_is : more ≡ d.components.items) where
         more_members : members more ≡ members d.components.items
         more_members = ap members more_is
 
-        -- the members of components are what is decided
-        member_decided : (t : TxnId) → IsListed is_txn (members taken ++ members more) t → IsDecided d.links t
-        member_decided t l = elim (listed_either is_txn (members taken) (members more) t l) [
-          | inl a ↦ was_decided t (right.taken_decided t (subst (λ ts. IsListed is_txn ts t) taken_members a))
+        member_decided : (t : TxnId) → IsListed is_txn (members k.taken.components ++ members more) t → IsDecided d.links t
+        member_decided t l = elim (listed_either is_txn (members k.taken.components) (members more) t l) [
+          | inl a ↦ was_decided t (right.taken_decided t a)
           | inr a ↦ (is.chosen.members.only t (subst (λ ts. IsListed is_txn ts t) more_members a.1)).0
         ]
 
-        decided_member : (t : TxnId) → IsDecided d.links t → IsListed is_txn (members taken ++ members more) t
+        decided_member : (t : TxnId) → IsDecided d.links t → IsListed is_txn (members k.taken.components ++ members more) t
         decided_member t h = elim (listed_or_not is_txn k.decided.ids t) [
-          | inl a ↦ listed_front is_txn (members taken) (members more) t (subst (λ ts. IsListed is_txn ts t) (sym taken_members) (right.decided_taken t a))
-          | inr a ↦ listed_behind is_txn (members taken) (members more) t (subst (λ ts. IsListed is_txn ts t) (sym more_members) (is.chosen.members.all t (h, a)))
+          | inl a ↦ listed_front is_txn (members k.taken.components) (members more) t (right.decided_taken t a)
+          | inr a ↦ listed_behind is_txn (members k.taken.components) (members more) t (subst (λ ts. IsListed is_txn ts t) (sym more_members) (is.chosen.members.all t (h, a)))
         ]
 
-        pub are_decided : (t : TxnId) → IsListed is_txn (members taken ++ members more) t ↔ IsDecided d.links t
+        pub are_decided : (t : TxnId) → IsListed is_txn (members k.taken.components ++ members more) t ↔ IsDecided d.links t
         are_decided t = (member_decided t, decided_member t)
 
-        module _ (marks : List ℕ) (ids : List TxnId) (are : IsRisingListOf (IsListed is_txn (over marks taken ++ over marks more)) ids) where
-          pub over_are_decided : (t : TxnId) → IsListed is_txn ids t → IsDecided d.links t
-          over_are_decided t l = member_decided t (over_among_all marks taken more t (are.sound t l))
+      pub new_decided : (ids : List TxnId) → ids ≡ d.ids.items → (t : TxnId) → IsListed is_txn ids t → IsDecided d.links t
+      new_decided ids same t l = (is.chosen.members.only t (subst (λ ts. IsListed is_txn ts t) (same ∙ is.ids) l)).0
 
-          pub settling : (id : TxnId) (mark : ℕ) (f : Settling) → f.marks ≡ raised k.marks id.coord mark → f.marks ≡ marks → ((t : TxnId) → is_listed is_txn f.settled.items t ≡ (is_txn t id && is_ended f.marks t)) → f.is_known ≡ is_known k.known id
-              → IsStrictlySortedBy txn_cmp f.settled.items → f.settled.items ≡ settled → f.lacks ≡ d.lacks → f.components.items ≡ d.components.items → f.ids.items ≡ d.ids.items → IsLeft d.links ids f.left → IsSettling k id mark f
-          settling id mark f marks_are same_marks listed known rising same_settled same_lacks same_components same_ids rest =
-              let links_are : d.links ≡ links_settled k.links f.settled.items = is.links ∙ ap (links_settled k.links) (sym same_settled) in
-              record {
-                marks = marks_are;
-                settled = listed;
-                is_known = known;
-                rising = rising;
-                lacks = subst (λ (n : NextLacks). AreLacks (links_settled k.links f.settled.items) n.lacks) (sym same_lacks) (subst (λ ks. AreLacks ks d.lacks.lacks) links_are is.lacks);
-                decided = subst (λ (n : NextLacks). IsRisingListOf (IsDecided (links_settled k.links f.settled.items)) n.decided) (sym same_lacks) (subst (λ ks. IsRisingListOf (IsDecided ks) d.lacks.decided) links_are is.decided);
-                chosen =
-                    subst (λ cs. AreNewTaken (IsListed is_txn k.decided.ids) (links_settled k.links f.settled.items) cs) (sym same_components)
-                    (subst (λ ks. AreNewTaken (IsListed is_txn k.decided.ids) ks d.components.items) links_are is.chosen);
-                ids = same_ids ∙ is.ids ∙ ap members (sym same_components);
-                left =
-                    subst (λ ks. IsOver f.marks (k.taken.components ++ f.components.items) ks (Some f.left)) links_are
-                    (subst (λ ms. IsOver ms (k.taken.components ++ f.components.items) d.links (Some f.left)) (sym same_marks)
-                    (over_found marks taken more (k.taken.components ++ f.components.items) d.links ids (Some f.left) (λ i. sym taken_is i ++ (same_components ∙ sym more_is) i) are rest));
-              }
+      pub right_rows : AreUnknown k.links settled → (rows : List (TxnId × List TxnId)) → AreRows k.links rows → AreRows d.links rows
+      right_rows unknown rows were = subst (λ ks. AreRows ks rows) (sym is.links) (rows_stay k.links links settled (released k.links settled unknown) rows were)
 
--- those of them that were not decided before are new
-pub new_are : (known : List KnownList) (before decided all newly found : List TxnId) → IsRisingListOf (IsDecided known) decided → all ≡ decided → newly ≡ filter (λ t. not (is_listed is_txn before t)) all → found ≡ newly
-    → AreAllNew (IsListed is_txn before) known found
-new_are known before decided all newly found are same is is2 = record {
-  only = λ t l. let p = from_listed_filter is_txn is_txn-true new decided t (subst (λ ts. IsListed is_txn ts t) found_is l) in
-      (are.sound t p.1, listed_false is_txn before t (not-true (is_listed is_txn before t) p.0));
-  all = λ t n.
-      subst (λ ts. IsListed is_txn ts t) (sym found_is)
-      (listed_filter is_txn is_txn-true new decided t (not_from_false (is_listed is_txn before t) (unlisted_test is_txn before t n.1)) (are.complete t n.0));
-}
-  where
-    new : TxnId → Bool
-    new t = not (is_listed is_txn before t)
+      module _ (id : TxnId) (mark : ℕ) (f : Settling) (marks : f.marks ≡ raised k.marks id.coord mark) (listed : (t : TxnId) → is_listed is_txn f.settled.items t ≡ (is_txn t id && is_ended f.marks t)) (known : f.is_known ≡ is_known k.known id)
+          (rising : IsStrictlySortedBy txn_cmp f.settled.items) (same_settled : f.settled.items ≡ settled) (same_lacks : f.lacks ≡ d.lacks) (same_components : f.components.items ≡ d.components.items) (same_ids : f.ids.items ≡ d.ids.items) where
+        links_are : d.links ≡ links_settled k.links f.settled.items
+        links_are = is.links ∙ ap (links_settled k.links) (sym same_settled)
 
-    found_is : found ≡ filter new decided
-    found_is = is2 ∙ is ∙ ap (filter new) same
+        pub settling : (more : List (List TxnId)) → more ≡ f.components.items → IsBehind f.marks (k.taken.components ++ more) k.links d.links f.behind → IsSettling k id mark f
+        settling more more_is behind = record {
+          marks = marks;
+          settled = listed;
+          is_known = known;
+          rising = rising;
+          lacks = subst (λ (n : NextLacks). AreLacks (links_settled k.links f.settled.items) n.lacks) (sym same_lacks) (subst (λ ks. AreLacks ks d.lacks.lacks) links_are is.lacks);
+          chosen =
+              subst (λ cs. AreNewTaken (IsListed is_txn k.decided.ids) (links_settled k.links f.settled.items) cs) (sym same_components)
+              (subst (λ ks. AreNewTaken (IsListed is_txn k.decided.ids) ks d.components.items) links_are is.chosen);
+          ids = same_ids ∙ is.ids ∙ ap members (sym same_components);
+          behind =
+              subst (λ cs. IsBehind f.marks (k.taken.components ++ cs) k.links (links_settled k.links f.settled.items) f.behind) more_is
+              (subst (λ ks. IsBehind f.marks (k.taken.components ++ more) k.links ks f.behind) links_are behind);
+        }
+
+  -- unless the list of a transaction is known, none of those that are settled is
+  pub are_unknown : (id : TxnId) (marks : List ℕ) (settled : List TxnId) (known : Bool) → ((t : TxnId) → is_listed is_txn settled t ≡ (is_txn t id && is_ended marks t)) → known ≡ is_known k.known id → known ≡ false → AreUnknown k.links settled
+  are_unknown id marks settled known listed is none t l told =
+      let same : t ≡ id = is_txn-true t id (and_parts (is_txn t id) (is_ended marks t) (sym (listed t) ∙ listed_test is_txn settled t l)).0 in
+      false≢true (sym none ∙ is ∙ sym (known_alike k.known k.links same_ids id) ∙ subst (λ u. is_known k.links u ≡ true) same told)
 
 -- a list that was found tells that one is known
 pub found_known : (found : Bool) (known : List KnownList) (id : TxnId) (o : Option (Bor (List Dependency))) → found ≡ is_some o → option_copied o ≡ list_of id known → found ≡ is_known known id

@@ -168,7 +168,7 @@ module _ (k new : ServerData) (l : Lesson) (p : AreListsPlanned k l) (n : KeepsF
   left_after : AllByRecursion (λ d. is_left new d ≡ false) (all_entries all)
   left_after = has_all (λ d. is_left new d ≡ false) (all_entries all) one_after
 
-  -- what is asked for now is unknown, so what is open is all that was asked for and is unknown
+  -- what is asked for is unknown, so what is open is all that was asked for and is unknown
   abbrev unknown : List KnownList → OpenFetch → Bool
   unknown ks a = not (is_known ks a.id)
 

@@ -33,7 +33,16 @@ mod ReadsBefore
 mod Restored
 mod KeyedGroups
 mod DoneSteps
-mod Raised
+pub mod Raised
 mod MarkedLinks
 mod SettledRuns
 mod FoundSettled
+mod BehindSteps
+mod ReleasedRows
+mod HeldUp
+mod ReadSteps
+mod CountedWrites
+mod ReadTurns
+mod ReadsTaken
+mod CopiedCells
+mod ReadsOfPlan

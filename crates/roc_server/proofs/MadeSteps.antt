@@ -1,150 +1,185 @@
 -- What was made ahead for a message, and what comes of it
-use Rattle.std.proofs.Common.{◌≡◌, ◌++◌, Bool, true, [], Option, Some, None, Result, Ok, Err, IsSome, IsTrue, IfOk, IfSome, OnOk, OnErr, refl, sym, ap, subst, ◌∙◌, inl, inr}
+use Rattle.std.proofs.Common.{◌≡◌, ◌++◌, Bool, true, false, if◌then◌else◌, List, Vec, [], Option, Some, None, Result, Ok, Err, IsSome, IsTrue, IfOk, IfSome, OnOk, OnErr, refl, sym, ap, subst, ◌∙◌, inl, inr}
 use Rattle.std.proofs.lemmas.Bool.{false≢true}
 use Rattle.std.proofs.lemmas.Option.{none-some}
 use Rattle.std.specs.Option.{option_map}
+use Rattle.std.specs.declared.alloc.Global.{Global}
 use Rattle.roc_base.specs.declared.node.Shard.{Shard}
 use Rattle.roc_msg.specs.declared.msg.Msg.{Msg}
+use Rattle.roc_msg.specs.declared.outbox.Ran.{Ran}
 use Rattle.roc_msg.specs.Outbox.{Collected, HasRoomFor, HoldsAlso}
 use Rattle.roc_plan.specs.Groups.{Plan}
 use Rattle.roc_server.specs.declared.ahead.Ahead.{Ahead}
+use Rattle.roc_server.specs.declared.ahead.Outcome.{Outcome}
 use Rattle.roc_server.specs.declared.handled.Handled.{Handled}
+use Rattle.roc_server.specs.declared.kept_read.KeptRead.{KeptRead}
 use Rattle.roc_server.specs.declared.server_data.ServerData.{ServerData}
+use Rattle.roc_server.specs.declared.views.Views.{Views}
 use Rattle.roc_server.specs.Ahead.{needs_room, HasRoom, IsMadeFor, ServingFits}
-use Rattle.roc_server.specs.Fits.{AreGroupsOf}
+use Rattle.roc_server.specs.Fits.{AreGroupsOf, AreReadsOf}
 use Rattle.roc_server.specs.declared.planned.Change.{Change}
 use Rattle.roc_server.specs.declared.planned.Change.TheVariants.{Nothing, Asker, Group, Lists, Marks, Settled}
 use Rattle.roc_server.specs.declared.planned.Planned.{Planned}
-use Rattle.roc_server.specs.Inner.Planned.{after, before, kept_before, made_ahead, rolled, serving, IsHeld, IsPlanned}
+use Rattle.roc_server.specs.Inner.Answering.{read_step, PlansReads}
+use Rattle.roc_server.specs.Inner.Held.{kept_before, made_ahead, made_of, reads_then, serving, viewing_of, viewing_then, IsHeld, IsServed}
+use Rattle.roc_server.specs.Inner.Planned.{after, before, rolled, IsPlanned}
 use Rattle.roc_server.specs.Inner.ServerData.{state_of, IsConsistent}
+use Rattle.roc_server.specs.Reads.{is_taken, reads_behind, with_accesses, AnswersReads, ReadStep}
 use Rattle.roc_server.specs.Runs.{accesses_of}
-use Rattle.roc_server.specs.State.{MadeAhead, ServerState, ServerStep}
-use Rattle.roc_server.specs.Step.{Handles, Shows}
+use Rattle.roc_server.specs.State.{MadeAhead, ServerState, ServerStep, Viewing}
+use Rattle.roc_server.specs.Step.{Handles}
+use Rattle.roc_server_lists.specs.New.{AreDecided}
+use Rattle.roc_server.proofs.HeldUp.{decided_after}
 use Rattle.roc_server.proofs.MessageSteps.{IsStepFor}
 use Rattle.roc_server.proofs.Undone.{cells_aside}
 
--- where nothing is ahead, the groups are all that has to be of the plan
-pub idle_fits : (plan : Plan) (shard : Shard) (k : ServerData) (ahead : Option Ahead) → ahead ≡ None → AreGroupsOf plan k.started.groups → ServingFits plan (serving shard k ahead)
-idle_fits plan shard k ahead none fits = subst (λ a. ServingFits plan (serving shard k a)) (sym none) (fits, tt)
+-- where nothing is ahead, the groups and the reads are all that has to be of the plan
+pub idle_fits : (plan : Plan) (shard : Shard) (k : ServerData) (v : Views) (ahead : Option Ahead) → ahead ≡ None → AreGroupsOf plan k.started.groups → AreReadsOf plan v.reads.items → ServingFits plan (serving shard k v ahead)
+idle_fits plan shard k v ahead none fits reads = subst (λ a. ServingFits plan (serving shard k v a)) (sym none) (fits, reads, tt)
 
-idle_state : (shard : Shard) (k : ServerData) (ahead : Option Ahead) → ahead ≡ None → (serving shard k ahead).state ≡ state_of shard k
-idle_state shard k ahead none = ap (λ a. (serving shard k a).state) none
+-- what was made for a message is the step, where it is what is answered, kept and sent
+served : (plan : Plan) (s t : ServerState) (v w : Viewing) (msg : Msg) (made : MadeAhead) (old new : Collected) (answer : Handled) → made.msg ≡ msg → IsMadeFor plan s v made → made.answer ≡ answer → made.state ≡ t → made.viewing ≡ w
+    → HoldsAlso old new made.sends → IsServed plan s v msg answer t w old new
+served plan s t v w msg made old new answer same fits answers keeps views told = (
+  fits.step,
+  fits.reads,
+  subst (λ m. Handles plan s m fits.step) same fits.handles,
+  subst (λ m. AnswersReads plan v m fits.step fits.reads) same fits.answers_reads,
+  record {
+    answers = fits.answers ∙ answers;
+    keeps = fits.keeps ∙ keeps;
+    views = fits.views ∙ views;
+    sends = told.0 ∙ ap (λ ms. old.messages ++ ms) fits.sends;
+    decides = told.1 ∙ ap (λ ids. old.decided ++ ids) fits.decides;
+    ran = told.2 ∙ ap (λ accesses. old.ran ++ accesses) fits.ran;
+  },
+)
 
--- a step of what was made ahead, from what is told of it, and the groups behind it
-pub made_step : (plan : Plan) (shard : Shard) (k : ServerData) (ahead : Option Ahead) (s t : ServerState) (msg : Msg) (old new : Collected) (answer : Handled)
+-- groups, and reads, of the plan in equal states
+pub groups_from : (plan : Plan) (s t : ServerState) → s ≡ t → AreGroupsOf plan t.started → AreGroupsOf plan s.started
+groups_from plan s t is fits = subst (λ (u : ServerState). AreGroupsOf plan u.started) (sym is) fits
+
+pub reads_from : (plan : Plan) (v w : Viewing) → v ≡ w → AreReadsOf plan w.reads → AreReadsOf plan v.reads
+reads_from plan v w is fits = subst (λ (u : Viewing). AreReadsOf plan u.reads) (sym is) fits
+
+-- a step of what was made ahead, from what is told of it, and the groups and the reads behind it
+pub made_step : (plan : Plan) (shard : Shard) (k : ServerData) (x : Views) (ahead : Option Ahead) (s t : ServerState) (v w : Viewing) (msg : Msg) (old new : Collected) (answer : Handled)
     → IsSome ahead × IfSome ahead (λ made. made.msg ≡ msg)
-    → IfSome (option_map (made_ahead shard k) ahead) (IsMadeFor plan s)
-    → IfSome (option_map (made_ahead shard k) ahead) (λ made. (made.answer ≡ answer) × (made.state ≡ t) × HoldsAlso old new made.sends)
-    → IsStepFor plan s msg t old new answer × AreGroupsOf plan t.started
-made_step plan shard k None s t msg old new answer (some, same) fits told = absurd (false≢true some)
-made_step plan shard k (Some a) s t msg old new answer (some, same) fits told = (
-  (
-    fits.step,
-    subst (λ m. Handles plan s m fits.step) same fits.handles,
-    record {
-      answers = fits.answers ∙ told.0;
-      keeps = fits.keeps ∙ told.1;
-      sends = told.2.0 ∙ ap (λ ms. old.messages ++ ms) fits.sends;
-      decides = told.2.1 ∙ ap (λ ids. old.decided ++ ids) fits.decides;
-      ran = told.2.2 ∙ ap (λ accesses. old.ran ++ accesses) fits.ran;
-    },
-  ),
-  subst (λ (u : ServerState). AreGroupsOf plan u.started) told.1 fits.groups,
+    → IfSome (option_map (made_ahead shard k x) ahead) (IsMadeFor plan s v)
+    → IfSome (option_map (made_ahead shard k x) ahead) (λ made. (made.answer ≡ answer) × (made.state ≡ t) × (made.viewing ≡ w) × HoldsAlso old new made.sends)
+    → IsServed plan s v msg answer t w old new × (AreGroupsOf plan t.started × AreReadsOf plan w.reads)
+made_step plan shard k x None s t v w msg old new answer (some, same) fits told = absurd (false≢true some)
+made_step plan shard k x (Some a) s t v w msg old new answer (some, same) fits told = (
+  served plan s t v w msg (made_ahead shard k x a) old new answer same fits told.0 told.1 told.2 told.3,
+  (groups_from plan t (made_ahead shard k x a).state (sym told.1) fits.groups, reads_from plan w (made_ahead shard k x a).viewing (sym told.2) fits.views_fit),
 )
 
 -- what it is answered
-pub made_answer : (plan : Plan) (shard : Shard) (k : ServerData) (ahead : Option Ahead) (s : ServerState) (msg : Msg) (answer : Handled)
+pub made_answer : (plan : Plan) (shard : Shard) (k : ServerData) (x : Views) (ahead : Option Ahead) (s : ServerState) (v : Viewing) (msg : Msg) (answer : Handled)
     → IsSome ahead × IfSome ahead (λ made. made.msg ≡ msg)
-    → IfSome (option_map (made_ahead shard k) ahead) (IsMadeFor plan s)
-    → IfSome ahead (λ made. made.answer ≡ answer)
+    → IfSome (option_map (made_ahead shard k x) ahead) (IsMadeFor plan s v)
+    → IfSome ahead (λ made. made.outcome.answer ≡ answer)
     → (r : ServerStep) × Handles plan s msg r × (r.answer ≡ answer)
-made_answer plan shard k None s msg answer (some, same) fits told = absurd (false≢true some)
-made_answer plan shard k (Some a) s msg answer (some, same) fits told = (fits.step, subst (λ m. Handles plan s m fits.step) same fits.handles, fits.answers ∙ told)
+made_answer plan shard k x None s v msg answer (some, same) fits told = absurd (false≢true some)
+made_answer plan shard k x (Some a) s v msg answer (some, same) fits told = (fits.step, subst (λ m. Handles plan s m fits.step) same fits.handles, fits.answers ∙ told)
 
 -- where the room is there and the kind needs it, it was made for this message
-pub room_is : (shard : Shard) (k : ServerData) (ahead : Option Ahead) (outbox : Collected) (msg : Msg) → needs_room msg ≡ true → HasRoom (serving shard k ahead) outbox msg
-    → IfSome ahead (λ made. (made.msg ≡ msg) × HasRoomFor outbox made.sends) × IsSome ahead
-room_is shard k None outbox msg kind h = elim h [ inl none ↦ absurd (false≢true (sym none ∙ kind)) | inr all ↦ absurd (none-some all.made all.is) ]
-room_is shard k (Some a) outbox msg kind h =
+pub room_is : (shard : Shard) (k : ServerData) (x : Views) (ahead : Option Ahead) (outbox : Collected) (msg : Msg) → needs_room msg ≡ true → HasRoom (serving shard k x ahead) outbox msg
+    → IfSome ahead (λ made. (made.msg ≡ msg) × HasRoomFor outbox made.outcome.sends) × IsSome ahead
+room_is shard k x None outbox msg kind h = elim h [ inl none ↦ absurd (false≢true (sym none ∙ kind)) | inr all ↦ absurd (none-some all.made all.is) ]
+room_is shard k x (Some a) outbox msg kind h =
     elim h [
       | inl none ↦ absurd (false≢true (sym none ∙ kind))
       | inr all ↦
-          let is : made_ahead shard k a ≡ all.made = cc in
+          let is : made_ahead shard k x a ≡ all.made = cc in
           ((ap (λ (m : MadeAhead). m.msg) is ∙ all.of, subst (λ (m : MadeAhead). HasRoomFor outbox m.sends) (sym is) all.room), refl)
     ]
 
 -- ..so it is found
 pub room_found : (ahead : Option Ahead) (msg : Msg) (outbox : Collected) (found : Bool) → IfSome ahead (λ made. made.msg ≡ msg → IsTrue found)
-    → IfSome ahead (λ made. (made.msg ≡ msg) × HasRoomFor outbox made.sends) × IsSome ahead → IsTrue found
+    → IfSome ahead (λ made. (made.msg ≡ msg) × HasRoomFor outbox made.outcome.sends) × IsSome ahead → IsTrue found
 room_found None msg outbox found all (h, some) = absurd (false≢true some)
 room_found (Some a) msg outbox found all (h, some) = all h.0
 
-pub room_for : (ahead : Option Ahead) (msg : Msg) (outbox : Collected) → IfSome ahead (λ made. (made.msg ≡ msg) × HasRoomFor outbox made.sends) → IfSome ahead (λ made. HasRoomFor outbox made.sends)
+pub room_for : (ahead : Option Ahead) (msg : Msg) (outbox : Collected) → IfSome ahead (λ made. (made.msg ≡ msg) × HasRoomFor outbox made.outcome.sends) → IfSome ahead (λ made. HasRoomFor outbox made.outcome.sends)
 room_for None msg outbox h = tt
 room_for (Some a) msg outbox h = h.1
 
 -- the room that was taken
-pub has_room : (shard : Shard) (k : ServerData) (ahead : Option Ahead) (outbox : Collected) (msg : Msg) → IsSome ahead × IfSome ahead (λ made. made.msg ≡ msg) → IfSome ahead (λ made. HasRoomFor outbox made.sends)
-    → HasRoom (serving shard k ahead) outbox msg
-has_room shard k None outbox msg (some, same) room = absurd (false≢true some)
-has_room shard k (Some a) outbox msg (some, same) room = inr (record { made = made_ahead shard k a; is = refl; of = same; room = room })
+pub has_room : (shard : Shard) (k : ServerData) (x : Views) (ahead : Option Ahead) (outbox : Collected) (msg : Msg) → IsSome ahead × IfSome ahead (λ made. made.msg ≡ msg) → IfSome ahead (λ made. HasRoomFor outbox made.outcome.sends)
+    → HasRoom (serving shard k x ahead) outbox msg
+has_room shard k x None outbox msg (some, same) room = absurd (false≢true some)
+has_room shard k x (Some a) outbox msg (some, same) room = inr (record { made = made_ahead shard k x a; is = refl; of = same; room = room })
+
+-- the reads that stay, and those that stayed where a message was ignored
+pub then_fit : (plan : Plan) (v : Viewing) (answer : Handled) (ran : List Ran) (stays : Option (Vec KeptRead Global)) → AreReadsOf plan v.reads → AreReadsOf plan (reads_then v.reads stays) → AreReadsOf plan (viewing_then v answer ran stays).reads
+then_fit plan v answer ran stays before after = go (is_taken answer)
+  where
+    go : (b : Bool) → AreReadsOf plan (if b then record { versions = with_accesses v.versions ran; reads = reads_then v.reads stays } else v).reads
+    go true = after
+    go false = before
 
 -- ---- what was planned, made ahead or done
 
-module _ (plan : Plan) (shard : Shard) (k mid : ServerData) (msg : Msg) (p : Planned) (none sends : Collected) (s : ServerState) (step : IsStepFor plan s msg (after shard mid p.change) none sends p.answer)
-    (no_messages : none.messages ≡ []) (none_decided : none.decided ≡ []) (none_ran : none.ran ≡ []) (fits : AreGroupsOf plan (after shard mid p.change).started) where
+module _ (plan : Plan) (shard : Shard) (mid : ServerData) (msg : Msg) (p : Planned) (s : ServerState) (v : Viewing) (none core sends : Collected) (step : IsStepFor plan s msg (after shard mid p.change) none core p.answer)
+    (no_messages : none.messages ≡ []) (none_decided : none.decided ≡ []) (none_ran : none.ran ≡ []) (fits : AreGroupsOf plan (after shard mid p.change).started) (planned : IsPlanned mid p.change) where
   abbrev r : ServerStep
   r = step.0
 
-  shows : Shows r p.answer (after shard mid p.change) none sends
-  shows = step.2
+  ran : core.ran ≡ accesses_of r.ran
+  ran = step.2.ran ∙ ap (λ accesses. accesses ++ accesses_of r.ran) none_ran
 
-  messages : sends.messages ≡ r.sends
-  messages = shows.sends ∙ ap (λ ms. ms ++ r.sends) no_messages
+  -- with what comes of it for reads, it is made for the message
+  pub made_for : (x : Views) (o : Outcome) → o ≡ record { answer = p.answer; change = p.change; sends = sends; stays = o.stays } → viewing_of x ≡ v → PlansReads plan shard mid p.change v msg p.answer core sends o.stays
+      → AreReadsOf plan (viewing_then v p.answer core.ran o.stays).reads → IsMadeFor plan s v (made_of shard mid x msg o)
+  made_for x o is same reads reads_fit =
+      let ids = (decided_after shard mid p.change planned).0 in
+      let are = (decided_after shard mid p.change planned).1 in
+      let q : ReadStep = reads_behind plan ids v msg r in
+      let planned_q : ReadStep = read_step plan ids v msg p.answer (after shard mid p.change) core.ran in
+      let q_is : q ≡ planned_q = λ i. read_step plan ids v msg (step.2.answers i) (step.2.keeps i) (sym ran i) in
+      let told = reads.step ids are in
+      let P : Outcome → Type 0 = λ o. IsMadeFor plan s v (made_of shard mid x msg o) in
+      let then_is : viewing_then v p.answer core.ran o.stays ≡ viewing_then (viewing_of x) p.answer sends.ran o.stays =
+      λ i. viewing_then (sym same i) p.answer (sym told.1.2 i) o.stays in
+      subst P (sym is)
+      (record {
+        step = r;
+        handles = step.1;
+        reads = q;
+        answers_reads = record { decided = ids; found = subst (λ (t : ServerState). AreDecided t.lists.links ids) (sym step.2.keeps) are; is = refl };
+        answers = step.2.answers;
+        keeps = step.2.keeps;
+        views = ap (λ (q : ReadStep). q.viewing) q_is ∙ told.0 ∙ then_is;
+        sends = told.1.0 ∙ (λ i. (step.2.sends ∙ ap (λ ms. ms ++ r.sends) no_messages) i ++ (sym q_is i).sends);
+        decides = told.1.1 ∙ step.2.decides ∙ ap (λ ids. ids ++ r.decided) none_decided;
+        ran = told.1.2 ∙ ran;
+        groups = fits;
+        views_fit = reads_from plan (viewing_then (viewing_of x) p.answer sends.ran o.stays) (viewing_then v p.answer core.ran o.stays) (sym then_is) reads_fit;
+      })
 
-  decides : sends.decided ≡ r.decided
-  decides = shows.decides ∙ ap (λ ids. ids ++ r.decided) none_decided
-
-  ran : sends.ran ≡ accesses_of r.ran
-  ran = shows.ran ∙ ap (λ accesses. accesses ++ accesses_of r.ran) none_ran
-
-  pub made_for : (copy : Msg) → copy ≡ msg → IsMadeFor plan s (made_ahead shard mid (record { msg = copy; answer = p.answer; change = p.change; sends = sends }))
-  made_for copy same = record {
-    step = r;
-    handles = subst (λ m. Handles plan s m r) (sym same) step.1;
-    answers = shows.answers;
-    keeps = shows.keeps;
-    sends = messages;
-    decides = decides;
-    ran = ran;
-    groups = fits;
-  }
-
+module _ (plan : Plan) (shard : Shard) (mid : ServerData) (x : Views) (msg : Msg) (o : Outcome) (s : ServerState) (v : Viewing) (made : IsMadeFor plan s v (made_of shard mid x msg o)) where
   -- it is done where there is room for what is sent
-  pub finished : {E : Type 0} (done : Result Handled E) (new : ServerData) (old sent : Collected) → IfOk done (λ given. p.answer ≡ given) → OnOk done ((h : Shard) → state_of h new ≡ after h mid p.change) → OnOk done (HoldsAlso old sent sends)
-      → IfOk done (IsStepFor plan s msg (state_of shard new) old sent)
-  finished (Err e) new old sent answers reached told = tt
-  finished (Ok given) new old sent answers reached told = (
-    r,
-    step.1,
-    record {
-      answers = shows.answers ∙ answers;
-      keeps = shows.keeps ∙ sym (reached shard);
-      sends = told.0 ∙ ap (λ ms. old.messages ++ ms) messages;
-      decides = told.1 ∙ ap (λ ids. old.decided ++ ids) decides;
-      ran = told.2 ∙ ap (λ accesses. old.ran ++ accesses) ran;
-    },
-  )
+  pub finished : {E : Type 0} (done : Result Handled E) (new : ServerData) (y : Views) (old sent : Collected) → IfOk done (λ given. o.answer ≡ given) → OnOk done ((h : Shard) → state_of h new ≡ after h mid o.change)
+      → OnOk done (viewing_of y ≡ viewing_then (viewing_of x) o.answer o.sends.ran o.stays) → OnOk done (HoldsAlso old sent o.sends) → IfOk done (λ answer. IsServed plan s v msg answer (state_of shard new) (viewing_of y) old sent)
+  finished (Err e) new y old sent answers reached views told = tt
+  finished (Ok given) new y old sent answers reached views told = served plan s (state_of shard new) v (viewing_of y) msg (made_of shard mid x msg o) old sent given refl made answers (sym (reached shard)) (sym views) told
 
   -- the groups are of the plan, done or undone
-  pub finished_fits : {E : Type 0} (Q : Type 0) (done : Result Handled E) (new : ServerData) → OnOk done ((h : Shard) → state_of h new ≡ after h mid p.change) → OnErr done (((h : Shard) → state_of h new ≡ state_of h (before mid p.change)) × Q)
-      → state_of shard (before mid p.change) ≡ s → AreGroupsOf plan s.started → AreGroupsOf plan new.started.groups
-  finished_fits Q (Ok given) new reached undone from fits_before = subst (λ (t : ServerState). AreGroupsOf plan t.started) (sym (reached shard)) fits
-  finished_fits Q (Err e) new reached undone from fits_before = subst (λ (t : ServerState). AreGroupsOf plan t.started) (sym (undone.0 shard ∙ from)) fits_before
+  pub finished_fits : {E : Type 0} (Q R : Type 0) (done : Result Handled E) (new : ServerData) → OnOk done ((h : Shard) → state_of h new ≡ after h mid o.change) → OnErr done (((h : Shard) → state_of h new ≡ state_of h (before mid o.change)) × Q × R)
+      → state_of shard (before mid o.change) ≡ s → AreGroupsOf plan s.started → AreGroupsOf plan new.started.groups
+  finished_fits Q R (Ok given) new reached undone from fits_before = groups_from plan (state_of shard new) (after shard mid o.change) (reached shard) made.groups
+  finished_fits Q R (Err e) new reached undone from fits_before = groups_from plan (state_of shard new) s (undone.0 shard ∙ from) fits_before
+
+  -- and so are the reads
+  pub finished_reads : {E : Type 0} (Q R : Type 0) (done : Result Handled E) (y : Views) → OnOk done (viewing_of y ≡ viewing_then (viewing_of x) o.answer o.sends.ran o.stays) → OnErr done (Q × (viewing_of y ≡ viewing_of x) × R)
+      → viewing_of x ≡ v → AreReadsOf plan v.reads → AreReadsOf plan y.reads.items
+  finished_reads Q R (Ok given) y views undone same reads = reads_from plan (viewing_of y) (viewing_then (viewing_of x) o.answer o.sends.ran o.stays) views made.views_fit
+  finished_reads Q R (Err e) y views undone same reads = reads_from plan (viewing_of y) v (undone.1 ∙ same) reads
 
 -- ---- what is kept before what was made ahead is right
 
-planned_sound : (k : ServerData) (change : Change) → IsPlanned k change → IsConsistent (before k change)
+pub planned_sound : (k : ServerData) (change : Change) → IsPlanned k change → IsConsistent (before k change)
 planned_sound k Nothing p = p
 planned_sound k (Asker asker) p = p.0
 planned_sound k (Group e) p = cells_aside k (rolled k.rows) p.sound
@@ -154,39 +189,40 @@ planned_sound k (Settled s) p = p.sound
 
 pub held_sound : (k : ServerData) (ahead : Option Ahead) → IsHeld k ahead → IsConsistent (kept_before k ahead)
 held_sound k None h = h
-held_sound k (Some made) h = planned_sound k made.change h
+held_sound k (Some made) h = planned_sound k made.outcome.change h
 
--- groups of the plan in equal states
-pub groups_from : (plan : Plan) (s t : ServerState) → s ≡ t → AreGroupsOf plan t.started → AreGroupsOf plan s.started
-groups_from plan s t is fits = subst (λ (u : ServerState). AreGroupsOf plan u.started) (sym is) fits
-
--- what was made ahead was taken, or given up: the groups are of the plan
-pub made_fits : {E : Type 0} (Q : Type 0) (plan : Plan) (shard : Shard) (k new : ServerData) (ahead : Option Ahead) (s : ServerState) (msg : Msg) (old sent : Collected) (done : Result Handled E)
+-- what was made ahead was taken, or given up: the groups and the reads are of the plan
+pub made_fits : {E : Type 0} (Q : Type 0) (plan : Plan) (shard : Shard) (k new : ServerData) (x y : Views) (ahead : Option Ahead) (s : ServerState) (v : Viewing) (msg : Msg) (old sent : Collected) (done : Result Handled E)
     → IsSome ahead × IfSome ahead (λ made. made.msg ≡ msg)
-    → IfSome (option_map (made_ahead shard k) ahead) (IsMadeFor plan s) → AreGroupsOf plan s.started
-    → IfOk done (λ answer. IfSome (option_map (made_ahead shard k) ahead) (λ made. (made.answer ≡ answer) × (made.state ≡ state_of shard new) × HoldsAlso old sent made.sends))
-    → OnErr done ((state_of shard new ≡ s) × Q) → AreGroupsOf plan new.started.groups
-made_fits Q plan shard k new ahead s msg old sent (Ok answer) found made fits told undone = (made_step plan shard k ahead s (state_of shard new) msg old sent answer found made told).1
-made_fits Q plan shard k new ahead s msg old sent (Err e) found made fits told undone = groups_from plan (state_of shard new) s undone.0 fits
-
--- nothing is made ahead, beside groups of the plan
-pub nothing_made : (plan : Plan) (shard : Shard) (k : ServerData) (ahead : Option Ahead) (s : ServerState) → ahead ≡ None → (serving shard k ahead).state ≡ s → AreGroupsOf plan s.started → ServingFits plan (serving shard k ahead)
-nothing_made plan shard k ahead s none is fits = (
-  groups_from plan (serving shard k ahead).state s is fits,
-  subst (λ a. IfSome (option_map (made_ahead shard k) a) (IsMadeFor plan (serving shard k ahead).state)) (sym none) tt,
-)
+    → IfSome (option_map (made_ahead shard k x) ahead) (IsMadeFor plan s v) → AreGroupsOf plan s.started → AreReadsOf plan v.reads
+    → IfOk done (λ answer. IfSome (option_map (made_ahead shard k x) ahead) (λ made. (made.answer ≡ answer) × (made.state ≡ state_of shard new) × (made.viewing ≡ viewing_of y) × HoldsAlso old sent made.sends))
+    → OnErr done ((state_of shard new ≡ s) × (viewing_of y ≡ v) × Q) → AreGroupsOf plan new.started.groups × AreReadsOf plan y.reads.items
+made_fits Q plan shard k new x y ahead s v msg old sent (Ok answer) found made fits reads told undone = (made_step plan shard k x ahead s (state_of shard new) v (viewing_of y) msg old sent answer found made told).1
+made_fits Q plan shard k new x y ahead s v msg old sent (Err e) found made fits reads told undone = (groups_from plan (state_of shard new) s undone.0 fits, reads_from plan (viewing_of y) v undone.1 reads)
 
 -- what was made is for the message
-pub made_parts : (plan : Plan) (shard : Shard) (k : ServerData) (ahead : Option Ahead) (s : ServerState) (msg : Msg) → IsSome ahead → IfSome (option_map (made_ahead shard k) ahead) (λ made. (made.msg ≡ msg) × IsMadeFor plan s made)
-    → IfSome ahead (λ made. made.msg ≡ msg) × IfSome (option_map (made_ahead shard k) ahead) (IsMadeFor plan s)
-made_parts plan shard k None s msg some h = (tt, tt)
-made_parts plan shard k (Some a) s msg some h = h
+made_parts : (plan : Plan) (shard : Shard) (k : ServerData) (x : Views) (ahead : Option Ahead) (s : ServerState) (v : Viewing) (msg : Msg) → IsSome ahead
+    → IfSome (option_map (made_ahead shard k x) ahead) (λ made. (made.msg ≡ msg) × IsMadeFor plan s v made)
+    → IfSome ahead (λ made. made.msg ≡ msg) × IfSome (option_map (made_ahead shard k x) ahead) (IsMadeFor plan s v)
+made_parts plan shard k x None s v msg some h = (tt, tt)
+made_parts plan shard k x (Some a) s v msg some h = h
 
-pub made_once : {A E : Type 0} (done : Result A E) (plan : Plan) (shard : Shard) (k : ServerData) (ahead : Option Ahead) (s t : ServerState) (msg : Msg)
-    → OnOk done (IfSome (option_map (made_ahead shard k) ahead) (λ made. (made.msg ≡ msg) × IsMadeFor plan s made)) → OnOk done (IsSome ahead) → OnErr done (ahead ≡ None)
-    → (serving shard k ahead).state ≡ s → s ≡ t → AreGroupsOf plan t.started → ServingFits plan (serving shard k ahead)
-made_once (Ok a) plan shard k ahead s t msg made some none is same fits = (
-  groups_from plan (serving shard k ahead).state t (is ∙ same) fits,
-  subst (λ u. IfSome (option_map (made_ahead shard k) ahead) (IsMadeFor plan u)) (sym is) (made_parts plan shard k ahead s msg some made).1,
+pub made_msg : {A E : Type 0} (done : Result A E) (plan : Plan) (shard : Shard) (k : ServerData) (x : Views) (ahead : Option Ahead) (s : ServerState) (v : Viewing) (msg : Msg)
+    → OnOk done (IfSome (option_map (made_ahead shard k x) ahead) (λ made. (made.msg ≡ msg) × IsMadeFor plan s v made)) → OnOk done (IsSome ahead) → OnOk done (IsSome ahead × IfSome ahead (λ made. made.msg ≡ msg))
+made_msg (Ok a) plan shard k x ahead s v msg made some = (some, (made_parts plan shard k x ahead s v msg some made).0)
+made_msg (Err e) plan shard k x ahead s v msg made some = tt
+
+pub made_once : {A E : Type 0} (done : Result A E) (plan : Plan) (shard : Shard) (k : ServerData) (x : Views) (ahead : Option Ahead) (s t : ServerState) (v : Viewing) (msg : Msg)
+    → OnOk done (IfSome (option_map (made_ahead shard k x) ahead) (λ made. (made.msg ≡ msg) × IsMadeFor plan s v made)) → OnOk done (IsSome ahead) → OnErr done (ahead ≡ None)
+    → (serving shard k x ahead).state ≡ s → s ≡ t → viewing_of x ≡ v → AreGroupsOf plan t.started → AreReadsOf plan v.reads → ServingFits plan (serving shard k x ahead)
+made_once (Ok a) plan shard k x ahead s t v msg made some none is same views fits reads = (
+  groups_from plan (serving shard k x ahead).state t (is ∙ same) fits,
+  reads_from plan (viewing_of x) v views reads,
+  subst (λ w. IfSome (option_map (made_ahead shard k x) ahead) (IsMadeFor plan (serving shard k x ahead).state w)) (sym views)
+      (subst (λ u. IfSome (option_map (made_ahead shard k x) ahead) (IsMadeFor plan u v)) (sym is) (made_parts plan shard k x ahead s v msg some made).1),
 )
-made_once (Err e) plan shard k ahead s t msg made some none is same fits = nothing_made plan shard k ahead t none (is ∙ same) fits
+made_once (Err e) plan shard k x ahead s t v msg made some none is same views fits reads = (
+  groups_from plan (serving shard k x ahead).state t (is ∙ same) fits,
+  reads_from plan (viewing_of x) v views reads,
+  subst (λ a. IfSome (option_map (made_ahead shard k x) a) (IsMadeFor plan (serving shard k x ahead).state (viewing_of x))) (sym none) tt,
+)

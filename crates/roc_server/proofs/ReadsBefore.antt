@@ -24,7 +24,8 @@ use Rattle.roc_server.specs.declared.server_data.ServerData.{ServerData}
 use Rattle.roc_server.specs.declared.started.StartedGroup.{StartedGroup}
 use Rattle.roc_server.specs.Fits.{AreGroupsOf}
 use Rattle.roc_server.specs.Inner.Indexed.{group_refs_of, undecided, IsIndexOf}
-use Rattle.roc_server.specs.Inner.Planned.{before, kept_before, IsHeld, IsPlanned}
+use Rattle.roc_server.specs.Inner.Held.{kept_before, IsHeld}
+use Rattle.roc_server.specs.Inner.Planned.{before, IsPlanned}
 use Rattle.roc_server.specs.Inner.ServerData.{is_same_group, AreSameGroups}
 use Rattle.roc_server.specs.Start.{is_user, users}
 use Rattle.roc_server.specs.State.{unrun}
@@ -50,7 +51,7 @@ untouched_by k (Settled s) = record { waits = refl; decided = refl; index = refl
 
 pub untouched : (k : ServerData) (ahead : Option Ahead) → IsUntouched k (kept_before k ahead)
 untouched k None = record { waits = refl; decided = refl; index = refl; marks = refl }
-untouched k (Some made) = untouched_by k made.change
+untouched k (Some made) = untouched_by k made.outcome.change
 
 -- ---- the groups differ in what they gave alone
 
@@ -64,7 +65,7 @@ same_by k (Settled s) p = p.groups
 
 pub same_before : (k : ServerData) (ahead : Option Ahead) → IsHeld k ahead → AreSameGroups (kept_before k ahead).started.groups k.started.groups
 same_before k None h = refl
-same_before k (Some made) h = same_by k made.change h
+same_before k (Some made) h = same_by k made.outcome.change h
 
 pub fits_now : (plan : Plan) (k : ServerData) (ahead : Option Ahead) → IsHeld k ahead → AreGroupsOf plan (kept_before k ahead).started.groups → AreGroupsOf plan k.started.groups
 fits_now plan k ahead h fits = fits_same plan (kept_before k ahead).started.groups k.started.groups (same_before k ahead h) fits

@@ -1,5 +1,5 @@
 -- What comes of a settled transaction
-use Rattle.std.proofs.Common.{◌≡◌, ℕ, ◌≤◌, ◌&&◌, List, Some, Vec, length, [], ◌++◌, Bool, true, false, if◌then◌else◌, map, filter, refl, sym, ap, subst, ◌∙◌}
+use Rattle.std.proofs.Common.{◌≡◌, ℕ, ◌&&◌, List, Some, Vec, [], ◌++◌, Bool, true, false, if◌then◌else◌, map, filter, refl, sym, ap, subst, ◌∙◌}
 use Rattle.std.proofs.lemmas.List.{append-nil}
 use Rattle.std.specs.List.{flat_map}
 use Rattle.std.specs.declared.alloc.Global.{Global}
@@ -8,11 +8,12 @@ use Rattle.roc_base.specs.declared.id.TxnId.{TxnId}
 use Rattle.roc_base.specs.declared.node.Shard.{Shard}
 use Rattle.roc_base.specs.TxnId.{is_txn}
 use Rattle.roc_await.specs.Waits.{was_asked_for, without_asked}
-use Rattle.roc_depgraph.specs.Closure.{IsRisingListOf}
 use Rattle.roc_depgraph.specs.Deps.{is_known, IsDecided}
 use Rattle.roc_msg.specs.declared.msg.Msg.TheVariants as msg
-use Rattle.roc_msg.specs.Outbox.{Collected}
+use Rattle.roc_msg.specs.Outbox.{Collected, HasSent}
 use Rattle.roc_plan.specs.Groups.{Plan}
+use Rattle.roc_rows.specs.Held.{Held}
+use Rattle.roc_server.specs.declared.started.StartedGroup.{StartedGroup}
 use Rattle.roc_server_lists.specs.Links.{without_links}
 use Rattle.roc_server_lists.specs.New.{AreNewTaken}
 use Rattle.roc_server_lists.proofs.TakenNew.{nothing_new}
@@ -29,14 +30,15 @@ use Rattle.roc_server.specs.Forgets.{forget, forgetting}
 use Rattle.roc_server.specs.Lists.{after_settled, decides, is_settled, lists_settled}
 use Rattle.roc_server.specs.Runs.{accesses_of, all_buffered, commitok, commitok_of, take_all}
 use Rattle.roc_server.specs.State.{hearing, is_here, refused, unrun, ServerState}
-use Rattle.roc_server.specs.Step.{links_after, Shows}
+use Rattle.roc_server.specs.Step.{links_after}
+use Rattle.roc_server.specs.Inner.Shown.{ShowsStep}
 use Rattle.roc_await.specs.Lacks.{AreLacks}
-use Rattle.roc_server.specs.Inner.Left.{IsOver}
+use Rattle.roc_server.specs.Inner.Behind.{IsBehind}
 use Rattle.roc_server.specs.Inner.Runs.{restored}
 use Rattle.roc_server.specs.Inner.Planned.{after, unsettled, with_settled, IsPlannedFrom}
-use Rattle.roc_server.specs.Inner.ServerData.{state_of, IsConsistent, IsSame}
-use Rattle.roc_server.specs.Inner.Settled.{links_settled, IsHearing, IsSettling, Settles, SettlesRuns}
-use Rattle.roc_server.specs.Inner.Taught.{KeepsBesideRuns, KeepsPlans}
+use Rattle.roc_server.specs.Inner.ServerData.{state_of, holding, IsConsistent, IsSame}
+use Rattle.roc_server.specs.Inner.Settled.{links_settled, HasRoomToSettle, IsHearing, IsSettling, Settles, SettlesRuns}
+use Rattle.roc_server.specs.Inner.Taught.{KeepsBesideRuns, KeepsPlans, RunsDecided}
 use Rattle.roc_server.proofs.Alike.{alike_same}
 use Rattle.roc_server.proofs.Raised.{ended_still}
 use Rattle.roc_server.proofs.SameGroups.{fits_same, fits_some, here_same}
@@ -47,7 +49,7 @@ use Rattle.roc_server.proofs.Undone.{besides_alike}
 
 module _ (shard : Shard) (old : ServerData) (coord mark : ℕ) where
   pub hears : (sends : Collected) (answer : Handled) (change : Change) → IsHearing old coord mark change
-      → Shows (forgetting (refused (hearing (state_of shard old) coord mark) answer)) answer (after shard old change) sends sends
+      → ShowsStep (forgetting (refused (hearing (state_of shard old) coord mark) answer)) answer (after shard old change) sends sends
   hears sends answer Nothing h = absurd h
   hears sends answer (Asker a) h = absurd h
   hears sends answer (Group e) h = absurd h
@@ -86,7 +88,7 @@ module _ (plan : Plan) (shard : Shard) (old : ServerData) (id : TxnId) (mark : �
     hears_alone change h = record {
       components = [];
       are_new = none_new;
-      shown = subst (λ r. Shows r Gone (after shard old change) sends sends) heard_is (hears shard old id.coord mark sends Gone change h);
+      shown = subst (λ r. ShowsStep r Gone (after shard old change) sends sends) heard_is (hears shard old id.coord mark sends Gone change h);
       groups = hearing_keeps shard old id.coord mark change h;
     }
 
@@ -101,6 +103,21 @@ hearing_planned old coord mark sound (Marks m) h =
     record {
       planned = record { sound = sound; risen = λ t e. ap (λ below. is_ended below t) h.0 ∙ ended_still old.marks coord mark t e; left = h.1 };
       from = λ at. refl;
+    }
+
+-- ---- what is decided ran, and room was taken
+
+pub settles_runs : (plan : Plan) (shard : Shard) (old new : ServerData) (held : Held) (started : List StartedGroup) (none some sends : Collected) (ids first second : List TxnId)
+    → first ≡ ids → second ≡ ids → RunsDecided plan old.started.groups started old.rows.store held.store none some first
+    → HasSent some sends (map (commitok plan shard started) (filter (λ t. is_here t started) second)) → new.rows ≡ held → new.started.groups ≡ started → SettlesRuns plan shard old new none sends ids
+settles_runs plan shard old new held started none some sends ids first second one two ran sent rows same =
+    let r : RunsDecided plan old.started.groups started old.rows.store held.store none some ids = subst (RunsDecided plan old.started.groups started old.rows.store held.store none some) one ran in
+    record {
+      runs = λ s. r.runs s ∙ (λ i. holding s (sym rows i).store (sym same i));
+      groups = ap (map unrun) same ∙ r.groups;
+      messages = sent.0 ∙ (λ i. r.messages i ++ map (commitok plan shard (sym same i)) (filter (λ t. is_here t (sym same i)) (two i)));
+      told = sent.1 ∙ r.told;
+      ran = sent.2 ∙ r.ran;
     }
 
 -- ---- it is settled
@@ -171,9 +188,9 @@ module _ (plan : Plan) (shard : Shard) (old : ServerData) (id : TxnId) (mark : �
           taken = f.chosen.taken;
         })
 
-    shown : Shows (after_settled plan components was id mark) Done (forget (with_settled shard new found)) sends more
+    shown : ShowsStep (after_settled plan components was id mark) Done (forget (with_settled shard new found)) sends more
     shown =
-        subst (λ s. Shows s Done (forget (with_settled shard new found)) sends more) step_is
+        subst (λ s. ShowsStep s Done (forget (with_settled shard new found)) sends more) step_is
         (record {
           answers = refl;
           keeps = ap forget reached;
@@ -190,7 +207,7 @@ module _ (plan : Plan) (shard : Shard) (old : ServerData) (id : TxnId) (mark : �
       groups = λ p fits. fits_some p _ new.started.groups (fits_same p old.started.groups new.started.groups r.groups fits);
     }
 
-    module _ (back : restored earlier.items new.started.groups ≡ old.started.groups) (saved : new.rows.saved ≡ Some old.rows.store) (room : length components ≤ new.taken.spare) where
+    module _ (back : restored earlier.items new.started.groups ≡ old.started.groups) (saved : new.rows.saved ≡ Some old.rows.store) (room : HasRoomToSettle new x) where
       undone : IsSame old (unsettled new found)
       undone =
           alike_same old (unsettled new found) (back_to new.rows.saved new.rows.store old.rows.store saved)
@@ -204,12 +221,11 @@ module _ (plan : Plan) (shard : Shard) (old : ServerData) (id : TxnId) (mark : �
         is_known = f.is_known ∙ ap (λ ks. is_known ks id) (sym b.known);
         rising = f.rising;
         lacks = subst (λ ks. AreLacks (links_settled ks x.settled.items) x.lacks.lacks) (sym b.links) f.lacks;
-        decided = subst (λ ks. IsRisingListOf (IsDecided (links_settled ks x.settled.items)) x.lacks.decided) (sym b.links) f.decided;
         chosen = subst (λ decided. AreNewTaken (IsListed is_txn decided) (links_settled new.links x.settled.items) components) (sym b.decided)
             (subst (λ ks. AreNewTaken (IsListed is_txn old.decided.ids) (links_settled ks x.settled.items) components) (sym b.links) f.chosen);
         ids = f.ids;
-        left = subst (λ taken. IsOver x.marks (taken ++ components) (links_settled new.links x.settled.items) (Some x.left)) (sym b.taken)
-            (subst (λ ks. IsOver x.marks (old.taken.components ++ components) (links_settled ks x.settled.items) (Some x.left)) (sym b.links) f.left);
+        behind = subst (λ taken. IsBehind x.marks (taken ++ components) new.links (links_settled new.links x.settled.items) x.behind) (sym b.taken)
+            (subst (λ ks. IsBehind x.marks (old.taken.components ++ components) ks (links_settled ks x.settled.items) x.behind) (sym b.links) f.behind);
       }
 
       pub settled_planned : IsPlannedFrom old new (Settled found)

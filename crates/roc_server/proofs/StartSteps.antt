@@ -28,7 +28,7 @@ use Rattle.roc_server.specs.declared.started.StartedGroup.{StartedGroup}
 use Rattle.roc_server_lists.specs.New.{AreLedTo}
 use Rattle.roc_server.specs.Start.{has_procedure, has_counts, differs, start_refusal, start_judged, start_taken, start_new, startok_of, edges_for, new_group}
 use Rattle.roc_server.specs.Runs.{accesses_of}
-use Rattle.roc_server.specs.Step.{Shows}
+use Rattle.roc_server.specs.Inner.Shown.{ShowsStep}
 use Rattle.std.specs.List.{AllByRecursion}
 use Rattle.std.specs.Option.{option_map}
 use Rattle.roc_server_lists.specs.Links.{all_entries}
@@ -70,7 +70,7 @@ module _ (plan : Plan) (shard : Shard) (k : ServerData) (id : TxnId) (c : GroupC
   pub start_refused : (out : Collected) (answer : Handled) → start_refusal plan s id c ≡ Some answer → StartTaken plan shard k s out out id c answer
   start_refused out answer judged =
       let P : List Dependency → Type 0 = λ es. AreLedTo k.links es [] in
-      let Q : ServerStep → Type 0 = λ r. Shows r answer s out out in
+      let Q : ServerStep → Type 0 = λ r. ShowsStep r answer s out out in
       record {
         reached = [];
         led = subst P (ap (λ f. by_tests f (find_group id c.group k.started.groups)) (sym judged)) (nothing_led k.links);
@@ -81,7 +81,7 @@ module _ (plan : Plan) (shard : Shard) (k : ServerData) (id : TxnId) (c : GroupC
   pub start_repeated : (old new : Collected) (e : StartedGroup) → start_refusal plan s id c ≡ None → find_group id c.group k.started.groups ≡ Some e → HasSent old new (startok_of shard e ∷ []) → StartTaken plan shard k s old new id c Done
   start_repeated old new e judged there sent =
       let P : List Dependency → Type 0 = λ es. AreLedTo k.links es [] in
-      let Q : ServerStep → Type 0 = λ r. Shows r Done s old new in
+      let Q : ServerStep → Type 0 = λ r. ShowsStep r Done s old new in
       record {
         reached = [];
         led = subst P (ap (λ g. by_tests None g) (sym there) ∙ ap (λ f. by_tests f (find_group id c.group k.started.groups)) (sym judged)) (nothing_led k.links);
@@ -96,7 +96,7 @@ module _ (plan : Plan) (shard : Shard) (k : ServerData) (id : TxnId) (c : GroupC
   start_made (Err e) new old sent judged absent h = tt
   start_made (Ok p) new old sent judged absent h =
       let P : List Dependency → Type 0 = λ es. AreLedTo k.links es h.reached in
-      let Q : ServerStep → Type 0 = λ r. Shows r p.answer (after shard new p.change) old sent in
+      let Q : ServerStep → Type 0 = λ r. ShowsStep r p.answer (after shard new p.change) old sent in
       record {
         reached = h.reached;
         led = subst P (ap (λ g. by_tests None g) (sym absent) ∙ ap (λ f. by_tests f (find_group id c.group k.started.groups)) (sym judged)) h.led;
@@ -112,7 +112,7 @@ module _ (plan : Plan) (shard : Shard) (k mid : ServerData) (noted : Held) (id :
   -- it stands behind the others, and what is told of it behind what was sent
   pub start_planned : TellsStart plan shard e old sent → StartsNew plan shard k (after shard mid (Group e)) old sent id c Done
   start_planned told =
-      let first : Shows (start_new plan (from noted.store) c (new_group plan k.decided.ids n.reached (from noted.store) id c)) Done (after shard mid (Group e)) old sent = record {
+      let first : ShowsStep (start_new plan (from noted.store) c (new_group plan k.decided.ids n.reached (from noted.store) id c)) Done (after shard mid (Group e)) old sent = record {
         answers = refl;
         keeps = λ i. record {
           shard = shard;
@@ -128,7 +128,7 @@ module _ (plan : Plan) (shard : Shard) (k mid : ServerData) (noted : Held) (id :
       record {
         reached = n.reached;
         led = subst (λ store. AreLedTo k.links (edges_for plan k.decided.ids (from store) id c) n.reached) same n.led;
-        shown = subst (λ store. Shows (start_new plan (from store) c (new_group plan k.decided.ids n.reached (from store) id c)) Done (after shard mid (Group e)) old sent) same first;
+        shown = subst (λ store. ShowsStep (start_new plan (from store) c (new_group plan k.decided.ids n.reached (from store) id c)) Done (after shard mid (Group e)) old sent) same first;
       }
 
 -- ---- a start that is taken is not late

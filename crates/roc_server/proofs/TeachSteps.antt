@@ -18,7 +18,7 @@ use Rattle.roc_server.specs.Lists.{links_of, lists_after, missing_after, taught}
 use Rattle.roc_server.specs.Inner.ServerData.{state_of, AreSameGroups, IsConsistent}
 use Rattle.roc_server.specs.Inner.Taught.{own_again, with_own, Taken, Teaches}
 use Rattle.roc_server.specs.State.{is_here, ServerState, ServerStep}
-use Rattle.roc_server.specs.Step.{Shows}
+use Rattle.roc_server.specs.Inner.Shown.{ShowsStep}
 use Rattle.roc_server.proofs.SameGroups.{fits_same, fits_some, here_same}
 
 module _ (plan : Plan) (shard : Shard) (old : ServerData) (state : ServerState) (before after : Collected) (news : List KnownList) (again : Option TxnId) (sound : IsConsistent old) (h : Taken plan shard old state before after news again) where
@@ -70,7 +70,7 @@ module _ (plan : Plan) (shard : Shard) (old : ServerData) (state : ServerState) 
       h.sent
       ∙ (λ i. before.messages ++ ((knowns ++ (told_here i ++ map (fetch_from shard) (missing_after s news))) ++ own_is i))
 
-  shown : Shows (forgetting step) Done (forget state) before after
+  shown : ShowsStep (forgetting step) Done (forget state) before after
   shown = record { answers = refl; keeps = ap forget reached; sends = sends; decides = h.told; ran = h.ran }
 
   pub teaches : Teaches plan shard old (forget state) before after news again Done

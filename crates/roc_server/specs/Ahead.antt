@@ -1,28 +1,33 @@
 -- What was made ahead for a message, so that the message cannot fail for want of memory: docs/PROTOCOL.md, "Want of memory"
-use Rattle.std.specs.Prelude.{◌≡◌, Bool, true, false, Some, IfSome, ◌⊎◌}
+use Rattle.std.specs.Prelude.{◌≡◌, ◌++◌, Bool, true, false, Some, IfSome, ◌⊎◌}
 use Rattle.roc_msg.specs.declared.msg.Msg.{Msg}
-use Rattle.roc_msg.specs.declared.msg.Msg.TheVariants.{Start, Commit, Fetch, Known, Ended, Settled}
+use Rattle.roc_msg.specs.declared.msg.Msg.TheVariants.{Start, Commit, Fetch, Known, Ended, Settled, Read}
 use Rattle.roc_msg.specs.Outbox.{Collected, HasRoomFor}
 use Rattle.roc_plan.specs.Groups.{Plan}
-use Rattle.roc_server.specs.Fits.{AreGroupsOf, ServerFits}
+use Rattle.roc_server.specs.Fits.{AreGroupsOf, AreReadsOf, ServerFits}
 use Rattle.roc_server.specs.Runs.{accesses_of}
-use Rattle.roc_server.specs.State.{MadeAhead, ServerState, ServerStep, Serving}
+use Rattle.roc_server.specs.Reads.{AnswersReads, ReadStep}
+use Rattle.roc_server.specs.State.{MadeAhead, ServerState, ServerStep, Serving, Viewing}
 use Rattle.roc_server.specs.Step.{Handles}
 
 -- it is what comes of its message under the plan
-pub record IsMadeFor (plan : Plan) (s : ServerState) (made : MadeAhead) : Type 0 where
+pub record IsMadeFor (plan : Plan) (s : ServerState) (v : Viewing) (made : MadeAhead) : Type 0 where
   pub step : ServerStep
   pub handles : Handles plan s made.msg step
+  pub reads : ReadStep
+  pub answers_reads : AnswersReads plan v made.msg step reads
   pub answers : step.answer ≡ made.answer
   pub keeps : step.state ≡ made.state
-  pub sends : made.sends.messages ≡ step.sends
+  pub views : reads.viewing ≡ made.viewing
+  pub sends : made.sends.messages ≡ step.sends ++ reads.sends
   pub decides : made.sends.decided ≡ step.decided
   pub ran : made.sends.ran ≡ accesses_of step.ran
   pub groups : AreGroupsOf plan made.state.started
+  pub views_fit : AreReadsOf plan made.viewing.reads
 
 -- what a server holds is of a plan, and so is what it made ahead
 abbrev pub ServingFits : Plan → Serving → Type 0
-ServingFits plan v = ServerFits plan v.state × IfSome v.ahead (IsMadeFor plan v.state)
+ServingFits plan v = ServerFits plan v.state × AreReadsOf plan v.viewing.reads × IfSome v.ahead (IsMadeFor plan v.state v.viewing)
 
 -- the kinds that take memory: no server answers want of memory to any other
 abbrev pub needs_room : Msg → Bool
@@ -32,6 +37,7 @@ needs_room (Fetch id asker) = true
 needs_room (Known id edges) = true
 needs_room (Ended coord mark) = true
 needs_room (Settled id mark) = true
+needs_room (Read id round proc group args) = true
 needs_room msg = false
 
 -- all of it was made ahead, and the outbox has room for what is sent

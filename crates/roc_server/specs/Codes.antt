@@ -1,5 +1,6 @@
 -- A server's state as nested pairs, by which contracts tell states apart
 use Rattle.std.specs.Prelude.{ℕ, ℤ, Bool, List, Option, refl}
+use Rattle.std.specs.FinMap as map
 use Rattle.std.specs.Coded.{Coded, code_by, coded×, coded_ℕ, coded_ℤ, coded_bool, coded_list, coded_option}
 use Rattle.roc_base.specs.declared.id.TxnId.{TxnId}
 use Rattle.roc_base.specs.Edge.{Dependency}
@@ -7,12 +8,14 @@ use Rattle.roc_depgraph.specs.declared.known.KnownList.{KnownList}
 use Rattle.roc_rows.specs.Codes.{coded_cell}
 use Rattle.roc_rows.specs.declared.cell.Cell.{Cell}
 use Rattle.roc_rows.specs.Store.{Store}
+use Rattle.roc_rows.specs.Versions.{Counts}
 use Rattle.roc_rows.specs.Codes.{coded_store}
 use Rattle.roc_group.specs.declared.access.Access.{Access}
 use Rattle.roc_server.specs.declared.started.StartedGroup.{StartedGroup}
 use Rattle.roc_await.specs.declared.waits.OpenFetch.{OpenFetch}
 use Rattle.roc_await.specs.declared.waits.Asker.{Asker}
-use Rattle.roc_server.specs.State.{Lists, ServerState}
+use Rattle.roc_server.specs.declared.kept_read.KeptRead.{KeptRead}
+use Rattle.roc_server.specs.State.{Lists, ServerState, Viewing}
 
 abbrev coded_txn : Coded TxnId
 coded_txn = code_by (ℕ × ℕ) (coded× coded_ℕ coded_ℕ) (λ t. (t.coord, t.seq)) (λ p. record { coord = p.0; seq = p.1 }) (λ _. refl)
@@ -75,3 +78,13 @@ coded_state =
     code_by (ℕ × (Store × (List StartedGroup × (Lists × List ℕ)))) (coded× coded_ℕ (coded× coded_store (coded× (coded_list coded_group) (coded× coded_lists (coded_list coded_ℕ)))))
     (λ s. (s.shard.0, (s.store, (s.started, (s.lists, s.below)))))
     (λ p. record { shard = record { 0 = p.0 }; store = p.1.0; started = p.1.1.0; lists = p.1.1.1.0; below = p.1.1.1.1 }) (λ _. refl)
+
+abbrev coded_read : Coded KeptRead
+coded_read =
+    code_by (TxnId × (ℕ × (ℕ × (ℕ × List ℤ)))) (coded× coded_txn (coded× coded_ℕ (coded× coded_ℕ (coded× coded_ℕ (coded_list coded_ℤ)))))
+    (λ q. (q.id, (q.round, (q.proc, (q.group, q.args)))))
+    (λ p. record { id = p.0; round = p.1.0; proc = p.1.1.0; group = p.1.1.1.0; args = p.1.1.1.1 }) (λ _. refl)
+
+abbrev pub coded_viewing : Coded Viewing
+coded_viewing =
+    code_by (Counts × List KeptRead) (coded× (map.code coded_cell coded_ℕ) (coded_list coded_read)) (λ v. (v.versions, v.reads)) (λ p. record { versions = p.0; reads = p.1 }) (λ _. refl)

@@ -1,8 +1,9 @@
 -- What a server holds is of a plan: its groups are the plan's, with the plan's counts
-use Rattle.std.specs.Prelude.{◌≡◌, ◌<◌, false, List, length}
+use Rattle.std.specs.Prelude.{◌≡◌, ◌<◌, true, false, List, length}
 use Rattle.std.specs.List.{AllByRecursion}
 use Rattle.roc_plan.specs.Groups.{Plan, procedure_of, groups_of, inputs_of, is_view_of}
 use Rattle.roc_group.specs.GroupRun.{GroupCall}
+use Rattle.roc_server.specs.declared.kept_read.KeptRead.{KeptRead}
 use Rattle.roc_server.specs.declared.started.StartedGroup.{StartedGroup}
 use Rattle.roc_server.specs.Runs.{group_call}
 use Rattle.roc_server.specs.State.{ServerState}
@@ -21,3 +22,13 @@ AreGroupsOf plan started = AllByRecursion (λ e. IsCallOf plan (group_call e)) s
 
 abbrev pub ServerFits : Plan → ServerState → Type 0
 ServerFits plan s = AreGroupsOf plan s.started
+
+-- the plan has the group of the read, of a view that takes as many arguments
+pub record IsReadOf (plan : Plan) (q : KeptRead) : Type 0 where
+  pub view : is_view_of plan q.proc ≡ true
+  pub group : q.group < length (groups_of plan q.proc)
+  pub args : length q.args ≡ (procedure_of plan q.proc).arguments
+
+-- each read that is kept is such a one
+abbrev pub AreReadsOf : Plan → List KeptRead → Type 0
+AreReadsOf plan reads = AllByRecursion (IsReadOf plan) reads

@@ -1,5 +1,7 @@
 -- What stands here is of private functions alone, or is a law that a type needs
+pub mod Shown
 pub mod Left
+pub mod Behind
 pub mod Indexed
 pub mod ServerData
 pub mod Starts
@@ -9,4 +11,6 @@ pub mod Settled
 pub mod Forgetting
 pub mod Keyed
 pub mod Planned
+pub mod Held
+pub mod Answering
 pub mod AtOnce

@@ -7,6 +7,7 @@ pub mod Runs
 pub mod Forgets
 pub mod Lists
 pub mod Fits
+pub mod Reads
 pub mod Step
 pub mod Waiting
 pub mod Codes

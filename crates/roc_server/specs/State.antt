@@ -11,8 +11,10 @@ use Rattle.roc_msg.specs.declared.outbox.Outgoing.{Outgoing}
 use Rattle.roc_msg.specs.Outbox.{Collected}
 use Rattle.roc_msg.specs.declared.reason.Reason.{Reason}
 use Rattle.roc_rows.specs.Store.{Store}
+use Rattle.roc_rows.specs.Versions.{Counts}
 use Rattle.roc_server.specs.declared.handled.Handled.{Handled}
 use Rattle.roc_server.specs.declared.handled.Handled.TheVariants.{Done, Ignored}
+use Rattle.roc_server.specs.declared.kept_read.KeptRead.{KeptRead}
 use Rattle.roc_server.specs.Below.{raised}
 use Rattle.roc_server.specs.declared.started.StartedGroup.{StartedGroup}
 
@@ -35,16 +37,25 @@ pub record ServerState : Type 0 where
   -- the watermarks of coordinators, by number
   pub below : List ℕ
 
--- what was made ahead for a message: the answer, the state after it, and what is sent
+-- what a server keeps for views, beside its state
+pub record Viewing : Type 0 where
+  -- how often each cell was written here
+  pub versions : Counts
+  -- the reads that wait, in the order in which they came
+  pub reads : List KeptRead
+
+-- what was made ahead for a message: the answer, the state after it, what is kept for views then, and what is sent
 pub record MadeAhead : Type 0 where
   pub msg : Msg
   pub answer : Handled
   pub state : ServerState
+  pub viewing : Viewing
   pub sends : Collected
 
 -- a server: what it keeps, and what was made ahead, where something was
 pub record Serving : Type 0 where
   pub state : ServerState
+  pub viewing : Viewing
   pub ahead : Option MadeAhead
 
 -- what comes of a message: the answer, the state after it, what is sent, the components newly decided, as they were taken, and the

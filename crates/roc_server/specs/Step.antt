@@ -6,7 +6,7 @@ use Rattle.roc_depgraph.specs.declared.known.KnownList.{KnownList}
 use Rattle.roc_depgraph.specs.Deps.{IsDecided}
 use Rattle.roc_await.specs.Waits.{was_asked_for}
 use Rattle.roc_msg.specs.declared.msg.Msg.{Msg}
-use Rattle.roc_msg.specs.declared.msg.Msg.TheVariants.{Start, Commit, Fetch, Known, Ended, Settled}
+use Rattle.roc_msg.specs.declared.msg.Msg.TheVariants.{Start, Commit, Fetch, Known, Ended, Settled, Read}
 use Rattle.roc_msg.specs.Outbox.{Collected}
 use Rattle.roc_msg.specs.declared.outbox.Outgoing.{Outgoing}
 use Rattle.roc_msg.specs.declared.reason.Reason.TheVariants.{Foreign}
@@ -19,7 +19,8 @@ use Rattle.roc_server_lists.specs.Links.{without_links}
 use Rattle.roc_server.specs.Start.{start_refusal, edges_for, after_start}
 use Rattle.roc_server.specs.Lists.{links_of, commit_refusal, after_commit, after_fetch, known_refusal, after_known, after_ended, is_settled, after_settled, fetched_again}
 use Rattle.roc_server.specs.Runs.{accesses_of}
-use Rattle.roc_server.specs.State.{ignored, find_group, ServerState, ServerStep}
+use Rattle.roc_server.specs.Reads.{after_read, ReadStep}
+use Rattle.roc_server.specs.State.{ignored, find_group, ServerState, ServerStep, Viewing}
 
 -- ---- what a step finds in the lists
 
@@ -70,6 +71,7 @@ after_message plan s f (Fetch id asker) = after_fetch s id asker
 after_message plan s f (Known id edges) = after_known plan f.components s id edges (known_refusal s id edges)
 after_message plan s f (Ended coord mark) = after_ended s coord mark
 after_message plan s f (Settled id mark) = after_settled plan f.components s id mark
+after_message plan s f (Read id round proc group args) = after_read plan s (record { id = id; round = round; proc = proc; group = group; args = args })
 after_message plan s f msg = ignored s Foreign
 
 -- r is what comes of a message
@@ -78,11 +80,12 @@ pub record Handles (plan : Plan) (s : ServerState) (msg : Msg) (r : ServerStep) 
   pub found : AreFindings plan s msg findings
   pub is : r ≡ after_message plan s findings msg
 
--- r is what was answered, what is kept, and what was added to an outbox
-pub record Shows (r : ServerStep) (answer : Handled) (state : ServerState) (old new : Collected) : Type 0 where
+-- r, with what comes of it for reads, is what was answered, what is kept, and what was added to an outbox
+pub record Shows (r : ServerStep) (q : ReadStep) (answer : Handled) (state : ServerState) (viewing : Viewing) (old new : Collected) : Type 0 where
   pub answers : r.answer ≡ answer
   pub keeps : r.state ≡ state
-  pub sends : new.messages ≡ old.messages ++ r.sends
+  pub views : q.viewing ≡ viewing
+  pub sends : new.messages ≡ old.messages ++ (r.sends ++ q.sends)
   pub decides : new.decided ≡ old.decided ++ r.decided
   pub ran : new.ran ≡ old.ran ++ accesses_of r.ran
 

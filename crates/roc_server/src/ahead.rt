@@ -1,13 +1,20 @@
-//! What a server made ahead for a message.
-use crate::Handled;
+//! What was planned of a message, and what a server made ahead for one.
 use crate::planned::Change;
+use crate::{Handled, KeptRead};
 use roc_msg::{Msg, Outbox};
 
-// The message, what is answered, what is to change, and what is sent.
+// What is answered, what is to change, what is sent, and the reads that stay, where others stay than are kept.
 #[derive(Drop)]
-pub(crate) struct Ahead {
-    pub msg: Msg,
+pub(crate) struct Outcome {
     pub answer: Handled,
     pub change: Change,
     pub sends: Outbox,
+    pub stays: Option<Vec<KeptRead>>,
+}
+
+// A message, and what comes of it.
+#[derive(Drop)]
+pub(crate) struct Ahead {
+    pub msg: Msg,
+    pub outcome: Outcome,
 }

@@ -11,6 +11,7 @@ ghost use Rattle.roc_server.specs.Inner.Planned.{after, before, AreListsPlanned,
 ghost use Rattle.roc_server.specs.Inner.Forgetting.{Forgets, IsForgettable, IsOverOf};
 ghost use Rattle.roc_server.specs.Inner.ServerData.{state_of, IsConsistent};
 
+use crate::behind::keep_behind;
 use crate::found::keep_found;
 use crate::indexed::{add_group, take_out};
 use crate::learning::unlearn;
@@ -126,7 +127,7 @@ fn keep_settled(kept: &mut ServerData, settlement: Settlement)
         lacks,
         components,
         ids,
-        left,
+        behind,
     } = found;
     kept.marks = marks;
     kept.lacks.take(lacks);
@@ -134,7 +135,7 @@ fn keep_settled(kept: &mut ServerData, settlement: Settlement)
     kept.taken.add(components);
     drop_unless(&mut kept.waits, is_known, &settled);
     kept.rows.release();
-    forget(kept, left);
+    keep_behind(kept, &ids, behind);
 }
 
 // These, which rise, are waited for no longer, unless their list is known.
@@ -160,7 +161,7 @@ fn forget_if_over(kept: &mut ServerData, left: Option<Left>)
 }
 
 // Forgets what is over: it takes what is left in place of what was kept of lists, and leaves out the rest.
-fn forget(kept: &mut ServerData, left: Left)
+pub(crate) fn forget(kept: &mut ServerData, left: Left)
     requires { IsForgettable kept.old left }
     ensures { (f : IsForgettable kept.old left) → Forgets kept.old kept.new f.was }
 {

@@ -10,7 +10,7 @@ ghost use Rattle.roc_server.specs.declared.planned.Change.TheVariants.{Nothing};
 ghost use Rattle.roc_server.specs.Inner.Planned.{after, IsPlannedFrom};
 ghost use Rattle.roc_server.specs.Inner.ServerData.{state_of, IsConsistent, IsSame};
 ghost use Rattle.roc_server.specs.Lists.{after_fetch};
-ghost use Rattle.roc_server.specs.Step.{Shows};
+ghost use Rattle.roc_server.specs.Inner.Shown.{ShowsStep};
 
 use crate::Handled;
 use crate::groups::is_here;
@@ -31,7 +31,7 @@ pub(crate) fn plan_fetch(
     sends: &mut Outbox,
 ) -> Result<Planned, NoMemory>
     requires sound { IsConsistent kept.old }
-    ensures step { IfOk result (λ p. Shows (after_fetch (state_of shard kept.old) id asker) p.answer (after shard kept.new p.change) sends.old sends.new) }
+    ensures step { IfOk result (λ p. ShowsStep (after_fetch (state_of shard kept.old) id asker) p.answer (after shard kept.new p.change) sends.old sends.new) }
     ensures started { IfOk result (λ p. (after shard kept.new p.change).started ≡ kept.old.started.groups) }
     ensures planned { IfOk result (λ p. IsPlannedFrom kept.old kept.new p.change) }
     ensures err { OnErr result (IsSame kept.old kept.new) }

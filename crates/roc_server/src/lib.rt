@@ -1,8 +1,8 @@
 //! A shard's server: the cells of its places, the groups that started there, and the dependency lists that it knows
 //! (`docs/PROTOCOL.md`, "Server" to "Ticks of a server"). Contracts see a [`Server`] as a `ServerState` of plain lists, beside
-//! what was made ahead (`Serving` of `specs/State.antt`), at first `first_server` (`specs/First.antt`), and what comes of a message as a `ServerStep`
-//! that `specs/Step.antt` fixes, case by case (`specs/Start.antt`, `specs/Runs.antt`, `specs/Lists.antt`), and that is
-//! one ([`laws`]).
+//! what it keeps for views and what was made ahead (`Serving` of `specs/State.antt`), at first `first_server` (`specs/First.antt`), and what comes
+//! of a message as a `ServerStep` that `specs/Step.antt` fixes, case by case (`specs/Start.antt`, `specs/Runs.antt`, `specs/Lists.antt`), with the
+//! watermarks that it has heard (`specs/Below.antt`) and what it forgets (`specs/Forgets.antt`), and that is one ([`laws`]).
 //!
 //! The layers above may rely on this: [`Server::handle`] is exactly that step, whatever the message, forged ones too,
 //! under any plan that its groups are of (`ServerFits` of `specs/Fits.antt`, `ServingFits` of `specs/Ahead.antt`), and they stay of it; an ignored message
@@ -15,22 +15,31 @@
 //! [`Server::entries`] gives the entries of a group that would start, and looks at no more started groups than there are
 //! pairs of a cell that it uses and an undecided group of its class that uses that cell (`users` of `specs/Start.antt`).
 //!
+//! Beside its state a server keeps what views need (`Viewing` of `specs/State.antt`): how often each cell was written, and reads that wait.
+//! A read of a view is judged, and changes nothing of the state; it is answered behind the step, its own or a later one, behind which no undecided
+//! group here writes one of its cells, with the cells and the versions as that step leaves them (`AnswersReads` of `specs/Reads.antt`,
+//! which is one, too). ROCOCO (OSDI 2014, on read-only transactions) has a server wait for the conflicting transactions that it knows; here too
+//! no read is answered ahead of such a one. A server without reads that wait pays the counting alone.
+//!
 //! What a server keeps beside its state, so that a step costs what is undecided, is in an invariant of the type and in
 //! no clause. `specs/Inner/` is of this crate alone.
 #![tactic(auto)]
 
 mod ahead;
+mod behind;
 mod changes;
 mod commitoks;
 mod commits;
 mod fetches;
 mod first;
 mod found;
+mod free_reads;
 mod group_key;
 mod groups;
 mod handled;
 mod handling;
 mod indexed;
+mod kept_read;
 pub mod laws;
 mod learning;
 mod left;
@@ -41,6 +50,9 @@ mod missing;
 mod planned;
 mod planning;
 mod ran;
+mod read_answers;
+mod read_refusals;
+mod readoks;
 mod runs;
 mod same_msg;
 mod server;
@@ -52,9 +64,12 @@ mod started_now;
 mod starts;
 mod taken;
 mod teach;
+mod turns;
+mod views;
 mod waiting;
 
 pub use handled::Handled;
+pub use kept_read::KeptRead;
 pub use server::Server;
 pub use started::StartedGroup;
 pub use waiting::Waiting;

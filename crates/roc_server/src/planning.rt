@@ -5,12 +5,14 @@ ghost use Rattle.roc_server.specs.Fits.{AreGroupsOf};
 ghost use Rattle.roc_server.specs.Inner.Planned.{after, IsPlannedFrom};
 ghost use Rattle.roc_server.specs.Inner.ServerData.{state_of, IsConsistent, IsSame};
 ghost use Rattle.roc_server.specs.State.{ServerStep};
-ghost use Rattle.roc_server.specs.Step.{Handles, Shows};
+ghost use Rattle.roc_server.specs.Step.{Handles};
+ghost use Rattle.roc_server.specs.Inner.Shown.{ShowsStep};
 
 use crate::Handled;
 use crate::commits::{plan_commit, plan_known};
 use crate::fetches::plan_fetch;
 use crate::planned::Planned;
+use crate::read_refusals::plan_read;
 use crate::server_data::ServerData;
 use crate::settled::{plan_ended, plan_settled};
 use crate::starts::{Request, plan_start};
@@ -31,7 +33,7 @@ pub(crate) fn plan_message(
     requires kind { needs_room msg.now ≡ true }
     requires fits { AreGroupsOf plan.now kept.old.started.groups }
     requires sound { IsConsistent kept.old }
-    ensures step { IfOk result (λ p. (r : ServerStep) × Handles plan.now (state_of shard kept.old) msg.now r × Shows r p.answer (after shard kept.new p.change) sends.old sends.new) }
+    ensures step { IfOk result (λ p. (r : ServerStep) × Handles plan.now (state_of shard kept.old) msg.now r × ShowsStep r p.answer (after shard kept.new p.change) sends.old sends.new) }
     ensures fits { IfOk result (λ p. AreGroupsOf plan.now (after shard kept.new p.change).started) }
     ensures planned { IfOk result (λ p. IsPlannedFrom kept.old kept.new p.change) }
     ensures err { OnErr result (IsSame kept.old kept.new) }
@@ -63,6 +65,13 @@ pub(crate) fn plan_message(
         Msg::Known { id, edges } => plan_known(alloc, plan, shard, kept, *id, edges, sends),
         Msg::Ended { coord, below } => plan_ended(alloc, kept, *coord, *below, Handled::Done),
         Msg::Settled { id, below } => plan_settled(alloc, plan, shard, kept, *id, *below, sends),
+        Msg::Read {
+            id,
+            round: _,
+            proc,
+            group,
+            args,
+        } => plan_read(alloc, plan, shard, kept, *id, *proc, *group, args),
         _ => unreachable!(),
     }
 }

@@ -73,6 +73,28 @@ pub(crate) fn is_same(a: &Msg, b: &Msg) -> bool
                 below: other_below,
             },
         ) => *id == *other && *below == *other_below,
+        (
+            Msg::Read {
+                id,
+                round,
+                proc,
+                group,
+                args,
+            },
+            Msg::Read {
+                id: other,
+                round: other_round,
+                proc: other_proc,
+                group: other_group,
+                args: other_args,
+            },
+        ) => {
+            *id == *other
+                && *round == *other_round
+                && *proc == *other_proc
+                && *group == *other_group
+                && *args == *other_args
+        }
         _ => false,
     }
 }

@@ -10,7 +10,9 @@ ghost use Rattle.roc_server.specs.Ahead.{HasRoom, ServingFits};
 ghost use Rattle.roc_server.specs.Below.{is_ended};
 ghost use Rattle.roc_server.specs.First.{first_server};
 ghost use Rattle.roc_server.specs.Fits.{ServerFits};
-ghost use Rattle.roc_server.specs.Inner.Planned.{before, kept_before};
+ghost use Rattle.roc_server.specs.Inner.Held.{kept_before};
+ghost use Rattle.roc_server.specs.Inner.Planned.{before};
+ghost use Rattle.roc_server.specs.Reads.{first_viewing, AnswersReads, ReadStep};
 ghost use Rattle.roc_server.specs.Start.{is_immediate, entries_for, users};
 ghost use Rattle.roc_server.specs.State.{ServerStep};
 ghost use Rattle.roc_server.specs.Step.{Handles, Shows, tick_sends};
@@ -25,6 +27,7 @@ use crate::lent_groups::LentGroups;
 use crate::looks::{Starting, entries};
 use crate::planned::Change;
 use crate::server_data::ServerData;
+use crate::views::Views;
 use crate::waiting::{Waiting, all_waiting};
 use roc_await::OpenFetch;
 use roc_base::{Edges, NoMemory, Shard, Steps, TxnId};
@@ -38,29 +41,31 @@ use std::marker::Model;
 use std::sync::ledger::Ledger;
 
 /// The server of a shard, as ROCOCO (OSDI 2014, section 3) has it: it buffers a deferrable group
-/// until its transaction is decided, and runs what is decided in component order.
+/// until its transaction is decided, and runs what is decided in component order. A read of a read-only
+/// transaction waits here, as there, for the transactions that write its cells and are not decided.
 #[derive(Drop)]
 pub struct Server {
     alloc: Global,
     shard: Shard,
     kept: ServerData,
+    views: Views,
     ahead: Option<Ahead>,
 }
 
 impl Model for Server {
     ghost use Rattle.std.specs.Coded.{codes};
-    ghost use Rattle.roc_server.specs.Codes.{coded_state};
+    ghost use Rattle.roc_server.specs.Codes.{coded_state, coded_viewing};
     ghost use Rattle.roc_server.specs.State.{Serving};
 
     ghost Value = { Serving };
 
-    ghost coded = { Prim.hlevel (codes, coded_state) };
+    ghost coded = { Prim.hlevel (codes, coded_state, coded_viewing) };
 
-    ghost use Rattle.roc_server.specs.Inner.Planned.{serving, IsHeld};
+    ghost use Rattle.roc_server.specs.Inner.Held.{serving, CanCount, IsHeld};
 
-    ghost view = { λ s. serving s.shard s.kept s.ahead };
+    ghost view = { λ s. serving s.shard s.kept s.views s.ahead };
 
-    ghost invariant = { λ s. IsHeld s.kept s.ahead };
+    ghost invariant = { λ s. IsHeld s.kept s.ahead × CanCount s.views s.ahead };
 }
 
 impl Server {
@@ -68,6 +73,7 @@ impl Server {
     /// allocator.
     pub fn new(alloc: Global, plan: &Plan, shard: Shard) -> Result<Server, NoMemory>
         ensures first { IfOk result (λ server. server.state ≡ first_server plan.now shard) }
+        ensures views { IfOk result (λ server. server.viewing ≡ first_viewing) }
         ensures none { IfOk result (λ server. server.ahead ≡ None) }
         ensures fits { IfOk result (ServingFits plan.now) }
     {
@@ -76,13 +82,14 @@ impl Server {
             alloc,
             shard,
             kept: ServerData::new(alloc, rows),
+            views: Views::new(alloc),
             ahead: None,
         })
     }
 
     /// Says what [`Server::handle`] will answer to a message, and takes all memory that it takes, the outbox's too: until the server or
     /// the outbox is given something else, that call cannot want memory. Nothing that a caller sees changes. What was made ahead for another
-    /// message is given up. `NoMemory` leaves the state and what `outbox` holds.
+    /// message is given up. `NoMemory` leaves the state, what is kept for views and what `outbox` holds.
     pub fn ready(
         &mut self,
         plan: &Plan,
@@ -93,6 +100,7 @@ impl Server {
         ensures answer { IfOk result (λ answer. (r : ServerStep) × Handles plan.now self.old.state msg.now r × (r.answer ≡ answer)) }
         ensures room { OnOk result (HasRoom self.new outbox.new msg.now) }
         ensures state { self.new.state ≡ self.old.state }
+        ensures views { self.new.viewing ≡ self.old.viewing }
         ensures same { HoldsSame outbox.old outbox.new }
         ensures fits { ServingFits plan.now self.new }
     {
@@ -102,6 +110,7 @@ impl Server {
             plan,
             shard,
             &mut self.kept,
+            &mut self.views,
             &mut self.ahead,
             msg,
             outbox,
@@ -112,9 +121,9 @@ impl Server {
     }
 
     /// Takes a message, finds that it came too late, or ignores it for the first reason that holds. What it sends and what it
-    /// newly decides is added to `outbox`. `NoMemory` leaves the state and what `outbox` holds as
-    /// they were, so the same call may be made again; it does not come where the room is there ([`Server::ready`]). Nothing is made
-    /// ahead then.
+    /// newly decides is added to `outbox`, and behind that the answers to reads of views that are free then. `NoMemory` leaves the state,
+    /// what is kept for views and what `outbox` holds as they were, so the same call may be made again; it does not come where the room is
+    /// there ([`Server::ready`]). Nothing is made ahead then.
     pub fn handle(
         &mut self,
         plan: &Plan,
@@ -122,8 +131,9 @@ impl Server {
         outbox: &mut Outbox,
     ) -> Result<Handled, NodeFault>
         requires fits { ServingFits plan.now self.old }
-        ensures step { IfOk result (λ answer. (r : ServerStep) × Handles plan.now self.old.state msg.now r × Shows r answer self.new.state outbox.old outbox.new) }
-        ensures err { OnErr result ((self.new.state ≡ self.old.state) × HoldsSame outbox.old outbox.new) }
+        ensures step { IfOk result (λ answer. (r : ServerStep) × (q : ReadStep) × Handles plan.now self.old.state msg.now r × AnswersReads plan.now self.old.viewing msg.now r q
+            × Shows r q answer self.new.state self.new.viewing outbox.old outbox.new) }
+        ensures err { OnErr result ((self.new.state ≡ self.old.state) × (self.new.viewing ≡ self.old.viewing) × HoldsSame outbox.old outbox.new) }
         ensures room { HasRoom self.old outbox.old msg.now → IsOk result }
         ensures none { self.new.ahead ≡ None }
         ensures fits { ServingFits plan.now self.new }
@@ -135,6 +145,7 @@ impl Server {
             plan,
             shard,
             &mut self.kept,
+            &mut self.views,
             &mut self.ahead,
             msg,
             outbox,
@@ -227,7 +238,7 @@ fn cells_before(rows: &Rows, ahead: &Option<Ahead>) -> Result<Vec<(Cell, i64)>, 
     ensures { IfOk result (λ cells. (kept : ServerData) → kept.rows ≡ rows.now → cells.items ≡ entries (kept_before kept ahead.now).rows.store) }
 {
     match ahead {
-        Some(made) => cells_before_change(rows, &made.change),
+        Some(made) => cells_before_change(rows, &made.outcome.change),
         None => rows.nonzero(),
     }
 }

@@ -1,6 +1,8 @@
 //! Watermarks, and transactions for which nobody has to wait any more.
-ghost use Rattle.std.specs.Prelude.{◌≡◌, ◌++◌, ◌&&◌, not, map, filter, IfOk, OnOk, OnErr};
+ghost use Rattle.std.specs.Prelude.{◌≡◌, ◌&&◌, [], false, not, filter, IfOk, OnOk, OnErr};
 ghost use Rattle.std.specs.List.Sorted.{IsStrictlySortedBy};
+ghost use Rattle.roc_await.specs.Lacks.{AreLacks};
+ghost use Rattle.roc_await.specs.Learning.{AreLearnable};
 ghost use Rattle.roc_base.specs.TxnId.{is_txn, txn_cmp};
 ghost use Rattle.roc_base.specs.declared.id.TxnId.{TxnId as Id};
 ghost use Rattle.roc_msg.specs.Outbox.{HoldsSame};
@@ -10,14 +12,15 @@ ghost use Rattle.roc_server.specs.Fits.{AreGroupsOf};
 ghost use Rattle.roc_server.specs.Inner.Planned.{after, IsPlannedFrom, IsSettledFrom};
 ghost use Rattle.roc_server.specs.Inner.Runs.{restored};
 ghost use Rattle.roc_server.specs.Inner.ServerData.{is_same_group, IsConsistent, IsRight, IsSame};
-ghost use Rattle.roc_server.specs.Inner.Settled.{IsDeciding, IsHearing, IsSettling, Settles, SettlesRuns};
+ghost use Rattle.roc_server.specs.Inner.Settled.{links_settled, AreUnknown, HasNewlyDecided, HasRoomToSettle, IsDeciding, IsHearing, IsSettling, Settles, SettlesRuns};
 ghost use Rattle.roc_server.specs.Inner.Taught.{KeepsBesideRuns};
 ghost use Rattle.roc_server.specs.declared.handled.Handled.TheVariants.{Done};
 ghost use Rattle.roc_server.specs.declared.planned.Change.TheVariants.{Settled};
 
 use crate::Handled;
+use crate::behind::{Behind, count_of_rows, find_behind};
 use crate::commitoks::send_commitoks;
-use crate::left::{Left, left_if_over, left_of, over_among};
+use crate::left::{left_if_over, over_among};
 use crate::marks::Marks;
 use crate::missing::was_asked_for;
 use crate::planned::{Change, Heard, Planned, Settlement};
@@ -35,7 +38,8 @@ use roc_server_lists::{Decided, links_without, newly_taken};
 use std::alloc::Global;
 
 // What comes of a settled transaction: the watermarks; the transaction itself, where its watermark ends it, and whether its list is
-// known; what the others lack then; the components that become decided, and the transactions in them, one after another; and what is left.
+// known; what the others lack then; the components that become decided, and the transactions in them, one after another; and what is
+// followed behind it.
 #[derive(Drop)]
 pub(crate) struct Settling {
     pub marks: Marks,
@@ -44,7 +48,7 @@ pub(crate) struct Settling {
     pub lacks: NextLacks,
     pub components: Vec<Sequence<TxnId>>,
     pub ids: Vec<TxnId>,
-    pub left: Left,
+    pub behind: Behind,
 }
 
 // What is followed once entries are done, and what comes of it.
@@ -98,7 +102,6 @@ pub(crate) fn plan_settled(
         return plan_ended(alloc, kept, id.coord, mark, Handled::Gone);
     }
     let settling = find_settled(alloc, kept, id, mark)?;
-    kept.taken.reserve(settling.components.len())?;
     plan_runs(alloc, plan, shard, kept, settling, sends)
 }
 
@@ -120,7 +123,7 @@ fn plan_runs(
 {
     kept.rows.savepoint();
     let mut earlier = Vec::new(alloc);
-    match act_on_settled(alloc, plan, shard, kept, &settling.ids, &mut earlier, sends) {
+    match act_on_settled(alloc, plan, shard, kept, &settling, &mut earlier, sends) {
         Ok(()) => Ok(settlement(settling, earlier)),
         Err(fault) => {
             kept.rows.rollback();
@@ -141,34 +144,47 @@ fn settlement(found: Settling, earlier: Vec<Earlier>) -> Planned
     }
 }
 
-// Runs what is decided, and gathers what is sent.
+// Runs what is decided, gathers what is sent, and takes the room for what is to be kept.
 fn act_on_settled(
     alloc: Global,
     plan: &Plan,
     shard: Shard,
     kept: &mut ServerData,
-    ids: &[TxnId],
+    found: &Settling,
     earlier: &mut Vec<Earlier>,
     sends: &mut Outbox,
 ) -> Result<(), NoMemory>
     requires fits { AreGroupsOf plan.now kept.old.started.groups }
     requires once { NoneTwice is_same_group kept.old.started.groups }
-    ensures ok { OnOk result (SettlesRuns plan.now shard kept.old kept.new sends.old sends.new ids.now) }
+    ensures ok { OnOk result (SettlesRuns plan.now shard kept.old kept.new sends.old sends.new found.now.ids.items) }
+    ensures room { OnOk result (HasRoomToSettle kept.new found.now) }
     ensures beside { KeepsBesideRuns kept.old kept.new }
     ensures restored { restored earlier.new.items kept.new.started.groups ≡ restored earlier.old.items kept.old.started.groups }
     ensures saved { kept.new.rows.saved ≡ kept.old.rows.saved }
-    ensures spare { kept.new.taken ≡ kept.old.taken }
 {
     run_decided(
         alloc,
         plan,
-        ids,
+        &found.ids,
         &mut kept.started,
         &mut kept.rows,
         earlier,
         sends,
     )?;
-    send_commitoks(alloc, plan, shard, &kept.started, ids, sends)
+    send_commitoks(alloc, plan, shard, &kept.started, &found.ids, sends)?;
+    make_room_behind(kept, found)
+}
+
+// Takes the memory ahead that is needed to keep what was found.
+fn make_room_behind(kept: &mut ServerData, found: &Settling) -> Result<(), NoMemory>
+    ensures beside { KeepsBesideRuns kept.old kept.new }
+    ensures rows { kept.new.rows ≡ kept.old.rows }
+    ensures started { kept.new.started.groups ≡ kept.old.started.groups }
+    ensures room { OnOk result (HasRoomToSettle kept.new found.now) }
+{
+    kept.taken.reserve(found.components.len())?;
+    kept.decided.reserve(found.ids.len())?;
+    kept.ancestors.reserve(count_of_rows(&found.behind))
 }
 
 // Finds what comes of a settled transaction.
@@ -183,23 +199,22 @@ fn find_settled(
 {
     let marks = kept.marks.raised(id.coord, mark);
     let settled = if_ended(alloc, &marks, id)?;
+    let is_known = kept.known.list(id).is_some();
     let Deciding {
         links,
         lacks,
         components,
         ids,
-    } = find_decided(alloc, kept, &settled)?;
-    let taken = kept.taken.as_slice();
-    let over = over_among(alloc, &marks, taken, &components)?;
-    let left = left_of(alloc, &kept.known, &links, taken, &components, over)?;
+    } = find_decided(alloc, kept, is_known, &settled)?;
+    let behind = find_behind(alloc, kept, &marks, is_known, links, &components, &ids)?;
     Ok(Settling {
         marks,
         settled,
-        is_known: kept.known.list(id).is_some(),
+        is_known,
         lacks,
         components,
         ids,
-        left,
+        behind,
     })
 }
 
@@ -215,14 +230,20 @@ fn if_ended(alloc: Global, marks: &Marks, id: TxnId) -> Result<Vec<TxnId>, NoMem
     Ok(ids)
 }
 
-// Finds what becomes decided where the entries that name these, which rise, are done.
-fn find_decided(alloc: Global, kept: &ServerData, settled: &[TxnId]) -> Result<Deciding, NoMemory>
+// Finds what becomes decided where the entries that name these, which rise, are done. Unless one of these is known, none is.
+fn find_decided(
+    alloc: Global,
+    kept: &ServerData,
+    is_known: bool,
+    settled: &[TxnId],
+) -> Result<Deciding, NoMemory>
     requires right { IsRight kept.now }
     requires rising { IsStrictlySortedBy txn_cmp settled.now }
+    requires unknown { is_known ≡ false → AreUnknown kept.now.links settled.now }
     ensures { IfOk result (IsDeciding kept.now settled.now) }
 {
     let links = links_without(alloc, &kept.known, &kept.links, &[], settled)?;
-    let lacks = Lacks::new(alloc).ready(&links, kept.known.ids())?;
+    let lacks = find_lacks(alloc, kept, &links, is_known, settled)?;
     let newly = not_among(alloc, lacks.decided(), &kept.decided)?;
     let components = newly_taken(alloc, &links, &newly)?;
     let mut ids = Vec::new(alloc);
@@ -233,6 +254,28 @@ fn find_decided(alloc: Global, kept: &ServerData, settled: &[TxnId]) -> Result<D
         components,
         ids,
     })
+}
+
+// Finds what the others lack by what is followed then, and what is decided. Where no list of these is known, this is found from what was lacking.
+fn find_lacks(
+    alloc: Global,
+    kept: &ServerData,
+    links: &Deps,
+    is_known: bool,
+    settled: &[TxnId],
+) -> Result<NextLacks, NoMemory>
+    requires right { IsRight kept.now }
+    requires links { links.now ≡ links_settled kept.now.links settled.now }
+    requires learnable { AreLearnable [] links.now }
+    requires unknown { is_known ≡ false → AreUnknown kept.now.links settled.now }
+    ensures lacks { IfOk result (λ next. AreLacks links.now next.lacks) }
+    ensures decided { IfOk result (λ next. HasNewlyDecided kept.now.links links.now next.decided) }
+{
+    if !is_known {
+        return kept.lacks.without(settled);
+    }
+    let next = Lacks::new(alloc).ready(links, kept.known.ids())?;
+    Ok(next)
 }
 
 // Those of these that were not decided before.

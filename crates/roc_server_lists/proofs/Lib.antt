@@ -9,7 +9,7 @@ pub mod LeastNaming
 mod KnownEntries
 mod LinksLeft
 mod NewsOfFacts
-mod RisingIds
+pub mod RisingIds
 pub mod SameIds
 pub mod Skipped
 pub mod TakenNew

@@ -116,3 +116,7 @@ ids_added old ids new added =
 pub no_ids : (xs : List TxnId) → xs ≡ [] → rising_ids xs ≡ []
 unfolding rising_ids
 no_ids xs e = ap rising_ids e
+
+-- so each list has a rising one with the same members
+pub some_rising : (xs : List TxnId) → (ys : List TxnId) × IsRisingListOf (IsListed is_txn xs) ys
+some_rising xs = (rising_ids xs, rising_of xs)

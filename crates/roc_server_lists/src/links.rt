@@ -1,5 +1,6 @@
 //! What is followed of known lists.
 ghost use Rattle.std.specs.Prelude.{◌≡◌, ◌++◌, ◌∷◌, [], not, map, filter, None, IfOk, OnOk, OnErr};
+ghost use Rattle.std.specs.List.{list_any};
 ghost use Rattle.std.specs.List.Sorted.{IsStrictlySortedBy};
 ghost use Rattle.roc_await.specs.Learning.{AreLearnable};
 ghost use Rattle.roc_base.specs.TxnId.{is_txn, txn_cmp};
@@ -102,14 +103,25 @@ fn learn_link(
     ensures ok { OnOk result (links.new ≡ links.old ++ without_links (is_listed is_txn done.now) (list_with of edges.now) ∷ []) }
     ensures err { OnErr result (links.new ≡ links.old) }
 {
-    // Nearly always nothing is done, and the list is copied as it is.
-    if done.is_empty() {
+    // Nearly always it names nothing that is done, and is copied as it is.
+    if !names_any(edges, done) {
         links.learn(of, edges)?;
         return Ok(());
     }
     let followed = followed_of(alloc, edges, done)?;
     links.learn(of, &followed)?;
     Ok(())
+}
+
+// Whether an entry names one of these, which rise.
+fn names_any(edges: &Edges, done: &[TxnId]) -> bool
+    requires { IsStrictlySortedBy txn_cmp done.now }
+    ensures { result ≡ list_any (λ d. is_listed is_txn done.now d.from) edges.now }
+{
+    edges
+        .as_slice()
+        .iter()
+        .any(|edge| is_among_rising(done, edge.from()))
 }
 
 // A list without the entries that name one of these, which rise.

@@ -26,6 +26,18 @@ proc two(n) {
 }
 ";
 
+// A counter, and a view of it and of another cell, which is read first.
+const LOOKED_AT: &[u8] = b"shards 1;
+table t { x }
+table u { y }
+init u[0,0].y = 7;
+proc add(n) { later a at 0 { get v = t[0].x; set t[0].x = v + n; out v; } }
+proc look() view {
+  later b at 0 { get w = u[0].y; out w; }
+  later a at 0 { get v = t[0].x; out v; }
+}
+";
+
 /// The workload of a text.
 pub(crate) fn workload_of(alloc: Global, text: &[u8]) -> Result<Workload, Fail> {
     let source = parse(alloc, text)?;
@@ -48,4 +60,9 @@ pub(crate) fn counter(alloc: Global) -> Result<Plan, Fail> {
 /// The plan of a procedure of two groups on one shard.
 pub(crate) fn twins(alloc: Global) -> Result<Plan, Fail> {
     plan_of(alloc, TWINS)
+}
+
+/// The plan of the counter that is looked at.
+pub(crate) fn looked_at(alloc: Global) -> Result<Plan, Fail> {
+    plan_of(alloc, LOOKED_AT)
 }

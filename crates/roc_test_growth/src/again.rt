@@ -18,11 +18,12 @@ fn lengths(outbox: &Outbox) -> (usize, usize, usize) {
     )
 }
 
-/// A transaction of the first procedure is submitted.
+/// A call of a procedure is submitted.
 pub(crate) fn submit(
     rt: &impl Abort,
     plan: &Plan,
     coord: &mut Coord,
+    proc: u16,
     args: &[i64],
     outbox: &mut Outbox,
 ) -> Result<TxnId, SubmitFault>
@@ -30,10 +31,10 @@ pub(crate) fn submit(
     ensures { CoordFits plan.now coord.new }
 {
     let before = lengths(outbox);
-    match coord.submit(plan, 0, args, outbox) {
+    match coord.submit(plan, proc, args, outbox) {
         Err(SubmitFault::NoMemory) => {
             assert_eq!(rt; lengths(outbox), before);
-            coord.submit(plan, 0, args, outbox)
+            coord.submit(plan, proc, args, outbox)
         }
         answer => answer,
     }

@@ -235,3 +235,32 @@ proc pay(f,t,n) {
 fn transactions_that_are_forgotten(rt: HostRuntime) {
     passes(&rt, rt.alloc(), &FORGOTTEN)
 }
+
+// Two views look while an addition is undecided, one of them again at a tick; what both read in their first round is answered behind the commit.
+const LOOKED_AT: Case = Case {
+    workload: b"shards 1;
+table t { x }
+proc add(n) { later a at 0 { get v = t[0].x; set t[0].x = v + n; out v; } }
+proc look() view { later a at 0 { get v = t[0].x; out v; } }
+",
+    coords: 2,
+    events: &[
+        Event::Submit(0, &[5]),
+        Event::Deliver(1, 1),
+        Event::Look(0),
+        Event::Look(1),
+        Event::Deliver(3, 4),
+        Event::Tick(Node::Coord(1)),
+        Event::Deliver(5, 5),
+        Event::Deliver(2, 2),
+        Event::Deliver(6, 13),
+    ],
+    replies: &[(FIRST, &[0]), (LATER, &[5]), (SECOND, &[5])],
+    messages: 13,
+    order: &[FIRST],
+};
+
+#[test]
+fn views_beside_an_addition(rt: HostRuntime) {
+    passes(&rt, rt.alloc(), &LOOKED_AT)
+}

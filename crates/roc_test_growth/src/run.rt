@@ -21,6 +21,8 @@ pub(crate) enum Event {
     Submit(u16, &'static [i64]),
     /// It is refused, since too many are unanswered.
     Busy(u16, &'static [i64]),
+    /// A view, of the second procedure, is submitted, and accepted.
+    Look(u16),
     /// The messages from a number to another are delivered, in order.
     Deliver(usize, usize),
     Tick(Node),
@@ -61,6 +63,7 @@ fn submit_at(
     plan: &Plan,
     coords: &mut Vec<Coord>,
     at: usize,
+    proc: u16,
     args: &[i64],
     outbox: &mut Outbox,
 ) -> Result<TxnId, SubmitFault>
@@ -68,7 +71,7 @@ fn submit_at(
     ensures { AllByRecursion (CoordFits plan.now) coords.new.items }
 {
     assert!(rt; at < coords.len());
-    submit(rt, plan, &mut coords[at], args, outbox)
+    submit(rt, plan, &mut coords[at], proc, args, outbox)
 }
 
 fn tick_server_at(
@@ -193,11 +196,15 @@ fn happen(rt: &impl Abort, plan: &Plan, run: &mut Run, event: Event)
     match event {
         Event::Submit(coord, args) => {
             let (coords, outbox) = (&mut run.coords, &mut run.outbox);
-            assert!(rt; submit_at(rt, plan, coords, usize::from(coord), args, outbox).is_ok());
+            assert!(rt; submit_at(rt, plan, coords, usize::from(coord), 0, args, outbox).is_ok());
+        }
+        Event::Look(coord) => {
+            let (coords, outbox) = (&mut run.coords, &mut run.outbox);
+            assert!(rt; submit_at(rt, plan, coords, usize::from(coord), 1, &[], outbox).is_ok());
         }
         Event::Busy(coord, args) => {
             let (coords, outbox) = (&mut run.coords, &mut run.outbox);
-            let answer = submit_at(rt, plan, coords, usize::from(coord), args, outbox);
+            let answer = submit_at(rt, plan, coords, usize::from(coord), 0, args, outbox);
             assert_eq!(rt; answer, Err(SubmitFault::Busy));
         }
         Event::Deliver(first, last) => deliver_all(rt, plan, run, first, last),

@@ -1,6 +1,7 @@
 -- What an event leaves in the fields of a world is what the definitions say
-use Rattle.std.proofs.Common.{◌≡◌, ℕ, ℤ, zero, suc, ◌-◌, ◌<◌, ◌==◌, not, List, [], ◌∷◌, ◌++◌, Option, Some, None, Result, Ok, Err, length, map, filter, get_or, slice_get, slice_set, refl, sym, ap, subst, ◌∙◌}
+use Rattle.std.proofs.Common.{◌≡◌, ℕ, ℤ, true, zero, suc, ◌-◌, ◌<◌, ◌==◌, not, List, [], ◌∷◌, ◌++◌, Option, Some, None, Result, Ok, Err, length, map, filter, get_or, slice_get, slice_set, refl, sym, ap, subst, ◌∙◌}
 use Rattle.std.proofs.lemmas.List.{append-nil}
+use Rattle.std.specs.Prelude.{Bool, false, if◌then◌else◌}
 use Rattle.std.proofs.lemmas.Option.{slice_get-get_or}
 use Rattle.roc_base.specs.declared.id.TxnId.{TxnId}
 use Rattle.roc_base.specs.declared.node.Node.{Node}
@@ -8,7 +9,9 @@ use Rattle.roc_base.specs.declared.node.Node.TheVariants.{Server, Coord}
 use Rattle.roc_base.specs.declared.node.Shard.{Shard}
 use Rattle.roc_msg.specs.declared.msg.Envelope.{Envelope}
 use Rattle.roc_msg.specs.Outbox.{Collected}
-use Rattle.roc_plan.specs.Groups.{Plan}
+use Rattle.roc_plan.specs.Groups.{Plan, is_transaction, is_view_of}
+use Rattle.roc_readonly.specs.Round.{first_round}
+use Rattle.roc_coord.specs.Submit as submit
 use Rattle.roc_server.specs.declared.handled.Handled.{Handled as ServerHandled}
 use Rattle.roc_server.specs.State.{answered, ServerState}
 use Rattle.roc_server.specs.Step as server
@@ -24,8 +27,11 @@ use Rattle.roc_audit.specs.declared.entry.Entry.TheVariants as entry
 use Rattle.roc_protocol.specs.declared.event.Event.TheVariants.{Submit, Deliver, Tick}
 use Rattle.roc_protocol.specs.declared.event.Seen.{Seen}
 use Rattle.roc_protocol.specs.declared.event.Seen.TheVariants as seen
+use Rattle.roc_protocol.specs.Aside.{after_transaction, transaction_tick_sends}
+use Rattle.roc_protocol.specs.Fits.{IsPlain}
+use Rattle.roc_protocol.proofs.PlainSteps.{transaction_submitted, tick_plain}
 use Rattle.roc_protocol.specs.World.{World, sends, mark_delivered, at_server, at_coord}
-use Rattle.roc_protocol.specs.Happens.{ran_at, Outcome, undecided, Submits, server_seen, coord_seen, answer_entries, served, coordinated, IsReceived}
+use Rattle.roc_protocol.specs.Happens.{ran_at, Outcome, undecided, Submits, IsSubmissionOf, server_seen, coord_seen, answer_entries, served, coordinated, IsReceived}
 use Rattle.roc_world.specs.Inner.Messages.{Messages}
 use Rattle.roc_world.specs.Inner.Nodes.{ServerTakes, CoordTakes, CoordSubmits, CoordTicks, ServerTicks}
 use Rattle.roc_world.specs.Inner.Parts.{Leads}
@@ -93,11 +99,12 @@ module _ (plan : Plan) (w : World) where
 
   pub coord_ticks :
       (number : ℕ) (what : Seen) (coords : List CoordState) (before out : Collected) (after : World)
+      → ((s : CoordState) → slice_get w.coords number ≡ Some s → IsPlain s)
       → before.messages ≡ [] → CoordTicks plan number w.coords coords before out → what ≡ seen.Done → after ≡ sends (record w { coords = coords }) (Coord number) out.messages
       → Leads plan w (Tick (Coord number)) what after
-  coord_ticks number what coords before out after none ticks sees after_is =
-      let tells = coord.tick_sends plan ticks.coord in
-      let outs : out.messages ≡ tells = ticks.sent.0 ∙ ap (λ xs. xs ++ tells) none in
+  coord_ticks number what coords before out after plain none ticks sees after_is =
+      let tells = transaction_tick_sends plan ticks.coord in
+      let outs : out.messages ≡ tells = ticks.sent.0 ∙ (ap (λ xs. xs ++ coord.tick_sends plan ticks.coord) none ∙ tick_plain plan ticks.coord (plain ticks.coord ticks.there)) in
       let others = ticks.others in
       let world_is : after ≡ at_coord w number ticks.coord tells [] = after_is ∙ (λ i. record (sends (record w { coords = others i }) (Coord number) (outs i)) { history = sym (append-nil w.history) i }) in
       let is : record { seen = what; components = []; decided = []; ran = []; world = after } ≡ undecided seen.Done (at_coord w number ticks.coord tells []) =
@@ -106,7 +113,11 @@ module _ (plan : Plan) (w : World) where
 
   -- ---- a submission
 
-  module _ (number proc : ℕ) (args : List ℤ) (coords : List CoordState) (before out : Collected) where
+  module _ (number proc : ℕ) (args : List ℤ) (coords : List CoordState) (before out : Collected) (known : is_transaction plan proc ≡ true) where
+    -- it is one of a transaction
+    submits_transaction : (s : CoordState) (o : Outcome) → IsSubmissionOf w number proc args (after_submit plan s proc args) o → IsSubmissionOf w number proc args (after_transaction plan s proc args) o
+    submits_transaction s o h = subst (λ r. IsSubmissionOf w number proc args r o) (sym (transaction_submitted plan s proc args known)) h
+
     abbrev Submitting : Result TxnId SubmitFault → Type 0
     Submitting answer = CoordSubmits plan number proc args answer w.coords coords before out
 
@@ -115,7 +126,11 @@ module _ (plan : Plan) (w : World) where
       where
         go : (o : Option SubmitFault) → Err why ≡ (refused_or_accepted plan s proc args o).answer → (refused_or_accepted plan s proc args o).state ≡ s
         go (Some f) e = refl
-        go None e = absurd (cc)
+        go None e = absurd (accepts (is_view_of plan proc) e)
+          where
+            accepts : (b : Bool) → Err why ≡ (if b then submit.accepted_view plan s (first_round (submit.next_id s) proc args) else submit.accepted plan s (submit.new_transaction s proc args)).answer → ⊥
+            accepts true e = cc
+            accepts false e = cc
 
     -- a refused submission changes nothing
     coords_same : (why : SubmitFault) → Submitting (Err why) → coords ≡ w.coords
@@ -137,7 +152,7 @@ module _ (plan : Plan) (w : World) where
         let o : Outcome = record { seen = what; components = []; decided = []; ran = []; world = after } in
         let is : o ≡ undecided (seen.Submitted id) (at_coord w number r.state r.sends (entry.Submitted id proc args ∷ [])) =
         λ i. record { seen = sees i; components = []; decided = []; ran = []; world = world_is i } in
-        ([], [], [], (s.coord, s.there, subst (λ answer. Submits w number proc args r.state r.sends answer o) s.submitted.answer is))
+        ([], [], [], (s.coord, s.there, submits_transaction s.coord o (subst (λ answer. Submits w number proc args r.state r.sends answer o) s.submitted.answer is)))
 
     spent : Submitting (Err fault.Spent) → Leads plan w (Submit number proc args) seen.Spent (record w { coords = coords })
     spent s =
@@ -145,7 +160,7 @@ module _ (plan : Plan) (w : World) where
         let same = coords_same fault.Spent s in
         let o : Outcome = record { seen = seen.Spent; components = []; decided = []; ran = []; world = record w { coords = coords } } in
         let is : o ≡ undecided seen.Spent w = λ i. record { seen = seen.Spent; components = []; decided = []; ran = []; world = record w { coords = same i } } in
-        ([], [], [], (s.coord, s.there, subst (λ answer. Submits w number proc args r.state r.sends answer o) s.submitted.answer is))
+        ([], [], [], (s.coord, s.there, submits_transaction s.coord o (subst (λ answer. Submits w number proc args r.state r.sends answer o) s.submitted.answer is)))
 
     busy : Submitting (Err fault.Busy) → Leads plan w (Submit number proc args) seen.Busy (record w { coords = coords })
     busy s =
@@ -153,7 +168,7 @@ module _ (plan : Plan) (w : World) where
         let same = coords_same fault.Busy s in
         let o : Outcome = record { seen = seen.Busy; components = []; decided = []; ran = []; world = record w { coords = coords } } in
         let is : o ≡ undecided seen.Busy w = λ i. record { seen = seen.Busy; components = []; decided = []; ran = []; world = record w { coords = same i } } in
-        ([], [], [], (s.coord, s.there, subst (λ answer. Submits w number proc args r.state r.sends answer o) s.submitted.answer is))
+        ([], [], [], (s.coord, s.there, submits_transaction s.coord o (subst (λ answer. Submits w number proc args r.state r.sends answer o) s.submitted.answer is)))
 
     -- the same of arguments that are these
     module _ (given : List ℤ) (same : given ≡ args) (why : SubmitFault) (submits : UnlessNoMemory (Err why) (CoordSubmits plan number proc given (Err why) w.coords coords before out)) where

@@ -1,3 +1,4 @@
+mod NoReads
 pub mod Numbers
 pub mod Sending
 pub mod FirstNodes

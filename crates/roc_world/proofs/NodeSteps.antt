@@ -6,7 +6,7 @@ use Rattle.roc_msg.specs.Outbox.{Collected, HasSent}
 use Rattle.roc_plan.specs.Groups.{Plan}
 use Rattle.roc_server.specs.declared.handled.Handled.{Handled}
 use Rattle.roc_server.specs.State.{ServerState, ServerStep}
-use Rattle.roc_server.specs.Step.{Handles, Shows, tick_sends}
+use Rattle.roc_server.specs.Step.{Handles, tick_sends}
 use Rattle.roc_base.specs.declared.id.TxnId.{TxnId}
 use Rattle.roc_coord.specs.declared.handled.Handled.{Handled as CoordHandled}
 use Rattle.roc_coord.specs.declared.handled.SubmitFault.{SubmitFault}
@@ -14,18 +14,18 @@ use Rattle.roc_coord.specs.declared.handled.SubmitFault.TheVariants as fault
 use Rattle.roc_coord.specs.State.{CoordState}
 use Rattle.roc_coord.specs.Step.{after_message, IsOutcome}
 use Rattle.roc_coord.specs.Submit.{after_submit, IsSubmitted, UnlessNoMemory}
-use Rattle.roc_world.specs.Inner.Nodes.{ServerTakes, CoordTakes, CoordSubmits, ServerTicks}
+use Rattle.roc_world.specs.Inner.Nodes.{ShowsStep, ServerTakes, CoordTakes, CoordSubmits, ServerTicks}
 
 pub server_takes :
     (plan : Plan) (servers : List ServerState) (shard : ℕ) (s after : ServerState) (msg : Msg) (answer : Handled) (before out : Collected) → shard < length servers → s ≡ get_or servers shard s
-    → (r : ServerStep) × Handles plan s msg r × Shows r answer after before out → ServerTakes plan shard msg answer servers (slice_set servers shard after) before out
+    → (r : ServerStep) × Handles plan s msg r × ShowsStep r answer after before out → ServerTakes plan shard msg answer servers (slice_set servers shard after) before out
 server_takes plan servers shard s after msg answer before out within is (r, handles, shows) =
     record {
       server = s;
       there = slice_get-get_or servers shard s within ∙ ap Some (sym is);
       step = r;
       handles = handles;
-      shows = record { answers = shows.answers; keeps = refl; sends = shows.sends; decides = shows.decides; ran = shows.ran };
+      shows = record { answers = shows.answers; keeps = refl; sends = shows.sends; decides = shows.decides };
       others = ap (slice_set servers shard) (sym shows.keeps);
     }
 

@@ -4,7 +4,6 @@ use Rattle.std.specs.List.{flat_map}
 use Rattle.roc_base.specs.declared.id.TxnId.{TxnId}
 use Rattle.roc_rows.specs.declared.cell.Cell.{Cell}
 use Rattle.roc_rows.specs.Store.{entries}
-use Rattle.roc_coord.specs.Ids.{ids_of}
 use Rattle.roc_protocol.specs.World.{World}
 
 -- the cells that are not 0, shard by shard
@@ -13,4 +12,4 @@ cells_of w = flat_map (λ s. entries s.store) w.servers
 
 -- the transactions without a reply, coordinator by coordinator
 abbrev pub unanswered_of : World → List TxnId
-unanswered_of w = flat_map (λ c. ids_of c.pending) w.coords
+unanswered_of w = flat_map (λ c. c.unanswered) w.coords

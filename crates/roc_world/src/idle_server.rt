@@ -5,7 +5,9 @@ ghost use Rattle.roc_rows.specs.Store.{entries};
 ghost use Rattle.roc_server.specs.First.{first_server};
 ghost use Rattle.roc_server.specs.Fits.{ServerFits};
 ghost use Rattle.roc_server.specs.State.{ServerStep};
-ghost use Rattle.roc_server.specs.Step.{Handles, Shows, tick_sends};
+ghost use Rattle.roc_server.specs.Step.{Handles, tick_sends};
+ghost use Rattle.roc_protocol.specs.Aside.{IsNoRead};
+ghost use Rattle.roc_world.specs.Inner.Nodes.{ShowsStep};
 
 use roc_base::{NoMemory, Shard};
 use roc_msg::{Msg, NodeFault, Outbox};
@@ -15,14 +17,14 @@ use roc_server::{Handled, Server};
 use std::alloc::Global;
 use std::marker::Model;
 
-// A server that makes nothing ahead: what it keeps is all that there is of it.
+// A server that makes nothing ahead, and on which no read waits, as none comes: its state is all that counts of it.
 #[derive(Drop)]
 pub(crate) struct IdleServer {
     server: Server,
 }
 
 impl Model for IdleServer {
-    ghost use Rattle.std.specs.Prelude.{◌≡◌, None};
+    ghost use Rattle.std.specs.Prelude.{◌≡◌, None, []};
     ghost use Rattle.roc_server.specs.Codes.{coded_state};
     ghost use Rattle.roc_server.specs.State.{ServerState};
 
@@ -32,7 +34,7 @@ impl Model for IdleServer {
 
     ghost view = { λ s. s.server.state };
 
-    ghost invariant = { λ s. s.server.ahead ≡ None };
+    ghost invariant = { λ s. (s.server.ahead ≡ None) × (s.server.viewing.reads ≡ []) };
 }
 
 impl IdleServer {
@@ -44,15 +46,16 @@ impl IdleServer {
         Ok(IdleServer { server })
     }
 
-    // Takes a message, or ignores it.
+    // Takes a message that reads for no view, or ignores it.
     pub(crate) fn handle(
         &mut self,
         plan: &Plan,
         msg: &Msg,
         outbox: &mut Outbox,
     ) -> Result<Handled, NodeFault>
-        requires { ServerFits plan.now self.old }
-        ensures { IfOk result (λ answer. (r : ServerStep) × Handles plan.now self.old msg.now r × Shows r answer self.new outbox.old outbox.new) }
+        requires fits { ServerFits plan.now self.old }
+        requires no_read { IsNoRead msg.now }
+        ensures { IfOk result (λ answer. (r : ServerStep) × Handles plan.now self.old msg.now r × ShowsStep r answer self.new outbox.old outbox.new) }
     {
         self.server.handle(plan, msg, outbox)
     }

@@ -6,6 +6,7 @@ ghost use Rattle.roc_server.specs.Fits.{ServerFits};
 ghost use Rattle.roc_coord.specs.State.{first_coord};
 ghost use Rattle.roc_coord.specs.Fits.{CoordFits};
 ghost use Rattle.roc_coord.specs.Submit.{UnlessNoMemory};
+ghost use Rattle.roc_protocol.specs.Aside.{IsNoRead};
 ghost use Rattle.roc_world.specs.Inner.Nodes.{ServerTakes, CoordTakes, CoordSubmits, ServerTicks, CoordTicks};
 
 use crate::idle_server::IdleServer;
@@ -42,7 +43,7 @@ pub(crate) fn first_coords(alloc: Global, count: u16) -> Result<Vec<Coord>, Allo
     Ok(coords)
 }
 
-/// A message comes to the server of a shard.
+/// A message that reads for no view comes to the server of a shard.
 pub(crate) fn handle_at_server(
     plan: &Plan,
     servers: &mut Vec<IdleServer>,
@@ -52,6 +53,7 @@ pub(crate) fn handle_at_server(
 ) -> Result<ServerHandled, NoMemory>
     requires exists { shard.0 < length servers.old.items }
     requires fits { AllByRecursion (ServerFits plan.now) servers.old.items }
+    requires no_read { IsNoRead msg.now }
     ensures { IfOk result (λ answer. ServerTakes plan.now shard.0 msg.now answer servers.old.items servers.new.items outbox.old outbox.new) }
 {
     let Ok(handled) = servers[shard.0 as usize].handle(plan, msg, outbox) else {

@@ -2,7 +2,6 @@
 ghost use Rattle.std.specs.Prelude.{◌≡◌, IfOk};
 ghost use Rattle.std.specs.List.{flat_map};
 ghost use Rattle.roc_rows.specs.Store.{entries};
-ghost use Rattle.roc_coord.specs.Ids.{ids_of};
 
 use crate::idle_server::IdleServer;
 use roc_base::{NoMemory, TxnId};
@@ -23,7 +22,7 @@ pub(crate) fn cells_of(alloc: Global, servers: &[IdleServer]) -> Result<Vec<(Cel
 
 /// The transactions without a reply, coordinator by coordinator.
 pub(crate) fn unanswered_of(alloc: Global, coords: &[Coord]) -> Result<Vec<TxnId>, NoMemory>
-    ensures { IfOk result (λ ids. ids.items ≡ flat_map (λ c. ids_of c.pending) coords.now) }
+    ensures { IfOk result (λ ids. ids.items ≡ flat_map (λ c. c.unanswered) coords.now) }
 {
     let mut ids = Vec::new(alloc);
     for coord in coords {

@@ -15,7 +15,14 @@ pub record AreLacksSince (before known : List KnownList) (lacks : List Lack) : T
   pub undecided : (l : Lack) → Has l lacks → ¬ IsDecided before l.of
   pub all : (t : TxnId) → IsKnown known t → IsDecided before t ⊎ ((l : Lack) × Has l lacks × (l.of ≡ t))
 
--- so where the last lists, which are those of these ids, are still to be taken in
+-- the lacks of what is known now: what was decided before stays so, and the rest has lacks, in which perhaps nothing is missing
+pub record AreLacksNow (before known : List KnownList) (lacks : List Lack) : Type 0 where
+  pub stays : (t : TxnId) → IsDecided before t → IsDecided known t
+  pub each : (l : Lack) → Has l lacks → IsLack known l
+  pub undecided : (l : Lack) → Has l lacks → ¬ IsDecided before l.of
+  pub all : (t : TxnId) → IsKnown known t → IsDecided before t ⊎ ((l : Lack) × Has l lacks × (l.of ≡ t))
+
+-- so of AreLacksSince where the last lists, which are those of these ids, are still to be taken in
 pub record AreLacksTaken (before all : List KnownList) (left : List TxnId) (lacks : List Lack) : Type 0 where
   pub known : List KnownList
   pub news : List KnownList

@@ -7,6 +7,7 @@ use Rattle.roc_io.specs.Observed.{Adds, AddsFront}
 use Rattle.roc_msg.specs.declared.outbox.Outgoing.{Outgoing}
 use Rattle.roc_plan.specs.Groups.{Plan}
 use Rattle.roc_server.specs.First.{first_server}
+use Rattle.roc_server.specs.Reads.{first_viewing}
 use Rattle.roc_node.specs.Posting.{none_heard}
 use Rattle.roc_io.specs.Call.{LinkView}
 use Rattle.roc_node.specs.Moves.{Moves}
@@ -26,7 +27,7 @@ use Rattle.roc_node_serve.specs.ServerRun.{ServerNodeState, AfterEvent, IsServer
 
 -- a node that keeps this, sent these messages, asked this of its link and was stopped or not
 abbrev pub node_of : ServerNode → List Outgoing → List LinkEvent → Bool → ServerNodeState
-node_of server_node messages traffic stopped = record { state = server_node.server.state; messages = messages; traffic = traffic; heard = server_node.heard; counts = server_node.counts; stopped = stopped }
+node_of server_node messages traffic stopped = record { state = server_node.server.state; viewing = server_node.server.viewing; messages = messages; traffic = traffic; heard = server_node.heard; counts = server_node.counts; stopped = stopped }
 
 -- one of which nothing is told but what it keeps
 abbrev pub bare : ServerNode → ServerNodeState
@@ -85,7 +86,7 @@ pub record RanSo (S : NodeSetting) (shard : Shard) (count : ℕ) (stopped : Bool
 
 -- what a node keeps before any turn
 abbrev pub first_server_node : Plan → Shard → ServerNode
-first_server_node plan shard = record { server = record { state = first_server plan shard; ahead = None }; heard = none_heard; counts = no_counts }
+first_server_node plan shard = record { server = record { state = first_server plan shard; viewing = first_viewing; ahead = None }; heard = none_heard; counts = no_counts }
 
 abbrev pub run_failed : RunEnd → Bool
 run_failed run.LinkFault = true

@@ -5,10 +5,8 @@ use Rattle.roc_base.specs.declared.id.TxnId.{TxnId}
 use Rattle.roc_base.specs.TxnId.{is_txn}
 use Rattle.roc_rows.specs.declared.cell.Cell.{Cell}
 use Rattle.roc_rows.specs.Store.{Store, read, write, empty}
-use Rattle.roc_depgraph.specs.declared.known.KnownList.{KnownList}
-use Rattle.roc_depgraph.specs.Deps.{Precedes}
 use Rattle.roc_depgraph.specs.Reach.{Reaches}
-use Rattle.roc_component.specs.Components.{among, Mates, IsComponentOrder, IsComponentOrderOf}
+use Rattle.roc_component.specs.Components.{Mates, IsComponentOrder}
 use Rattle.roc_law_orders.specs.Behaviour.{TxnGroup, is_txn_group, is_group_number, DoesSame}
 use Rattle.roc_law_orders.specs.Runs.{Stage, inputs_at, stage_behind, after_group, Conflict, account}
 use Rattle.roc_law_orders.specs.Orders.{one_by_one, StandOneByOne}
@@ -37,9 +35,6 @@ pub record LogLaws (S : Scheme) (start : Store) : Type 0 where
       → IsListed is_txn (log.decided s) u ⊎ (IsListed is_txn (new_in (log.decided s) all) u ⊎ IsWaived S start log u))
       → IsComponentOrder (λ u t. IsTrue (edge u t)) (λ u t. IsTrue (now u t)) members all
       → RespectsPrecedence (PrecedesTxn S start log.past) (PrecedesTxnNow S start log.past) (IsWaived S start log) (new_in (log.decided s) all)
-  pub chained :
-      (known : List KnownList) (M xs : List TxnId) → IsComponentOrderOf known M xs
-      → (u t : TxnId) → IsListed is_txn xs t → Reaches (among M (Precedes known)) u t → ¬ Mates (among M (Precedes known)) t u → IsListedBefore is_txn xs u t
 
 -- what the log machine's laws say besides
 pub record SerialLaws (S : Scheme) (start : Store) : Type 0 where

@@ -1,5 +1,5 @@
 -- What a step has planned: what was tried for it, the state that it led away from, and the state that it leads to
-use Rattle.std.specs.Prelude.{◌≡◌, ◌<◌, ◌≤◌, ◌-◌, ◌++◌, ◌∷◌, [], ℕ, List, Option, Some, None, Vec, length, true, false, option_map, take, unwrap_or, if◌then◌else◌}
+use Rattle.std.specs.Prelude.{◌≡◌, ◌<◌, ◌-◌, ◌++◌, ◌∷◌, [], ℕ, List, Some, None, Vec, length, true, false, take, unwrap_or, if◌then◌else◌}
 use Rattle.std.specs.List.{flat_map}
 use Rattle.std.specs.declared.alloc.Global.{Global}
 use Rattle.roc_sequence.specs.Places.{IsListed, is_listed}
@@ -14,7 +14,6 @@ use Rattle.roc_server_ancestors.specs.Least.{AreAllRight}
 use Rattle.roc_server_lists.specs.Asking.{waiting_after}
 use Rattle.roc_server_lists.specs.Links.{AreLinksOf}
 use Rattle.roc_server_lists.specs.New.{AreNewTaken}
-use Rattle.roc_server.specs.declared.ahead.Ahead.{Ahead}
 use Rattle.roc_server.specs.declared.planned.Change.{Change}
 use Rattle.roc_server.specs.declared.planned.Change.TheVariants.{Nothing, Asker, Group, Lists, Marks, Settled}
 use Rattle.roc_server.specs.declared.planned.Heard.{Heard}
@@ -27,11 +26,11 @@ use Rattle.roc_server.specs.declared.started.StartedGroup.{StartedGroup}
 use Rattle.roc_server.specs.Below.{is_ended}
 use Rattle.roc_server.specs.Forgets.{forget}
 use Rattle.roc_server.specs.Lists.{missing_from}
-use Rattle.roc_server.specs.State.{find_group, MadeAhead, ServerState, Serving}
+use Rattle.roc_server.specs.State.{find_group, ServerState}
 use Rattle.roc_server.specs.Inner.Indexed.{HasRoomFor}
 use Rattle.roc_server.specs.Inner.Left.{IsOver}
 use Rattle.roc_server.specs.Inner.Runs.{restored}
-use Rattle.roc_server.specs.Inner.Settled.{links_settled, IsSettling}
+use Rattle.roc_server.specs.Inner.Settled.{links_settled, HasRoomToSettle, IsSettling}
 use Rattle.roc_server.specs.Inner.ServerData.{state_of, AreSameGroups, IsConsistent}
 use Rattle.roc_server.specs.Inner.Taught.{AreLearnt, HasRoomToKeep, KeepsBesideRuns}
 
@@ -138,7 +137,7 @@ pub record IsSettledPlanned (k : ServerData) (s : Settlement) : Type 0 where
   pub id : TxnId
   pub mark : ℕ
   pub found : IsSettling k id mark s.found
-  pub room : length s.found.components.items ≤ k.taken.spare
+  pub room : HasRoomToSettle k s.found
 
 abbrev pub IsPlanned : ServerData → Change → Type 0
 IsPlanned k Nothing = IsConsistent k
@@ -160,21 +159,4 @@ pub record IsSettledFrom (old new : ServerData) (found : Settling) (change : Cha
   pub beside : KeepsBesideRuns old new
   pub restored : restored earlier.items new.started.groups ≡ old.started.groups
   pub saved : new.rows.saved ≡ Some old.rows.store
-  pub spare : new.taken ≡ old.taken
-
--- ---- a server, of which something may be made ahead
-
--- what is kept, less what was tried for what was made ahead
-abbrev pub kept_before : ServerData → Option Ahead → ServerData
-kept_before k None = k
-kept_before k (Some made) = before k made.change
-
-abbrev pub made_ahead : Shard → ServerData → Ahead → MadeAhead
-made_ahead shard k made = record { msg = made.msg; answer = made.answer; state = after shard k made.change; sends = made.sends }
-
-abbrev pub serving : Shard → ServerData → Option Ahead → Serving
-serving shard k ahead = record { state = state_of shard (kept_before k ahead); ahead = option_map (made_ahead shard k) ahead }
-
-abbrev pub IsHeld : ServerData → Option Ahead → Type 0
-IsHeld k None = IsConsistent k
-IsHeld k (Some made) = IsPlanned k made.change
+  pub room : HasRoomToSettle new found

@@ -1,5 +1,5 @@
 -- A watermark is heard, or a transaction is settled, part by part
-use Rattle.std.specs.Prelude.{◌≡◌, ◌++◌, ◌&&◌, ℕ, List, Some, map, filter}
+use Rattle.std.specs.Prelude.{◌≡◌, ◌≤◌, ◌++◌, ◌&&◌, ℕ, List, length, map, filter}
 use Rattle.std.specs.List.{flat_map}
 use Rattle.std.specs.List.Sorted.{IsStrictlySortedBy}
 use Rattle.roc_sequence.specs.Places.{is_listed, IsListed}
@@ -8,8 +8,7 @@ use Rattle.roc_base.specs.declared.id.TxnId.{TxnId}
 use Rattle.roc_base.specs.declared.node.Shard.{Shard}
 use Rattle.roc_await.specs.Lacks.{AreLacks}
 use Rattle.roc_depgraph.specs.declared.known.KnownList.{KnownList}
-use Rattle.roc_depgraph.specs.Closure.{IsRisingListOf}
-use Rattle.roc_depgraph.specs.Deps.{is_known, IsDecided}
+use Rattle.roc_depgraph.specs.Deps.{is_known, IsDecided, IsKnown}
 use Rattle.roc_msg.specs.declared.msg.Msg.TheVariants as msg
 use Rattle.roc_msg.specs.Outbox.{Collected}
 use Rattle.roc_plan.specs.Groups.{Plan}
@@ -23,9 +22,11 @@ use Rattle.roc_server.specs.Below.{is_ended, raised}
 use Rattle.roc_server.specs.Lists.{after_settled}
 use Rattle.roc_server.specs.Runs.{accesses_of, all_buffered, commitok, take_all}
 use Rattle.roc_server.specs.State.{is_here, ServerState}
-use Rattle.roc_server.specs.Step.{Shows, links_after}
+use Rattle.roc_server.specs.Step.{links_after}
+use Rattle.roc_server.specs.Inner.Shown.{ShowsStep}
 use Rattle.roc_server_lists.specs.Links.{without_links}
 use Rattle.roc_server_lists.specs.New.{AreNewTaken}
+use Rattle.roc_server.specs.Inner.Behind.{count_of_rows, IsBehind}
 use Rattle.roc_server.specs.Inner.Left.{IsOver}
 use Rattle.roc_server.specs.Inner.ServerData.{state_of, holding, AreSameGroups}
 use Rattle.roc_server.specs.Inner.Taught.{KeepsPlans}
@@ -39,11 +40,19 @@ IsHearing k coord mark change = ⊥
 abbrev pub links_settled : List KnownList → (settled : List TxnId) → List KnownList
 links_settled links settled = map (without_links (is_listed is_txn settled)) links
 
+-- no list of these is known
+abbrev pub AreUnknown : (known : List KnownList) → (ids : List TxnId) → Type 0
+AreUnknown known ids = (t : TxnId) → IsListed is_txn ids t → ¬ IsKnown known t
+
+-- all that these lists decide and those did not, and perhaps more that they decide
+pub record HasNewlyDecided (known links : List KnownList) (ids : List TxnId) : Type 0 where
+  pub sound : (t : TxnId) → IsListed is_txn ids t → IsDecided links t
+  pub complete : (t : TxnId) → IsDecided links t → ¬ IsDecided known t → IsListed is_txn ids t
+
 -- and what comes of it
 pub record IsDeciding (k : ServerData) (settled : List TxnId) (d : Deciding) : Type 0 where
   pub links : d.links ≡ links_settled k.links settled
   pub lacks : AreLacks d.links d.lacks.lacks
-  pub decided : IsRisingListOf (IsDecided d.links) d.lacks.decided
   pub chosen : AreNewTaken (IsListed is_txn k.decided.ids) d.links d.components.items
   pub ids : d.ids.items ≡ flat_map (λ c. c) d.components.items
 
@@ -54,10 +63,15 @@ pub record IsSettling (k : ServerData) (id : TxnId) (mark : ℕ) (f : Settling) 
   pub is_known : f.is_known ≡ is_known k.known id
   pub rising : IsStrictlySortedBy txn_cmp f.settled.items
   pub lacks : AreLacks (links_settled k.links f.settled.items) f.lacks.lacks
-  pub decided : IsRisingListOf (IsDecided (links_settled k.links f.settled.items)) f.lacks.decided
   pub chosen : AreNewTaken (IsListed is_txn k.decided.ids) (links_settled k.links f.settled.items) f.components.items
   pub ids : f.ids.items ≡ flat_map (λ c. c) f.components.items
-  pub left : IsOver f.marks (k.taken.components ++ f.components.items) (links_settled k.links f.settled.items) (Some f.left)
+  pub behind : IsBehind f.marks (k.taken.components ++ f.components.items) k.links (links_settled k.links f.settled.items) f.behind
+
+-- there is room to keep it
+pub record HasRoomToSettle (k : ServerData) (f : Settling) : Type 0 where
+  pub components : length f.components.items ≤ k.taken.spare
+  pub ids : length f.ids.items ≤ k.decided.spare
+  pub rows : count_of_rows f.behind ≤ k.ancestors.spare
 
 -- these are decided: what was buffered of them ran, and their coordinators are told
 pub record SettlesRuns (plan : Plan) (shard : Shard) (old new : ServerData) (sends more : Collected) (ids : List TxnId) : Type 0 where
@@ -71,5 +85,5 @@ pub record SettlesRuns (plan : Plan) (shard : Shard) (old new : ServerData) (sen
 pub record Settles (plan : Plan) (shard : Shard) (old : ServerData) (state : ServerState) (before after : Collected) (id : TxnId) (mark : ℕ) (answer : Handled) : Type 0 where
   pub components : List (List TxnId)
   pub are_new : AreNewTaken (IsDecided old.links) (links_after (state_of shard old) (msg.Settled id mark)) components
-  pub shown : Shows (after_settled plan components (state_of shard old) id mark) answer state before after
+  pub shown : ShowsStep (after_settled plan components (state_of shard old) id mark) answer state before after
   pub groups : KeepsPlans old.started.groups state.started

@@ -17,7 +17,8 @@ use Rattle.roc_server_lists.specs.New.{AreLedTo}
 use Rattle.roc_server.specs.Start.{has_procedure, has_counts, differs, is_immediate_group, edges_for, new_group, start_new, startok_of, after_start}
 use Rattle.roc_server.specs.Runs.{accesses_of}
 use Rattle.roc_server.specs.State.{find_group, ServerState}
-use Rattle.roc_server.specs.Step.{Shows, edges_of_new}
+use Rattle.roc_server.specs.Step.{edges_of_new}
+use Rattle.roc_server.specs.Inner.Shown.{ShowsStep}
 
 -- the first of these reasons that holds
 abbrev pub first_reason : List (Bool × Reason) → Option Reason
@@ -80,10 +81,10 @@ pub record TellsStart (plan : Plan) (shard : Shard) (e : StartedGroup) (before a
 pub record StartTaken (plan : Plan) (shard : Shard) (old : ServerData) (state : ServerState) (before after : Collected) (id : TxnId) (c : GroupCall) (answer : Handled) : Type 0 where
   pub reached : List TxnId
   pub led : AreLedTo old.links (edges_of_new plan old.decided.ids (state_of shard old) id c) reached
-  pub shown : Shows (after_start plan old.decided.ids reached (state_of shard old) id c) answer state before after
+  pub shown : ShowsStep (after_start plan old.decided.ids reached (state_of shard old) id c) answer state before after
 
 -- a new group started
 pub record StartsNew (plan : Plan) (shard : Shard) (old : ServerData) (state : ServerState) (before after : Collected) (id : TxnId) (c : GroupCall) (answer : Handled) : Type 0 where
   pub reached : List TxnId
   pub led : AreLedTo old.links (edges_for plan old.decided.ids (state_of shard old) id c) reached
-  pub shown : Shows (start_new plan (state_of shard old) c (new_group plan old.decided.ids reached (state_of shard old) id c)) answer state before after
+  pub shown : ShowsStep (start_new plan (state_of shard old) c (new_group plan old.decided.ids reached (state_of shard old) id c)) answer state before after

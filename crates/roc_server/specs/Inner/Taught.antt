@@ -38,7 +38,8 @@ use Rattle.roc_server.specs.Lists.{is_done, links_of, is_missing, missing_after,
 use Rattle.roc_server.specs.Inner.Indexed.{AreOut, IsIndexOf}
 use Rattle.roc_server.specs.Inner.ServerData.{state_of, holding, is_same_group, AreSameGroups}
 use Rattle.roc_server.specs.State.{is_here, ServerState, ServerStep}
-use Rattle.roc_server.specs.Step.{Shows, links_after}
+use Rattle.roc_server.specs.Step.{links_after}
+use Rattle.roc_server.specs.Inner.Shown.{ShowsStep}
 
 -- ---- what is found
 
@@ -194,14 +195,14 @@ KeepsPlans old new = (plan : Plan) → AreGroupsOf plan old → AreGroupsOf plan
 pub record Teaches (plan : Plan) (shard : Shard) (old : ServerData) (state : ServerState) (before after : Collected) (news : List KnownList) (again : Option TxnId) (answer : Handled) : Type 0 where
   pub components : List (List TxnId)
   pub are_new : AreNewTaken (IsDecided old.links) (old.links ++ links_of (state_of shard old) news) components
-  pub shown : Shows (forgetting (with_own plan again (taught plan (state_of shard old) news components))) answer state before after
+  pub shown : ShowsStep (forgetting (with_own plan again (taught plan (state_of shard old) news components))) answer state before after
   pub groups : KeepsPlans old.started.groups state.started
 
 -- a commit was taken, or refused
 pub record Commits (plan : Plan) (shard : Shard) (old : ServerData) (state : ServerState) (before after : Collected) (id : TxnId) (edges : List Dependency) (facts : List KnownList) (answer : Handled) : Type 0 where
   pub components : List (List TxnId)
   pub are_new : AreNewTaken (IsDecided old.links) (links_after (state_of shard old) (Commit id edges facts)) components
-  pub shown : Shows (after_commit plan old.decided.ids components (state_of shard old) id edges facts (commit_refusal (state_of shard old) id edges facts)) answer
+  pub shown : ShowsStep (after_commit plan old.decided.ids components (state_of shard old) id edges facts (commit_refusal (state_of shard old) id edges facts)) answer
       state before after
   pub groups : KeepsPlans old.started.groups state.started
 
@@ -209,5 +210,5 @@ pub record Commits (plan : Plan) (shard : Shard) (old : ServerData) (state : Ser
 pub record Knows (plan : Plan) (shard : Shard) (old : ServerData) (state : ServerState) (before after : Collected) (id : TxnId) (edges : List Dependency) (answer : Handled) : Type 0 where
   pub components : List (List TxnId)
   pub are_new : AreNewTaken (IsDecided old.links) (links_after (state_of shard old) (Known id edges)) components
-  pub shown : Shows (after_known plan components (state_of shard old) id edges (known_refusal (state_of shard old) id edges)) answer state before after
+  pub shown : ShowsStep (after_known plan components (state_of shard old) id edges (known_refusal (state_of shard old) id edges)) answer state before after
   pub groups : KeepsPlans old.started.groups state.started

@@ -1,12 +1,12 @@
 -- What comes of an event at one of many nodes
-use Rattle.std.specs.Prelude.{◌≡◌, ℕ, ℤ, List, Some, Result, slice_get, slice_set}
+use Rattle.std.specs.Prelude.{◌≡◌, ◌++◌, ℕ, ℤ, List, Some, Result, slice_get, slice_set}
 use Rattle.roc_base.specs.declared.id.TxnId.{TxnId}
 use Rattle.roc_msg.specs.declared.msg.Msg.{Msg}
 use Rattle.roc_msg.specs.Outbox.{Collected, HasSent}
 use Rattle.roc_plan.specs.Groups.{Plan}
 use Rattle.roc_server.specs.declared.handled.Handled.{Handled as ServerHandled}
 use Rattle.roc_server.specs.State.{ServerState, ServerStep}
-use Rattle.roc_server.specs.Step.{Handles, Shows, tick_sends as server_sends}
+use Rattle.roc_server.specs.Step.{Handles, tick_sends as server_sends}
 use Rattle.roc_coord.specs.declared.handled.Handled.{Handled as CoordHandled}
 use Rattle.roc_coord.specs.declared.handled.SubmitFault.{SubmitFault}
 use Rattle.roc_coord.specs.State.{CoordState}
@@ -14,13 +14,20 @@ use Rattle.roc_coord.specs.Step.{after_message, IsOutcome}
 use Rattle.roc_coord.specs.Submit.{after_submit, IsSubmitted}
 use Rattle.roc_coord.specs.Tick.{tick_sends as coord_sends}
 
+-- r is what was answered, what is kept, and what was added to an outbox: nothing came of it for reads
+pub record ShowsStep (r : ServerStep) (answer : ServerHandled) (state : ServerState) (before after : Collected) : Type 0 where
+  pub answers : r.answer ≡ answer
+  pub keeps : r.state ≡ state
+  pub sends : after.messages ≡ before.messages ++ r.sends
+  pub decides : after.decided ≡ before.decided ++ r.decided
+
 -- the server of a shard took a message, and no other changed
 pub record ServerTakes (plan : Plan) (shard : ℕ) (msg : Msg) (answer : ServerHandled) (old new : List ServerState) (before after : Collected) : Type 0 where
   pub server : ServerState
   pub there : slice_get old shard ≡ Some server
   pub step : ServerStep
   pub handles : Handles plan server msg step
-  pub shows : Shows step answer step.state before after
+  pub shows : ShowsStep step answer step.state before after
   pub others : new ≡ slice_set old shard step.state
 
 -- a coordinator took a message, and no other changed

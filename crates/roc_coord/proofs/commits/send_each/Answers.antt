@@ -6,7 +6,7 @@ use Rattle.roc_depgraph.specs.declared.known.KnownList.{KnownList}
 use Rattle.roc_msg.proofs.Sent.{sent_none}
 use Rattle.roc_msg.specs.declared.outbox.Outgoing.{Outgoing}
 use Rattle.roc_coord.specs.Inner.CommitWith.{commit_with}
-use Rattle.roc_coord.proofs.Sends.{sent_one_more, sent_all}
+use Rattle.roc_readonly.proofs.Sends.{sent_one_more, sent_all}
 use Rattle.roc_coord.proofs.commits.send_each.Goals as goal
 
 pub loop-shard-init : goal.loop-shard-init

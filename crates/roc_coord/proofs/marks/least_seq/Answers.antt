@@ -1,4 +1,4 @@
-use Rattle.std.proofs.Common.{◌≡◌, ◌∷◌, ◌+◌, ◌∙◌, ap, sym, rules, drop, get_or, min}
+use Rattle.std.proofs.Common.{◌≡◌, ◌+◌, ◌∙◌, ap, sym, rules, drop, get_or, min}
 use Rattle.roc_base.specs.declared.id.TxnId.{TxnId}
 use Rattle.roc_sequence.proofs.Fronts.{rest_at}
 use Rattle.roc_coord.specs.Marks.{least_seq}

@@ -1,17 +1,25 @@
-use Rattle.std.proofs.Common.{◌≡◌, ◌+◌, ◌∙◌, ap, sym, rules, take, drop, add-one, length, ◌-◌, arith}
-use Rattle.std.proofs.lemmas.List.{length-drop}
-use Rattle.roc_sequence.proofs.Fronts.{front_whole}
+use Rattle.std.proofs.Common.{◌≡◌, ◌∷◌, ◌+◌, ◌∙◌, ℕ, Bool, cond, not, filter, List, ap, sym, rules, drop, get_or, min}
+use Rattle.roc_base.specs.declared.id.TxnId.{TxnId}
+use Rattle.roc_base.specs.TxnId.{is_txn}
+use Rattle.roc_sequence.proofs.Fronts.{rest_at}
 use Rattle.roc_coord.specs.Marks.{least_seq}
-use Rattle.roc_coord.proofs.Least.{least-append, removed-parts}
+use Rattle.roc_coord.proofs.Least.{least-more}
 use Rattle.roc_coord.proofs.marks.least_seq_without.Goals as goal
+use Rattle.roc_coord.proofs.marks.least_seq_without.Goals.{then-ne, else-ne}
 
-pub returns : goal.returns
-returns c =
+pub loop-other-preserved : goal.loop-other-preserved
+loop-other-preserved c =
     let ids = c.args.ids.now in
-    let rest = drop (c.args.at + 1) ids in
-    let behind : c.least_seq.result ≡ least_seq rest c.args.next =
-    c.least_seq.ensures ∙ ap (λ l. least_seq l c.args.next) (front_whole rest (length ids - (c.args.at + 1)) (let l = length-drop (c.args.at + 1) ids in omega arith))
-    in
-    let all : c.least_seq-2.result ≡ least_seq (take c.args.at ids) c.least_seq.result = search rules in
-    all ∙ ap (least_seq (take c.args.at ids)) behind ∙ sym (least-append (take c.args.at ids) (drop (c.args.at + 1) ids) c.args.next)
-    ∙ ap (λ l. least_seq l c.args.next) (rw add-one (removed-parts ids c.args.at))
+    let none : TxnId = record { coord = 0; seq = 0 } in
+    let other : TxnId = get_or ids c.loop-other.other-index none in
+    let is_left : TxnId → Bool = λ u. not (is_txn u c.args.id) in
+    let rest = filter is_left (drop (c.loop-other.other-index + 1) ids) in
+    let split : Bool → List TxnId = λ b. cond b (other ∷ rest) rest in
+    let from_here : List TxnId → ℕ = λ us. least_seq us c.loop-other.least in
+    let parts = ap (filter is_left) (rest_at ids c.loop-other.other-index none c.loop-other-test.true) in
+    elim c.if-ne.branch [
+      | then-ne w ↦ (
+          let least : w.min-least.result ≡ min c.loop-other.least other.seq = search rules in
+          ap (least_seq rest) (w.least-is ∙ least) ∙ least-more rest c.loop-other.least other.seq ∙ sym (ap from_here (parts ∙ ap split (sym c.ne.ensures ∙ w.if-ne.true))) ∙ c.loop-other.invariant)
+      | else-ne w ↦ ap (least_seq rest) w.least-is ∙ sym (ap from_here (parts ∙ ap split (sym c.ne.ensures ∙ w.if-ne.false))) ∙ c.loop-other.invariant
+    ]

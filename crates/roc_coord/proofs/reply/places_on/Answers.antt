@@ -1,7 +1,7 @@
 use Rattle.std.proofs.Common.{ℕ, ◌<◌, List, length, subst, sym, ◌∙◌, All}
 use Rattle.roc_plan.specs.Groups.{groups_of}
 use Rattle.roc_coord.specs.Commits.{waits_on}
-use Rattle.roc_coord.proofs.Ranges.{All-filter_range}
+use Rattle.roc_readonly.proofs.Ranges.{All-filter_range}
 use Rattle.roc_coord.proofs.reply.places_on.Goals as goal
 
 pub places_of-requires : goal.places_of-requires

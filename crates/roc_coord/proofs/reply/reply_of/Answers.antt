@@ -1,6 +1,6 @@
 use Rattle.std.proofs.Common.{ℕ, ◌<◌, List, length, subst, sym, ◌∙◌, All}
 use Rattle.roc_plan.specs.Groups.{groups_of}
-use Rattle.roc_coord.proofs.Ranges.{All-range}
+use Rattle.roc_readonly.proofs.Ranges.{All-range}
 use Rattle.roc_coord.proofs.reply.reply_of.Goals as goal
 
 pub places_of-requires : goal.places_of-requires

@@ -3,7 +3,7 @@ use Rattle.std.proofs.Common.{refl, get_or}
 use Rattle.roc_base.specs.declared.node.Node.TheVariants.{Server}
 use Rattle.roc_msg.proofs.Sent.{sent_none}
 use Rattle.roc_coord.specs.Starts.{start_for}
-use Rattle.roc_coord.proofs.Sends.{sent_one_more, sent_all}
+use Rattle.roc_readonly.proofs.Sends.{sent_one_more, sent_all}
 use Rattle.roc_coord.proofs.starts.resend_each.Goals as goal
 
 pub loop-group-init : goal.loop-group-init

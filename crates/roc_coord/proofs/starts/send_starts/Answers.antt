@@ -1,7 +1,7 @@
 use Rattle.std.proofs.Common.{ℕ, ◌<◌, List, length, subst, sym, ◌∙◌, All}
 use Rattle.roc_plan.specs.Groups.{groups_of}
 use Rattle.roc_coord.specs.Starts.{can_start}
-use Rattle.roc_coord.proofs.Ranges.{All-filter_range}
+use Rattle.roc_readonly.proofs.Ranges.{All-filter_range}
 use Rattle.roc_coord.proofs.starts.send_starts.Goals as goal
 
 pub send_each-requires-clause-groups : goal.send_each-requires-clause-groups

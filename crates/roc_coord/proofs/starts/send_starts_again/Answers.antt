@@ -1,7 +1,7 @@
 use Rattle.std.proofs.Common.{ℕ, ◌<◌, List, length, subst, sym, ◌∙◌, All}
 use Rattle.roc_plan.specs.Groups.{groups_of}
 use Rattle.roc_coord.specs.Tick.{awaits_startok}
-use Rattle.roc_coord.proofs.Ranges.{All-filter_range}
+use Rattle.roc_readonly.proofs.Ranges.{All-filter_range}
 use Rattle.roc_coord.proofs.starts.send_starts_again.Goals as goal
 
 pub resend_each-requires-clause-groups : goal.resend_each-requires-clause-groups

@@ -4,10 +4,10 @@ use Rattle.roc_law_nodes.proofs.ServerFolds.{without_stops}
 use Rattle.roc_law_nodes.proofs.laws.fold_is_one.Goals as goal
 
 pub returns-clause-servers : goal.returns-clause-servers
-returns-clause-servers c plan shard events s t messages others f g = one_server_fold plan (c.step_is_one.ensures plan) shard f g refl
+returns-clause-servers c plan shard events s t v u messages others f g = one_server_fold plan (c.step_is_one.ensures plan) (c.read_step_is_one.ensures plan) shard f g refl
 
 pub returns-clause-coords : goal.returns-clause-coords
 returns-clause-coords c plan number events x y messages others f g = one_coord_fold plan number f g refl
 
 pub returns-clause-stops : goal.returns-clause-stops
-returns-clause-stops c plan shard events s messages f = without_stops plan shard f
+returns-clause-stops c plan shard events s v messages f = without_stops plan shard f

@@ -10,8 +10,10 @@ use Rattle.roc_law_nodes.proofs.laws.node_runs_are_the_world.Goals as goal
 
 pub returns-clause-servers : goal.returns-clause-servers
 returns-clause-servers c S coords steps w run shard s there events n ran are =
-    one_server_fold S.plan (c.step_is_one.ensures S.plan) shard (run_folds S shard ran) (without_stops S.plan shard (server_fold S.plan coords run shard s there))
-    (ap (filter is_for_core) (turns_of c.spelled_is_read.ensures S.header.tag are))
+    let world = server_fold S.plan coords run shard s there in
+    let one = one_server_fold S.plan (c.step_is_one.ensures S.plan) (c.read_step_is_one.ensures S.plan) shard (run_folds S shard ran) (without_stops S.plan shard world.2)
+    (ap (filter is_for_core) (turns_of c.spelled_is_read.ensures S.header.tag are)) in
+    (one.0, one.2)
 
 pub returns-clause-coords : goal.returns-clause-coords
 returns-clause-coords c S coords steps w run number d there requests events n ran same =

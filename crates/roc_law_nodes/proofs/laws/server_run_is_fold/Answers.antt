@@ -12,4 +12,4 @@ returns-clause-brought c S shard events n run = run_folds S shard run
 
 pub returns-clause-spelled : goal.returns-clause-spelled
 returns-clause-spelled c S shard events n run own are =
-    subst (λ (l : List OwnEvent). IsServerFold S.plan shard (filter is_for_core l) n.state n.messages) (turns_of c.spelled_is_read.ensures S.header.tag are) (run_folds S shard run)
+    subst (λ (l : List OwnEvent). IsServerFold S.plan shard (filter is_for_core l) n.state n.viewing n.messages) (turns_of c.spelled_is_read.ensures S.header.tag are) (run_folds S shard run)

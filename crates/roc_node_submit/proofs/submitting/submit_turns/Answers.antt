@@ -8,7 +8,7 @@ use Rattle.roc_node_submit.proofs.submitting.submit_turns.Goals as goal
 pub loop-init : goal.loop-init
 loop-init g c = (
   coord_ran_none _ _ _ _ _ _ c.open_coord_node-coord_node.ensures,
-  subst (λ (d : CoordNode). CoordFits c.args.plan.now d.coord) (sym c.open_coord_node-coord_node.ensures) tt,
+  subst (λ (d : CoordNode). CoordFits c.args.plan.now d.coord) (sym c.open_coord_node-coord_node.ensures) (tt, tt),
   (let n = ap (λ (d : CoordNode). d.next) c.open_coord_node-coord_node.ensures in omega arith),
   refl,
   refl,

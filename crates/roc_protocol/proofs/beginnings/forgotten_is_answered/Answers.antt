@@ -1,3 +1,4 @@
+use Rattle.roc_protocol.proofs.Answered.{submitted_own}
 use Rattle.roc_protocol.proofs.Forgotten as forgotten
 use Rattle.roc_protocol.proofs.beginnings.forgotten_is_answered.Goals as goal
 
@@ -18,5 +19,6 @@ returns-clause-done c plan b coords steps w begins schemes run =
     forgotten.done plan b begins schemes (λ S sound. c.machine_laws.ensures.log S b.store sound) c.machine_laws.ensures.stores coords steps w run
 
 pub returns-clause-sent : goal.returns-clause-sent
-returns-clause-sent c plan b coords steps w begins schemes run =
-    forgotten.sent plan b begins schemes (λ S sound. c.machine_laws.ensures.log S b.store sound) c.machine_laws.ensures.stores coords steps w run
+returns-clause-sent c plan b coords steps w begins schemes run m t mark has is =
+    let k = forgotten.sent plan b begins schemes (λ S sound. c.machine_laws.ensures.log S b.store sound) c.machine_laws.ensures.stores coords steps w run m t mark has is in
+    (k.0, λ seq was. k.1 seq (submitted_own plan b begins schemes (λ S sound. c.machine_laws.ensures.log S b.store sound) c.machine_laws.ensures.stores coords steps w run (record { coord = t.coord; seq = seq }) was))

@@ -2,7 +2,6 @@ use Rattle.std.proofs.Common.{inl, refl}
 use Rattle.roc_base.specs.declared.id.TxnId.{TxnId}
 use Rattle.roc_law_log.specs.Scheme.{Scheme, IsSoundScheme}
 use Rattle.roc_protocol.specs.Inner.Given.{LogLaws}
-use Rattle.roc_protocol.proofs.Answered.{submitted_late}
 use Rattle.roc_protocol.proofs.Heard.{AreDelivered, CommitsAreOut}
 use Rattle.roc_protocol.proofs.Liveness.{commits_are_out, heard_is_answered}
 use Rattle.roc_protocol.proofs.Quieted.{starts_heard, quiet_is_decided, commits_heard}
@@ -15,7 +14,7 @@ returns-clause-answered c plan b coords steps w begins schemes run t proc args s
     let heard = starts_heard plan b begins schemes laws stores 16 begins.marks coords steps w run in
     let out : (u : TxnId) → AreDelivered w u → CommitsAreOut w u = λ u delivered. commits_are_out plan b begins schemes laws stores coords steps w run u (heard u) delivered in
     heard_is_answered plan b begins schemes laws stores coords steps w run t proc args submitted (heard t)
-    (commits_heard plan b begins schemes laws stores 16 begins.marks coords steps w run out t quiet (submitted_late plan b begins schemes laws stores coords steps w run t (proc, args, submitted)))
+    (commits_heard plan b begins schemes laws stores 16 begins.marks coords steps w run out t quiet (proc, args, submitted))
     (record { each = λ k m at is. quiet.each k m t at is (inl refl) })
 
 pub returns-clause-decided : goal.returns-clause-decided

@@ -11,7 +11,6 @@ returns-clause-log c S start sound =
       same = c.stores_are_shared_out.ensures.same S sound;
       cells = c.stores_are_shared_out.ensures.cells S sound;
       taken = λ log i s edge now members all. c.component_order_is_taken.ensures S start log i s edge now members all;
-      chained = c.ancestors_come_first.ensures.taking_order;
     }
 
 pub returns-clause-serial : goal.returns-clause-serial

@@ -1,6 +1,6 @@
 use Rattle.roc_whole.specs.Serial.{start_store}
 use Rattle.roc_protocol.specs.Beginnings.{first_beginning}
-use Rattle.roc_protocol.proofs.Firsts.{first_begins, run_from}
+use Rattle.roc_protocol.proofs.Firsts.{first_begins, run_beside}
 use Rattle.roc_protocol.proofs.KeptOrders.{order_keeps}
 use Rattle.roc_protocol.proofs.laws.order_keeps_what_ran.Goals as goal
 
@@ -9,4 +9,4 @@ returns c plan coords steps w schemes run =
     order_keeps plan (first_beginning plan) (first_begins c.machine_laws.ensures.stores plan) schemes
     (λ S sound. c.machine_laws.ensures.log S (start_store plan.program) sound)
     (λ S sound. c.machine_laws.ensures.serial S (start_store plan.program) sound)
-    c.machine_laws.ensures.stores coords steps w (run_from plan coords steps w run)
+    c.machine_laws.ensures.stores coords steps w (run_beside plan coords steps w run)

@@ -4,7 +4,7 @@ use Rattle.roc_protocol.specs.declared.event.Seen.TheVariants as seen
 use Rattle.roc_protocol.specs.Beginnings.{first_beginning}
 use Rattle.roc_protocol.specs.Unanswered.{submitted_at, unanswered_at}
 use Rattle.roc_protocol.proofs.Firsts.{first_begins, run_from}
-use Rattle.roc_protocol.proofs.Counted.{run_counted, spent_told, busy_told}
+use Rattle.roc_protocol.proofs.PlainRuns.{kept_told, few_kept, spent_told, busy_told}
 use Rattle.roc_protocol.proofs.laws.refusals_are_told.Goals as goal
 
 none_more : (n : ℕ) → 0 + n ≡ n
@@ -12,12 +12,11 @@ none_more n = omega arith
 
 pub returns-clause-kept : goal.returns-clause-kept
 returns-clause-kept c plan coords steps w run coord s there =
-    let k = run_counted plan (first_beginning plan) (first_begins c.machine_laws.ensures.stores plan) coords steps w (run_from plan coords steps w run) in
-    (k.next coord s there ∙ none_more (length (submitted_at coord w.history)), k.pending coord s there)
+    let k = kept_told plan (first_beginning plan) (first_begins c.machine_laws.ensures.stores plan) coords steps w (run_from plan coords steps w run) coord s there in
+    (k.0 ∙ none_more (length (submitted_at coord w.history)), k.1)
 
 pub returns-clause-few : goal.returns-clause-few
-returns-clause-few c plan coords steps w run coord s there =
-    (run_counted plan (first_beginning plan) (first_begins c.machine_laws.ensures.stores plan) coords steps w (run_from plan coords steps w run)).few coord s there
+returns-clause-few c plan coords steps w run = few_kept plan (first_beginning plan) (first_begins c.machine_laws.ensures.stores plan) coords steps w (run_from plan coords steps w run)
 
 pub returns-clause-spent : goal.returns-clause-spent
 returns-clause-spent c plan coords steps w run coord proc args o h =

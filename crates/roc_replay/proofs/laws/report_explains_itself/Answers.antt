@@ -3,6 +3,9 @@ use Rattle.roc_plan.specs.Accepted.{IsAccepted}
 use Rattle.roc_plan.specs.Groups.{Plan, shard_of}
 use Rattle.roc_whole.specs.Serial.{serial_store, start_store}
 use Rattle.roc_audit.specs.Witness.{submitted_calls}
+use Rattle.roc_protocol.specs.Beginnings.{first_beginning}
+use Rattle.roc_protocol.proofs.Firsts.{run_from}
+use Rattle.roc_protocol.proofs.PlainRuns.{run_plainly}
 use Rattle.roc_replay.proofs.ShownCells.{shown_cells, all_answered}
 use Rattle.roc_replay.proofs.Shows.{explained}
 use Rattle.roc_replay.proofs.IgnoredLines.{report_stale}
@@ -27,7 +30,9 @@ returns c plan coords steps w accepted run =
     (c.cells_are_in_their_place.ensures.apart plan coords steps w schemes run)
     c.entries_are_not_zero.ensures.exactly
     (serial_store plan.program (start_store plan.program) (submitted_calls w.history w.order))
-    (c.cells_are_serial.ensures plan coords steps w accepted run (all_answered steps w none (c.submissions_are_kept.ensures.submitted plan coords steps w schemes run)))
+    (c.cells_are_serial.ensures plan coords steps w accepted run (all_answered steps w none
+    (λ n s there. ((run_plainly plan (first_beginning plan) coords steps w (run_from plan coords steps w run)).coords n s there).unanswered)
+    (c.submissions_are_kept.ensures.submitted plan coords steps w schemes run)))
     steps)
     (c.ids_are_told_once.ensures plan coords steps w accepted run)
     (report_stale plan coords (λ before old reached. c.nothing_is_refused.ensures.coordinators plan coords before old accepted reached) steps w run)

@@ -1,5 +1,5 @@
 use Rattle.std.proofs.Common.{◌∙◌, sym, ap}
-use Rattle.roc_server.specs.Inner.Planned.{kept_before}
+use Rattle.roc_server.specs.Inner.Held.{kept_before}
 use Rattle.roc_server.specs.Inner.ServerData.{state_of}
 use Rattle.roc_server.proofs.handling.let_go.Goals as goal
 

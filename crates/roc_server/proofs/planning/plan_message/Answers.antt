@@ -6,10 +6,10 @@ use Rattle.roc_server.specs.Inner.Planned.{after}
 use Rattle.roc_server.specs.Inner.ServerData.{asked, state_of}
 use Rattle.roc_server.specs.Fits.{AreGroupsOf}
 use Rattle.roc_server.specs.Lists.{after_ended}
-use Rattle.roc_server.specs.Step.{Shows}
+use Rattle.roc_server.specs.Inner.Shown.{ShowsStep}
 use Rattle.roc_server.specs.Inner.Settled.{IsHearing, Settles}
 use Rattle.roc_server.specs.Inner.Starts.{StartTaken}
-use Rattle.roc_server.proofs.MessageSteps.{start_comes, commit_comes, known_comes, fetch_comes, ended_comes, settled_comes}
+use Rattle.roc_server.proofs.MessageSteps.{start_comes, commit_comes, known_comes, fetch_comes, ended_comes, settled_comes, read_comes}
 use Rattle.roc_server.proofs.Plans.{IfOk-both}
 use Rattle.roc_server.proofs.SettledRuns.{hears, hearing_keeps}
 use Rattle.roc_server.proofs.planning.plan_message.Goals as goal
@@ -39,8 +39,8 @@ returns-in-Ended-clause-step c =
     let k = c.args.kept.now in
     ended_comes c.args.plan.now c.args.shard k k c.requires.sound c.args.sends.now c.args.sends.now c.plan_ended.result c.args.msg.now c.in-Ended.coord c.in-Ended.below c.in-Ended.is
     (IfOk-both c.plan_ended.result (λ p. p.answer ≡ Done) (λ p. IsHearing k c.in-Ended.coord c.in-Ended.below p.change)
-    (λ p. Shows (after_ended (state_of c.args.shard k) c.in-Ended.coord c.in-Ended.below) p.answer (after c.args.shard k p.change) c.args.sends.now c.args.sends.now)
-    (λ p a h. subst (λ answer. Shows (after_ended (state_of c.args.shard k) c.in-Ended.coord c.in-Ended.below) answer (after c.args.shard k p.change) c.args.sends.now c.args.sends.now) (sym a)
+    (λ p. ShowsStep (after_ended (state_of c.args.shard k) c.in-Ended.coord c.in-Ended.below) p.answer (after c.args.shard k p.change) c.args.sends.now c.args.sends.now)
+    (λ p a h. subst (λ answer. ShowsStep (after_ended (state_of c.args.shard k) c.in-Ended.coord c.in-Ended.below) answer (after c.args.shard k p.change) c.args.sends.now c.args.sends.now) (sym a)
     (hears c.args.shard k c.in-Ended.coord c.in-Ended.below c.args.sends.now Done p.change h))
     c.plan_ended.ensures.answer c.plan_ended.ensures.change)
 
@@ -60,3 +60,8 @@ returns-in-Settled-clause-fits c =
     (λ p. Settles c.args.plan.now c.args.shard c.args.kept.now (after c.args.shard c.plan_settled.new.kept p.change) c.args.sends.now c.plan_settled.new.sends c.in-Settled.id c.in-Settled.below p.answer)
     (λ p. AreGroupsOf c.args.plan.now (after c.args.shard c.plan_settled.new.kept p.change).started)
     (λ p s. s.groups c.args.plan.now c.requires.fits) c.plan_settled.ensures.step
+
+pub returns-in-Read-clause-step : goal.returns-in-Read-clause-step
+returns-in-Read-clause-step c =
+    read_comes c.args.plan.now c.args.shard c.args.kept.now c.requires.sound c.args.sends.now c.plan_read.result c.args.msg.now c.in-Read.id c.in-Read.round c.in-Read.proc c.in-Read.group c.in-Read.args c.in-Read.is
+    c.plan_read.ensures.change c.plan_read.ensures.answer

@@ -14,7 +14,7 @@ returns-in-Ok-clause-planned c =
       beside = record { known = b.known; links = b.links; waiting = b.waiting; fetches = b.fetches; decided = b.decided; ancestors = b.ancestors; lacks = b.lacks; index = b.index; marks = b.marks; taken = b.taken };
       restored = c.in-Ok.ensures.restored ∙ restored-none _ _ c.new-earlier.ensures.items;
       saved = c.in-Ok.ensures.saved ∙ c.savepoint.ensures.saved;
-      spare = c.in-Ok.ensures.spare;
+      room = c.in-Ok.ensures.room;
     }
 
 -- the cells and the groups are put back, and nothing else had changed

@@ -4,6 +4,7 @@ use Rattle.roc_base.specs.declared.node.Node.{Node}
 use Rattle.roc_protocol.specs.declared.event.Event.TheVariants as event
 use Rattle.roc_world.specs.Inner.Parts.{world_of, Leads}
 use Rattle.roc_world.proofs.Events.{coord_ticks, server_ticks}
+use Rattle.roc_world.proofs.WorldsFit.{plain_there}
 use Rattle.roc_world.proofs.happen.tick.Goals as goal
 
 pub returns-in-Ok : goal.returns-in-Ok
@@ -19,5 +20,5 @@ returns-in-Ok-tick_coord c =
     let w = world_of c.args.parts.now in
     IfOk-weaker c.note_tick-in-Ok-tick_coord.result _ _
     (λ what h. subst (λ (node : Node). Leads c.args.plan.now w (event.Tick node) what (world_of c.note_tick-in-Ok-tick_coord.new.parts)) (sym c.in-Coord.is)
-    (coord_ticks c.args.plan.now w c.in-Coord.coord what c.tick_coord.new.coords.items c.new-outbox.result c.tick_coord.new.outbox (world_of c.note_tick-in-Ok-tick_coord.new.parts) c.new-outbox.ensures.messages c.in-Ok-tick_coord.ensures h.0 h.1))
+    (coord_ticks c.args.plan.now w c.in-Coord.coord what c.tick_coord.new.coords.items c.new-outbox.result c.tick_coord.new.outbox (world_of c.note_tick-in-Ok-tick_coord.new.parts) (plain_there c.args.plan.now w c.requires.fits c.in-Coord.coord) c.new-outbox.ensures.messages c.in-Ok-tick_coord.ensures h.0 h.1))
     c.note_tick-in-Ok-tick_coord.ensures

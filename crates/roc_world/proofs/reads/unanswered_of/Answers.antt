@@ -1,14 +1,12 @@
 use Rattle.roc_coord.specs.State.{CoordState}
 use Rattle.std.proofs.Common.{List, ap, ◌++◌, ◌∙◌}
-use Rattle.std.specs.List.{flat_map}
 use Rattle.roc_base.specs.declared.id.TxnId.{TxnId}
-use Rattle.roc_coord.specs.Ids.{ids_of}
 use Rattle.roc_world.proofs.Flattened.{flat_more}
 use Rattle.roc_world.proofs.reads.unanswered_of.Goals as goal
 
 pub loop-coord-preserved : goal.loop-coord-preserved
 loop-coord-preserved c =
-    let unanswered : CoordState → List TxnId = λ s. ids_of s.pending in
+    let unanswered : CoordState → List TxnId = λ s. s.unanswered in
     let at = c.loop-coord.coord-index in
     c.in_ok-extend_from_slice.ensures.items
     ∙ ap (λ (ids : List TxnId). c.loop-coord.ids.items ++ ids) c.unanswered.ensures.ids

@@ -1,7 +1,6 @@
 use Rattle.std.proofs.Common.{◌≡◌, take}
 use Rattle.std.specs.List.{flat_map}
-use Rattle.roc_coord.specs.Ids.{ids_of}
 use Rattle.roc_world.proofs.reads.unanswered_of.Given as goal
 
 abbrev pub invariant-loop-coord : goal.invariant-loop-coord
-invariant-loop-coord l = l.ids.items ≡ flat_map (λ c. ids_of c.pending) (take l.coord-index l.coords)
+invariant-loop-coord l = l.ids.items ≡ flat_map (λ c. c.unanswered) (take l.coord-index l.coords)

@@ -12,7 +12,7 @@ use Rattle.roc_server.specs.Fits.{AreGroupsOf, ServerFits}
 use Rattle.roc_server.specs.Start.{conflicts_before, edge_to, is_immediate, entries_for, users}
 use Rattle.roc_server.specs.State.{Serving, ServerState}
 use Rattle.roc_server.specs.Inner.Indexed.{IsIndexOf}
-use Rattle.roc_server.specs.Inner.Planned.{kept_before}
+use Rattle.roc_server.specs.Inner.Held.{kept_before}
 use Rattle.roc_server.specs.Inner.ServerData.{is_same_group, state_of}
 use Rattle.roc_server.proofs.ReadsBefore.{as_many_users, fits_now, for_decided, index_now, kept_decided, once_now, over_same, same_before}
 use Rattle.roc_server.proofs.server.Server.entries.Goals as goal
@@ -20,14 +20,14 @@ use Rattle.roc_server.proofs.server.Server.entries.Goals as goal
 pub entries-requires-clause-fits : goal.entries-requires-clause-fits
 entries-requires-clause-fits g c =
     subst (λ (l : ServerData). AreGroupsOf c.args.plan.now l.started.groups) (sym c.new-groups.ensures)
-    (fits_now c.args.plan.now c.self.inside.kept c.self.inside.ahead c.self.invariant (subst (λ (v : Serving). ServerFits c.args.plan.now v.state) (sym c.self.view_is) c.requires.fits))
+    (fits_now c.args.plan.now c.self.inside.kept c.self.inside.ahead c.self.invariant.0 (subst (λ (v : Serving). ServerFits c.args.plan.now v.state) (sym c.self.view_is) c.requires.fits))
 
 pub entries-requires-clause-once : goal.entries-requires-clause-once
-entries-requires-clause-once g c = subst (λ (l : ServerData). NoneTwice is_same_group l.started.groups) (sym c.new-groups.ensures) (once_now c.self.inside.kept c.self.inside.ahead c.self.invariant)
+entries-requires-clause-once g c = subst (λ (l : ServerData). NoneTwice is_same_group l.started.groups) (sym c.new-groups.ensures) (once_now c.self.inside.kept c.self.inside.ahead c.self.invariant.0)
 
 pub entries-requires-clause-index : goal.entries-requires-clause-index
 entries-requires-clause-index g c =
-    subst (λ (l : ServerData). IsIndexOf l.index l.decided.ids l.started.groups) (sym c.new-groups.ensures) (index_now c.self.inside.kept c.self.inside.ahead c.self.invariant)
+    subst (λ (l : ServerData). IsIndexOf l.index l.decided.ids l.started.groups) (sym c.new-groups.ensures) (index_now c.self.inside.kept c.self.inside.ahead c.self.invariant.0)
 
 pub returns-clause-entries : goal.returns-clause-entries
 returns-clause-entries g c =
@@ -44,10 +44,10 @@ returns-clause-entries g c =
     subst (λ (l : ServerData). IfOk c.entries.result (λ e. e ≡ over l.decided.ids l.started.groups)) c.new-groups.ensures c.entries.ensures.entries in
     let moved : IfOk c.entries.result (λ e. e ≡ over k.decided.ids was.started.groups) =
     subst (λ es. IfOk c.entries.result (λ e. e ≡ es))
-    (ap united (over_same (edge_to shard immediate) (conflicts_before plan k.decided.ids c.args.id immediate cells) (λ e. refl) (λ e. refl) was.started.groups k.started.groups (same_before k ahead c.self.invariant)))
+    (ap united (over_same (edge_to shard immediate) (conflicts_before plan k.decided.ids c.args.id immediate cells) (λ e. refl) (λ e. refl) was.started.groups k.started.groups (same_before k ahead c.self.invariant.0)))
     found in
     let here : P (state_of shard was) immediate =
-    for_decided c.entries.result (λ e. e) (λ left_out. entries_for plan left_out (state_of shard was) c.args.id immediate cells) was.links k.decided.ids (kept_decided k ahead c.self.invariant) moved in
+    for_decided c.entries.result (λ e. e) (λ left_out. entries_for plan left_out (state_of shard was) c.args.id immediate cells) was.links k.decided.ids (kept_decided k ahead c.self.invariant.0) moved in
     subst (λ (v : Serving). P v.state (is_immediate c.args.class)) c.self.view_is (subst (P (state_of shard was)) c.is_immediate.ensures here)
 
 pub returns-clause-steps : goal.returns-clause-steps
@@ -64,6 +64,6 @@ returns-clause-steps g c =
     let taken : c.entries.new.steps ≤ c.args.steps.now + length (users plan k.decided.ids immediate cells k.started.groups) =
     subst (λ (l : ServerData). c.entries.new.steps ≤ c.args.steps.now + length (users plan l.decided.ids immediate cells l.started.groups)) c.new-groups.ensures c.entries.ensures.steps in
     let moved : Bound (state_of shard was) immediate k.decided.ids =
-    subst (λ (n : ℕ). c.entries.new.steps ≤ c.args.steps.now + n) (as_many_users plan k.decided.ids immediate cells was.started.groups k.started.groups (same_before k ahead c.self.invariant)) taken in
-    let here : P (state_of shard was) immediate = λ left_out p. subst (Bound (state_of shard was) immediate) (rising_one (IsDecided was.links) k.decided.ids left_out (kept_decided k ahead c.self.invariant) p) moved in
+    subst (λ (n : ℕ). c.entries.new.steps ≤ c.args.steps.now + n) (as_many_users plan k.decided.ids immediate cells was.started.groups k.started.groups (same_before k ahead c.self.invariant.0)) taken in
+    let here : P (state_of shard was) immediate = λ left_out p. subst (Bound (state_of shard was) immediate) (rising_one (IsDecided was.links) k.decided.ids left_out (kept_decided k ahead c.self.invariant.0) p) moved in
     subst (λ (v : Serving). P v.state (is_immediate c.args.class)) c.self.view_is (subst (P (state_of shard was)) c.is_immediate.ensures here)

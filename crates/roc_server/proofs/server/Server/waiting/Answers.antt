@@ -2,7 +2,7 @@ use Rattle.std.proofs.Common.{◌≡◌, List, IfOk, refl, sym, subst}
 use Rattle.roc_base.specs.declared.id.TxnId.{TxnId}
 use Rattle.roc_server_lists.specs.New.{AreDecided}
 use Rattle.roc_server.specs.Fits.{ServerFits}
-use Rattle.roc_server.specs.Inner.Planned.{kept_before}
+use Rattle.roc_server.specs.Inner.Held.{kept_before}
 use Rattle.roc_server.specs.Inner.ServerData.{state_of}
 use Rattle.roc_server.specs.State.{Serving}
 use Rattle.roc_server.specs.Waiting.{is_waiting, waiting_groups, waiting_of}
@@ -11,7 +11,7 @@ use Rattle.roc_server.proofs.server.Server.waiting.Goals as goal
 
 pub all_waiting-requires : goal.all_waiting-requires
 all_waiting-requires c =
-    fits_now c.args.plan.now c.self.inside.kept c.self.inside.ahead c.self.invariant (subst (λ (v : Serving). ServerFits c.args.plan.now v.state) (sym c.self.view_is) c.requires.fits)
+    fits_now c.args.plan.now c.self.inside.kept c.self.inside.ahead c.self.invariant.0 (subst (λ (v : Serving). ServerFits c.args.plan.now v.state) (sym c.self.view_is) c.requires.fits)
 
 pub returns : goal.returns
 returns c =
@@ -22,6 +22,6 @@ returns c =
     let at = state_of c.self.inside.shard was in
     let found : IfOk c.all_waiting.result (λ groups. groups.items ≡ waiting_groups plan k.decided.ids at) =
     subst (λ ws. IfOk c.all_waiting.result (λ groups. groups.items ≡ ws))
-    (over_same waiting_of (is_waiting plan k.decided.ids) (λ e. refl) (λ e. refl) was.started.groups k.started.groups (same_before k ahead c.self.invariant)) c.all_waiting.ensures in
+    (over_same waiting_of (is_waiting plan k.decided.ids) (λ e. refl) (λ e. refl) was.started.groups k.started.groups (same_before k ahead c.self.invariant.0)) c.all_waiting.ensures in
     subst (λ (v : Serving). IfOk c.all_waiting.result (λ groups. (decided : List TxnId) → AreDecided v.state.lists.links decided → groups.items ≡ waiting_groups plan decided v.state)) c.self.view_is
-    (for_decided c.all_waiting.result (λ groups. groups.items) (λ decided. waiting_groups plan decided at) was.links k.decided.ids (kept_decided k ahead c.self.invariant) found)
+    (for_decided c.all_waiting.result (λ groups. groups.items) (λ decided. waiting_groups plan decided at) was.links k.decided.ids (kept_decided k ahead c.self.invariant.0) found)

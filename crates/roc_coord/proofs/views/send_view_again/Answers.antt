@@ -1,0 +1,21 @@
+use Rattle.std.proofs.Common.{◌≡◌, Option, Some, OnOk, ap, sym, subst, ◌∙◌}
+use Rattle.roc_base.specs.TxnId.{is_txn}
+use Rattle.roc_msg.specs.Outbox.{HasSent}
+use Rattle.roc_msg.proofs.Sent.{sent_none}
+use Rattle.roc_sequence.proofs.Found.{not_found}
+use Rattle.roc_readonly.specs.declared.view.View.{View}
+use Rattle.roc_coord.specs.State.{find_view}
+use Rattle.roc_coord.specs.Tick.{view_again}
+use Rattle.roc_coord.proofs.Among.{place_found}
+use Rattle.roc_coord.proofs.views.send_view_again.Goals as goal
+
+pub returns-in-None : goal.returns-in-None
+returns-in-None c =
+    let are_sent : Option View → Type 0 = λ x. HasSent c.args.outbox.now c.args.outbox.now (view_again c.args.plan.now x) in
+    subst are_sent (sym (not_found (λ x. is_txn x.id c.args.id) c.args.views.now (sym c.place_of.ensures ∙ c.in-None.is))) (sent_none c.args.outbox.now)
+
+pub returns-in-Some : goal.returns-in-Some
+returns-in-Some c =
+    let are_sent : Option View → Type 0 = λ x. OnOk c.send_again.result (HasSent c.args.outbox.now c.send_again.new.outbox (view_again c.args.plan.now x)) in
+    let found : find_view c.args.id c.args.views.now ≡ Some c.index-views-at.result = (place_found (λ x. is_txn x.id c.args.id) c.args.views.now c.in-Some.at (sym c.place_of.ensures ∙ c.in-Some.is)).found c.index-views-at.result ∙ ap Some (sym c.index-views-at.is) in
+    subst are_sent (sym found) c.send_again.ensures

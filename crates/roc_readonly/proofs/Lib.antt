@@ -1,0 +1,4 @@
+pub mod Ranges
+pub mod Sends
+mod Missing
+mod Replies

@@ -1,0 +1,3 @@
+pub mod Round
+pub mod Fits
+pub mod Inner

@@ -1,0 +1,68 @@
+-- What a server holds: what it keeps, what it keeps for views, and what was made ahead, where something was
+use Rattle.std.specs.Prelude.{◌≤◌, ⊤, List, Option, Some, None, Vec, length, filter, option_map, if◌then◌else◌}
+use Rattle.std.specs.declared.alloc.Global.{Global}
+use Rattle.roc_base.specs.declared.node.Shard.{Shard}
+use Rattle.roc_msg.specs.declared.outbox.Ran.{Ran}
+use Rattle.roc_msg.specs.declared.msg.Msg.{Msg}
+use Rattle.roc_msg.specs.Outbox.{Collected}
+use Rattle.roc_plan.specs.Groups.{Plan}
+use Rattle.roc_server.specs.declared.ahead.Ahead.{Ahead}
+use Rattle.roc_server.specs.declared.ahead.Outcome.{Outcome}
+use Rattle.roc_server.specs.declared.handled.Handled.{Handled}
+use Rattle.roc_server.specs.declared.kept_read.KeptRead.{KeptRead}
+use Rattle.roc_server.specs.declared.server_data.ServerData.{ServerData}
+use Rattle.roc_server.specs.declared.views.Views.{Views}
+use Rattle.roc_server.specs.Reads.{is_taken, with_accesses, AnswersReads, ReadStep}
+use Rattle.roc_server.specs.State.{MadeAhead, ServerState, ServerStep, Serving, Viewing}
+use Rattle.roc_server.specs.Step.{Handles, Shows}
+use Rattle.roc_server.specs.Inner.Planned.{after, before, IsPlanned}
+use Rattle.roc_server.specs.Inner.ServerData.{state_of, IsConsistent}
+
+-- ---- what is kept for views
+
+abbrev pub viewing_of : Views → Viewing
+viewing_of v = record { versions = v.versions.counts; reads = v.reads.items }
+
+-- the reads that stay, where others stay than were kept
+abbrev pub reads_then : List KeptRead → Option (Vec KeptRead Global) → List KeptRead
+reads_then reads None = reads
+reads_then reads (Some stays) = stays.items
+
+-- behind a step that was answered so, in which this ran, and behind which these reads stay
+abbrev pub viewing_then : Viewing → Handled → List Ran → Option (Vec KeptRead Global) → Viewing
+viewing_then v answer ran stays = if is_taken answer then record { versions = with_accesses v.versions ran; reads = reads_then v.reads stays } else v
+
+-- there is room to count what these write
+abbrev pub HasRoomToCount : List Ran → Views → Type 0
+HasRoomToCount ran v = length (filter (λ a. a.writes) ran) ≤ v.versions.spare
+
+-- ---- a server, of which something may be made ahead
+
+-- what comes of a message, as it was planned
+abbrev pub made_of : Shard → ServerData → Views → Msg → Outcome → MadeAhead
+made_of shard k v msg o =
+    record { msg = msg; answer = o.answer; state = after shard k o.change; viewing = viewing_then (viewing_of v) o.answer o.sends.ran o.stays; sends = o.sends }
+
+abbrev pub made_ahead : Shard → ServerData → Views → Ahead → MadeAhead
+made_ahead shard k v made = made_of shard k v made.msg made.outcome
+
+-- what is kept, less what was tried for what was made ahead
+abbrev pub kept_before : ServerData → Option Ahead → ServerData
+kept_before k None = k
+kept_before k (Some made) = before k made.outcome.change
+
+abbrev pub serving : Shard → ServerData → Views → Option Ahead → Serving
+serving shard k v ahead = record { state = state_of shard (kept_before k ahead); viewing = viewing_of v; ahead = option_map (made_ahead shard k v) ahead }
+
+abbrev pub IsHeld : ServerData → Option Ahead → Type 0
+IsHeld k None = IsConsistent k
+IsHeld k (Some made) = IsPlanned k made.outcome.change
+
+-- what was made ahead can be counted
+abbrev pub CanCount : Views → Option Ahead → Type 0
+CanCount v None = ⊤
+CanCount v (Some made) = HasRoomToCount made.outcome.sends.ran v
+
+-- a step was taken: this was answered, is kept, and was added to an outbox
+abbrev pub IsServed : Plan → ServerState → Viewing → Msg → Handled → ServerState → Viewing → Collected → Collected → Type 0
+IsServed plan s v msg answer state viewing old new = (r : ServerStep) × (q : ReadStep) × Handles plan s msg r × AnswersReads plan v msg r q × Shows r q answer state viewing old new

@@ -1,0 +1,144 @@
+-- The order of every run, with the views put in, is a serial witness of its history
+use Rattle.std.proofs.Common.{◌≡◌, ◌∙◌, ℕ, ℤ, ◌<◌, ◌≤◌, Bool, true, not, List, [], Option, Some, length, take, unwrap_or, sym, ap, subst, arith}
+use Rattle.roc_sequence.specs.Lists.{Has}
+use Rattle.roc_sequence.specs.Places.{IsListed}
+use Rattle.roc_sequence.proofs.Members.{from_has_filter}
+use Rattle.roc_base.specs.declared.id.TxnId.{TxnId}
+use Rattle.roc_base.specs.TxnId.{is_txn}
+use Rattle.roc_plan.specs.Groups.{Plan, groups_of, is_view_of, is_transaction}
+use Rattle.roc_plan.specs.Accepted.{IsAccepted}
+use Rattle.roc_whole.specs.Serial as whole
+use Rattle.roc_whole.specs.Serial.{start_store}
+use Rattle.roc_law_log.specs.Scheme.{Scheme, IsSoundScheme}
+use Rattle.roc_law_log.proofs.Following.{AreFound}
+use Rattle.roc_audit.specs.declared.entry.Entry.{Entry}
+use Rattle.roc_audit.specs.declared.entry.Entry.TheVariants.{Submitted}
+use Rattle.roc_audit.specs.History.{WasAnswered}
+use Rattle.roc_audit.specs.Witness.{submitted_call, submitted_calls, IsSerialWitness}
+use Rattle.roc_audit.specs.Woven.{Look, store_seen, entry_id, without_views, LeaveTheStore, AreLooks}
+use Rattle.roc_audit.proofs.Histories.{call_of-is}
+use Rattle.roc_rows.specs.declared.cell.Cell.{Cell}
+use Rattle.roc_rows.specs.Versions.{version, unwritten}
+use Rattle.roc_rows.proofs.Counts.{version-unwritten}
+use Rattle.roc_protocol.specs.PlanAssumptions.{IsSchemeOf, HasSchemes}
+use Rattle.roc_protocol.specs.Beginnings as protocol
+use Rattle.roc_protocol.specs.Inner.Given.{LogLaws, SerialLaws, StoreLaws}
+use Rattle.roc_protocol.proofs.Firsts.{first_begins}
+use Rattle.roc_protocol.proofs.Serial.{call_in, agrees, procedures, order_serial, plain_witness}
+use Rattle.roc_protocol.proofs.Worlds.{submissions_from, ordered_submitted}
+use Rattle.roc_protocol.proofs.Submissions.{AreSubmissions}
+use Rattle.roc_protocol.proofs.Transactions.{HasTransaction}
+use Rattle.roc_views.specs.World.{World, first_beginning}
+use Rattle.roc_views.specs.Run.{Stepped, IsRunFrom}
+use Rattle.roc_views.specs.Beside.{TellsViews}
+use Rattle.roc_views.specs.Witness.{was_answered, shown}
+use Rattle.roc_views.proofs.Shown.{last_from}
+use Rattle.roc_views.proofs.Numbered.{numbered}
+use Rattle.roc_views.proofs.Readings.{ViewLaws, AreSteady}
+use Rattle.roc_views.proofs.Runs.{IsRunBeside, beside}
+use Rattle.roc_views.proofs.Versions.{most}
+use Rattle.roc_views.proofs.ViewLogs.{IsLoggedBeside, logged_beside}
+use Rattle.roc_views.proofs.ViewMeans.{TellsCalls, is_view_id}
+use Rattle.roc_views.proofs.ViewWitness.{calls_tell_views, views_fit, views_leave}
+use Rattle.roc_views.proofs.WholeViews.{ViewParts}
+
+abbrev pub no_call : TxnId → whole.Call
+no_call t = record { id = t; procedure = 0; arguments = [] }
+
+-- what is called in a history; who called nothing calls the first procedure
+abbrev pub called_in : List Entry → TxnId → whole.Call
+called_in history t = unwrap_or (submitted_call t history) (no_call t)
+
+module _ (plan : Plan) (coords : ℕ) (steps : List Stepped) (w : World) (run : IsRunFrom plan (first_beginning plan) coords steps w) where
+  -- the calls are those of the history
+  tells : TellsCalls (called_in w.history) w.history
+  tells t p a h =
+      let o = numbered plan (first_beginning plan) coords steps w run in
+      let same = call_of-is w.history t p a (λ q b k. o.one t q p b a k h) h in
+      (ap (λ (o : Option whole.Call). (unwrap_or o (no_call t)).procedure) (sym same), ap (λ (o : Option whole.Call). (unwrap_or o (no_call t)).arguments) (sym same))
+
+  abbrev pub is_view : TxnId → Bool
+  is_view = is_view_id plan (called_in w.history)
+
+  pub tells_them : TellsViews plan is_view w.history
+  tells_them = calls_tell_views plan (called_in w.history) w.history tells
+
+  -- the run of transactions beside
+  abbrev pub run_beside : IsRunBeside plan (first_beginning plan) coords is_view steps w
+  run_beside = beside plan (first_beginning plan) coords is_view steps w run tells_them
+
+  pub leave : IsAccepted plan → LeaveTheStore plan.program is_view w.history
+  leave accepted = views_leave plan is_view w.history accepted.well_formed tells_them
+
+  module _ (schemes : HasSchemes plan) (laws : (S : Scheme) → IsSoundScheme S → LogLaws S (start_store plan.program)) (serials : (S : Scheme) → IsSoundScheme S → SerialLaws S (start_store plan.program)) (stores : StoreLaws) where
+    -- of transactions alone the order is one
+    pub alone : IsSerialWitness plan.program (without_views is_view w.history) w.order
+    alone =
+        subst (λ history. IsSerialWitness plan.program history w.order) run_beside.holds.beside.history
+        (subst (λ order. IsSerialWitness plan.program run_beside.world.history order) run_beside.holds.beside.order
+        (plain_witness plan.program run_beside.world.history run_beside.world.order
+        (order_serial plan (protocol.first_beginning plan) (first_begins stores plan) schemes laws serials stores coords run_beside.others run_beside.world run_beside.run)))
+
+    module _ (accepted : IsAccepted plan) (some : HasTransaction plan) (found : (S : Scheme) → AreFound S (start_store plan.program)) (steady : (S : Scheme) → IsSoundScheme S → AreSteady S (start_store plan.program))
+        (parts : ViewParts plan) (view_laws : ViewLaws plan) (some_group : (proc : ℕ) → is_view_of plan proc ≡ true → 0 < length (groups_of plan proc))
+      where
+        few : (n : ℕ) (x : Cell) → version unwritten x ≤ most
+        few n x = let e = version-unwritten x in omega (arith, e)
+
+        abbrev asked : TxnId → whole.Call
+        asked = call_in some.0 run_beside.world
+
+        submissions : AreSubmissions plan run_beside.world.history run_beside.world.coords
+        submissions = submissions_from plan (protocol.first_beginning plan) coords run_beside.others run_beside.world run_beside.run
+
+        known : (t : TxnId) → is_transaction plan (asked t).procedure ≡ true
+        known = procedures plan some.0 run_beside.world submissions some.1
+
+        abbrev S : Scheme
+        S = schemes.scheme asked
+
+        is : IsSchemeOf plan asked S
+        is = schemes.of asked known
+
+        sound : IsSoundScheme S
+        sound = schemes.sound asked known
+
+        logged : IsLoggedBeside plan (called_in w.history) asked S (first_beginning plan) is (laws S sound) stores (first_begins stores plan) sound (found S) view_laws (steady S sound) some_group few coords w run_beside.world
+        logged =
+            logged_beside plan (called_in w.history) asked S (first_beginning plan) is (laws S sound) stores (first_begins stores plan) sound (found S) view_laws (steady S sound) some_group few coords steps w run tells_them tells
+            (agrees plan some.0 run_beside.world submissions)
+
+        -- who is in the order was submitted, with what it is asked
+        called : (t : TxnId) → IsListed is_txn w.order t → submitted_call t w.history ≡ Some (asked t)
+        called t h =
+            let o = numbered plan (first_beginning plan) coords steps w run in
+            let beside = run_beside.holds.beside in
+            let s = ordered_submitted plan asked S (protocol.first_beginning plan) is (laws S sound) run_beside.world logged.log logged.logged t (subst (λ l. IsListed is_txn l t) (sym beside.order) h) in
+            let all = (from_has_filter (λ e. not (is_view (entry_id e))) (Submitted t s.0 s.1) w.history (subst (λ l. Has (Submitted t s.0 s.1) l) beside.history s.2)).0 in
+            let g = agrees plan some.0 run_beside.world submissions in
+            call_of-is w.history t s.0 s.1 (λ q b k. o.one t q s.0 b s.1 k all) all ∙ (λ i. Some (record { id = sym (g.id t s.0 s.1 s.2) i; procedure = g.proc t s.0 s.1 s.2 i; arguments = g.args t s.0 s.1 s.2 i }))
+
+        pub looks_fit : AreLooks plan.program is_view w.history w.order (shown w)
+        looks_fit =
+            views_fit plan (called_in w.history) asked S (protocol.first_beginning plan) (first_beginning plan).versions w logged.log logged.views accepted parts tells (schemes.stores asked known)
+            called
+            logged.in_time
+
+        -- each behind no more than there are
+        pub few_behind : (l : Look) → Has l (shown w) → l.behind ≤ length w.order
+        few_behind l h = logged.in_time.few l (last_from (was_answered w.history) w.looks l h)
+
+-- an answered view read what the first so many transactions of the order leave
+pub prefix : (plan : Plan) (coords : ℕ) (steps : List Stepped) (w : World) → IsRunFrom plan (first_beginning plan) coords steps w
+    → (is_view : TxnId → Bool) → TellsViews plan is_view w.history → AreLooks plan.program is_view w.history w.order (shown w) → ((l : Look) → Has l (shown w) → l.behind ≤ length w.order)
+    → (v : TxnId) (p : ℕ) (a : List ℤ) → Has (Submitted v p a) w.history → is_view_of plan p ≡ true → (reply : List ℤ) → WasAnswered w.history v reply
+    → (behind : ℕ) × (behind ≤ length w.order)
+    × (reply ≡ (whole.run_of plan.program (whole.serial_store plan.program (start_store plan.program) (submitted_calls w.history (take behind w.order))) (record { id = v; procedure = p; arguments = a })).reply)
+prefix plan coords steps w run is_view tells looks few v p a h viewed reply answered =
+    let r = looks.replies v reply (tells v p a h ∙ viewed) answered in
+    let o = numbered plan (first_beginning plan) coords steps w run in
+    let same : Some r.3 ≡ Some (record { id = v; procedure = p; arguments = a }) = sym r.4 ∙ call_of-is w.history v p a (λ q b k. o.one v q p b a k h) h in
+    (r.0.behind, few r.0 r.1, r.5 ∙ ap (λ c. (whole.run_of plan.program (store_seen plan.program w.history w.order r.0) c).reply) (one_call r.3 (record { id = v; procedure = p; arguments = a }) same))
+  where
+    one_call : (c d : whole.Call) → Some c ≡ Some d → c ≡ d
+    one_call c d e = cc

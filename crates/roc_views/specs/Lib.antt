@@ -1,0 +1,6 @@
+pub mod Rank
+pub mod World
+pub mod Happens
+pub mod Run
+pub mod Beside
+pub mod Witness

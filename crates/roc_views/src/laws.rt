@@ -1,0 +1,83 @@
+//! What holds of every run.
+ghost use Rattle.std.specs.Prelude.{◌≡◌, ◌≤◌, ℕ, ℤ, Bool, true, List, length, take};
+ghost use Rattle.roc_sequence.specs.Lists.{Has};
+ghost use Rattle.roc_base.specs.declared.id.TxnId.{TxnId};
+ghost use Rattle.roc_plan.specs.Groups.{Plan, is_transaction, is_view_of};
+ghost use Rattle.roc_plan.specs.Accepted.{IsAccepted};
+ghost use Rattle.roc_whole.specs.Serial.{run_of, serial_store, start_store};
+ghost use Rattle.roc_audit.specs.declared.entry.Entry.TheVariants.{Submitted};
+ghost use Rattle.roc_audit.specs.History.{WasAnswered};
+ghost use Rattle.roc_audit.specs.Witness.{submitted_calls, IsSerialWitness};
+ghost use Rattle.roc_audit.specs.Woven.{Look, without_views, LeaveTheStore, AreLooks};
+ghost use Rattle.roc_protocol.specs.World as transactions;
+ghost use Rattle.roc_protocol.specs.Beside as their_besides;
+ghost use Rattle.roc_protocol.specs.Run as transactions_run;
+ghost use Rattle.roc_views.specs.World.{World, Beginning, first_beginning};
+ghost use Rattle.roc_views.specs.Run.{Stepped, IsRunFrom};
+ghost use Rattle.roc_views.specs.Beside.{AreStepsBeside, IsBeside, TellsViews};
+ghost use Rattle.roc_views.specs.Witness.{shown, witness_of};
+
+use roc_audit::laws::woven_is_a_witness;
+use roc_group::laws::{
+    cells_are_at_the_place, cells_follow_from_what_is_given, runs_follow_from_cells,
+    views_read_alone,
+};
+use roc_law_groups::laws::groups_in_turn_are_the_whole_run;
+use roc_law_log::laws::steady_cells_are_serial;
+use roc_law_orders::laws::runs_stay;
+use roc_law_plans::laws::accepted_plans_have_schemes;
+use roc_plan::laws::views_are_apart;
+use roc_protocol::laws::machine_laws;
+
+/// Of transactions alone, each run is one of `roc_protocol`, in which coordinators do something aside.
+pub fn runs_are_beside()
+    ensures { (plan : Plan) (b : Beginning) (coords : ℕ) (is_view : TxnId → Bool) (steps : List Stepped) (w : World) → IsRunFrom plan b coords steps w
+        → TellsViews plan is_view w.history
+        → (others : List transactions_run.Stepped) × (t : transactions.World) × their_besides.IsRunBeside plan b.of_transactions coords others t × IsBeside is_view w t × AreStepsBeside steps others }
+{}
+
+/// The looks of answered views fit: there are ids that the submissions tell to be of views, and beside them the order is a serial witness of what
+/// the history tells of transactions, each view called leaves each store as it is, and the last looks fit the history and the order, each
+/// of them behind no more transactions than there are. The plan has a procedure that may write.
+pub fn looks_fit()
+    ensures { (plan : Plan) (coords : ℕ) (steps : List Stepped) (w : World) → IsAccepted plan
+        → (writer : ℕ) → is_transaction plan writer ≡ true → IsRunFrom plan (first_beginning plan) coords steps w
+        → (is_view : TxnId → Bool) × TellsViews plan is_view w.history × LeaveTheStore plan.program is_view w.history
+        × IsSerialWitness plan.program (without_views is_view w.history) w.order × AreLooks plan.program is_view w.history w.order (shown w)
+        × ((l : Look) → Has l (shown w) → l.behind ≤ length w.order) }
+{
+    machine_laws();
+    accepted_plans_have_schemes();
+    runs_stay();
+    steady_cells_are_serial();
+    cells_follow_from_what_is_given();
+    cells_are_at_the_place();
+    runs_follow_from_cells();
+    views_read_alone();
+    views_are_apart();
+    groups_in_turn_are_the_whole_run();
+}
+
+/// An answered view read what a prefix of the order leaves: its reply is that of its whole run behind the first so many transactions of the
+/// order, run whole, one after another, from the start cells. The plan has a procedure that may write.
+pub fn views_read_a_prefix()
+    ensures { (plan : Plan) (coords : ℕ) (steps : List Stepped) (w : World) → IsAccepted plan
+        → (writer : ℕ) → is_transaction plan writer ≡ true → IsRunFrom plan (first_beginning plan) coords steps w
+        → (v : TxnId) (proc : ℕ) (args : List ℤ) → Has (Submitted v proc args) w.history → is_view_of plan proc ≡ true → (reply : List ℤ) → WasAnswered w.history v reply
+        → (behind : ℕ) × (behind ≤ length w.order)
+        × (reply ≡ (run_of plan.program (serial_store plan.program (start_store plan.program) (submitted_calls w.history (take behind w.order))) (record { id = v; procedure = proc; arguments = args })).reply) }
+{
+    looks_fit();
+}
+
+/// In every world of a run the order of the transactions, with each answered view put in where it looked last, is a serial order that
+/// explains the whole history: each answered transaction and view has the reply that it has where all run whole, one after another, in this
+/// order, and who was answered before another's submission stands before it. The plan has a procedure that may write.
+pub fn witness_is_serial()
+    ensures { (plan : Plan) (coords : ℕ) (steps : List Stepped) (w : World) → IsAccepted plan
+        → (writer : ℕ) → is_transaction plan writer ≡ true → IsRunFrom plan (first_beginning plan) coords steps w
+        → IsSerialWitness plan.program w.history (witness_of w) }
+{
+    looks_fit();
+    woven_is_a_witness();
+}

@@ -1,0 +1,11 @@
+//! The world with views, and what holds of its runs (`docs/PROTOCOL.md`, "Views"). No code stands here.
+//!
+//! A view is a procedure that only reads. It runs beside transactions: its coordinator reads all its groups, round by round, until two rounds
+//! in succession read the same versions; no server orders it, and nobody waits for it. `specs/World.antt` is the world of `roc_protocol` with
+//! what servers and coordinators keep for views, and with the looks: behind how many transactions of the order each round began.
+//!
+//! Of transactions alone each run is one of theirs ([`laws::runs_are_beside`]). And the order, with each answered view put in where its last
+//! round began, is a serial order that explains the whole history ([`laws::witness_is_serial`]).
+#![tactic(auto)]
+
+pub mod laws;
