@@ -233,3 +233,25 @@ def precedes(report: Report) -> dict[tuple[str, str], str]:
             old_tags, old_shard = union.get(key, ("", int(shard)))
             union[key] = ("".join(tag for tag in "id" if tag in old_tags + tags), min(old_shard, int(shard)))
     return {key: f"{tags}@{shard}" for key, (tags, shard) in sorted(union.items(), key=lambda item: tuple(map(by_number, item[0])))}
+
+
+def views(report: Report) -> set[str]:
+    """The ids that are read for: those of views."""
+    return {message.transaction for message in report.messages if message.kind == "read"}
+
+
+def rounds(report: Report) -> dict[int, int]:
+    """By event, the round of a view that begins there: its first one as it is submitted, and each other one where a readok comes that ends the round
+    before. A tick begins none: it sends reads of the round under way again."""
+    begun: dict[str, int] = {}
+    found: dict[int, int] = {}
+    for event in report.events:
+        reads = [message.transaction for message in event.sends if message.kind == "read"]
+        if reads and event.word != "tick":
+            found[event.index] = begun[reads[0]] = begun.get(reads[0], 0) + 1
+    return found
+
+
+def is_kept(event: Event) -> bool:
+    """Whether a read came here that its server answers later."""
+    return event.message is not None and event.message.kind == "read" and not event.untaken and not event.sends

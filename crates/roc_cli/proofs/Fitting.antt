@@ -11,8 +11,8 @@ use Rattle.roc_program.specs.Program.{Workload}
 use Rattle.roc_lang_resolve.specs.Resolve.{resolved}
 use Rattle.roc_plan.specs.Groups.{Plan}
 use Rattle.roc_io.specs.declared.link.Addr.{Addr}
-use Rattle.roc_protocol.specs.World.{World}
-use Rattle.roc_protocol.specs.Run.{Stepped}
+use Rattle.roc_views.specs.World.{World}
+use Rattle.roc_views.specs.Run.{Stepped}
 use Rattle.roc_cluster.specs.declared.fault.ClusterFault.{ClusterFault}
 use Rattle.roc_cluster.specs.declared.fault.ClusterFault.TheVariants as cluster_fault
 use Rattle.roc_cluster.specs.File.{IsClusterFile}

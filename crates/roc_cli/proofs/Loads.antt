@@ -4,7 +4,7 @@ use Rattle.std.specs.List.{AllByRecursion}
 use Rattle.std.proofs.lemmas.Bool.{eq-eqb}
 use Rattle.std.proofs.lemmas.Option.{none-some, same_Some}
 use Rattle.roc_program.specs.Program.{Workload}
-use Rattle.roc_program.specs.LookUps.{transaction_named}
+use Rattle.roc_program.specs.LookUps.{procedure_named}
 use Rattle.roc_plan.specs.Groups.{Plan}
 use Rattle.roc_protocol.specs.declared.event.Event.TheVariants as event
 use Rattle.roc_sched.specs.declared.fault.What.{What}
@@ -43,7 +43,7 @@ module _ (program : Workload) where
       ∙ ap (λ b. if b then Ok (wanted.Event (event.Submit coord proc args)) else Err what.Arguments) (eq-eqb (length args) (arguments_of program proc) count)
 
   wants : (a : Act) → IsCallOrChoice program a → (w : Wanted) × (wanted_by program a ≡ Ok w) × NamesNone w
-  wants (act.Submit coord name args) h = (wanted.Event (event.Submit coord h.1.0 args), submission_is coord args (transaction_named program name) h.1.0 h.1.1 h.1.2, λ message e. absurd (cc))
+  wants (act.Submit coord name args) h = (wanted.Event (event.Submit coord h.1.0 args), submission_is coord args (procedure_named program name) h.1.0 h.1.1 h.1.2, λ message e. absurd (cc))
   wants (act.Deliver message) h = absurd h
   wants (act.Any place) h = (wanted.Any place, refl, λ message e. absurd (cc))
   wants (act.Tick node) h = absurd h

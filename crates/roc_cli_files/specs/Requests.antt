@@ -2,19 +2,19 @@
 use Rattle.std.specs.Prelude.{◌≡◌, ℕ, ◌==◌, ℤ, if◌then◌else◌, List, length, ◌∷◌, ◌++◌, Option, None, Some, slice_index_or}
 use Rattle.std.specs.List.{AllByRecursion}
 use Rattle.roc_program.specs.Program.{Workload}
-use Rattle.roc_program.specs.LookUps.{no_procedure, transaction_named}
+use Rattle.roc_program.specs.LookUps.{no_procedure, procedure_named}
 use Rattle.roc_sched.specs.declared.fault.What.{What}
 use Rattle.roc_sched.specs.declared.fault.What.TheVariants.{Procedure, Arguments}
 use Rattle.roc_sched.specs.declared.line.Request.{Request}
 use Rattle.roc_sched.specs.Schedule.{AreRequests, IsRequestFault}
 
--- why a call of a procedure, where there is one that is no view, does not fit the program, if it does not
+-- why a call of a procedure, where there is one, does not fit the program, if it does not
 abbrev pub call_fault : Workload → (args : List ℤ) → (proc : Option ℕ) → Option What
 call_fault program args None = Some Procedure
 call_fault program args (Some proc) = if length args == (slice_index_or program.procedures proc no_procedure).arguments then None else Some Arguments
 
 abbrev pub request_fault : Workload → Request → Option What
-request_fault program request = call_fault program request.args (transaction_named program request.name)
+request_fault program request = call_fault program request.args (procedure_named program request.name)
 
 -- each fits the program
 abbrev pub FitEach : Workload → List Request → Type 0

@@ -46,7 +46,7 @@ fn all_fit(plan: &Plan, requests: &[Request]) -> Result<(), TextFault>
 fn request_fault(plan: &Plan, request: &Request) -> Option<What>
     ensures { result ≡ request_fault plan.now.program request.now }
 {
-    match plan.transaction_named(request.name.as_bytes()) {
+    match plan.procedure_named(request.name.as_bytes()) {
         Some(proc) => {
             if request.args.len() == usize::from(plan.args(proc)) {
                 None

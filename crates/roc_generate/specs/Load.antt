@@ -5,7 +5,7 @@ use Rattle.roc_lang.specs.Syntax.{Tree}
 use Rattle.roc_lang_parse.specs.Fault.{IsWorkloadText}
 use Rattle.roc_lang_print.specs.Canonical.{canonical}
 use Rattle.roc_program.specs.Program.{Workload}
-use Rattle.roc_program.specs.LookUps.{no_procedure, transaction_named}
+use Rattle.roc_program.specs.LookUps.{no_procedure, procedure_named}
 use Rattle.roc_sched.specs.declared.line.Act.{Act}
 use Rattle.roc_sched.specs.declared.line.Act.TheVariants.{Submit, Deliver, Any, Tick}
 use Rattle.roc_sched.specs.declared.line.Line.{Line}
@@ -21,7 +21,7 @@ pub record IsCanonicalText (bytes : List ℕ) : Type 0 where
 -- which no number names
 abbrev pub IsCallOrChoice : Workload → Act → Type 0
 IsCallOrChoice program (Submit coord name args) =
-    (coord < 16) × ((proc : ℕ) × (transaction_named program name ≡ Some proc) × (length args ≡ (slice_index_or program.procedures proc no_procedure).arguments))
+    (coord < 16) × ((proc : ℕ) × (procedure_named program name ≡ Some proc) × (length args ≡ (slice_index_or program.procedures proc no_procedure).arguments))
 IsCallOrChoice program (Deliver message) = ⊥
 IsCallOrChoice program (Any place) = Unit {0}
 IsCallOrChoice program (Tick node) = ⊥

@@ -1,5 +1,6 @@
 //! Standard output and standard error.
-ghost use Rattle.std.specs.Prelude.{None};
+ghost use Rattle.std.specs.Prelude.{None, OnOk};
+ghost use Rattle.std.specs.Io.KnownBytes.{Appends};
 
 use roc_io::{Sink, Written};
 use std::io::Write;
@@ -38,8 +39,10 @@ impl<W: Write> Sink for Stream<W> {
     }
 }
 
-// A piece goes out whole before the next begins.
-fn write_now<W: Write>(writer: &mut W, piece: &[u8]) -> std::io::Result<()> {
+/// Writes a piece whole.
+pub(crate) fn write_now<W: Write>(writer: &mut W, piece: &[u8]) -> std::io::Result<()>
+    ensures { OnOk result (Appends (W.contents writer.old) (W.contents writer.new) piece.now) }
+{
     writer.write_all(piece)?;
     writer.flush()
 }

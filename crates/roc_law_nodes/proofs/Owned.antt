@@ -10,10 +10,11 @@ use Rattle.roc_msg.specs.declared.msg.Envelope.{Envelope}
 use Rattle.roc_msg.specs.declared.outbox.Outgoing.{Outgoing}
 use Rattle.roc_plan.specs.Groups.{Plan}
 use Rattle.roc_protocol.specs.declared.event.Event.{Event}
-use Rattle.roc_protocol.specs.World.{World, sent_by}
-use Rattle.roc_protocol.specs.Run.{Stepped, IsRun, begun, goes_on}
+use Rattle.roc_protocol.specs.World.{sent_by}
+use Rattle.roc_views.specs.World.{World}
+use Rattle.roc_views.specs.Run.{Stepped, IsRun, at_beginning, steps_on}
 use Rattle.roc_law_nodes.specs.Own.{OwnEvent, own_step, own_events, messages_of}
-use Rattle.roc_law_nodes.proofs.Stepping.{IsStepAt, IsStep, no_step, server_step, coord_step, run_stepping}
+use Rattle.roc_law_nodes.proofs.Stepping.{IsStepAt, IsStep, no_step, server_step, coord_step, stepping}
 
 -- ---- messages
 
@@ -61,14 +62,14 @@ module _ (node : Node) where
 
   adds : (plan : Plan) (w v : World) (e : Option Event) → IsStep plan w v e → Adds w v e
   adds plan w v e (no_step same none) = record { own = None; outs = []; grows = ap (λ (u : World). u.sent) same ∙ sym (append-nil w.sent); is = λ more. ap (own_step node (w.sent ++ more)) none }
-  adds plan w v e (server_step shard own s after outs at there steps servers coords) = record { own = _; outs = _; grows = at.sends; is = at.is node }
-  adds plan w v e (coord_step number own c after outs at there steps coords servers) = record { own = _; outs = _; grows = at.sends; is = at.is node }
+  adds plan w v e (server_step shard own s after views kept outs at there keeps steps servers viewing coords) = record { own = _; outs = _; grows = at.sends; is = at.is node }
+  adds plan w v e (coord_step number own c after outs at there steps coords servers viewing) = record { own = _; outs = _; grows = at.sends; is = at.is node }
 
   -- what is sent since changes nothing of what happened
   pub own_kept : {plan : Plan} {coords : ℕ} {steps : List Stepped} {w : World} → IsRun plan coords steps w → (more : List Envelope) → own_events node (w.sent ++ more) steps ≡ own_events node w.sent steps
-  own_kept begun more = refl
-  own_kept {plan} {coords} (goes_on {steps = steps} {w = w} e o r h) more =
-      let a = adds plan w o.world e (run_stepping plan coords r e o h) in
+  own_kept at_beginning more = refl
+  own_kept {plan} {coords} (steps_on {steps = steps} {w = w} e o r h) more =
+      let a = adds plan w o.world e (stepping plan w e o h) in
       let x : Stepped = record { event = e; outcome = o } in
       let at = own_more w.sent o.world.sent a.outs steps x a.own (own_kept r) a.is a.grows in
       at more ∙ (sym (at []) ∙ ap (λ l. own_events node l (steps ++ x ∷ [])) (append-nil o.world.sent))

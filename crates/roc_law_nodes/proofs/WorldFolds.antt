@@ -1,7 +1,8 @@
 -- In a run of the world, each node's state and messages are the fold of its step over its own events
-use Rattle.std.proofs.Common.{◌≡◌, ℕ, ◌==◌, Bool, true, false, List, [], ◌∷◌, ◌++◌, Some, refl, sym, ap, subst, ◌∙◌, append-nil, arith}
+use Rattle.std.proofs.Common.{◌≡◌, ◌≢◌, ℕ, zero, suc, ◌+◌, ◌==◌, Bool, true, false, List, [], ◌∷◌, ◌++◌, Some, map, refl, sym, ap, subst, ◌∙◌, append-nil, arith}
 use Rattle.std.proofs.lemmas.Bool.{eqb-true, eq-eqb, false≢true}
 use Rattle.std.specs.Prelude.{slice_get, slice_set}
+use Rattle.std.specs.List.{range_with_len}
 use Rattle.roc_sequence.proofs.Members.{same_there}
 use Rattle.roc_base.specs.declared.node.Shard.{Shard}
 use Rattle.roc_base.specs.declared.node.Node.{Node}
@@ -12,13 +13,13 @@ use Rattle.roc_server.specs.First.{first_server}
 use Rattle.roc_server.specs.Reads.{first_viewing}
 use Rattle.roc_server.specs.State.{ServerState, Viewing}
 use Rattle.roc_coord.specs.State.{first_coord, CoordState}
-use Rattle.roc_protocol.specs.World.{World}
-use Rattle.roc_protocol.specs.Run.{Stepped, IsRun, begun, goes_on}
+use Rattle.roc_views.specs.World.{World}
+use Rattle.roc_views.specs.Run.{Stepped, IsRun, at_beginning, steps_on}
 use Rattle.roc_protocol.proofs.Changed.{get-set_here, get-set_other}
 use Rattle.roc_protocol.proofs.Firsts.{found_at}
 use Rattle.roc_law_nodes.specs.Own.{OwnEvent, own_events, messages_of}
-use Rattle.roc_law_nodes.specs.Fold.{IsServerFold, server_begun, server_goes_on, CoordSteps, IsCoordFold, coord_begun, coord_goes_on}
-use Rattle.roc_law_nodes.proofs.Stepping.{IsStepAt, StepsUnread, IsStep, no_step, server_step, coord_step, run_stepping}
+use Rattle.roc_law_nodes.specs.Fold.{ServerSteps, IsServerFold, server_begun, server_goes_on, CoordSteps, IsCoordFold, coord_begun, coord_goes_on}
+use Rattle.roc_law_nodes.proofs.Stepping.{IsStepAt, IsStep, no_step, server_step, coord_step, stepping}
 use Rattle.roc_law_nodes.proofs.Owned.{Gains, gains_here, gains_elsewhere, gains_nothing}
 
 -- ---- the same fold under equal lists
@@ -37,9 +38,16 @@ module _ (plan : Plan) where
 
 -- ---- servers
 
--- in the world no read waits at a server
-abbrev pub IsUnreadFold : Plan → Shard → List OwnEvent → ServerState → List Outgoing → Type 0
-IsUnreadFold plan shard events s messages = (v : Viewing) × (v.reads ≡ []) × IsServerFold plan shard events s v messages
+-- where one list of numbered things has something, so has another of as many
+found_too : {A B : Type 0} (f : ℕ → A) (g : ℕ → B) (a n number : ℕ) (x : A) → slice_get (map f (range_with_len a n)) number ≡ Some x
+    → slice_get (map g (range_with_len a n)) number ≡ Some (g (a + number))
+found_too f g a zero number x e = absurd (cc)
+found_too f g a (suc n) zero x e = let same : a ≡ a + 0 = omega arith in ap (λ k. Some (g k)) same
+found_too f g a (suc n) (suc number) x e = let same : (a + 1) + number ≡ a + suc number = omega arith in found_too f g (a + 1) n number x e ∙ ap (λ k. Some (g k)) same
+
+-- what a shard's server keeps for views stands here, and the events lead to it
+abbrev pub IsFoldKept : Plan → Shard → List Viewing → List OwnEvent → ServerState → List Outgoing → Type 0
+IsFoldKept plan shard viewing events s messages = (v : Viewing) × (slice_get viewing shard.0 ≡ Some v) × IsServerFold plan shard events s v messages
 
 module _ (plan : Plan) (coords : ℕ) where
   module _ {steps : List Stepped} {w : World} (r : IsRun plan coords steps w) (x : Stepped) (v : World) (shard : Shard) (s : ServerState) (after : slice_get v.servers shard.0 ≡ Some s) where
@@ -48,40 +56,54 @@ module _ (plan : Plan) (coords : ℕ) where
 
     -- what the fold was before
     abbrev ServerWas : Type 0
-    ServerWas = (t : ServerState) → slice_get w.servers shard.0 ≡ Some t → IsUnreadFold plan shard (own_events at w.sent steps) t (messages_of at w.sent)
+    ServerWas = (t : ServerState) → slice_get w.servers shard.0 ≡ Some t → IsFoldKept plan shard w.viewing (own_events at w.sent steps) t (messages_of at w.sent)
 
-    server_rests : v.servers ≡ w.servers → Gains at w v steps x [] [] → ServerWas → IsUnreadFold plan shard (own_events at v.sent (steps ++ x ∷ [])) s (messages_of at v.sent)
-    server_rests same g was =
-        let f = was s (ap (λ l. slice_get l shard.0) (sym same) ∙ after) in
-        (f.0, f.1, server_as plan f.2 (g.events ∙ append-nil (own_events at w.sent steps)) refl refl (g.messages ∙ append-nil (messages_of at w.sent)))
+    -- what it is then
+    abbrev ServerIs : Type 0
+    ServerIs = IsFoldKept plan shard v.viewing (own_events at v.sent (steps ++ x ∷ [])) s (messages_of at v.sent)
 
-    server_moves : (other : Shard) (own : OwnEvent) (t next : ServerState) (outs : List Outgoing) → IsStepAt w v x.event (Server other) own outs → slice_get w.servers other.0 ≡ Some t → StepsUnread plan t own next outs
-        → v.servers ≡ slice_set w.servers other.0 next → ServerWas → (b : Bool) → (other.0 == shard.0) ≡ b → IsUnreadFold plan shard (own_events at v.sent (steps ++ x ∷ [])) s (messages_of at v.sent)
-    server_moves other own t next outs is there goes set was true e =
+    server_rests : slice_get v.servers shard.0 ≡ slice_get w.servers shard.0 → slice_get v.viewing shard.0 ≡ slice_get w.viewing shard.0 → Gains at w v steps x [] [] → ServerWas → ServerIs
+    server_rests same views g was =
+        let f = was s (sym same ∙ after) in
+        (f.0, views ∙ f.1, server_as plan f.2 (g.events ∙ append-nil (own_events at w.sent steps)) refl refl (g.messages ∙ append-nil (messages_of at w.sent)))
+
+    server_moves : (other : Shard) (own : OwnEvent) (t next : ServerState) (view kept : Viewing) (outs : List Outgoing) → IsStepAt w v x.event (Server other) own outs
+        → slice_get w.servers other.0 ≡ Some t → slice_get w.viewing other.0 ≡ Some view → ServerSteps plan t view own next kept outs
+        → v.servers ≡ slice_set w.servers other.0 next → v.viewing ≡ slice_set w.viewing other.0 kept → ServerWas → (b : Bool) → (other.0 == shard.0) ≡ b → ServerIs
+    server_moves other own t next view kept outs is there keeps goes set sets was true e =
         let same : other.0 ≡ shard.0 = eqb-true other.0 shard.0 e in
         let here : slice_get w.servers shard.0 ≡ Some t = subst (λ (n : ℕ). slice_get w.servers n ≡ Some t) same there in
+        let here_too : slice_get w.viewing shard.0 ≡ Some view = subst (λ (n : ℕ). slice_get w.viewing n ≡ Some view) same keeps in
         let put : slice_get v.servers shard.0 ≡ Some next = ap (λ l. slice_get l shard.0) set ∙ (ap (λ (n : ℕ). slice_get (slice_set w.servers n next) shard.0) same ∙ get-set_here w.servers shard.0 t next here) in
+        let put_too : slice_get v.viewing shard.0 ≡ Some kept =
+        ap (λ l. slice_get l shard.0) sets ∙ (ap (λ (n : ℕ). slice_get (slice_set w.viewing n kept) shard.0) same ∙ get-set_here w.viewing shard.0 view kept here_too) in
         let g = gains_here at r x v (Server other) own outs is e in
         let f = was t here in
-        let more = goes f.0 f.1 in
-        (more.0, more.1, server_as plan (server_goes_on own next more.0 outs f.2 more.2) g.events (same_there v.servers shard.0 s next after put) refl g.messages)
-    server_moves other own t next outs is there goes set was false e =
-        let kept : slice_get v.servers shard.0 ≡ slice_get w.servers shard.0 = ap (λ l. slice_get l shard.0) set ∙ get-set_other w.servers other.0 shard.0 next (λ same. false≢true (sym e ∙ eq-eqb other.0 shard.0 same)) in
-        let g = gains_elsewhere at r x v (Server other) own outs is e in
-        let f = was s (sym kept ∙ after) in
-        (f.0, f.1, server_as plan f.2 (g.events ∙ append-nil (own_events at w.sent steps)) refl refl (g.messages ∙ append-nil (messages_of at w.sent)))
+        let fold = server_as plan f.2 refl refl (same_there w.viewing shard.0 view f.0 here_too f.1) refl in
+        (kept, put_too, server_as plan (server_goes_on own next kept outs fold goes) g.events (same_there v.servers shard.0 s next after put) refl g.messages)
+    server_moves other own t next view kept outs is there keeps goes set sets was false e =
+        let apart : other.0 ≢ shard.0 = λ same. false≢true (sym e ∙ eq-eqb other.0 shard.0 same) in
+        server_rests (ap (λ l. slice_get l shard.0) set ∙ get-set_other w.servers other.0 shard.0 next apart) (ap (λ l. slice_get l shard.0) sets ∙ get-set_other w.viewing other.0 shard.0 kept apart)
+        (gains_elsewhere at r x v (Server other) own outs is e) was
 
-    server_after : IsStep plan w v x.event → ServerWas → IsUnreadFold plan shard (own_events at v.sent (steps ++ x ∷ [])) s (messages_of at v.sent)
-    server_after (no_step same none) was = server_rests (ap (λ (u : World). u.servers) same) (gains_nothing at r x v same none) was
-    server_after (coord_step number own c next outs is there goes set same) was = server_rests same (gains_elsewhere at r x v (Coord number) own outs is refl) was
-    server_after (server_step other own t next outs is there goes set same) was = server_moves other own t next outs is there goes set was (other.0 == shard.0) refl
+    server_after : IsStep plan w v x.event → ServerWas → ServerIs
+    server_after (no_step same none) was =
+        server_rests (ap (λ (u : World). slice_get u.servers shard.0) same) (ap (λ (u : World). slice_get u.viewing shard.0) same) (gains_nothing at r x v same none) was
+    server_after (coord_step number own c next outs is there goes set same views) was =
+        server_rests (ap (λ l. slice_get l shard.0) same) (ap (λ l. slice_get l shard.0) views) (gains_elsewhere at r x v (Coord number) own outs is refl) was
+    server_after (server_step other own t next view kept outs is there keeps goes set sets same) was =
+        server_moves other own t next view kept outs is there keeps goes set sets was (other.0 == shard.0) refl
 
   pub server_fold : {steps : List Stepped} {w : World} → IsRun plan coords steps w → (shard : Shard) (s : ServerState) → slice_get w.servers shard.0 ≡ Some s
-      → IsUnreadFold plan shard (own_events (Server shard) w.sent steps) s (messages_of (Server shard) w.sent)
-  server_fold begun shard s there =
+      → IsFoldKept plan shard w.viewing (own_events (Server shard) w.sent steps) s (messages_of (Server shard) w.sent)
+  server_fold at_beginning shard s there =
       let first : ℕ → ServerState = λ n. first_server plan (record { 0 = n }) in
-      (first_viewing, refl, server_as plan server_begun refl (found_at first 0 plan.program.shards shard.0 s there ∙ ap first (omega arith)) refl refl)
-  server_fold (goes_on {w = w} e o r h) shard s after = server_after r (record { event = e; outcome = o }) o.world shard s after (run_stepping plan coords r e o h) (server_fold r shard)
+      let none : ℕ → Viewing = λ n. first_viewing in (
+        first_viewing,
+        found_too first none 0 plan.program.shards shard.0 s there,
+        server_as plan server_begun refl (found_at first 0 plan.program.shards shard.0 s there ∙ ap first (omega arith)) refl refl,
+      )
+  server_fold (steps_on {w = w} e o r h) shard s after = server_after r (record { event = e; outcome = o }) o.world shard s after (stepping plan w e o h) (server_fold r shard)
 
 -- ---- coordinators
 
@@ -112,10 +134,10 @@ module _ (plan : Plan) (coords : ℕ) where
 
     coord_after : IsStep plan w v x.event → CoordWas → IsCoordFold plan number (own_events place v.sent (steps ++ x ∷ [])) c (messages_of place v.sent)
     coord_after (no_step same none) was = coord_rests (ap (λ (u : World). u.coords) same) (gains_nothing place r x v same none) was
-    coord_after (server_step shard own s next outs is there goes set same) was = coord_rests same (gains_elsewhere place r x v (Server shard) own outs is refl) was
-    coord_after (coord_step other own d next outs is there goes set same) was = coord_moves other own d next outs is there goes set was (other == number) refl
+    coord_after (server_step shard own s next view kept outs is there keeps goes set sets same) was = coord_rests same (gains_elsewhere place r x v (Server shard) own outs is refl) was
+    coord_after (coord_step other own d next outs is there goes set same views) was = coord_moves other own d next outs is there goes set was (other == number) refl
 
   pub coord_fold : {steps : List Stepped} {w : World} → IsRun plan coords steps w → (number : ℕ) (c : CoordState) → slice_get w.coords number ≡ Some c
       → IsCoordFold plan number (own_events (Coord number) w.sent steps) c (messages_of (Coord number) w.sent)
-  coord_fold begun number c there = coord_as plan coord_begun refl (found_at first_coord 0 coords number c there ∙ ap first_coord (omega arith)) refl
-  coord_fold (goes_on {w = w} e o r h) number c after = coord_after r (record { event = e; outcome = o }) o.world number c after (run_stepping plan coords r e o h) (coord_fold r number)
+  coord_fold at_beginning number c there = coord_as plan coord_begun refl (found_at first_coord 0 coords number c there ∙ ap first_coord (omega arith)) refl
+  coord_fold (steps_on {w = w} e o r h) number c after = coord_after r (record { event = e; outcome = o }) o.world number c after (stepping plan w e o h) (coord_fold r number)

@@ -9,7 +9,7 @@ use Rattle.roc_msg.specs.declared.msg.Envelope.{Envelope}
 use Rattle.roc_msg.specs.declared.outbox.Outgoing.{Outgoing}
 use Rattle.roc_protocol.specs.declared.event.Event.{Event}
 use Rattle.roc_protocol.specs.declared.event.Event.TheVariants.{Submit, Deliver, Tick}
-use Rattle.roc_protocol.specs.Run.{Stepped}
+use Rattle.roc_views.specs.Run.{Stepped}
 
 -- what makes a node's core take a step: a message comes to it, time has passed for it, or a call of a procedure is submitted to it
 pub data OwnEvent : Type 0 where

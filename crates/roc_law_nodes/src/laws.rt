@@ -1,5 +1,5 @@
 //! The world's nodes and the nodes that people run are one. Each law is the contract of a function that does nothing.
-ghost use Rattle.std.specs.Prelude.{◌≡◌, ℕ, not, List, [], Some, filter, slice_get};
+ghost use Rattle.std.specs.Prelude.{◌≡◌, ℕ, not, List, Some, filter, slice_get};
 ghost use Rattle.std.specs.List.{AllByRecursion};
 ghost use Rattle.roc_base.specs.declared.node.Shard.{Shard};
 ghost use Rattle.roc_base.specs.declared.node.Node.TheVariants as node;
@@ -10,8 +10,8 @@ ghost use Rattle.roc_node_submit.specs.CoordRun.{CoordNodeState, first_coord_nod
 ghost use Rattle.roc_node.specs.NodeEvent.{NodeEvent, NodeSetting};
 ghost use Rattle.roc_node_serve.specs.ServerRun.{ServerNodeState, IsServerRun};
 ghost use Rattle.roc_plan.specs.Groups.{Plan};
-ghost use Rattle.roc_protocol.specs.Run.{Stepped, IsRun};
-ghost use Rattle.roc_protocol.specs.World.{World};
+ghost use Rattle.roc_views.specs.Run.{Stepped, IsRun};
+ghost use Rattle.roc_views.specs.World.{World};
 ghost use Rattle.roc_law_nodes.specs.Fold.{IsServerFold, IsCoordFold};
 ghost use Rattle.roc_law_nodes.specs.Own.{OwnEvent, own_events, messages_of};
 ghost use Rattle.roc_law_nodes.specs.Turns.{turns_bring, is_for_core, AreTurnsOf, HasTurn, is_request, coord_owns, AreBrought};
@@ -23,11 +23,11 @@ use roc_server::laws::{read_step_is_one, step_is_one};
 use roc_wire::laws::spelled_is_read;
 
 /// In every run of the world, the state of each node and the messages that the world has from it, in the order in which it sent them,
-/// are those of the fold of its own step over its own events. No read of a view waits at a server there.
+/// are those of the fold of its own step over its own events; and so is what a server keeps for views.
 pub fn world_is_folds()
     ensures servers { (plan : Plan) (coords : ℕ) (steps : List Stepped) (w : World) → IsRun plan coords steps w
         → (shard : Shard) (s : ServerState) → slice_get w.servers shard.0 ≡ Some s
-        → (v : Viewing) × (v.reads ≡ []) × IsServerFold plan shard (own_events (node.Server shard) w.sent steps) s v (messages_of (node.Server shard) w.sent) }
+        → (v : Viewing) × (slice_get w.viewing shard.0 ≡ Some v) × IsServerFold plan shard (own_events (node.Server shard) w.sent steps) s v (messages_of (node.Server shard) w.sent) }
     ensures coords { (plan : Plan) (coords : ℕ) (steps : List Stepped) (w : World) → IsRun plan coords steps w
         → (number : ℕ) (c : CoordState) → slice_get w.coords number ≡ Some c
         → IsCoordFold plan number (own_events (node.Coord number) w.sent steps) c (messages_of (node.Coord number) w.sent) }
@@ -78,12 +78,12 @@ pub fn own_events_have_turns()
 {}
 
 /// The node that runs is the world's: where the turns of a server's node spell its own events in a run of the world, it has the world's
-/// state and sent the world's messages; and so has a coordinator's node whose own events are those of a run.
+/// state, keeps for views what the world has there and sent the world's messages; and so has a coordinator's node whose own events are those of a run.
 pub fn node_runs_are_the_world()
     ensures servers { (S : NodeSetting) (coords : ℕ) (steps : List Stepped) (w : World) → IsRun S.plan coords steps w
         → (shard : Shard) (s : ServerState) → slice_get w.servers shard.0 ≡ Some s
         → (events : List NodeEvent) (n : ServerNodeState) → IsServerRun S shard events n → AreTurnsOf S.header.tag events (own_events (node.Server shard) w.sent steps)
-        → (n.state ≡ s) × (n.messages ≡ messages_of (node.Server shard) w.sent) }
+        → (n.state ≡ s) × (slice_get w.viewing shard.0 ≡ Some n.viewing) × (n.messages ≡ messages_of (node.Server shard) w.sent) }
     ensures coords { (S : NodeSetting) (coords : ℕ) (steps : List Stepped) (w : World) → IsRun S.plan coords steps w
         → (number : ℕ) (c : CoordState) → slice_get w.coords number ≡ Some c
         → (requests : List Request) (events : List NodeEvent) (n : CoordNodeState) → IsCoordRun S number requests events n

@@ -20,14 +20,13 @@ use Rattle.roc_whole.specs.Serial as whole
 use Rattle.roc_whole.specs.Run.{Progress, progress, whole_run, after_piece, after_pieces}
 use Rattle.roc_whole.proofs.Replied.{body_long}
 use Rattle.roc_merge_groups.proofs.Elements.{from_has_range, has_range, range_rising, numbers_one_way}
-use Rattle.roc_program.proofs.Transactions.{transaction_parts}
 use Rattle.roc_plan.specs.declared.group.Input.{Input}
 use Rattle.roc_plan.specs.Groups.{Plan, procedure_of, groups_of, group_of, inputs_of, is_immediate_of, outs_of, outs_in, pieces_at, places_in, shard_of}
 use Rattle.roc_plan.specs.Accepted.{IsAccepted}
 use Rattle.roc_group.specs.GroupRun.{GroupCall, group_run, begin}
 use Rattle.roc_group.proofs.Grouped.{one_group, group_rising, in_a_group, is_piece}
 use Rattle.roc_protocol.specs.PlanAssumptions.{IsSchemeOf}
-use Rattle.roc_law_plans.specs.Scheme.{scheme_of, AreOrders, AreCalls}
+use Rattle.roc_law_plans.specs.Scheme.{scheme_of, AreOrders}
 
 -- ---- shards
 
@@ -206,13 +205,13 @@ module _ (plan : Plan) (proc : ℕ) (ok : IsAccepted plan) (there : proc < lengt
 
 -- ---- all of it
 
-module _ (plan : Plan) (orders : ℕ → List ℕ) (asked : TxnId → whole.Call) (ok : IsAccepted plan) (turn : AreOrders plan orders) (calls : AreCalls plan asked)
+module _ (plan : Plan) (orders : ℕ → List ℕ) (asked : TxnId → whole.Call) (ok : IsAccepted plan) (turn : AreOrders plan orders) (there : (t : TxnId) → (asked t).procedure < length plan.program.procedures)
     (some : (proc : ℕ) → proc < length plan.program.procedures → 0 < length (groups_of plan proc))
     (from : (proc g : ℕ) (input : Input) → Has input (inputs_of plan proc g) → is_immediate_of plan proc input.group ≡ true) where
   pub of_plan : IsSchemeOf plan asked (scheme_of plan orders asked)
   of_plan = record {
     groups = λ t g. let m = (turn (asked t).procedure).members g in (m.1, m.0);
-    some = λ t. some (asked t).procedure (transaction_parts plan.program (asked t).procedure (calls t)).there;
+    some = λ t. some (asked t).procedure (there t);
     later = λ t. (turn (asked t).procedure).deferrable;
     sources = λ r. refl;
     from_immediate = λ r i h. from (asked r.txn).procedure r.group i h;
@@ -223,6 +222,6 @@ module _ (plan : Plan) (orders : ℕ → List ℕ) (asked : TxnId → whole.Call
     cell_shard = λ x. refl;
     group_shard = λ r given. refl;
     outs = λ r given s. group_long plan _ s;
-    places = λ t at l. place_of_group plan (asked t).procedure ok (transaction_parts plan.program (asked t).procedure (calls t)).there at l;
+    places = λ t at l. place_of_group plan (asked t).procedure ok (there t) at l;
     few_shards = few_shards plan ok;
   }

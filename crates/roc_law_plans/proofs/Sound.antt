@@ -33,6 +33,11 @@ writes : (x : Cell) (uses : List Access) → is_written x (map use_of uses) ≡ 
 writes x [] = refl
 writes x (a ∷ uses) = ap (λ b. (a.writes && is_cell a.cell x) || b) (writes x uses)
 
+-- uses that only read write no cell
+none_written : (x : Cell) (uses : List Access) → AllByRecursion (λ a. a.writes ≡ false) uses → is_written x (map use_of uses) ≡ false
+none_written x [] h = refl
+none_written x (a ∷ uses) h = ap (λ b. (b && is_cell a.cell x) || is_written x (map use_of uses)) h.0 ∙ none_written x uses h.1
+
 -- where the values of inputs are listed, the groups that bind them are
 sources_before : (order : List ℕ) (g : ℕ) (P : Input → Type 0) (inputs : List Input)
     → AllByRecursion (λ i. P i × IsListedBefore (λ a b. a == b) order i.group g) inputs
@@ -122,10 +127,14 @@ module _ (laws : Laws) (plan : Plan) (orders : ℕ → List ℕ) (asked : TxnId 
   declared r given s x n = let c = called plan asked r given in laws.others plan c s x (sym (writes x (group_uses plan c s)) ∙ n)
 
   -- groups that meet may meet
-  met :
-      AreCalls plan asked → (q r : TxnGroup) (i j : List (List ℤ)) (s t : Store)
+  abbrev MayMeet : Type 0
+  MayMeet =
+      (q r : TxnGroup) (i j : List (List ℤ)) (s t : Store)
       → Meet (map use_of (group_uses plan (called plan asked q i) s)) (map use_of (group_uses plan (called plan asked r j) t))
       → may_meet plan (asked q.txn).procedure q.group (asked r.txn).procedure r.group ≡ true
+
+  -- those of transactions do
+  met : AreCalls plan asked → MayMeet
   met calls q r i j s t m =
       let b = called plan asked q i in
       let c = called plan asked r j in
@@ -142,8 +151,8 @@ module _ (laws : Laws) (plan : Plan) (orders : ℕ → List ℕ) (asked : TxnId 
       let g = laws.one_contended plan is (asked q.txn).procedure p.group q.group (asked r.txn).procedure r.group (asked u.txn).procedure u.group ip2 iq mp2 mq in
       λ i. record { txn = e i; group = g i }
 
-  pub sound : IsAccepted plan → AreOrders plan orders → AreCalls plan asked → IsSoundScheme (scheme_of plan orders asked)
-  sound is turns calls =
+  sound_where : IsAccepted plan → AreOrders plan orders → ((t : TxnId) → (asked t).procedure < length plan.program.procedures) → MayMeet → IsSoundScheme (scheme_of plan orders asked)
+  sound_where is turns there may =
       record {
         lawful =
             record {
@@ -155,11 +164,29 @@ module _ (laws : Laws) (plan : Plan) (orders : ℕ → List ℕ) (asked : TxnId 
               local = local;
               declared = declared;
             };
-        one_class = λ q r i j s t m. laws.one_class plan is (asked q.txn).procedure q.group (asked r.txn).procedure r.group (met calls q r i j s t m);
-        one_contended = λ p q e ip iq r u i j k l a b c d m n. contended is p q r u e ip iq (met calls p r i j a b m) (met calls q u k l c d n);
-        steady = λ r n given s t. ap (map use_of) (laws.follow plan (called plan asked r given) s t is (transaction_parts plan.program (asked r.txn).procedure (calls r.txn)).there n);
+        one_class = λ q r i j s t m. laws.one_class plan is (asked q.txn).procedure q.group (asked r.txn).procedure r.group (may q r i j s t m);
+        one_contended = λ p q e ip iq r u i j k l a b c d m n. contended is p q r u e ip iq (may p r i j a b m) (may q u k l c d n);
+        steady = λ r n given s t. ap (map use_of) (laws.follow plan (called plan asked r given) s t is (there r.txn) n);
         placed =
             λ r given s x u.
             let c = called plan asked r given in
-            ap (shard_of plan) (used_place (group_place plan c.proc c.group c.args c.inputs) x (group_uses plan c s) (laws.at_place plan c s is (transaction_parts plan.program (asked r.txn).procedure (calls r.txn)).there) u);
+            ap (shard_of plan) (used_place (group_place plan c.proc c.group c.args c.inputs) x (group_uses plan c s) (laws.at_place plan c s is (there r.txn)) u);
       }
+
+  pub sound : IsAccepted plan → AreOrders plan orders → AreCalls plan asked → IsSoundScheme (scheme_of plan orders asked)
+  sound is turns calls = sound_where is turns (λ t. (transaction_parts plan.program (asked t).procedure (calls t)).there) (met calls)
+
+  -- views never meet
+  pub views_sound :
+      ((c : GroupCall) (s : Store) → is_view_of plan c.proc ≡ true → AllByRecursion (λ a. a.writes ≡ false) (group_uses plan c s))
+      → IsAccepted plan → AreOrders plan orders → ((t : TxnId) → (asked t).procedure < length plan.program.procedures) → ((t : TxnId) → is_view_of plan (asked t).procedure ≡ true)
+      → IsSoundScheme (scheme_of plan orders asked)
+  views_sound read_alone is turns there views =
+      sound_where is turns there
+      (λ q r i j s t m.
+      let a = group_uses plan (called plan asked q i) s in
+      let b = group_uses plan (called plan asked r j) t in
+      absurd (elim (or_cases (is_written m.cell (map use_of a)) (is_written m.cell (map use_of b)) m.one_writes) [
+        | inl w ↦ false≢true (sym (none_written m.cell a (read_alone (called plan asked q i) s (views q.txn))) ∙ w)
+        | inr w ↦ false≢true (sym (none_written m.cell b (read_alone (called plan asked r j) t (views r.txn))) ∙ w)
+      ]))

@@ -10,7 +10,7 @@ ghost use Rattle.roc_sequence.specs.Places.{IsListed, IsListedBefore, NoneTwice}
 ghost use Rattle.roc_whole.specs.Serial as whole;
 ghost use Rattle.roc_rows.specs.declared.cell.Cell.{Cell};
 ghost use Rattle.roc_rows.specs.Store.{read};
-ghost use Rattle.roc_plan.specs.Groups.{Plan, shard_of};
+ghost use Rattle.roc_plan.specs.Groups.{Plan, is_view_of, shard_of};
 ghost use Rattle.roc_plan.specs.Accepted.{IsAccepted};
 ghost use Rattle.roc_depgraph.specs.declared.known.KnownList.{KnownList};
 ghost use Rattle.roc_depgraph.specs.Deps.{entries_of, IsAncestor, IsDecided};
@@ -21,7 +21,7 @@ ghost use Rattle.roc_msg.specs.declared.reason.Reason.{Reason};
 ghost use Rattle.roc_msg.specs.declared.reason.Reason.TheVariants as reason;
 ghost use Rattle.roc_law_orders.specs.Runs.{stage_behind};
 ghost use Rattle.roc_law_orders.specs.Orders.{one_by_one};
-ghost use Rattle.roc_law_log.specs.Scheme.{IsSoundScheme};
+ghost use Rattle.roc_law_log.specs.Scheme.{Scheme, IsSoundScheme};
 ghost use Rattle.roc_server.specs.Below.{is_ended};
 ghost use Rattle.roc_server.specs.Forgets.{is_over};
 ghost use Rattle.roc_server.specs.State.{find_group, is_here, ServerState};
@@ -50,10 +50,10 @@ use crate::beginnings::{
 };
 use roc_group::laws::{
     cells_are_at_the_place, cells_follow_from_what_is_given, conflicts_are_static,
-    runs_follow_from_cells,
+    runs_follow_from_cells, views_read_alone,
 };
 use roc_plan::laws::{
-    groups_have_the_class_of_their_pieces, groups_meet_their_own_class,
+    groups_can_run_in_turn, groups_have_the_class_of_their_pieces, groups_meet_their_own_class,
     inputs_come_from_immediate_groups,
 };
 use roc_protocol::laws::{
@@ -95,6 +95,22 @@ pub fn schemes_are_of_their_plan()
 {
     groups_have_the_class_of_their_pieces();
     inputs_come_from_immediate_groups();
+}
+
+/// Where all that is called only reads there is a sound scheme too, which does what the plan's groups do.
+pub fn views_have_schemes()
+    ensures { (plan : Plan) (asked : TxnId → whole.Call) → IsAccepted plan → ((t : TxnId) → is_view_of plan (asked t).procedure ≡ true)
+        → (S : Scheme) × IsSchemeOf plan asked S × IsSoundScheme S }
+{
+    groups_can_run_in_turn();
+    groups_have_the_class_of_their_pieces();
+    inputs_come_from_immediate_groups();
+    runs_follow_from_cells();
+    conflicts_are_static();
+    cells_are_at_the_place();
+    cells_follow_from_what_is_given();
+    groups_meet_their_own_class();
+    views_read_alone();
 }
 
 /// Transactions one by one are whole procedures: where the groups of transactions run one transaction after another, each transaction's

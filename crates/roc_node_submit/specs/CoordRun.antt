@@ -35,7 +35,7 @@ pub record CoordNodeState : Type 0 where
   pub traffic : List LinkEvent
   -- what it wrote: submissions and answers
   pub lines : List line.Line
-  -- how many transactions have their reply
+  -- how many transactions and views have their reply
   pub answered : ℕ
 
 -- before any turn

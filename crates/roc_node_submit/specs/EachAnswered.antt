@@ -16,7 +16,7 @@ abbrev pub is_answer : Line → Bool
 is_answer (Answer id reply) = true
 is_answer line = false
 
--- the line answers the transaction of this id
+-- the line answers the transaction or the view of this id
 abbrev pub is_answer_to : TxnId → Line → Bool
 is_answer_to id (Answer own reply) = is_txn own id
 is_answer_to id line = false

@@ -125,7 +125,7 @@ pub fn make_submissions(
     Ok(TurnOutput { text, sends })
 }
 
-// Adds the line of a reply, if a transaction has it now.
+// Adds the line of a reply, if a transaction or a view has it now.
 fn push_reply(
     alloc: Global,
     workload: &Workload,

@@ -186,7 +186,7 @@ module _ (plan : Plan) (servers coords : ℕ) (some : 0 < plan.program.shards) (
         refused false false f = same [] tt
         refused false true f = round (with_startok x ok) (now f)
 
-    told_here : (after : CoordState) → after.number ≡ s.number → AreOutsHere (ended_sends plan after)
+    pub told_here : (after : CoordState) → after.number ≡ s.number → AreOutsHere (ended_sends plan after)
     told_here after same =
         has_all (IsOutHere servers coords) (ended_sends plan after)
         (λ out h. (let q = mark_sent plan after out h in subst (IsOutHere servers coords) (sym q.is) (in_shards q.shard q.there, subst (λ n. n < coords) (sym same) numbered)))
@@ -194,7 +194,7 @@ module _ (plan : Plan) (servers coords : ℕ) (some : 0 < plan.program.shards) (
         in_shards : (n : ℕ) → Has n (range_with_len 0 plan.program.shards) → n < servers
         in_shards n h = subst (λ m. n < m) (sym shards) (all_has (λ n. n < plan.program.shards) n (range_with_len 0 plan.program.shards) (range_below 0 plan.program.shards plan.program.shards (omega arith)) h)
 
-    answered_told : (after : CoordState) → after.number ≡ s.number → (b : Bool) → AreOutsHere (if b then ended_sends plan after else [])
+    pub answered_told : (after : CoordState) → after.number ≡ s.number → (b : Bool) → AreOutsHere (if b then ended_sends plan after else [])
     answered_told after same true = told_here after same
     answered_told after same false = tt
 

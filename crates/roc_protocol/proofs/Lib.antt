@@ -98,8 +98,8 @@ pub mod PlainRuns
 pub mod PlainSteps
 pub mod NoReads
 pub mod Named
-mod ServersHere
-mod CoordsHere
+pub mod ServersHere
+pub mod CoordsHere
 pub mod WorldsFit
 mod OrderParts
 pub mod Findings

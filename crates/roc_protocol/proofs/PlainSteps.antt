@@ -47,7 +47,7 @@ transaction_submitted plan s proc args known = ap (λ (b : Bool). if b then afte
 
 -- ---- a message
 
-views_left : (plan : Plan) (s : CoordState) (msg : Msg) → IsNoReadOk msg → (after_message plan s msg).state.views ≡ s.views
+pub views_left : (plan : Plan) (s : CoordState) (msg : Msg) → IsNoReadOk msg → (after_message plan s msg).state.views ≡ s.views
 views_left plan s (StartOk id group shard bound outs edges facts) k = go (find_transaction id s.pending)
   where
     ok : TakenStart

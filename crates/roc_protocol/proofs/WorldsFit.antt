@@ -49,7 +49,7 @@ new_numbers : (a n end : ℕ) → 0 < a → a + n ≡ end + 1 → AllByRecursion
 new_numbers a zero end l e = tt
 new_numbers a (suc n) end l e = ((l, omega arith), new_numbers (a + 1) n end (omega arith) (omega arith))
 
-numbers_sent : (sent : List Envelope) (numbers : List ℕ) (from : Node) (outs : List Outgoing) → AllByRecursion (λ k. (0 < k) × (k ≤ length sent)) numbers
+pub numbers_sent : (sent : List Envelope) (numbers : List ℕ) (from : Node) (outs : List Outgoing) → AllByRecursion (λ k. (0 < k) × (k ≤ length sent)) numbers
     → AllByRecursion (λ k. (0 < k) × (k ≤ length (sent ++ map (sent_by from) outs))) (numbers ++ range_with_len (length sent + 1) (length outs))
 numbers_sent sent numbers from outs h =
     let more : List Envelope = map (sent_by from) outs in

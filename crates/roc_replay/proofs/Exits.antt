@@ -10,8 +10,8 @@ use Rattle.roc_sequence.proofs.Holds.{all_append}
 use Rattle.roc_io.specs.Observed.{Adds, AddsFront}
 use Rattle.roc_io.proofs.Told.{Adds-trans, AddsThenFront-behind}
 use Rattle.roc_plan.specs.Groups.{Plan}
-use Rattle.roc_protocol.specs.Run.{Stepped, IsRun}
-use Rattle.roc_protocol.specs.World.{World}
+use Rattle.roc_views.specs.Run.{Stepped, IsRun}
+use Rattle.roc_views.specs.World.{World}
 use Rattle.roc_protocol.specs.declared.event.Event.TheVariants as event
 use Rattle.roc_world.specs.Reads.{cells_of, unanswered_of}
 use Rattle.roc_report.specs.Line.{Line, Row, Pending}
@@ -25,7 +25,7 @@ use Rattle.roc_replay.specs.declared.asked.Wanted.TheVariants as wanted
 use Rattle.roc_replay.specs.BoundLine.{IsScheduleOf, coordinators, event_in}
 use Rattle.roc_replay.specs.Cells.{by_cell}
 use Rattle.roc_replay.specs.Inner.Closed.{IsClosed, wants_unsent}
-use Rattle.roc_replay.specs.Ended.{IsUnsent, IsCut, at_line, at_end, IsUnfinished, behind_lines}
+use Rattle.roc_replay.specs.Ended.{AnswersWhatIsQuiet, IsUnsent, IsCut, at_line, at_end, IsUnfinished, behind_lines}
 use Rattle.roc_replay.specs.Inner.Ends.{IsEnd}
 use Rattle.roc_replay.specs.Played.{IsPlayedLine}
 use Rattle.roc_replay.specs.Report.{is_busy, busy_in, end_line, closing_lines, steps_lines, report}
@@ -95,10 +95,11 @@ module _ (plan : Plan) (schedule : List ℕ) (lines : List BoundLine) (of : IsSc
 
   -- where each run of the plan explains itself, and its lines name parts of the program
   pub closed_end : (explains : (coords : ℕ) (steps : List Stepped) (w : World) → IsRun plan coords steps w → IsExplained plan.program (report steps w))
+      → (answers : (coords : ℕ) (steps : List Stepped) (w : World) → IsRun plan coords steps w → AnswersWhatIsQuiet plan steps w (report steps w))
       → (names : (coords : ℕ) (steps : List Stepped) (w : World) → IsRun plan coords steps w → AllByRecursion (NamesPartsOf plan.program) (report steps w))
       → (w : World) (busy : ℕ) (old now then : Option (List ℕ)) → IsSoFar plan lines w busy old now → (e : Ended)
       → IsClosed plan.program w busy e now then → IsEnd plan schedule e old then
-  closed_end explains names w busy old now then so (Done summary) (adds, end, refused, small) =
+  closed_end explains answers names w busy old now then so (Done summary) (adds, end, refused, small) =
       let run = played_run plan lines so.steps w so.played in
       record {
         lines = report so.steps w;
@@ -106,11 +107,12 @@ module _ (plan : Plan) (schedule : List ℕ) (lines : List BoundLine) (of : IsSc
         are = report_lines (report so.steps w) (all_append HasSmallNumbers (steps_lines [] so.steps) (closing_lines w) so.small small) (names coordinators so.steps w run);
         explained = explains coordinators so.steps w run;
         run = record { asked = lines; of_schedule = of; steps = so.steps; world = w; played = so.played; is = refl };
+        answers = answers coordinators so.steps w run;
         end = end;
         busy = (let all = count_by-append is_busy (steps_lines [] so.steps) (closing_lines w) in let none = busy_in-closing w in let before = so.refused in omega arith);
       }
-  closed_end explains names w busy old now then so SinkFault front = at_end lines so.steps w of so.played (AddsThenFront-behind old now then _ _ so.taken front)
-  closed_end explains names w busy old now then so NoMemory same =
+  closed_end explains answers names w busy old now then so SinkFault front = at_end lines so.steps w of so.played (AddsThenFront-behind old now then _ _ so.taken front)
+  closed_end explains answers names w busy old now then so NoMemory same =
       behind_lines lines [] so.steps w (subst (IsScheduleOf plan.program schedule) (sym (append-nil lines)) of) so.played
       (subst (λ (x : Option (List ℕ)). Adds old x (lines_text plan.program (steps_lines [] so.steps))) (sym same) so.taken)
-  closed_end explains names w busy old now then so (Text line what) never = absurd never
+  closed_end explains answers names w busy old now then so (Text line what) never = absurd never

@@ -3,8 +3,8 @@ use Rattle.std.proofs.Common.{◌≡◌, ℕ, List, [], ◌∷◌, ◌++◌, ref
 use Rattle.std.proofs.lemmas.List.{append-nil}
 use Rattle.roc_msg.specs.declared.msg.Envelope.{Envelope}
 use Rattle.roc_plan.specs.Groups.{Plan}
-use Rattle.roc_protocol.specs.World.{World}
-use Rattle.roc_protocol.specs.Run.{Stepped, IsRun, begun, goes_on}
+use Rattle.roc_views.specs.World.{World}
+use Rattle.roc_views.specs.Run.{Stepped, IsRun, at_beginning, steps_on}
 use Rattle.roc_report.specs.Line.{Line}
 use Rattle.roc_replay.specs.Report.{step_lines, steps_lines}
 
@@ -26,8 +26,8 @@ steps_lines-one before (first ∷ rest) step =
 
 -- after a run, what was sent is what its world has
 pub run_sent : (plan : Plan) (coords : ℕ) (steps : List Stepped) (w : World) → IsRun plan coords steps w → sent_after [] steps ≡ w.sent
-run_sent plan coords steps w begun = refl
-run_sent plan coords steps w (goes_on {steps = before} e o r h) = sent_after-one [] before (record { event = e; outcome = o })
+run_sent plan coords steps w at_beginning = refl
+run_sent plan coords steps w (steps_on {steps = before} e o r h) = sent_after-one [] before (record { event = e; outcome = o })
 
 -- one more step of a run adds its lines
 pub run_lines : (plan : Plan) (coords : ℕ) (steps : List Stepped) (w : World) → IsRun plan coords steps w → (step : Stepped)

@@ -12,9 +12,9 @@ use Rattle.roc_protocol.specs.declared.event.Event.{Event}
 use Rattle.roc_protocol.specs.declared.event.Event.TheVariants as event
 use Rattle.roc_protocol.specs.declared.event.Seen.{Seen}
 use Rattle.roc_protocol.specs.declared.event.Seen.TheVariants as seen
-use Rattle.roc_protocol.specs.World.{World}
-use Rattle.roc_protocol.specs.Happens.{Outcome, Happens}
-use Rattle.roc_protocol.specs.Run.{Stepped, Transition, IsRun, begun, goes_on}
+use Rattle.roc_views.specs.World.{World}
+use Rattle.roc_views.specs.Happens.{Outcome, Happens}
+use Rattle.roc_views.specs.Run.{Stepped, Transition, IsRun, at_beginning, steps_on}
 use Rattle.roc_world.specs.Reads.{cells_of, unanswered_of}
 use Rattle.roc_report.specs.Line.{Line, Deliver, Ignored, Row, Pending}
 use Rattle.roc_replay.specs.Cells.{by_cell}
@@ -91,8 +91,8 @@ module _ (plan : Plan) (coords : ℕ)
     (stale : (steps : List Stepped) (w : World) → IsRun plan coords steps w
     → (k : ℕ) (o : Outcome) (why : Reason) → Happens plan w (event.Deliver k) o → o.seen ≡ seen.Ignored why → why ≡ Stale) where
   run_stale : (steps : List Stepped) (w : World) → IsRun plan coords steps w → IgnoreOnlyStale (steps_lines [] steps)
-  run_stale steps w begun = quiet [] refl
-  run_stale steps w (goes_on {steps = before} {w = old} e o r h) =
+  run_stale steps w at_beginning = quiet [] refl
+  run_stale steps w (steps_on {steps = before} {w = old} e o r h) =
       let step : Stepped = record { event = e; outcome = o } in
       let first = first_lines e o.seen in
       let sends = send_lines (length old.sent + 1) (drop (length old.sent) o.world.sent) in

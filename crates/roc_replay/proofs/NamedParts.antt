@@ -1,7 +1,7 @@
 -- The lines of a run name procedures and cells that the program has
-use Rattle.std.proofs.Common.{◌≡◌, ◌≢◌, ◌↔◌, ℕ, ℤ, pos, ◌+◌, Bool, true, false, not, List, [], ◌∷◌, ◌++◌, Option, Some, None, length, drop, map, refl, sym, subst, ◌∙◌}
-use Rattle.std.proofs.lemmas.Bool.{ltb-true, and_parts}
-use Rattle.std.specs.Prelude.{Contains, if◌then◌else◌, nat_lt}
+use Rattle.std.proofs.Common.{◌≡◌, ◌≢◌, ◌↔◌, ℕ, ℤ, pos, ◌+◌, ◌<◌, ◌==◌, Bool, true, false, not, List, [], ◌∷◌, ◌++◌, Option, Some, None, length, drop, map, refl, sym, subst, ◌∙◌}
+use Rattle.std.proofs.lemmas.Bool.{ltb-true}
+use Rattle.std.specs.Prelude.{Contains, if◌then◌else◌, nat_lt, nat_le}
 use Rattle.std.specs.List.{AllByRecursion}
 use Rattle.roc_sequence.specs.Lists.{Has}
 use Rattle.roc_sequence.proofs.Members.{from_has_flat_map}
@@ -9,22 +9,20 @@ use Rattle.roc_sequence.proofs.Holds.{all_has, has_all, all_append}
 use Rattle.roc_base.specs.declared.id.TxnId.{TxnId}
 use Rattle.roc_rows.specs.declared.cell.Cell.{Cell}
 use Rattle.roc_rows.specs.Store.{Store, read, entries}
-use Rattle.roc_program.specs.LookUps.{is_view_in}
 use Rattle.roc_plan.specs.Accepted.{IsAccepted}
-use Rattle.roc_plan.specs.Groups.{Plan, is_transaction}
+use Rattle.roc_plan.specs.Groups.{Plan, procedure_of}
 use Rattle.roc_msg.specs.declared.msg.Envelope.{Envelope}
 use Rattle.roc_server.specs.State.{ServerState}
 use Rattle.roc_coord.specs.declared.handled.SubmitFault.TheVariants as fault
 use Rattle.roc_coord.specs.State.{CoordState}
-use Rattle.roc_coord.specs.Submit.{refused, after_submit}
-use Rattle.roc_protocol.specs.Aside.{after_transaction}
+use Rattle.roc_coord.specs.Submit.{refused_or_accepted, after_submit, most_transactions, most_pending}
 use Rattle.roc_protocol.specs.declared.event.Event.{Event}
 use Rattle.roc_protocol.specs.declared.event.Event.TheVariants.{Submit, Deliver, Tick}
 use Rattle.roc_protocol.specs.declared.event.Seen.{Seen}
 use Rattle.roc_protocol.specs.declared.event.Seen.TheVariants as seen
-use Rattle.roc_protocol.specs.World.{World}
-use Rattle.roc_protocol.specs.Happens.{Outcome, IsSubmissionOf}
-use Rattle.roc_protocol.specs.Run.{Stepped, Transition, IsRun, begun, goes_on}
+use Rattle.roc_views.specs.World.{World}
+use Rattle.roc_views.specs.Happens.{Outcome, IsSubmissionOf}
+use Rattle.roc_views.specs.Run.{Stepped, Transition, IsRun, at_beginning, steps_on}
 use Rattle.roc_world.specs.Reads.{cells_of, unanswered_of}
 use Rattle.roc_report.specs.Line.{Line, Row, Pending}
 use Rattle.roc_report.specs.ReportLine.{IsCellOf, NamesPartsOf}
@@ -36,23 +34,27 @@ use Rattle.roc_replay.proofs.ShownCells.{has_contains, from_by_cell}
 
 -- ---- a step
 
--- what is submitted is a transaction of the plan
-known_procedure : (plan : Plan) (w : World) (n proc : ℕ) (args : List ℤ) (s : CoordState) (o : Outcome) → IsSubmissionOf w n proc args (after_transaction plan s proc args) o → is_transaction plan proc ≡ true
-known_procedure plan w n proc args s o h = go (is_transaction plan proc) refl h
+-- what is submitted is a procedure of the plan
+known_procedure : (plan : Plan) (w : World) (n proc : ℕ) (args : List ℤ) (s : CoordState) (o : Outcome) → IsSubmissionOf w n proc args (after_submit plan s proc args) o → proc < length plan.program.procedures
+known_procedure plan w n proc args s o h = go (nat_lt proc (length plan.program.procedures)) refl h
   where
-    go : (b : Bool) → is_transaction plan proc ≡ b
-        → IsSubmissionOf w n proc args (if b then after_submit plan s proc args else refused s fault.NoProc) o
-        → is_transaction plan proc ≡ true
-    go true e r = e
-    go false e r = elim r [ ]
+    go : (b : Bool) → nat_lt proc (length plan.program.procedures) ≡ b
+        → IsSubmissionOf w n proc args (refused_or_accepted plan s proc args
+        (if not b then Some fault.NoProc
+        else if not (length args == (procedure_of plan proc).arguments) then Some fault.Args
+        else if nat_le most_transactions s.next then Some fault.Spent
+        else if nat_le most_pending (length s.unanswered) then Some fault.Busy
+        else None)) o
+        → proc < length plan.program.procedures
+    go true e r = ltb-true proc (length plan.program.procedures) e
+    go false e r = absurd r
 
 module _ (plan : Plan) where
   abbrev NameParts : List Line → Type 0
   NameParts lines = AllByRecursion (NamesPartsOf plan.program) lines
 
-  submission_parts : (n proc : ℕ) (args : List ℤ) (s : Seen) → is_transaction plan proc ≡ true → NameParts (submission_lines n proc args s)
-  submission_parts n proc args (seen.Submitted id) known =
-      (ltb-true proc (length plan.program.procedures) (and_parts (nat_lt proc (length plan.program.procedures)) (not (is_view_in plan.program proc)) known).0, tt)
+  submission_parts : (n proc : ℕ) (args : List ℤ) (s : Seen) → proc < length plan.program.procedures → NameParts (submission_lines n proc args s)
+  submission_parts n proc args (seen.Submitted id) known = (known, tt)
   submission_parts n proc args seen.Spent known = (tt, tt)
   submission_parts n proc args seen.Busy known = (tt, tt)
   submission_parts n proc args s known = tt
@@ -86,8 +88,8 @@ module _ (plan : Plan) where
       (both_parts sends (answer_lines o.seen) (sends_parts (length w.sent + 1) (drop (length w.sent) o.world.sent)) (answer_parts o.seen))
 
   steps_parts : (coords : ℕ) (steps : List Stepped) (w : World) → IsRun plan coords steps w → NameParts (steps_lines [] steps)
-  steps_parts coords steps w begun = tt
-  steps_parts coords steps w (goes_on {steps = before} {w = v} e o r h) =
+  steps_parts coords steps w at_beginning = tt
+  steps_parts coords steps w (steps_on {steps = before} {w = v} e o r h) =
       let step : Stepped = record { event = e; outcome = o } in
       subst NameParts (sym (run_lines plan coords before v r step)) (both_parts (steps_lines [] before) (step_lines v.sent step) (steps_parts coords before v r) (step_parts v e o h))
 

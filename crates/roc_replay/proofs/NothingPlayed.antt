@@ -3,8 +3,8 @@ use Rattle.std.proofs.Common.{◌≡◌, ℕ, ◌+◌, List, [], ◌∷◌, ◌+
 use Rattle.roc_sequence.proofs.Fronts.{no_rest}
 use Rattle.roc_msg.specs.declared.msg.Envelope.{Envelope}
 use Rattle.roc_plan.specs.Groups.{Plan}
-use Rattle.roc_protocol.specs.Happens.{undecided}
-use Rattle.roc_protocol.specs.World.{World}
+use Rattle.roc_views.specs.Happens.{undecided}
+use Rattle.roc_views.specs.World.{World}
 use Rattle.roc_protocol.specs.declared.event.Seen.TheVariants as seen
 use Rattle.roc_report.specs.Line.{Nothing}
 use Rattle.roc_report.specs.ReportLine.{HaveSmallNumbers}

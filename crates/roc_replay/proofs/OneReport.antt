@@ -2,8 +2,8 @@
 use Rattle.std.proofs.Common.{◌≡◌, ℕ, List, sym, ap, ◌∙◌}
 use Rattle.std.specs.Prelude.{Option}
 use Rattle.roc_plan.specs.Groups.{Plan}
-use Rattle.roc_protocol.specs.World.{World}
-use Rattle.roc_protocol.specs.Run.{Stepped}
+use Rattle.roc_views.specs.World.{World}
+use Rattle.roc_views.specs.Run.{Stepped}
 use Rattle.roc_report.specs.Line.{Line, End}
 use Rattle.roc_replay.specs.declared.ended.Summary.{Summary}
 use Rattle.roc_replay.specs.Ended.{IsReplayed}

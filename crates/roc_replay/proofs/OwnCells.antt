@@ -1,7 +1,7 @@
 -- Servers hold only cells that the program has
-use Rattle.std.proofs.Common.{◌≡◌, ◌≢◌, ℕ, ℤ, pos, zero, suc, ◌+◌, Bool, true, false, cond, List, [], ◌∷◌, ◌++◌, length, map, filter, Option, Some, None, sym, subst, ◌∙◌, ◌⊎◌, inl, inr, arith}
+use Rattle.std.proofs.Common.{◌≡◌, ◌≢◌, ℕ, ℤ, pos, zero, suc, ◌+◌, Bool, true, false, cond, List, [], ◌∷◌, ◌++◌, length, map, filter, Option, Some, None, Result, Ok, Err, sym, subst, ◌∙◌, ◌⊎◌, inl, inr, arith}
 use Rattle.std.proofs.lemmas.Bool.{cases_lt}
-use Rattle.std.specs.Prelude.{slice_index_or, if◌then◌else◌}
+use Rattle.std.specs.Prelude.{slice_get, slice_index_or, if◌then◌else◌}
 use Rattle.std.specs.List.{AllByRecursion, flat_map, range_with_len}
 use Rattle.roc_sequence.proofs.Members.{has_at}
 use Rattle.roc_sequence.proofs.Holds.{all_has, all_set}
@@ -27,7 +27,7 @@ use Rattle.roc_server.specs.declared.handled.Handled.{Handled}
 use Rattle.roc_server.specs.declared.handled.Handled.TheVariants.{Gone}
 use Rattle.roc_server.specs.declared.started.StartedGroup.{StartedGroup}
 use Rattle.roc_server.specs.State.{ServerState, ServerStep, find_group, hearing, is_here, refused, ignored, answered}
-use Rattle.roc_server.specs.First.{first_server}
+use Rattle.roc_protocol.specs.Beginnings as protocol
 use Rattle.roc_server.specs.Start.{start_refusal, start_judged, start_taken, is_immediate_group}
 use Rattle.roc_server.specs.Runs.{group_call, buffered_here, run_group, run_groups, take_all}
 use Rattle.roc_server.specs.Lists.{decides, commit_refusal, after_commit, fetch_taken, settled_to, known_refusal, after_known, lists_settled}
@@ -35,11 +35,15 @@ use Rattle.roc_server.specs.Step as server
 use Rattle.roc_server.specs.Step.{Findings}
 use Rattle.roc_protocol.specs.declared.event.Event.{Event}
 use Rattle.roc_protocol.specs.declared.event.Event.TheVariants.{Submit, Deliver, Tick}
-use Rattle.roc_protocol.specs.World.{World, mark_delivered}
-use Rattle.roc_protocol.specs.Happens.{Outcome, IsReceived}
-use Rattle.roc_protocol.specs.Run.{Stepped, Transition, IsRun, begun, goes_on}
+use Rattle.roc_views.specs.World.{World, mark_delivered}
+use Rattle.roc_views.specs.Happens.{Outcome, Submits, IsReceived}
+use Rattle.roc_views.specs.Run.{Stepped, Transition, IsRun, at_beginning, steps_on}
 use Rattle.roc_protocol.proofs.ReadsHere.{for_read}
-use Rattle.roc_protocol.proofs.Worlds.{Submitting, is_refused, is_accepted, submitting}
+use Rattle.roc_coord.specs.declared.handled.SubmitFault.{SubmitFault}
+use Rattle.roc_coord.specs.declared.handled.SubmitFault.TheVariants as fault
+use Rattle.roc_coord.specs.State.{CoordState}
+use Rattle.roc_coord.specs.Submit.{after_submit}
+use Rattle.roc_msg.specs.declared.outbox.Outgoing.{Outgoing}
 use Rattle.roc_report.specs.ReportLine.{IsCellOf}
 
 -- what is read of stores
@@ -182,30 +186,37 @@ module _ (laws : ReadLaws) (plan : Plan) (ok : IsProgram plan.program) where
   abbrev OwnServers : List ServerState → Type 0
   OwnServers servers = AllByRecursion (λ s. HoldsOwn plan.program s.store) servers
 
-  first_own : (a n : ℕ) → OwnServers (map (λ n. first_server plan (record { 0 = n })) (range_with_len a n))
+  first_own : (a n : ℕ) → OwnServers (map (protocol.begun_server (protocol.first_beginning plan)) (range_with_len a n))
   first_own a zero = tt
   first_own a (suc n) = (inits_own laws plan.program _ plan.program.inits empty ok.inits (λ c not. laws.nothing c), first_own (a + 1) n)
 
+  own_there : (w : World) → OwnServers w.servers → (shard : ℕ) (s : ServerState) → slice_get w.servers shard ≡ Some s → HoldsOwn plan.program s.store
+  own_there w h shard s at = all_has (λ (s : ServerState). HoldsOwn plan.program s.store) s w.servers h (has_at w.servers shard s at)
+
   step_own : (w : World) → OwnServers w.servers → (e : Option Event) (o : Outcome) → Transition plan w e o → OwnServers o.world.servers
   step_own w h None o c = subst (λ (o : Outcome). OwnServers o.world.servers) (sym c) h
-  step_own w h (Some (Submit n proc args)) o (s, there, c) = go (submitting plan w n proc args s o c)
+  step_own w h (Some (Submit n proc args)) o (s, there, c) = go (after_submit plan s proc args).state (after_submit plan s proc args).sends (after_submit plan s proc args).answer c
     where
-      go : Submitting plan w n proc args s o → OwnServers o.world.servers
-      go (is_refused e) = subst (λ (v : World). OwnServers v.servers) (sym e) h
-      go (is_accepted known counted e) = subst (λ (v : World). OwnServers v.servers) (sym e) h
+      go : (state : CoordState) (outs : List Outgoing) (answer : Result TxnId SubmitFault) → Submits w n proc args state outs answer o → OwnServers o.world.servers
+      go state outs (Ok id) e = subst (λ (o : Outcome). OwnServers o.world.servers) (sym e) h
+      go state outs (Err fault.Spent) e = subst (λ (o : Outcome). OwnServers o.world.servers) (sym e) h
+      go state outs (Err fault.Busy) e = subst (λ (o : Outcome). OwnServers o.world.servers) (sym e) h
+      go state outs (Err fault.NoProc) e = absurd e
+      go state outs (Err fault.Args) e = absurd e
+      go state outs (Err fault.NoMemory) e = absurd e
   step_own w h (Some (Deliver k)) o (m, some, there, c) = go m.to c
     where
       go : (to : Node) → IsReceived plan (mark_delivered w k) m.msg to o → OwnServers o.world.servers
-      go (Server shard) (s, r, at, step, e) =
-          let own : HoldsOwn plan.program s.store = all_has (λ (s : ServerState). HoldsOwn plan.program s.store) s w.servers h (has_at w.servers shard.0 s at) in
-          let after : HoldsOwn plan.program r.state.store = subst (λ (r : ServerStep). HoldsOwn plan.program r.state.store) (sym step.is) (message_own s step.findings m.msg own) in
-          subst (λ (o : Outcome). OwnServers o.world.servers) (sym e) (all_set (λ (s : ServerState). HoldsOwn plan.program s.store) w.servers shard.0 r.state h after)
+      go (Server shard) served =
+          let step = served.handles in
+          let own : HoldsOwn plan.program served.state.store = own_there w h shard.0 served.state served.there in
+          let after : HoldsOwn plan.program served.step.state.store = subst (λ (r : ServerStep). HoldsOwn plan.program r.state.store) (sym step.is) (message_own served.state step.findings m.msg own) in
+          subst (λ (o : Outcome). OwnServers o.world.servers) (sym served.is) (all_set (λ (s : ServerState). HoldsOwn plan.program s.store) w.servers shard.0 served.step.state h after)
       go (Coord n) (s, at, e) = subst (λ (o : Outcome). OwnServers o.world.servers) (sym e) h
-  step_own w h (Some (Tick (Server shard))) o (s, there, e) =
-      let own : HoldsOwn plan.program s.store = all_has (λ (s : ServerState). HoldsOwn plan.program s.store) s w.servers h (has_at w.servers shard.0 s there) in
-      subst (λ (o : Outcome). OwnServers o.world.servers) (sym e) (all_set (λ (s : ServerState). HoldsOwn plan.program s.store) w.servers shard.0 s h own)
+  step_own w h (Some (Tick (Server shard))) o (s, v, there, keeps, e) =
+      subst (λ (o : Outcome). OwnServers o.world.servers) (sym e) (all_set (λ (s : ServerState). HoldsOwn plan.program s.store) w.servers shard.0 s h (own_there w h shard.0 s there))
   step_own w h (Some (Tick (Coord n))) o (s, there, e) = subst (λ (o : Outcome). OwnServers o.world.servers) (sym e) h
 
   pub run_own : (coords : ℕ) (steps : List Stepped) (w : World) → IsRun plan coords steps w → OwnServers w.servers
-  run_own coords steps w begun = first_own 0 plan.program.shards
-  run_own coords steps w (goes_on {steps = before} {w = v} e o r h) = step_own v (run_own coords before v r) e o h
+  run_own coords steps w at_beginning = first_own 0 plan.program.shards
+  run_own coords steps w (steps_on {steps = before} {w = v} e o r h) = step_own v (run_own coords before v r) e o h

@@ -3,10 +3,10 @@ use Rattle.std.proofs.Common.{◌≡◌, List, [], ◌∷◌, ◌++◌, map, Opt
 use Rattle.std.proofs.lemmas.List.{map-append}
 use Rattle.roc_sequence.proofs.Appended.{empty_more, same_more}
 use Rattle.roc_plan.specs.Groups.{Plan}
-use Rattle.roc_protocol.specs.World.{World}
-use Rattle.roc_protocol.specs.Happens.{Outcome}
-use Rattle.roc_protocol.specs.Run as run
-use Rattle.roc_protocol.specs.Run.{Stepped, Transition, IsRun}
+use Rattle.roc_views.specs.World.{World}
+use Rattle.roc_views.specs.Happens.{Outcome}
+use Rattle.roc_views.specs.Run as run
+use Rattle.roc_views.specs.Run.{Stepped, Transition, IsRun}
 use Rattle.roc_protocol.specs.declared.event.Event.{Event}
 use Rattle.roc_replay.specs.declared.asked.BoundLine.{BoundLine}
 use Rattle.roc_replay.specs.declared.asked.Wanted.{Wanted}
@@ -16,8 +16,8 @@ use Rattle.roc_replay.specs.Played.{IsPlayed, begun, goes_on}
 -- ---- a run
 
 pub played_run : (plan : Plan) (lines : List BoundLine) (steps : List Stepped) (w : World) → IsPlayed plan lines steps w → IsRun plan coordinators steps w
-played_run plan lines steps w begun = run.begun
-played_run plan lines steps w (goes_on {lines = before} {steps = some} {w = old} line o p h) = run.goes_on (event_in old line.wanted) o (played_run plan before some old p) h
+played_run plan lines steps w begun = run.at_beginning
+played_run plan lines steps w (goes_on {lines = before} {steps = some} {w = old} line o p h) = run.steps_on (event_in old line.wanted) o (played_run plan before some old p) h
 
 -- ---- lists with one more at the end
 

@@ -26,10 +26,12 @@ use Rattle.roc_protocol.specs.declared.event.Event.{Event}
 use Rattle.roc_protocol.specs.declared.event.Event.TheVariants as event
 use Rattle.roc_protocol.specs.declared.event.Seen.{Seen}
 use Rattle.roc_protocol.specs.declared.event.Seen.TheVariants as seen
-use Rattle.roc_protocol.specs.World.{World, sent_by, mark_delivered}
-use Rattle.roc_protocol.specs.Happens.{Outcome, Submits, IsReceived, Ticks, Happens}
-use Rattle.roc_protocol.specs.Run.{Stepped, Transition, IsRun, begun, goes_on}
-use Rattle.roc_protocol.specs.Quiet.{PrecedesIn, WasDelivered, IsQuiet}
+use Rattle.roc_protocol.specs.World.{sent_by}
+use Rattle.roc_views.specs.World.{World, mark_delivered}
+use Rattle.roc_views.specs.Happens.{Outcome, Submits, IsReceived, Ticks, Happens}
+use Rattle.roc_views.specs.Run.{Stepped, Transition, IsRun, at_beginning, steps_on}
+use Rattle.roc_protocol.specs.Quiet.{PrecedesIn}
+use Rattle.roc_views.specs.Quiet.{AreDelivered, WasDelivered}
 use Rattle.roc_world.specs.Reads.{cells_of, unanswered_of}
 use Rattle.roc_report.specs.Shown.{message_kind, edges_of, shown_message}
 use Rattle.roc_report.specs.Line.{Line, ShownMessage, Submit, Deliver, Send, Answer, Row, Pending}
@@ -188,11 +190,11 @@ submit_sends w coord proc args after outs (Err fault.Args) o e = absurd e
 submit_sends w coord proc args after outs (Err fault.NoMemory) o e = absurd e
 
 received_sends : (plan : Plan) (w : World) (msg : Msg) (to : Node) (o : Outcome) → IsReceived plan w msg to o → SendsMore w o.world
-received_sends plan w msg (Server shard) o (s, r, there, step, e) = subst (λ (x : Outcome). SendsMore w x.world) (sym e) (sends_these w (Server shard) r.sends)
+received_sends plan w msg (Server shard) o h = subst (λ (x : Outcome). SendsMore w x.world) (sym h.is) (sends_these w (Server shard) (h.step.sends ++ h.reads.sends))
 received_sends plan w msg (Coord number) o (s, there, e) = subst (λ (x : Outcome). SendsMore w x.world) (sym e) (sends_these w (Coord number) _)
 
 tick_sends : (plan : Plan) (w : World) (node : Node) (o : Outcome) → Ticks plan w node o → SendsMore w o.world
-tick_sends plan w (Server shard) o (s, there, e) = subst (λ (x : Outcome). SendsMore w x.world) (sym e) (sends_these w (Server shard) _)
+tick_sends plan w (Server shard) o (s, v, there, keeps, e) = subst (λ (x : Outcome). SendsMore w x.world) (sym e) (sends_these w (Server shard) _)
 tick_sends plan w (Coord number) o (s, there, e) = subst (λ (x : Outcome). SendsMore w x.world) (sym e) (sends_these w (Coord number) _)
 
 -- a message that comes leaves fewer undelivered, and not itself
@@ -253,8 +255,8 @@ shown_more plan w lines step h shown =
     }
 
 run_shown : (plan : Plan) (coords : ℕ) (steps : List Stepped) (w : World) → IsRun plan coords steps w → AreShown w (steps_lines [] steps)
-run_shown plan coords steps w begun = record { sends = λ line h. elim h [ ]; sent = λ number message h. elim h [ ]; delivered = λ k h. elim h [ ] }
-run_shown plan coords steps w (goes_on {steps = before} {w = old} e o r h) =
+run_shown plan coords steps w at_beginning = record { sends = λ line h. elim h [ ]; sent = λ number message h. elim h [ ]; delivered = λ k h. elim h [ ] }
+run_shown plan coords steps w (steps_on {steps = before} {w = old} e o r h) =
     let step : Stepped = record { event = e; outcome = o } in
     subst (AreShown o.world) (sym (run_lines plan coords before old r step)) (shown_more plan old (steps_lines [] before) step h (run_shown plan coords before old r))
 
@@ -320,7 +322,7 @@ module _ (plan : Plan) (coords : ℕ) (steps : List Stepped) (w : World) (r : Is
       }
 
   -- so what looks quiet is
-  pub looks_is_quiet : (t : TxnId) → LooksQuiet lines t → IsQuiet plan steps w t
+  pub looks_is_quiet : (t : TxnId) → LooksQuiet lines t → AreDelivered (PrecedesIn w.sent) steps w t
   looks_is_quiet t looks =
       record {
         each = λ k m u there is chain.
@@ -330,12 +332,12 @@ module _ (plan : Plan) (coords : ℕ) (steps : List Stepped) (w : World) (r : Is
             shown_was_delivered (suc k) (looks.each (suc k) (shown_message m) u own (id_is_shown m ∙ is) led));
       }
 
-  -- and is answered, where what is quiet is, since the lines show the history
-  pub shown_answered : history_in lines ≡ w.history
-      → ((t : TxnId) (proc : ℕ) (args : List ℤ) → Has (entry.Submitted t proc args) w.history → IsQuiet plan steps w t → (reply : List ℤ) × Has (entry.Answered t reply) w.history)
-      → (t : TxnId) (proc : ℕ) (args : List ℤ) → Has (Submit t proc args) lines → LooksQuiet lines t → (reply : List ℤ) × Has (Answer t reply) lines
-  shown_answered history answers t proc args h looks =
-      let submitted = subst (Has (entry.Submitted t proc args)) history (has_flat_map entries_in (entry.Submitted t proc args) (Submit t proc args) lines h (inl refl)) in
-      let answer = answers t proc args submitted (looks_is_quiet t looks) in
-      let found = from_has_flat_map entries_in (entry.Answered t answer.0) lines (subst (Has (entry.Answered t answer.0)) (sym history) answer.1) in
-      (answer.0, subst (λ (line : Line). Has line lines) (answer_of found.0 t answer.0 found.2) found.1)
+-- the lines show the history
+module _ (plan : Plan) (coords : ℕ) (steps : List Stepped) (w : World) (history : history_in (report steps w) ≡ w.history) (t : TxnId) where
+  pub submission_shown : (proc : ℕ) (args : List ℤ) → Has (Submit t proc args) (report steps w) → Has (entry.Submitted t proc args) w.history
+  submission_shown proc args h = subst (Has (entry.Submitted t proc args)) history (has_flat_map entries_in (entry.Submitted t proc args) (Submit t proc args) (report steps w) h (inl refl))
+
+  pub answer_shown : (reply : List ℤ) × Has (entry.Answered t reply) w.history → (reply : List ℤ) × Has (Answer t reply) (report steps w)
+  answer_shown answer =
+      let found = from_has_flat_map entries_in (entry.Answered t answer.0) (report steps w) (subst (Has (entry.Answered t answer.0)) (sym history) answer.1) in
+      (answer.0, subst (λ (line : Line). Has line (report steps w)) (answer_of found.0 t answer.0 found.2) found.1)

@@ -3,11 +3,12 @@ use Rattle.std.proofs.Common.{◌≡◌, ◌⊎◌, inl, inr, ℕ, ◌<◌, ℤ,
 use Rattle.std.specs.List.{AllByRecursion}
 use Rattle.std.specs.Option.{option_and_then}
 use Rattle.std.proofs.lemmas.Bool.{eqb-true}
+use Rattle.std.specs.Str.{bytes_eq}
+use Rattle.std.proofs.lemmas.List.Quantifiers.{position-Some}
 use Rattle.std.proofs.lemmas.Option.{same_Some, none-some, option_and_then_some}
 use Rattle.roc_sequence.proofs.Fronts.{parts_at}
 use Rattle.roc_program.specs.Program.{Workload}
-use Rattle.roc_program.specs.LookUps.{transaction_named}
-use Rattle.roc_program.proofs.Transactions.{named_transaction}
+use Rattle.roc_program.specs.LookUps.{no_procedure, procedure_named}
 use Rattle.roc_protocol.specs.declared.event.Event.TheVariants as event
 use Rattle.roc_sched.specs.declared.fault.TextFault.{TextFault}
 use Rattle.roc_sched.specs.declared.fault.TextFault.TheVariants.{At, NoMemory}
@@ -49,7 +50,7 @@ each_none {A} {B} f (y ∷ ys) x behind h =
     (λ z. ap (λ (o : Option (List B)). o >>= λ zs. Some (z ∷ zs)) (each_none f ys x behind h))
 
 module _ (program : Workload) where
-  submission_fits : (coord : ℕ) (args : List ℤ) (name : List ℕ) (o : Option ℕ) (r : Result Wanted What) → coord < 16 → transaction_named program name ≡ o
+  submission_fits : (coord : ℕ) (args : List ℤ) (name : List ℕ) (o : Option ℕ) (r : Result Wanted What) → coord < 16 → procedure_named program name ≡ o
       → submission_of program coord args o ≡ r → (w : Wanted) → r ≡ Ok w → WantedFits program w
   submission_fits coord args name None r there found e w is = absurd (let both : Err what.Procedure ≡ Ok w = e ∙ is in cc)
   submission_fits coord args name (Some proc) r there found e w is = go (length args == arguments_of program proc) refl (e ∙ is)
@@ -57,11 +58,11 @@ module _ (program : Workload) where
       go : (b : Bool) → length args == arguments_of program proc ≡ b → (if b then Ok (wanted.Event (event.Submit coord proc args)) else Err what.Arguments) ≡ Ok w → WantedFits program w
       go true count same =
           let one : wanted.Event (event.Submit coord proc args) ≡ w = cc in
-          subst (WantedFits program) one (there, named_transaction program name proc found, eqb-true (length args) (arguments_of program proc) count)
+          subst (WantedFits program) one (there, (position-Some (λ procedure. bytes_eq procedure.name name) program.procedures proc no_procedure found).0, eqb-true (length args) (arguments_of program proc) count)
       go false count same = absurd (cc)
 
   act_fits : (a : Act) (w : Wanted) → IsActFor program.shards a → wanted_by program a ≡ Ok w → WantedFits program w
-  act_fits (act.Submit coord name args) w fits h = submission_fits coord args name (transaction_named program name) _ fits.0 refl h w refl
+  act_fits (act.Submit coord name args) w fits h = submission_fits coord args name (procedure_named program name) _ fits.0 refl h w refl
   act_fits (act.Deliver message) w fits h = let one : wanted.Event (event.Deliver message) ≡ w = cc in subst (WantedFits program) one fits
   act_fits (act.Any place) w fits h = let one : wanted.Any place ≡ w = cc in subst (WantedFits program) one fits
   act_fits (act.Tick node) w fits h = let one : wanted.Event (event.Tick node) ≡ w = cc in subst (WantedFits program) one fits

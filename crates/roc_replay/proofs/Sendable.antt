@@ -9,15 +9,15 @@ use Rattle.std.specs.List.{AllByRecursion, range_with_len}
 use Rattle.roc_sequence.proofs.Holds.{all_at}
 use Rattle.roc_base.specs.declared.node.Node.TheVariants.{Server, Coord}
 use Rattle.roc_plan.specs.Groups.{Plan}
-use Rattle.roc_coord.specs.State.{first_coord}
+use Rattle.roc_protocol.specs.Beginnings as protocol
 use Rattle.roc_protocol.specs.declared.event.Event.{Event}
 use Rattle.roc_protocol.specs.declared.event.Event.TheVariants.{Submit, Deliver, Tick}
 use Rattle.roc_protocol.specs.declared.event.Seen.TheVariants as seen
-use Rattle.roc_protocol.specs.World.{World, first_world}
-use Rattle.roc_protocol.specs.Fits.{FitsWorld}
-use Rattle.roc_protocol.specs.Happens.{Outcome, undecided, Happens}
-use Rattle.roc_protocol.specs.Run.{Stepped, Transition, IsEventOf}
-use Rattle.roc_protocol.proofs.WorldsFit.{same_count}
+use Rattle.roc_views.specs.World.{World, first_world}
+use Rattle.roc_views.specs.Fits.{FitsWorld}
+use Rattle.roc_views.specs.Happens.{Outcome, undecided, Happens}
+use Rattle.roc_views.specs.Run.{Stepped, Transition, IsEventOf}
+use Rattle.roc_world.proofs.WorldsFit.{same_count}
 use Rattle.roc_replay.specs.declared.asked.BoundLine.{BoundLine}
 use Rattle.roc_replay.specs.declared.asked.Wanted.{Wanted}
 use Rattle.roc_replay.specs.declared.asked.Wanted.TheVariants as wanted
@@ -85,4 +85,4 @@ module _ (outcome : (plan : Plan) (w : World) (e : Event) → FitsWorld plan w �
         (goes_on line o.0 played o.1) (kept plan w (event_in w line.wanted) o.0 fits o.1) (count_kept w (event_in w line.wanted) o.0 o.1 many)
 
     pub played_there : FitsWorld plan (first_world plan coordinators) → ArePlayed
-    played_there fits = grown lines [] refl fit [] (first_world plan coordinators) begun fits (length-map (range_with_len 0 coordinators) first_coord ∙ length-range_with_len 0 coordinators)
+    played_there fits = grown lines [] refl fit [] (first_world plan coordinators) begun fits (length-map (range_with_len 0 coordinators) (protocol.begun_coord (protocol.first_beginning plan)) ∙ length-range_with_len 0 coordinators)

@@ -1,4 +1,4 @@
--- The cells that a report shows, where it shows no transaction as pending
+-- The cells that a report shows, where it shows none as pending
 use Rattle.std.proofs.Common.{◌≡◌, ◌≢◌, ◌↔◌, ℕ, ℤ, pos, zero, suc, ◌+◌, ◌<◌, Bool, true, false, cond, List, [], ◌∷◌, ◌++◌, Option, Some, None, length, map, refl, sym, ap, subst, ◌∙◌, ◌⊎◌, inl, inr, arith}
 use Rattle.std.proofs.lemmas.Bool.{cases_eq}
 use Rattle.std.proofs.lemmas.Grind.{flat_map-append}
@@ -16,16 +16,14 @@ use Rattle.roc_rows.specs.Store.{Store, read, entries}
 use Rattle.roc_msg.specs.declared.msg.Envelope.{Envelope}
 use Rattle.roc_plan.specs.Groups.{Plan, shard_of}
 use Rattle.roc_server.specs.State.{ServerState}
-use Rattle.roc_coord.specs.declared.transaction.Transaction.{Transaction}
 use Rattle.roc_coord.specs.State.{CoordState}
-use Rattle.roc_coord.specs.Ids.{ids_of}
 use Rattle.roc_audit.specs.History.{WasSubmitted, WasAnswered}
 use Rattle.roc_protocol.specs.declared.event.Event.{Event}
 use Rattle.roc_protocol.specs.declared.event.Event.TheVariants as event
 use Rattle.roc_protocol.specs.declared.event.Seen.{Seen}
 use Rattle.roc_protocol.specs.declared.event.Seen.TheVariants as seen
-use Rattle.roc_protocol.specs.World.{World}
-use Rattle.roc_protocol.specs.Run.{Stepped}
+use Rattle.roc_views.specs.World.{World}
+use Rattle.roc_views.specs.Run.{Stepped}
 use Rattle.roc_world.specs.Reads.{cells_of, unanswered_of}
 use Rattle.roc_report.specs.Line.{Row, Pending}
 use Rattle.roc_replay.specs.Cells.{put, by_cell}
@@ -181,17 +179,11 @@ module _ (plan : Plan) (w : World)
 
 -- where none is shown as pending, each that was submitted was answered
 pub all_answered : (steps : List Stepped) (w : World) → pending_in (report steps w) ≡ []
-    → ((n : ℕ) (c : CoordState) → slice_get w.coords n ≡ Some c → c.unanswered ≡ ids_of c.pending)
-    → ((t : TxnId) → WasSubmitted w.history t
-    → (c : CoordState) × (slice_get w.coords t.coord ≡ Some c) × (((x : Transaction) × Has x c.pending × (x.id ≡ t)) ⊎ ((reply : List ℤ) × WasAnswered w.history t reply)))
+    → ((t : TxnId) → WasSubmitted w.history t → (c : CoordState) × (slice_get w.coords t.coord ≡ Some c) × (Has t c.unanswered ⊎ ((reply : List ℤ) × WasAnswered w.history t reply)))
     → (t : TxnId) → WasSubmitted w.history t → (reply : List ℤ) × WasAnswered w.history t reply
-all_answered steps w none plain kept t h =
+all_answered steps w none kept t h =
     let k = kept t h in
     elim k.2 [
-      | inl p ↦
-          absurd (none_pending steps w none t
-          (subst (λ t. Has t (unanswered_of w)) p.2
-          (has_flat_map (λ (c : CoordState). c.unanswered) p.0.id k.0 w.coords (has_at w.coords t.coord k.0 k.1)
-          (subst (Has p.0.id) (sym (plain t.coord k.0 k.1)) (has_map (λ (x : Transaction). x.id) p.0 k.0.pending p.1)))))
+      | inl p ↦ absurd (none_pending steps w none t (has_flat_map (λ (c : CoordState). c.unanswered) t k.0 w.coords (has_at w.coords t.coord k.0 k.1) p))
       | inr a ↦ a
     ]

@@ -1,5 +1,5 @@
 -- What the lines of a run show is the history and the order of its world, and so they explain themselves
-use Rattle.std.proofs.Common.{◌≡◌, ◌≢◌, ◌↔◌, ℕ, ℤ, pos, ◌+◌, List, [], ◌∷◌, ◌++◌, Option, Some, None, Result, Ok, Err, map, refl, sym, ap, subst, ◌∙◌}
+use Rattle.std.proofs.Common.{◌≡◌, ◌≢◌, ◌↔◌, ℕ, ℤ, pos, ◌+◌, Bool, true, false, List, [], ◌∷◌, ◌++◌, Option, Some, None, Result, Ok, Err, map, refl, sym, ap, subst, ◌∙◌, inl, inr}
 use Rattle.std.proofs.lemmas.Grind.{flat_map-append}
 use Rattle.std.proofs.lemmas.List.{append-nil}
 use Rattle.std.specs.List.{flat_map}
@@ -13,7 +13,8 @@ use Rattle.roc_msg.specs.declared.msg.Envelope.{Envelope}
 use Rattle.roc_msg.specs.declared.outbox.Outgoing.{Outgoing}
 use Rattle.roc_rows.specs.declared.cell.Cell.{Cell}
 use Rattle.roc_rows.specs.Store.{read}
-use Rattle.roc_plan.specs.Groups.{Plan}
+use Rattle.roc_depgraph.proofs.Chains.{weaker_chain}
+use Rattle.roc_plan.specs.Groups.{Plan, is_view_of}
 use Rattle.roc_whole.specs.Serial.{serial_store, start_store}
 use Rattle.roc_server.specs.declared.handled.Handled.{Handled as ServerHandled}
 use Rattle.roc_server.specs.declared.handled.Handled.TheVariants as server_answer
@@ -31,17 +32,21 @@ use Rattle.roc_protocol.specs.declared.event.Event.{Event}
 use Rattle.roc_protocol.specs.declared.event.Event.TheVariants as event
 use Rattle.roc_protocol.specs.declared.event.Seen.{Seen}
 use Rattle.roc_protocol.specs.declared.event.Seen.TheVariants as seen
-use Rattle.roc_protocol.specs.World.{World, mark_delivered}
-use Rattle.roc_protocol.specs.Happens.{Outcome, Submits, IsReceived, Ticks, Happens, server_seen, coord_seen, answer_entries}
-use Rattle.roc_protocol.specs.Quiet.{IsQuiet}
-use Rattle.roc_protocol.specs.Run.{Stepped, Transition, IsRun, begun, goes_on}
+use Rattle.roc_views.specs.World.{World, mark_delivered}
+use Rattle.roc_protocol.specs.Happens.{server_seen, coord_seen, answer_entries}
+use Rattle.roc_views.specs.Happens.{Outcome, Submits, IsReceived, Ticks, Happens}
+use Rattle.roc_protocol.specs.Quiet as transactions
+use Rattle.roc_views.specs.Quiet.{PrecedesIn, is_told, AreDelivered, IsQuiet, IsInLastRound}
+use Rattle.roc_views.specs.Witness.{witness_of}
+use Rattle.roc_views.specs.Run.{Stepped, Transition, IsRun, at_beginning, steps_on}
 use Rattle.roc_world.specs.Reads.{cells_of, unanswered_of}
-use Rattle.roc_report.specs.Line.{Deliver, Row, Pending}
+use Rattle.roc_report.specs.Line.{Submit, Deliver, Answer, Row, Pending}
 use Rattle.roc_replay.specs.Cells.{by_cell}
 use Rattle.roc_replay.specs.Report.{untaken_lines, first_lines, send_lines, answer_lines, step_lines, steps_lines, end_line, closing_lines, report}
 use Rattle.roc_replay.specs.Readback.{entries_in, history_in, orders_of, orders_in, pending_in, cells_in, IgnoreOnlyStale, IsExplained}
 use Rattle.roc_replay.proofs.Growing.{run_lines}
-use Rattle.roc_replay.proofs.QuietLines.{shown_answered}
+use Rattle.roc_replay.specs.Ended.{AnswersWhatIsQuiet}
+use Rattle.roc_replay.proofs.QuietLines.{looks_is_quiet, submission_shown, answer_shown}
 
 -- what shows nothing in each place shows nothing
 pub none_in_map : {A B C : Type 0} (f : B → List C) (g : A → B) → ((a : A) → f (g a) ≡ []) → (xs : List A) → flat_map f (map g xs) ≡ []
@@ -96,17 +101,17 @@ coord_shows k (coord_answer.Ignored reason) = refl
 
 received_gains : (plan : Plan) (w : World) (k : ℕ) (msg : Msg) (to : Node) (o : Outcome) → IsReceived plan w msg to o → Gains w (Some (event.Deliver k)) o
 unfolding Gains
-received_gains plan w k msg (Server shard) o (s, r, there, step, e) =
-    subst (λ (x : Outcome). Gains w (Some (event.Deliver k)) x) (sym e)
-    (sym (append-nil w.history) ∙ ap (λ (l : List Entry). w.history ++ l) (sym (server_shows k r.answer)))
+received_gains plan w k msg (Server shard) o h =
+    subst (λ (x : Outcome). Gains w (Some (event.Deliver k)) x) (sym h.is)
+    (sym (append-nil w.history) ∙ ap (λ (l : List Entry). w.history ++ l) (sym (server_shows k h.step.answer)))
 received_gains plan w k msg (Coord number) o (s, there, e) =
     subst (λ (x : Outcome). Gains w (Some (event.Deliver k)) x) (sym e)
     (ap (λ (l : List Entry). w.history ++ l) (sym (coord_shows k (after_message plan s msg).answer)))
 
 tick_gains : (plan : Plan) (w : World) (node : Node) (o : Outcome) → Ticks plan w node o → Gains w (Some (event.Tick node)) o
 unfolding Gains
-tick_gains plan w (Server shard) o (s, there, e) = subst (λ (x : Outcome). Gains w (Some (event.Tick (Server shard))) x) (sym e) (sym (append-nil w.history))
-tick_gains plan w (Coord number) o (s, there, e) = subst (λ (x : Outcome). Gains w (Some (event.Tick (Coord number))) x) (sym e) refl
+tick_gains plan w (Server shard) o (s, v, there, keeps, e) = subst (λ (x : Outcome). Gains w (Some (event.Tick (Server shard))) x) (sym e) (sym (append-nil w.history))
+tick_gains plan w (Coord number) o (s, there, e) = subst (λ (x : Outcome). Gains w (Some (event.Tick (Coord number))) x) (sym e) (sym (append-nil w.history))
 
 happens_gains : (plan : Plan) (w : World) (e : Event) (o : Outcome) → Happens plan w e o → Gains w (Some e) o
 unfolding Gains
@@ -122,8 +127,8 @@ comes_gains plan w None o h = subst (λ (x : Outcome). Gains w None x) (sym h) (
 -- the lines of a run show its history
 pub run_history : (plan : Plan) (coords : ℕ) (steps : List Stepped) (w : World) → IsRun plan coords steps w → history_in (steps_lines [] steps) ≡ w.history
 unfolding Gains
-run_history plan coords steps w begun = refl
-run_history plan coords steps w (goes_on {steps = before} {w = old} e o r h) =
+run_history plan coords steps w at_beginning = refl
+run_history plan coords steps w (steps_on {steps = before} {w = old} e o r h) =
     let step : Stepped = record { event = e; outcome = o } in
     ap history_in (run_lines plan coords before old r step)
     ∙ flat_map-append entries_in (steps_lines [] before) (step_lines old.sent step)
@@ -175,9 +180,9 @@ closing_history w =
     none_in_both entries_in (map (λ e. Row e.0 e.1) (by_cell (cells_of w))) _ (none_in_map entries_in (λ e. Row e.0 e.1) (λ e. refl) (by_cell (cells_of w)))
     (none_in_both entries_in (map Pending (unanswered_of w)) (end_line w ∷ []) (none_in_map entries_in Pending (λ id. refl) (unanswered_of w)) refl)
 
-closing_orders : (w : World) → orders_in (closing_lines w) ≡ w.order ∷ []
+closing_orders : (w : World) → orders_in (closing_lines w) ≡ witness_of w ∷ []
 closing_orders w =
-    ap (λ (l : List (List TxnId)). w.order ∷ l)
+    ap (λ (l : List (List TxnId)). witness_of w ∷ l)
     (none_in_both orders_of (map (λ e. Row e.0 e.1) (by_cell (cells_of w))) _ (none_in_map orders_of (λ e. Row e.0 e.1) (λ e. refl) (by_cell (cells_of w)))
     (none_in_both orders_of (map Pending (unanswered_of w)) (end_line w ∷ []) (none_in_map orders_of Pending (λ id. refl) (unanswered_of w)) refl))
 
@@ -190,27 +195,59 @@ report_history plan coords steps w r =
     ∙ append-nil (history_in (steps_lines [] steps))
     ∙ run_history plan coords steps w r
 
-pub report_orders : (steps : List Stepped) (w : World) → orders_in (report steps w) ≡ w.order ∷ []
+pub report_orders : (steps : List Stepped) (w : World) → orders_in (report steps w) ≡ witness_of w ∷ []
 report_orders steps w =
     flat_map-append orders_of (steps_lines [] steps) (closing_lines w)
     ∙ ap (λ (l : List (List TxnId)). l ++ orders_in (closing_lines w)) (orders_in-steps [] steps)
     ∙ closing_orders w
 
--- where the order of the world is a serial witness of its history, what is quiet there is answered, and where nothing is pending its cells are serial
-pub explained : (plan : Plan) (coords : ℕ) (steps : List Stepped) (w : World) → IsSerialWitness plan.program w.history w.order
-    → ((t : TxnId) (proc : ℕ) (args : List ℤ) → Has (entry.Submitted t proc args) w.history → IsQuiet plan steps w t → (reply : List ℤ) × Has (entry.Answered t reply) w.history)
+-- where the order with the views put in is a serial witness of the history, what is quiet is answered, and where nothing is pending the cells are serial
+pub explained : (plan : Plan) (coords : ℕ) (steps : List Stepped) (w : World) → IsSerialWitness plan.program w.history (witness_of w)
+    → ((t : TxnId) (proc : ℕ) (args : List ℤ) → Has (entry.Submitted t proc args) w.history → is_view_of plan proc ≡ false → AreDelivered (transactions.PrecedesIn w.sent) steps w t
+    → (reply : List ℤ) × Has (entry.Answered t reply) w.history)
     → (pending_in (report steps w) ≡ [] → (x : Cell) (v : ℤ)
-    → Has (x, v) (cells_in (report steps w)) ↔ ((v ≢ pos 0) × (read (serial_store plan.program (start_store plan.program) (submitted_calls w.history w.order)) x ≡ v)))
+    → Has (x, v) (cells_in (report steps w)) ↔ ((v ≢ pos 0) × (read (serial_store plan.program (start_store plan.program) (submitted_calls w.history (witness_of w))) x ≡ v)))
     → IsToldOnce w.history → IgnoreOnlyStale (report steps w)
     → IsRun plan coords steps w → IsExplained plan.program (report steps w)
 explained plan coords steps w serial answers cells told ignored r = record {
-  order = w.order;
+  order = witness_of w;
   shown = report_orders steps w;
-  serial = subst (λ (h : List Entry). IsSerialWitness plan.program h w.order) (sym (report_history plan coords steps w r)) serial;
+  serial = subst (λ (h : List Entry). IsSerialWitness plan.program h (witness_of w)) (sym (report_history plan coords steps w r)) serial;
   cells = λ none x v.
-      subst (λ (h : List Entry). Has (x, v) (cells_in (report steps w)) ↔ ((v ≢ pos 0) × (read (serial_store plan.program (start_store plan.program) (submitted_calls h w.order)) x ≡ v)))
+      subst (λ (h : List Entry). Has (x, v) (cells_in (report steps w)) ↔ ((v ≢ pos 0) × (read (serial_store plan.program (start_store plan.program) (submitted_calls h (witness_of w))) x ≡ v)))
       (sym (report_history plan coords steps w r)) (cells none x v);
-  answered = shown_answered plan coords steps w r (report_history plan coords steps w r) answers;
+  answered = λ t proc args h plain looks.
+      answer_shown plan coords steps w (report_history plan coords steps w r) t
+      (answers t proc args (submission_shown plan coords steps w (report_history plan coords steps w r) t proc args h) plain (looks_is_quiet plan coords steps w r t looks));
   told = subst IsToldOnce (sym (report_history plan coords steps w r)) told;
   ignored = ignored;
 }
+
+-- and what is quiet in the run is shown as answered
+pub quiet_answered : (plan : Plan) (coords : ℕ) (steps : List Stepped) (w : World)
+    → ((t : TxnId) (proc : ℕ) (args : List ℤ) → Has (entry.Submitted t proc args) w.history → is_view_of plan proc ≡ false → AreDelivered (transactions.PrecedesIn w.sent) steps w t
+    → (reply : List ℤ) × Has (entry.Answered t reply) w.history)
+    → ((t : TxnId) (proc : ℕ) (args : List ℤ) → Has (entry.Submitted t proc args) w.history → is_view_of plan proc ≡ true → IsQuiet plan steps w t → ¬ IsInLastRound w t
+    → (reply : List ℤ) × Has (entry.Answered t reply) w.history)
+    → IsRun plan coords steps w → AnswersWhatIsQuiet plan steps w (report steps w)
+quiet_answered plan coords steps w of_transactions of_views r = record { each = each }
+  where
+    history : history_in (report steps w) ≡ w.history
+    history = report_history plan coords steps w r
+
+    told : (u t : TxnId) → transactions.PrecedesIn w.sent u t → PrecedesIn plan w u t
+    told u t p = is_told p
+
+    each : (t : TxnId) (proc : ℕ) (args : List ℤ) → Has (Submit t proc args) (report steps w) → IsQuiet plan steps w t → ¬ IsInLastRound w t → (reply : List ℤ) × Has (Answer t reply) (report steps w)
+    each t proc args h quiet short = go (is_view_of plan proc) refl
+      where
+        submitted : Has (entry.Submitted t proc args) w.history
+        submitted = submission_shown plan coords steps w history t proc args h
+
+        go : (b : Bool) → is_view_of plan proc ≡ b → (reply : List ℤ) × Has (Answer t reply) (report steps w)
+        go true e = answer_shown plan coords steps w history t (of_views t proc args submitted e quiet short)
+        go false e =
+            answer_shown plan coords steps w history t
+            (of_transactions t proc args submitted e (record {
+              each = λ k m u there is chain. quiet.each k m u there is (elim chain [ inl e ↦ inl e | inr c ↦ inr (weaker_chain (transactions.PrecedesIn w.sent) (PrecedesIn plan w) told u t c) ]);
+            }))

@@ -10,9 +10,9 @@ use Rattle.roc_plan.specs.Groups.{Plan}
 use Rattle.roc_msg.specs.declared.msg.Envelope.{Envelope}
 use Rattle.roc_protocol.specs.declared.event.Seen.{Seen}
 use Rattle.roc_protocol.specs.declared.event.Seen.TheVariants as seen
-use Rattle.roc_protocol.specs.World.{World, first_world}
-use Rattle.roc_protocol.specs.Fits.{FitsWorld}
-use Rattle.roc_protocol.specs.Run.{Stepped}
+use Rattle.roc_views.specs.World.{World, first_world}
+use Rattle.roc_views.specs.Fits.{FitsWorld}
+use Rattle.roc_views.specs.Run.{Stepped}
 use Rattle.roc_report.specs.ReportLine.{HasSmallNumbers, HaveSmallNumbers}
 use Rattle.roc_report.specs.Text.{line_text, lines_text}
 use Rattle.roc_replay.specs.declared.asked.BoundLine.{BoundLine}

@@ -1,11 +1,11 @@
 -- Schedules of a program, what their lines ask for, and which event that is in a world: docs/FORMATS.md, "Schedule".
-use Rattle.std.specs.Prelude.{true, ◌≡◌, ℕ, ℤ, ◌<◌, ◌%◌, ◌^◌, ◌==◌, if◌then◌else◌, List, [], ◌∷◌, ◌++◌, length, Option, Some, None, Result, Ok, Err, slice_index_or}
+use Rattle.std.specs.Prelude.{◌≡◌, ℕ, ℤ, ◌<◌, ◌%◌, ◌^◌, ◌==◌, if◌then◌else◌, List, [], ◌∷◌, ◌++◌, length, Option, Some, None, Result, Ok, Err, slice_index_or}
 use Rattle.std.specs.List.{AllByRecursion}
 use Rattle.roc_base.specs.declared.node.Node.{Node}
 use Rattle.roc_base.specs.declared.node.Node.TheVariants.{Server, Coord}
 use Rattle.roc_program.specs.Program.{Workload}
-use Rattle.roc_program.specs.LookUps.{no_procedure, is_transaction_in, transaction_named}
-use Rattle.roc_protocol.specs.World.{World}
+use Rattle.roc_program.specs.LookUps.{no_procedure, procedure_named}
+use Rattle.roc_views.specs.World.{World}
 use Rattle.roc_protocol.specs.declared.event.Event.{Event}
 use Rattle.roc_protocol.specs.declared.event.Event.TheVariants as event
 use Rattle.roc_sched.specs.declared.fault.What.{What}
@@ -29,14 +29,14 @@ coordinators = 16
 abbrev pub arguments_of : Workload → ℕ → ℕ
 arguments_of program proc = (slice_index_or program.procedures proc no_procedure).arguments
 
--- the submission of a procedure, where there is one that is no view, with its count of arguments
+-- the submission of a procedure, where there is one, with its count of arguments
 abbrev pub submission_of : Workload → (coord : ℕ) (args : List ℤ) → (proc : Option ℕ) → Result Wanted What
 submission_of program coord args None = Err what.Procedure
 submission_of program coord args (Some proc) = if length args == arguments_of program proc then Ok (wanted.Event (event.Submit coord proc args)) else Err what.Arguments
 
 -- what an act asks for, or why it does not fit the program
 abbrev pub wanted_by : Workload → Act → Result Wanted What
-wanted_by program (act.Submit coord name args) = submission_of program coord args (transaction_named program name)
+wanted_by program (act.Submit coord name args) = submission_of program coord args (procedure_named program name)
 wanted_by program (act.Deliver message) = Ok (wanted.Event (event.Deliver message))
 wanted_by program (act.Any place) = Ok (wanted.Any place)
 wanted_by program (act.Tick node) = Ok (wanted.Event (event.Tick node))
@@ -70,7 +70,7 @@ IsNodeIn program (Server shard) = shard.0 < program.shards
 IsNodeIn program (Coord number) = number < coordinators
 
 abbrev pub FitsProgram : Workload → Event → Type 0
-FitsProgram program (event.Submit coord proc args) = (coord < coordinators) × (is_transaction_in program proc ≡ true) × (length args ≡ arguments_of program proc)
+FitsProgram program (event.Submit coord proc args) = (coord < coordinators) × (proc < length program.procedures) × (length args ≡ arguments_of program proc)
 FitsProgram program (event.Deliver message) = (0 < message) × (message < 2 ^ 32)
 FitsProgram program (event.Tick node) = IsNodeIn program node
 

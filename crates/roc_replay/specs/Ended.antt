@@ -1,15 +1,18 @@
 -- How a replay ends, and what the sink took: docs/FORMATS.md, "Report"
-use Rattle.std.specs.Prelude.{◌≡◌, ℕ, ◌<◌, Bool, true, false, List, [], ◌∷◌, ◌++◌, Option, length}
+use Rattle.std.specs.Prelude.{◌≡◌, ℕ, ℤ, ◌<◌, Bool, true, false, List, [], ◌∷◌, ◌++◌, Option, length}
 use Rattle.std.specs.List.{AllByRecursion}
+use Rattle.roc_sequence.specs.Lists.{Has}
+use Rattle.roc_base.specs.declared.id.TxnId.{TxnId}
 use Rattle.roc_io.specs.Observed.{Adds, AddsThenFront}
 use Rattle.roc_plan.specs.Groups.{Plan}
-use Rattle.roc_protocol.specs.World.{World}
-use Rattle.roc_protocol.specs.Run.{Stepped}
+use Rattle.roc_views.specs.World.{World}
+use Rattle.roc_views.specs.Quiet.{IsQuiet, IsInLastRound}
+use Rattle.roc_views.specs.Run.{Stepped}
 use Rattle.roc_protocol.specs.declared.event.Event.TheVariants as event
 use Rattle.roc_sched.specs.declared.fault.What.{What}
 use Rattle.roc_sched.specs.declared.fault.What.TheVariants as what
 use Rattle.roc_sched.specs.Schedule.{IsScheduleFault}
-use Rattle.roc_report.specs.Line.{Line, End}
+use Rattle.roc_report.specs.Line.{Line, Submit, Answer, End}
 use Rattle.roc_report.specs.ReportLine.{IsReportLine}
 use Rattle.roc_report.specs.Text.{lines_text}
 use Rattle.roc_replay.specs.declared.asked.BoundLine.{BoundLine}
@@ -66,6 +69,10 @@ pub record IsReportOf (plan : Plan) (schedule : List ℕ) (lines : List Line) : 
   pub played : IsPlayed plan asked steps world
   pub is : lines ≡ report steps world
 
+-- each submitted transaction or view that is quiet in the run has an answer in its report, but for a view in its last round
+pub record AnswersWhatIsQuiet (plan : Plan) (steps : List Stepped) (w : World) (lines : List Line) : Type 0 where
+  pub each : (t : TxnId) (proc : ℕ) (args : List ℤ) → Has (Submit t proc args) lines → IsQuiet plan steps w t → ¬ IsInLastRound w t → (reply : List ℤ) × Has (Answer t reply) lines
+
 -- the sink took the text of lines of a report, which explain themselves: the report of the run of exactly this schedule; and the summary has the
 -- numbers of its end line
 pub record IsReplayed (plan : Plan) (schedule : List ℕ) (summary : Summary) (old new : Option (List ℕ)) : Type 0 where
@@ -74,6 +81,7 @@ pub record IsReplayed (plan : Plan) (schedule : List ℕ) (summary : Summary) (o
   pub are : AllByRecursion (IsReportLine plan.program) lines
   pub explained : IsExplained plan.program lines
   pub run : IsReportOf plan schedule lines
+  pub answers : AnswersWhatIsQuiet plan run.steps run.world lines
   pub end : end_line run.world ≡ End summary.answered summary.pending summary.messages
   pub busy : summary.busy ≡ busy_in lines
 

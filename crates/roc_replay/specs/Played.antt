@@ -1,9 +1,9 @@
 -- A schedule that is played: docs/FORMATS.md, "Schedule", and docs/PROTOCOL.md, "World"
 use Rattle.std.specs.Prelude.{◌≡◌, ℕ, ◌≤◌, List, [], ◌∷◌, ◌++◌, length, Option}
 use Rattle.roc_plan.specs.Groups.{Plan}
-use Rattle.roc_protocol.specs.World.{World, first_world}
-use Rattle.roc_protocol.specs.Happens.{Outcome}
-use Rattle.roc_protocol.specs.Run.{Stepped, Transition}
+use Rattle.roc_views.specs.World.{World, first_world}
+use Rattle.roc_views.specs.Happens.{Outcome}
+use Rattle.roc_views.specs.Run.{Stepped, Transition}
 use Rattle.roc_protocol.specs.declared.event.Event.{Event}
 use Rattle.roc_protocol.specs.declared.event.Event.TheVariants as event
 use Rattle.roc_report.specs.ReportLine.{HaveSmallNumbers}

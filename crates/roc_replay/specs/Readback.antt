@@ -1,5 +1,5 @@
 -- What a report's own lines tell: docs/FORMATS.md, "Report", and docs/PROTOCOL.md, "Serial witness"
-use Rattle.std.specs.Prelude.{◌≡◌, ◌≢◌, ◌↔◌, ℕ, ℤ, pos, List, [], ◌∷◌, ◌++◌, Some}
+use Rattle.std.specs.Prelude.{◌≡◌, ◌≢◌, ◌↔◌, ℕ, ℤ, pos, false, List, [], ◌∷◌, ◌++◌, Some}
 use Rattle.std.specs.List.{flat_map}
 use Rattle.roc_sequence.specs.Lists.{Has}
 use Rattle.roc_base.specs.declared.id.TxnId.{TxnId}
@@ -10,6 +10,7 @@ use Rattle.roc_depgraph.specs.Reach.{ReachesOrIs}
 use Rattle.roc_rows.specs.declared.cell.Cell.{Cell}
 use Rattle.roc_rows.specs.Store.{read}
 use Rattle.roc_program.specs.Program.{Workload}
+use Rattle.roc_program.specs.LookUps.{is_view_in}
 use Rattle.roc_whole.specs.Serial.{serial_store, start_store}
 use Rattle.roc_audit.specs.declared.entry.Entry.{Entry}
 use Rattle.roc_audit.specs.declared.entry.Entry.TheVariants.{Submitted, Answered}
@@ -35,7 +36,7 @@ orders_of _ = []
 abbrev pub orders_in : List Line → List (List TxnId)
 orders_in lines = flat_map orders_of lines
 
--- the transaction that a line shows as pending
+-- the transaction or view that a line shows as pending
 abbrev pub pending_of : Line → List TxnId
 pending_of (Pending id) = id ∷ []
 pending_of _ = []
@@ -84,8 +85,8 @@ pub record IgnoreOnlyStale (lines : List Line) : Type 0 where
 
 -- ---- what lines explain
 
--- the lines explain themselves: they show one order, and it is a serial witness of the history that they show; and each submitted transaction
--- whose messages, and those of its ancestors, they show as delivered has an answer; and where they show none as pending, the cells that they show
+-- the lines explain themselves: they show one order, and it is a serial witness of the history that they show; and each submitted transaction that is no
+-- view, whose messages, and those of its ancestors, they show as delivered has an answer; and where they show none as pending, the cells that they show
 -- are those that are not 0, each with its number, where the order's transactions run whole, one after another. No two submissions have one id, an
 -- id has at most one answer, behind its submission, and only stale messages are ignored
 pub record IsExplained (program : Workload) (lines : List Line) : Type 0 where
@@ -95,6 +96,6 @@ pub record IsExplained (program : Workload) (lines : List Line) : Type 0 where
   pub cells :
       pending_in lines ≡ [] → (cell : Cell) (value : ℤ)
       → Has (cell, value) (cells_in lines) ↔ ((value ≢ pos 0) × (read (serial_store program (start_store program) (submitted_calls (history_in lines) order)) cell ≡ value))
-  pub answered : (t : TxnId) (proc : ℕ) (args : List ℤ) → Has (Submit t proc args) lines → LooksQuiet lines t → (reply : List ℤ) × Has (Answer t reply) lines
+  pub answered : (t : TxnId) (proc : ℕ) (args : List ℤ) → Has (Submit t proc args) lines → is_view_in program proc ≡ false → LooksQuiet lines t → (reply : List ℤ) × Has (Answer t reply) lines
   pub told : IsToldOnce (history_in lines)
   pub ignored : IgnoreOnlyStale lines

@@ -7,8 +7,9 @@ use Rattle.roc_protocol.specs.declared.event.Event.{Event}
 use Rattle.roc_protocol.specs.declared.event.Event.TheVariants as event
 use Rattle.roc_protocol.specs.declared.event.Seen.{Seen}
 use Rattle.roc_protocol.specs.declared.event.Seen.TheVariants as seen
-use Rattle.roc_protocol.specs.World.{World}
-use Rattle.roc_protocol.specs.Run.{Stepped}
+use Rattle.roc_views.specs.World.{World}
+use Rattle.roc_views.specs.Run.{Stepped}
+use Rattle.roc_views.specs.Witness.{witness_of}
 use Rattle.roc_world.specs.Reads.{cells_of, unanswered_of}
 use Rattle.roc_report.specs.Shown.{shown_message}
 use Rattle.roc_report.specs.Line.{Line, Submit, Busy, Spent, Deliver, Nothing, Tick, Gone, Ignored, Send, Answer, Order, Row, Pending, End}
@@ -48,7 +49,7 @@ abbrev pub send_lines : ℕ → List Envelope → List Line
 send_lines number [] = []
 send_lines number (sent ∷ rest) = Send number (shown_message sent) ∷ send_lines (number + 1) rest
 
--- the reply, if a transaction has it now
+-- the reply, if a transaction or a view has it now
 abbrev pub answer_lines : Seen → List Line
 answer_lines (seen.Answered id reply) = Answer id reply ∷ []
 answer_lines (seen.Submitted id) = []
@@ -75,17 +76,17 @@ abbrev pub is_answer : Entry → Bool
 is_answer (entry.Answered id reply) = true
 is_answer (entry.Submitted id proc args) = false
 
--- how many transactions were answered
+-- how many transactions and views were answered
 abbrev pub answered_in : List Entry → ℕ
 answered_in history = count_by is_answer history
 
 abbrev pub end_line : World → Line
 end_line w = End (answered_in w.history) (length (unanswered_of w)) (length w.sent)
 
--- the serial order, the cells that are not 0, the transactions without a reply, and the counts
+-- the serial order with the answered views put in, the cells that are not 0, the transactions and views without a reply, and the counts
 abbrev pub closing_lines : World → List Line
 closing_lines w =
-    Order w.order ∷ (map (λ e. Row e.0 e.1) (by_cell (cells_of w)) ++ (map Pending (unanswered_of w) ++ end_line w ∷ []))
+    Order (witness_of w) ∷ (map (λ e. Row e.0 e.1) (by_cell (cells_of w)) ++ (map Pending (unanswered_of w) ++ end_line w ∷ []))
 
 abbrev pub is_busy : Line → Bool
 is_busy (Busy coord) = true

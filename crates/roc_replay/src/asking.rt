@@ -1,7 +1,7 @@
 //! What the lines of a schedule ask for, and which line does not fit the plan.
 ghost use Rattle.std.specs.Prelude.{◌≡◌, IfOk, IfErr, Some};
 ghost use Rattle.std.specs.List.{AllByRecursion};
-ghost use Rattle.roc_program.specs.LookUps.{transaction_named};
+ghost use Rattle.roc_program.specs.LookUps.{procedure_named};
 ghost use Rattle.roc_sched.specs.Each.{each};
 ghost use Rattle.roc_sched.specs.Schedule.{item_of};
 ghost use Rattle.roc_replay.specs.BoundLine.{submission_of, wanted_by, asked_by, IsScheduleOf, WantedFits};
@@ -24,9 +24,9 @@ fn submission_of(
     name: &[u8],
     args: &Nums,
 ) -> Result<Wanted, TextFault>
-    ensures { GivesAtLine line result (submission_of plan.now.program coord args.now (transaction_named plan.now.program name.now)) }
+    ensures { GivesAtLine line result (submission_of plan.now.program coord args.now (procedure_named plan.now.program name.now)) }
 {
-    match plan.transaction_named(name) {
+    match plan.procedure_named(name) {
         Some(proc) => {
             if args.len() == usize::from(plan.args(proc)) {
                 let args = args.clone()?;

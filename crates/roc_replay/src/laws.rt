@@ -3,41 +3,43 @@ ghost use Rattle.std.specs.Prelude.{◌≡◌, ℕ, ◌<◌, List, Option, map};
 ghost use Rattle.std.specs.List.{AllByRecursion};
 ghost use Rattle.roc_plan.specs.Accepted.{IsAccepted};
 ghost use Rattle.roc_plan.specs.Groups.{Plan};
-ghost use Rattle.roc_protocol.specs.Run.{Stepped, IsRun};
-ghost use Rattle.roc_protocol.specs.World.{World};
+ghost use Rattle.roc_views.specs.Run.{Stepped, IsRun};
+ghost use Rattle.roc_views.specs.World.{World};
 ghost use Rattle.roc_sched.specs.declared.fault.What.{What};
 ghost use Rattle.roc_report.specs.ReportLine.{HasNames, NamesPartsOf};
 ghost use Rattle.roc_report.specs.Reading.{IsReadInOneWay};
 ghost use Rattle.roc_replay.specs.declared.asked.BoundLine.{BoundLine};
 ghost use Rattle.roc_replay.specs.declared.ended.Summary.{Summary};
 ghost use Rattle.roc_replay.specs.BoundLine.{IsScheduleOf, coordinators};
-ghost use Rattle.roc_replay.specs.Ended.{IsReplayed, IsTextFault};
+ghost use Rattle.roc_replay.specs.Ended.{AnswersWhatIsQuiet, IsReplayed, IsTextFault};
 ghost use Rattle.roc_replay.specs.Played.{IsPlayed, DeliversOnlySent};
 ghost use Rattle.roc_replay.specs.Report.{report};
 ghost use Rattle.roc_replay.specs.Readback.{IsExplained};
 
-use roc_law_plans::laws::{
-    accepted_plans_have_schemes, cells_are_serial, ids_are_told_once, nothing_is_refused,
-    order_is_serial, quiet_is_answered,
-};
-use roc_protocol::laws::{
-    cells_are_in_their_place, events_have_outcomes, step_is_one, submissions_are_kept, worlds_fit,
-};
 use roc_rows::laws::{entries_are_not_zero, reads_after_writes};
 use roc_sched::laws::{lines_are_unique, lines_fit, texts_are_right_or_wrong};
+use roc_views::kept::{
+    cells_are_in_their_place, cells_are_serial, ids_are_told_once, nothing_is_refused,
+    quiet_transactions_are_answered, submissions_are_kept,
+};
+use roc_views::laws::witness_is_serial;
+use roc_views::quiet::quiet_views_are_answered;
+use roc_views::worlds::{events_have_outcomes, step_is_one, worlds_fit};
 
 /// The report of every run of an accepted plan explains itself: its one `order` line is a serial witness of the history
-/// that its own `submit` and `answer` lines show, and it shows an answer for each submitted transaction of which, and of
+/// that its own `submit` and `answer` lines show, of transactions and views, and it shows an answer for each submitted transaction of which, and of
 /// whose ancestors, it shows every message as delivered. Where it has no `pending` line, its `row` lines are exactly the cells that are
 /// not 0 in that serial order, each with its number. No two `submit` lines have one id, an id has at most one `answer` line, behind its
-/// `submit` line, and each `ignored` line says `stale`, directly behind a `deliver` line.
+/// `submit` line, and each `ignored` line says `stale`, directly behind a `deliver` line. And it shows an answer for each submitted transaction or
+/// view that is quiet in the run, but for a view in its last round: the lines do not tell which groups a view waits for.
 pub fn report_explains_itself()
-    ensures { (plan : Plan) (coords : ℕ) (steps : List Stepped) (w : World) → IsAccepted plan → IsRun plan coords steps w → IsExplained plan.program (report steps w) }
+    ensures explained { (plan : Plan) (coords : ℕ) (steps : List Stepped) (w : World) → IsAccepted plan → IsRun plan coords steps w → IsExplained plan.program (report steps w) }
+    ensures answers { (plan : Plan) (coords : ℕ) (steps : List Stepped) (w : World) → IsAccepted plan → IsRun plan coords steps w → AnswersWhatIsQuiet plan steps w (report steps w) }
 {
-    order_is_serial();
-    quiet_is_answered();
+    witness_is_serial();
+    quiet_transactions_are_answered();
+    quiet_views_are_answered();
     cells_are_serial();
-    accepted_plans_have_schemes();
     cells_are_in_their_place();
     submissions_are_kept();
     entries_are_not_zero();
@@ -63,7 +65,7 @@ pub fn reports_are_read_in_one_way()
     roc_report::laws::lines_are_unique();
 }
 
-/// Lines that are played are a run of the world, so that what `roc_protocol` and `roc_law_plans` say of every run holds of it.
+/// Lines that are played are a run of the world, so that what `roc_views` says of every run holds of it.
 pub fn played_is_a_run()
     ensures { (plan : Plan) (lines : List BoundLine) (steps : List Stepped) (w : World) → IsPlayed plan lines steps w → IsRun plan coordinators steps w }
 {}

@@ -123,7 +123,7 @@ fn push_sends(
     Ok(())
 }
 
-// Adds the reply, if a transaction has it now.
+// Adds the reply, if a transaction or a view has it now.
 fn push_answer(
     alloc: Global,
     text: &mut Vec<u8>,

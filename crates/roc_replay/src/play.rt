@@ -2,9 +2,9 @@
 ghost use Rattle.std.specs.Prelude.{◌≡◌, ℕ, ◌≤◌, List, length, Some, IfOk, OnOk, false};
 ghost use Rattle.std.specs.List.{AllByRecursion};
 ghost use Rattle.roc_io.specs.Cause.{HasCause};
-ghost use Rattle.roc_protocol.specs.Fits.{FitsWorld};
-ghost use Rattle.roc_protocol.specs.World.{first_world};
-ghost use Rattle.roc_protocol.specs.Run.{IsEventOf};
+ghost use Rattle.roc_views.specs.Fits.{FitsWorld};
+ghost use Rattle.roc_views.specs.World.{first_world};
+ghost use Rattle.roc_views.specs.Run.{IsEventOf};
 ghost use Rattle.roc_replay.specs.BoundLine.{IsScheduleOf, WantedFits, coordinators, chosen, event_in};
 ghost use Rattle.roc_replay.specs.Inner.Closed.{IsClosed, asks_unsent, wants_unsent};
 ghost use Rattle.roc_replay.specs.Ended.{is_sink_fault};

@@ -1,10 +1,10 @@
 //! What a coordinator makes of submissions and messages that no honest caller or node sends.
 ghost use Rattle.roc_coord.specs.Fits.{CoordFits};
 
-use crate::workloads::counter;
+use crate::workloads::{counter, looked_at};
 use roc_base::{Edges, Nums, Shard, TxnId};
 use roc_coord::{Coord, Handled, SubmitFault};
-use roc_msg::{Facts, Msg, Outbox, Reason};
+use roc_msg::{CellVersions, Facts, Msg, Outbox, Reason};
 use roc_plan::Plan;
 use std::alloc::Global;
 use std::process::Abort;
@@ -12,12 +12,15 @@ use std::test::Fail;
 
 const FIRST: TxnId = TxnId { coord: 0, seq: 0 };
 
-// What a coordinator is sent. A commitok has its numbers.
+// What a coordinator is sent. A commitok has its numbers, a readok its round, group and
+// shard, and a count of versions.
 #[derive(Clone, Copy)]
 enum Sent {
     StartOk(TxnId, u8),
     CommitOk(&'static [i64]),
     Commit,
+    Read,
+    ReadOk(TxnId, u32, u16, u8, u8),
     Stop,
 }
 
@@ -37,8 +40,32 @@ fn message(alloc: Global, sent: Sent) -> Result<Msg, Fail> {
             edges: Edges::new(alloc),
             facts: Facts::new(alloc),
         }),
+        Sent::Read => Ok(Msg::Read {
+            id: FIRST,
+            round: 1,
+            proc: 1,
+            group: 0,
+            args: Nums::new(alloc),
+        }),
+        Sent::ReadOk(id, round, group, shard, versions) => Ok(Msg::ReadOk {
+            id,
+            round,
+            group,
+            shard: Shard(shard),
+            versions: unwritten(alloc, versions)?,
+            outs: Nums::from_slice(alloc, &[5])?,
+        }),
         Sent::Stop => Ok(Msg::Stop),
     }
+}
+
+// The versions of so many cells that nobody wrote.
+fn unwritten(alloc: Global, count: u8) -> Result<CellVersions, Fail> {
+    let mut versions = CellVersions::new(alloc);
+    for _ in 0..count {
+        versions.push(0)?;
+    }
+    Ok(versions)
 }
 
 fn startok(alloc: Global, id: TxnId, shard: u8) -> Msg {
@@ -108,13 +135,18 @@ fn handles_all(
     Ok(())
 }
 
-// Has messages handled in turn by a coordinator that submitted one addition.
-fn check(rt: &impl Abort, alloc: Global, cases: &[Case]) -> Result<(), Fail> {
-    let plan = counter(alloc)?;
+// Has messages handled in turn by a coordinator that submitted one call, of a procedure with an argument.
+fn check(
+    rt: &impl Abort,
+    alloc: Global,
+    plan: &Plan,
+    proc: u16,
+    cases: &[Case],
+) -> Result<(), Fail> {
     let mut coord = Coord::new(alloc, 0);
     let mut outbox = Outbox::new(alloc);
-    submits(rt, &plan, &mut coord, 0, &[1], &mut outbox, Ok(FIRST));
-    handles_all(rt, alloc, &plan, &mut coord, cases, &mut outbox)
+    submits(rt, plan, &mut coord, proc, &[0], &mut outbox, Ok(FIRST));
+    handles_all(rt, alloc, plan, &mut coord, cases, &mut outbox)
 }
 
 #[test]
@@ -126,8 +158,29 @@ fn forged_messages_are_ignored(rt: HostRuntime) -> Result<(), Fail> {
         (Sent::StartOk(other, 0), Some(Reason::Stale)),
         (Sent::StartOk(FIRST, 1), Some(Reason::Unfit)),
         (Sent::CommitOk(&[7]), Some(Reason::Unfit)),
+        (Sent::Read, Some(Reason::Foreign)),
+        (Sent::ReadOk(FIRST, 1, 0, 0, 1), Some(Reason::Unfit)),
     ];
-    check(&rt, rt.alloc(), &cases)
+    check(&rt, rt.alloc(), &counter(rt.alloc())?, 0, &cases)
+}
+
+#[test]
+fn readoks_are_ignored_for_a_fault(rt: HostRuntime) -> Result<(), Fail> {
+    let other = TxnId { coord: 0, seq: 1 };
+    let cases = [
+        (Sent::StartOk(FIRST, 0), Some(Reason::Unfit)),
+        (Sent::CommitOk(&[7]), Some(Reason::Unfit)),
+        (Sent::ReadOk(other, 1, 0, 0, 1), Some(Reason::Stale)),
+        (Sent::ReadOk(FIRST, 2, 0, 0, 1), Some(Reason::Stale)),
+        (Sent::ReadOk(FIRST, 1, 1, 0, 1), Some(Reason::Unfit)),
+        (Sent::ReadOk(FIRST, 1, 0, 1, 1), Some(Reason::Unfit)),
+        (Sent::ReadOk(FIRST, 1, 0, 0, 2), Some(Reason::Unfit)),
+        (Sent::ReadOk(FIRST, 1, 0, 0, 1), None),
+        (Sent::ReadOk(FIRST, 1, 0, 0, 1), Some(Reason::Stale)),
+        (Sent::ReadOk(FIRST, 2, 0, 0, 1), None),
+        (Sent::ReadOk(FIRST, 2, 0, 0, 1), Some(Reason::Stale)),
+    ];
+    check(&rt, rt.alloc(), &looked_at(rt.alloc())?, 1, &cases)
 }
 
 #[test]
@@ -139,7 +192,7 @@ fn repeated_messages_are_ignored(rt: HostRuntime) -> Result<(), Fail> {
         (Sent::CommitOk(&[7]), None),
         (Sent::CommitOk(&[7]), Some(Reason::Stale)),
     ];
-    check(&rt, rt.alloc(), &cases)
+    check(&rt, rt.alloc(), &counter(rt.alloc())?, 0, &cases)
 }
 
 // Submits as many additions as may be unanswered.

@@ -1,6 +1,5 @@
-//! Tests of servers and coordinators with messages that no honest node sends, of watermarks and of what waits, of views, and of whole runs of
-//! procedures. It gives
-//! nothing to use.
+//! Tests of servers and coordinators with messages that no honest node sends, of watermarks and of what waits, and of whole runs of
+//! procedures. It gives nothing to use.
 #![tactic(auto)]
 
 #[cfg(test)]
@@ -9,8 +8,6 @@ mod coordinators;
 mod marks;
 #[cfg(test)]
 mod servers;
-#[cfg(test)]
-mod views;
 #[cfg(test)]
 mod whole_runs;
 #[cfg(test)]

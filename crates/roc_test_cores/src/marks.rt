@@ -12,8 +12,8 @@ use std::test::Fail;
 
 const FIRST: TxnId = TxnId { coord: 0, seq: 0 };
 
-/// Has a message handled: whether it came too late.
-pub(crate) fn is_gone(
+// Has a message handled: whether it came too late.
+fn is_gone(
     rt: &impl Abort,
     plan: &Plan,
     server: &mut Server,
@@ -75,8 +75,7 @@ fn watermarks_are_heard(rt: HostRuntime) -> Result<(), Fail> {
     Ok(())
 }
 
-/// A start of the first procedure, with the argument 5.
-pub(crate) fn start(alloc: Global) -> Result<Msg, Fail> {
+fn start(alloc: Global) -> Result<Msg, Fail> {
     let mut args = Nums::new(alloc);
     args.push(5)?;
     let inputs = Nums::new(alloc);
@@ -89,8 +88,7 @@ pub(crate) fn start(alloc: Global) -> Result<Msg, Fail> {
     })
 }
 
-/// Its commit.
-pub(crate) fn commit(alloc: Global) -> Msg {
+fn commit(alloc: Global) -> Msg {
     Msg::Commit {
         id: FIRST,
         edges: Edges::new(alloc),

@@ -3,11 +3,11 @@ ghost use Rattle.std.specs.Prelude.{◌≡◌, ◌<◌};
 ghost use Rattle.roc_server.specs.Ahead.{ServingFits};
 ghost use Rattle.roc_server.specs.Fits.{ServerFits};
 
-use crate::workloads::{counter, twins};
+use crate::workloads::{counter, looked_at, twins};
 use roc_base::{Edge, Edges, Key, Nums, Shard, Steps, TxnId};
 use roc_depgraph::KnownList;
 use roc_group::Access;
-use roc_msg::{Facts, Msg, NodeFault, Outbox, Reason};
+use roc_msg::{CellVersions, Facts, Msg, NodeFault, Outbox, Reason};
 use roc_plan::{Class, Plan};
 use roc_rows::Cell;
 use roc_server::{Handled, Server};
@@ -21,7 +21,7 @@ const FIRST: TxnId = TxnId { coord: 0, seq: 0 };
 
 const SECOND: TxnId = TxnId { coord: 1, seq: 0 };
 
-// What a server is sent. A start has an argument or none, a commit an entry or none.
+// What a server is sent. A start and a read have an argument or none, a commit an entry or none.
 #[derive(Clone, Copy)]
 enum Sent {
     Start(TxnId, u16, u16, Option<i64>),
@@ -30,6 +30,8 @@ enum Sent {
     CommitOk,
     Fetch,
     Known,
+    Read(u16, u16, Option<i64>),
+    ReadOk,
     Stop,
 }
 
@@ -51,15 +53,45 @@ fn message(alloc: Global, sent: Sent) -> Result<Msg, Fail> {
             let edges = Edges::new(alloc);
             Ok(Msg::Known { id, edges })
         }
+        Sent::Read(proc, group, arg) => read(alloc, proc, group, arg),
+        Sent::ReadOk => Ok(readok(alloc)),
         Sent::Stop => Ok(Msg::Stop),
     }
 }
 
-fn start(alloc: Global, id: TxnId, proc: u16, group: u16, arg: Option<i64>) -> Result<Msg, Fail> {
+fn given(alloc: Global, arg: Option<i64>) -> Result<Nums, Fail> {
     let mut args = Nums::new(alloc);
     if let Some(arg) = arg {
         args.push(arg)?;
     }
+    Ok(args)
+}
+
+// A read of the first round.
+fn read(alloc: Global, proc: u16, group: u16, arg: Option<i64>) -> Result<Msg, Fail> {
+    let args = given(alloc, arg)?;
+    Ok(Msg::Read {
+        id: SECOND,
+        round: 1,
+        proc,
+        group,
+        args,
+    })
+}
+
+fn readok(alloc: Global) -> Msg {
+    Msg::ReadOk {
+        id: SECOND,
+        round: 1,
+        group: 0,
+        shard: Shard(0),
+        versions: CellVersions::new(alloc),
+        outs: Nums::new(alloc),
+    }
+}
+
+fn start(alloc: Global, id: TxnId, proc: u16, group: u16, arg: Option<i64>) -> Result<Msg, Fail> {
+    let args = given(alloc, arg)?;
     let inputs = Nums::new(alloc);
     Ok(Msg::Start {
         id,
@@ -284,6 +316,23 @@ fn forged_messages_are_ignored(rt: HostRuntime) -> Result<(), Fail> {
         (Sent::Known, Some(Reason::NotHere)),
     ];
     check(&rt, rt.alloc(), &counter(rt.alloc())?, &cases, 0)
+}
+
+#[test]
+fn reads_are_refused_for_a_fault_and_wait(rt: HostRuntime) -> Result<(), Fail> {
+    let cases = [
+        (Sent::ReadOk, Some(Reason::Foreign)),
+        (Sent::Start(FIRST, 1, 0, Some(0)), Some(Reason::BadProc)),
+        (Sent::Read(0, 0, Some(0)), Some(Reason::BadProc)),
+        (Sent::Read(2, 0, Some(0)), Some(Reason::BadProc)),
+        (Sent::Read(1, 1, Some(0)), Some(Reason::BadGroup)),
+        (Sent::Read(1, 0, None), Some(Reason::BadInputs)),
+        (Sent::Read(1, 0, Some(1)), Some(Reason::NotHere)),
+        (Sent::Start(FIRST, 0, 0, Some(5)), None),
+        (Sent::Read(1, 0, Some(0)), None),
+        (Sent::Commit(FIRST, None), None),
+    ];
+    check(&rt, rt.alloc(), &looked_at(rt.alloc())?, &cases, 3)
 }
 
 #[test]

@@ -26,16 +26,11 @@ proc two(n) {
 }
 ";
 
-// A counter, and a view of it and of another cell, which is read first.
-const LOOKED_AT: &[u8] = b"shards 1;
+// A counter on the first of two shards, and a view of a counter at a place.
+const LOOKED_AT: &[u8] = b"shards 2;
 table t { x }
-table u { y }
-init u[0,0].y = 7;
 proc add(n) { later a at 0 { get v = t[0].x; set t[0].x = v + n; out v; } }
-proc look() view {
-  later b at 0 { get w = u[0].y; out w; }
-  later a at 0 { get v = t[0].x; out v; }
-}
+proc look(p) view { later a at p { get v = t[0].x; out v; } }
 ";
 
 /// The workload of a text.

@@ -1,4 +1,4 @@
-//! Tests of the machine's network, processes, disk and books, which no clause tells anything of. It gives nothing to use.
+//! Tests of the machine's streams, network, processes, disk and books, which no clause tells anything of. It gives nothing to use.
 #![tactic(auto)]
 
 #[cfg(test)]
@@ -7,3 +7,5 @@ mod children;
 mod disks;
 #[cfg(test)]
 mod links;
+#[cfg(test)]
+mod streams;

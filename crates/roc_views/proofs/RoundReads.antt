@@ -1,14 +1,17 @@
 -- The reads that a coordinator sends for a view, and the looks that begin with them
-use Rattle.std.proofs.Common.{◌≡◌, ◌≢◌, ◌∙◌, inl, inr, ℕ, ℤ, zero, suc, ◌<◌, true, false, List, [], ◌∷◌, None, map, length, refl, sym, ap, subst, arith}
+use Rattle.std.proofs.Common.{◌≡◌, ◌≢◌, ◌∙◌, ◌⊎◌, inl, inr, ℕ, ℤ, zero, suc, ◌<◌, true, false, List, [], ◌∷◌, Option, Some, None, is_none, map, length, refl, sym, ap, subst, arith}
+use Rattle.std.specs.Prelude.{flat_map}
 use Rattle.std.proofs.lemmas.Bool.{false≢true}
-use Rattle.std.specs.List.{cons_option, filter_map, range_with_len}
+use Rattle.std.specs.List.{cons_option, filter, filter_map, range_with_len}
 use Rattle.roc_sequence.specs.Lists.{Has}
-use Rattle.roc_sequence.proofs.Members.{from_has_map}
+use Rattle.roc_sequence.proofs.Members.{has_append, has_map, from_has_map, from_has_filter, from_has_flat_map}
+use Rattle.roc_sequence.proofs.Found.{found_has}
 use Rattle.roc_merge_groups.proofs.Elements.{from_has_range}
 use Rattle.roc_base.specs.declared.id.TxnId.{TxnId}
 use Rattle.roc_base.specs.declared.node.Node.{Node}
-use Rattle.roc_base.specs.declared.node.Node.TheVariants.{Server}
+use Rattle.roc_base.specs.declared.node.Node.TheVariants.{Server, Coord}
 use Rattle.roc_base.specs.declared.node.Shard.{Shard}
+use Rattle.roc_base.specs.TxnId.{is_txn}
 use Rattle.roc_msg.specs.declared.msg.Msg.{Msg}
 use Rattle.roc_msg.specs.declared.msg.Msg.TheVariants.{Read, ReadOk}
 use Rattle.roc_msg.specs.declared.msg.Envelope.{Envelope}
@@ -18,7 +21,11 @@ use Rattle.roc_plan.specs.Groups.{Plan, groups_of, shard_of, group_place}
 use Rattle.roc_whole.specs.Serial as whole
 use Rattle.roc_law_log.specs.Scheme.{Scheme}
 use Rattle.roc_readonly.specs.declared.view.View.{View}
-use Rattle.roc_readonly.specs.Round.{view_groups, read_for, read_shard, reads_of}
+use Rattle.roc_readonly.specs.Round.{view_groups, find_read, read_for, read_shard, reads_of}
+use Rattle.roc_coord.specs.declared.transaction.Transaction.{Transaction}
+use Rattle.roc_coord.specs.Marks.{ended_sends}
+use Rattle.roc_coord.specs.State.{find_transaction, find_view, CoordState}
+use Rattle.roc_coord.specs.Tick.{transaction_again, view_again, again_of, tick_sends}
 use Rattle.roc_audit.specs.declared.entry.Entry.{Entry}
 use Rattle.roc_audit.specs.History.{WasSubmitted}
 use Rattle.roc_protocol.specs.Beginnings as protocol
@@ -26,6 +33,7 @@ use Rattle.roc_protocol.specs.World.{sent_by}
 use Rattle.roc_views.specs.World.{reads_for, first_look, looks_in}
 use Rattle.roc_views.specs.Beside.{is_of_view}
 use Rattle.roc_views.proofs.Sent.{AreOfTransactions}
+use Rattle.roc_views.proofs.TickSends.{again_transactions, are_endeds}
 use Rattle.roc_views.proofs.ViewMeans.{proc_of, args_of, is_view_id, MessageIsFor}
 
 -- ---- looks
@@ -67,6 +75,33 @@ reads_are plan v from gs all e h =
 
 pub group_there : (plan : Plan) (v : View) (g : ℕ) → Has g (view_groups plan v) → g < length (groups_of plan v.proc)
 group_there plan v g h = let r = (from_has_range 0 (length (groups_of plan v.proc)) g h).1 in omega arith
+
+-- what a tick sends is of transactions, or a read of a view that is kept
+pub again_are : (plan : Plan) (n : ℕ) (s : CoordState) (e : Envelope) → Has e (map (sent_by (Coord n)) (tick_sends plan s)) → (is_of_view e.msg ≡ false) ⊎ ((x : View) × Has x s.views × IsReadOf plan x e)
+again_are plan n s e h =
+    let p = from_has_map (sent_by (Coord n)) e (tick_sends plan s) h in
+    elim (has_append p.0 (flat_map (again_of plan s) s.unanswered) (ended_sends plan s) p.1) [
+      | inl k ↦
+          (let q = from_has_flat_map (again_of plan s) p.0 s.unanswered k in
+          elim (has_append p.0 (transaction_again plan (find_transaction q.0 s.pending)) (view_again plan (find_view q.0 s.views)) q.2) [
+            | inl j ↦ inl (ap (λ (e : Envelope). is_of_view e.msg) p.2 ∙ of_its (find_transaction q.0 s.pending) p.0 j)
+            | inr j ↦ inr (of_view q.0 (find_view q.0 s.views) refl p.0 j p.2)
+          ])
+      | inr k ↦ inl (ap (λ (e : Envelope). is_of_view e.msg) p.2 ∙ are_endeds plan s p.0 k)
+    ]
+  where
+    of_its : (x : Option Transaction) (out : Outgoing) → Has out (transaction_again plan x) → is_of_view out.msg ≡ false
+    of_its (Some x) out j = again_transactions plan x out j
+    of_its None out j = absurd j
+
+    of_view : (id : TxnId) (x : Option View) → find_view id s.views ≡ x → (out : Outgoing) → Has out (view_again plan x) → e ≡ sent_by (Coord n) out → (x : View) × Has x s.views × IsReadOf plan x e
+    of_view id None f out j same = absurd j
+    of_view id (Some v) f out j same = (
+      v,
+      (found_has (λ (v : View). is_txn v.id id) s.views v f).0,
+      reads_are plan v (Coord n) (filter (λ g. is_none (find_read g v.got)) (view_groups plan v)) (λ g h. group_there plan v g (from_has_filter (λ g. is_none (find_read g v.got)) g (view_groups plan v) h).0) e
+          (subst (λ (e : Envelope). Has e (map (sent_by (Coord n)) (view_again plan (Some v)))) (sym same) (has_map (sent_by (Coord n)) out (view_again plan (Some v)) j)),
+    )
 
 module _ (plan : Plan) (calls : TxnId → whole.Call) (asked : TxnId → whole.Call) (S : Scheme) (start : protocol.Beginning) (before : ℕ → Counts) where
   pub read_is_for : (history : List Entry) (v : View) → WasSubmitted history v.id → is_view_id plan calls v.id ≡ true → v.proc ≡ proc_of plan calls v.id → v.args ≡ args_of plan calls v.id

@@ -45,7 +45,7 @@ filter_none p (x ∷ xs) h = go (p x) (h x (inl refl)) (filter_none p xs (λ y k
     go true e k = absurd (false≢true (sym e))
     go false e k = k
 
-found_front : {A : Type 0} (xs ys : List A) (k : ℕ) (a : A) → slice_get (xs ++ ys) k ≡ Some a → k < length xs → slice_get xs k ≡ Some a
+pub found_front : {A : Type 0} (xs ys : List A) (k : ℕ) (a : A) → slice_get (xs ++ ys) k ≡ Some a → k < length xs → slice_get xs k ≡ Some a
 found_front [] ys k a h l = absurd (omega arith)
 found_front (x ∷ xs) ys zero a h l = h
 found_front (x ∷ xs) ys (suc k) a h l = found_front xs ys k a h (omega arith)

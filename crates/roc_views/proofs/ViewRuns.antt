@@ -1,10 +1,9 @@
 -- In every world what is kept for views says of the log what it has to
-use Rattle.std.proofs.Common.{◌≡◌, ◌≢◌, ◌∙◌, ◌⊎◌, inl, inr, ℕ, ℤ, ◌-◌, ◌<◌, ◌==◌, Bool, true, false, not, cond, List, [], ◌∷◌, ◌++◌, Option, Some, None, map, length, refl, sym, ap, subst, arith, append-nil, is_some, is_none}
+use Rattle.std.proofs.Common.{◌≡◌, ◌≢◌, ◌∙◌, inl, inr, ℕ, ℤ, ◌-◌, ◌<◌, ◌==◌, Bool, true, false, not, cond, List, [], ◌∷◌, ◌++◌, Option, Some, None, map, length, refl, sym, ap, subst, arith, append-nil, is_some}
 use Rattle.std.proofs.lemmas.Bool.{false≢true, eqb-true}
-use Rattle.std.specs.Prelude.{slice_get, flat_map, if◌then◌else◌}
-use Rattle.std.specs.List.{filter}
+use Rattle.std.specs.Prelude.{slice_get, if◌then◌else◌}
 use Rattle.roc_sequence.specs.Lists.{Has}
-use Rattle.roc_sequence.proofs.Members.{has_append, has_right, has_one, has_at, has_map, from_has_map, from_has_filter, from_has_flat_map}
+use Rattle.roc_sequence.proofs.Members.{has_right, has_one, has_at, has_map, from_has_map, from_has_filter}
 use Rattle.roc_sequence.proofs.Found.{found_has}
 use Rattle.roc_base.specs.declared.id.TxnId.{TxnId}
 use Rattle.roc_base.specs.declared.node.Node.{Node}
@@ -15,7 +14,6 @@ use Rattle.roc_base.specs.Equalities.{is_txn-true}
 use Rattle.roc_msg.specs.declared.msg.Msg.{Msg}
 use Rattle.roc_msg.specs.declared.msg.Msg.TheVariants.{ReadOk, StartOk, CommitOk}
 use Rattle.roc_msg.specs.declared.msg.Envelope.{Envelope}
-use Rattle.roc_msg.specs.declared.outbox.Outgoing.{Outgoing}
 use Rattle.roc_rows.specs.Versions.{Counts}
 use Rattle.roc_plan.specs.Groups.{Plan, groups_of, is_view_of}
 use Rattle.roc_whole.specs.Serial as whole
@@ -32,13 +30,12 @@ use Rattle.roc_coord.specs.declared.handled.Handled.{Handled}
 use Rattle.roc_coord.specs.declared.handled.Handled.TheVariants as coord_answer
 use Rattle.roc_coord.specs.State.{ignored, find_transaction, find_view, CoordState, CoordStep}
 use Rattle.roc_coord.specs.Step.{unless_refused, answered_sends, without_view, readok_taken, unread, after_readok, after_message}
-use Rattle.roc_coord.specs.Marks.{ended_sends}
-use Rattle.roc_coord.specs.Tick.{transaction_again, view_again, again_of, tick_sends}
+use Rattle.roc_coord.specs.Tick.{tick_sends}
 use Rattle.roc_readonly.specs.declared.view.Round.{Round}
 use Rattle.roc_readonly.specs.declared.view.Round.TheVariants.{Waits, Ends, GoesOn}
 use Rattle.roc_readonly.specs.declared.view.TakenRead.{TakenRead}
 use Rattle.roc_readonly.specs.declared.view.View.{View}
-use Rattle.roc_readonly.specs.Round.{view_groups, find_read, reads_of, is_full, is_steady, view_reply, with_readok, round_of, readok_refusal, is_fit_readok, last_round}
+use Rattle.roc_readonly.specs.Round.{find_read, reads_of, is_full, is_steady, view_reply, with_readok, round_of, readok_refusal, is_fit_readok, last_round}
 use Rattle.roc_audit.specs.declared.entry.Entry.{Entry}
 use Rattle.roc_audit.specs.declared.entry.Entry.TheVariants as entry
 use Rattle.roc_audit.specs.Woven.{without_views, entry_id}
@@ -57,7 +54,6 @@ use Rattle.roc_coord.specs.declared.handled.SubmitFault.TheVariants as fault
 use Rattle.roc_coord.specs.Submit.{next_id, new_transaction, accepted, accepted_view, refusal_of, refused_or_accepted, after_submit}
 use Rattle.roc_msg.specs.declared.reason.Reason.{Reason}
 use Rattle.roc_msg.specs.declared.reason.Reason.TheVariants.{Foreign, Stale, Unfit}
-use Rattle.roc_coord.specs.declared.transaction.Transaction.{Transaction}
 use Rattle.roc_readonly.specs.Round.{first_round}
 use Rattle.roc_views.specs.Happens.{Outcome, IsSubmissionOf, undecided, served, coordinated, IsServed, IsReceived}
 use Rattle.roc_views.specs.Run.{Transition}
@@ -65,7 +61,6 @@ use Rattle.roc_views.specs.Beside.{is_of_view, IsBeside}
 use Rattle.roc_views.proofs.Sent.{filter_append, AreOfTransactions}
 use Rattle.roc_views.proofs.ServerSends as server_sends
 use Rattle.roc_views.proofs.IgnoredRuns.{ignored_runs}
-use Rattle.roc_views.proofs.TickSends.{again_transactions, are_endeds}
 use Rattle.roc_views.proofs.Coordinators.{IsCoordSound}
 use Rattle.roc_views.proofs.CoordSteps.{IsForTransactions, for_transactions, are_marks}
 use Rattle.roc_views.proofs.Besides.{set_there}
@@ -74,7 +69,7 @@ use Rattle.roc_views.proofs.Readings.{ViewLaws, AreSteady}
 use Rattle.roc_views.proofs.ViewMeans.{TellsCalls, proc_of, args_of, is_view_id, ViewsMean}
 use Rattle.roc_views.proofs.ViewsStay.{get-set_here, goes_on}
 use Rattle.roc_views.proofs.ViewServed.{views_served}
-use Rattle.roc_views.proofs.RoundReads.{IsReadOf, reads_are, group_there, no_looks}
+use Rattle.roc_views.proofs.RoundReads.{again_are, no_looks}
 use Rattle.roc_views.proofs.ViewRounds.{view_submitted, view_ticked}
 use Rattle.roc_views.proofs.ReadOksTaken.{readok_waits, readok_goes_on, readok_ends}
 use Rattle.roc_views.proofs.BesideRuns.{GoesOnBeside, goes_on_still, goes_on_at}
@@ -324,36 +319,9 @@ module _ (plan : Plan) (calls : TxnId → whole.Call) (asked : TxnId → whole.C
         ap (λ (e : Envelope). is_of_view e.msg) p.2 ∙ server_sends.tick_of_transactions plan s p.0 (subst (λ l. Has p.0 l) (append-nil (server.tick_sends s)) p.1))
         refl [] (sym (append-nil w.history)) (λ id reply v h. h) refl refl
 
-    -- what a tick sends is of transactions, or a read of a view that is kept
-    again_are : (n : ℕ) (s : CoordState) (e : Envelope) → Has e (map (sent_by (Coord n)) (tick_sends plan s)) → (is_of_view e.msg ≡ false) ⊎ ((x : View) × Has x s.views × IsReadOf plan x e)
-    again_are n s e h =
-        let p = from_has_map (sent_by (Coord n)) e (tick_sends plan s) h in
-        elim (has_append p.0 (flat_map (again_of plan s) s.unanswered) (ended_sends plan s) p.1) [
-          | inl k ↦
-              (let q = from_has_flat_map (again_of plan s) p.0 s.unanswered k in
-              elim (has_append p.0 (transaction_again plan (find_transaction q.0 s.pending)) (view_again plan (find_view q.0 s.views)) q.2) [
-                | inl j ↦ inl (ap (λ (e : Envelope). is_of_view e.msg) p.2 ∙ of_its (find_transaction q.0 s.pending) p.0 j)
-                | inr j ↦ inr (of_view q.0 (find_view q.0 s.views) refl p.0 j p.2)
-              ])
-          | inr k ↦ inl (ap (λ (e : Envelope). is_of_view e.msg) p.2 ∙ are_endeds plan s p.0 k)
-        ]
-      where
-        of_its : (x : Option Transaction) (out : Outgoing) → Has out (transaction_again plan x) → is_of_view out.msg ≡ false
-        of_its (Some x) out j = again_transactions plan x out j
-        of_its None out j = absurd j
-
-        of_view : (id : TxnId) (x : Option View) → find_view id s.views ≡ x → (out : Outgoing) → Has out (view_again plan x) → e ≡ sent_by (Coord n) out → (x : View) × Has x s.views × IsReadOf plan x e
-        of_view id None f out j same = absurd j
-        of_view id (Some v) f out j same = (
-          v,
-          (found_has (λ (v : View). is_txn v.id id) s.views v f).0,
-          reads_are plan v (Coord n) (filter (λ g. is_none (find_read g v.got)) (view_groups plan v)) (λ g h. group_there plan v g (from_has_filter (λ g. is_none (find_read g v.got)) g (view_groups plan v) h).0) e
-              (subst (λ (e : Envelope). Has e (map (sent_by (Coord n)) (view_again plan (Some v)))) (sym same) (has_map (sent_by (Coord n)) out (view_again plan (Some v)) j)),
-        )
-
     pub coord_ticks : (n : ℕ) (s : CoordState) → slice_get w.coords n ≡ Some s → Holds_behind (undecided seen.Done (at_coord_tick w n (tick_sends plan s)))
     coord_ticks n s there t b g =
-        view_ticked plan calls asked S start before w later (mean_now t b.history b.order g) (sym b.order ∙ g.means.order) g.reached n s there (tick_sends plan s) (again_are n s)
+        view_ticked plan calls asked S start before w later (mean_now t b.history b.order g) (sym b.order ∙ g.means.order) g.reached n s there (tick_sends plan s) (again_are plan n s)
 
     -- ---- all of them
 

@@ -54,12 +54,12 @@ put_has q x (r ∷ rs) h = go (is_read_before r q) h (put_has q x rs)
     go true (inr k) ih = elim (ih k) [ inl e ↦ inl e | inr j ↦ inr (inr j) ]
     go false k ih = k
 
-turn_has : (x : KeptRead) (qs : List KeptRead) → Has x (in_turn qs) → Has x qs
+pub turn_has : (x : KeptRead) (qs : List KeptRead) → Has x (in_turn qs) → Has x qs
 turn_has x [] h = h
 turn_has x (q ∷ qs) h = elim (put_has q x (in_turn qs) h) [ inl e ↦ inl e | inr k ↦ inr (turn_has x qs k) ]
 
 -- what is kept with a message was kept, or is its read
-with_cases : (x : KeptRead) (msg : Msg) (answer : Handled) (reads : List KeptRead) → Has x (reads_with msg answer reads) → Has x reads ⊎ (msg ≡ Read x.id x.round x.proc x.group x.args)
+pub with_cases : (x : KeptRead) (msg : Msg) (answer : Handled) (reads : List KeptRead) → Has x (reads_with msg answer reads) → Has x reads ⊎ (msg ≡ Read x.id x.round x.proc x.group x.args)
 with_cases x (Read id round proc group args) server_answer.Done reads h = go (list_any (is_same_read q) reads) h
   where
     q : KeptRead

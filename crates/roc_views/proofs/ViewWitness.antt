@@ -86,7 +86,7 @@ module _ (plan : Plan) (calls asked : TxnId → Call) (S : Scheme) (start : prot
       }
 
   module _ (accepted : IsAccepted plan) (laws : ViewParts plan) (tells : TellsCalls calls w.history)
-      (stages : (order : List TxnId) → (stage_behind S.behaviour start.store (one_by_one S.behaviour order)).store ≡ serial_store plan.program (start_store plan.program) (map asked order))
+      (stages : (k : ℕ) → (stage_behind S.behaviour start.store (one_by_one S.behaviour (take k w.order))).store ≡ serial_store plan.program (start_store plan.program) (map asked (take k w.order)))
       (called : (t : TxnId) → IsListed is_txn w.order t → submitted_call t w.history ≡ Some (asked t)) where
     -- an answered view's reply is that of its whole run where it looked last
     pub view_replies : (v : TxnId) (reply : List ℤ) → is_view_id plan calls v ≡ true → WasAnswered w.history v reply → IsReplyBehind plan.program w v reply
@@ -97,7 +97,7 @@ module _ (plan : Plan) (calls asked : TxnId → Call) (S : Scheme) (start : prot
         let front = take a.behind w.order in
         let same : submitted_calls w.history front ≡ map asked front =
         calls_are w.history asked front (λ t k. called t (listed_taken a.behind w.order t (has_listed is_txn is_txn-true is_txn-same front t k))) in
-        let store = stages front ∙ ap (serial_store plan.program (start_store plan.program)) (sym same) in
+        let store = stages a.behind ∙ ap (serial_store plan.program (start_store plan.program)) (sym same) in
         let call : Call = record { id = v; procedure = (calls v).procedure; arguments = (calls v).arguments } in (
           a.behind,
           a.last_look,

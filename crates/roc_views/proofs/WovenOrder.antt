@@ -1,5 +1,5 @@
 -- The order of every run, with the views put in, is a serial witness of its history
-use Rattle.std.proofs.Common.{◌≡◌, ◌∙◌, ℕ, ℤ, ◌<◌, ◌≤◌, Bool, true, not, List, [], Option, Some, length, take, unwrap_or, sym, ap, subst, arith}
+use Rattle.std.proofs.Common.{◌≡◌, ◌∙◌, ℕ, ℤ, ◌<◌, ◌≤◌, Bool, true, not, List, [], Option, Some, length, map, take, unwrap_or, sym, ap, subst, arith}
 use Rattle.roc_sequence.specs.Lists.{Has}
 use Rattle.roc_sequence.specs.Places.{IsListed}
 use Rattle.roc_sequence.proofs.Members.{from_has_filter}
@@ -9,6 +9,8 @@ use Rattle.roc_plan.specs.Groups.{Plan, groups_of, is_view_of, is_transaction}
 use Rattle.roc_plan.specs.Accepted.{IsAccepted}
 use Rattle.roc_whole.specs.Serial as whole
 use Rattle.roc_whole.specs.Serial.{start_store}
+use Rattle.roc_law_orders.specs.Runs.{stage_behind}
+use Rattle.roc_law_orders.specs.Orders.{one_by_one}
 use Rattle.roc_law_log.specs.Scheme.{Scheme, IsSoundScheme}
 use Rattle.roc_law_log.proofs.Following.{AreFound}
 use Rattle.roc_audit.specs.declared.entry.Entry.{Entry}
@@ -25,7 +27,7 @@ use Rattle.roc_protocol.specs.Beginnings as protocol
 use Rattle.roc_protocol.specs.Inner.Given.{LogLaws, SerialLaws, StoreLaws}
 use Rattle.roc_protocol.proofs.Firsts.{first_begins}
 use Rattle.roc_protocol.proofs.Serial.{call_in, agrees, procedures, order_serial, plain_witness}
-use Rattle.roc_protocol.proofs.Worlds.{submissions_from, ordered_submitted}
+use Rattle.roc_protocol.proofs.Worlds.{submissions_from, Agrees, ordered_submitted}
 use Rattle.roc_protocol.proofs.Submissions.{AreSubmissions}
 use Rattle.roc_protocol.proofs.Transactions.{HasTransaction}
 use Rattle.roc_views.specs.World.{World, first_beginning}
@@ -51,7 +53,7 @@ called_in history t = unwrap_or (submitted_call t history) (no_call t)
 
 module _ (plan : Plan) (coords : ℕ) (steps : List Stepped) (w : World) (run : IsRunFrom plan (first_beginning plan) coords steps w) where
   -- the calls are those of the history
-  tells : TellsCalls (called_in w.history) w.history
+  pub tells : TellsCalls (called_in w.history) w.history
   tells t p a h =
       let o = numbered plan (first_beginning plan) coords steps w run in
       let same = call_of-is w.history t p a (λ q b k. o.one t q p b a k h) h in
@@ -70,63 +72,77 @@ module _ (plan : Plan) (coords : ℕ) (steps : List Stepped) (w : World) (run : 
   pub leave : IsAccepted plan → LeaveTheStore plan.program is_view w.history
   leave accepted = views_leave plan is_view w.history accepted.well_formed tells_them
 
-  module _ (schemes : HasSchemes plan) (laws : (S : Scheme) → IsSoundScheme S → LogLaws S (start_store plan.program)) (serials : (S : Scheme) → IsSoundScheme S → SerialLaws S (start_store plan.program)) (stores : StoreLaws) where
-    -- of transactions alone the order is one
-    pub alone : IsSerialWitness plan.program (without_views is_view w.history) w.order
-    alone =
-        subst (λ history. IsSerialWitness plan.program history w.order) run_beside.holds.beside.history
-        (subst (λ order. IsSerialWitness plan.program run_beside.world.history order) run_beside.holds.beside.order
-        (plain_witness plan.program run_beside.world.history run_beside.world.order
-        (order_serial plan (protocol.first_beginning plan) (first_begins stores plan) schemes laws serials stores coords run_beside.others run_beside.world run_beside.run)))
+  pub submissions : AreSubmissions plan run_beside.world.history run_beside.world.coords
+  submissions = submissions_from plan (protocol.first_beginning plan) coords run_beside.others run_beside.world run_beside.run
 
-    module _ (accepted : IsAccepted plan) (some : HasTransaction plan) (found : (S : Scheme) → AreFound S (start_store plan.program)) (steady : (S : Scheme) → IsSoundScheme S → AreSteady S (start_store plan.program))
-        (parts : ViewParts plan) (view_laws : ViewLaws plan) (some_group : (proc : ℕ) → is_view_of plan proc ≡ true → 0 < length (groups_of plan proc))
-      where
-        few : (n : ℕ) (x : Cell) → version unwritten x ≤ most
-        few n x = let e = version-unwritten x in omega (arith, e)
+  -- of transactions alone the order is one
+  pub alone :
+      HasSchemes plan → ((S : Scheme) → IsSoundScheme S → LogLaws S (start_store plan.program)) → ((S : Scheme) → IsSoundScheme S → SerialLaws S (start_store plan.program)) → StoreLaws
+      → IsSerialWitness plan.program (without_views is_view w.history) w.order
+  alone schemes laws serials stores =
+      subst (λ history. IsSerialWitness plan.program history w.order) run_beside.holds.beside.history
+      (subst (λ order. IsSerialWitness plan.program run_beside.world.history order) run_beside.holds.beside.order
+      (plain_witness plan.program run_beside.world.history run_beside.world.order
+      (order_serial plan (protocol.first_beginning plan) (first_begins stores plan) schemes laws serials stores coords run_beside.others run_beside.world run_beside.run)))
 
-        abbrev asked : TxnId → whole.Call
-        asked = call_in some.0 run_beside.world
+  -- ---- looks
 
-        submissions : AreSubmissions plan run_beside.world.history run_beside.world.coords
-        submissions = submissions_from plan (protocol.first_beginning plan) coords run_beside.others run_beside.world run_beside.run
+  -- the looks of answered views fit, each behind no more than there are
+  abbrev pub LooksFit : Type 0
+  LooksFit = AreLooks plan.program is_view w.history w.order (shown w) × ((l : Look) → Has l (shown w) → l.behind ≤ length w.order)
 
-        known : (t : TxnId) → is_transaction plan (asked t).procedure ≡ true
-        known = procedures plan some.0 run_beside.world submissions some.1
+  -- this is what transactions call, in a scheme by which the first of the order leave what they leave whole
+  pub record IsCalled (asked : TxnId → whole.Call) (S : Scheme) : Type 0 where
+    pub is : IsSchemeOf plan asked S
+    pub sound : IsSoundScheme S
+    pub agrees : Agrees asked run_beside.world
+    pub stages :
+        (k : ℕ)
+        → (stage_behind S.behaviour (start_store plan.program) (one_by_one S.behaviour (take k w.order))).store
+        ≡ whole.serial_store plan.program (start_store plan.program) (map asked (take k w.order))
 
-        abbrev S : Scheme
-        S = schemes.scheme asked
+  -- where some procedure may write, what the history tells
+  pub transactions_called : (schemes : HasSchemes plan) (some : HasTransaction plan) → IsCalled (call_in some.0 run_beside.world) (schemes.scheme (call_in some.0 run_beside.world))
+  transactions_called schemes some =
+      let asked : TxnId → whole.Call = call_in some.0 run_beside.world in
+      let known : (t : TxnId) → is_transaction plan (asked t).procedure ≡ true = procedures plan some.0 run_beside.world submissions some.1 in
+      record {
+        is = schemes.of asked known;
+        sound = schemes.sound asked known;
+        agrees = agrees plan some.0 run_beside.world submissions;
+        stages = λ k. schemes.stores asked known (take k w.order);
+      }
 
-        is : IsSchemeOf plan asked S
-        is = schemes.of asked known
+  module _ (laws : (S : Scheme) → IsSoundScheme S → LogLaws S (start_store plan.program)) (stores : StoreLaws) (accepted : IsAccepted plan)
+      (asked : TxnId → whole.Call) (S : Scheme) (c : IsCalled asked S) (found : AreFound S (start_store plan.program)) (steady : AreSteady S (start_store plan.program))
+      (parts : ViewParts plan) (view_laws : ViewLaws plan) (some_group : (proc : ℕ) → is_view_of plan proc ≡ true → 0 < length (groups_of plan proc)) where
+    few : (n : ℕ) (x : Cell) → version unwritten x ≤ most
+    few n x = let e = version-unwritten x in omega (arith, e)
 
-        sound : IsSoundScheme S
-        sound = schemes.sound asked known
+    logged :
+        IsLoggedBeside plan (called_in w.history) asked S (first_beginning plan) c.is (laws S c.sound) stores (first_begins stores plan) c.sound found view_laws steady some_group few coords
+        w run_beside.world
+    logged =
+        logged_beside plan (called_in w.history) asked S (first_beginning plan) c.is (laws S c.sound) stores (first_begins stores plan) c.sound found view_laws steady some_group few coords
+        steps w run tells_them tells c.agrees
 
-        logged : IsLoggedBeside plan (called_in w.history) asked S (first_beginning plan) is (laws S sound) stores (first_begins stores plan) sound (found S) view_laws (steady S sound) some_group few coords w run_beside.world
-        logged =
-            logged_beside plan (called_in w.history) asked S (first_beginning plan) is (laws S sound) stores (first_begins stores plan) sound (found S) view_laws (steady S sound) some_group few coords steps w run tells_them tells
-            (agrees plan some.0 run_beside.world submissions)
+    -- who is in the order was submitted, with what it is asked
+    called : (t : TxnId) → IsListed is_txn w.order t → submitted_call t w.history ≡ Some (asked t)
+    called t h =
+        let o = numbered plan (first_beginning plan) coords steps w run in
+        let beside = run_beside.holds.beside in
+        let listed = subst (λ l. IsListed is_txn l t) (sym beside.order) h in
+        let s = ordered_submitted plan asked S (protocol.first_beginning plan) c.is (laws S c.sound) run_beside.world logged.log logged.logged t listed in
+        let all = (from_has_filter (λ e. not (is_view (entry_id e))) (Submitted t s.0 s.1) w.history (subst (λ l. Has (Submitted t s.0 s.1) l) beside.history s.2)).0 in
+        let g = c.agrees in
+        call_of-is w.history t s.0 s.1 (λ q b k. o.one t q s.0 b s.1 k all) all
+        ∙ (λ i. Some (record { id = sym (g.id t s.0 s.1 s.2) i; procedure = g.proc t s.0 s.1 s.2 i; arguments = g.args t s.0 s.1 s.2 i }))
 
-        -- who is in the order was submitted, with what it is asked
-        called : (t : TxnId) → IsListed is_txn w.order t → submitted_call t w.history ≡ Some (asked t)
-        called t h =
-            let o = numbered plan (first_beginning plan) coords steps w run in
-            let beside = run_beside.holds.beside in
-            let s = ordered_submitted plan asked S (protocol.first_beginning plan) is (laws S sound) run_beside.world logged.log logged.logged t (subst (λ l. IsListed is_txn l t) (sym beside.order) h) in
-            let all = (from_has_filter (λ e. not (is_view (entry_id e))) (Submitted t s.0 s.1) w.history (subst (λ l. Has (Submitted t s.0 s.1) l) beside.history s.2)).0 in
-            let g = agrees plan some.0 run_beside.world submissions in
-            call_of-is w.history t s.0 s.1 (λ q b k. o.one t q s.0 b s.1 k all) all ∙ (λ i. Some (record { id = sym (g.id t s.0 s.1 s.2) i; procedure = g.proc t s.0 s.1 s.2 i; arguments = g.args t s.0 s.1 s.2 i }))
-
-        pub looks_fit : AreLooks plan.program is_view w.history w.order (shown w)
-        looks_fit =
-            views_fit plan (called_in w.history) asked S (protocol.first_beginning plan) (first_beginning plan).versions w logged.log logged.views accepted parts tells (schemes.stores asked known)
-            called
-            logged.in_time
-
-        -- each behind no more than there are
-        pub few_behind : (l : Look) → Has l (shown w) → l.behind ≤ length w.order
-        few_behind l h = logged.in_time.few l (last_from (was_answered w.history) w.looks l h)
+    pub looks_fit : LooksFit
+    looks_fit = (
+      views_fit plan (called_in w.history) asked S (protocol.first_beginning plan) (first_beginning plan).versions w logged.log logged.views accepted parts tells c.stages called logged.in_time,
+      λ l h. logged.in_time.few l (last_from (was_answered w.history) w.looks l h),
+    )
 
 -- an answered view read what the first so many transactions of the order leave
 pub prefix : (plan : Plan) (coords : ℕ) (steps : List Stepped) (w : World) → IsRunFrom plan (first_beginning plan) coords steps w

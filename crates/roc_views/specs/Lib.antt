@@ -4,3 +4,5 @@ pub mod Happens
 pub mod Run
 pub mod Beside
 pub mod Witness
+pub mod Fits
+pub mod Quiet

@@ -61,6 +61,10 @@ begun_world plan b coords =
       looks = [];
     }
 
+-- each server holds the start cells of its places
+abbrev pub first_world : Plan → (coords : ℕ) → World
+first_world plan coords = begun_world plan (first_beginning plan) coords
+
 -- ---- the network
 
 -- a node sends messages

@@ -2,7 +2,7 @@
 ghost use Rattle.std.specs.Prelude.{◌≡◌, ◌≤◌, ℕ, ℤ, Bool, true, List, length, take};
 ghost use Rattle.roc_sequence.specs.Lists.{Has};
 ghost use Rattle.roc_base.specs.declared.id.TxnId.{TxnId};
-ghost use Rattle.roc_plan.specs.Groups.{Plan, is_transaction, is_view_of};
+ghost use Rattle.roc_plan.specs.Groups.{Plan, is_view_of};
 ghost use Rattle.roc_plan.specs.Accepted.{IsAccepted};
 ghost use Rattle.roc_whole.specs.Serial.{run_of, serial_store, start_store};
 ghost use Rattle.roc_audit.specs.declared.entry.Entry.TheVariants.{Submitted};
@@ -25,7 +25,7 @@ use roc_group::laws::{
 use roc_law_groups::laws::groups_in_turn_are_the_whole_run;
 use roc_law_log::laws::steady_cells_are_serial;
 use roc_law_orders::laws::runs_stay;
-use roc_law_plans::laws::accepted_plans_have_schemes;
+use roc_law_plans::laws::{accepted_plans_have_schemes, views_have_schemes};
 use roc_plan::laws::views_are_apart;
 use roc_protocol::laws::machine_laws;
 
@@ -38,16 +38,17 @@ pub fn runs_are_beside()
 
 /// The looks of answered views fit: there are ids that the submissions tell to be of views, and beside them the order is a serial witness of what
 /// the history tells of transactions, each view called leaves each store as it is, and the last looks fit the history and the order, each
-/// of them behind no more transactions than there are. The plan has a procedure that may write.
+/// of them behind no more transactions than there are.
 pub fn looks_fit()
     ensures { (plan : Plan) (coords : ℕ) (steps : List Stepped) (w : World) → IsAccepted plan
-        → (writer : ℕ) → is_transaction plan writer ≡ true → IsRunFrom plan (first_beginning plan) coords steps w
+        → IsRunFrom plan (first_beginning plan) coords steps w
         → (is_view : TxnId → Bool) × TellsViews plan is_view w.history × LeaveTheStore plan.program is_view w.history
         × IsSerialWitness plan.program (without_views is_view w.history) w.order × AreLooks plan.program is_view w.history w.order (shown w)
         × ((l : Look) → Has l (shown w) → l.behind ≤ length w.order) }
 {
     machine_laws();
     accepted_plans_have_schemes();
+    views_have_schemes();
     runs_stay();
     steady_cells_are_serial();
     cells_follow_from_what_is_given();
@@ -59,10 +60,10 @@ pub fn looks_fit()
 }
 
 /// An answered view read what a prefix of the order leaves: its reply is that of its whole run behind the first so many transactions of the
-/// order, run whole, one after another, from the start cells. The plan has a procedure that may write.
+/// order, run whole, one after another, from the start cells.
 pub fn views_read_a_prefix()
     ensures { (plan : Plan) (coords : ℕ) (steps : List Stepped) (w : World) → IsAccepted plan
-        → (writer : ℕ) → is_transaction plan writer ≡ true → IsRunFrom plan (first_beginning plan) coords steps w
+        → IsRunFrom plan (first_beginning plan) coords steps w
         → (v : TxnId) (proc : ℕ) (args : List ℤ) → Has (Submitted v proc args) w.history → is_view_of plan proc ≡ true → (reply : List ℤ) → WasAnswered w.history v reply
         → (behind : ℕ) × (behind ≤ length w.order)
         × (reply ≡ (run_of plan.program (serial_store plan.program (start_store plan.program) (submitted_calls w.history (take behind w.order))) (record { id = v; procedure = proc; arguments = args })).reply) }
@@ -72,10 +73,10 @@ pub fn views_read_a_prefix()
 
 /// In every world of a run the order of the transactions, with each answered view put in where it looked last, is a serial order that
 /// explains the whole history: each answered transaction and view has the reply that it has where all run whole, one after another, in this
-/// order, and who was answered before another's submission stands before it. The plan has a procedure that may write.
+/// order, and who was answered before another's submission stands before it.
 pub fn witness_is_serial()
     ensures { (plan : Plan) (coords : ℕ) (steps : List Stepped) (w : World) → IsAccepted plan
-        → (writer : ℕ) → is_transaction plan writer ≡ true → IsRunFrom plan (first_beginning plan) coords steps w
+        → IsRunFrom plan (first_beginning plan) coords steps w
         → IsSerialWitness plan.program w.history (witness_of w) }
 {
     looks_fit();

@@ -5,7 +5,12 @@
 //! what servers and coordinators keep for views, and with the looks: behind how many transactions of the order each round began.
 //!
 //! Of transactions alone each run is one of theirs ([`laws::runs_are_beside`]). And the order, with each answered view put in where its last
-//! round began, is a serial order that explains the whole history ([`laws::witness_is_serial`]).
+//! round began, is a serial order that explains the whole history ([`laws::witness_is_serial`]). What else is kept of transactions' laws, whatever
+//! views there are, stands in [`kept`], and that a view is answered once all its messages came, and those of what it waits for, in [`quiet`].
+//! Whatever may happen in a world that fits a plan (`specs/Fits.antt`) comes to one thing, which fits it too ([`worlds`]).
 #![tactic(auto)]
 
+pub mod kept;
 pub mod laws;
+pub mod quiet;
+pub mod worlds;

@@ -1,19 +1,21 @@
 -- What an event leaves in the fields of a world is what the definitions say
 use Rattle.std.proofs.Common.{◌≡◌, ℕ, ℤ, true, zero, suc, ◌-◌, ◌<◌, ◌==◌, not, List, [], ◌∷◌, ◌++◌, Option, Some, None, Result, Ok, Err, length, map, filter, get_or, slice_get, slice_set, refl, sym, ap, subst, ◌∙◌}
-use Rattle.std.proofs.lemmas.List.{append-nil}
+use Rattle.std.proofs.lemmas.List.{append-nil, map-set}
 use Rattle.std.specs.Prelude.{Bool, false, if◌then◌else◌}
-use Rattle.std.proofs.lemmas.Option.{slice_get-get_or}
+use Rattle.std.specs.Option.{option_map}
+use Rattle.std.proofs.lemmas.Option.{slice_get-get_or, slice_get-map}
 use Rattle.roc_base.specs.declared.id.TxnId.{TxnId}
 use Rattle.roc_base.specs.declared.node.Node.{Node}
 use Rattle.roc_base.specs.declared.node.Node.TheVariants.{Server, Coord}
 use Rattle.roc_base.specs.declared.node.Shard.{Shard}
 use Rattle.roc_msg.specs.declared.msg.Envelope.{Envelope}
+use Rattle.roc_msg.specs.declared.outbox.Outgoing.{Outgoing}
 use Rattle.roc_msg.specs.Outbox.{Collected}
-use Rattle.roc_plan.specs.Groups.{Plan, is_transaction, is_view_of}
+use Rattle.roc_plan.specs.Groups.{Plan, is_view_of}
 use Rattle.roc_readonly.specs.Round.{first_round}
 use Rattle.roc_coord.specs.Submit as submit
 use Rattle.roc_server.specs.declared.handled.Handled.{Handled as ServerHandled}
-use Rattle.roc_server.specs.State.{answered, ServerState}
+use Rattle.roc_server.specs.State.{answered, ServerState, Viewing}
 use Rattle.roc_server.specs.Step as server
 use Rattle.roc_coord.specs.declared.handled.Handled.{Handled as CoordHandled}
 use Rattle.roc_coord.specs.declared.handled.SubmitFault.{SubmitFault}
@@ -27,18 +29,36 @@ use Rattle.roc_audit.specs.declared.entry.Entry.TheVariants as entry
 use Rattle.roc_protocol.specs.declared.event.Event.TheVariants.{Submit, Deliver, Tick}
 use Rattle.roc_protocol.specs.declared.event.Seen.{Seen}
 use Rattle.roc_protocol.specs.declared.event.Seen.TheVariants as seen
-use Rattle.roc_protocol.specs.Aside.{after_transaction, transaction_tick_sends}
-use Rattle.roc_protocol.specs.Fits.{IsPlain}
-use Rattle.roc_protocol.proofs.PlainSteps.{transaction_submitted, tick_plain}
-use Rattle.roc_protocol.specs.World.{World, sends, mark_delivered, at_server, at_coord}
-use Rattle.roc_protocol.specs.Happens.{ran_at, Outcome, undecided, Submits, IsSubmissionOf, server_seen, coord_seen, answer_entries, served, coordinated, IsReceived}
+use Rattle.roc_protocol.specs.Happens.{ran_at, server_seen, coord_seen, answer_entries}
+use Rattle.roc_views.specs.World.{World, sends, looks_in, mark_delivered, at_server, at_coord, at_coord_tick}
+use Rattle.roc_views.specs.Happens.{Outcome, undecided, Submits, IsSubmissionOf, served, coordinated, IsReceived}
 use Rattle.roc_world.specs.Inner.Messages.{Messages}
-use Rattle.roc_world.specs.Inner.Nodes.{ServerTakes, CoordTakes, CoordSubmits, CoordTicks, ServerTicks}
+use Rattle.roc_world.specs.Inner.Nodes.{Idle, states_of, viewings_of, ServerTakes, CoordTakes, CoordSubmits, CoordTicks, ServerTicks}
 use Rattle.roc_world.specs.Inner.Parts.{Leads}
 
 -- what was read at a place is there
 pub read_there : {A : Type 0} (xs lent : List A) (i : ℕ) (x : A) → i < length xs → lent ≡ xs → x ≡ get_or lent i x → slice_get xs i ≡ Some x
 read_there xs lent i x within same is = slice_get-get_or xs i x within ∙ ap Some (sym (is ∙ ap (λ ys. get_or ys i x) same))
+
+-- what is there is written again as it was
+set_there : {A : Type 0} (xs : List A) (i : ℕ) (x : A) → slice_get xs i ≡ Some x → slice_set xs i x ≡ xs
+set_there [] i x e = absurd (cc)
+set_there (y ∷ ys) zero x e = let same : y ≡ x = cc in ap (λ z. z ∷ ys) (sym same)
+set_there (y ∷ ys) (suc i) x e = ap (λ zs. y ∷ zs) (set_there ys i x e)
+
+-- one of the servers has another state, and keeps something else for views
+module _ (servers : List ServerState) (viewing : List Viewing) (olds news : List Idle) (was : servers ≡ states_of olds) (viewed : viewing ≡ viewings_of olds) (shard : ℕ) where
+  states_set : (now : Idle) → news ≡ slice_set olds shard now → states_of news ≡ slice_set servers shard now.state
+  states_set now others = ap states_of others ∙ (map-set (λ (s : Idle). s.state) olds shard now ∙ ap (λ l. slice_set l shard now.state) (sym was))
+
+  viewings_set : (now : Idle) → news ≡ slice_set olds shard now → viewings_of news ≡ slice_set viewing shard now.viewing
+  viewings_set now others = ap viewings_of others ∙ (map-set (λ (s : Idle). s.viewing) olds shard now ∙ ap (λ l. slice_set l shard now.viewing) (sym viewed))
+
+  state_there : (s : Idle) → slice_get olds shard ≡ Some s → slice_get servers shard ≡ Some s.state
+  state_there s there = ap (λ l. slice_get l shard) was ∙ (slice_get-map (λ (s : Idle). s.state) olds shard ∙ ap (option_map (λ (s : Idle). s.state)) there)
+
+  viewing_there : (s : Idle) → slice_get olds shard ≡ Some s → slice_get viewing shard ≡ Some s.viewing
+  viewing_there s there = ap (λ l. slice_get l shard) viewed ∙ (slice_get-map (λ (s : Idle). s.viewing) olds shard ∙ ap (option_map (λ (s : Idle). s.viewing)) there)
 
 module _ (plan : Plan) (w : World) where
   -- ---- a delivery
@@ -48,27 +68,50 @@ module _ (plan : Plan) (w : World) where
     delivered = record { sent = w.sent; undelivered = filter (λ n. not (n == k)) w.undelivered }
 
     pub server_comes :
-        (shard : Shard) → m.to ≡ Server shard → (answer : ServerHandled) (what : Seen) (servers : List ServerState) (noted_in : Messages) (before out : Collected) (after : World)
-        → before.messages ≡ [] → before.decided ≡ [] → ServerTakes plan shard.0 m.msg answer w.servers servers before out → what ≡ server_seen answer → noted_in ≡ delivered
-        → after ≡ record (sends (record w { servers = servers; sent = noted_in.sent; undelivered = noted_in.undelivered }) (Server shard) out.messages) { order = noted w.order out.decided }
+        (olds news : List Idle) → w.servers ≡ states_of olds → w.viewing ≡ viewings_of olds
+        → (shard : Shard) → m.to ≡ Server shard → (answer : ServerHandled) (what : Seen) (noted_in : Messages) (before out : Collected) (after : World)
+        → before.messages ≡ [] → before.decided ≡ [] → ServerTakes plan shard.0 m.msg answer olds news before out → what ≡ server_seen answer → noted_in ≡ delivered
+        → after ≡ record (sends (record w { servers = states_of news; viewing = viewings_of news; sent = noted_in.sent; undelivered = noted_in.undelivered }) (Server shard) out.messages) { order = noted w.order out.decided }
         → Leads plan w (Deliver k) what after
-    server_comes shard to answer what servers noted_in before out after none undecided_yet takes what_is network_is after_is =
+    server_comes olds news was viewed shard to answer what noted_in before out after none undecided_yet takes what_is network_is after_is =
         let r = takes.step in
-        let outs : out.messages ≡ r.sends = takes.shows.sends ∙ ap (λ xs. xs ++ r.sends) none in
+        let q = takes.reads in
+        let outs : out.messages ≡ r.sends ++ q.sends = takes.shows.sends ∙ ap (λ xs. xs ++ (r.sends ++ q.sends)) none in
         let ids : out.decided ≡ r.decided = takes.shows.decides ∙ ap (λ xs. xs ++ r.decided) undecided_yet in
         let sees : what ≡ server_seen r.answer = what_is ∙ ap server_seen (sym takes.shows.answers) in
-        let others = takes.others in
-        let world_is : after ≡ at_server (mark_delivered w k) shard.0 r =
-        after_is ∙ (λ i. record (sends (record w { servers = others i; sent = (network_is i).sent; undelivered = (network_is i).undelivered }) (Server shard) (outs i)) { order = noted w.order (ids i) }) in
+        let now : Idle = record { state = r.state; viewing = q.viewing } in
+        let states = states_set w.servers w.viewing olds news was viewed shard.0 now takes.others in
+        let views = viewings_set w.servers w.viewing olds news was viewed shard.0 now takes.others in
+        let world_is : after ≡ at_server (mark_delivered w k) shard.0 r q =
+        after_is ∙ (λ i. record (sends (record w { servers = states i; viewing = views i; sent = (network_is i).sent; undelivered = (network_is i).undelivered }) (Server shard) (outs i)) { order = noted w.order (ids i) }) in
         let ran = map (ran_at shard.0) r.ran in
         let o : Outcome = record { seen = what; components = r.components; decided = r.decided; ran = ran; world = after } in
-        let is : o ≡ served (mark_delivered w k) shard.0 r = λ i. record { seen = sees i; components = r.components; decided = r.decided; ran = ran; world = world_is i } in
-        (r.components, r.decided, ran, (m, some, there, subst (λ (node : Node). IsReceived plan (mark_delivered w k) m.msg node o) (sym to) (takes.server, r, takes.there, takes.handles, is)))
+        let is : o ≡ served (mark_delivered w k) shard.0 r q = λ i. record { seen = sees i; components = r.components; decided = r.decided; ran = ran; world = world_is i } in (
+          r.components,
+          r.decided,
+          ran,
+          (
+            m,
+            some,
+            there,
+            subst (λ (node : Node). IsReceived plan (mark_delivered w k) m.msg node o) (sym to) (record {
+              state = takes.server.state;
+              there = state_there w.servers w.viewing olds news was viewed shard.0 takes.server takes.there;
+              viewing = takes.server.viewing;
+              keeps = viewing_there w.servers w.viewing olds news was viewed shard.0 takes.server takes.there;
+              step = r;
+              handles = takes.handles;
+              reads = q;
+              answers = takes.answers_reads;
+              is = is;
+            }),
+          ),
+        )
 
     pub coord_comes :
         (number : ℕ) → m.to ≡ Coord number → (answer : CoordHandled) (what : Seen) (coords : List CoordState) (noted_in : Messages) (before out : Collected) (after : World)
         → before.messages ≡ [] → CoordTakes plan number m.msg answer w.coords coords before out → what ≡ coord_seen answer → noted_in ≡ delivered
-        → after ≡ record (sends (record w { coords = coords; sent = noted_in.sent; undelivered = noted_in.undelivered }) (Coord number) out.messages) { history = w.history ++ answer_entries answer }
+        → after ≡ record (sends (record w { coords = coords; sent = noted_in.sent; undelivered = noted_in.undelivered }) (Coord number) out.messages) { history = w.history ++ answer_entries answer; looks = w.looks ++ looks_in (length w.order) out.messages }
         → Leads plan w (Deliver k) what after
     coord_comes number to answer what coords noted_in before out after none takes what_is network_is after_is =
         let r = after_message plan takes.coord m.msg in
@@ -77,7 +120,7 @@ module _ (plan : Plan) (w : World) where
         let sees : what ≡ coord_seen r.answer = what_is ∙ ap coord_seen told in
         let others = takes.others in
         let world_is : after ≡ at_coord (mark_delivered w k) number r.state r.sends (answer_entries r.answer) =
-        after_is ∙ (λ i. record (sends (record w { coords = others i; sent = (network_is i).sent; undelivered = (network_is i).undelivered }) (Coord number) (outs i)) { history = w.history ++ answer_entries (told i) }) in
+        after_is ∙ (λ i. record (sends (record w { coords = others i; sent = (network_is i).sent; undelivered = (network_is i).undelivered }) (Coord number) (outs i)) { history = w.history ++ answer_entries (told i); looks = w.looks ++ looks_in (length w.order) (outs i) }) in
         let o : Outcome = record { seen = what; components = []; decided = []; ran = []; world = after } in
         let is : o ≡ coordinated (mark_delivered w k) number r = λ i. record { seen = sees i; components = []; decided = []; ran = []; world = world_is i } in
         ([], [], [], (m, some, there, subst (λ (node : Node). IsReceived plan (mark_delivered w k) m.msg node o) (sym to) (takes.coord, takes.there, is)))
@@ -85,39 +128,38 @@ module _ (plan : Plan) (w : World) where
   -- ---- a tick
 
   pub server_ticks :
-      (shard : Shard) (what : Seen) (servers : List ServerState) (before out : Collected) (after : World)
-      → before.messages ≡ [] → ServerTicks shard.0 w.servers servers before out → what ≡ seen.Done → after ≡ sends (record w { servers = servers }) (Server shard) out.messages
+      (olds news : List Idle) → w.servers ≡ states_of olds → w.viewing ≡ viewings_of olds
+      → (shard : Shard) (what : Seen) (before out : Collected) (after : World)
+      → before.messages ≡ [] → ServerTicks shard.0 olds news before out → what ≡ seen.Done
+      → after ≡ sends (record w { servers = states_of news; viewing = viewings_of news }) (Server shard) out.messages
       → Leads plan w (Tick (Server shard)) what after
-  server_ticks shard what servers before out after none ticks sees after_is =
-      let tells = server.tick_sends ticks.server in
-      let outs : out.messages ≡ tells = ticks.sent.0 ∙ ap (λ xs. xs ++ tells) none in
-      let others = ticks.others in
-      let world_is : after ≡ at_server w shard.0 (answered ticks.server tells) = after_is ∙ (λ i. sends (record w { servers = others i }) (Server shard) (outs i)) in
+  server_ticks olds news was viewed shard what before out after none ticks sees after_is =
+      let s = ticks.server in
+      let tells = server.tick_sends s.state in
+      let outs : out.messages ≡ tells ++ [] = ticks.sent.0 ∙ (ap (λ xs. xs ++ tells) none ∙ sym (append-nil tells)) in
+      let states = states_set w.servers w.viewing olds news was viewed shard.0 s ticks.others in
+      let views = viewings_set w.servers w.viewing olds news was viewed shard.0 s ticks.others in
+      let world_is : after ≡ at_server w shard.0 (answered s.state tells) (record { viewing = s.viewing; sends = [] }) = after_is ∙ (λ i. sends (record w { servers = states i; viewing = views i }) (Server shard) (outs i)) in
       let o : Outcome = record { seen = what; components = []; decided = []; ran = []; world = after } in
-      let is : o ≡ served w shard.0 (answered ticks.server tells) = λ i. record { seen = sees i; components = []; decided = []; ran = []; world = world_is i } in
-      ([], [], [], (ticks.server, ticks.there, is))
+      let is : o ≡ served w shard.0 (answered s.state tells) (record { viewing = s.viewing; sends = [] }) = λ i. record { seen = sees i; components = []; decided = []; ran = []; world = world_is i } in
+      ([], [], [], (s.state, s.viewing, state_there w.servers w.viewing olds news was viewed shard.0 s ticks.there, viewing_there w.servers w.viewing olds news was viewed shard.0 s ticks.there, is))
 
   pub coord_ticks :
       (number : ℕ) (what : Seen) (coords : List CoordState) (before out : Collected) (after : World)
-      → ((s : CoordState) → slice_get w.coords number ≡ Some s → IsPlain s)
       → before.messages ≡ [] → CoordTicks plan number w.coords coords before out → what ≡ seen.Done → after ≡ sends (record w { coords = coords }) (Coord number) out.messages
       → Leads plan w (Tick (Coord number)) what after
-  coord_ticks number what coords before out after plain none ticks sees after_is =
-      let tells = transaction_tick_sends plan ticks.coord in
-      let outs : out.messages ≡ tells = ticks.sent.0 ∙ (ap (λ xs. xs ++ coord.tick_sends plan ticks.coord) none ∙ tick_plain plan ticks.coord (plain ticks.coord ticks.there)) in
-      let others = ticks.others in
-      let world_is : after ≡ at_coord w number ticks.coord tells [] = after_is ∙ (λ i. record (sends (record w { coords = others i }) (Coord number) (outs i)) { history = sym (append-nil w.history) i }) in
-      let is : record { seen = what; components = []; decided = []; ran = []; world = after } ≡ undecided seen.Done (at_coord w number ticks.coord tells []) =
+  coord_ticks number what coords before out after none ticks sees after_is =
+      let tells = coord.tick_sends plan ticks.coord in
+      let outs : out.messages ≡ tells = ticks.sent.0 ∙ ap (λ xs. xs ++ tells) none in
+      let others : coords ≡ w.coords = ticks.others ∙ set_there w.coords number ticks.coord ticks.there in
+      let world_is : after ≡ at_coord_tick w number tells = after_is ∙ (λ i. sends (record w { coords = others i }) (Coord number) (outs i)) in
+      let is : record { seen = what; components = []; decided = []; ran = []; world = after } ≡ undecided seen.Done (at_coord_tick w number tells) =
       λ i. record { seen = sees i; components = []; decided = []; ran = []; world = world_is i } in
       ([], [], [], (ticks.coord, ticks.there, is))
 
   -- ---- a submission
 
-  module _ (number proc : ℕ) (args : List ℤ) (coords : List CoordState) (before out : Collected) (known : is_transaction plan proc ≡ true) where
-    -- it is one of a transaction
-    submits_transaction : (s : CoordState) (o : Outcome) → IsSubmissionOf w number proc args (after_submit plan s proc args) o → IsSubmissionOf w number proc args (after_transaction plan s proc args) o
-    submits_transaction s o h = subst (λ r. IsSubmissionOf w number proc args r o) (sym (transaction_submitted plan s proc args known)) h
-
+  module _ (number proc : ℕ) (args : List ℤ) (coords : List CoordState) (before out : Collected) where
     abbrev Submitting : Result TxnId SubmitFault → Type 0
     Submitting answer = CoordSubmits plan number proc args answer w.coords coords before out
 
@@ -135,24 +177,19 @@ module _ (plan : Plan) (w : World) where
     -- a refused submission changes nothing
     coords_same : (why : SubmitFault) → Submitting (Err why) → coords ≡ w.coords
     coords_same why s = s.others ∙ ap (slice_set w.coords number) (refused_keeps s.coord why s.submitted.answer) ∙ set_there w.coords number s.coord s.there
-      where
-        set_there : (xs : List CoordState) (i : ℕ) (x : CoordState) → slice_get xs i ≡ Some x → slice_set xs i x ≡ xs
-        set_there [] i x e = absurd (cc)
-        set_there (y ∷ ys) zero x e = let same : y ≡ x = cc in ap (λ z. z ∷ ys) (sym same)
-        set_there (y ∷ ys) (suc i) x e = ap (λ zs. y ∷ zs) (set_there ys i x e)
 
     pub accepted : (id : TxnId) (what : Seen) (after : World) → before.messages ≡ [] → Submitting (Ok id) → what ≡ seen.Submitted id
-        → after ≡ record (sends (record w { coords = coords }) (Coord number) out.messages) { history = w.history ++ entry.Submitted id proc args ∷ [] } → Leads plan w (Submit number proc args) what after
+        → after ≡ record (sends (record w { coords = coords }) (Coord number) out.messages) { history = w.history ++ entry.Submitted id proc args ∷ []; looks = w.looks ++ looks_in (length w.order) out.messages } → Leads plan w (Submit number proc args) what after
     accepted id what after none s sees after_is =
         let r = after_submit plan s.coord proc args in
         let outs : out.messages ≡ r.sends = s.submitted.sent.0 ∙ ap (λ xs. xs ++ r.sends) none in
         let others = s.others in
         let world_is : after ≡ at_coord w number r.state r.sends (entry.Submitted id proc args ∷ []) =
-        after_is ∙ (λ i. record (sends (record w { coords = others i }) (Coord number) (outs i)) { history = w.history ++ entry.Submitted id proc args ∷ [] }) in
+        after_is ∙ (λ i. record (sends (record w { coords = others i }) (Coord number) (outs i)) { history = w.history ++ entry.Submitted id proc args ∷ []; looks = w.looks ++ looks_in (length w.order) (outs i) }) in
         let o : Outcome = record { seen = what; components = []; decided = []; ran = []; world = after } in
         let is : o ≡ undecided (seen.Submitted id) (at_coord w number r.state r.sends (entry.Submitted id proc args ∷ [])) =
         λ i. record { seen = sees i; components = []; decided = []; ran = []; world = world_is i } in
-        ([], [], [], (s.coord, s.there, submits_transaction s.coord o (subst (λ answer. Submits w number proc args r.state r.sends answer o) s.submitted.answer is)))
+        ([], [], [], (s.coord, s.there, subst (λ answer. Submits w number proc args r.state r.sends answer o) s.submitted.answer is))
 
     spent : Submitting (Err fault.Spent) → Leads plan w (Submit number proc args) seen.Spent (record w { coords = coords })
     spent s =
@@ -160,7 +197,7 @@ module _ (plan : Plan) (w : World) where
         let same = coords_same fault.Spent s in
         let o : Outcome = record { seen = seen.Spent; components = []; decided = []; ran = []; world = record w { coords = coords } } in
         let is : o ≡ undecided seen.Spent w = λ i. record { seen = seen.Spent; components = []; decided = []; ran = []; world = record w { coords = same i } } in
-        ([], [], [], (s.coord, s.there, submits_transaction s.coord o (subst (λ answer. Submits w number proc args r.state r.sends answer o) s.submitted.answer is)))
+        ([], [], [], (s.coord, s.there, subst (λ answer. Submits w number proc args r.state r.sends answer o) s.submitted.answer is))
 
     busy : Submitting (Err fault.Busy) → Leads plan w (Submit number proc args) seen.Busy (record w { coords = coords })
     busy s =
@@ -168,7 +205,7 @@ module _ (plan : Plan) (w : World) where
         let same = coords_same fault.Busy s in
         let o : Outcome = record { seen = seen.Busy; components = []; decided = []; ran = []; world = record w { coords = coords } } in
         let is : o ≡ undecided seen.Busy w = λ i. record { seen = seen.Busy; components = []; decided = []; ran = []; world = record w { coords = same i } } in
-        ([], [], [], (s.coord, s.there, submits_transaction s.coord o (subst (λ answer. Submits w number proc args r.state r.sends answer o) s.submitted.answer is)))
+        ([], [], [], (s.coord, s.there, subst (λ answer. Submits w number proc args r.state r.sends answer o) s.submitted.answer is))
 
     -- the same of arguments that are these
     module _ (given : List ℤ) (same : given ≡ args) (why : SubmitFault) (submits : UnlessNoMemory (Err why) (CoordSubmits plan number proc given (Err why) w.coords coords before out)) where

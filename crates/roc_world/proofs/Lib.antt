@@ -1,4 +1,3 @@
-mod NoReads
 pub mod Numbers
 pub mod Sending
 pub mod FirstNodes
@@ -6,3 +5,5 @@ pub mod WorldsFit
 pub mod Flattened
 pub mod NodeSteps
 pub mod Events
+pub mod Woven
+pub mod FirstReads

@@ -1,12 +1,16 @@
 -- What comes of a message or a tick at one of many nodes, by that node's own step
-use Rattle.std.proofs.Common.{◌≡◌, ℕ, ℤ, ◌<◌, List, Some, Result, Ok, Err, length, get_or, slice_set, refl, sym, ap, ◌∙◌}
+use Rattle.std.proofs.Common.{◌≡◌, ℕ, ℤ, ◌<◌, List, Some, Result, Ok, Err, length, map, get_or, slice_set, refl, sym, ap, subst, ◌∙◌}
+use Rattle.std.specs.List.{AllByRecursion}
+use Rattle.std.proofs.lemmas.List.{get_or-map, length-map}
 use Rattle.std.proofs.lemmas.Option.{slice_get-get_or}
+use Rattle.roc_sequence.proofs.Holds.{all_at}
 use Rattle.roc_msg.specs.declared.msg.Msg.{Msg}
 use Rattle.roc_msg.specs.Outbox.{Collected, HasSent}
 use Rattle.roc_plan.specs.Groups.{Plan}
 use Rattle.roc_server.specs.declared.handled.Handled.{Handled}
-use Rattle.roc_server.specs.State.{ServerState, ServerStep}
-use Rattle.roc_server.specs.Step.{Handles, tick_sends}
+use Rattle.roc_server.specs.Reads.{AnswersReads, ReadStep}
+use Rattle.roc_server.specs.State.{ServerStep}
+use Rattle.roc_server.specs.Step.{Handles, Shows, tick_sends}
 use Rattle.roc_base.specs.declared.id.TxnId.{TxnId}
 use Rattle.roc_coord.specs.declared.handled.Handled.{Handled as CoordHandled}
 use Rattle.roc_coord.specs.declared.handled.SubmitFault.{SubmitFault}
@@ -14,25 +18,33 @@ use Rattle.roc_coord.specs.declared.handled.SubmitFault.TheVariants as fault
 use Rattle.roc_coord.specs.State.{CoordState}
 use Rattle.roc_coord.specs.Step.{after_message, IsOutcome}
 use Rattle.roc_coord.specs.Submit.{after_submit, IsSubmitted, UnlessNoMemory}
-use Rattle.roc_world.specs.Inner.Nodes.{ShowsStep, ServerTakes, CoordTakes, CoordSubmits, ServerTicks}
+use Rattle.roc_world.specs.Inner.Nodes.{Idle, ServerTakes, CoordTakes, CoordSubmits, ServerTicks}
 
 pub server_takes :
-    (plan : Plan) (servers : List ServerState) (shard : ℕ) (s after : ServerState) (msg : Msg) (answer : Handled) (before out : Collected) → shard < length servers → s ≡ get_or servers shard s
-    → (r : ServerStep) × Handles plan s msg r × ShowsStep r answer after before out → ServerTakes plan shard msg answer servers (slice_set servers shard after) before out
-server_takes plan servers shard s after msg answer before out within is (r, handles, shows) =
+    (plan : Plan) (servers : List Idle) (shard : ℕ) (s after : Idle) (msg : Msg) (answer : Handled) (before out : Collected) → shard < length servers → s ≡ get_or servers shard s
+    → (r : ServerStep) × (q : ReadStep) × Handles plan s.state msg r × AnswersReads plan s.viewing msg r q × Shows r q answer after.state after.viewing before out
+    → ServerTakes plan shard msg answer servers (slice_set servers shard after) before out
+server_takes plan servers shard s after msg answer before out within is (r, q, handles, answers, shows) =
     record {
       server = s;
       there = slice_get-get_or servers shard s within ∙ ap Some (sym is);
       step = r;
       handles = handles;
-      shows = record { answers = shows.answers; keeps = refl; sends = shows.sends; decides = shows.decides };
-      others = ap (slice_set servers shard) (sym shows.keeps);
+      reads = q;
+      answers_reads = answers;
+      shows = record { answers = shows.answers; keeps = refl; views = refl; sends = shows.sends; decides = shows.decides; ran = shows.ran };
+      others = λ i. slice_set servers shard (record { state = sym shows.keeps i; viewing = sym shows.views i });
     }
 
 pub server_ticks :
-    (servers : List ServerState) (shard : ℕ) (s after : ServerState) (before out : Collected) → shard < length servers → s ≡ get_or servers shard s
-    → HasSent before out (tick_sends s) → after ≡ s → ServerTicks shard servers (slice_set servers shard after) before out
+    (servers : List Idle) (shard : ℕ) (s after : Idle) (before out : Collected) → shard < length servers → s ≡ get_or servers shard s
+    → HasSent before out (tick_sends s.state) → after ≡ s → ServerTicks shard servers (slice_set servers shard after) before out
 server_ticks servers shard s after before out within is sent same = record { server = s; there = slice_get-get_or servers shard s within ∙ ap Some (sym is); sent = sent; others = ap (slice_set servers shard) same }
+
+-- what holds of each server's part holds of that of one of them
+pub part_at : {A : Type 0} (P : A → Type 0) (part : Idle → A) (servers : List Idle) (shard : ℕ) (s : Idle) → AllByRecursion P (map part servers) → shard < length servers → s ≡ get_or servers shard s → P (part s)
+part_at P part servers shard s all within is =
+    subst P (get_or-map part servers shard s (part s) within ∙ ap part (sym is)) (all_at P (map part servers) shard (part s) all (subst (λ n. shard < n) (sym (length-map servers part)) within))
 
 pub coord_takes :
     (plan : Plan) (coords : List CoordState) (number : ℕ) (s after : CoordState) (msg : Msg) (answer : CoordHandled) (before out : Collected) → number < length coords → s ≡ get_or coords number s

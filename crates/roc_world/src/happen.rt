@@ -1,16 +1,18 @@
 //! What an event does, over the fields of a world.
-ghost use Rattle.std.specs.Prelude.{◌≡◌, ◌++◌, ◌∷◌, [], IfOk, OnOk};
+ghost use Rattle.std.specs.Prelude.{◌≡◌, ◌++◌, ◌∷◌, [], length, map, IfOk, OnOk};
 ghost use Rattle.roc_base.specs.declared.node.Node.TheVariants as node;
 ghost use Rattle.roc_audit.specs.declared.entry.Entry.TheVariants as entry;
 ghost use Rattle.roc_audit.specs.Order.{noted};
 ghost use Rattle.roc_protocol.specs.declared.event.Event.TheVariants as event;
 ghost use Rattle.roc_protocol.specs.declared.event.Seen.TheVariants as seen;
-ghost use Rattle.roc_protocol.specs.Fits.{FitsWorld};
 ghost use Rattle.roc_protocol.specs.Happens.{coord_seen, server_seen, answer_entries};
-ghost use Rattle.roc_protocol.specs.Run.{IsEventOf};
-ghost use Rattle.roc_protocol.specs.World.{sends};
+ghost use Rattle.roc_views.specs.Fits.{FitsWorld};
+ghost use Rattle.roc_views.specs.Run.{IsEventOf};
+ghost use Rattle.roc_views.specs.World.{sends, looks_in};
+ghost use Rattle.roc_world.specs.Inner.Looks.{looked};
 ghost use Rattle.roc_world.specs.Inner.Parts.{world_of, Leads};
 
+use crate::looks::note_looks;
 use crate::nodes::{handle_at_coord, handle_at_server, submit_at, tick_coord, tick_server};
 use crate::parts::Parts;
 use crate::{Event, Seen};
@@ -41,7 +43,7 @@ pub(crate) fn happen(
     }
 }
 
-// A transaction is submitted.
+// A transaction or a view is submitted.
 fn submit(
     alloc: Global,
     plan: &Plan,
@@ -120,6 +122,16 @@ fn tick(alloc: Global, plan: &Plan, parts: &mut Parts, node: Node) -> Result<See
     }
 }
 
+// What a coordinator sends goes into the network, and the round of a view that begins with it is noted.
+fn send_at_coord(parts: &mut Parts, coord: u16, outbox: Outbox) -> Result<(), NoMemory>
+    ensures { OnOk result (world_of parts.new
+        ≡ record (sends (world_of parts.old) (node.Coord coord) outbox.messages) { looks = map looked parts.old.looks.items ++ looks_in (length parts.old.order) outbox.messages }) }
+{
+    let behind = parts.order.as_slice().len();
+    note_looks(&mut parts.looks, behind, outbox.messages())?;
+    send_from(parts, Node::Coord(coord), outbox)
+}
+
 // What a node sends goes into the network.
 fn send_from(parts: &mut Parts, from: Node, outbox: Outbox) -> Result<(), NoMemory>
     ensures { OnOk result (world_of parts.new ≡ sends (world_of parts.old) from outbox.messages) }
@@ -138,9 +150,12 @@ fn note_submitted(
     outbox: Outbox,
 ) -> Result<Seen, NoMemory>
     ensures { IfOk result (λ what. (what ≡ seen.Submitted id)
-        × (world_of parts.new ≡ record (sends (world_of parts.old) (node.Coord coord) outbox.messages) { history = parts.old.history ++ entry.Submitted id proc args.now ∷ [] })) }
+        × (world_of parts.new ≡ record (sends (world_of parts.old) (node.Coord coord) outbox.messages) {
+          history = parts.old.history ++ entry.Submitted id proc args.now ∷ [];
+          looks = map looked parts.old.looks.items ++ looks_in (length parts.old.order) outbox.messages;
+        })) }
 {
-    send_from(parts, Node::Coord(coord), outbox)?;
+    send_at_coord(parts, coord, outbox)?;
     let args = args.clone()?;
     parts.history.push(Entry::Submitted { id, proc, args })?;
     Ok(Seen::Submitted(id))
@@ -178,9 +193,12 @@ fn note_at_coord(
     outbox: Outbox,
 ) -> Result<Seen, NoMemory>
     ensures { IfOk result (λ what. (what ≡ coord_seen handled)
-        × (world_of parts.new ≡ record (sends (world_of parts.old) (node.Coord coord) outbox.messages) { history = parts.old.history ++ answer_entries handled })) }
+        × (world_of parts.new ≡ record (sends (world_of parts.old) (node.Coord coord) outbox.messages) {
+          history = parts.old.history ++ answer_entries handled;
+          looks = map looked parts.old.looks.items ++ looks_in (length parts.old.order) outbox.messages;
+        })) }
 {
-    send_from(parts, Node::Coord(coord), outbox)?;
+    send_at_coord(parts, coord, outbox)?;
     note_answer(&mut parts.history, &handled)?;
     Ok(coord_seen(handled))
 }

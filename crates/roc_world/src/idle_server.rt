@@ -3,11 +3,10 @@ ghost use Rattle.std.specs.Prelude.{◌≡◌, IfOk, OnOk};
 ghost use Rattle.roc_msg.specs.Outbox.{HasSent};
 ghost use Rattle.roc_rows.specs.Store.{entries};
 ghost use Rattle.roc_server.specs.First.{first_server};
-ghost use Rattle.roc_server.specs.Fits.{ServerFits};
+ghost use Rattle.roc_server.specs.Fits.{AreReadsOf, ServerFits};
+ghost use Rattle.roc_server.specs.Reads.{first_viewing, AnswersReads, ReadStep};
 ghost use Rattle.roc_server.specs.State.{ServerStep};
-ghost use Rattle.roc_server.specs.Step.{Handles, tick_sends};
-ghost use Rattle.roc_protocol.specs.Aside.{IsNoRead};
-ghost use Rattle.roc_world.specs.Inner.Nodes.{ShowsStep};
+ghost use Rattle.roc_server.specs.Step.{Handles, Shows, tick_sends};
 
 use roc_base::{NoMemory, Shard};
 use roc_msg::{Msg, NodeFault, Outbox};
@@ -17,52 +16,54 @@ use roc_server::{Handled, Server};
 use std::alloc::Global;
 use std::marker::Model;
 
-// A server that makes nothing ahead, and on which no read waits, as none comes: its state is all that counts of it.
+// A server that makes nothing ahead: its state, and what it keeps for views, are all that counts of it.
 #[derive(Drop)]
 pub(crate) struct IdleServer {
     server: Server,
 }
 
 impl Model for IdleServer {
-    ghost use Rattle.std.specs.Prelude.{◌≡◌, None, []};
-    ghost use Rattle.roc_server.specs.Codes.{coded_state};
-    ghost use Rattle.roc_server.specs.State.{ServerState};
+    ghost use Rattle.std.specs.Prelude.{◌≡◌, None};
+    ghost use Rattle.std.specs.Coded.{codes};
+    ghost use Rattle.roc_server.specs.Codes.{coded_state, coded_viewing};
+    ghost use Rattle.roc_world.specs.Inner.Nodes.{Idle};
 
-    ghost Value = { ServerState };
+    ghost Value = { Idle };
 
-    ghost coded = { coded_state };
+    ghost coded = { Prim.hlevel (codes, coded_state, coded_viewing) };
 
-    ghost view = { λ s. s.server.state };
+    ghost view = { λ s. record { state = s.server.state; viewing = s.server.viewing } };
 
-    ghost invariant = { λ s. (s.server.ahead ≡ None) × (s.server.viewing.reads ≡ []) };
+    ghost invariant = { λ s. s.server.ahead ≡ None };
 }
 
 impl IdleServer {
     // A server before any message.
     pub(crate) fn new(alloc: Global, plan: &Plan, shard: Shard) -> Result<IdleServer, NoMemory>
-        ensures { IfOk result (λ server. server ≡ first_server plan.now shard) }
+        ensures { IfOk result (λ server. server ≡ record { state = first_server plan.now shard; viewing = first_viewing }) }
     {
         let server = Server::new(alloc, plan, shard)?;
         Ok(IdleServer { server })
     }
 
-    // Takes a message that reads for no view, or ignores it.
+    // Takes a message, finds that it came too late, or ignores it.
     pub(crate) fn handle(
         &mut self,
         plan: &Plan,
         msg: &Msg,
         outbox: &mut Outbox,
     ) -> Result<Handled, NodeFault>
-        requires fits { ServerFits plan.now self.old }
-        requires no_read { IsNoRead msg.now }
-        ensures { IfOk result (λ answer. (r : ServerStep) × Handles plan.now self.old msg.now r × ShowsStep r answer self.new outbox.old outbox.new) }
+        requires fits { ServerFits plan.now self.old.state }
+        requires views { AreReadsOf plan.now self.old.viewing.reads }
+        ensures { IfOk result (λ answer. (r : ServerStep) × (q : ReadStep) × Handles plan.now self.old.state msg.now r × AnswersReads plan.now self.old.viewing msg.now r q
+            × Shows r q answer self.new.state self.new.viewing outbox.old outbox.new) }
     {
         self.server.handle(plan, msg, outbox)
     }
 
     // Sends again what was asked for and is not known yet.
     pub(crate) fn tick(&mut self, outbox: &mut Outbox) -> Result<(), NodeFault>
-        ensures sent { OnOk result (HasSent outbox.old outbox.new (tick_sends self.old)) }
+        ensures sent { OnOk result (HasSent outbox.old outbox.new (tick_sends self.old.state)) }
         ensures same { self.new ≡ self.old }
     {
         self.server.tick(outbox)
@@ -70,7 +71,7 @@ impl IdleServer {
 
     // The cells that are not 0, each with its number, by cell rising.
     pub(crate) fn cells(&self) -> Result<Vec<(Cell, i64)>, NoMemory>
-        ensures { IfOk result (λ cells. cells.items ≡ entries self.now.store) }
+        ensures { IfOk result (λ cells. cells.items ≡ entries self.now.state.store) }
     {
         self.server.cells()
     }

@@ -2,12 +2,12 @@
 ghost use Rattle.std.specs.Prelude.{◌≡◌, ◌<◌, length, map, IfOk, OnOk};
 ghost use Rattle.std.specs.List.{AllByRecursion, range_with_len};
 ghost use Rattle.roc_server.specs.First.{first_server};
-ghost use Rattle.roc_server.specs.Fits.{ServerFits};
+ghost use Rattle.roc_server.specs.Fits.{AreReadsOf, ServerFits};
+ghost use Rattle.roc_server.specs.Reads.{first_viewing};
 ghost use Rattle.roc_coord.specs.State.{first_coord};
 ghost use Rattle.roc_coord.specs.Fits.{CoordFits};
 ghost use Rattle.roc_coord.specs.Submit.{UnlessNoMemory};
-ghost use Rattle.roc_protocol.specs.Aside.{IsNoRead};
-ghost use Rattle.roc_world.specs.Inner.Nodes.{ServerTakes, CoordTakes, CoordSubmits, ServerTicks, CoordTicks};
+ghost use Rattle.roc_world.specs.Inner.Nodes.{states_of, viewings_of, ServerTakes, CoordTakes, CoordSubmits, ServerTicks, CoordTicks};
 
 use crate::idle_server::IdleServer;
 use roc_base::{NoMemory, Shard, TxnId};
@@ -23,7 +23,7 @@ pub(crate) fn first_servers(
     plan: &Plan,
     count: u8,
 ) -> Result<Vec<IdleServer>, NoMemory>
-    ensures { IfOk result (λ servers. servers.items ≡ map (λ n. first_server plan.now (record { 0 = n })) (range_with_len 0 count)) }
+    ensures { IfOk result (λ servers. servers.items ≡ map (λ n. record { state = first_server plan.now (record { 0 = n }); viewing = first_viewing }) (range_with_len 0 count)) }
 {
     let mut servers = Vec::new(alloc);
     for number in 0..count {
@@ -43,7 +43,7 @@ pub(crate) fn first_coords(alloc: Global, count: u16) -> Result<Vec<Coord>, Allo
     Ok(coords)
 }
 
-/// A message that reads for no view comes to the server of a shard.
+/// A message comes to the server of a shard.
 pub(crate) fn handle_at_server(
     plan: &Plan,
     servers: &mut Vec<IdleServer>,
@@ -52,8 +52,8 @@ pub(crate) fn handle_at_server(
     outbox: &mut Outbox,
 ) -> Result<ServerHandled, NoMemory>
     requires exists { shard.0 < length servers.old.items }
-    requires fits { AllByRecursion (ServerFits plan.now) servers.old.items }
-    requires no_read { IsNoRead msg.now }
+    requires fits { AllByRecursion (ServerFits plan.now) (states_of servers.old.items) }
+    requires views { AllByRecursion (λ v. AreReadsOf plan.now v.reads) (viewings_of servers.old.items) }
     ensures { IfOk result (λ answer. ServerTakes plan.now shard.0 msg.now answer servers.old.items servers.new.items outbox.old outbox.new) }
 {
     let Ok(handled) = servers[shard.0 as usize].handle(plan, msg, outbox) else {
@@ -80,7 +80,7 @@ pub(crate) fn handle_at_coord(
     Ok(handled)
 }
 
-/// A transaction is submitted at a coordinator.
+/// A transaction or a view is submitted at a coordinator.
 pub(crate) fn submit_at(
     plan: &Plan,
     coords: &mut Vec<Coord>,

@@ -1,6 +1,7 @@
 //! The fields of a world.
 
 use crate::idle_server::IdleServer;
+use crate::looks::Look;
 use crate::network::Network;
 use roc_audit::{Entry, Order};
 use roc_coord::Coord;
@@ -16,4 +17,5 @@ pub(crate) struct Parts {
     pub network: Network,
     pub history: Sequence<Entry>,
     pub order: Order,
+    pub looks: Vec<Look>,
 }

@@ -11,7 +11,7 @@ use std::alloc::Global;
 
 /// The cells that are not 0, server by server.
 pub(crate) fn cells_of(alloc: Global, servers: &[IdleServer]) -> Result<Vec<(Cell, i64)>, NoMemory>
-    ensures { IfOk result (λ cells. cells.items ≡ flat_map (λ s. entries s.store) servers.now) }
+    ensures { IfOk result (λ cells. cells.items ≡ flat_map (λ s. entries s.state.store) servers.now) }
 {
     let mut cells = Vec::new(alloc);
     for server in servers {
@@ -20,7 +20,7 @@ pub(crate) fn cells_of(alloc: Global, servers: &[IdleServer]) -> Result<Vec<(Cel
     Ok(cells)
 }
 
-/// The transactions without a reply, coordinator by coordinator.
+/// The transactions and views without a reply, coordinator by coordinator.
 pub(crate) fn unanswered_of(alloc: Global, coords: &[Coord]) -> Result<Vec<TxnId>, NoMemory>
     ensures { IfOk result (λ ids. ids.items ≡ flat_map (λ c. c.unanswered) coords.now) }
 {

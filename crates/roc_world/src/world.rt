@@ -1,10 +1,12 @@
 //! The world.
 ghost use Rattle.std.specs.Prelude.{◌≡◌, ◌≤◌, List, length, IfOk, OnOk};
 ghost use Rattle.roc_base.specs.declared.id.TxnId.{TxnId};
-ghost use Rattle.roc_protocol.specs.Fits.{FitsWorld};
-ghost use Rattle.roc_protocol.specs.Happens.{RanAt, Happens};
-ghost use Rattle.roc_protocol.specs.Run.{IsEventOf};
-ghost use Rattle.roc_protocol.specs.World.{first_world};
+ghost use Rattle.roc_protocol.specs.Happens.{RanAt};
+ghost use Rattle.roc_views.specs.Fits.{FitsWorld};
+ghost use Rattle.roc_views.specs.Happens.{Happens};
+ghost use Rattle.roc_views.specs.Run.{IsEventOf};
+ghost use Rattle.roc_views.specs.Witness.{witness_of};
+ghost use Rattle.roc_views.specs.World.{first_world};
 ghost use Rattle.roc_world.specs.Reads.{cells_of, unanswered_of};
 
 use crate::happen::happen;
@@ -12,6 +14,7 @@ use crate::network::Network;
 use crate::nodes::{first_coords, first_servers};
 use crate::parts::Parts;
 use crate::reads::{cells_of, unanswered_of};
+use crate::witness::witness_of;
 use crate::{Event, Seen};
 use roc_audit::{Entry, Order};
 use roc_base::{NoMemory, TxnId};
@@ -19,6 +22,7 @@ use roc_msg::Envelope;
 use roc_plan::Plan;
 use roc_rows::Cell;
 use roc_sequence::Sequence;
+use roc_views::worlds::worlds_fit;
 use std::alloc::Global;
 use std::marker::Model;
 
@@ -31,12 +35,12 @@ pub struct World {
 
 impl Model for World {
     ghost use Rattle.std.specs.Coded.{codes};
-    ghost use Rattle.roc_server.specs.Codes.{coded_state};
-    ghost use Rattle.roc_protocol.specs.World.{World};
+    ghost use Rattle.roc_server.specs.Codes.{coded_state, coded_viewing};
+    ghost use Rattle.roc_views.specs.World.{World};
 
     ghost Value = { World };
 
-    ghost coded = { Prim.hlevel (codes, coded_state) };
+    ghost coded = { Prim.hlevel (codes, coded_state, coded_viewing) };
 
     ghost use Rattle.roc_world.specs.Inner.Parts.{world_of};
 
@@ -51,6 +55,7 @@ impl World {
         ensures first { IfOk result (λ world. world ≡ first_world plan.now coords) }
         ensures fits { IfOk result (FitsWorld plan.now) }
     {
+        worlds_fit();
         let servers = first_servers(alloc, plan, plan.workload().shards())?;
         let coords = first_coords(alloc, coords)?;
         Ok(World {
@@ -61,6 +66,7 @@ impl World {
                 network: Network::new(alloc),
                 history: Sequence::new(alloc),
                 order: Order::new(alloc),
+                looks: Vec::new(alloc),
             },
         })
     }
@@ -77,6 +83,7 @@ impl World {
         ensures fits { OnOk result (FitsWorld plan.now self.new) }
         ensures coords { OnOk result (length self.new.coords ≡ length self.old.coords) }
     {
+        worlds_fit();
         happen(self.alloc, plan, &mut self.parts, event)
     }
 
@@ -108,6 +115,19 @@ impl World {
         self.parts.order.as_slice()
     }
 
+    /// The order, with each answered view put in behind as many transactions as it had where the view's last round began; views that began
+    /// theirs at one place stand as they began them. It explains the whole history.
+    pub fn witness(&self) -> Result<Vec<TxnId>, NoMemory>
+        ensures { IfOk result (λ ids. ids.items ≡ witness_of self.now) }
+    {
+        witness_of(
+            self.alloc,
+            self.parts.history.as_slice(),
+            self.parts.order.as_slice(),
+            &self.parts.looks,
+        )
+    }
+
     /// The cells that are not 0, each with its number, shard by shard and by cell rising.
     pub fn cells(&self) -> Result<Vec<(Cell, i64)>, NoMemory>
         ensures { IfOk result (λ cells. cells.items ≡ cells_of self.now) }
@@ -115,7 +135,7 @@ impl World {
         cells_of(self.alloc, &self.parts.servers)
     }
 
-    /// The transactions without a reply, coordinator by coordinator and by id rising.
+    /// The transactions and views without a reply, coordinator by coordinator and by id rising.
     pub fn unanswered(&self) -> Result<Vec<TxnId>, NoMemory>
         ensures { IfOk result (λ ids. ids.items ≡ unanswered_of self.now) }
     {

@@ -3,17 +3,18 @@
 #![tactic(auto)]
 
 use roc_cli::run;
-use roc_io::Sink;
-use roc_io_real::{RealFiles, RealLink, RealSpawner, Stream, words_given};
-use std::io::Stderr;
+use roc_io::{Sink, Written};
+use roc_io_real::{Gathered, RealFiles, RealLink, RealSpawner, Stream, finish_both, words_given};
 use std::process::ExitCode;
 
+// How many bytes are written together at most.
+const ROOM: usize = 65_536;
+
 fn main(rt: HostRuntime) -> ExitCode {
-    let mut err = Stream::new(rt.stderr());
     let status = match words_given(&rt) {
-        Some(words) => run_words(&rt, &words, &mut err),
+        Some(words) => run_words(&rt, &words),
         None => {
-            err.write(b"memory\n");
+            Stream::new(rt.stderr()).write(b"memory\n");
             4
         }
     };
@@ -21,14 +22,32 @@ fn main(rt: HostRuntime) -> ExitCode {
 }
 
 // What the machine gives is owned here, behind the last exit of `main`.
-fn run_words(rt: &HostRuntime, words: &[String], err: &mut Stream<Stderr>) -> u8 {
-    run(
+fn run_words(rt: &HostRuntime, words: &[String]) -> u8 {
+    let mut out = Gathered::new(rt.alloc(), rt.stdout(), room_for(words));
+    let mut err = Gathered::new(rt.alloc(), rt.stderr(), ROOM);
+    let status = run(
         rt.alloc(),
         words,
         &mut RealFiles::new(rt),
-        &mut Stream::new(rt.stdout()),
-        err,
+        &mut out,
+        &mut err,
         &mut RealLink::new(rt),
         &mut RealSpawner::new(rt.alloc(), rt),
-    )
+    );
+    // A write that fails only now ends the program as any other does.
+    match finish_both(&mut out, &mut err, b"sink\n") {
+        Written::Ok => status,
+        Written::Failed => 7,
+    }
+}
+
+// How many bytes of standard output are gathered. Nobody waits for a line of these commands before the last; for one of nodes somebody may.
+fn room_for(words: &[String]) -> usize {
+    match words.first() {
+        Some(word) => match word.as_str() {
+            "check" | "gen" | "print" | "replay" => ROOM,
+            _ => 0,
+        },
+        None => 0,
+    }
 }

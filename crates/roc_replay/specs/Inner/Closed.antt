@@ -2,7 +2,7 @@
 use Rattle.std.specs.Prelude.{◌≡◌, ℕ, nat_lt, Bool, false, List, Option}
 use Rattle.roc_io.specs.Observed.{Adds, AddsFront}
 use Rattle.roc_program.specs.Program.{Workload}
-use Rattle.roc_protocol.specs.World.{World}
+use Rattle.roc_views.specs.World.{World}
 use Rattle.roc_protocol.specs.declared.event.Event.{Event}
 use Rattle.roc_protocol.specs.declared.event.Event.TheVariants as event
 use Rattle.roc_report.specs.Line.{End}

@@ -1,12 +1,13 @@
 -- What comes of an event at one of many nodes
-use Rattle.std.specs.Prelude.{◌≡◌, ◌++◌, ℕ, ℤ, List, Some, Result, slice_get, slice_set}
+use Rattle.std.specs.Prelude.{◌≡◌, ℕ, ℤ, List, Some, Result, map, slice_get, slice_set}
 use Rattle.roc_base.specs.declared.id.TxnId.{TxnId}
 use Rattle.roc_msg.specs.declared.msg.Msg.{Msg}
 use Rattle.roc_msg.specs.Outbox.{Collected, HasSent}
 use Rattle.roc_plan.specs.Groups.{Plan}
 use Rattle.roc_server.specs.declared.handled.Handled.{Handled as ServerHandled}
-use Rattle.roc_server.specs.State.{ServerState, ServerStep}
-use Rattle.roc_server.specs.Step.{Handles, tick_sends as server_sends}
+use Rattle.roc_server.specs.Reads.{AnswersReads, ReadStep}
+use Rattle.roc_server.specs.State.{ServerState, ServerStep, Viewing}
+use Rattle.roc_server.specs.Step.{Handles, Shows, tick_sends as server_sends}
 use Rattle.roc_coord.specs.declared.handled.Handled.{Handled as CoordHandled}
 use Rattle.roc_coord.specs.declared.handled.SubmitFault.{SubmitFault}
 use Rattle.roc_coord.specs.State.{CoordState}
@@ -14,21 +15,27 @@ use Rattle.roc_coord.specs.Step.{after_message, IsOutcome}
 use Rattle.roc_coord.specs.Submit.{after_submit, IsSubmitted}
 use Rattle.roc_coord.specs.Tick.{tick_sends as coord_sends}
 
--- r is what was answered, what is kept, and what was added to an outbox: nothing came of it for reads
-pub record ShowsStep (r : ServerStep) (answer : ServerHandled) (state : ServerState) (before after : Collected) : Type 0 where
-  pub answers : r.answer ≡ answer
-  pub keeps : r.state ≡ state
-  pub sends : after.messages ≡ before.messages ++ r.sends
-  pub decides : after.decided ≡ before.decided ++ r.decided
+-- a server that makes nothing ahead: what it keeps, and what of it for views
+pub record Idle : Type 0 where
+  pub state : ServerState
+  pub viewing : Viewing
+
+abbrev pub states_of : List Idle → List ServerState
+states_of servers = map (λ s. s.state) servers
+
+abbrev pub viewings_of : List Idle → List Viewing
+viewings_of servers = map (λ s. s.viewing) servers
 
 -- the server of a shard took a message, and no other changed
-pub record ServerTakes (plan : Plan) (shard : ℕ) (msg : Msg) (answer : ServerHandled) (old new : List ServerState) (before after : Collected) : Type 0 where
-  pub server : ServerState
+pub record ServerTakes (plan : Plan) (shard : ℕ) (msg : Msg) (answer : ServerHandled) (old new : List Idle) (before after : Collected) : Type 0 where
+  pub server : Idle
   pub there : slice_get old shard ≡ Some server
   pub step : ServerStep
-  pub handles : Handles plan server msg step
-  pub shows : ShowsStep step answer step.state before after
-  pub others : new ≡ slice_set old shard step.state
+  pub handles : Handles plan server.state msg step
+  pub reads : ReadStep
+  pub answers_reads : AnswersReads plan server.viewing msg step reads
+  pub shows : Shows step reads answer step.state reads.viewing before after
+  pub others : new ≡ slice_set old shard (record { state = step.state; viewing = reads.viewing })
 
 -- a coordinator took a message, and no other changed
 pub record CoordTakes (plan : Plan) (number : ℕ) (msg : Msg) (answer : CoordHandled) (old new : List CoordState) (before after : Collected) : Type 0 where
@@ -37,7 +44,7 @@ pub record CoordTakes (plan : Plan) (number : ℕ) (msg : Msg) (answer : CoordHa
   pub outcome : IsOutcome (after_message plan coord msg) answer (after_message plan coord msg).state before after
   pub others : new ≡ slice_set old number (after_message plan coord msg).state
 
--- a transaction was submitted at a coordinator, and no other changed
+-- a transaction or a view was submitted at a coordinator, and no other changed
 pub record CoordSubmits (plan : Plan) (number proc : ℕ) (args : List ℤ) (answer : Result TxnId SubmitFault) (old new : List CoordState) (before after : Collected) : Type 0 where
   pub coord : CoordState
   pub there : slice_get old number ≡ Some coord
@@ -45,10 +52,10 @@ pub record CoordSubmits (plan : Plan) (number proc : ℕ) (args : List ℤ) (ans
   pub others : new ≡ slice_set old number (after_submit plan coord proc args).state
 
 -- a tick of a server, which is written again as it was
-pub record ServerTicks (shard : ℕ) (old new : List ServerState) (before after : Collected) : Type 0 where
-  pub server : ServerState
+pub record ServerTicks (shard : ℕ) (old new : List Idle) (before after : Collected) : Type 0 where
+  pub server : Idle
   pub there : slice_get old shard ≡ Some server
-  pub sent : HasSent before after (server_sends server)
+  pub sent : HasSent before after (server_sends server.state)
   pub others : new ≡ slice_set old shard server
 
 -- a tick of a coordinator, likewise

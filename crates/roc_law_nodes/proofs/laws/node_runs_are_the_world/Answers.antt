@@ -1,5 +1,6 @@
-use Rattle.std.proofs.Common.{ap}
+use Rattle.std.proofs.Common.{Some, ap, sym, ◌∙◌}
 use Rattle.std.specs.Prelude.{filter}
+use Rattle.roc_server.specs.State.{Viewing}
 use Rattle.roc_law_nodes.specs.Turns.{is_for_core}
 use Rattle.roc_law_nodes.proofs.WorldFolds.{server_fold, coord_fold}
 use Rattle.roc_law_nodes.proofs.OneFold.{one_server_fold, one_coord_fold}
@@ -13,7 +14,7 @@ returns-clause-servers c S coords steps w run shard s there events n ran are =
     let world = server_fold S.plan coords run shard s there in
     let one = one_server_fold S.plan (c.step_is_one.ensures S.plan) (c.read_step_is_one.ensures S.plan) shard (run_folds S shard ran) (without_stops S.plan shard world.2)
     (ap (filter is_for_core) (turns_of c.spelled_is_read.ensures S.header.tag are)) in
-    (one.0, one.2)
+    (one.0, world.1 ∙ ap (λ (v : Viewing). Some v) (sym one.1), one.2)
 
 pub returns-clause-coords : goal.returns-clause-coords
 returns-clause-coords c S coords steps w run number d there requests events n ran same =

@@ -3,11 +3,9 @@ use Rattle.roc_plan.specs.Accepted.{IsAccepted}
 use Rattle.roc_plan.specs.Groups.{Plan, shard_of}
 use Rattle.roc_whole.specs.Serial.{serial_store, start_store}
 use Rattle.roc_audit.specs.Witness.{submitted_calls}
-use Rattle.roc_protocol.specs.Beginnings.{first_beginning}
-use Rattle.roc_protocol.proofs.Firsts.{run_from}
-use Rattle.roc_protocol.proofs.PlainRuns.{run_plainly}
+use Rattle.roc_views.specs.Witness.{witness_of}
 use Rattle.roc_replay.proofs.ShownCells.{shown_cells, all_answered}
-use Rattle.roc_replay.proofs.Shows.{explained}
+use Rattle.roc_replay.proofs.Shows.{explained, quiet_answered}
 use Rattle.roc_replay.proofs.IgnoredLines.{report_stale}
 use Rattle.roc_replay.proofs.laws.report_explains_itself.Goals as goal
 
@@ -19,21 +17,23 @@ placed plan ok (negsuc a) = below plan.program.shards (a % plan.program.shards) 
     below : (n r : ℕ) → 0 < n → n - 1 - r < n
     below n r l = omega (arith, l)
 
-pub returns : goal.returns
-returns c plan coords steps w accepted run =
-    let schemes = c.accepted_plans_have_schemes.ensures plan accepted in
-    explained plan coords steps w (c.order_is_serial.ensures plan coords steps w accepted run) (c.quiet_is_answered.ensures.answered plan coords steps w accepted run)
+pub returns-clause-explained : goal.returns-clause-explained
+returns-clause-explained c plan coords steps w accepted run =
+    let answered = all_answered steps w in
+    explained plan coords steps w (c.witness_is_serial.ensures plan coords steps w accepted run) (c.quiet_transactions_are_answered.ensures.answered plan coords steps w accepted run)
     (λ none.
     shown_cells plan w
     (c.cells_are_in_their_place.ensures.servers plan coords steps w run)
     (placed plan accepted)
-    (c.cells_are_in_their_place.ensures.apart plan coords steps w schemes run)
+    (c.cells_are_in_their_place.ensures.apart plan coords steps w accepted run)
     c.entries_are_not_zero.ensures.exactly
-    (serial_store plan.program (start_store plan.program) (submitted_calls w.history w.order))
-    (c.cells_are_serial.ensures plan coords steps w accepted run (all_answered steps w none
-    (λ n s there. ((run_plainly plan (first_beginning plan) coords steps w (run_from plan coords steps w run)).coords n s there).unanswered)
-    (c.submissions_are_kept.ensures.submitted plan coords steps w schemes run)))
+    (serial_store plan.program (start_store plan.program) (submitted_calls w.history (witness_of w)))
+    (c.cells_are_serial.ensures plan coords steps w accepted run (λ t proc args h plain. answered none (c.submissions_are_kept.ensures.submitted plan coords steps w accepted run) t (proc, args, h)))
     steps)
     (c.ids_are_told_once.ensures plan coords steps w accepted run)
     (report_stale plan coords (λ before old reached. c.nothing_is_refused.ensures.coordinators plan coords before old accepted reached) steps w run)
     run
+
+pub returns-clause-answers : goal.returns-clause-answers
+returns-clause-answers c plan coords steps w accepted run =
+    quiet_answered plan coords steps w (c.quiet_transactions_are_answered.ensures.answered plan coords steps w accepted run) (c.quiet_views_are_answered.ensures plan coords steps w accepted run) run

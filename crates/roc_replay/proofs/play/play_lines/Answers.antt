@@ -40,7 +40,8 @@ loop-line-preserved g c = (
 pub returns-clause-ends : goal.returns-clause-ends
 returns-clause-ends g c schedule of =
     let is_closed : Workload → Type 0 = λ program. IsClosed program c.loop-line.world c.loop-line.busy c.close.result (g.S.Sink.taken c.loop-line.sink) (g.S.Sink.taken c.close.new.sink) in
-    closed_end c.args.plan.now schedule c.args.lines.now of (λ coords steps w run. c.report_explains_itself.ensures c.args.plan.now coords steps w c.workload.ensures.accepted run)
+    closed_end c.args.plan.now schedule c.args.lines.now of (λ coords steps w run. c.report_explains_itself.ensures.explained c.args.plan.now coords steps w c.workload.ensures.accepted run)
+    (λ coords steps w run. c.report_explains_itself.ensures.answers c.args.plan.now coords steps w c.workload.ensures.accepted run)
     (λ coords steps w run. c.lines_name_parts.ensures c.args.plan.now coords steps w c.workload.ensures.accepted run) c.loop-line.world c.loop-line.busy _ _ _
     (subst (λ (lines : List BoundLine). IsSoFar c.args.plan.now lines c.loop-line.world c.loop-line.busy (g.S.Sink.taken c.args.sink.now) (g.S.Sink.taken c.loop-line.sink)) (front_whole c.args.lines.now c.loop-line.line-index c.loop-line-test.false) c.loop-line.invariant.1)
     c.close.result (subst is_closed c.workload.ensures.program c.close.ensures.closed)

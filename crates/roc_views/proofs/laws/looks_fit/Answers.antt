@@ -1,8 +1,10 @@
-use Rattle.std.proofs.Common.{◌≡◌, ℕ, ◌<◌, true, [], sym, subst, length}
+use Rattle.std.proofs.Common.{◌≡◌, ℕ, ◌<◌, true, [], sym, subst, length, inl, inr}
 use Rattle.roc_sequence.proofs.Holds.{all_at}
 use Rattle.roc_program.specs.LookUps.{no_procedure}
 use Rattle.roc_program.specs.WellFormed.{IsProcedure}
 use Rattle.roc_program.proofs.Views.{view_there}
+use Rattle.roc_base.specs.declared.id.TxnId.{TxnId}
+use Rattle.roc_whole.specs.Serial as whole
 use Rattle.roc_whole.specs.Serial.{start_store}
 use Rattle.roc_group.specs.GroupRun.{call}
 use Rattle.roc_plan.specs.Groups.{groups_of, is_view_of}
@@ -10,19 +12,24 @@ use Rattle.roc_law_log.specs.Scheme.{Scheme, IsSoundScheme}
 use Rattle.roc_protocol.specs.PlanAssumptions.{HasSchemes}
 use Rattle.roc_protocol.specs.Inner.Given.{LogLaws, SerialLaws, StoreLaws}
 use Rattle.roc_law_log.proofs.Following.{AreFound}
+use Rattle.roc_audit.specs.Witness.{IsSerialWitness}
+use Rattle.roc_audit.specs.Woven.{without_views}
+use Rattle.roc_protocol.proofs.Serial.{call_in}
+use Rattle.roc_protocol.proofs.Transactions.{transaction_or_none}
 use Rattle.roc_views.proofs.Readings.{ViewLaws, AreSteady}
 use Rattle.roc_views.proofs.WholeViews.{ViewParts}
-use Rattle.roc_views.proofs.WovenOrder.{is_view, tells_them, leave, alone, looks_fit, few_behind}
+use Rattle.roc_views.proofs.WovenOrder.{is_view, tells_them, run_beside, leave, alone, LooksFit, IsCalled, transactions_called, looks_fit}
+use Rattle.roc_views.proofs.ViewsAlone.{next_call, view_or_none, views_called, nothing_fits}
 use Rattle.roc_views.proofs.laws.looks_fit.Goals as goal
 
 pub returns : goal.returns
-returns c plan coords steps w accepted writer known run = (
+returns c plan coords steps w accepted run = (
   is_view plan coords steps w run,
   tells_them plan coords steps w run,
   leave plan coords steps w run accepted,
-  alone plan coords steps w run schemes laws serials stores,
-  looks_fit plan coords steps w run schemes laws serials stores accepted (writer, known) found steady parts view_laws some_group,
-  few_behind plan coords steps w run schemes laws serials stores accepted (writer, known) found steady parts view_laws some_group,
+  base,
+  fit.0,
+  fit.1,
 )
   where
     schemes : HasSchemes plan
@@ -67,3 +74,18 @@ returns c plan coords steps w accepted writer known run = (
           placed = λ p group args s viewed. c.cells_are_at_the_place.ensures plan (call p group args []) s accepted (view_there plan.program p viewed);
           same = c.runs_follow_from_cells.ensures.same plan;
         }
+
+    base : IsSerialWitness plan.program (without_views (is_view plan coords steps w run) w.history) w.order
+    base = alone plan coords steps w run schemes laws serials stores
+
+    fits : (asked : TxnId → whole.Call) (S : Scheme) → IsCalled plan coords steps w run asked S → LooksFit plan coords steps w run
+    fits asked S called = looks_fit plan coords steps w run laws stores accepted asked S called (found S) (steady S called.sound) parts view_laws some_group
+
+    fit : LooksFit plan coords steps w run
+    fit = elim (transaction_or_none plan) [
+      | inl some ↦ fits (call_in some.0 (run_beside plan coords steps w run).world) (schemes.scheme (call_in some.0 (run_beside plan coords steps w run).world)) (transactions_called plan coords steps w run schemes some)
+      | inr none ↦ elim (view_or_none plan coords steps w run none base) [
+        | inl p ↦ (let s = c.views_have_schemes.ensures plan (next_call p.0) accepted (λ t. p.1) in fits (next_call p.0) s.0 (views_called plan coords steps w run none base p.0 s.0 s.1 s.2))
+        | inr untold ↦ nothing_fits plan coords steps w run none base untold
+      ]
+    ]

@@ -1,4 +1,4 @@
-use Rattle.std.proofs.Common.{◌-◌, arith}
+use Rattle.std.proofs.Common.{◌-◌, refl, arith}
 use Rattle.std.proofs.lemmas.Result.{IfOk-weaker}
 use Rattle.roc_world.specs.Inner.Parts.{world_of}
 use Rattle.roc_world.proofs.Events.{read_there, server_comes, coord_comes}
@@ -11,8 +11,8 @@ returns-in-Ok c =
     let known = c.requires.event.1 in
     let m = c.index-sent-number.result in
     IfOk-weaker c.note_at_server.result _ _ (λ what h.
-    server_comes c.args.plan.now w c.args.number m some (read_there w.sent c.sent.result.now (c.args.number - 1) m (omega arith) c.sent.ensures c.index-sent-number.is) c.in-Server.shard c.in-Server.is c.in-Ok.handled what
-    c.handle_at_server.new.servers.items c.note_delivery.new.self c.new-outbox.result c.handle_at_server.new.outbox (world_of c.note_at_server.new.parts) c.new-outbox.ensures.messages c.new-outbox.ensures.decided c.in-Ok.ensures h.0 c.note_delivery.ensures h.1)
+    server_comes c.args.plan.now w c.args.number m some (read_there w.sent c.sent.result.now (c.args.number - 1) m (omega arith) c.sent.ensures c.index-sent-number.is) c.args.parts.now.servers.items c.handle_at_server.new.servers.items refl refl c.in-Server.shard c.in-Server.is c.in-Ok.handled what
+    c.note_delivery.new.self c.new-outbox.result c.handle_at_server.new.outbox (world_of c.note_at_server.new.parts) c.new-outbox.ensures.messages c.new-outbox.ensures.decided c.in-Ok.ensures h.0 c.note_delivery.ensures h.1)
     c.note_at_server.ensures
 
 pub returns-in-Ok-handle_at_coord : goal.returns-in-Ok-handle_at_coord
