@@ -1,5 +1,5 @@
 -- The union by id: it rises, it has at each id what all entries say, and it depends on that alone
-use Rattle.std.proofs.Common.{◌≡◌, ◌≤◌, suc, Bool, true, false, cond, ◌||◌, List, [], ◌∷◌, length, Some, refl, sym, ap, subst, ◌∙◌, arith}
+use Rattle.std.proofs.Common.{◌≡◌, ◌≤◌, suc, Bool, true, false, cond, ◌||◌, List, [], ◌∷◌, filter, length, Some, refl, sym, ap, subst, ◌∙◌, arith}
 use Rattle.std.proofs.lemmas.Bool.{false≢true, true≢false}
 use Rattle.std.specs.List.{AllByRecursion}
 use Rattle.roc_base.specs.declared.id.TxnId.{TxnId}
@@ -10,6 +10,9 @@ use Rattle.roc_base.specs.Edge.{Dependency, HasTag, joined}
 use Rattle.roc_base.specs.Edges.{comes_before, IsEdgeList, entry_at, all_of, joined_with, unite_one, united}
 use Rattle.roc_base.proofs.Rising.{below-chain, entry_at-below, all_of-rising, same_rising, IsBelowAll}
 use Rattle.roc_sequence.specs.Rising.{IsRising}
+use Rattle.roc_sequence.proofs.Holds.{all_has, has_all}
+use Rattle.roc_sequence.proofs.Members.{from_has_filter}
+use Rattle.roc_sequence.proofs.Rising.{rising_filter}
 
 -- what holds of an entry and of a list, and of what is joined, holds of the list with that entry
 pub AllByRecursion-unite_one : (Q : Dependency → Type 0) → ((a b : Dependency) → a.from ≡ b.from → Q a → Q b → Q (joined a b)) → (e : Dependency) (xs : List Dependency) → Q e → AllByRecursion Q xs → AllByRecursion Q (unite_one e xs)
@@ -53,6 +56,13 @@ IsEdgeList-unite_one e xs h l = record { rising = IsRising-unite_one e xs l.risi
 
 pub IsEdgeList-united : (es : List Dependency) → AllByRecursion HasTag es → IsEdgeList (united es)
 IsEdgeList-united es h = record { rising = IsRising-united es; tagged = AllByRecursion-united HasTag joined-tagged es h }
+
+-- some of a list of entries are one
+pub IsEdgeList-filter : (p : Dependency → Bool) (es : List Dependency) → IsEdgeList es → IsEdgeList (filter p es)
+IsEdgeList-filter p es l = record {
+  rising = rising_filter comes_before p es l.rising;
+  tagged = has_all HasTag (filter p es) (λ a h. all_has HasTag a es l.tagged (from_has_filter p a es h).0);
+}
 
 -- what is found at an id once an entry is added
 pub entry_at-unite_one : (id : TxnId) (e : Dependency) (xs : List Dependency) → IsRising comes_before xs → entry_at id (unite_one e xs) ≡ cond (is_txn e.from id) (Some (joined_with e (entry_at id xs))) (entry_at id xs)

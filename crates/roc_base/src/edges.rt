@@ -1,12 +1,14 @@
 //! Lists of predecessors, united by id.
-ghost use Rattle.std.specs.Prelude.{◌≡◌, ◌≤◌, ◌<◌, ◌+◌, ◌++◌, ◌↔◌, ◌==◌, [], length, vec_len, IsTrue, IfOk, IfErr, OnOk, OnErr};
+ghost use Rattle.std.specs.Prelude.{◌≡◌, ◌≤◌, ◌<◌, ◌+◌, ◌++◌, ◌↔◌, ◌==◌, [], filter, length, not, vec_len, IsTrue, IfOk, IfErr, OnOk, OnErr};
 ghost use Rattle.std.specs.Vec.{vec_capacity};
 ghost use Rattle.roc_base.specs.declared.id.TxnId.{TxnId};
+ghost use Rattle.roc_base.specs.TxnId.{is_txn};
+ghost use Rattle.roc_sequence.specs.Places.{is_listed};
 ghost use Rattle.roc_base.specs.Edges.{IsEdgeList, comes_before, entry_at, all_of, unite_one, united};
 ghost use Rattle.roc_sequence.specs.Rising.{IsRising};
 ghost use Rattle.roc_base.specs.Inner.Place.{IsAt, IsGapFor};
 
-use crate::{Edge, NoMemory, TxnId};
+use crate::{Edge, NoMemory, TxnId, is_among};
 use std::alloc::{AllocError, Global};
 use std::marker::Model;
 
@@ -85,6 +87,13 @@ impl Edges {
         }
         Ok(())
     }
+
+    /// Leaves out the entries of these ids, which should be few: each entry is compared with all of them. Takes no memory.
+    pub fn leave_out(&mut self, ids: &[TxnId])
+        ensures { self.new ≡ filter (λ d. not (is_listed is_txn ids.now d.from)) self.old }
+    {
+        leave_out(&mut self.entries, ids);
+    }
 }
 
 /// A copy is on the same allocator, and is the same list.
@@ -94,9 +103,10 @@ impl Clone for Edges {
     ghost is_clone = { λ from copy. copy ≡ from };
 
     fn clone(&self) -> Result<Edges, AllocError> {
-        Ok(Edges {
-            entries: self.entries.clone()?,
-        })
+        // All at once: entries are of plain numbers, so none has to be copied by itself.
+        let mut entries = Vec::with_capacity(*self.entries.allocator(), self.entries.len())?;
+        entries.extend_from_slice(&self.entries)?;
+        Ok(Edges { entries })
     }
 }
 
@@ -151,4 +161,13 @@ fn put(edges: &mut Vec<Edge>, edge: Edge)
         Ok(at) => edges[at] = edge.joined(edges[at]),
         Err(at) => edges.insert(at, edge).unwrap(),
     }
+}
+
+// The entries of other ids than these stay.
+fn leave_out(edges: &mut Vec<Edge>, ids: &[TxnId])
+    requires { IsEdgeList edges.old.items }
+    ensures items { edges.new.items ≡ filter (λ d. not (is_listed is_txn ids.now d.from)) edges.old.items }
+    ensures list { IsEdgeList edges.new.items }
+{
+    edges.retain(|edge| !is_among(ids, edge.from()));
 }

@@ -99,9 +99,9 @@ impl Clone for Nums {
     ghost is_clone = { λ from copy. copy ≡ from };
 
     fn clone(&self) -> Result<Nums, AllocError> {
-        Ok(Nums {
-            items: self.items.clone()?,
-        })
+        let mut items = Vec::with_capacity(*self.items.allocator(), self.items.len())?;
+        items.extend_from_slice(&self.items)?;
+        Ok(Nums { items })
     }
 }
 
