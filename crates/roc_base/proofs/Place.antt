@@ -1,5 +1,5 @@
 -- Where an id stands in a rising list, and what is written there
-use Rattle.std.proofs.Common.{◌≡◌, ℕ, zero, suc, ◌<◌, ◌≤◌, Bool, true, false, cond, List, [], ◌∷◌, length, get_or, not, set, Some, None, refl, sym, ap, subst, ◌∙◌, arith}
+use Rattle.std.proofs.Common.{◌≡◌, ℕ, zero, suc, ◌<◌, ◌≤◌, ◌-◌, Bool, true, false, cond, List, [], ◌∷◌, length, get_or, not, set, Some, None, refl, sym, ap, subst, ◌∙◌, arith}
 use Rattle.std.specs.Prelude.{insert}
 use Rattle.std.specs.List.Sorted.{IsPartitionedBy, IsPartitionPoint}
 use Rattle.roc_base.specs.declared.id.TxnId.{TxnId}
@@ -131,3 +131,10 @@ entry_place-partition id (e ∷ es) zero l h = sym (ap (λ s. cond (not s) 0 (su
 entry_place-partition id (e ∷ es) (suc i) l h =
     ap suc (entry_place-partition id es i (omega arith) (λ k d m n. h.0 (suc k) d (omega arith) (omega arith), λ k d m n. h.1 (suc k) d (omega arith) (omega arith)))
     ∙ sym (ap (λ s. cond (not s) 0 (suc (entry_place id es))) (h.0 0 e (omega arith) (omega arith)))
+
+-- where the last entry comes before an id, all do
+pub entry_place-end : (id : TxnId) (x : Dependency) (es : List Dependency) → IsRising comes_before es → 0 < length es → x ≡ get_or es (length es - 1) x → txn_lt x.from id ≡ true → length es ≡ entry_place id es
+entry_place-end id x es r some is before =
+    let last : (d : Dependency) → txn_lt (get_or es (length es - 1) d).from id ≡ true = λ d. subst (λ z. txn_lt z.from id ≡ true) (is ∙ get_or-any es (length es - 1) x d (omega arith)) before in
+    entry_place-partition id es (length es) (omega arith)
+    (λ k d m n. IsPartitionedBy-rising id es r k (length es - 1) d (omega arith) (omega arith) (last d), λ k d m n. absurd (omega arith))

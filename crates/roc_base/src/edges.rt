@@ -6,7 +6,7 @@ ghost use Rattle.roc_base.specs.TxnId.{is_txn};
 ghost use Rattle.roc_sequence.specs.Places.{is_listed};
 ghost use Rattle.roc_base.specs.Edges.{IsEdgeList, comes_before, entry_at, all_of, unite_one, united};
 ghost use Rattle.roc_sequence.specs.Rising.{IsRising};
-ghost use Rattle.roc_base.specs.Inner.Place.{IsAt, IsGapFor};
+ghost use Rattle.roc_base.specs.Inner.Place.{entry_place, IsAt, IsGapFor};
 
 use crate::{Edge, NoMemory, TxnId, is_among};
 use std::alloc::{AllocError, Global};
@@ -140,12 +140,26 @@ fn place(edges: &[Edge], id: TxnId) -> Result<usize, usize>
     ensures found { IfOk result (IsAt id edges.now) }
     ensures absent { IfErr result (IsGapFor id edges.now) }
 {
-    let at = edges.partition_point(|edge| edge.from() < id);
+    let at = entry_place(edges, id);
     if at < edges.len() && edges[at].from() == id {
         Ok(at)
     } else {
         Err(at)
     }
+}
+
+// How many entries of a rising list come before an id.
+fn entry_place(edges: &[Edge], id: TxnId) -> usize
+    requires { IsRising comes_before edges.now }
+    ensures place { result ≡ entry_place id edges.now }
+    ensures bound { result ≤ length edges.now }
+{
+    // Entries mostly come in their order, so the end is looked at first.
+    let len = edges.len();
+    if len > 0 && edges[len - 1].from() < id {
+        return len;
+    }
+    edges.partition_point(|edge| edge.from() < id)
 }
 
 // Adds an edge to a rising list that has room for one more.

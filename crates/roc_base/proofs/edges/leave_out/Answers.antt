@@ -1,7 +1,6 @@
-use Rattle.std.proofs.Common.{◌≡◌, ◌∙◌, not, rules, sym, subst, filter}
+use Rattle.std.proofs.Common.{not, rules, sym, subst}
 use Rattle.std.proofs.lemmas.Fn.{filter_same}
 use Rattle.roc_sequence.specs.Places.{is_listed}
-use Rattle.roc_sequence.proofs.Rising.{rising_filter}
 use Rattle.roc_base.specs.TxnId.{is_txn}
 use Rattle.roc_base.specs.Edge.{Dependency}
 use Rattle.roc_base.specs.Edges.{IsEdgeList}
