@@ -1,5 +1,5 @@
 -- Lists by the ids that they are kept under
-use Rattle.std.proofs.Common.{◌≡◌, Bool, true, false, cond, not, List, [], ◌∷◌, filter, Some, None, refl, sym, ap, ◌∙◌, arith}
+use Rattle.std.proofs.Common.{◌≡◌, Bool, true, false, cond, not, List, [], ◌∷◌, filter, map, Some, None, refl, sym, ap, ◌∙◌, arith}
 use Rattle.std.proofs.lemmas.Bool.Decides.{nat_tests}
 use Rattle.std.proofs.lemmas.List.{map-append}
 use Rattle.std.specs.Map.{lookup, remove_entry}
@@ -59,3 +59,8 @@ known_by-remove_entry id (e ∷ es) none = go (is_txn id e.0) refl none (known_b
     go false h n ih =
         let rest : lookup (is_txn id) (remove_entry (is_txn id) es) ≡ None = ap (λ b. cond b (Some e.1) (lookup (is_txn id) (remove_entry (is_txn id) es))) (sym h) ∙ n in
         ap (λ ks. k ∷ ks) (ih rest) ∙ ap (λ b. cond (not b) (k ∷ left) left) (sym (is_txn-turned e.0 id ∙ h))
+
+-- entries are left out of each list
+pub known_by-left_out : (p : Dependency → Bool) (es : List (TxnId × List Dependency)) → known_by (map (λ e. (e.0, filter p e.1)) es) ≡ map (λ k. record { of = k.of; edges = filter p k.edges }) (known_by es)
+known_by-left_out p [] = refl
+known_by-left_out p (e ∷ es) = ap (λ ks. record { of = e.0; edges = filter p e.1 } ∷ ks) (known_by-left_out p es)

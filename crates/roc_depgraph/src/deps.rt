@@ -1,7 +1,8 @@
 //! The known lists, and what follows from them.
-ghost use Rattle.std.specs.Prelude.{◌≡◌, [], None, not, IfOk, OnOk, OnErr, filter};
+ghost use Rattle.std.specs.Prelude.{◌≡◌, [], None, not, true, map, IfOk, OnOk, OnErr, filter};
 ghost use Rattle.std.specs.Option.{option_copied};
 ghost use Rattle.roc_base.specs.TxnId.{is_txn};
+ghost use Rattle.roc_sequence.specs.Places.{is_listed};
 ghost use Rattle.roc_depgraph.specs.Closure.{IsClosure, IsRisingListOf};
 ghost use Rattle.roc_depgraph.specs.Deps.{list_of, is_known, IsKnown, Precedes};
 ghost use Rattle.roc_depgraph.specs.Learnt.{Learns};
@@ -75,6 +76,13 @@ impl Deps {
         self.lists.shift_remove(&id);
     }
 
+    /// Leaves out of each list the entries of these ids, which should be few. A list stays known where no entry is left. Takes no memory.
+    pub fn leave_out(&mut self, ids: &[TxnId])
+        ensures { self.new ≡ map (λ k. record { of = k.of; edges = filter (λ d. not (is_listed is_txn ids.now d.from)) k.edges }) self.old }
+    {
+        leave_out(&mut self.lists, ids);
+    }
+
     /// The transaction and its ancestors, where all their lists are known; else what is missing.
     /// `NoMemory` comes where there is none for what was found.
     pub fn closure(&self, id: TxnId) -> Result<Closure, NoMemory>
@@ -135,4 +143,18 @@ pub fn visit(
         }
     }
     Ok(())
+}
+
+// The entries of other ids stay, at each key.
+fn leave_out(lists: &mut IndexMap<TxnId, Edges>, ids: &[TxnId])
+    ensures { lists.new.entries ≡ map (λ e. (e.0, filter (λ d. not (is_listed is_txn ids.now d.from)) e.1)) lists.old.entries }
+{
+    lists.retain(
+        |_id: &TxnId, edges: &mut Edges| -> bool
+            ensures { (result ≡ true) × (edges.new ≡ filter (λ d. not (is_listed is_txn ids.exit.now d.from)) edges.old) }
+        {
+            edges.leave_out(ids);
+            true
+        },
+    );
 }
