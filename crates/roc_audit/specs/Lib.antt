@@ -2,3 +2,4 @@ pub mod History
 pub mod Order
 pub mod Witness
 pub mod Woven
+pub mod Inner
