@@ -8,9 +8,8 @@ use Rattle.roc_sequence.proofs.Members.{from_has_filter}
 use Rattle.roc_sequence.proofs.Ranges.{range_below}
 use Rattle.roc_program.specs.LookUps.{no_piece, no_procedure}
 use Rattle.roc_program.specs.Program.{Procedure, Expression}
-use Rattle.roc_program.specs.Values.{Environment, with_arguments, value}
+use Rattle.roc_program.specs.Values.{with_arguments, value}
 use Rattle.roc_program.specs.WellFormed.{IsProcedure}
-use Rattle.roc_program.proofs.ValueLaws.{value_same}
 use Rattle.roc_merge_groups.specs.Groups.{groups_in, group_at}
 use Rattle.roc_merge_groups.specs.Accepted.{IsAcceptedIn}
 use Rattle.roc_merge_groups.specs.Parts.{IsPart}
@@ -18,7 +17,7 @@ use Rattle.roc_merge_groups.proofs.Parts.{parts_of_grouping}
 use Rattle.roc_plan.specs.Groups.{Plan, no_group, pieces_at, inputs_in, environment_in, place_in, with_values, procedure_of, groups_of, group_of}
 use Rattle.roc_plan.specs.Accepted.{grouping_of, is_piece_immediate, IsAccepted}
 use Rattle.roc_plan.specs.Sized.{piece_at, IsSized}
-use Rattle.roc_plan.specs.Inner.Agreeing.{AgreeEverywhere}
+use Rattle.roc_plan.specs.Inner.Agreeing.{IsValueWith}
 use Rattle.roc_plan.proofs.Rows.{read_any}
 use Rattle.roc_plan.proofs.Sized.{sized}
 use Rattle.roc_plan.proofs.Values.{zeros_behind}
@@ -72,14 +71,12 @@ long_known p arguments is e =
 pub first_place : (p : Procedure) (group : List ℕ) → 0 < length group → get_or (pieces_at p group) 0 no_piece ≡ piece_at p (get_or group 0 0)
 first_place p group l = get_or-map (piece_at p) group 0 0 no_piece l
 
-pub placed : (p : Procedure) (group : List ℕ) (arguments inputs : List ℤ) (names : List ℕ) (env : Environment) (place : Expression) → IsSized p → length arguments ≡ p.arguments
-    → names ≡ inputs_in p group
-    → ((known : List ℤ) → AgreeEverywhere known arguments → AllByRecursion (λ n. n < length known) names → AgreeEverywhere env (with_values names inputs known))
-    → place ≡ (get_or (pieces_at p group) 0 no_piece).place → value place env ≡ place_in p group arguments inputs
-placed p group arguments inputs names env place is count e agree at =
+pub placed : (p : Procedure) (group : List ℕ) (arguments inputs : List ℤ) (names : List ℕ) (place : Expression) (v : ℤ) → IsSized p → length arguments ≡ p.arguments
+    → names ≡ inputs_in p group → IsValueWith place arguments names inputs v → place ≡ (get_or (pieces_at p group) 0 no_piece).place → v ≡ place_in p group arguments inputs
+placed p group arguments inputs names place v is count e gives at =
     let known = with_arguments p arguments in
     let within : AllByRecursion (λ n. n < length known) names =
     subst (λ (ns : List ℕ). AllByRecursion (λ n. n < length known) ns) (sym e)
     (all_weaker (λ n. n < p.names) (λ n. n < length known) (λ n l. omega (arith, l, long_known p arguments is count)) (inputs_in p group) (inputs_known p group is)) in
-    value_same place env (with_values names inputs known) (λ n used. agree known (λ n. zeros_behind arguments (p.names - length arguments) n) within n)
+    gives known (λ n. zeros_behind arguments (p.names - length arguments) n) within
     ∙ ap (λ ns. value place (with_values ns inputs known)) e ∙ ap (λ x. value x (environment_in p group arguments inputs)) at

@@ -7,7 +7,7 @@ ghost use Rattle.roc_plan.specs.Groups.{procedure_of, is_view_of, is_transaction
 ghost use Rattle.roc_plan.specs.Accepted.{IsAccepted};
 ghost use Rattle.roc_plan.specs.Outlines.{outlined_plan, row_of, AreOutlines};
 
-use crate::place::names_with;
+use crate::place::value_with;
 use crate::{Class, Input, Known, Outline};
 use roc_base::Shard;
 use roc_program::{Procedure, Workload, is_view};
@@ -168,14 +168,14 @@ impl Plan {
         ensures { result ≡ group_place self.now proc group known.now.args known.now.inputs }
     {
         let outline = outline_at(&self.outlines, proc, group);
-        let names = names_with(
+        let first = outline.pieces[0];
+        let procedure = &self.workload.procedures()[usize::from(proc)];
+        value_with(
+            &procedure.pieces[usize::from(first)].place,
             known.args.as_slice(),
             &outline.names,
             known.inputs.as_slice(),
-        );
-        let first = outline.pieces[0];
-        let procedure = &self.workload.procedures()[usize::from(proc)];
-        procedure.pieces[usize::from(first)].place.value(&names)
+        )
     }
 
     /// The shard that keeps the rows of a place: the place modulo the number of shards.

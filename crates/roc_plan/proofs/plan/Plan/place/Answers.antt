@@ -9,7 +9,7 @@ use Rattle.roc_program.specs.LookUps.{no_piece}
 use Rattle.roc_program.specs.Parts as view
 use Rattle.roc_program.proofs.Rows.{row_length, read-map}
 use Rattle.roc_merge_groups.specs.Parts.{IsPart}
-use Rattle.roc_plan.specs.Groups.{Group, Plan, no_group, inputs_in, procedure_of, groups_of, group_of, group_place, place_in}
+use Rattle.roc_plan.specs.Groups.{Group, Plan, no_group, source_in, inputs_in, inputs_of, procedure_of, groups_of, group_of, group_place, place_in}
 use Rattle.roc_plan.specs.Sized.{piece_at, IsSized}
 use Rattle.roc_plan.specs.Inner.Outlines.{plan, IsOutlined}
 use Rattle.roc_plan.specs.Outlines.{group}
@@ -48,13 +48,21 @@ first_read : (pieces items : List ℕ) (k at : ℕ) → pieces ≡ items → k �
 first_read pieces [] k at e f g l = absurd (omega (arith, l, ap length e))
 first_read pieces (x ∷ xs) k at e f g l = g ∙ f ∙ ap (λ (ps : List ℕ). get_or ps 0 0) (sym e)
 
-pub names_with-names-requires-clause-known : goal.names_with-names-requires-clause-known
-names_with-names-requires-clause-known c =
+pub value_with-requires-clause-known : goal.value_with-requires-clause-known
+value_with-requires-clause-known c =
     let here = is_here c.self.inside c.args.self.now c.args.proc c.args.group c.outline_at-outline.result.now c.self.invariant c.self.view_is c.outline_at-outline.ensures c.requires.exists in
     let p = procedure_of (plan c.self.inside) c.args.proc in
     let pieces = (group_of (plan c.self.inside) c.args.proc c.args.group).pieces in
     let P : List ℕ → Type 0 = λ ns. AllByRecursion (λ n. n < 1032) ns in
     subst P (sym (c.deref.ensures.value ∙ here.names)) (all_weaker (λ n. n < p.names) (λ n. n < 1032) (λ n l. omega (arith, l, here.sized.few_names)) (inputs_in p pieces) (inputs_known p pieces here.sized))
+
+pub value_with-requires-clause-values : goal.value_with-requires-clause-values
+value_with-requires-clause-values c =
+    let here = is_here c.self.inside c.args.self.now c.args.proc c.args.group c.outline_at-outline.result.now c.self.invariant c.self.view_is c.outline_at-outline.ensures c.requires.exists in
+    let p = procedure_of (plan c.self.inside) c.args.proc in
+    let names = inputs_in p (group_of (plan c.self.inside) c.args.proc c.args.group).pieces in
+    ap length c.as_slice-2.ensures ∙ c.requires.inputs ∙ ap (λ q. length (inputs_of q c.args.proc c.args.group)) (sym c.self.view_is)
+    ∙ length-map names (source_in p (groups_of (plan c.self.inside) c.args.proc)) ∙ sym (ap length (c.deref.ensures.value ∙ here.names))
 
 pub index-first-requires : goal.index-first-requires
 index-first-requires c =
@@ -82,10 +90,10 @@ returns c =
     omega (arith, first, below, ap (λ q. length q.pieces) procedure, length-map c.index-procedures-from.result.pieces.items view.piece) in
     let read : piece_at p (get_or pieces 0 0) ≡ view.piece c.index.result.now =
     ap (λ k. piece_at p k) (sym first) ∙ ap (λ q. piece_at q c.from-2.result) procedure ∙ read-map view.piece c.index-procedures-from.result.pieces.items c.from-2.result c.index.result.now no_piece within c.index.ensures in
-    let fits : FitsSigned w64 c.value.result = search rules in
-    to_z-of_z w64 c.value.result fits ∙ c.value.ensures
-    ∙ placed p pieces c.as_slice.result.now c.as_slice-2.result.now c.deref.result.now c.names_with-names.result (view.expression c.index.result.now.place) here.sized
-    (ap length c.as_slice.ensures ∙ c.requires.args ∙ ap (λ q. (procedure_of q c.args.proc).arguments) (sym c.self.view_is)) (c.deref.ensures.value ∙ here.names) c.names_with-names.ensures
+    let fits : FitsSigned w64 c.value_with.result = search rules in
+    to_z-of_z w64 c.value_with.result fits
+    ∙ placed p pieces c.as_slice.result.now c.as_slice-2.result.now c.deref.result.now (view.expression c.index.result.now.place) c.value_with.result here.sized
+    (ap length c.as_slice.ensures ∙ c.requires.args ∙ ap (λ q. (procedure_of q c.args.proc).arguments) (sym c.self.view_is)) (c.deref.ensures.value ∙ here.names) c.value_with.ensures
     (ap (λ q. q.place) (sym read) ∙ ap (λ q. q.place) (sym (first_place p pieces here.part.some)))
     ∙ ap (λ xs. place_in p pieces xs c.as_slice-2.result.now) c.as_slice.ensures ∙ ap (λ xs. place_in p pieces c.args.known.now.args xs) c.as_slice-2.ensures
     ∙ ap (λ q. group_place q c.args.proc c.args.group c.args.known.now.args c.args.known.now.inputs) c.self.view_is
