@@ -27,3 +27,4 @@ pub mod OrderOf
 pub mod PartsOf
 pub mod OneTaken
 pub mod RisingParts
+pub mod OneMember

@@ -57,11 +57,16 @@ fn component_turn(alloc: Global, lists: &Deps, ids: &[TxnId], key: TxnId) -> Res
 }
 
 // The members of a component in order: the least of those whose immediate predecessors there were
-// taken, or else the least.
+// taken, or else the least. Most components have one member, which waits for nothing.
 fn inside(alloc: Global, lists: &Deps, ids: &[TxnId]) -> Result<Vec<TxnId>, NoMemory>
     requires { IsStrictlySortedBy txn_cmp ids.now }
     ensures { IfOk result (λ order. IsInside lists.now ids.now order.items) }
 {
+    if ids.len() < 2 {
+        let mut order = Vec::new(alloc);
+        order.extend_from_slice(ids)?;
+        return Ok(order);
+    }
     let turns = member_turns(alloc, lists, ids)?;
     let AllTaken { order, parts: _ } = take_all(alloc, turns)?;
     Ok(order)
