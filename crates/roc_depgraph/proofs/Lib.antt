@@ -8,3 +8,5 @@ pub mod RisingLists
 pub mod Searched
 pub mod RisingIds
 pub mod Entries
+pub mod Marked
+pub mod Finding

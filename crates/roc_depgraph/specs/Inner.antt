@@ -1,2 +1,3 @@
 -- What stands here is of private parts alone
 pub mod Entries
+pub mod Chunks

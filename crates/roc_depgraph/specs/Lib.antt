@@ -3,4 +3,5 @@ pub mod Deps
 pub mod Learnt
 pub mod Closure
 pub mod Visits
+pub mod Finds
 pub mod Inner

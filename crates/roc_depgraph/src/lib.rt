@@ -2,21 +2,24 @@
 //! decided by them. Contracts see a [`Deps`] as the list of known lists (`specs/Deps.antt`); chains of edges are the
 //! least relation of `specs/Reach.antt`.
 //!
-//! The layers above may rely on this: a list once known never changes, and [`Deps::learn`] tells an unlike list apart
-//! from an equal one (`specs/Learnt.antt`); [`Deps::undo`] takes a list back, without memory; [`Deps::closure`] answers
-//! `Whole` exactly if a transaction is decided, with it and all its ancestors, and else exactly what is reached and
-//! unknown (`specs/Closure.antt`). A [`KnownList`] is also what travels along with messages. [`is_among_rising`] is
-//! membership in a list that rises.
+//! The layers above may rely on this: no list that is learnt changes one that is known, and [`Deps::learn`] tells an
+//! unlike list apart from an equal one (`specs/Learnt.antt`); [`Deps::undo`] takes a list back, and [`Deps::leave_out`]
+//! takes entries out of all lists, both without memory; [`Deps::closure`] answers `Whole` exactly if a transaction is
+//! decided, with it and all its ancestors, and else exactly what is reached and unknown (`specs/Closure.antt`). A
+//! [`KnownList`] is also what travels along with messages. [`is_among_rising`] is membership in a list that rises. An
+//! [`IdSet`] has what a search has found, and [`visit_ids`] puts more in it (`specs/Finds.antt`).
 #![tactic(auto)]
 
 mod among;
 mod closure;
 mod deps;
+mod id_set;
 mod known;
 mod learnt;
 
 pub use among::is_among_rising;
 pub use closure::Closure;
 pub use deps::{Deps, visit};
+pub use id_set::{IdSet, visit_ids};
 pub use known::KnownList;
 pub use learnt::Learnt;

@@ -1,28 +1,27 @@
 -- The search for what entries lead to, which goes no further from what has a row
-use Rattle.std.proofs.Common.{◌≡◌, ◌+◌, ◌-◌, ◌<◌, ◌≤◌, true, List, [], ◌∷◌, ◌++◌, ◌⊎◌, length, map, Option, Some, None, is_some, refl, sym, ap, ◌∙◌, subst, arith, inl, inr, length-append, unwrap_or}
+use Rattle.std.proofs.Common.{◌≡◌, ℕ, drop, get_or, ◌+◌, ◌-◌, ◌<◌, ◌≤◌, true, List, [], ◌∷◌, ◌++◌, ◌⊎◌, length, map, Option, Some, None, is_some, refl, sym, ap, ◌∙◌, subst, arith, inl, inr, unwrap_or}
 use Rattle.std.proofs.lemmas.Bool.{false≢true, or_cases, or_left, or_right}
-use Rattle.std.proofs.lemmas.Map.Keys.{IsDistinct-from_sorted}
-use Rattle.std.proofs.lemmas.Map.Made.{length-le_from_is_member}
-use Rattle.std.specs.Cmp.{eq_by_cmp_equiv}
+use Rattle.std.proofs.lemmas.List.{drop_more, drop-append-le}
 use Rattle.std.specs.List.{list_any}
-use Rattle.std.specs.List.Sorted.{IsStrictlySortedBy}
 use Rattle.roc_sequence.specs.Lists.{Has}
-use Rattle.roc_sequence.specs.Places.{IsListed}
-use Rattle.roc_sequence.proofs.Places.{listed_or_not}
+use Rattle.roc_sequence.specs.Places.{IsListed, NoneTwice}
+use Rattle.roc_sequence.proofs.Places.{listed_or_not, listed_head, listed_tail, listed_cases}
 use Rattle.roc_sequence.proofs.Appended.{listed_front, listed_behind, listed_either}
 use Rattle.roc_base.specs.declared.id.TxnId.{TxnId}
-use Rattle.roc_base.specs.TxnId.{is_txn, txn_cmp}
-use Rattle.roc_base.proofs.Ids.{txn_cmp-total, is_txn-eq}
-use Rattle.roc_base.specs.Equalities.{is_txn-true}
+use Rattle.roc_base.specs.TxnId.{is_txn}
+use Rattle.roc_base.proofs.Ids.{is_txn-eq}
+use Rattle.roc_base.specs.Equalities.{is_txn-true, is_txn-same}
 use Rattle.roc_base.specs.Edge.{Dependency}
 use Rattle.roc_depgraph.specs.declared.known.KnownList.{KnownList}
 use Rattle.roc_depgraph.specs.Deps.{Precedes, IsKnown, list_of}
 use Rattle.roc_depgraph.specs.Reach.{Reaches, direct, through, ReachesOrIs}
-use Rattle.roc_depgraph.specs.Visits.{Visits, IsNamed}
+use Rattle.roc_depgraph.specs.Visits.{IsNamed}
+use Rattle.roc_depgraph.specs.Finds.{Finds}
 use Rattle.roc_depgraph.proofs.Chains.{chain_before, closed_from}
 use Rattle.roc_depgraph.proofs.Decided.{known_of_decided}
-use Rattle.roc_depgraph.proofs.Listed.{has_from_listed, listed_from_has, listed_one, in_one}
+use Rattle.roc_depgraph.proofs.Listed.{listed_one, in_one}
 use Rattle.roc_depgraph.proofs.Walk.{named_ids, named_from, listed_named}
+use Rattle.roc_component.proofs.Front.{length-le_from_listed}
 use Rattle.roc_server_ancestors.specs.Led.{IsLedTo, IsKnownAndLedTo}
 use Rattle.roc_server_ancestors.specs.Least.{most_least, IsRow, AreRows, row_of}
 use Rattle.roc_server_ancestors.specs.Inner.Met.{HasBefore, CoversLeast}
@@ -72,7 +71,7 @@ module _ (known : List KnownList) (first : List Dependency) where
 
   -- What was found is led to. What was found and is not still to be done, was looked at
   pub record IsSearch (found todo met : List TxnId) : Type 0 where
-    pub rising : IsStrictlySortedBy txn_cmp found
+    pub once : NoneTwice is_txn found
     pub start : (u : TxnId) → IsNamed first u → IsListed is_txn found u
     pub sound : (u : TxnId) → IsListed is_txn found u → IsLedTo known first u
     pub waiting : (u : TxnId) → IsListed is_txn todo u → IsListed is_txn found u
@@ -83,18 +82,18 @@ module _ (known : List KnownList) (first : List Dependency) where
     pub done : (t : TxnId) → IsListed is_txn found t → (¬ IsListed is_txn todo t) → IsDone found full t
 
   -- the ids of the entries were found, and are still to be done
-  pub search_start : (found todo found2 todo2 met : List TxnId) → IsStrictlySortedBy txn_cmp found → found ≡ [] → todo ≡ [] → met ≡ [] → Visits first found todo found2 todo2 → IsSearch found2 todo2 met
-  search_start found todo found2 todo2 met r e f m v =
+  pub search_start : (found found2 met : List TxnId) → found ≡ [] → met ≡ [] → Finds first found found2 → IsSearch found2 found2 met
+  search_start found found2 met e m v =
       record {
-        rising = v.rising r;
+        once = v.once (subst (NoneTwice is_txn) (sym e) tt);
         start = v.named;
         sound = λ u h. let d = entry_named first u (named u (v.only u h)) in record { entry = d.0; is = d.1; from = inl (sym d.2) };
-        waiting = λ u h. elim (v.only_todo u h) [ inl k ↦ absurd (none todo f u k) | inr n ↦ v.named u n ];
+        waiting = λ u h. h;
         full = [];
         led = λ u h. absurd (nothing_listed u h);
         among = λ u h. absurd (none met m u h);
         near = λ u h. absurd (nothing_listed u h);
-        done = λ t h n. absurd (n (v.new_todo t h (none found e t)));
+        done = λ t h n. absurd (n h);
       }
     where
       none : (ids : List TxnId) → ids ≡ [] → (u : TxnId) → ¬ IsListed is_txn ids u
@@ -120,19 +119,19 @@ module _ (known : List KnownList) (first : List Dependency) where
   done_more found full found2 full2 t f g (inl all) = inl (λ u p. g u (all u p))
   done_more found full found2 full2 t f g (inr d) = inr ((λ u p. f u (d.0 u p)), (λ k. g t (d.1 k)))
 
-  -- of those still to be done one is taken out
-  module _ (found todo met : List TxnId) (next : TxnId) (s : IsSearch found (todo ++ next ∷ []) met) where
+  -- the first of those still to be done is looked at
+  module _ (found todo met : List TxnId) (next : TxnId) (s : IsSearch found (next ∷ todo) met) where
     next_found : IsListed is_txn found next
-    next_found = s.waiting next (listed_behind is_txn todo (next ∷ []) next (in_one next))
+    next_found = s.waiting next (listed_head is_txn next todo (is_txn-same next))
 
     still : (u : TxnId) → IsListed is_txn todo u → IsListed is_txn found u
-    still u k = s.waiting u (listed_front is_txn todo (next ∷ []) u k)
+    still u k = s.waiting u (listed_tail is_txn next todo u k)
 
     -- it is next, or was looked at before
     next_or_done : (t : TxnId) → IsListed is_txn found t → (¬ IsListed is_txn todo t) → (t ≡ next) ⊎ IsDone found s.full t
-    next_or_done t k n = elim (listed_or_not is_txn (todo ++ next ∷ []) t) [
+    next_or_done t k n = elim (listed_or_not is_txn (next ∷ todo) t) [
       | inr m ↦ inr (s.done t k m)
-      | inl m ↦ elim (listed_either is_txn todo (next ∷ []) t m) [ inl i ↦ absurd (n i) | inr i ↦ inl (listed_one next t i.1) ]
+      | inl m ↦ elim (listed_cases is_txn next todo t m) [ inl e ↦ inl (is_txn-true t next e) | inr i ↦ absurd (n i.1) ]
     ]
 
     near_more : (more : List TxnId) (u : TxnId) → IsListed is_txn s.full u → IsListed is_txn (met ++ more) u ⊎ HasBefore most_least (met ++ more) u
@@ -145,7 +144,7 @@ module _ (known : List KnownList) (first : List Dependency) where
     pub search_past : list_of next known ≡ None → IsSearch found todo met
     search_past none =
         record {
-          rising = s.rising;
+          once = s.once;
           start = s.start;
           sound = s.sound;
           waiting = still;
@@ -167,7 +166,7 @@ module _ (known : List KnownList) (first : List Dependency) where
     search_row ids row =
         let all = row.least.all in
         record {
-          rising = s.rising;
+          once = s.once;
           start = s.start;
           sound = s.sound;
           waiting = still;
@@ -193,14 +192,14 @@ module _ (known : List KnownList) (first : List Dependency) where
           ];
         }
 
-    -- its list is looked through
-    pub search_list : (es : List Dependency) (found2 todo2 : List TxnId) → list_of next known ≡ Some es → Visits es found todo found2 todo2 → IsSearch found2 todo2 (met ++ next ∷ [])
-    search_list es found2 todo2 is v =
+    -- its list is looked through, and what is new stands behind what was still to be done
+    pub search_list : (es : List Dependency) (found2 : List TxnId) → list_of next known ≡ Some es → (v : Finds es found found2) → IsSearch found2 (todo ++ v.more) (met ++ next ∷ [])
+    search_list es found2 is v =
         record {
-          rising = v.rising s.rising;
-          start = λ u n. v.keeps u (s.start u n);
+          once = v.once s.once;
+          start = λ u n. keeps u (s.start u n);
           sound = λ u h. elim (v.only u h) [ inl k ↦ s.sound u k | inr n ↦ led_before u next (before u n) (s.sound next next_found) ];
-          waiting = λ u h. elim (v.only_todo u h) [ inl k ↦ v.keeps u (still u k) | inr n ↦ v.named u n ];
+          waiting = λ u h. elim (listed_either is_txn todo v.more u h) [ inl k ↦ keeps u (still u k) | inr k ↦ added u k.1 ];
           full = s.full ++ next ∷ [];
           led = λ u l. elim (listed_either is_txn s.full (next ∷ []) u l) [
             | inl k ↦ s.led u k
@@ -208,15 +207,21 @@ module _ (known : List KnownList) (first : List Dependency) where
           ];
           among = λ u l. elim (listed_either is_txn met (next ∷ []) u l) [ inl k ↦ listed_front is_txn s.full (next ∷ []) u (s.among u k) | inr k ↦ listed_behind is_txn s.full (next ∷ []) u k.1 ];
           near = λ u l. elim (listed_either is_txn s.full (next ∷ []) u l) [ inl k ↦ near_more (next ∷ []) u k | inr k ↦ inl (listed_behind is_txn met (next ∷ []) u k.1) ];
-          done = λ t h n. elim (listed_or_not is_txn found t) [
-            | inr k ↦ absurd (n (v.new_todo t h k))
-            | inl k ↦ elim (next_or_done t k (λ i. n (v.keeps_todo t i))) [
-              | inr d ↦ done_more found s.full found2 (s.full ++ next ∷ []) t v.keeps (λ u h. listed_front is_txn s.full (next ∷ []) u h) d
+          done = λ t h n. elim (listed_either is_txn found v.more t (subst (λ l. IsListed is_txn l t) v.is h)) [
+            | inr k ↦ absurd (n (listed_behind is_txn todo v.more t k.1))
+            | inl k ↦ elim (next_or_done t k (λ i. n (listed_front is_txn todo v.more t i))) [
+              | inr d ↦ done_more found s.full found2 (s.full ++ next ∷ []) t keeps (λ u h. listed_front is_txn s.full (next ∷ []) u h) d
               | inl e ↦ inr ((λ u p. v.named u (after u (subst (Precedes known u) e p))), (λ h. subst (IsListed is_txn (s.full ++ next ∷ [])) (sym e) (listed_behind is_txn s.full (next ∷ []) next (in_one next))))
             ]
           ];
         }
       where
+        keeps : (u : TxnId) → IsListed is_txn found u → IsListed is_txn found2 u
+        keeps u k = subst (λ l. IsListed is_txn l u) (sym v.is) (listed_front is_txn found v.more u k)
+
+        added : (u : TxnId) → IsListed is_txn v.more u → IsListed is_txn found2 u
+        added u k = subst (λ l. IsListed is_txn l u) (sym v.is) (listed_behind is_txn found v.more u k)
+
         next_known : IsKnown known next
         next_known = ap is_some is
 
@@ -230,8 +235,7 @@ module _ (known : List KnownList) (first : List Dependency) where
 
   pub found_bounded : (found todo met : List TxnId) → IsSearch found todo met → length found ≤ length (findable known first)
   found_bounded found todo met s =
-      length-le_from_is_member (eq_by_cmp_equiv txn_cmp-total) found (findable known first) (IsDistinct-from_sorted txn_cmp found s.rising)
-      (λ q h. has_from_listed (findable known first) q (findable_from known first q (s.sound q (listed_from_has found q h))))
+      length-le_from_listed found (findable known first) s.once (λ u h. findable_from known first u (s.sound u h))
 
   pub search_done : (found todo met : List TxnId) → IsSearch found todo met → length todo ≡ 0 → CoversLeast (IsKnownAndLedTo known first) met
   search_done found todo met s e =
@@ -261,49 +265,50 @@ module _ (known : List KnownList) (first : List Dependency) where
       all u k (inr h) = h u (inl refl)
       all u k (inl l) = elim (s.done u l (nothing u)) [ inl h ↦ h u (inl refl) | inr d ↦ d.1 k ]
 
-  -- one turn of the search, with the row or the list of the id that was taken out
-  pub record IsTurn (found todo found2 todo2 met2 : List TxnId) : Type 0 where
-    pub search : IsSearch found2 todo2 met2
-    pub smaller : (length (findable known first) - length found2) + length todo2 < (length (findable known first) - length found) + length todo
+  -- one turn of the search, with the row or the list of what is lent of those that were found at a place; those before it were looked at
+  pub record IsTurn (place : ℕ) (found2 met2 : List TxnId) : Type 0 where
+    pub search : IsSearch found2 (drop (place + 1) found2) met2
+    pub smaller : length (findable known first) - (place + 1) < length (findable known first) - place
 
-  module _ (rows : List (TxnId × List TxnId)) (right : AreRows known rows) (found waiting todo met found2 todo2 met2 : List TxnId) (next : TxnId) (s : IsSearch found waiting met) (e : waiting ≡ todo ++ next ∷ [])
-      (row : (ids : List TxnId) → row_of next rows ≡ Some ids → (met2 ≡ met ++ ids) × (found2 ≡ found) × (todo2 ≡ todo))
-      (list : row_of next rows ≡ None → (es : List Dependency) → list_of next known ≡ Some es → (met2 ≡ met ++ next ∷ []) × Visits es found todo found2 todo2)
-      (nothing : row_of next rows ≡ None → list_of next known ≡ None → (met2 ≡ met) × (found2 ≡ found) × (todo2 ≡ todo))
+  module _ (rows : List (TxnId × List TxnId)) (right : AreRows known rows) (found met found2 met2 : List TxnId) (place : ℕ) (next : TxnId) (s : IsSearch found (drop place found) met) (lent : List TxnId) (of : lent ≡ found) (at : (place < length lent) × ((d : TxnId) → next ≡ get_or lent place d))
+      (row : (ids : List TxnId) → row_of next rows ≡ Some ids → (met2 ≡ met ++ ids) × (found2 ≡ found))
+      (list : row_of next rows ≡ None → (es : List Dependency) → list_of next known ≡ Some es → (met2 ≡ met ++ next ∷ []) × Finds es found found2)
+      (nothing : row_of next rows ≡ None → list_of next known ≡ None → (met2 ≡ met) × (found2 ≡ found))
     where
-      before : IsSearch found (todo ++ next ∷ []) met
-      before = subst (λ l. IsSearch found l met) e s
+      below : place < length found
+      below = subst (λ l. place < length l) of at.0
 
-      shorter : found2 ≡ found → todo2 ≡ todo → (length (findable known first) - length found2) + length todo2 < (length (findable known first) - length found) + length waiting
-      shorter f t = let a = ap length f in let b = ap length t in let c = ap length e in let d = length-append todo (next ∷ []) in omega arith
+      before : IsSearch found (next ∷ drop (place + 1) found) met
+      before = subst (λ l. IsSearch found l met) (drop_more found place next below ∙ ap (λ x. x ∷ drop (place + 1) found) (ap (λ l. get_or l place next) (sym of) ∙ sym (at.1 next))) s
 
-      same : (m : List TxnId) → met2 ≡ m → found2 ≡ found → todo2 ≡ todo → IsSearch found todo m → IsTurn found waiting found2 todo2 met2
-      same m g f t k =
+      shorter : length (findable known first) - (place + 1) < length (findable known first) - place
+      shorter = let a = below in let b = found_bounded found (drop place found) met s in omega arith
+
+      same : (m : List TxnId) → met2 ≡ m → found2 ≡ found → IsSearch found (drop (place + 1) found) m → IsTurn place found2 met2
+      same m g f k =
           record {
-            search = subst (λ l. IsSearch found2 todo2 l) (sym g) (subst (λ l. IsSearch found2 l m) (sym t) (subst (λ l. IsSearch l todo m) (sym f) k));
-            smaller = shorter f t;
+            search = subst (λ l. IsSearch found2 (drop (place + 1) found2) l) (sym g) (subst (λ l. IsSearch l (drop (place + 1) l) m) (sym f) k);
+            smaller = shorter;
           }
 
-      grown : (es : List Dependency) → list_of next known ≡ Some es → (met2 ≡ met ++ next ∷ []) × Visits es found todo found2 todo2 → IsTurn found waiting found2 todo2 met2
-      grown es is g =
-          let k = search_list found todo met next before es found2 todo2 is g.1 in
-          let a = found_bounded found waiting met s in
-          let b = found_bounded found2 todo2 (met ++ next ∷ []) k in
-          let c = g.1.count in
-          let d = length-append todo (next ∷ []) in
-          let f = ap length e in
+      grown : (es : List Dependency) → list_of next known ≡ Some es → (met2 ≡ met ++ next ∷ []) × Finds es found found2 → IsTurn place found2 met2
+      grown es k g =
+          let front : drop (place + 1) (found ++ g.1.more) ≡ drop (place + 1) found ++ g.1.more = drop-append-le (place + 1) found g.1.more (omega (arith, below)) in
           record {
-            search = subst (λ l. IsSearch found2 todo2 l) (sym g.0) k;
-            smaller = omega arith;
+            search =
+                subst (λ l. IsSearch found2 (drop (place + 1) found2) l) (sym g.0)
+                (subst (λ l. IsSearch found2 l (met ++ next ∷ [])) (sym (ap (drop (place + 1)) g.1.is ∙ front))
+                (search_list found (drop (place + 1) found) met next before es found2 k g.1));
+            smaller = shorter;
           }
 
-      pub turn : IsTurn found waiting found2 todo2 met2
+      pub turn : IsTurn place found2 met2
       turn = by_row (row_of next rows) refl
         where
-          by_list : row_of next rows ≡ None → (o : Option (List Dependency)) → list_of next known ≡ o → IsTurn found waiting found2 todo2 met2
-          by_list n (Some es) is = grown es is (list n es is)
-          by_list n None is = let g = nothing n is in same met g.0 g.1 g.2 (search_past found todo met next before is)
+          by_list : row_of next rows ≡ None → (o : Option (List Dependency)) → list_of next known ≡ o → IsTurn place found2 met2
+          by_list n (Some es) k = grown es k (list n es k)
+          by_list n None k = let g = nothing n k in same met g.0 g.1 (search_past found (drop (place + 1) found) met next before k)
 
-          by_row : (o : Option (List TxnId)) → row_of next rows ≡ o → IsTurn found waiting found2 todo2 met2
-          by_row (Some ids) is = let g = row ids is in same (met ++ ids) g.0 g.1 g.2 (search_row found todo met next before ids (right next ids is))
-          by_row None is = by_list is (list_of next known) refl
+          by_row : (o : Option (List TxnId)) → row_of next rows ≡ o → IsTurn place found2 met2
+          by_row (Some ids) k = let g = row ids k in same (met ++ ids) g.0 g.1 (search_row found (drop (place + 1) found) met next before ids (right next ids k))
+          by_row None k = by_list k (list_of next known) refl

@@ -4,16 +4,16 @@ ghost use Rattle.std.specs.Option.{option_copied};
 ghost use Rattle.roc_base.specs.declared.id.TxnId.{TxnId as Id};
 ghost use Rattle.roc_base.specs.Edge.{Dependency};
 ghost use Rattle.roc_depgraph.specs.Deps.{list_of};
-ghost use Rattle.roc_depgraph.specs.Visits.{Visits};
+ghost use Rattle.roc_depgraph.specs.Finds.{Finds};
 ghost use Rattle.roc_server_ancestors.specs.Led.{IsKnownAndLedTo};
 ghost use Rattle.roc_server_ancestors.specs.Least.{AreRows, row_of};
 ghost use Rattle.roc_server_ancestors.specs.Inner.Met.{CoversLeast};
 
 use roc_base::{Edge, NoMemory, TxnId};
-use roc_depgraph::{Deps, visit};
+use roc_depgraph::{Deps, IdSet, visit_ids};
 use roc_sequence::Sequence;
 use std::alloc::Global;
-use std::collections::{BTreeSet, HashMap};
+use std::collections::HashMap;
 
 // Of what entries lead to and is known: all that is not decided, and the least of what is. It goes no further from a transaction of which a row
 // is kept, or made already.
@@ -27,12 +27,14 @@ pub(crate) fn met_from(
     requires { AreRows deps.now (made.now.entries ++ rows.now.entries) }
     ensures { IfOk result (λ met. CoversLeast (IsKnownAndLedTo deps.now edges.now) met.items) }
 {
-    let mut found = BTreeSet::new(alloc);
-    let mut todo = Vec::new(alloc);
+    let mut found = IdSet::new(alloc);
     let mut met = Vec::new(alloc);
-    visit(edges, &mut found, &mut todo)?;
-    'search: while let Some(next) = todo.pop() {
-        meet(rows, made, deps, next, &mut found, &mut todo, &mut met)?;
+    visit_ids(edges, &mut found)?;
+    // Those that were found before this place were met.
+    let mut place = 0;
+    'search: while let Some(&next) = found.as_slice().get(place) {
+        place += 1;
+        meet(rows, made, deps, next, &mut found, &mut met)?;
     }
     Ok(met)
 }
@@ -43,16 +45,15 @@ fn meet(
     made: &HashMap<TxnId, Sequence<TxnId>>,
     deps: &Deps,
     next: TxnId,
-    found: &mut BTreeSet<TxnId>,
-    todo: &mut Vec<TxnId>,
+    found: &mut IdSet,
     met: &mut Vec<TxnId>,
 ) -> Result<(), NoMemory>
     ensures row { OnOk result ((ids : List Id) → row_of next (made.now.entries ++ rows.now.entries) ≡ Some ids
-        → (met.new.items ≡ met.old.items ++ ids) × (found.new.keys ≡ found.old.keys) × (todo.new.items ≡ todo.old.items)) }
+        → (met.new.items ≡ met.old.items ++ ids) × (found.new ≡ found.old)) }
     ensures list { OnOk result (row_of next (made.now.entries ++ rows.now.entries) ≡ None → (es : List Dependency) → list_of next deps.now ≡ Some es
-        → (met.new.items ≡ met.old.items ++ next ∷ []) × Visits es found.old.keys todo.old.items found.new.keys todo.new.items) }
+        → (met.new.items ≡ met.old.items ++ next ∷ []) × Finds es found.old found.new) }
     ensures nothing { OnOk result (row_of next (made.now.entries ++ rows.now.entries) ≡ None → list_of next deps.now ≡ None
-        → (met.new.items ≡ met.old.items) × (found.new.keys ≡ found.old.keys) × (todo.new.items ≡ todo.old.items)) }
+        → (met.new.items ≡ met.old.items) × (found.new ≡ found.old)) }
 {
     if let Some(ids) = row_at(rows, made, next) {
         met.extend_from_slice(ids.as_slice())?;
@@ -60,7 +61,7 @@ fn meet(
     }
     if let Some(list) = deps.list(next) {
         met.push(next)?;
-        visit(list.as_slice(), found, todo)?;
+        visit_ids(list.as_slice(), found)?;
         return Ok(());
     }
     Ok(())
@@ -74,6 +75,10 @@ fn row_at<'a>(
 ) -> Option<&'a Sequence<TxnId>>
     ensures { option_copied result ≡ row_of id (made.now.entries ++ rows.now.entries) }
 {
+    // Mostly none is made, and then one look-up is enough.
+    if made.is_empty() {
+        return rows.get(&id);
+    }
     match made.get(&id) {
         Some(ids) => Some(ids),
         None => rows.get(&id),
