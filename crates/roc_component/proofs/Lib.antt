@@ -27,4 +27,5 @@ pub mod OrderOf
 pub mod PartsOf
 pub mod OneTaken
 pub mod RisingParts
+pub mod TakenOf
 pub mod OneMember

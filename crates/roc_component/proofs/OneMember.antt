@@ -9,7 +9,7 @@ use Rattle.roc_sequence.proofs.Places.{listed_head}
 use Rattle.roc_base.specs.declared.id.TxnId.{TxnId}
 use Rattle.roc_base.specs.TxnId.{is_txn, txn_lt}
 use Rattle.roc_base.specs.Equalities.{is_txn-same}
-use Rattle.roc_base.proofs.Ids.{txn_lt-itself}
+use Rattle.roc_base.proofs.Ids.{txn_lt-itself, unlisted_none}
 use Rattle.roc_depgraph.specs.declared.known.KnownList.{KnownList}
 use Rattle.roc_depgraph.specs.Closure.{IsRisingListOf}
 use Rattle.roc_depgraph.specs.Deps.{Precedes, PrecedesNow, entries_of}
@@ -96,6 +96,10 @@ module _ (M : List TxnId) (empty : (t : TxnId) → ¬ IsListed is_txn M t) (know
 
   none_is_taken : AreTaken known M []
   none_is_taken = record { order = none_is_order; some = λ c h. absurd h; mates = λ c h. absurd h }
+
+-- nothing is taken as nothing
+pub none_taken : (known : List KnownList) → AreTaken known [] []
+none_taken known = none_is_taken [] unlisted_none known
 
 -- ---- of a set with fewer than two
 

@@ -1,18 +1,22 @@
 -- What comes of a watermark, or of a settled transaction, is found
-use Rattle.std.proofs.Common.{◌≡◌, ◌↔◌, ◌++◌, ◌&&◌, ℕ, Bool, true, false, not, List, [], Option, Some, None, Bor, is_some, map, filter, refl, sym, ap, subst, ◌∙◌, inl, inr}
+use Rattle.std.proofs.Common.{◌≡◌, ◌↔◌, ◌++◌, ◌&&◌, ℕ, Bool, true, false, not, List, [], ◌∷◌, Option, Some, None, Bor, is_some, map, filter, refl, sym, ap, subst, ◌∙◌, inl, inr}
 use Rattle.std.proofs.lemmas.Bool.{and_parts, false≢true, not-true, not_from_false}
 use Rattle.std.proofs.lemmas.Grind.{flat_map-append}
+use Rattle.std.proofs.lemmas.List.{append-nil}
 use Rattle.std.proofs.lemmas.List.Elements.{filter-append}
 use Rattle.std.specs.List.Sorted.{IsStrictlySortedBy}
 use Rattle.std.specs.Option.{option_copied}
 use Rattle.roc_sequence.specs.Places.{is_listed, IsListed}
 use Rattle.roc_sequence.proofs.Appended.{listed_front, listed_behind, listed_either}
 use Rattle.roc_sequence.proofs.Filtered.{from_listed_filter, listed_filter}
-use Rattle.roc_sequence.proofs.Places.{listed_false, listed_or_not, listed_test, unlisted_test}
+use Rattle.roc_sequence.proofs.Places.{listed_false, listed_head, listed_or_not, listed_test, unlisted_test}
 use Rattle.roc_base.specs.declared.id.TxnId.{TxnId}
 use Rattle.roc_base.specs.TxnId.{is_txn, txn_cmp}
 use Rattle.roc_base.specs.Edge.{Dependency}
-use Rattle.roc_base.specs.Equalities.{is_txn-true}
+use Rattle.roc_base.specs.Equalities.{is_txn-same, is_txn-true}
+use Rattle.roc_base.proofs.Ids.{unlisted_none}
+use Rattle.roc_component.specs.Components.{AreTaken}
+use Rattle.roc_component.proofs.OneMember.{none_taken}
 use Rattle.roc_await.specs.Lacks.{AreDecidedBy, AreLacks, NextLacks}
 use Rattle.roc_await.specs.Learning.{AreLacksBefore, AreLearnable}
 use Rattle.roc_await.specs.Released.{AreReleased}
@@ -24,17 +28,19 @@ use Rattle.roc_server_lists.specs.Links.{without_links}
 use Rattle.roc_server_lists.specs.New.{AreAllNew, AreNewTaken}
 use Rattle.roc_server_lists.proofs.FollowedLinks.{links_ids}
 use Rattle.roc_server_lists.proofs.SameIds.{ids_of, ids_without, known_alike}
-use Rattle.roc_server_ancestors.specs.Least.{AreRows}
+use Rattle.roc_server_ancestors.specs.Least.{AreAllRight, AreRows}
+use Rattle.roc_server.specs.declared.behind.Behind.TheVariants.{More as Adds}
+use Rattle.roc_server.specs.declared.behind.More.{More}
 use Rattle.roc_server.specs.declared.left.Left.{Left}
 use Rattle.roc_server.specs.declared.settled.Deciding.{Deciding}
 use Rattle.roc_server.specs.declared.settled.Settling.{Settling}
 use Rattle.roc_server.specs.declared.server_data.ServerData.{ServerData}
-use Rattle.roc_server.specs.Below.{is_ended, raised}
+use Rattle.roc_server.specs.Below.{is_ended}
 use Rattle.roc_server.specs.Forgets.{is_over, over}
-use Rattle.roc_server.specs.Inner.Behind.{IsBehind}
+use Rattle.roc_server.specs.Inner.Behind.{followed_then, IsBehind}
 use Rattle.roc_server.specs.Inner.Left.{IsLeftAfter, IsOver}
 use Rattle.roc_server.specs.Inner.ServerData.{IsRight}
-use Rattle.roc_server.specs.Inner.Settled.{links_settled, AreUnknown, HasNewlyDecided, IsDeciding, IsSettling}
+use Rattle.roc_server.specs.Inner.Settled.{links_settled, AreSettled, AreUnknown, HasNewlyDecided, IsDeciding, IsLess, IsSettling}
 use Rattle.roc_server.proofs.IndexSteps.{filter_all}
 use Rattle.roc_server.proofs.MarkedLinks.{still_decided}
 use Rattle.roc_server.proofs.ReleasedRows.{released, rows_stay}
@@ -58,6 +64,11 @@ over_found marks taken more all links ids left same are rest = record {
   are = subst (λ ts. IsRisingListOf (IsListed is_txn ts) ids) (sym (ap (over marks) same ∙ over-append marks taken more)) are;
   rest = rest;
 }
+
+-- where no transaction has a row, there are none
+pub none_rows : (rows : List (TxnId × List TxnId)) → ((t : TxnId) → IsListed is_txn (map (λ r. r.0) rows) t → IsListed is_txn [] t) → rows ≡ []
+none_rows [] only = refl
+none_rows (r ∷ rows) only = absurd (unlisted_none r.0 (only r.0 (listed_head is_txn r.0 (map (λ x. x.0) rows) (is_txn-same r.0))))
 
 -- ---- a settled transaction
 
@@ -150,23 +161,26 @@ module _ (k : ServerData) (right : IsRight k) where
         pub are_decided : (t : TxnId) → IsListed is_txn (members k.taken.components ++ members more) t ↔ IsDecided d.links t
         are_decided t = (member_decided t, decided_member t)
 
-      pub new_decided : (ids : List TxnId) → ids ≡ d.ids.items → (t : TxnId) → IsListed is_txn ids t → IsDecided d.links t
-      new_decided ids same t l = (is.chosen.members.only t (subst (λ ts. IsListed is_txn ts t) (same ∙ is.ids) l)).0
+      pub taken_new : (more : List (List TxnId)) → more ≡ d.components.items → AreTaken d.links (members more) more
+      taken_new more same = subst (λ cs. AreTaken d.links (members cs) cs) (sym same) is.chosen.taken
+
+      pub new_decided : (more : List (List TxnId)) → more ≡ d.components.items → (t : TxnId) → IsListed is_txn (members more) t → IsDecided d.links t
+      new_decided more same t l = (is.chosen.members.only t (subst (λ cs. IsListed is_txn (members cs) t) same l)).0
 
       pub right_rows : AreUnknown k.links settled → (rows : List (TxnId × List TxnId)) → AreRows k.links rows → AreRows d.links rows
       right_rows unknown rows were = subst (λ ks. AreRows ks rows) (sym is.links) (rows_stay k.links links settled (released k.links settled unknown) rows were)
 
-      module _ (id : TxnId) (mark : ℕ) (f : Settling) (marks : f.marks ≡ raised k.marks id.coord mark) (listed : (t : TxnId) → is_listed is_txn f.settled.items t ≡ (is_txn t id && is_ended f.marks t)) (known : f.is_known ≡ is_known k.known id)
-          (rising : IsStrictlySortedBy txn_cmp f.settled.items) (same_settled : f.settled.items ≡ settled) (same_lacks : f.lacks ≡ d.lacks) (same_components : f.components.items ≡ d.components.items) (same_ids : f.ids.items ≡ d.ids.items) where
+      module _ (id : TxnId) (mark : ℕ) (f : Settling) (known : Bool) (are : AreSettled k id mark f.marks f.settled.items known) (same_known : f.is_known ≡ known) (same_settled : f.settled.items ≡ settled) (same_lacks : f.lacks ≡ d.lacks)
+          (same_components : f.components.items ≡ d.components.items) (same_ids : f.ids.items ≡ d.ids.items) where
         links_are : d.links ≡ links_settled k.links f.settled.items
         links_are = is.links ∙ ap (links_settled k.links) (sym same_settled)
 
         pub settling : (more : List (List TxnId)) → more ≡ f.components.items → IsBehind f.marks (k.taken.components ++ more) k.links d.links f.behind → IsSettling k id mark f
         settling more more_is behind = record {
-          marks = marks;
-          settled = listed;
-          is_known = known;
-          rising = rising;
+          marks = are.marks_are;
+          settled = are.listed;
+          is_known = same_known ∙ are.known_is;
+          rising = are.rising;
           lacks = subst (λ (n : NextLacks). AreLacks (links_settled k.links f.settled.items) n.lacks) (sym same_lacks) (subst (λ ks. AreLacks ks d.lacks.lacks) links_are is.lacks);
           chosen =
               subst (λ cs. AreNewTaken (IsListed is_txn k.decided.ids) (links_settled k.links f.settled.items) cs) (sym same_components)
@@ -176,6 +190,32 @@ module _ (k : ServerData) (right : IsRight k) where
               subst (λ cs. IsBehind f.marks (k.taken.components ++ cs) k.links (links_settled k.links f.settled.items) f.behind) more_is
               (subst (λ ks. IsBehind f.marks (k.taken.components ++ more) k.links ks f.behind) links_are behind);
         }
+
+    -- ---- where nothing else comes of it
+
+    pub none_found : (unknown : AreUnknown k.links settled) (next : NextLacks) (lent newly : List TxnId) → HasNewlyDecided k.links links next.decided → lent ≡ next.decided → newly ≡ filter (λ t. not (is_listed is_txn k.decided.ids t)) lent → newly ≡ []
+        → AreNewTaken (IsListed is_txn k.decided.ids) links []
+    none_found unknown next lent newly has same is none = record { members = new_are links next.decided lent newly [] has same is (sym none); taken = none_taken links }
+
+    module _ (id : TxnId) (mark : ℕ) (f : Settling) (unknown : AreUnknown k.links settled) (less : IsLess k f.marks settled f.lacks) (are : AreSettled k id mark f.marks settled false) (same_known : f.is_known ≡ false) (same_settled : f.settled.items ≡ settled)
+        (same_components : f.components.items ≡ []) (same_ids : f.ids.items ≡ []) (m : More) (adds : f.behind ≡ Adds m) (without : followed_then k.links m.links ≡ links) (no_rows : m.rows ≡ []) where
+      pub settling_less : IsSettling k id mark f
+      settling_less = record {
+        marks = are.marks_are;
+        settled = λ t. ap (λ ts. is_listed is_txn ts t) same_settled ∙ are.listed t;
+        is_known = same_known ∙ are.known_is;
+        rising = subst (IsStrictlySortedBy txn_cmp) (sym same_settled) are.rising;
+        lacks = subst (λ ts. AreLacks (links_settled k.links ts) f.lacks.lacks) (sym same_settled) less.lacks;
+        chosen =
+            subst (λ cs. AreNewTaken (IsListed is_txn k.decided.ids) (links_settled k.links f.settled.items) cs) (sym same_components)
+            (subst (λ ts. AreNewTaken (IsListed is_txn k.decided.ids) (links_settled k.links ts) []) (sym same_settled) less.none_new);
+        ids = same_ids ∙ ap members (sym same_components);
+        behind =
+            subst (λ ts. IsBehind f.marks (k.taken.components ++ f.components.items) k.links (links_settled k.links ts) f.behind) (sym same_settled)
+            (subst (λ cs. IsBehind f.marks cs k.links links f.behind) (sym (append-nil k.taken.components) ∙ ap (λ cs. k.taken.components ++ cs) (sym same_components))
+            (subst (IsBehind f.marks k.taken.components k.links links) (sym adds)
+            (less.none_over, record { links_are = without; stay = rows_stay k.links links settled (released k.links settled unknown); rows = subst (AreAllRight links) (sym no_rows) tt })));
+      }
 
   -- unless the list of a transaction is known, none of those that are settled is
   pub are_unknown : (id : TxnId) (marks : List ℕ) (settled : List TxnId) (known : Bool) → ((t : TxnId) → is_listed is_txn settled t ≡ (is_txn t id && is_ended marks t)) → known ≡ is_known k.known id → known ≡ false → AreUnknown k.links settled

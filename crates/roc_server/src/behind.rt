@@ -3,10 +3,11 @@ ghost use Rattle.std.specs.Prelude.{◌≡◌, ◌≤◌, ◌++◌, ◌↔◌, [
 ghost use Rattle.std.specs.List.{flat_map};
 ghost use Rattle.roc_base.specs.TxnId.{is_txn};
 ghost use Rattle.roc_base.specs.declared.id.TxnId.{TxnId as Id};
+ghost use Rattle.roc_component.specs.Components.{AreTaken};
 ghost use Rattle.roc_depgraph.specs.Deps.{IsDecided};
 ghost use Rattle.roc_sequence.specs.Places.{IsListed};
 ghost use Rattle.roc_server_ancestors.specs.Least.{AreRows};
-ghost use Rattle.roc_server.specs.Inner.Behind.{count_of_rows, IsAdded, IsBehind, IsKept, IsKeptBy};
+ghost use Rattle.roc_server.specs.Inner.Behind.{count_of_rows, followed_then, IsAdded, IsBehind, IsKept, IsKeptBy};
 
 use crate::changes::forget;
 use crate::left::{Left, left_of, over_among};
@@ -29,8 +30,16 @@ pub(crate) enum Behind {
 // What is followed, and the least of the ancestors of what is newly decided by it.
 #[derive(Drop)]
 pub(crate) struct More {
-    pub links: Deps,
+    pub links: NextLinks,
     pub rows: NextRows,
+}
+
+// What is followed then: lists that were made anew; or, where nothing is decided by it, those that are followed, less the entries of these,
+// which are left out in place.
+#[derive(Drop)]
+pub(crate) enum NextLinks {
+    Anew(Deps),
+    Without(Vec<TxnId>),
 }
 
 // Of how many transactions rows are added.
@@ -52,11 +61,11 @@ pub(crate) fn find_behind(
     is_known: bool,
     links: Deps,
     components: &[Sequence<TxnId>],
-    ids: &[TxnId],
 ) -> Result<Behind, NoMemory>
     requires same { map (λ k. k.of) links ≡ map (λ k. k.of) kept.now.known }
     requires decided { (t : Id) → IsListed is_txn (flat_map (λ c. c) kept.now.taken.components ++ flat_map (λ c. c) components.now) t ↔ IsDecided links t }
-    requires new { (t : Id) → IsListed is_txn ids.now t → IsDecided links t }
+    requires chosen { AreTaken links (flat_map (λ c. c) components.now) components.now }
+    requires new { (t : Id) → IsListed is_txn (flat_map (λ c. c) components.now) t → IsDecided links t }
     requires rows { AreRows kept.now.links kept.now.ancestors.rows }
     requires stay { is_known ≡ false → (rows : List (Id × List Id)) → AreRows kept.now.links rows → AreRows links rows }
     ensures { IfOk result (IsBehind marks.now (kept.now.taken.components ++ components.now) kept.now.links links) }
@@ -67,7 +76,8 @@ pub(crate) fn find_behind(
         let left = left_of(alloc, &kept.known, &links, taken, components, over)?;
         return Ok(Behind::Left(left));
     }
-    let rows = kept.ancestors.ready(&links, ids)?;
+    let rows = kept.ancestors.ready(&links, components)?;
+    let links = NextLinks::Anew(links);
     Ok(Behind::More(More { links, rows }))
 }
 
@@ -97,7 +107,17 @@ fn add(kept: &mut ServerData, ids: &[TxnId], more: More)
     ensures { IsAdded kept.old kept.new ids.now more }
 {
     let More { links, rows } = more;
-    kept.links = links;
+    follow(&mut kept.links, links);
     kept.ancestors.take(rows).unwrap();
     kept.decided.take(ids).unwrap();
+}
+
+// Follows this in place of what is followed.
+fn follow(links: &mut Deps, next: NextLinks)
+    ensures { links.new ≡ followed_then links.old next }
+{
+    match next {
+        NextLinks::Anew(made) => *links = made,
+        NextLinks::Without(ids) => links.leave_out(&ids),
+    }
 }

@@ -46,7 +46,7 @@ pub(crate) fn find_all(
     let components = newly_taken(alloc, &kept.links, lacks.decided())?;
     let mut ids = Vec::new(alloc);
     push_members(&components, &mut ids)?;
-    let rows = kept.ancestors.ready(&kept.links, &ids)?;
+    let rows = kept.ancestors.ready(&kept.links, &components)?;
     Ok(Found {
         asks,
         lacks,

@@ -1,5 +1,5 @@
 //! Watermarks, and transactions for which nobody has to wait any more.
-ghost use Rattle.std.specs.Prelude.{◌≡◌, ◌&&◌, [], false, not, filter, IfOk, OnOk, OnErr};
+ghost use Rattle.std.specs.Prelude.{◌≡◌, ◌&&◌, ℕ, [], true, false, not, filter, IfOk, IfSome, OnOk, OnErr};
 ghost use Rattle.std.specs.List.Sorted.{IsStrictlySortedBy};
 ghost use Rattle.roc_await.specs.Lacks.{AreLacks};
 ghost use Rattle.roc_await.specs.Learning.{AreLearnable};
@@ -12,13 +12,13 @@ ghost use Rattle.roc_server.specs.Fits.{AreGroupsOf};
 ghost use Rattle.roc_server.specs.Inner.Planned.{after, IsPlannedFrom, IsSettledFrom};
 ghost use Rattle.roc_server.specs.Inner.Runs.{restored};
 ghost use Rattle.roc_server.specs.Inner.ServerData.{is_same_group, IsConsistent, IsRight, IsSame};
-ghost use Rattle.roc_server.specs.Inner.Settled.{links_settled, AreUnknown, HasNewlyDecided, HasRoomToSettle, IsDeciding, IsHearing, IsSettling, Settles, SettlesRuns};
+ghost use Rattle.roc_server.specs.Inner.Settled.{links_settled, AreSettled, AreUnknown, HasNewlyDecided, HasRoomToSettle, IsDeciding, IsHearing, IsLess, IsSettling, Settles, SettlesRuns};
 ghost use Rattle.roc_server.specs.Inner.Taught.{KeepsBesideRuns};
 ghost use Rattle.roc_server.specs.declared.handled.Handled.TheVariants.{Done};
 ghost use Rattle.roc_server.specs.declared.planned.Change.TheVariants.{Settled};
 
 use crate::Handled;
-use crate::behind::{Behind, count_of_rows, find_behind};
+use crate::behind::{Behind, More, NextLinks, count_of_rows, find_behind};
 use crate::commitoks::send_commitoks;
 use crate::left::{left_if_over, over_among};
 use crate::marks::Marks;
@@ -187,7 +187,7 @@ fn make_room_behind(kept: &mut ServerData, found: &Settling) -> Result<(), NoMem
     kept.ancestors.reserve(count_of_rows(&found.behind))
 }
 
-// Finds what comes of a settled transaction.
+// Finds what comes of a settled transaction. Mostly others are still lacking, so it is only that its entries are done.
 fn find_settled(
     alloc: Global,
     kept: &ServerData,
@@ -200,13 +200,90 @@ fn find_settled(
     let marks = kept.marks.raised(id.coord, mark);
     let settled = if_ended(alloc, &marks, id)?;
     let is_known = kept.known.list(id).is_some();
+    if !is_known {
+        if let Some(lacks) = find_less(alloc, kept, &marks, &settled)? {
+            return settle_less(alloc, kept, marks, settled, lacks);
+        }
+    }
+    find_more(alloc, kept, marks, settled, is_known)
+}
+
+// What is lacking where the entries that name these are done, if nothing else comes of it: nothing is newly decided, and nothing is over.
+fn find_less(
+    alloc: Global,
+    kept: &ServerData,
+    marks: &Marks,
+    settled: &[TxnId],
+) -> Result<Option<NextLacks>, NoMemory>
+    requires right { IsRight kept.now }
+    requires unknown { AreUnknown kept.now.links settled.now }
+    ensures { IfOk result (λ found. IfSome found (IsLess kept.now marks.now settled.now)) }
+{
+    let over = over_among(alloc, marks, kept.taken.as_slice(), &[])?;
+    let lacks = kept.lacks.without(settled)?;
+    let newly = not_among(alloc, lacks.decided(), &kept.decided)?;
+    if is_nothing(&over, &newly) {
+        return Ok(Some(lacks));
+    }
+    Ok(None)
+}
+
+// Whether nothing is over, and nothing newly decided.
+fn is_nothing(over: &[TxnId], newly: &[TxnId]) -> bool
+    ensures over { result ≡ true → over.now ≡ [] }
+    ensures newly { result ≡ true → newly.now ≡ [] }
+{
+    over.is_empty() && newly.is_empty()
+}
+
+// What comes of it then.
+fn settle_less(
+    alloc: Global,
+    kept: &ServerData,
+    marks: Marks,
+    settled: Vec<TxnId>,
+    lacks: NextLacks,
+) -> Result<Settling, NoMemory>
+    requires right { IsRight kept.now }
+    requires unknown { AreUnknown kept.now.links settled.items }
+    requires less { IsLess kept.now marks settled.items lacks }
+    ensures { IfOk result (λ f. (id : Id) (mark : ℕ) → AreSettled kept.now id mark marks settled.items false → IsSettling kept.now id mark f) }
+{
+    let rows = kept.ancestors.ready(&kept.links, &[])?;
+    let mut done = Vec::new(alloc);
+    done.extend_from_slice(&settled)?;
+    let links = NextLinks::Without(done);
+    Ok(Settling {
+        marks,
+        settled,
+        is_known: false,
+        lacks,
+        components: Vec::new(alloc),
+        ids: Vec::new(alloc),
+        behind: Behind::More(More { links, rows }),
+    })
+}
+
+// Finds all that may come of it, in lists that are made anew.
+fn find_more(
+    alloc: Global,
+    kept: &ServerData,
+    marks: Marks,
+    settled: Vec<TxnId>,
+    is_known: bool,
+) -> Result<Settling, NoMemory>
+    requires right { IsRight kept.now }
+    requires rising { IsStrictlySortedBy txn_cmp settled.items }
+    requires unknown { is_known ≡ false → AreUnknown kept.now.links settled.items }
+    ensures { IfOk result (λ f. (id : Id) (mark : ℕ) → AreSettled kept.now id mark marks settled.items is_known → IsSettling kept.now id mark f) }
+{
     let Deciding {
         links,
         lacks,
         components,
         ids,
     } = find_decided(alloc, kept, is_known, &settled)?;
-    let behind = find_behind(alloc, kept, &marks, is_known, links, &components, &ids)?;
+    let behind = find_behind(alloc, kept, &marks, is_known, links, &components)?;
     Ok(Settling {
         marks,
         settled,

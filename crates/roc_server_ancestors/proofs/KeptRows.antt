@@ -1,8 +1,9 @@
 -- What is kept of decided transactions
 use Rattle.std.proofs.Common.{◌≡◌, Bool, true, false, cond, List, [], ◌∷◌, ◌++◌, Option, Some, refl, sym, ap, ◌∙◌, subst, inl, inr, unwrap_or}
-use Rattle.std.specs.List.{list_any, AllByRecursion}
+use Rattle.std.specs.List.{list_any, AllByRecursion, flat_map}
 use Rattle.roc_sequence.specs.Places.{IsListed}
 use Rattle.roc_sequence.proofs.Holds.{has_all}
+use Rattle.roc_sequence.proofs.Members.{has_flat_map}
 use Rattle.roc_sequence.proofs.Appended.{listed_front, listed_behind, listed_either}
 use Rattle.roc_base.specs.declared.id.TxnId.{TxnId}
 use Rattle.roc_base.specs.TxnId.{is_txn}
@@ -14,7 +15,7 @@ use Rattle.roc_depgraph.specs.Reach.{Reaches, direct, through, ReachesOrIs}
 use Rattle.roc_depgraph.specs.Visits.{IsNamed}
 use Rattle.roc_depgraph.proofs.Laws.{KeepsLists, ancestor_stays, ancestor_back, decided_stays}
 use Rattle.roc_depgraph.proofs.Listed.{listed_has, has_listed, listed_one, in_one}
-use Rattle.roc_component.specs.Components.{among, AreComponentsOf, Mates}
+use Rattle.roc_component.specs.Components.{among, AreTaken, Mates}
 use Rattle.roc_component.proofs.Relations.{mates_sym, mates_reach, mates_weaker, reach_trans}
 use Rattle.roc_server_ancestors.specs.Led.{IsLedTo, IsKnownAndLedTo}
 use Rattle.roc_server_ancestors.specs.Least.{most_least, AreLeast, IsRow, AreRows, row_of}
@@ -118,9 +119,9 @@ pub rows_of_mates : (known : List KnownList) (all : List TxnId) (x : TxnId) (ids
 rows_of_mates known all x ids are here r t l = row_of_mate known x t ids (are.mates x t here l) (are.decided t l) r
 
 -- the components of decided transactions
-pub decided_mates : (known : List KnownList) (M : List TxnId) (lists : List (List TxnId)) → ((t : TxnId) → IsListed is_txn M t → IsDecided known t) → AreComponentsOf known M lists → AllByRecursion (AreDecidedMates known) lists
+pub decided_mates : (known : List KnownList) (M : List TxnId) (lists : List (List TxnId)) → ((t : TxnId) → IsListed is_txn (flat_map (λ c. c) lists) t → IsDecided known t) → AreTaken known M lists → AllByRecursion (AreDecidedMates known) lists
 decided_mates known M lists decided are =
     has_all (AreDecidedMates known) lists (λ c h. record {
-      decided = λ t l. decided t (has_listed M t (are.only c h t (listed_has c t l)));
-      mates = λ x u k l. mates_weaker (among M (Precedes known)) (Precedes known) (λ a b p. p.2) x u ((are.each c h).sound x u (listed_has c x k) (listed_has c u l));
+      decided = λ t l. decided t (has_listed (flat_map (λ c. c) lists) t (has_flat_map (λ c. c) t c lists h (listed_has c t l)));
+      mates = λ x u k l. mates_weaker (among M (Precedes known)) (Precedes known) (λ a b p. p.2) x u ((are.mates c h x u (listed_has c x k)).1 (listed_has c u l));
     })

@@ -1,16 +1,21 @@
 -- The least of a list with one more
 use Rattle.std.proofs.Common.{◌≡◌, ℕ, zero, suc, ◌≤◌, ◌<◌, true, List, [], ◌∷◌, ◌++◌, ◌⊎◌, length, take, get_or, refl, sym, ap, subst, ◌∙◌, arith, inl, inr}
+use Rattle.std.proofs.lemmas.Bool.{cases_lt}
+use Rattle.std.proofs.lemmas.Bool.Decides.{nat_tests}
 use Rattle.std.proofs.lemmas.List.{take_all, length-take}
+use Rattle.std.proofs.lemmas.Map.Keys.{Less-from_sorted}
 use Rattle.std.proofs.lemmas.List.Sorted.{searchable_from_sorted}
 use Rattle.std.specs.Prelude.{insert}
 use Rattle.std.specs.List.Sorted.{IsStrictlySortedBy, IsNonDecreasingBy, IsPartitionPoint}
-use Rattle.std.specs.Ordering.{is_lt, ordering_index, ordering_reverse}
+use Rattle.std.specs.Ordering.{is_lt, ordering_index, ordering_reverse, partial_lt}
 use Rattle.std.specs.declared.cmp.Ordering.TheVariants.{Less, Equal, Greater}
 use Rattle.roc_sequence.specs.Places.{IsListed}
+use Rattle.roc_sequence.proofs.Rising.{less_from_test}
 use Rattle.roc_sequence.proofs.Appended.{listed_front, listed_behind, listed_either}
 use Rattle.roc_base.specs.declared.id.TxnId.{TxnId}
 use Rattle.roc_base.specs.TxnId.{is_txn, txn_cmp, txn_lt}
-use Rattle.roc_base.proofs.Ids.{txn_cmp-total, txn_cmp-exact, is_lt-txn_cmp, none_rise}
+use Rattle.roc_base.specs.contracts.id.TxnIdPartialOrd.TheImpl.{partial_cmp-value}
+use Rattle.roc_base.proofs.Ids.{txn_cmp-total, txn_cmp-exact, is_lt-txn_cmp, txn_lt-trans, none_rise}
 use Rattle.roc_depgraph.proofs.Listed.{listed_one, in_one}
 use Rattle.roc_depgraph.proofs.RisingLists.{none_listed}
 use Rattle.roc_depgraph.proofs.Searched.{none, listed_there, stands_at, ids_sorted}
@@ -79,6 +84,10 @@ module _ (x : TxnId) where
 abbrev pub SaysPlace : (ids : List TxnId) (x : TxnId) (at : ℕ) → Type 0
 SaysPlace ids x at = IsNonDecreasingBy (λ y. ordering_index (txn_cmp y x)) ids → IsPlace x ids at
 
+-- the order of ids that code has is the one of clauses
+pub code_lt : (a b : TxnId) → partial_lt partial_cmp-value.it a b ≡ txn_lt a b
+code_lt a b = grind (arith, nat_tests)
+
 -- the least of a list, with one more, give those of the list with one more
 module _ (xs ids : List TxnId) (id : TxnId) (l : AreLeast (IsListed is_txn xs) ids) where
   least_listed : (u : TxnId) → IsListed is_txn ids u → IsListed is_txn xs u
@@ -128,6 +137,25 @@ module _ (xs ids : List TxnId) (id : TxnId) (l : AreLeast (IsListed is_txn xs) i
 
     pub passed : most_least ≤ at → AreLeast (IsListed is_txn (xs ++ id ∷ [])) ids
     passed h = subst (AreLeast (IsListed is_txn (xs ++ id ∷ []))) (front_stays id ids at most_least h within ∙ take_all most_least ids few) taken_in
+
+  -- where as many are kept as are the least, and the last of them comes before the id, all of them do
+  module _ (last : TxnId) (long : 15 < length ids) (is : (d : TxnId) → last ≡ get_or ids 15 d) (lower : txn_lt last id ≡ true) where
+    last_lower : (d : TxnId) → txn_lt (get_or ids 15 d) id ≡ true
+    last_lower d = subst (λ v. txn_lt v id ≡ true) (is d) lower
+
+    all_lower : (k : ℕ) (d : TxnId) → k < length ids → txn_lt (get_or ids k d) id ≡ true
+    all_lower k d h =
+        elim (cases_lt k 15) [
+          | inl low ↦
+              txn_lt-trans (get_or ids k d) (get_or ids 15 d) id (lt_from_less id (get_or ids k d) (get_or ids 15 d) (Less-from_sorted txn_cmp ids k 15 d ids_rise low long)) (last_lower d)
+          | inr high ↦ (let e : 15 ≡ k = (let f = few in omega arith) in subst (λ i. txn_lt (get_or ids i d) id ≡ true) e (last_lower d))
+        ]
+
+    pub beyond : AreLeast (IsListed is_txn (xs ++ id ∷ [])) ids
+    beyond =
+        passed (length ids) (omega arith)
+        (λ rise. (λ k d low high. less_from_test (txn_cmp (get_or ids k d) id) (is_lt-txn_cmp (get_or ids k d) id ∙ all_lower k d high), λ k d low high. absurd (omega arith)))
+        (omega arith)
 
   was_in : IsListed is_txn ids id → AreLeast (IsListed is_txn (xs ++ id ∷ [])) ids
   was_in here =

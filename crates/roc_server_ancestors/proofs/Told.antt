@@ -1,16 +1,15 @@
 -- What is told is kept, and what was kept stays
 use Rattle.std.proofs.Common.{◌≡◌, ℕ, ◌+◌, ◌<◌, Bool, true, false, cond, List, [], ◌∷◌, ◌++◌, ◌⊎◌, Some, length, take, get_or, refl, sym, ap, subst, ◌∙◌, inl, inr}
 use Rattle.std.proofs.lemmas.List.{take_more}
+use Rattle.std.specs.List.{flat_map}
 use Rattle.roc_sequence.specs.Lists.{Has}
 use Rattle.roc_sequence.specs.Places.{IsListed}
 use Rattle.roc_sequence.proofs.Appended.{listed_front, listed_behind, listed_either}
-use Rattle.roc_sequence.proofs.Members.{has_more, has_left, has_right}
+use Rattle.roc_sequence.proofs.Members.{has_more, has_left, has_right, has_flat_map, from_has_flat_map}
 use Rattle.roc_base.specs.declared.id.TxnId.{TxnId}
 use Rattle.roc_base.specs.TxnId.{is_txn}
 use Rattle.roc_base.specs.Equalities.{is_txn-same, is_txn-true}
-use Rattle.roc_depgraph.specs.declared.known.KnownList.{KnownList}
 use Rattle.roc_depgraph.proofs.Listed.{listed_has, has_listed, listed_one, in_one}
-use Rattle.roc_component.specs.Components.{AreComponentsOf}
 use Rattle.roc_server_ancestors.specs.Least.{row_of, HasRow, KeepsRows}
 use Rattle.roc_server_ancestors.specs.Inner.Met.{KeepAllRows}
 
@@ -66,14 +65,14 @@ keeps_list lists i none c rows0 rows rows2 h e k more =
           ];
     }
 
--- the components of a set have all its members
-pub keeps_set : (known : List KnownList) (M : List TxnId) (lists seen : List (List TxnId)) (old new : List (TxnId × List TxnId)) → AreComponentsOf known M lists → seen ≡ lists → KeepAllRows seen old new → KeepsRows M old new
-keeps_set known M lists seen old new are e k =
+-- all the members of lists, one after another
+pub keeps_members : (lists : List (List TxnId)) (old new : List (TxnId × List TxnId)) → KeepAllRows lists old new → KeepsRows (flat_map (λ c. c) lists) old new
+keeps_members lists old new k =
     record {
-      told = λ t l. let c = are.all t (listed_has M t l) in k.told c.0 (subst (Has c.0) (sym e) c.1) t (has_listed c.0 t c.2);
+      told = λ t l. let c = from_has_flat_map (λ c. c) t lists (listed_has (flat_map (λ c. c) lists) t l) in k.told c.0 c.1 t (has_listed c.0 t c.2);
       stay = k.stay;
       only = λ t r. elim (k.only t r) [
-        | inl p ↦ inl (has_listed M t (are.only p.0 (subst (Has p.0) e p.1) t (listed_has p.0 t p.2)))
+        | inl p ↦ inl (has_listed (flat_map (λ c. c) lists) t (has_flat_map (λ c. c) t p.0 lists p.1 (listed_has p.0 t p.2)))
         | inr was ↦ inr was
       ];
     }

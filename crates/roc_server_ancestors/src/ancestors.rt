@@ -1,12 +1,13 @@
 //! The least of decided transactions and their ancestors.
 ghost use Rattle.std.specs.Prelude.{◌≡◌, ◌+◌, ◌≤◌, ◌++◌, ◌∷◌, [], List, length, IsOk, IfOk, OnOk, OnErr};
 ghost use Rattle.std.specs.HashMap.{spare};
-ghost use Rattle.std.specs.List.{AllByRecursion, IsDistinct};
+ghost use Rattle.std.specs.List.{AllByRecursion, IsDistinct, flat_map};
 ghost use Rattle.roc_base.specs.declared.id.TxnId.{TxnId as Id};
 ghost use Rattle.roc_base.specs.TxnId.{is_txn};
 ghost use Rattle.roc_depgraph.specs.declared.known.KnownList.{KnownList as Known};
 ghost use Rattle.roc_depgraph.specs.Deps.{IsDecided, Precedes};
 ghost use Rattle.roc_depgraph.specs.Reach.{ReachesOrIs};
+ghost use Rattle.roc_component.specs.Components.{AreTaken};
 ghost use Rattle.roc_sequence.specs.Places.{IsListed};
 ghost use Rattle.roc_server_ancestors.specs.Led.{IsKnownAndLedTo};
 ghost use Rattle.roc_server_ancestors.specs.Least.{AreAllRight, AreLeast, AreNextRows, AreRows, AreSameRows, ids_of, IsRow, KeepsRows};
@@ -14,7 +15,7 @@ ghost use Rattle.roc_server_ancestors.specs.Inner.Met.{AreDecidedMates, KeepAllR
 
 use crate::search::met_from;
 use roc_base::{Edge, NoMemory, TxnId};
-use roc_component::components;
+use roc_component::taken_components;
 use roc_depgraph::Deps;
 use roc_sequence::Sequence;
 use std::alloc::Global;
@@ -88,15 +89,15 @@ impl Ancestors {
         Ok(ids)
     }
 
-    /// The least of each of these decided transactions and its ancestors. `take` keeps it.
-    pub fn ready(&self, deps: &Deps, ids: &[TxnId]) -> Result<NextRows, NoMemory>
+    /// The least of each member of these components and its ancestors, where the components are those of decided transactions, as they are taken. `take` keeps it.
+    pub fn ready(&self, deps: &Deps, components: &[Sequence<TxnId>]) -> Result<NextRows, NoMemory>
         requires rows { AreRows deps.now self.now.rows }
-        requires decided { (t : Id) → IsListed is_txn ids.now t → IsDecided deps.now t }
-        ensures { IfOk result (λ next. AreNextRows deps.now ids.now next) }
+        requires taken { AreTaken deps.now (flat_map (λ c. c) components.now) components.now }
+        requires decided { (t : Id) → IsListed is_txn (flat_map (λ c. c) components.now) t → IsDecided deps.now t }
+        ensures { IfOk result (AreNextRows deps.now (flat_map (λ c. c) components.now)) }
     {
-        let lists = components(self.alloc, deps, ids)?;
         let mut made = HashMap::new(self.alloc);
-        make_all(self.alloc, &self.rows, &mut made, deps, &lists)?;
+        make_all(self.alloc, &self.rows, &mut made, deps, components)?;
         let rows = listed(self.alloc, made)?;
         Ok(NextRows { rows })
     }
@@ -124,7 +125,8 @@ impl Ancestors {
         ensures kept { OnOk result (KeepsRows ids.now self.old.rows self.new.rows) }
         ensures err { OnErr result (AreSameRows self.old.rows self.new.rows) }
     {
-        let next = self.ready(deps, ids)?;
+        let components = taken_components(self.alloc, deps, ids)?;
+        let next = self.ready(deps, &components)?;
         self.take(next)
     }
 
@@ -266,6 +268,12 @@ fn least(alloc: Global, met: &[TxnId]) -> Result<Vec<TxnId>, NoMemory>
 fn take_in(ids: &mut Vec<TxnId>, id: TxnId) -> Result<(), NoMemory>
     ensures { (met : List Id) → AreLeast (IsListed is_txn met) ids.old.items → OnOk result (AreLeast (IsListed is_txn (met ++ id ∷ [])) ids.new.items) }
 {
+    // Mostly sixteen are kept already, and the id is greater than all of them.
+    if let Some(last) = ids.get(MOST_LEAST - 1) {
+        if *last < id {
+            return Ok(());
+        }
+    }
     if let Err(at) = ids.binary_search(&id) {
         if at < MOST_LEAST {
             ids.insert(at, id)?;

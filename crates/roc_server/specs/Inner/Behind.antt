@@ -1,6 +1,6 @@
 -- What is followed behind a settled transaction, and what is kept beside it
-use Rattle.std.specs.Prelude.{◌≡◌, ◌≤◌, ◌++◌, ℕ, List, Some, None, length}
-use Rattle.roc_sequence.specs.Places.{IsListed}
+use Rattle.std.specs.Prelude.{◌≡◌, ◌≤◌, ◌++◌, ℕ, List, Some, None, length, map}
+use Rattle.roc_sequence.specs.Places.{is_listed, IsListed}
 use Rattle.roc_base.specs.declared.id.TxnId.{TxnId}
 use Rattle.roc_base.specs.declared.node.Shard.{Shard}
 use Rattle.roc_base.specs.TxnId.{is_txn}
@@ -8,17 +8,25 @@ use Rattle.roc_depgraph.specs.declared.known.KnownList.{KnownList}
 use Rattle.roc_depgraph.specs.Closure.{IsRisingListOf}
 use Rattle.roc_server_ancestors.specs.Least.{AreAllRight, AreRows, HeldRows}
 use Rattle.roc_server_lists.specs.Decided.{DecidedIds}
+use Rattle.roc_server_lists.specs.Links.{without_links}
 use Rattle.roc_server.specs.declared.behind.Behind.{Behind}
 use Rattle.roc_server.specs.declared.behind.Behind.TheVariants.{More as Adds, Left as Leaves}
 use Rattle.roc_server.specs.declared.behind.More.{More}
+use Rattle.roc_server.specs.declared.behind.NextLinks.{NextLinks}
+use Rattle.roc_server.specs.declared.behind.NextLinks.TheVariants.{Anew, Without}
 use Rattle.roc_server.specs.declared.server_data.ServerData.{ServerData}
 use Rattle.roc_server.specs.Forgets.{forget}
 use Rattle.roc_server.specs.Inner.Left.{IsOver}
 use Rattle.roc_server.specs.Inner.ServerData.{state_of, IsConsistent, IsRight}
 
+-- what is followed then, where this was
+abbrev pub followed_then : List KnownList → NextLinks → List KnownList
+followed_then known (Anew links) = links
+followed_then known (Without ids) = map (without_links (is_listed is_txn ids.items)) known
+
 -- these are followed, right rows stay right, and these are right rows of what is newly decided
 pub record IsMore (known links : List KnownList) (m : More) : Type 0 where
-  pub links_are : m.links ≡ links
+  pub links_are : followed_then known m.links ≡ links
   pub stay : (rows : List (TxnId × List TxnId)) → AreRows known rows → AreRows links rows
   pub rows : AreAllRight links m.rows
 
@@ -50,6 +58,6 @@ pub record IsKeptBy (old new : ServerData) (links : List KnownList) : Type 0 whe
 
 -- these are followed, and this is added to what is decided and to the rows
 pub record IsAdded (old new : ServerData) (ids : List TxnId) (m : More) : Type 0 where
-  pub is : new ≡ record old { links = m.links; decided = new.decided; ancestors = new.ancestors }
+  pub is : new ≡ record old { links = followed_then old.links m.links; decided = new.decided; ancestors = new.ancestors }
   pub decided : IsRisingListOf (IsListed is_txn (old.decided.ids ++ ids)) new.decided.ids
   pub rows : (known : List KnownList) → AreRows known old.ancestors.rows → AreAllRight known m.rows → AreRows known new.ancestors.rows

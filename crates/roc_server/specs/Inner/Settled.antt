@@ -1,12 +1,12 @@
 -- A watermark is heard, or a transaction is settled, part by part
-use Rattle.std.specs.Prelude.{◌≡◌, ◌≤◌, ◌++◌, ◌&&◌, ℕ, List, length, map, filter}
+use Rattle.std.specs.Prelude.{◌≡◌, ◌≤◌, ◌++◌, ◌&&◌, ℕ, Bool, List, [], None, length, map, filter}
 use Rattle.std.specs.List.{flat_map}
 use Rattle.std.specs.List.Sorted.{IsStrictlySortedBy}
 use Rattle.roc_sequence.specs.Places.{is_listed, IsListed}
 use Rattle.roc_base.specs.TxnId.{is_txn, txn_cmp}
 use Rattle.roc_base.specs.declared.id.TxnId.{TxnId}
 use Rattle.roc_base.specs.declared.node.Shard.{Shard}
-use Rattle.roc_await.specs.Lacks.{AreLacks}
+use Rattle.roc_await.specs.Lacks.{AreLacks, NextLacks}
 use Rattle.roc_depgraph.specs.declared.known.KnownList.{KnownList}
 use Rattle.roc_depgraph.specs.Deps.{is_known, IsDecided, IsKnown}
 use Rattle.roc_msg.specs.declared.msg.Msg.TheVariants as msg
@@ -55,6 +55,19 @@ pub record IsDeciding (k : ServerData) (settled : List TxnId) (d : Deciding) : T
   pub lacks : AreLacks d.links d.lacks.lacks
   pub chosen : AreNewTaken (IsListed is_txn k.decided.ids) d.links d.components.items
   pub ids : d.ids.items ≡ flat_map (λ c. c) d.components.items
+
+-- the watermarks, the transaction where its watermark ends it, and whether its list is known
+pub record AreSettled (k : ServerData) (id : TxnId) (mark : ℕ) (marks : List ℕ) (settled : List TxnId) (known : Bool) : Type 0 where
+  pub marks_are : marks ≡ raised k.marks id.coord mark
+  pub listed : (t : TxnId) → is_listed is_txn settled t ≡ (is_txn t id && is_ended marks t)
+  pub rising : IsStrictlySortedBy txn_cmp settled
+  pub known_is : known ≡ is_known k.known id
+
+-- this is lacking then, nothing is newly decided, and nothing is over
+pub record IsLess (k : ServerData) (marks : List ℕ) (settled : List TxnId) (next : NextLacks) : Type 0 where
+  pub lacks : AreLacks (links_settled k.links settled) next.lacks
+  pub none_new : AreNewTaken (IsListed is_txn k.decided.ids) (links_settled k.links settled) []
+  pub none_over : IsOver marks k.taken.components (links_settled k.links settled) None
 
 -- what comes of a settled transaction
 pub record IsSettling (k : ServerData) (id : TxnId) (mark : ℕ) (f : Settling) : Type 0 where
