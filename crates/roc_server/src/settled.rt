@@ -187,7 +187,7 @@ fn make_room_behind(kept: &mut ServerData, found: &Settling) -> Result<(), NoMem
     kept.ancestors.reserve(count_of_rows(&found.behind))
 }
 
-// Finds what comes of a settled transaction. Mostly others are still lacking, so it is only that its entries are done.
+// Finds what comes of a settled transaction. Where others are still lacking, it may be only that its entries are done.
 fn find_settled(
     alloc: Global,
     kept: &ServerData,
