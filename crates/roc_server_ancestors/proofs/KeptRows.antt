@@ -18,8 +18,8 @@ use Rattle.roc_depgraph.proofs.Listed.{listed_has, has_listed, listed_one, in_on
 use Rattle.roc_component.specs.Components.{among, AreTaken, Mates}
 use Rattle.roc_component.proofs.Relations.{mates_sym, mates_reach, mates_weaker, reach_trans}
 use Rattle.roc_server_ancestors.specs.Led.{IsLedTo, IsKnownAndLedTo}
-use Rattle.roc_server_ancestors.specs.Least.{most_least, AreLeast, IsRow, AreRows, row_of}
-use Rattle.roc_server_ancestors.specs.Inner.Met.{CoversLeast, AreDecidedMates}
+use Rattle.roc_server_ancestors.specs.Least.{most_least, AreDecidedMates, AreLeast, IsRow, AreRows, row_of}
+use Rattle.roc_server_ancestors.specs.Inner.Met.{CoversLeast}
 use Rattle.roc_server_ancestors.proofs.Fronts.{before_more, least_met}
 use Rattle.roc_server_ancestors.proofs.Leads.{named_own, entry_named}
 

@@ -9,6 +9,7 @@ use Rattle.roc_depgraph.specs.declared.known.KnownList.{KnownList}
 use Rattle.roc_depgraph.specs.Closure.{IsRisingListOf}
 use Rattle.roc_depgraph.specs.Deps.{Precedes, IsDecided}
 use Rattle.roc_depgraph.specs.Reach.{ReachesOrIs}
+use Rattle.roc_component.specs.Components.{Mates}
 
 -- how many are the least
 abbrev pub most_least : ℕ
@@ -32,6 +33,11 @@ row_of t rows = lookup (is_txn t) rows
 -- what is kept is right
 abbrev pub AreRows : List KnownList → List (TxnId × List TxnId) → Type 0
 AreRows known rows = (t : TxnId) (ids : List TxnId) → row_of t rows ≡ Some ids → IsRow known t ids
+
+-- they are decided, and reach one another
+pub record AreDecidedMates (known : List KnownList) (ids : List TxnId) : Type 0 where
+  pub decided : (t : TxnId) → IsListed is_txn ids t → IsDecided known t
+  pub mates : (x u : TxnId) → IsListed is_txn ids x → IsListed is_txn ids u → Mates (Precedes known) x u
 
 -- something is kept of t
 abbrev pub HasRow : List (TxnId × List TxnId) → TxnId → Type 0

@@ -7,11 +7,10 @@ ghost use Rattle.roc_base.specs.TxnId.{is_txn};
 ghost use Rattle.roc_depgraph.specs.declared.known.KnownList.{KnownList as Known};
 ghost use Rattle.roc_depgraph.specs.Deps.{IsDecided, Precedes};
 ghost use Rattle.roc_depgraph.specs.Reach.{ReachesOrIs};
-ghost use Rattle.roc_component.specs.Components.{AreTaken};
 ghost use Rattle.roc_sequence.specs.Places.{IsListed};
 ghost use Rattle.roc_server_ancestors.specs.Led.{IsKnownAndLedTo};
-ghost use Rattle.roc_server_ancestors.specs.Least.{AreAllRight, AreLeast, AreNextRows, AreRows, AreSameRows, ids_of, IsRow, KeepsRows};
-ghost use Rattle.roc_server_ancestors.specs.Inner.Met.{AreDecidedMates, KeepAllRows, Moves};
+ghost use Rattle.roc_server_ancestors.specs.Least.{AreAllRight, AreDecidedMates, AreLeast, AreNextRows, AreRows, AreSameRows, ids_of, IsRow, KeepsRows};
+ghost use Rattle.roc_server_ancestors.specs.Inner.Met.{KeepAllRows, Moves};
 
 use crate::search::met_from;
 use roc_base::{Edge, NoMemory, TxnId};
@@ -89,11 +88,10 @@ impl Ancestors {
         Ok(ids)
     }
 
-    /// The least of each member of these components and its ancestors, where the components are those of decided transactions, as they are taken. `take` keeps it.
+    /// The least of each member of these components and its ancestors. The components are of decided transactions. `take` keeps it.
     pub fn ready(&self, deps: &Deps, components: &[Sequence<TxnId>]) -> Result<NextRows, NoMemory>
         requires rows { AreRows deps.now self.now.rows }
-        requires taken { AreTaken deps.now (flat_map (λ c. c) components.now) components.now }
-        requires decided { (t : Id) → IsListed is_txn (flat_map (λ c. c) components.now) t → IsDecided deps.now t }
+        requires mates { AllByRecursion (AreDecidedMates deps.now) components.now }
         ensures { IfOk result (AreNextRows deps.now (flat_map (λ c. c) components.now)) }
     {
         let mut made = HashMap::new(self.alloc);

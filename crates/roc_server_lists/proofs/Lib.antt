@@ -6,6 +6,7 @@ pub mod Learnable
 pub mod Learning
 pub mod LearntLast
 pub mod LeastNaming
+pub mod LeftRows
 mod KnownEntries
 mod LinksLeft
 mod NewsOfFacts

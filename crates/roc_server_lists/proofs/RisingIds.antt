@@ -1,12 +1,14 @@
 -- The keys of a set, by id rising, are its keys
-use Rattle.std.proofs.Common.{◌≡◌, Bool, true, false, if◌then◌else◌, List, [], ◌∷◌, ◌++◌, ◌⊎◌, refl, sym, ap, subst, ◌∙◌, inl, inr}
-use Rattle.std.proofs.lemmas.Bool.{false≢true}
+use Rattle.std.proofs.Common.{◌≡◌, Bool, true, false, not, filter, if◌then◌else◌, List, [], ◌∷◌, ◌++◌, ◌⊎◌, refl, sym, ap, subst, ◌∙◌, inl, inr}
+use Rattle.std.proofs.lemmas.Bool.{false≢true, not-true, not_from_false}
 use Rattle.std.specs.List.Sorted.{IsStrictlySortedBy}
 use Rattle.roc_sequence.specs.Places.{IsListed, is_listed}
+use Rattle.roc_sequence.proofs.Filtered.{from_listed_filter, listed_filter}
 use Rattle.roc_sequence.proofs.Places.{listed_test, unlisted_test, listed_true, listed_false}
 use Rattle.roc_sequence.proofs.Appended.{listed_front, listed_behind, listed_either}
 use Rattle.roc_base.specs.declared.id.TxnId.{TxnId}
 use Rattle.roc_base.specs.TxnId.{is_txn, txn_cmp, txn_lt}
+use Rattle.roc_base.specs.Equalities.{is_txn-true}
 use Rattle.roc_base.proofs.Ids.{txn_lt-trans, txn_cases, none_rise}
 use Rattle.roc_depgraph.specs.Closure.{IsRisingListOf}
 use Rattle.roc_depgraph.proofs.Listed.{listed_one, in_one}
@@ -111,6 +113,21 @@ ids_added old ids new added =
         | inl k ↦ listed_front is_txn old ids u (was.sound u k)
         | inr k ↦ listed_behind is_txn old ids u k.1
       ])));
+    }
+
+-- and these are left out
+pub ids_left : (was old new ids : List TxnId) → rising_ids old ≡ was → new ≡ filter (λ t. not (is_listed is_txn ids t)) old → IsRisingListOf (λ t. IsListed is_txn was t × (is_listed is_txn ids t ≡ false)) (rising_ids new)
+ids_left was old new ids same left =
+    let now = rising_of new in
+    record {
+      rising = now.rising;
+      sound = λ u l.
+          let p = from_listed_filter is_txn is_txn-true (λ t. not (is_listed is_txn ids t)) old u (subst (λ ts. IsListed is_txn ts u) left (now.sound u l)) in
+          (subst (λ ts. IsListed is_txn ts u) same ((rising_of old).complete u p.1), not-true (is_listed is_txn ids u) p.0);
+      complete = λ u p.
+          now.complete u
+          (subst (λ ts. IsListed is_txn ts u) (sym left)
+          (listed_filter is_txn is_txn-true (λ t. not (is_listed is_txn ids t)) old u (not_from_false (is_listed is_txn ids u) p.1) ((rising_of old).sound u (subst (λ ts. IsListed is_txn ts u) (sym same) p.0))));
     }
 
 pub no_ids : (xs : List TxnId) → xs ≡ [] → rising_ids xs ≡ []

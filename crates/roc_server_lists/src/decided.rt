@@ -1,7 +1,8 @@
 //! What is decided, and what is newly so.
-ghost use Rattle.std.specs.Prelude.{◌≡◌, ◌+◌, ◌≤◌, ◌++◌, [], List, length, IsOk, IfOk, OnOk, OnErr};
+ghost use Rattle.std.specs.Prelude.{◌≡◌, ◌+◌, ◌≤◌, ◌++◌, [], false, not, filter, List, length, IsOk, IfOk, OnOk, OnErr};
 ghost use Rattle.std.specs.HashSet.{spare};
-ghost use Rattle.roc_base.specs.TxnId.{is_txn};
+ghost use Rattle.std.specs.List.Sorted.{IsStrictlySortedBy};
+ghost use Rattle.roc_base.specs.TxnId.{is_txn, txn_cmp};
 ghost use Rattle.roc_base.specs.declared.id.TxnId.{TxnId as Id};
 ghost use Rattle.roc_depgraph.specs.Closure.{IsRisingListOf};
 ghost use Rattle.roc_sequence.specs.Places.{IsListed, is_listed};
@@ -9,7 +10,7 @@ ghost use Rattle.roc_server_lists.specs.New.{AreAllNew, AreNewTaken};
 
 use roc_base::{NoMemory, TxnId};
 use roc_component::taken_components;
-use roc_depgraph::Deps;
+use roc_depgraph::{Deps, is_among_rising};
 use roc_sequence::Sequence;
 use std::alloc::Global;
 use std::collections::HashSet;
@@ -60,6 +61,14 @@ impl Decided {
         Ok(())
     }
 
+    /// These, which rise, are forgotten, so they are decided no longer. Takes no memory.
+    pub fn forget(&mut self, ids: &[TxnId])
+        requires { IsStrictlySortedBy txn_cmp ids.now }
+        ensures { IsRisingListOf (λ t. IsListed is_txn self.old.ids t × (is_listed is_txn ids.now t ≡ false)) self.new.ids }
+    {
+        keep_others(&mut self.ids, ids);
+    }
+
     /// How many more can be taken without fail. Takes no memory.
     pub fn spare(&self) -> usize
         ensures { result ≡ self.now.spare }
@@ -88,6 +97,14 @@ fn add_all(set: &mut HashSet<TxnId>, ids: &[TxnId])
     for id in ids {
         set.insert(*id).unwrap();
     }
+}
+
+// Those of other transactions than these, which rise, stay.
+fn keep_others(set: &mut HashSet<TxnId>, ids: &[TxnId])
+    requires { IsStrictlySortedBy txn_cmp ids.now }
+    ensures { set.new.keys ≡ filter (λ t. not (is_listed is_txn ids.now t)) set.old.keys }
+{
+    set.retain(|id| !is_among_rising(ids, *id));
 }
 
 /// What is decided and was not before, in the components in which it is taken, in that order. `NoMemory` comes where there is none for

@@ -7,8 +7,6 @@ use Rattle.roc_sequence.specs.Places.{IsListed}
 use Rattle.roc_base.specs.declared.id.TxnId.{TxnId}
 use Rattle.roc_base.specs.TxnId.{is_txn, txn_cmp, txn_lt}
 use Rattle.roc_depgraph.specs.declared.known.KnownList.{KnownList}
-use Rattle.roc_depgraph.specs.Deps.{Precedes, IsDecided}
-use Rattle.roc_component.specs.Components.{Mates}
 use Rattle.roc_server_ancestors.specs.Least.{most_least, AreAllRight, AreRows, HasRow, ids_of, KeepsRows}
 
 -- n of xs come before u
@@ -25,11 +23,6 @@ pub record CoversLeast (P : TxnId → Type 0) (met : List TxnId) : Type 0 where
   pub complete : (u : TxnId) → P u → IsListed is_txn full u
   pub among : (u : TxnId) → IsListed is_txn met u → IsListed is_txn full u
   pub near : (u : TxnId) → IsListed is_txn full u → IsListed is_txn met u ⊎ HasBefore most_least met u
-
--- they are decided, and reach one another
-pub record AreDecidedMates (known : List KnownList) (ids : List TxnId) : Type 0 where
-  pub decided : (t : TxnId) → IsListed is_txn ids t → IsDecided known t
-  pub mates : (x u : TxnId) → IsListed is_txn ids x → IsListed is_txn ids u → Mates (Precedes known) x u
 
 -- something is kept of each member of these lists, and of each of which something was, and of no other
 pub record KeepAllRows (lists : List (List TxnId)) (old new : List (TxnId × List TxnId)) : Type 0 where

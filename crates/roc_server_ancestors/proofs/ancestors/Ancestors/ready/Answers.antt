@@ -2,7 +2,6 @@ use Rattle.std.proofs.Common.{subst, sym}
 use Rattle.std.specs.List.{flat_map}
 use Rattle.roc_server_ancestors.specs.Least.{AreRows, HeldRows}
 use Rattle.roc_server_ancestors.proofs.FoundRows.{no_rows}
-use Rattle.roc_server_ancestors.proofs.KeptRows.{decided_mates}
 use Rattle.roc_server_ancestors.proofs.Readied.{next_rows}
 use Rattle.roc_server_ancestors.proofs.Told.{keeps_members}
 use Rattle.roc_server_ancestors.proofs.ancestors.Ancestors.ready.Goals as goal
@@ -12,9 +11,6 @@ make_all-requires-clause-rows c = subst (λ (h : HeldRows). AreRows c.args.deps.
 
 pub make_all-requires-clause-made : goal.make_all-requires-clause-made
 make_all-requires-clause-made c = no_rows c.args.deps.now c.new-made.result.entries c.new-made.ensures.empty
-
-pub make_all-requires-clause-mates : goal.make_all-requires-clause-mates
-make_all-requires-clause-mates c = decided_mates c.args.deps.now (flat_map (λ c. c) c.args.components.now) c.args.components.now c.requires.decided c.requires.taken
 
 pub returns : goal.returns
 returns c =
