@@ -19,6 +19,8 @@ use Rattle.roc_depgraph.specs.Closure.{IsRisingListOf}
 use Rattle.roc_depgraph.specs.Deps.{is_known, IsDecided}
 use Rattle.roc_depgraph.proofs.Listed.{has_listed, listed_has}
 use Rattle.roc_rows.specs.declared.cell.Cell.{Cell}
+use Rattle.roc_server_ancestors.specs.Least.{AreRows, HeldRows}
+use Rattle.roc_server_lists.specs.Decided.{DecidedIds}
 use Rattle.roc_server_lists.specs.Links.{all_entries, without_links, AreLinksOf}
 use Rattle.roc_server_lists.proofs.FollowedLinks.{links_left}
 use Rattle.roc_server_lists.proofs.ForgottenLinks.{decided_left, known_left, lacks_left, left_decided, left_known}
@@ -30,10 +32,10 @@ use Rattle.roc_server.specs.Below.{is_ended}
 use Rattle.roc_server.specs.Forgets.{forget, is_over, over}
 use Rattle.roc_server.specs.Start.{uses_cell}
 use Rattle.roc_server.specs.State.{is_here}
-use Rattle.roc_server.specs.Inner.Forgetting.{Forgets, IsForgettable}
+use Rattle.roc_server.specs.Inner.Forgetting.{Forgets, IsForgettable, IsOverOf}
 use Rattle.roc_server.specs.Inner.Indexed.{group_ref_of, group_refs_of, undecided}
 use Rattle.roc_server.specs.Inner.Keyed.{Entered}
-use Rattle.roc_server.specs.Inner.Left.{links_left as links_left_of, IsLeft, IsOver, TakenComponents}
+use Rattle.roc_server.specs.Inner.Left.{links_left as links_left_of, rows_behind, IsLeft, IsOver, TakenComponents}
 use Rattle.roc_server.specs.Inner.ServerData.{state_of, is_left, is_same_group, IsConsistent, IsRight}
 use Rattle.roc_server.proofs.IndexSteps.{filter_both}
 use Rattle.roc_server.proofs.SomeLeft.{any_some, members, member_all, member_some, members_once, none_of_others, not_in_two, once_some, some_member}
@@ -60,7 +62,8 @@ index_left forgotten before after were same c (e ∷ es) = go (forgotten e.id) r
 
 -- ---- something is over
 
-module _ (was : ServerData) (left : Left) (right : IsRight was) (o : IsOver was.marks was.taken.components was.links (Some left)) where
+module _ (was : ServerData) (left : Left) (right : IsRight was) (o : IsOver was.marks was.taken.components was.links (Some left)) (decided : DecidedIds)
+    (decided_are : IsRisingListOf (λ t. IsListed is_txn was.decided.ids t × (is_listed is_txn left.over.items t ≡ false)) decided.ids) where
   abbrev gone : List TxnId
   gone = left.over.items
 
@@ -112,17 +115,21 @@ module _ (was : ServerData) (left : Left) (right : IsRight was) (o : IsOver was.
   left_links = links_left_of was.links gone
 
   -- about all others nothing changes
-  stays_decided : (t : TxnId) → IsDecided was.links t → forgotten t ≡ false → IsListed is_txn left.decided.ids t
-  stays_decided t d n = rest.decided.complete t (subst (λ ks. IsDecided ks t) (sym rest.links_are) (decided_left forgotten was.links t d n))
+  still_decided : (t : TxnId) → IsListed is_txn decided.ids t → IsDecided left.links t
+  still_decided t l =
+      let p = decided_are.sound t l in
+      subst (λ ks. IsDecided ks t) (sym rest.links_are) (decided_left forgotten was.links t (right.decided_only t p.0) p.1)
 
-  was_so : (t : TxnId) → IsListed is_txn left.decided.ids t → IsDecided was.links t × (forgotten t ≡ false)
-  was_so t l = left_decided forgotten was.links was_decided t (subst (λ ks. IsDecided ks t) rest.links_are (rest.decided.sound t l))
+  decided_still : (t : TxnId) → IsDecided left.links t → IsListed is_txn decided.ids t
+  decided_still t d =
+      let p = left_decided forgotten was.links was_decided t (subst (λ ks. IsDecided ks t) rest.links_are d) in
+      decided_are.complete t (right.decided_all t p.0, p.1)
 
-  same_decided : (t : TxnId) → forgotten t ≡ false → is_listed is_txn left.decided.ids t ≡ is_listed is_txn was.decided.ids t
+  same_decided : (t : TxnId) → forgotten t ≡ false → is_listed is_txn decided.ids t ≡ is_listed is_txn was.decided.ids t
   same_decided t n =
-      same_tests (is_listed is_txn left.decided.ids t) (is_listed is_txn was.decided.ids t)
-      (λ e. listed_test is_txn was.decided.ids t (right.decided_all t (was_so t (listed_true is_txn left.decided.ids t e)).0))
-      (λ e. listed_test is_txn left.decided.ids t (stays_decided t (right.decided_only t (listed_true is_txn was.decided.ids t e)) n))
+      same_tests (is_listed is_txn decided.ids t) (is_listed is_txn was.decided.ids t)
+      (λ e. listed_test is_txn was.decided.ids t (decided_are.sound t (listed_true is_txn decided.ids t e)).0)
+      (λ e. listed_test is_txn decided.ids t (decided_are.complete t (listed_true is_txn was.decided.ids t e, n)))
 
   same_known : (t : TxnId) → forgotten t ≡ false → is_known left_links t ≡ is_known was.links t
   same_known t n = same_tests (is_known left_links t) (is_known was.links t) (λ e. (known_left forgotten was.links t e).0) (λ e. left_known forgotten was.links t e n)
@@ -171,11 +178,11 @@ module _ (was : ServerData) (left : Left) (right : IsRight was) (o : IsOver was.
 
   -- ---- what is left is consistent
 
-  module _ (started : Entered) (known : List KnownList) (waits : Awaited) (taken : TakenComponents) (groups_are : started.groups ≡ some_started) (known_are : known ≡ filter (λ k. stays k.of) was.known)
+  module _ (started : Entered) (known : List KnownList) (waits : Awaited) (taken : TakenComponents) (ancestors : HeldRows) (rows_are : AreRows left.links ancestors.rows) (groups_are : started.groups ≡ some_started) (known_are : known ≡ filter (λ k. stays k.of) was.known)
       (waiting_is : waits.waiting ≡ without_asked forgotten was.waits.waiting) (fetches_are : waits.fetches ≡ filter (λ a. stays a.id) was.waits.fetches)
       (taken_are : taken.components ≡ filter (λ c. not (passes c)) components) where
     abbrev new : ServerData
-    new = record was { started = started; known = known; links = left.links; waits = waits; decided = left.decided; ancestors = left.ancestors; taken = taken }
+    new = record was { started = started; known = known; links = left.links; waits = waits; decided = decided; ancestors = ancestors; taken = taken }
 
     asked_are : waits.waiting.asked ≡ some_asked
     asked_are = ap (λ (w : Waiting). w.asked) waiting_is
@@ -198,15 +205,15 @@ module _ (was : ServerData) (left : Left) (right : IsRight was) (o : IsOver was.
     right_now : IsRight new
     right_now = record {
       groups_once = subst (NoneTwice is_same_group) (sym groups_are) (once_some is_same_group (λ e. stays e.id) was.started.groups right.groups_once);
-      decided_rising = rest.decided.rising;
-      decided_only = rest.decided.sound;
-      decided_all = rest.decided.complete;
-      rows = rest.rows;
+      decided_rising = decided_are.rising;
+      decided_only = still_decided;
+      decided_all = decided_still;
+      rows = rows_are;
       lacks = subst (λ ks. AreLacks ks was.lacks) (sym rest.links_are) (lacks_left forgotten was.links was_decided was.lacks right.lacks);
       index = λ c.
           right.index c
-          ∙ index_left forgotten was.decided.ids left.decided.ids (λ t e. listed_test is_txn was.decided.ids t (right.decided_all t (was_decided t e))) same_decided c was.started.groups
-          ∙ ap (λ es. undecided left.decided.ids (group_refs_of c es)) (sym groups_are);
+          ∙ index_left forgotten was.decided.ids decided.ids (λ t e. listed_test is_txn was.decided.ids t (right.decided_all t (was_decided t e))) same_decided c was.started.groups
+          ∙ ap (λ es. undecided decided.ids (group_refs_of c es)) (sym groups_are);
       none_left =
           subst (λ es. AllByRecursion (λ d. left_over left.links es waits.waiting.asked d ≡ false) (all_entries left.links)) (sym groups_are)
           (subst (λ asked. AllByRecursion (λ d. left_over left.links some_started asked d ≡ false) (all_entries left.links)) (sym asked_are)
@@ -215,8 +222,8 @@ module _ (was : ServerData) (left : Left) (right : IsRight was) (o : IsOver was.
       linked =
           subst (λ ks. AreLinksOf (is_ended was.marks) ks left.links) (sym known_are)
           (subst (AreLinksOf (is_ended was.marks) (filter (λ k. stays k.of) was.known)) (sym rest.links_are) (links_left (is_ended was.marks) forgotten were_ended stays was.known was.links right.linked));
-      taken_decided = λ t l. let p = open_members t l in stays_decided t (right.decided_only t (right.taken_decided t p.0)) p.1;
-      decided_taken = λ t l. let p = was_so t l in members_open t (right.decided_taken t (right.decided_all t p.0)) p.1;
+      taken_decided = λ t l. let p = open_members t l in decided_are.complete t (right.taken_decided t p.0, p.1);
+      decided_taken = λ t l. let p = decided_are.sound t l in members_open t (right.decided_taken t p.0) p.1;
       taken_once = subst (λ cs. NoneTwice is_txn (members cs)) (sym taken_are) (members_once (λ c. not (passes c)) components right.taken_once);
       taken_some = λ c h. right.taken_some c (from_has_filter (λ c. not (passes c)) c components (subst (Has c) taken_are h)).0;
     }
@@ -242,17 +249,35 @@ module _ (was : ServerData) (left : Left) (right : IsRight was) (o : IsOver was.
     forgets old = record { state = state_now; sound = forgotten_now }
 
 -- the same, where other things were made anew already, by the lists of what is forgotten that the calls were given
-pub forgets_from : (old : ServerData) (left : Left) (f : IsForgettable old left) (first second third : List TxnId) (started : Entered) (known : List KnownList) (waits : Awaited) (taken : TakenComponents)
-    → first ≡ left.over.items → second ≡ left.over.items → third ≡ left.over.items → started.groups ≡ filter (λ e. not (is_listed is_txn first e.id)) old.started.groups
+pub forgets_from : (old : ServerData) (left : Left) (f : IsForgettable old left) (first second third fourth : List TxnId) (started : Entered) (known : List KnownList) (waits : Awaited) (taken : TakenComponents) (decided : DecidedIds)
+    (ancestors : HeldRows) → first ≡ left.over.items → second ≡ left.over.items → third ≡ left.over.items → fourth ≡ left.over.items → started.groups ≡ filter (λ e. not (is_listed is_txn first e.id)) old.started.groups
     → known ≡ filter (λ k. not (is_listed is_txn second k.of)) old.known → waits.waiting ≡ without_asked (is_listed is_txn third) old.waits.waiting
     → waits.fetches ≡ filter (λ a. not (is_listed is_txn third a.id)) old.waits.fetches → taken.components ≡ filter (λ c. not (is_over old.marks c)) old.taken.components
-    → Forgets old (record old { started = started; known = known; links = left.links; waits = waits; decided = left.decided; ancestors = left.ancestors; taken = taken }) f.was
-forgets_from old left f first second third started known waits taken one two three groups_are known_are waiting_is fetches_are taken_are =
+    → IsRisingListOf (λ t. IsListed is_txn old.decided.ids t × (is_listed is_txn fourth t ≡ false)) decided.ids → ancestors.rows ≡ rows_behind old.ancestors.rows left.ancestors
+    → Forgets old (record old { started = started; known = known; links = left.links; waits = waits; decided = decided; ancestors = ancestors; taken = taken }) f.was
+forgets_from old left f first second third fourth started known waits taken decided ancestors one two three four groups_are known_are waiting_is fetches_are taken_are decided_are rows_are =
     subst (λ k. Forgets old k f.was)
-    (λ i. record (sym f.same i) { started = started; known = known; links = left.links; waits = waits; decided = left.decided; ancestors = left.ancestors; taken = taken })
-    (forgets f.was left f.is_over.right f.is_over.over started known waits taken
+    (λ i. record (sym f.same i) { started = started; known = known; links = left.links; waits = waits; decided = decided; ancestors = ancestors; taken = taken })
+    (forgets f.was left f.right f.over decided
+    (subst (λ (k : ServerData). IsRisingListOf (λ t. IsListed is_txn k.decided.ids t × (is_listed is_txn left.over.items t ≡ false)) decided.ids) f.same
+    (subst (λ ids. IsRisingListOf (λ t. IsListed is_txn old.decided.ids t × (is_listed is_txn ids t ≡ false)) decided.ids) four decided_are))
+    started known waits taken ancestors (subst (AreRows left.links) (sym rows_are) f.rows)
     (groups_are ∙ (λ i. filter (λ (e : StartedGroup). not (is_listed is_txn (one i) e.id)) (f.same i).started.groups))
     (known_are ∙ (λ i. filter (λ (k : KnownList). not (is_listed is_txn (two i) k.of)) (f.same i).known))
     (waiting_is ∙ (λ i. without_asked (is_listed is_txn (three i)) (f.same i).waits.waiting))
     (fetches_are ∙ (λ i. filter (λ (a : OpenFetch). not (is_listed is_txn (three i) a.id)) (f.same i).waits.fetches))
     (taken_are ∙ (λ i. filter (λ (c : List TxnId). not (is_over (f.same i).marks c)) (f.same i).taken.components)) old)
+
+-- where none is kept, all are right
+pub no_rows : (links : List KnownList) → AreRows links []
+no_rows links t ids is = absurd (cc)
+
+-- what is over of what is kept is forgotten so, whatever rows are kept
+abbrev pub forgettable : (k : ServerData) (left : Left) → IsOverOf k (Some left) → IsForgettable k left
+forgettable k left o = record {
+  was = record k { ancestors = record { rows = []; spare = 0 } };
+  same = refl;
+  right = o.right (record { rows = []; spare = 0 }) (no_rows k.links);
+  over = o.over;
+  rows = o.rows;
+}

@@ -1,5 +1,5 @@
 -- What comes of a watermark, or of a settled transaction, is found
-use Rattle.std.proofs.Common.{◌≡◌, ◌↔◌, ◌++◌, ◌&&◌, ℕ, Bool, true, false, not, List, [], ◌∷◌, Option, Some, None, Bor, is_some, map, filter, refl, sym, ap, subst, ◌∙◌, inl, inr}
+use Rattle.std.proofs.Common.{◌≡◌, ◌++◌, ◌&&◌, ℕ, Bool, true, false, not, List, [], ◌∷◌, Option, Some, None, Bor, is_some, map, filter, refl, sym, ap, subst, ◌∙◌, inl, inr}
 use Rattle.std.proofs.lemmas.Bool.{and_parts, false≢true, not-true, not_from_false}
 use Rattle.std.proofs.lemmas.Grind.{flat_map-append}
 use Rattle.std.proofs.lemmas.List.{append-nil}
@@ -7,9 +7,9 @@ use Rattle.std.proofs.lemmas.List.Elements.{filter-append}
 use Rattle.std.specs.List.Sorted.{IsStrictlySortedBy}
 use Rattle.std.specs.Option.{option_copied}
 use Rattle.roc_sequence.specs.Places.{is_listed, IsListed}
-use Rattle.roc_sequence.proofs.Appended.{listed_front, listed_behind, listed_either}
+use Rattle.roc_sequence.proofs.Appended.{listed_either}
 use Rattle.roc_sequence.proofs.Filtered.{from_listed_filter, listed_filter}
-use Rattle.roc_sequence.proofs.Places.{listed_false, listed_head, listed_or_not, listed_test, unlisted_test}
+use Rattle.roc_sequence.proofs.Places.{listed_false, listed_head, listed_test, unlisted_test}
 use Rattle.roc_base.specs.declared.id.TxnId.{TxnId}
 use Rattle.roc_base.specs.TxnId.{is_txn, txn_cmp}
 use Rattle.roc_base.specs.Edge.{Dependency}
@@ -44,18 +44,12 @@ use Rattle.roc_server.specs.Inner.Settled.{links_settled, AreSettled, AreUnknown
 use Rattle.roc_server.proofs.IndexSteps.{filter_all}
 use Rattle.roc_server.proofs.MarkedLinks.{still_decided}
 use Rattle.roc_server.proofs.ReleasedRows.{released, rows_stay}
-use Rattle.roc_server.proofs.SomeLeft.{member_all, members}
+use Rattle.roc_server.proofs.SomeLeft.{members}
 
 -- ---- what is over among components that were taken and more
 
 over-append : (marks : List ℕ) (taken more : List (List TxnId)) → over marks (taken ++ more) ≡ over marks taken ++ over marks more
 over-append marks taken more = ap members (filter-append (is_over marks) taken more) ∙ flat_map-append (λ c. c) (filter (is_over marks) taken) (filter (is_over marks) more)
-
-pub over_among_all : (marks : List ℕ) (taken more : List (List TxnId)) (t : TxnId) → IsListed is_txn (over marks taken ++ over marks more) t → IsListed is_txn (members taken ++ members more) t
-over_among_all marks taken more t l = elim (listed_either is_txn (over marks taken) (over marks more) t l) [
-  | inl a ↦ listed_front is_txn (members taken) (members more) t (member_all (is_over marks) taken t a)
-  | inr a ↦ listed_behind is_txn (members taken) (members more) t (member_all (is_over marks) more t a.1)
-]
 
 pub over_found : (marks : List ℕ) (taken more all : List (List TxnId)) (links : List KnownList) (ids : List TxnId) (left : Option Left) → all ≡ taken ++ more
     → IsRisingListOf (IsListed is_txn (over marks taken ++ over marks more)) ids → IsLeftAfter links ids left → IsOver marks all links left
@@ -146,26 +140,14 @@ module _ (k : ServerData) (right : IsRight k) where
         more_members : members more ≡ members d.components.items
         more_members = ap members more_is
 
-        member_decided : (t : TxnId) → IsListed is_txn (members k.taken.components ++ members more) t → IsDecided d.links t
+        pub member_decided : (t : TxnId) → IsListed is_txn (members k.taken.components ++ members more) t → IsDecided d.links t
         member_decided t l = elim (listed_either is_txn (members k.taken.components) (members more) t l) [
           | inl a ↦ was_decided t (right.taken_decided t a)
           | inr a ↦ (is.chosen.members.only t (subst (λ ts. IsListed is_txn ts t) more_members a.1)).0
         ]
 
-        decided_member : (t : TxnId) → IsDecided d.links t → IsListed is_txn (members k.taken.components ++ members more) t
-        decided_member t h = elim (listed_or_not is_txn k.decided.ids t) [
-          | inl a ↦ listed_front is_txn (members k.taken.components) (members more) t (right.decided_taken t a)
-          | inr a ↦ listed_behind is_txn (members k.taken.components) (members more) t (subst (λ ts. IsListed is_txn ts t) (sym more_members) (is.chosen.members.all t (h, a)))
-        ]
-
-        pub are_decided : (t : TxnId) → IsListed is_txn (members k.taken.components ++ members more) t ↔ IsDecided d.links t
-        are_decided t = (member_decided t, decided_member t)
-
       pub taken_new : (more : List (List TxnId)) → more ≡ d.components.items → AreTaken d.links (members more) more
       taken_new more same = subst (λ cs. AreTaken d.links (members cs) cs) (sym same) is.chosen.taken
-
-      pub new_decided : (more : List (List TxnId)) → more ≡ d.components.items → (t : TxnId) → IsListed is_txn (members more) t → IsDecided d.links t
-      new_decided more same t l = (is.chosen.members.only t (subst (λ cs. IsListed is_txn (members cs) t) same l)).0
 
       pub right_rows : AreUnknown k.links settled → (rows : List (TxnId × List TxnId)) → AreRows k.links rows → AreRows d.links rows
       right_rows unknown rows were = subst (λ ks. AreRows ks rows) (sym is.links) (rows_stay k.links links settled (released k.links settled unknown) rows were)

@@ -119,7 +119,7 @@ module _ (before new : List TxnId) (links : List KnownList) (marks : List ℕ) (
   rising = rising_left.1
 
   are_left : AreDecided (links_left links gone) ids_left
-  are_left = left_decide links (links_left links gone) gone all refl decided (λ t l. (decided t).0 (gone_all t l)) (filter stays all) [] ids_left refl refl rising
+  are_left = left_decide links (links_left links gone) gone all refl (λ t. (decided t).0) (λ t. (decided t).1) (λ t l. (decided t).0 (gone_all t l)) ids_left rising
 
   were_decided : (t : TxnId) → forgotten t ≡ true → test t ≡ true
   were_decided t e = passes t (gone_all t (listed_true is_txn gone t e))

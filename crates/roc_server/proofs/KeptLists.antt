@@ -24,8 +24,7 @@ use Rattle.roc_depgraph.specs.declared.known.KnownList.{KnownList}
 use Rattle.roc_depgraph.specs.Deps.{is_known, IsKnown, IsDecided}
 use Rattle.roc_depgraph.proofs.Laws.{decided_stays}
 use Rattle.roc_rows.specs.Held.{Held}
-use Rattle.roc_server_ancestors.specs.Least.{AreAllRight, AreRows}
-use Rattle.roc_server_ancestors.proofs.KeptRows.{rows_stay}
+use Rattle.roc_server_ancestors.specs.Least.{AreRows, HeldRows}
 use Rattle.roc_server_lists.specs.Asking.{asked_of, open_after, waiting_after}
 use Rattle.roc_server_lists.specs.Links.{all_entries, AreLinksOf}
 use Rattle.roc_server_lists.specs.New.{AreNewTaken}
@@ -40,11 +39,12 @@ use Rattle.roc_server.specs.Lists.{is_missing, missing_from}
 use Rattle.roc_server.specs.State.{is_here, unrun, ServerState}
 use Rattle.roc_server.specs.Inner.Forgetting.{IsOverOf}
 use Rattle.roc_server.specs.Inner.Indexed.{undecided, AreGroupRefsOf, IsIndexOf}
-use Rattle.roc_server.specs.Inner.Left.{IsOver}
+use Rattle.roc_server.specs.Inner.Left.{AreRowsBehind, IsOver}
 use Rattle.roc_server.specs.Inner.Planned.{unlearnt, with_lists, AreListsPlanned}
 use Rattle.roc_server.specs.Inner.ServerData.{state_of, is_left, AreSameGroups, IsRight}
 use Rattle.roc_server.specs.Inner.Taught.{KeepsFound}
 use Rattle.roc_server.proofs.IndexSteps.{index_decided, indexed_group_refs}
+use Rattle.roc_server.proofs.LeftNew.{behind_added}
 use Rattle.roc_server.proofs.LeftOut.{missing_of, missing_unknown}
 use Rattle.roc_server.proofs.MissingSteps.{filter_alike}
 use Rattle.roc_server.proofs.SameGroups.{once_same, here_same}
@@ -124,11 +124,6 @@ module _ (k new : ServerData) (l : Lesson) (p : AreListsPlanned k l) (n : KeepsF
   groups : AreSameGroups was.started.groups new.started.groups
   groups = ap (map unrun) n.started ∙ p.groups
 
-  rows_now : AreRows all new.ancestors.rows
-  rows_now =
-      n.least all (rows_stay was.links all (keeps_front was.links linked) k.ancestors.rows sound.rows)
-      (subst (λ (ks : List KnownList). AreAllRight ks l.found.rows) all_is p.least)
-
   lacks_now : AreLacks all new.lacks
   lacks_now = subst (λ (ks : List KnownList). AreLacks ks new.lacks) all_is (subst (AreLacks k.links) (sym n.lacks) p.lacks)
 
@@ -198,8 +193,9 @@ module _ (k new : ServerData) (l : Lesson) (p : AreListsPlanned k l) (n : KeepsF
   is_decided : (t : TxnId) → IsListed is_txn was.decided.ids t ⊎ IsListed is_txn (flat_map (λ c. c) components) t → IsListed is_txn (was.decided.ids ++ ids) t
   is_decided t l = elim l [ inl a ↦ listed_front is_txn was.decided.ids ids t a | inr a ↦ listed_behind is_txn was.decided.ids ids t (subst (λ ts. IsListed is_txn ts t) (sym p.ids) a) ]
 
-  right_after : IsRight new
-  right_after =
+  -- so all is right, with any rows that are right for what is followed
+  right_after : (a : HeldRows) → AreRows new.links a.rows → IsRight (record new { ancestors = a })
+  right_after a right =
       let Decided : (t : TxnId) → List KnownList → Type 0 = λ t k. IsDecided k t in
       let Members : List (List TxnId) → TxnId → Type 0 = λ cs t. IsListed is_txn (flat_map (λ c. c) cs) t in
       record {
@@ -212,7 +208,7 @@ module _ (k new : ServerData) (l : Lesson) (p : AreListsPlanned k l) (n : KeepsF
             let now = subst (Decided t) (sym links_is) d in
             n.decided.complete t
             (is_decided t (elim (listed_or_not is_txn was.decided.ids t) [ inl a ↦ inl a | inr a ↦ inr (chosen.members.all t (now, a)) ]));
-        rows = subst (λ (ks : List KnownList). AreRows ks new.ancestors.rows) links_is rows_now;
+        rows = right;
         lacks = subst (λ (ks : List KnownList). AreLacks ks new.lacks) links_is lacks_now;
         index = index_decided was.index new.index was.decided.ids ids new.decided.ids was.started.groups new.started.groups sound.index n.index groups (decided_test was.decided.ids ids new.decided.ids n.decided);
         none_left = subst (λ (ks : List KnownList). AllByRecursion (λ d. is_left new d ≡ false) (all_entries ks)) links_is left_after;
@@ -231,10 +227,13 @@ module _ (k new : ServerData) (l : Lesson) (p : AreListsPlanned k l) (n : KeepsF
   -- what is over is to be forgotten
   pub is_over : (released : Held) → IsOverOf (record new { rows = released }) l.left
   is_over released = record {
-    right = cells_beside new released right_after;
+    right = λ a right. cells_beside (record new { ancestors = a }) released (right_after a right);
     over =
         subst (λ marks. IsOver marks new.taken.components new.links l.left) (sym n.marks)
         (subst (λ cs. IsOver k.marks cs new.links l.left) (sym n.taken) (subst (λ ks. IsOver k.marks (k.taken.components ++ components) ks l.left) (sym n.links) p.left));
+    rows =
+        subst (λ ks. AreRowsBehind ks new.ancestors.rows l.left) (sym n.links)
+        (behind_added k.links k.ancestors.rows new.ancestors.rows l.found.rows l.left p.rows.stay p.rows.added n.least);
   }
 
   -- the state is the planned one

@@ -1,5 +1,5 @@
 -- What is left of lists once some of their transactions are forgotten
-use Rattle.std.proofs.Common.{◌≡◌, ◌↔◌, ◌++◌, Bool, not, List, [], map, filter, sym, subst, ◌∙◌}
+use Rattle.std.proofs.Common.{◌≡◌, Bool, not, List, map, filter, sym, subst, ◌∙◌}
 use Rattle.std.proofs.lemmas.Bool.{not-true, not_from_false}
 use Rattle.roc_sequence.specs.Places.{is_listed, IsListed}
 use Rattle.roc_sequence.proofs.Filtered.{from_listed_filter, listed_filter}
@@ -22,8 +22,7 @@ links_are links left over gone done first second h = h ∙ (λ i. map (without_l
 pub members_are : (all ids over gone : List TxnId) → gone ≡ over → ids ≡ filter (λ t. not (is_listed is_txn gone t)) all → ids ≡ filter (λ t. not (is_listed is_txn over t)) all
 members_are all ids over gone same h = h ∙ (λ i. filter (λ t. not (is_listed is_txn (same i) t)) all)
 
-module _ (links left : List KnownList) (over all : List TxnId) (left_is : left ≡ links_left links over) (decided : (t : TxnId) → IsListed is_txn all t ↔ IsDecided links t)
-    (members : (t : TxnId) → IsListed is_txn over t → IsDecided links t) where
+module _ (links left : List KnownList) (over all : List TxnId) (left_is : left ≡ links_left links over) (decided : (t : TxnId) → IsListed is_txn all t → IsDecided links t) where
   abbrev forgotten : TxnId → Bool
   forgotten t = is_listed is_txn over t
 
@@ -34,20 +33,15 @@ module _ (links left : List KnownList) (over all : List TxnId) (left_is : left �
   pub some_decided : (t : TxnId) → IsListed is_txn (filter stays all) t → IsDecided left t
   some_decided t l =
       let p = from_listed_filter is_txn is_txn-true stays all t l in
-      subst (λ ks. IsDecided ks t) (sym left_is) (decided_left forgotten links t ((decided t).0 p.1) (not-true (forgotten t) p.0))
+      subst (λ ks. IsDecided ks t) (sym left_is) (decided_left forgotten links t (decided t p.1) (not-true (forgotten t) p.0))
 
-  -- and nothing else is
-  pub decided_some : (t : TxnId) → IsDecided left t → IsListed is_txn (filter stays all) t
-  decided_some t d =
-      let p = left_decided forgotten links (λ u e. members u (listed_true is_txn over u e)) t (subst (λ ks. IsDecided ks t) left_is d) in
-      listed_filter is_txn is_txn-true stays all t (not_from_false (forgotten t) p.1) ((decided t).1 p.0)
+  -- and where nothing else was, nothing else is
+  module _ (all_of : (t : TxnId) → IsDecided links t → IsListed is_txn all t) (members : (t : TxnId) → IsListed is_txn over t → IsDecided links t) where
+    decided_some : (t : TxnId) → IsDecided left t → IsListed is_txn (filter stays all) t
+    decided_some t d =
+        let p = left_decided forgotten links (λ u e. members u (listed_true is_txn over u e)) t (subst (λ ks. IsDecided ks t) left_is d) in
+        listed_filter is_txn is_txn-true stays all t (not_from_false (forgotten t) p.1) (all_of t p.0)
 
-  -- so a rising list of the ones is one of the others
-  pub left_decide : (ids more rising : List TxnId) → ids ≡ filter stays all → more ≡ [] → IsRisingListOf (IsListed is_txn (more ++ ids)) rising → IsRisingListOf (IsDecided left) rising
-  left_decide ids more rising are none h =
-      let same : more ++ ids ≡ filter stays all = (λ i. none i ++ are i) in
-      record {
-        rising = h.rising;
-        sound = λ t l. some_decided t (subst (λ ts. IsListed is_txn ts t) same (h.sound t l));
-        complete = λ t d. h.complete t (subst (λ ts. IsListed is_txn ts t) (sym same) (decided_some t d));
-      }
+    -- so a rising list of the ones is one of the others
+    pub left_decide : (rising : List TxnId) → IsRisingListOf (IsListed is_txn (filter stays all)) rising → IsRisingListOf (IsDecided left) rising
+    left_decide rising h = record { rising = h.rising; sound = λ t l. some_decided t (h.sound t l); complete = λ t d. h.complete t (decided_some t d) }

@@ -19,6 +19,7 @@ mod SomeLeft
 mod ForgetSteps
 mod NoneOver
 mod SettledSteps
+mod LeftNew
 mod LeftOut
 mod NewlyDecided
 mod MissingSteps

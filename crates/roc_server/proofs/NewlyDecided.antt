@@ -1,13 +1,15 @@
 -- What new lists decide, and what is decided as it is kept
-use Rattle.std.proofs.Common.{◌≡◌, List, map, sym, subst, ◌∙◌}
+use Rattle.std.proofs.Common.{◌≡◌, List, map, sym, subst, ◌∙◌, inl, inr}
 use Rattle.roc_sequence.specs.Places.{IsListed}
 use Rattle.roc_base.specs.declared.id.TxnId.{TxnId}
 use Rattle.roc_base.specs.TxnId.{is_txn}
 use Rattle.roc_await.specs.Lacks.{AreDecidedBy}
 use Rattle.roc_await.specs.Learning.{AreLacksBefore}
 use Rattle.roc_depgraph.specs.declared.known.KnownList.{KnownList}
-use Rattle.roc_depgraph.proofs.Laws.{KeepsLists}
-use Rattle.roc_server_ancestors.specs.Least.{AreRows}
+use Rattle.roc_depgraph.specs.Deps.{IsDecided, Precedes}
+use Rattle.roc_depgraph.specs.Reach.{ReachesOrIs}
+use Rattle.roc_depgraph.proofs.Laws.{ancestor_back, ancestor_decided, KeepsLists}
+use Rattle.roc_server_ancestors.specs.Least.{AreRows, HasRow}
 use Rattle.roc_server_ancestors.proofs.KeptRows.{rows_stay}
 use Rattle.roc_server_lists.specs.New.{AreAllNew, AreNewTaken}
 use Rattle.roc_server_lists.proofs.Learning.{keeps_front}
@@ -35,3 +37,13 @@ module _ (k : ServerData) (news : List KnownList) (l : IsLearning k news) where
   rows_now =
       let keeps : KeepsLists l.before k.links = subst (KeepsLists l.before) (sym l.links_are) (keeps_front l.before l.linked) in
       rows_stay l.before k.links keeps k.ancestors.rows l.rows
+
+  -- and all that leads to what has a row was decided before
+  pub rows_closed : (t u : TxnId) → HasRow k.ancestors.rows t → ReachesOrIs (Precedes k.links) u t → IsListed is_txn k.decided.ids u
+  rows_closed t u h r =
+      let keeps : KeepsLists l.before k.links = subst (KeepsLists l.before) (sym l.links_are) (keeps_front l.before l.linked) in
+      let decided = (l.rows t h.0 h.1).decided in
+      l.decided_all u (elim r [
+        | inl e ↦ subst (IsDecided l.before) (sym e) decided
+        | inr p ↦ ancestor_decided l.before u t decided (ancestor_back l.before k.links keeps u t decided p)
+      ])

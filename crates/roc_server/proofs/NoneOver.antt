@@ -18,7 +18,7 @@ use Rattle.roc_server.specs.declared.started.StartedGroup.{StartedGroup}
 use Rattle.roc_server.specs.Forgets.{forget, is_over, over, without}
 use Rattle.roc_server.specs.Inner.Forgetting.{IsOverOf}
 use Rattle.roc_server.specs.Inner.Left.{IsOver}
-use Rattle.roc_server.specs.Inner.ServerData.{state_of, IsConsistent}
+use Rattle.roc_server.specs.Inner.ServerData.{state_of, IsConsistent, IsRight}
 use Rattle.roc_server.proofs.IndexSteps.{filter_all}
 use Rattle.roc_server.proofs.SomeLeft.{member_some}
 
@@ -57,8 +57,11 @@ module _ (k : ServerData) (o : IsOverOf k None) where
   none : over k.marks k.taken.components ≡ []
   none = over_none k.marks k.taken.components k.links o.over
 
+  right : IsRight k
+  right = o.right k.ancestors o.rows
+
   pub nothing_forgotten : (shard : Shard) → state_of shard k ≡ forget (state_of shard k)
-  nothing_forgotten shard = sym (ap (λ ids. without ids (state_of shard k)) none ∙ none_gone shard k (open_all k.marks k.taken.components none o.right.taken_some))
+  nothing_forgotten shard = sym (ap (λ ids. without ids (state_of shard k)) none ∙ none_gone shard k (open_all k.marks k.taken.components none right.taken_some))
 
   pub nothing_over : IsConsistent k
-  nothing_over = record { right = o.right; none_over = none }
+  nothing_over = record { right = right; none_over = none }

@@ -101,7 +101,7 @@ hearing_planned old coord mark sound (Lists l) h = absurd h
 hearing_planned old coord mark sound (Settled x) h = absurd h
 hearing_planned old coord mark sound (Marks m) h =
     record {
-      planned = record { sound = sound; risen = λ t e. ap (λ below. is_ended below t) h.0 ∙ ended_still old.marks coord mark t e; left = h.1 };
+      planned = record { sound = sound; risen = λ t e. ap (λ below. is_ended below t) h.0 ∙ ended_still old.marks coord mark t e; left = h.1.0; rows = h.1.1 };
       from = λ at. refl;
     }
 

@@ -71,8 +71,27 @@ marks_right k marks risen right = record {
   taken_some = right.taken_some;
 }
 
+-- other rows that are right may stand in place of those that are kept
+with_rows : (k : ServerData) (a : HeldRows) → AreRows k.links a.rows → IsRight k → IsRight (record k { ancestors = a })
+with_rows k a rows right = record {
+  groups_once = right.groups_once;
+  decided_rising = right.decided_rising;
+  decided_only = right.decided_only;
+  decided_all = right.decided_all;
+  rows = rows;
+  lacks = right.lacks;
+  index = right.index;
+  none_left = right.none_left;
+  open_unknown = right.open_unknown;
+  linked = right.linked;
+  taken_decided = right.taken_decided;
+  decided_taken = right.decided_taken;
+  taken_once = right.taken_once;
+  taken_some = right.taken_some;
+}
+
 pub marks_heard : (k : ServerData) (h : Heard) → AreMarksPlanned k h → IsOverOf (record k { marks = h.marks }) h.left
-marks_heard k h p = record { right = marks_right k h.marks p.risen p.sound.right; over = p.left }
+marks_heard k h p = record { right = λ a right. marks_right (record k { ancestors = a }) h.marks p.risen (with_rows k a right p.sound.right); over = p.left; rows = p.rows }
 
 -- ---- a settled transaction
 

@@ -14,7 +14,7 @@ use Rattle.roc_await.specs.Waits.{Waiting, was_asked_for}
 use Rattle.roc_await.specs.Lacks.{AreLacks}
 use Rattle.roc_await.specs.declared.waits.OpenFetch.{OpenFetch}
 use Rattle.roc_base.specs.Edges.{united}
-use Rattle.roc_server_ancestors.specs.Least.{row_of, AreAllRight}
+use Rattle.roc_server_ancestors.specs.Least.{row_of}
 use Rattle.roc_depgraph.proofs.Laws.{decided_stays}
 use Rattle.roc_msg.specs.Outbox.{Collected, HasSent}
 use Rattle.roc_plan.specs.Groups.{Plan}
@@ -39,7 +39,7 @@ use Rattle.roc_server.specs.Inner.Left.{IsOver}
 use Rattle.roc_server.specs.Inner.Planned.{front, unlearnt, with_lists, AreListsPlanned}
 use Rattle.roc_server.specs.Inner.Runs.{restored}
 use Rattle.roc_server.specs.Inner.ServerData.{state_of, holding, AreSameGroups, IsConsistent, IsSame}
-use Rattle.roc_server.specs.Inner.Taught.{all_told, asked_by, Acts, AreLearnt, AreListsRight, Finds, HasRoomToKeep, IsLearning, KeepsBesideRuns, Learns, RunsDecided, Taken}
+use Rattle.roc_server.specs.Inner.Taught.{all_told, asked_by, Acts, AreLearnt, AreListsRight, AreRowsFound, Finds, HasRoomToKeep, IsLearning, KeepsBesideRuns, Learns, RunsDecided, Taken}
 use Rattle.roc_server.proofs.Alike.{alike_same}
 use Rattle.roc_server.proofs.MissingSteps.{missing_is}
 use Rattle.roc_server.proofs.Undone.{besides_alike}
@@ -236,9 +236,10 @@ module _ (shard : Shard) (old mid : ServerData) (held : Held) (news : List Known
           links = record { before = undone.links; linked = links_of (state_of shard old) news; links_are = acted_links ∙ ap (λ ks. ks ++ links_of (state_of shard old) news) (sym undone_links); of = ids_are ∙ ap (map (λ (k : KnownList). k.of)) (sym same); learnable = subst (λ ks. AreLearnable ks (links_of (state_of shard old) news)) (sym undone_links) linked_learnable };
         }
 
-        pub lists_planned : AreSameGroups old.started.groups acted.started.groups → HasRoomToKeep acted x.found → IsOver acted.marks (acted.taken.components ++ components) acted.links x.left → AreListsPlanned acted x
+        pub lists_planned : AreSameGroups old.started.groups acted.started.groups → HasRoomToKeep acted x.found → IsOver acted.marks (acted.taken.components ++ components) acted.links x.left → AreRowsFound acted x.found.rows x.left
+            → AreListsPlanned acted x
         unfolding are_learnt
-        lists_planned groups room left = record {
+        lists_planned groups room left rows = record {
           sound = same_before.sound;
           learnt = are_learnt;
           known_before = refl;
@@ -251,7 +252,7 @@ module _ (shard : Shard) (old mid : ServerData) (held : Held) (news : List Known
               subst (λ marks. AreLinksOf (is_ended marks) acted.known acted.links) (sym beside.marks)
               (subst (λ ks. AreLinksOf (is_ended old.marks) ks acted.links) (sym acted_known) (subst (AreLinksOf (is_ended old.marks) (old.known ++ news)) (sym acted_links) linked));
           lacks = subst (λ ks. AreLacks ks x.found.lacks.lacks) (sym b.links) f.lacks;
-          least = subst (λ ks. AreAllRight ks x.found.rows) (sym b.links) f.least;
+          rows = rows;
           room = room;
           left = left;
         }

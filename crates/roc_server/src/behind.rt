@@ -1,5 +1,5 @@
 //! What is followed behind a settled transaction, and what is kept beside it.
-ghost use Rattle.std.specs.Prelude.{◌≡◌, ◌≤◌, ◌++◌, ◌↔◌, [], List, false, length, map, IfOk};
+ghost use Rattle.std.specs.Prelude.{◌≡◌, ◌≤◌, ◌++◌, [], List, false, length, map, IfOk};
 ghost use Rattle.std.specs.List.{flat_map};
 ghost use Rattle.roc_base.specs.TxnId.{is_txn};
 ghost use Rattle.roc_base.specs.declared.id.TxnId.{TxnId as Id};
@@ -63,9 +63,8 @@ pub(crate) fn find_behind(
     components: &[Sequence<TxnId>],
 ) -> Result<Behind, NoMemory>
     requires same { map (λ k. k.of) links ≡ map (λ k. k.of) kept.now.known }
-    requires decided { (t : Id) → IsListed is_txn (flat_map (λ c. c) kept.now.taken.components ++ flat_map (λ c. c) components.now) t ↔ IsDecided links t }
+    requires decided { (t : Id) → IsListed is_txn (flat_map (λ c. c) kept.now.taken.components ++ flat_map (λ c. c) components.now) t → IsDecided links t }
     requires chosen { AreTaken links (flat_map (λ c. c) components.now) components.now }
-    requires new { (t : Id) → IsListed is_txn (flat_map (λ c. c) components.now) t → IsDecided links t }
     requires rows { AreRows kept.now.links kept.now.ancestors.rows }
     requires stay { is_known ≡ false → (rows : List (Id × List Id)) → AreRows kept.now.links rows → AreRows links rows }
     ensures { IfOk result (IsBehind marks.now (kept.now.taken.components ++ components.now) kept.now.links links) }
@@ -96,7 +95,10 @@ pub(crate) fn keep_behind(kept: &mut ServerData, ids: &[TxnId], behind: Behind)
 {
     match behind {
         Behind::More(more) => add(kept, ids, more),
-        Behind::Left(left) => forget(kept, left),
+        Behind::Left(left) => {
+            kept.decided.take(ids).unwrap();
+            forget(kept, left);
+        }
     }
 }
 

@@ -9,6 +9,7 @@ ghost use Rattle.roc_base.specs.declared.node.Shard.{Shard as At};
 ghost use Rattle.roc_server.specs.declared.planned.Change.TheVariants.{Asker as AskerComes, Group as GroupComes, Lists as ListsCome, Marks as MarksRise, Settled as SettledComes};
 ghost use Rattle.roc_server.specs.Inner.Planned.{after, before, AreListsPlanned, AreMarksPlanned, IsGroupPlanned, IsPlanned, IsSettledPlanned};
 ghost use Rattle.roc_server.specs.Inner.Forgetting.{Forgets, IsForgettable, IsOverOf};
+ghost use Rattle.roc_server.specs.Inner.Left.{rows_behind};
 ghost use Rattle.roc_server.specs.Inner.ServerData.{state_of, IsConsistent};
 
 use crate::behind::keep_behind;
@@ -23,6 +24,7 @@ use crate::settled::Settling;
 use crate::started::StartedGroup;
 use roc_await::{Asker, Waits};
 use roc_base::TxnId;
+use roc_server_ancestors::Ancestors;
 
 // What was planned is done.
 pub(crate) fn commit(kept: &mut ServerData, change: Change)
@@ -168,16 +170,24 @@ pub(crate) fn forget(kept: &mut ServerData, left: Left)
     let Left {
         over,
         links,
-        decided,
         ancestors,
     } = left;
     kept.started.forget(&over);
     kept.known.forget(&over);
     kept.waits.drop_asked(&over);
     kept.taken.forget(&kept.marks);
+    kept.decided.forget(&over);
     kept.links = links;
-    kept.decided = decided;
-    kept.ancestors = ancestors;
+    renew(&mut kept.ancestors, ancestors);
+}
+
+// Keeps rows that were made anew in place of those that are kept.
+fn renew(rows: &mut Ancestors, made: Option<Ancestors>)
+    ensures { rows.new.rows ≡ rows_behind rows.old.rows made }
+{
+    if let Some(made) = made {
+        *rows = made;
+    }
 }
 
 // The cells, the groups and the lists are as they were before.

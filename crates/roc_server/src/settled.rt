@@ -20,7 +20,7 @@ ghost use Rattle.roc_server.specs.declared.planned.Change.TheVariants.{Settled};
 use crate::Handled;
 use crate::behind::{Behind, More, NextLinks, count_of_rows, find_behind};
 use crate::commitoks::send_commitoks;
-use crate::left::{left_if_over, over_among};
+use crate::left::{left_by_marks, over_among};
 use crate::marks::Marks;
 use crate::missing::was_asked_for;
 use crate::planned::{Change, Heard, Planned, Settlement};
@@ -73,9 +73,7 @@ pub(crate) fn plan_ended(
     ensures change { IfOk result (λ p. IsHearing kept.now coord mark p.change) }
 {
     let marks = kept.marks.raised(coord, mark);
-    let taken = kept.taken.as_slice();
-    let over = over_among(alloc, &marks, taken, &[])?;
-    let left = left_if_over(alloc, &kept.known, &kept.links, taken, &[], over)?;
+    let left = left_by_marks(alloc, kept, &marks)?;
     Ok(Planned {
         answer,
         change: Change::Marks(Heard { marks, left }),

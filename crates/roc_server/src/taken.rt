@@ -1,5 +1,5 @@
 //! The components that were taken, and are not forgotten.
-ghost use Rattle.std.specs.Prelude.{◌≡◌, ◌≤◌, ◌-◌, ◌++◌, [], length, not, filter, vec_len, vec_capacity, OnOk};
+ghost use Rattle.std.specs.Prelude.{◌≡◌, ◌≤◌, ◌-◌, ◌++◌, [], length, not, filter, vec_len, vec_capacity, IfOk, OnOk};
 ghost use Rattle.std.specs.List.{flat_map};
 ghost use Rattle.roc_server.specs.Forgets.{is_over, over};
 
@@ -104,6 +104,23 @@ pub(crate) fn push_over(
         }
     }
     Ok(())
+}
+
+// Those of the components that are not over.
+pub(crate) fn open_among(
+    alloc: Global,
+    marks: &Marks,
+    components: &[Sequence<TxnId>],
+) -> Result<Vec<Sequence<TxnId>>, NoMemory>
+    ensures { IfOk result (λ left. left.items ≡ filter (λ c. not (is_over marks.now c)) components.now) }
+{
+    let mut left = Vec::new(alloc);
+    for component in components {
+        if !is_over(marks, component.as_slice()) {
+            left.push(Sequence::from_slice(alloc, component.as_slice())?)?;
+        }
+    }
+    Ok(left)
 }
 
 // Adds the transactions of all of them.

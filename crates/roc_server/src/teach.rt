@@ -1,25 +1,24 @@
 //! Lists that are new are taught.
 ghost use Rattle.std.specs.Prelude.{◌≡◌, ◌++◌, IfOk, OnOk, OnErr};
 ghost use Rattle.std.specs.List.Sorted.{IsStrictlySortedBy};
-ghost use Rattle.roc_base.specs.TxnId.{is_txn, txn_cmp};
+ghost use Rattle.roc_base.specs.TxnId.{txn_cmp};
 ghost use Rattle.roc_await.specs.Learning.{AreLearnable};
 ghost use Rattle.roc_msg.specs.Outbox.{HasSent};
-ghost use Rattle.roc_sequence.specs.Places.{IsListed, NoneTwice};
+ghost use Rattle.roc_sequence.specs.Places.{NoneTwice};
 ghost use Rattle.roc_server.specs.Fits.{AreGroupsOf};
 ghost use Rattle.roc_server.specs.Inner.Left.{IsOver};
 ghost use Rattle.roc_server.specs.Inner.Runs.{restored};
-ghost use Rattle.roc_server_lists.specs.New.{AreNewTaken};
 ghost use Rattle.roc_server.specs.declared.handled.Handled.TheVariants.{Done};
 ghost use Rattle.roc_server.specs.declared.planned.Change.TheVariants.{Lists};
 ghost use Rattle.roc_server.specs.Inner.Planned.{after, IsPlannedFrom};
 ghost use Rattle.roc_server.specs.Inner.ServerData.{is_same_group, IsConsistent, IsSame};
-ghost use Rattle.roc_server.specs.Inner.Taught.{all_told, own_again, Acts, AreListsRight, Finds, IsLearning, KeepsBesideRuns, RunsDecided, Teaches};
+ghost use Rattle.roc_server.specs.Inner.Taught.{all_told, own_again, Acts, AreListsRight, AreRowsFound, Finds, IsLearning, KeepsBesideRuns, RunsDecided, Teaches};
 
 use crate::Handled;
 use crate::commitoks::{send_commitok, send_commitoks};
 use crate::found::{Found, find_all, make_room};
 use crate::learning::{Named, learn, unlearn};
-use crate::left::{Left, left_if_over, over_among};
+use crate::left::Left;
 use crate::planned::{Change, Lesson, Planned};
 use crate::ran::note_all;
 use crate::runs::{Earlier, put_back, run_all};
@@ -30,7 +29,6 @@ use roc_depgraph::KnownList;
 use roc_msg::Outbox;
 use roc_plan::Plan;
 use roc_rows::Rows;
-use roc_sequence::Sequence;
 use roc_server_lists::{send_fetches, tell_all};
 use std::alloc::Global;
 
@@ -110,37 +108,16 @@ fn plan_learnt(
     ensures finds { IfOk result (λ p. Finds kept.old named.now p.0) }
     ensures acts { IfOk result (λ p. Acts plan.now shard kept.old kept.new sends.old sends.new news.now again p.0) }
     ensures left { IfOk result (λ p. IsOver kept.old.marks (kept.old.taken.components ++ p.0.components.items) kept.old.links p.1) }
+    ensures rows { IfOk result (λ p. AreRowsFound kept.old p.0.rows p.1) }
     ensures beside { KeepsBesideRuns kept.old kept.new }
     ensures restored { restored earlier.new.items kept.new.started.groups ≡ restored earlier.old.items kept.old.started.groups }
     ensures saved { kept.new.rows.saved ≡ kept.old.rows.saved }
 {
-    let found = find_all(alloc, kept, news, named)?;
-    let left = left_behind(alloc, kept, &found.components)?;
+    let (found, left) = find_all(alloc, kept, news, named)?;
     act_on(
         alloc, plan, shard, kept, news, again, &found, earlier, sends,
     )?;
     Ok((found, left))
-}
-
-// What is left once those of these components are forgotten that are over. None of those taken before is.
-fn left_behind(
-    alloc: Global,
-    kept: &ServerData,
-    components: &[Sequence<TxnId>],
-) -> Result<Option<Left>, NoMemory>
-    requires lists { AreListsRight kept.now }
-    requires chosen { AreNewTaken (IsListed is_txn kept.now.decided.ids) kept.now.links components.now }
-    ensures { IfOk result (IsOver kept.now.marks (kept.now.taken.components ++ components.now) kept.now.links) }
-{
-    let over = over_among(alloc, &kept.marks, &[], components)?;
-    left_if_over(
-        alloc,
-        &kept.known,
-        &kept.links,
-        kept.taken.as_slice(),
-        components,
-        over,
-    )
 }
 
 // Runs what is decided, gathers all that is sent, and takes the room for what is to be kept.

@@ -16,7 +16,7 @@ use Rattle.roc_server.specs.declared.behind.NextLinks.{NextLinks}
 use Rattle.roc_server.specs.declared.behind.NextLinks.TheVariants.{Anew, Without}
 use Rattle.roc_server.specs.declared.server_data.ServerData.{ServerData}
 use Rattle.roc_server.specs.Forgets.{forget}
-use Rattle.roc_server.specs.Inner.Left.{IsOver}
+use Rattle.roc_server.specs.Inner.Left.{rows_behind, IsOver}
 use Rattle.roc_server.specs.Inner.ServerData.{state_of, IsConsistent, IsRight}
 
 -- what is followed then, where this was
@@ -30,10 +30,10 @@ pub record IsMore (known links : List KnownList) (m : More) : Type 0 where
   pub stay : (rows : List (TxnId × List TxnId)) → AreRows known rows → AreRows links rows
   pub rows : AreAllRight links m.rows
 
--- these are followed in place of those: nothing is over, and more is added, or it is what is left
+-- these are followed in place of those: nothing is over, and more is added; or it is what is left, with rows that are right for it whatever was kept
 abbrev pub IsBehind : (marks : List ℕ) → (taken : List (List TxnId)) → (known links : List KnownList) → Behind → Type 0
 IsBehind marks taken known links (Adds m) = IsOver marks taken links None × IsMore known links m
-IsBehind marks taken known links (Leaves left) = IsOver marks taken links (Some left)
+IsBehind marks taken known links (Leaves left) = IsOver marks taken links (Some left) × ((kept : List (TxnId × List TxnId)) → AreRows left.links (rows_behind kept left.ancestors))
 
 -- of how many transactions rows are added
 abbrev pub count_of_rows : Behind → ℕ

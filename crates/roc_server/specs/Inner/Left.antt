@@ -5,8 +5,7 @@ use Rattle.roc_base.specs.declared.id.TxnId.{TxnId}
 use Rattle.roc_base.specs.TxnId.{is_txn}
 use Rattle.roc_depgraph.specs.declared.known.KnownList.{KnownList}
 use Rattle.roc_depgraph.specs.Closure.{IsRisingListOf}
-use Rattle.roc_depgraph.specs.Deps.{IsDecided}
-use Rattle.roc_server_ancestors.specs.Least.{AreRows}
+use Rattle.roc_server_ancestors.specs.Least.{AreRows, HeldRows}
 use Rattle.roc_server_lists.specs.Links.{without_links}
 use Rattle.roc_server.specs.declared.left.Left.{Left}
 use Rattle.roc_server.specs.Forgets.{over}
@@ -20,12 +19,10 @@ pub record TakenComponents : Type 0 where
 abbrev pub links_left : (links : List KnownList) → (over : List TxnId) → List KnownList
 links_left links over = map (without_links (is_listed is_txn over)) (filter (λ k. not (is_listed is_txn over k.of)) links)
 
--- these are forgotten, and the rest is right for what stays
+-- these are forgotten, and this is followed of what stays
 pub record IsLeft (links : List KnownList) (over : List TxnId) (left : Left) : Type 0 where
   pub over_is : left.over.items ≡ over
   pub links_are : left.links ≡ links_left links over
-  pub decided : IsRisingListOf (IsDecided left.links) left.decided.ids
-  pub rows : AreRows left.links left.ancestors.rows
 
 -- ..or nothing is forgotten
 abbrev pub IsLeftAfter : (links : List KnownList) → (over : List TxnId) → Option Left → Type 0
@@ -37,3 +34,18 @@ pub record IsOver (marks : List ℕ) (taken : List (List TxnId)) (links : List K
   pub ids : List TxnId
   pub are : IsRisingListOf (IsListed is_txn (over marks taken)) ids
   pub rest : IsLeftAfter links ids left
+
+-- what is followed then
+abbrev pub followed_behind : (links : List KnownList) → Option Left → List KnownList
+followed_behind links None = links
+followed_behind links (Some left) = left.links
+
+-- rows that are made anew, or else those that are kept
+abbrev pub rows_behind : (kept : List (TxnId × List TxnId)) → Option HeldRows → List (TxnId × List TxnId)
+rows_behind kept None = kept
+rows_behind kept (Some made) = made.rows
+
+-- the rows that are kept then, where these are kept, are right for it
+abbrev pub AreRowsBehind : (links : List KnownList) → (kept : List (TxnId × List TxnId)) → Option Left → Type 0
+AreRowsBehind links kept None = AreRows links kept
+AreRowsBehind links kept (Some left) = AreRows left.links (rows_behind kept left.ancestors)

@@ -10,7 +10,6 @@ use Rattle.roc_await.specs.Lacks.{AreLacks}
 use Rattle.roc_await.specs.Waits.{with_asker, without_asked}
 use Rattle.roc_depgraph.specs.Deps.{is_known}
 use Rattle.roc_rows.specs.Held.{Held}
-use Rattle.roc_server_ancestors.specs.Least.{AreAllRight}
 use Rattle.roc_server_lists.specs.Asking.{waiting_after}
 use Rattle.roc_server_lists.specs.Links.{AreLinksOf}
 use Rattle.roc_server_lists.specs.New.{AreNewTaken}
@@ -28,11 +27,11 @@ use Rattle.roc_server.specs.Forgets.{forget}
 use Rattle.roc_server.specs.Lists.{missing_from}
 use Rattle.roc_server.specs.State.{find_group, ServerState}
 use Rattle.roc_server.specs.Inner.Indexed.{HasRoomFor}
-use Rattle.roc_server.specs.Inner.Left.{IsOver}
+use Rattle.roc_server.specs.Inner.Left.{AreRowsBehind, IsOver}
 use Rattle.roc_server.specs.Inner.Runs.{restored}
 use Rattle.roc_server.specs.Inner.Settled.{links_settled, HasRoomToSettle, IsSettling}
 use Rattle.roc_server.specs.Inner.ServerData.{state_of, AreSameGroups, IsConsistent}
-use Rattle.roc_server.specs.Inner.Taught.{AreLearnt, HasRoomToKeep, KeepsBesideRuns}
+use Rattle.roc_server.specs.Inner.Taught.{AreLearnt, AreRowsFound, HasRoomToKeep, KeepsBesideRuns}
 
 -- ---- before a change
 
@@ -122,7 +121,7 @@ pub record AreListsPlanned (k : ServerData) (l : Lesson) : Type 0 where
   pub ids : l.found.ids.items ≡ flat_map (λ c. c) l.found.components.items
   pub linked : AreLinksOf (is_ended k.marks) k.known k.links
   pub lacks : AreLacks k.links l.found.lacks.lacks
-  pub least : AreAllRight k.links l.found.rows
+  pub rows : AreRowsFound k l.found.rows l.left
   pub room : HasRoomToKeep k l.found
   pub left : IsOver k.marks (k.taken.components ++ l.found.components.items) k.links l.left
 
@@ -130,6 +129,7 @@ pub record AreMarksPlanned (k : ServerData) (h : Heard) : Type 0 where
   pub sound : IsConsistent k
   pub risen : (t : TxnId) → is_ended k.marks t ≡ true → is_ended h.marks t ≡ true
   pub left : IsOver h.marks k.taken.components k.links h.left
+  pub rows : AreRowsBehind k.links k.ancestors.rows h.left
 
 pub record IsSettledPlanned (k : ServerData) (s : Settlement) : Type 0 where
   pub sound : IsConsistent (unsettled k s)

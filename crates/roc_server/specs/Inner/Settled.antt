@@ -27,13 +27,13 @@ use Rattle.roc_server.specs.Inner.Shown.{ShowsStep}
 use Rattle.roc_server_lists.specs.Links.{without_links}
 use Rattle.roc_server_lists.specs.New.{AreNewTaken}
 use Rattle.roc_server.specs.Inner.Behind.{count_of_rows, IsBehind}
-use Rattle.roc_server.specs.Inner.Left.{IsOver}
+use Rattle.roc_server.specs.Inner.Left.{AreRowsBehind, IsOver}
 use Rattle.roc_server.specs.Inner.ServerData.{state_of, holding, AreSameGroups}
 use Rattle.roc_server.specs.Inner.Taught.{KeepsPlans}
 
 -- a watermark is to be heard
 abbrev pub IsHearing : ServerData → (coord mark : ℕ) → Change → Type 0
-IsHearing k coord mark (Marks h) = (h.marks ≡ raised k.marks coord mark) × IsOver h.marks k.taken.components k.links h.left
+IsHearing k coord mark (Marks h) = (h.marks ≡ raised k.marks coord mark) × (IsOver h.marks k.taken.components k.links h.left × AreRowsBehind k.links k.ancestors.rows h.left)
 IsHearing k coord mark change = ⊥
 
 -- what is followed where the entries that name these are done

@@ -25,6 +25,7 @@ use Rattle.roc_rows.specs.Store.{Store}
 use Rattle.roc_server.specs.declared.found.Found.{Found}
 use Rattle.roc_server.specs.declared.handled.Handled.{Handled}
 use Rattle.roc_server.specs.declared.learning.Named.{Named}
+use Rattle.roc_server.specs.declared.left.Left.{Left}
 use Rattle.roc_server.specs.declared.server_data.ServerData.{ServerData}
 use Rattle.roc_server.specs.declared.started.StartedGroup.{StartedGroup}
 use Rattle.roc_server.specs.Below.{is_ended}
@@ -36,6 +37,7 @@ use Rattle.roc_server_lists.specs.Asking.{asked_of, fetch_from, knowns_for, open
 use Rattle.roc_server_lists.specs.Links.{all_entries, without_links}
 use Rattle.roc_server.specs.Lists.{is_done, links_of, is_missing, missing_after, lists_after, taught, commit_refusal, after_commit, known_refusal, after_known}
 use Rattle.roc_server.specs.Inner.Indexed.{AreOut, IsIndexOf}
+use Rattle.roc_server.specs.Inner.Left.{followed_behind, AreRowsBehind}
 use Rattle.roc_server.specs.Inner.ServerData.{state_of, holding, is_same_group, AreSameGroups}
 use Rattle.roc_server.specs.State.{is_here, ServerState, ServerStep}
 use Rattle.roc_server.specs.Step.{links_after}
@@ -95,7 +97,11 @@ pub record Finds (k : ServerData) (named : Named) (found : Found) : Type 0 where
   pub chosen : AreNewTaken (IsListed is_txn k.decided.ids) k.links found.components.items
   pub ids : found.ids.items ≡ flat_map (λ c. c) found.components.items
   pub lacks : AreLacks k.links found.lacks.lacks
-  pub least : AreAllRight k.links found.rows
+
+-- the rows that are kept, and more, are right for what is left
+pub record AreRowsFound (k : ServerData) (more : List (TxnId × List TxnId)) (left : Option Left) : Type 0 where
+  pub stay : AreRowsBehind k.links k.ancestors.rows left
+  pub added : AreAllRight (followed_behind k.links left) more
 
 -- ---- what is done before it is kept
 

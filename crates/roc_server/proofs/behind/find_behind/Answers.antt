@@ -1,27 +1,30 @@
 use Rattle.std.proofs.Common.{◌++◌, List, Some, None, sym, subst, refl, ◌∙◌}
 use Rattle.std.specs.List.{flat_map}
 use Rattle.roc_sequence.specs.Places.{IsListed}
+use Rattle.roc_sequence.proofs.Appended.{listed_behind}
 use Rattle.roc_base.specs.declared.id.TxnId.{TxnId}
 use Rattle.roc_base.specs.TxnId.{is_txn}
-use Rattle.roc_server.proofs.FoundSettled.{over_among_all, over_found}
+use Rattle.roc_server_ancestors.proofs.KeptRows.{decided_mates}
+use Rattle.roc_server.proofs.FoundSettled.{over_found}
 use Rattle.roc_server.proofs.behind.find_behind.Goals as goal
 
 pub left_of-requires-clause-decided : goal.left_of-requires-clause-decided
-left_of-requires-clause-decided c t =
+left_of-requires-clause-decided c t l =
     let all : List (List TxnId) → List TxnId = λ taken. flat_map (λ x. x) taken ++ flat_map (λ x. x) c.args.components.now in
-    let w = c.requires.decided t in
-    (λ l. w.0 (subst (λ taken. IsListed is_txn (all taken) t) c.as_slice-taken.ensures l), λ d. subst (λ taken. IsListed is_txn (all taken) t) (sym c.as_slice-taken.ensures) (w.1 d))
+    c.requires.decided t (subst (λ taken. IsListed is_txn (all taken) t) c.as_slice-taken.ensures l)
 
-pub left_of-requires-clause-members : goal.left_of-requires-clause-members
-left_of-requires-clause-members c t l =
-    let all : List (List TxnId) → List TxnId = λ taken. flat_map (λ x. x) taken ++ flat_map (λ x. x) c.args.components.now in
-    (c.requires.decided t).0
-    (subst (λ taken. IsListed is_txn (all taken) t) c.as_slice-taken.ensures (over_among_all c.args.marks.now c.as_slice-taken.result.now c.args.components.now t (c.in_ok-over.ensures.sound t l)))
+pub ready-requires-clause-mates : goal.ready-requires-clause-mates
+ready-requires-clause-mates c =
+    let taken = flat_map (λ x. x) c.args.kept.now.taken.components in
+    let new : List TxnId = flat_map (λ x. x) c.args.components.now in
+    decided_mates c.args.links new c.args.components.now (λ t l. c.requires.decided t (listed_behind is_txn taken new t l)) c.requires.chosen
 
 pub returns-then-is_anew : goal.returns-then-is_anew
-returns-then-is_anew c =
-    over_found c.args.marks.now c.as_slice-taken.result.now c.args.components.now (c.args.kept.now.taken.components ++ c.args.components.now) c.args.links c.in_ok-over.over.items (Some c.in_ok-left.left)
-    (λ i. sym c.as_slice-taken.ensures i ++ c.args.components.now) c.in_ok-over.ensures c.in_ok-left.ensures
+returns-then-is_anew c = (
+  over_found c.args.marks.now c.as_slice-taken.result.now c.args.components.now (c.args.kept.now.taken.components ++ c.args.components.now) c.args.links c.in_ok-over.over.items (Some c.in_ok-left.left)
+      (λ i. sym c.as_slice-taken.ensures i ++ c.args.components.now) c.in_ok-over.ensures c.in_ok-left.ensures.left,
+  c.in_ok-left.ensures.rows,
+)
 
 pub ready-requires-clause-rows : goal.ready-requires-clause-rows
 ready-requires-clause-rows c = c.requires.stay (c.is_anew.ensures.unknown c.if-is_anew.false) c.args.kept.now.ancestors.rows c.requires.rows

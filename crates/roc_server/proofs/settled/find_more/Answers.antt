@@ -1,6 +1,6 @@
 use Rattle.std.proofs.Common.{refl, sym, subst}
 use Rattle.roc_server.specs.Inner.Settled.{AreUnknown}
-use Rattle.roc_server.proofs.FoundSettled.{are_decided, made_ids, new_decided, right_rows, settling, taken_new}
+use Rattle.roc_server.proofs.FoundSettled.{made_ids, member_decided, right_rows, settling, taken_new}
 use Rattle.roc_server.proofs.settled.find_more.Goals as goal
 
 pub find_decided-requires-clause-unknown : goal.find_decided-requires-clause-unknown
@@ -10,13 +10,10 @@ pub find_behind-requires-clause-same : goal.find_behind-requires-clause-same
 find_behind-requires-clause-same c = made_ids c.args.kept.now c.requires.right c.deref.result.now c.in_ok-links.field-0 c.in_ok-links.ensures
 
 pub find_behind-requires-clause-decided : goal.find_behind-requires-clause-decided
-find_behind-requires-clause-decided c = are_decided c.args.kept.now c.requires.right c.deref.result.now c.in_ok-links.field-0 c.in_ok-links.ensures c.deref-2.result.now c.deref-2.ensures.value
+find_behind-requires-clause-decided c = member_decided c.args.kept.now c.requires.right c.deref.result.now c.in_ok-links.field-0 c.in_ok-links.ensures c.deref-2.result.now c.deref-2.ensures.value
 
 pub find_behind-requires-clause-chosen : goal.find_behind-requires-clause-chosen
 find_behind-requires-clause-chosen c = taken_new c.args.kept.now c.requires.right c.deref.result.now c.in_ok-links.field-0 c.in_ok-links.ensures c.deref-2.result.now c.deref-2.ensures.value
-
-pub find_behind-requires-clause-new : goal.find_behind-requires-clause-new
-find_behind-requires-clause-new c = new_decided c.args.kept.now c.requires.right c.deref.result.now c.in_ok-links.field-0 c.in_ok-links.ensures c.deref-2.result.now c.deref-2.ensures.value
 
 pub find_behind-requires-clause-stay : goal.find_behind-requires-clause-stay
 find_behind-requires-clause-stay c none =

@@ -1,15 +1,7 @@
 use Rattle.std.proofs.Common.{◌≡◌, ◌++◌, ◌∙◌, ap, refl}
-use Rattle.roc_base.proofs.Ids.{unlisted_none}
-use Rattle.roc_component.proofs.OneMember.{none_taken}
 use Rattle.roc_server.specs.Inner.Settled.{links_settled}
 use Rattle.roc_server.proofs.FoundSettled.{none_rows, settling_less}
 use Rattle.roc_server.proofs.settled.settle_less.Goals as goal
-
-pub ready-requires-clause-taken : goal.ready-requires-clause-taken
-ready-requires-clause-taken c = none_taken c.args.kept.now.links
-
-pub ready-requires-clause-decided : goal.ready-requires-clause-decided
-ready-requires-clause-decided c t l = absurd (unlisted_none t l)
 
 pub returns : goal.returns
 returns c id mark are =

@@ -8,8 +8,9 @@ use Rattle.roc_server.specs.Fits.{AreGroupsOf}
 use Rattle.roc_server.specs.Inner.Left.{IsOver}
 use Rattle.roc_server.specs.Inner.ServerData.{IsSame}
 use Rattle.roc_server.specs.State.{unrun}
-use Rattle.roc_server.specs.Inner.Taught.{Acts, AreLearnt, IsLearning, Learns, Teaches}
+use Rattle.roc_server.specs.Inner.Taught.{Acts, AreLearnt, AreRowsFound, IsLearning, Learns, Teaches}
 use Rattle.roc_server.proofs.Alike.{alike_same}
+use Rattle.roc_server.proofs.LeftNew.{rows_found_still}
 use Rattle.roc_server.proofs.Plans.{by_parts}
 use Rattle.roc_server.proofs.Restored.{restored-none}
 use Rattle.roc_server.proofs.TaughtParts.{back_to, beside, learning, learnt_last, lists_planned, lists_right, planned_taken, same_before}
@@ -78,10 +79,12 @@ returns-in-Ok-clause-planned c =
     subst (λ marks. IsOver marks (end.taken.components ++ x.found.components.items) end.links x.left) (sym b.marks)
     (subst (λ taken. IsOver c.learn.new.kept.marks (taken ++ x.found.components.items) end.links x.left) (sym b.taken)
     (subst (λ ks. IsOver c.learn.new.kept.marks (c.learn.new.kept.taken.components ++ x.found.components.items) ks x.left) (sym b.links) c.in-Ok.ensures.left)) in
+    let rows : AreRowsFound end x.found.rows x.left =
+    rows_found_still (record c.learn.new.kept { rows = held }) end x.found.rows x.left b.links b.ancestors c.in-Ok.ensures.rows in
     subst (IsPlannedFrom old end) (sym c.lesson.ensures.change)
     (record {
       planned = lists_planned c.args.shard old c.learn.new.kept held news named c.requires.sound c.requires.learnable l end b x c.in-Ok.ensures.finds refl saved c.in-Ok.ensures.saved back
-          (c.in-Ok.ensures.acts.groups ∙ ap (λ (k : ServerData). map unrun k.started.groups) l.is) c.in-Ok.ensures.acts.room left;
+          (c.in-Ok.ensures.acts.groups ∙ ap (λ (k : ServerData). map unrun k.started.groups) l.is) c.in-Ok.ensures.acts.room left rows;
       from = λ at. (same_before c.args.shard old c.learn.new.kept held news named c.requires.sound c.requires.learnable l end b x c.in-Ok.ensures.finds refl saved c.in-Ok.ensures.saved back).state at;
     })
 
