@@ -3,6 +3,7 @@ ghost use Rattle.std.specs.Prelude.{None};
 
 use libc::net::{SO_RCVBUF, SOL_SOCKET, setsockopt};
 use roc_io::{Addr, Arrival, Bound, Link, Sent};
+use std::alloc::{AllocError, Global};
 use std::io;
 use std::io::ErrorKind;
 use std::net::{Ipv4Addr, Net, SocketAddr, SocketAddrV4, UdpSocket};
@@ -31,16 +32,19 @@ const BUFFER_BYTES: i32 = 4_194_304;
 pub struct RealLink<'a, N> {
     machine: &'a N,
     socket: Option<BoundSocket>,
+    // What the system writes datagrams into, one after another. To make it anew for each would take longer than all else.
+    buffer: Vec<u8>,
     faults: u64,
     lost: u64,
 }
 
 impl<'a, N> RealLink<'a, N> {
-    /// A link of this machine's network and clock that is not bound.
-    pub fn new(machine: &'a N) -> Self {
+    /// A link of this machine's network and clock that is not bound. Takes no memory before the first receive.
+    pub fn new(alloc: Global, machine: &'a N) -> Self {
         RealLink {
             machine,
             socket: None,
+            buffer: Vec::new(alloc),
             faults: 0,
             lost: 0,
         }
@@ -84,7 +88,7 @@ impl<N: Net + Clock> Link for RealLink<'_, N> {
     }
 
     fn receive(&mut self, into: &mut Vec<u8>) -> Arrival {
-        let answer = received(self.machine, &mut self.socket, into);
+        let answer = received(self.machine, &mut self.socket, &mut self.buffer, into);
         match answer {
             Arrival::Datagram { .. } => {}
             Arrival::Quiet => {
@@ -143,7 +147,12 @@ impl BoundSocket {
     }
 
     // What comes within this time: nothing where the call was interrupted.
-    fn received_within(&mut self, left: Duration, into: &mut Vec<u8>) -> Option<Arrival> {
+    fn received_within(
+        &mut self,
+        left: Duration,
+        buffer: &mut [u8],
+        into: &mut Vec<u8>,
+    ) -> Option<Arrival> {
         if self.wait < left
             || self.wait.saturating_sub(left) > Duration::from_millis(GRAIN_MILLIS)
         {
@@ -152,16 +161,8 @@ impl BoundSocket {
             }
             self.wait = left;
         }
-        match self.socket.recv_from(into) {
-            Ok((count, SocketAddr::V4(from))) => {
-                into.truncate(count);
-                Some(Arrival::Datagram {
-                    from: Addr {
-                        host: from.ip().octets(),
-                        port: from.port(),
-                    },
-                })
-            }
+        match self.socket.recv_from(buffer) {
+            Ok((count, SocketAddr::V4(from))) => Some(arrival(buffer, count, from, into)),
             Ok((_, SocketAddr::V6(_))) => Some(Arrival::Failed),
             Err(error) => match error.kind() {
                 ErrorKind::WouldBlock | ErrorKind::TimedOut => Some(Arrival::Quiet),
@@ -170,6 +171,20 @@ impl BoundSocket {
                 _ => Some(Arrival::Failed),
             },
         }
+    }
+}
+
+// What has come: so many of the bytes of the buffer.
+fn arrival(buffer: &[u8], count: usize, from: SocketAddrV4, into: &mut Vec<u8>) -> Arrival {
+    let (bytes, _) = buffer.split_at(count.min(buffer.len()));
+    if into.extend_from_slice(bytes).is_err() {
+        return Arrival::NoMemory;
+    }
+    Arrival::Datagram {
+        from: Addr {
+            host: from.ip().octets(),
+            port: from.port(),
+        },
     }
 }
 
@@ -211,6 +226,7 @@ fn is_sent(socket: &Option<BoundSocket>, to: Addr, bytes: &[u8]) -> bool {
 fn received<M: Clock>(
     machine: &M,
     socket: &mut Option<BoundSocket>,
+    buffer: &mut Vec<u8>,
     into: &mut Vec<u8>,
 ) -> Arrival {
     let Some(bound) = socket else {
@@ -218,7 +234,7 @@ fn received<M: Clock>(
     };
     into.clear();
     // Room first: want of memory then costs no datagram.
-    if into.resize(KEPT_BYTES, 0).is_err() {
+    if make_room(buffer, into).is_err() {
         return Arrival::NoMemory;
     }
     for _ in 0..MOST_INTERRUPTS {
@@ -226,11 +242,19 @@ fn received<M: Clock>(
         if left.is_zero() {
             break;
         }
-        if let Some(answer) = bound.received_within(left, into) {
+        if let Some(answer) = bound.received_within(left, buffer, into) {
             return answer;
         }
     }
     Arrival::Quiet
+}
+
+// Room for a datagram, where the system writes it and where it goes to.
+fn make_room(buffer: &mut Vec<u8>, into: &mut Vec<u8>) -> Result<(), AllocError> {
+    if buffer.len() < KEPT_BYTES {
+        buffer.resize(KEPT_BYTES, 0)?;
+    }
+    into.reserve(KEPT_BYTES)
 }
 
 fn machine_addr(addr: Addr) -> SocketAddr {

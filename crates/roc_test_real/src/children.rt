@@ -11,7 +11,7 @@ fn nothing_happens() {}
 fn a_child_ends_with_its_status(rt: HostRuntime) -> Result<(), Fail> {
     let alloc = rt.alloc();
     let mut spawner = RealSpawner::new(alloc, &rt);
-    let link = RealLink::new(&rt);
+    let link = RealLink::new(rt.alloc(), &rt);
     let words = vec![in alloc; String::from_str(alloc, "children::nothing_happens")?]?;
     match spawner.start(&words) {
         Started::Running(child) => {

@@ -58,8 +58,8 @@ fn sender<N: Net + Clock>(rt: &impl Abort, link: &mut RealLink<N>, bytes: &mut V
 #[test]
 fn datagrams_go_there_and_back(rt: HostRuntime) -> Result<(), Fail> {
     let alloc = rt.alloc();
-    let mut near = RealLink::new(&rt);
-    let mut far = RealLink::new(&rt);
+    let mut near = RealLink::new(rt.alloc(), &rt);
+    let mut far = RealLink::new(rt.alloc(), &rt);
     let here = bound_to_free(&rt, &mut near);
     assert_eq!(rt; far.bind(ANY), Bound::Ok);
     let large: Vec<u8> = vec![in alloc; 7u8; LARGE]?;
@@ -88,8 +88,8 @@ fn datagrams_go_there_and_back(rt: HostRuntime) -> Result<(), Fail> {
 #[test]
 fn what_is_too_long_is_cut_or_refused(rt: HostRuntime) -> Result<(), Fail> {
     let alloc = rt.alloc();
-    let mut near = RealLink::new(&rt);
-    let mut far = RealLink::new(&rt);
+    let mut near = RealLink::new(rt.alloc(), &rt);
+    let mut far = RealLink::new(rt.alloc(), &rt);
     let here = bound_to_free(&rt, &mut near);
     assert_eq!(rt; far.bind(ANY), Bound::Ok);
     let mut long: Vec<u8> = vec![in alloc; 7u8; TOO_LONG]?;
@@ -109,8 +109,8 @@ fn what_is_too_long_is_cut_or_refused(rt: HostRuntime) -> Result<(), Fail> {
 
 #[test]
 fn a_bind_may_fail(rt: HostRuntime) {
-    let mut near = RealLink::new(&rt);
-    let mut far = RealLink::new(&rt);
+    let mut near = RealLink::new(rt.alloc(), &rt);
+    let mut far = RealLink::new(rt.alloc(), &rt);
     let here = bound_to_free(&rt, &mut near);
     assert_eq!(rt; far.bind(here), Bound::Failed);
     assert_eq!(rt; far.bind(NOBODY), Bound::Failed);
@@ -119,7 +119,7 @@ fn a_bind_may_fail(rt: HostRuntime) {
 
 #[test]
 fn calls_before_a_bind_fail(rt: HostRuntime) {
-    let mut link = RealLink::new(&rt);
+    let mut link = RealLink::new(rt.alloc(), &rt);
     let mut bytes = Vec::new(rt.alloc());
     assert_eq!(rt; link.receive(&mut bytes), Arrival::Failed);
     assert_eq!(rt; link.faults(), 1);
@@ -152,7 +152,7 @@ fn send_until_quiet<N: Net + Clock + Abort>(
 
 #[test]
 fn a_receive_is_quiet_though_datagrams_come(rt: HostRuntime) -> Result<(), Fail> {
-    let mut link = RealLink::new(&rt);
+    let mut link = RealLink::new(rt.alloc(), &rt);
     let mut bytes = Vec::new(rt.alloc());
     let here = bound_to_free(&rt, &mut link);
     let since = Instant::now(&rt)?;

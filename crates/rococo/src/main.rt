@@ -31,7 +31,7 @@ fn run_words(rt: &HostRuntime, words: &[String]) -> u8 {
         &mut RealFiles::new(rt),
         &mut out,
         &mut err,
-        &mut RealLink::new(rt),
+        &mut RealLink::new(rt.alloc(), rt),
         &mut RealSpawner::new(rt.alloc(), rt),
     );
     // A write that fails only now ends the program as any other does.
