@@ -19,9 +19,6 @@ pub links_are : (links left : List KnownList) (over gone done : List TxnId) → 
     → left ≡ links_left links over
 links_are links left over gone done first second h = h ∙ (λ i. map (without_links (is_listed is_txn (second i))) (filter (λ k. not (is_listed is_txn (first i) k.of)) links))
 
-pub members_are : (all ids over gone : List TxnId) → gone ≡ over → ids ≡ filter (λ t. not (is_listed is_txn gone t)) all → ids ≡ filter (λ t. not (is_listed is_txn over t)) all
-members_are all ids over gone same h = h ∙ (λ i. filter (λ t. not (is_listed is_txn (same i) t)) all)
-
 module _ (links left : List KnownList) (over all : List TxnId) (left_is : left ≡ links_left links over) (decided : (t : TxnId) → IsListed is_txn all t → IsDecided links t) where
   abbrev forgotten : TxnId → Bool
   forgotten t = is_listed is_txn over t

@@ -72,7 +72,7 @@ pub(crate) fn find_behind(
     let taken = kept.taken.as_slice();
     let over = over_among(alloc, marks, taken, components)?;
     if is_anew(is_known, &over) {
-        let left = left_of(alloc, &kept.known, &links, taken, components, over)?;
+        let left = left_of(alloc, &kept.known, &links, over)?;
         return Ok(Behind::Left(left));
     }
     let rows = kept.ancestors.ready(&links, components)?;

@@ -1,13 +1,12 @@
 //! What is left of the lists once what is over is forgotten.
-ghost use Rattle.std.specs.Prelude.{◌≡◌, ◌++◌, true, [], List, not, map, filter, IfOk};
-ghost use Rattle.std.specs.List.{flat_map};
+ghost use Rattle.std.specs.Prelude.{◌≡◌, ◌++◌, true, [], List, map, IfOk};
 ghost use Rattle.std.specs.List.Sorted.{IsStrictlySortedBy};
 ghost use Rattle.roc_base.specs.TxnId.{is_txn, txn_cmp};
 ghost use Rattle.roc_base.specs.declared.id.TxnId.{TxnId as Id};
 ghost use Rattle.roc_depgraph.specs.Closure.{IsRisingListOf};
-ghost use Rattle.roc_depgraph.specs.Deps.{IsDecided, Precedes};
+ghost use Rattle.roc_depgraph.specs.Deps.{Precedes};
 ghost use Rattle.roc_depgraph.specs.Reach.{ReachesOrIs};
-ghost use Rattle.roc_sequence.specs.Places.{IsListed, is_listed};
+ghost use Rattle.roc_sequence.specs.Places.{IsListed};
 ghost use Rattle.roc_server.specs.Forgets.{over};
 ghost use Rattle.roc_server_ancestors.specs.Least.{AreRows, HasRow};
 ghost use Rattle.roc_server_lists.specs.New.{AreNewTaken};
@@ -17,17 +16,17 @@ ghost use Rattle.roc_server.specs.Inner.Taught.{AreListsRight, AreRowsFound};
 
 use crate::marks::Marks;
 use crate::server_data::ServerData;
-use crate::taken::{open_among, push_members, push_over};
+use crate::taken::{open_among, push_over};
 use roc_base::{NoMemory, TxnId};
 use roc_component::rising;
-use roc_depgraph::{Deps, is_among_rising};
+use roc_depgraph::Deps;
 use roc_sequence::Sequence;
 use roc_server_ancestors::{Ancestors, NextRows};
 use roc_server_lists::{KnownLists, links_without};
 use std::alloc::Global;
 
-// What is forgotten, by id rising; what is followed of what stays; and the least of the ancestors of what stays, made anew where what is kept
-// of them is right no longer.
+// What is forgotten, by id rising; what is followed of what stays; and where the least of its ancestors are kept from then on, if those that are
+// kept may be right no longer.
 #[derive(Drop)]
 pub(crate) struct Left {
     pub over: Vec<TxnId>,
@@ -72,7 +71,7 @@ pub(crate) fn left_by_marks(
     if is_none(&over) {
         return Ok(None);
     }
-    let left = left_of(alloc, &kept.known, &kept.links, taken, &[], over)?;
+    let left = left_of(alloc, &kept.known, &kept.links, over)?;
     Ok(Some(left))
 }
 
@@ -109,45 +108,24 @@ pub(crate) fn left_of_new(
     ))
 }
 
-// What is left of these lists, which decide the members of these components, with all that is made anew.
+// What is left of these lists, where what is kept of least ancestors may be right no longer. None is kept then: to search anew for those that
+// are asked for takes less than to make all of them again.
 pub(crate) fn left_of(
     alloc: Global,
     known: &KnownLists,
     links: &Deps,
-    taken: &[Sequence<TxnId>],
-    more: &[Sequence<TxnId>],
     over: Vec<TxnId>,
 ) -> Result<Left, NoMemory>
     requires same { map (λ k. k.of) links.now ≡ map (λ k. k.of) known.now }
-    requires decided { (t : Id) → IsListed is_txn (flat_map (λ c. c) taken.now ++ flat_map (λ c. c) more.now) t → IsDecided links.now t }
     requires rising { IsStrictlySortedBy txn_cmp over.items }
     ensures left { IfOk result (IsLeft links.now over.items) }
     ensures rows { IfOk result (λ left. (kept : List (Id × List Id)) → AreRows left.links (rows_behind kept left.ancestors)) }
 {
-    let ids = ids_left(alloc, taken, more, &over)?;
     let links = links_without(alloc, known, links, &over, &over)?;
-    let mut ancestors = Ancestors::new(alloc);
-    ancestors.keep(&links, &ids)?;
+    let ancestors = Some(Ancestors::new(alloc));
     Ok(Left {
         over,
         links,
-        ancestors: Some(ancestors),
+        ancestors,
     })
-}
-
-// The members of components that are not forgotten.
-fn ids_left(
-    alloc: Global,
-    taken: &[Sequence<TxnId>],
-    more: &[Sequence<TxnId>],
-    over: &[TxnId],
-) -> Result<Vec<TxnId>, NoMemory>
-    requires { IsStrictlySortedBy txn_cmp over.now }
-    ensures { IfOk result (λ ids. ids.items ≡ filter (λ t. not (is_listed is_txn over.now t)) (flat_map (λ c. c) taken.now ++ flat_map (λ c. c) more.now)) }
-{
-    let mut ids = Vec::new(alloc);
-    push_members(taken, &mut ids)?;
-    push_members(more, &mut ids)?;
-    ids.retain(|id| !is_among_rising(over, *id));
-    Ok(ids)
 }

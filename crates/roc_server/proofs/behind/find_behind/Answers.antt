@@ -1,17 +1,11 @@
-use Rattle.std.proofs.Common.{◌++◌, List, Some, None, sym, subst, refl, ◌∙◌}
+use Rattle.std.proofs.Common.{◌++◌, List, Some, None, sym, refl, ◌∙◌}
 use Rattle.std.specs.List.{flat_map}
-use Rattle.roc_sequence.specs.Places.{IsListed}
 use Rattle.roc_sequence.proofs.Appended.{listed_behind}
 use Rattle.roc_base.specs.declared.id.TxnId.{TxnId}
 use Rattle.roc_base.specs.TxnId.{is_txn}
 use Rattle.roc_server_ancestors.proofs.KeptRows.{decided_mates}
 use Rattle.roc_server.proofs.FoundSettled.{over_found}
 use Rattle.roc_server.proofs.behind.find_behind.Goals as goal
-
-pub left_of-requires-clause-decided : goal.left_of-requires-clause-decided
-left_of-requires-clause-decided c t l =
-    let all : List (List TxnId) → List TxnId = λ taken. flat_map (λ x. x) taken ++ flat_map (λ x. x) c.args.components.now in
-    c.requires.decided t (subst (λ taken. IsListed is_txn (all taken) t) c.as_slice-taken.ensures l)
 
 pub ready-requires-clause-mates : goal.ready-requires-clause-mates
 ready-requires-clause-mates c =

@@ -1,9 +1,5 @@
-use Rattle.std.proofs.Common.{[], List, None, Some, ap, subst, sym, ◌∙◌}
+use Rattle.std.proofs.Common.{[], None, Some, sym, ◌∙◌}
 use Rattle.std.proofs.lemmas.List.{append-nil}
-use Rattle.std.specs.List.{flat_map}
-use Rattle.roc_sequence.specs.Places.{IsListed}
-use Rattle.roc_base.specs.declared.id.TxnId.{TxnId}
-use Rattle.roc_base.specs.TxnId.{is_txn}
 use Rattle.roc_server_lists.proofs.FollowedLinks.{links_ids}
 use Rattle.roc_server.specs.Below.{is_ended}
 use Rattle.roc_server.proofs.FoundSettled.{over_found}
@@ -13,12 +9,6 @@ pub left_of-requires-clause-same : goal.left_of-requires-clause-same
 left_of-requires-clause-same c =
     let k = c.args.kept.now in
     links_ids (is_ended k.marks) k.known k.links c.requires.linked
-
-pub left_of-requires-clause-decided : goal.left_of-requires-clause-decided
-left_of-requires-clause-decided c t l =
-    c.requires.decided_only t
-    (c.requires.taken_decided t
-    (subst (λ (ids : List TxnId). IsListed is_txn ids t) (append-nil (flat_map (λ x. x) c.as_slice-taken.result.now) ∙ ap (flat_map (λ x. x)) c.as_slice-taken.ensures) l))
 
 pub returns-then-is_none-clause-left : goal.returns-then-is_none-clause-left
 returns-then-is_none-clause-left c =
