@@ -32,7 +32,7 @@ const BUFFER_BYTES: i32 = 4_194_304;
 pub struct RealLink<'a, N> {
     machine: &'a N,
     socket: Option<BoundSocket>,
-    // What the system writes datagrams into, one after another. To make it anew for each would take longer than all else.
+    // What the system writes datagrams into, one after another. One that is made anew for each is filled with zeros first.
     buffer: Vec<u8>,
     faults: u64,
     lost: u64,

@@ -67,10 +67,13 @@ fn datagrams_go_there_and_back(rt: HostRuntime) -> Result<(), Fail> {
 
     assert_eq!(rt; far.send(here, b"a"), Sent::Ok);
     assert_eq!(rt; far.send(here, &large), Sent::Ok);
+    assert_eq!(rt; far.send(here, b"behind"), Sent::Ok);
     sender(&rt, &mut near, &mut bytes);
     assert_eq!(rt; bytes.as_slice(), b"a".as_slice());
     let from = sender(&rt, &mut near, &mut bytes);
     assert!(rt; bytes.as_slice() == large.as_slice());
+    sender(&rt, &mut near, &mut bytes);
+    assert_eq!(rt; bytes.as_slice(), b"behind".as_slice());
 
     assert_eq!(rt; near.send(from, b"back"), Sent::Ok);
     assert_eq!(rt; sender(&rt, &mut far, &mut bytes), here);

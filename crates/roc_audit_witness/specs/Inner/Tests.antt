@@ -1,5 +1,6 @@
 -- Tests that say together whether a list is a serial witness
-use Rattle.std.specs.Prelude.{◌≡◌, ℕ, ℤ, ◌+◌, Bool, true, false, not, ◌&&◌, ◌||◌, max, nat_lt, nat_le, List, [], ◌∷◌, ◌++◌, map, Option, Some, None, find, if◌then◌else◌}
+use Rattle.std.specs.Prelude.{◌≡◌, Bool, true, false, not, ◌&&◌, ◌||◌, if◌then◌else◌}
+use Rattle.std.specs.Prelude.{ℕ, ℤ, ◌+◌, max, nat_lt, nat_le, List, [], ◌∷◌, ◌++◌, map, Option, Some, None, find}
 use Rattle.std.specs.List.{cons_option}
 use Rattle.roc_sequence.specs.Places.{place_of, is_listed}
 use Rattle.roc_base.specs.declared.id.TxnId.{TxnId}
