@@ -15,12 +15,13 @@ use Rattle.roc_base.specs.Equalities.{is_txn-true, is_txn-same}
 use Rattle.roc_base.proofs.Ids.{is_txn-ne}
 use Rattle.roc_rows.specs.Store.{Store}
 use Rattle.roc_program.specs.Program.{Workload}
-use Rattle.roc_whole.specs.Serial.{Call, run_of, serial_store, serial_answers, start_store}
+use Rattle.roc_whole.specs.Serial.{Call, run_of, serial_store, serial_answers}
 use Rattle.roc_whole.proofs.SerialRuns.{serial_answers-append}
 use Rattle.roc_audit.specs.declared.entry.Entry.{Entry}
 use Rattle.roc_audit.specs.declared.entry.Entry.TheVariants.{Submitted, Answered}
 use Rattle.roc_audit.specs.History.{WasSubmitted, WasAnswered, IsAnsweredBefore}
-use Rattle.roc_audit.specs.Witness.{submitted_call, submitted_calls, reply_in, serial_reply, IsSerialWitness}
+use Rattle.roc_audit.specs.Witness.{submitted_call, submitted_calls, reply_in}
+use Rattle.roc_audit.specs.WitnessFrom.{serial_reply_from, IsSerialWitnessFrom}
 use Rattle.roc_audit.proofs.Histories.{call_of-id, calls_of-append, calls_of-listed, answered_by_before}
 use Rattle.roc_audit.proofs.Replies.{reply_in-none, reply_in-behind}
 use Rattle.roc_audit.specs.Woven.{Look, look_ids, woven, entry_id, without_views, LeaveTheStore, store_seen, AreLooks}
@@ -69,16 +70,13 @@ module _ (is_view : TxnId → Bool) where
   same_calls H [] h = refl
   same_calls H (t ∷ O) h = λ j. cons_option (same_call H t (h t (inl refl)) j) (same_calls H O (λ u k. h u (inr k)) j)
 
-module _ (program : Workload) (is_view : TxnId → Bool) (H : List Entry) (O : List TxnId) (L : List Look)
-    (leaves : LeaveTheStore program is_view H) (base : IsSerialWitness program (without_views is_view H) O) (looks : AreLooks program is_view H O L) where
+module _ (program : Workload) (start : Store) (is_view : TxnId → Bool) (H : List Entry) (O : List TxnId) (L : List Look)
+    (leaves : LeaveTheStore program is_view H) (base : IsSerialWitnessFrom program start (without_views is_view H) O) (looks : AreLooks program start is_view H O L) where
   abbrev W : List TxnId
   W = woven 0 O L
 
   abbrev txn : TxnId → Bool
   txn = is_other is_view
-
-  abbrev start : Store
-  start = start_store program
 
   has : (xs : List TxnId) (t : TxnId) → IsListed is_txn xs t → Has t xs
   has = listed_has is_txn is_txn-true is_txn-same
@@ -126,7 +124,7 @@ module _ (program : Workload) (is_view : TxnId → Bool) (H : List Entry) (O : L
       go false e h k = k (omega arith)
 
   -- replies of transactions
-  txn_reply : (t : TxnId) → is_view t ≡ false → serial_reply program H W t ≡ serial_reply program (without_views is_view H) O t
+  txn_reply : (t : TxnId) → is_view t ≡ false → serial_reply_from program start H W t ≡ serial_reply_from program start (without_views is_view H) O t
   txn_reply t e =
       (alike program is_view H leaves W start).replies t e
       ∙ (ap (λ F. reply_in t (serial_answers program start (submitted_calls H F))) parts.0
@@ -136,7 +134,7 @@ module _ (program : Workload) (is_view : TxnId → Bool) (H : List Entry) (O : L
   place_in l h = let z : l.behind - 0 ≡ l.behind = omega arith in subst (λ n. Split is_view W l.id n O) z (split is_view 0 O L txns views looks.rising l h)
 
   -- and of views
-  view_reply : (l : Look) → Has l L → (c : Call) → submitted_call l.id H ≡ Some c → serial_reply program H W l.id ≡ Some (run_of program (store_seen program H O l) c).reply
+  view_reply : (l : Look) → Has l L → (c : Call) → submitted_call l.id H ≡ Some c → serial_reply_from program start H W l.id ≡ Some (run_of program (store_seen program start H O l) c).reply
   view_reply l h c e =
       let v = l.id in
       let s = place_in l h in
@@ -147,7 +145,7 @@ module _ (program : Workload) (is_view : TxnId → Bool) (H : List Entry) (O : L
       let cs : submitted_calls H W ≡ A ++ c ∷ B = ap (submitted_calls H) s.is ∙ (calls_of-append H s.front (v ∷ s.back) ∙ ap (λ o. A ++ cons_option o B) e) in
       let none : reply_in v (serial_answers program start A) ≡ None =
       reply_in-none program v start A (λ d i. is_txn-ne d.id v (λ f. n.0 (subst (IsListed is_txn s.front) f (calls_of-listed H s.front d i)))) in
-      let at : X ≡ store_seen program H O l = (alike program is_view H leaves s.front start).store ∙ ap (λ F. serial_store program start (submitted_calls H F)) s.txns in
+      let at : X ≡ store_seen program start H O l = (alike program is_view H leaves s.front start).store ∙ ap (λ F. serial_store program start (submitted_calls H F)) s.txns in
       let own : is_txn c.id v ≡ true = subst (λ u. is_txn u v ≡ true) (sym (call_of-id H v c e)) (is_txn-same v) in
       ap (λ cs. reply_in v (serial_answers program start cs)) cs
       ∙ (ap (reply_in v) (serial_answers-append program start A (c ∷ B))
@@ -191,7 +189,7 @@ module _ (program : Workload) (is_view : TxnId → Bool) (H : List Entry) (O : L
       let l = looks.replies t a.0 e a.1 in
       subst (λ v. IsListedBefore is_txn W v u) l.2 (stands_before u l.0 l.1 f (looks.before u l.0 l.1 f (subst (λ v. IsAnsweredBefore H v u) (sym l.2) h)))
 
-  pub is_witness : IsSerialWitness program H W
+  pub is_witness : IsSerialWitnessFrom program start H W
   is_witness =
       record {
         once = once;
@@ -209,8 +207,8 @@ module _ (program : Workload) (is_view : TxnId → Bool) (H : List Entry) (O : L
       answered t reply h false e = of_order t (base.answered t reply (part_has is_view (Answered t reply) H e h))
       answered t reply h true e = let l = looks.replies t reply e h in of_looks t (subst (IsListed is_txn (look_ids L)) l.2 (under_has is_txn is_txn-true is_txn-same (λ (l : Look). l.id) L l.0 l.1))
 
-      replies : (t : TxnId) (reply : List ℤ) → WasAnswered H t reply → (b : Bool) → is_view t ≡ b → serial_reply program H W t ≡ Some reply
+      replies : (t : TxnId) (reply : List ℤ) → WasAnswered H t reply → (b : Bool) → is_view t ≡ b → serial_reply_from program start H W t ≡ Some reply
       replies t reply h false e = txn_reply t e ∙ base.replies t reply (part_has is_view (Answered t reply) H e h)
       replies t reply h true e =
           let l = looks.replies t reply e h in
-          subst (λ v. submitted_call v H ≡ Some l.3 → serial_reply program H W v ≡ Some reply) l.2 (λ f. view_reply l.0 l.1 l.3 f ∙ ap Some (sym l.5)) l.4
+          subst (λ v. submitted_call v H ≡ Some l.3 → serial_reply_from program start H W v ≡ Some reply) l.2 (λ f. view_reply l.0 l.1 l.3 f ∙ ap Some (sym l.5)) l.4

@@ -1,5 +1,6 @@
 pub mod History
 pub mod Order
 pub mod Witness
+pub mod WitnessFrom
 pub mod Woven
 pub mod Inner

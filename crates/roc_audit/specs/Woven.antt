@@ -8,7 +8,7 @@ use Rattle.roc_base.specs.declared.id.TxnId.{TxnId}
 use Rattle.roc_base.specs.TxnId.{is_txn}
 use Rattle.roc_rows.specs.Store.{Store}
 use Rattle.roc_program.specs.Program.{Workload}
-use Rattle.roc_whole.specs.Serial.{Call, run_of, serial_store, start_store}
+use Rattle.roc_whole.specs.Serial.{Call, run_of, serial_store}
 use Rattle.roc_audit.specs.declared.entry.Entry.{Entry}
 use Rattle.roc_audit.specs.declared.entry.Entry.TheVariants.{Submitted, Answered}
 use Rattle.roc_audit.specs.History.{WasSubmitted, WasAnswered, IsAnsweredBefore}
@@ -45,12 +45,12 @@ abbrev pub LeaveTheStore : Workload → (TxnId → Bool) → List Entry → Type
 LeaveTheStore program is_view history =
     (t : TxnId) (c : Call) → is_view t ≡ true → submitted_call t history ≡ Some c → (s : Store) → (run_of program s c).store ≡ s
 
--- what the transactions leave that stand before a look
-abbrev pub store_seen : Workload → List Entry → List TxnId → Look → Store
-store_seen program history order l = serial_store program (start_store program) (submitted_calls history (take l.behind order))
+-- what the transactions leave that stand before a look, from this store on
+abbrev pub store_seen : Workload → Store → List Entry → List TxnId → Look → Store
+store_seen program store history order l = serial_store program store (submitted_calls history (take l.behind order))
 
--- looks fit a history and the order of its transactions
-pub record AreLooks (program : Workload) (is_view : TxnId → Bool) (history : List Entry) (order : List TxnId) (looks : List Look) : Type 0 where
+-- looks fit a history and the order of its transactions, which run from this store on
+pub record AreLooks (program : Workload) (store : Store) (is_view : TxnId → Bool) (history : List Entry) (order : List TxnId) (looks : List Look) : Type 0 where
   -- they are submitted views, each once, and none stands before an earlier one
   pub once : NoneTwice is_txn (look_ids looks)
   pub rising : IsRising is_no_later looks
@@ -58,7 +58,7 @@ pub record AreLooks (program : Workload) (is_view : TxnId → Bool) (history : L
   -- each answered view is among them, and its reply is that of its whole run where it stands
   pub replies :
       (v : TxnId) (reply : List ℤ) → is_view v ≡ true → WasAnswered history v reply
-      → (l : Look) × Has l looks × (l.id ≡ v) × (c : Call) × (submitted_call v history ≡ Some c) × (reply ≡ (run_of program (store_seen program history order l) c).reply)
+      → (l : Look) × Has l looks × (l.id ≡ v) × (c : Call) × (submitted_call v history ≡ Some c) × (reply ≡ (run_of program (store_seen program store history order l) c).reply)
   -- it stands behind each transaction that was answered before its submission
   pub after : (t : TxnId) (l : Look) → Has l looks → is_view t ≡ false → IsAnsweredBefore history t l.id → IsListed is_txn (take l.behind order) t
   -- and before each that was submitted after its answer

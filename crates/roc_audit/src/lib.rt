@@ -3,7 +3,7 @@
 //! `specs/History.antt` reads who was submitted and answered, and what it means that no id is told twice. What it means
 //! that an order explains a history is the record `IsSerialWitness` of `specs/Witness.antt`: each transaction once,
 //! only submitted ones, each answered one, the replies of the serial run, and real time. No piece, message or graph
-//! occurs in it.
+//! occurs in it. `specs/WitnessFrom.antt` has the same of serial runs that begin at any store.
 //!
 //! The layers above may rely on this: what is in an order stays where it is, and those of the ids noted that are not in
 //! it are put at its end; if memory is wanting, the order stays as it was. And on a law: an order that explains a history

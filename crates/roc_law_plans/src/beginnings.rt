@@ -12,7 +12,7 @@ ghost use Rattle.roc_law_orders.specs.Runs.{stage_behind};
 ghost use Rattle.roc_law_orders.specs.Orders.{one_by_one};
 ghost use Rattle.roc_protocol.specs.PlanAssumptions.{HasSchemesFrom, IsWholeReplyFrom};
 ghost use Rattle.roc_protocol.specs.Beginnings.{Beginning, IsBeginning};
-ghost use Rattle.roc_protocol.specs.WitnessFrom.{IsSerialWitnessFrom};
+ghost use Rattle.roc_audit.specs.WitnessFrom.{IsSerialWitnessFrom};
 ghost use Rattle.roc_protocol.specs.Run.{Stepped};
 ghost use Rattle.roc_protocol.specs.Beside.{IsRunBeside};
 ghost use Rattle.roc_protocol.specs.World.{World};

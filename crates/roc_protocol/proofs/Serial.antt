@@ -15,7 +15,7 @@ use Rattle.roc_audit.specs.declared.entry.Entry.{Entry}
 use Rattle.roc_audit.specs.declared.entry.Entry.TheVariants.{Submitted}
 use Rattle.roc_audit.specs.History.{WasSubmitted}
 use Rattle.roc_audit.specs.Witness.{submitted_call, IsSerialWitness}
-use Rattle.roc_protocol.specs.WitnessFrom.{IsSerialWitnessFrom}
+use Rattle.roc_audit.specs.WitnessFrom.{IsSerialWitnessFrom}
 use Rattle.roc_audit.proofs.Histories.{call_of-is, call_of-id, call_of-from}
 use Rattle.roc_base.specs.Equalities.{is_txn-true}
 use Rattle.roc_base.specs.TxnId.{is_txn}

@@ -1,6 +1,5 @@
 pub mod World
 pub mod Beginnings
-pub mod WitnessFrom
 pub mod Aside
 pub mod Happens
 pub mod Run

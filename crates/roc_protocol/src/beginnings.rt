@@ -41,7 +41,7 @@ ghost use Rattle.roc_protocol.specs.Forgotten.{HasStartedOn, IsSettledIn, IsTake
 ghost use Rattle.roc_protocol.specs.Quiet.{IsQuiet};
 ghost use Rattle.roc_protocol.specs.World.{World, first_world};
 ghost use Rattle.roc_protocol.specs.Beginnings.{Beginning, IsBeginning, begun_world, first_beginning, left_by};
-ghost use Rattle.roc_protocol.specs.WitnessFrom.{serial_reply_from, IsSerialWitnessFrom};
+ghost use Rattle.roc_audit.specs.WitnessFrom.{serial_reply_from, IsSerialWitnessFrom};
 ghost use Rattle.roc_protocol.specs.Fits.{FitsWorld};
 ghost use Rattle.roc_protocol.specs.Run.{Stepped, IsRun, IsRunFrom, MayHappenFrom};
 ghost use Rattle.roc_protocol.specs.Beside.{Moves, IsRunBeside};

@@ -1,5 +1,5 @@
 -- What holds of open views in every world: what was sent for them, what came of it, and what is kept
-use Rattle.std.proofs.Common.{◌≡◌, ◌∙◌, ◌⊎◌, inl, inr, ℕ, ℤ, ◌<◌, ◌≤◌, true, false, List, Some, is_some, length, sym, ap, subst, arith}
+use Rattle.std.proofs.Common.{◌≡◌, ◌∙◌, ◌⊎◌, inl, inr, ℕ, ℤ, ◌<◌, ◌≤◌, true, false, List, Some, is_some, length, sym, ap, arith}
 use Rattle.std.proofs.lemmas.Bool.{false≢true}
 use Rattle.std.specs.Prelude.{slice_get}
 use Rattle.roc_sequence.specs.Lists.{Has}
@@ -29,9 +29,9 @@ use Rattle.roc_views.proofs.ServerMarks.{IsAbove}
 use Rattle.roc_views.proofs.CoordMarks.{mark_least}
 use Rattle.roc_views.proofs.KeptReads.{IsHeld}
 
--- the coordinator of t tells a watermark above it
+-- the coordinator of t, where it is there, tells a watermark above it
 abbrev pub IsPassed : List CoordState → TxnId → Type 0
-IsPassed coords t = (c : CoordState) × (slice_get coords t.coord ≡ Some c) × (t.seq < watermark c)
+IsPassed coords t = (c : CoordState) → slice_get coords t.coord ≡ Some c → t.seq < watermark c
 
 -- a message for views is of one that was submitted
 abbrev pub IsOfSubmitted : List Entry → Msg → Type 0
@@ -167,10 +167,6 @@ module _ (plan : Plan) where
 pub open_not_passed : (plan : Plan) (w : World) → AreCalm plan w → (n : ℕ) (c : CoordState) → slice_get w.coords n ≡ Some c → (v : View) → Has v c.views → ¬ IsPassed w.coords v.id
 open_not_passed plan w a n c at v h p =
     let k = a.coords n c at in
-    let same : p.0 ≡ c = one p.0 c (sym p.1 ∙ (ap (λ m. slice_get w.coords m) (k.own v h) ∙ at)) in
     let low = mark_least c v.id (k.listed v h) in
-    let high = subst (λ (c : CoordState). v.id.seq < watermark c) same p.2 in
+    let high = p c (ap (λ m. slice_get w.coords m) (k.own v h) ∙ at) in
     omega arith
-  where
-    one : (a b : CoordState) → Some a ≡ Some b → a ≡ b
-    one a b e = cc

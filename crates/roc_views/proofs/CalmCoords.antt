@@ -75,13 +75,13 @@ module _ (plan : Plan) (w : World) (n : ℕ) (s after : CoordState) (outs : List
     elsewhere m other = ap (λ l. slice_get l m) i.coords ∙ get-set_other w.coords n m after other
 
     passed_on : (t : TxnId) → IsPassed w.coords t → IsPassed u.coords t
-    passed_on t (c, at, low) = elim (cases_eq n t.coord) [
-      | inl e ↦
-          (let same : c ≡ s = same_there w.coords t.coord c s at (subst (λ m. slice_get w.coords m ≡ Some s) e i.there) in
-          let l : t.seq < watermark s = subst (λ c. t.seq < watermark c) same low in
+    passed_on t p c at = elim (get-set_cases w.coords n t.coord s after c i.there (subst (λ l. slice_get l t.coord ≡ Some c) i.coords at)) [
+      | inl f ↦
+          (let l = p s (subst (λ m. slice_get w.coords m ≡ Some s) f.0 i.there) in
           let rises = k.rises in
-          (after, subst (λ m. slice_get u.coords m ≡ Some after) e here, omega arith))
-      | inr other ↦ (c, elsewhere t.coord other ∙ at, low)
+          let high : t.seq < watermark after = omega arith in
+          subst (λ c. t.seq < watermark c) (sym f.1) high)
+      | inr f ↦ p c f.1
     ]
 
     new_messages : (P : Envelope → Type 0) → ((out : Outgoing) → Has out outs → P (sent_by (Coord n) out)) → (m : Envelope) → Has m (map (sent_by (Coord n)) outs) → P m
@@ -147,7 +147,9 @@ module _ (plan : Plan) (w : World) (n : ℕ) (s after : CoordState) (outs : List
             | inl old ↦ passed_on t (a.told m old t above)
             | inr now ↦
                 (let p = new_messages (λ m. IsAbove m.msg t → (t.coord ≡ after.number) × (t.seq < watermark after)) (λ out j. k.above out j t) m now above in
-                (after, subst (λ m. slice_get u.coords m ≡ Some after) (sym (p.0 ∙ i.number)) here, p.1))
+                λ c at.
+                (let same : c ≡ after = same_there u.coords t.coord c after at (subst (λ m. slice_get u.coords m ≡ Some after) (sym (p.0 ∙ i.number)) here) in
+                subst (λ c. t.seq < watermark c) (sym same) p.1))
           ];
           heard = λ j y at t h. passed_on t (a.heard j y (subst (λ l. slice_get l j ≡ Some y) i.servers at) t h);
           asked = λ t proc args h view. elim (has_append (Submitted t proc args) w.history told (subst (λ l. Has (Submitted t proc args) l) i.history h)) [

@@ -13,6 +13,7 @@ use Rattle.roc_server.specs.Below.{is_ended}
 use Rattle.roc_server.specs.State.{ServerState, Viewing}
 use Rattle.roc_readonly.specs.declared.view.View.{View}
 use Rattle.roc_readonly.specs.Round.{first_round}
+use Rattle.roc_coord.specs.Marks.{watermark}
 use Rattle.roc_coord.specs.State.{CoordState}
 use Rattle.roc_coord.specs.Submit.{Submission, next_id, new_transaction, accepted, accepted_view, accepted_call, after_submit}
 use Rattle.roc_audit.specs.History.{WasSubmitted}
@@ -22,7 +23,7 @@ use Rattle.roc_protocol.specs.declared.event.Event.{Event}
 use Rattle.roc_protocol.specs.declared.event.Event.TheVariants.{Submit, Deliver, Tick}
 use Rattle.roc_protocol.proofs.Firsts.{found_at}
 use Rattle.roc_protocol.proofs.SubmissionEnds.{IsSubmission, unknown, miscounted, spent, busy, taken, any_submission_is}
-use Rattle.roc_views.specs.World.{World, first_beginning, begun_world, mark_delivered}
+use Rattle.roc_views.specs.World.{World, Beginning, begun_world, mark_delivered}
 use Rattle.roc_views.specs.Happens.{Outcome, IsSubmissionOf, IsReceived}
 use Rattle.roc_views.specs.Run.{Stepped, Transition, IsRunFrom, at_beginning, steps_on}
 use Rattle.roc_views.specs.Beside.{TellsViews}
@@ -81,33 +82,36 @@ module _ (plan : Plan) (accepted_plan : IsAccepted plan) (some_group : (proc : �
 
   -- ---- runs
 
-  begun_calm : IsBeginning plan (protocol.first_beginning plan) → (coords : ℕ) → AreCalm plan (begun_world plan (first_beginning plan) coords)
-  begun_calm begins coords =
+  begun_calm : (b : Beginning) → IsBeginning plan b.of_transactions → (coords : ℕ) → AreCalm plan (begun_world plan b coords)
+  begun_calm b begins coords =
       record {
         shards = λ n s at. ap (λ (s : ServerState). s.shard.0) (server n s at) ∙ zero_more n;
         coords = λ n c at. record { own = λ v h. absurd (no_view n c at v h); one = λ v x h k e. absurd (no_view n c at v h); listed = λ v h. absurd (no_view n c at v h) };
         views = λ n c at v h. absurd (no_view n c at v h);
         messages = λ m h. absurd h;
-        kept = λ n z at x h. absurd (subst (λ (z : Viewing). Has x z.reads) (found_at (λ n. record { versions = (first_beginning plan).versions n; reads = [] }) 0 plan.program.shards n z at) h);
+        kept = λ n z at x h. absurd (subst (λ (z : Viewing). Has x z.reads) (found_at (λ n. record { versions = b.versions n; reads = [] }) 0 plan.program.shards n z at) h);
         told = λ m h. absurd h;
-        heard = λ n s at t h. absurd (let low : t.seq < 0 = begins.ended (0 + n) t (subst (λ (s : ServerState). is_ended s.below t ≡ true) (server n s at) h) in omega arith);
+        heard = λ n s at t h c there.
+            (let low = begins.ended (0 + n) t (subst (λ (s : ServerState). is_ended s.below t ≡ true) (server n s at) h) in
+            subst (λ (c : CoordState). t.seq < watermark c) (sym (found_at (protocol.begun_coord b.of_transactions) 0 coords t.coord c there))
+            (subst (λ k. t.seq < b.of_transactions.nexts k) (sym (zero_more t.coord)) low));
         asked = λ t proc args h. absurd h;
       }
     where
       zero_more : (n : ℕ) → 0 + n ≡ n
       zero_more n = omega arith
 
-      server : (n : ℕ) (s : ServerState) → slice_get (begun_world plan (first_beginning plan) coords).servers n ≡ Some s → s ≡ protocol.begun_server (protocol.first_beginning plan) (0 + n)
-      server n s at = found_at (protocol.begun_server (protocol.first_beginning plan)) 0 plan.program.shards n s at
+      server : (n : ℕ) (s : ServerState) → slice_get (begun_world plan b coords).servers n ≡ Some s → s ≡ protocol.begun_server b.of_transactions (0 + n)
+      server n s at = found_at (protocol.begun_server b.of_transactions) 0 plan.program.shards n s at
 
-      no_view : (n : ℕ) (c : CoordState) → slice_get (begun_world plan (first_beginning plan) coords).coords n ≡ Some c → (v : View) → ¬ Has v c.views
-      no_view n c at v h = subst (λ (c : CoordState). Has v c.views) (found_at (protocol.begun_coord (protocol.first_beginning plan)) 0 coords n c at) h
+      no_view : (n : ℕ) (c : CoordState) → slice_get (begun_world plan b coords).coords n ≡ Some c → (v : View) → ¬ Has v c.views
+      no_view n c at v h = subst (λ (c : CoordState). Has v c.views) (found_at (protocol.begun_coord b.of_transactions) 0 coords n c at) h
 
-  pub run_calm : IsBeginning plan (protocol.first_beginning plan) → (coords : ℕ) (is_view : TxnId → Bool) (steps : List Stepped) (w : World)
-      → IsRunFrom plan (first_beginning plan) coords steps w → TellsViews plan is_view w.history → AreCalm plan w
-  run_calm begins coords is_view steps w at_beginning tells = begun_calm begins coords
-  run_calm begins coords is_view steps w (steps_on {w = v} e o r h) tells =
+  pub run_calm : (b : Beginning) → IsBeginning plan b.of_transactions → (coords : ℕ) (is_view : TxnId → Bool) (steps : List Stepped) (w : World)
+      → IsRunFrom plan b coords steps w → TellsViews plan is_view w.history → AreCalm plan w
+  run_calm b begins coords is_view steps w at_beginning tells = begun_calm b begins coords
+  run_calm b begins coords is_view steps w (steps_on {w = v} e o r h) tells =
       let g = grows plan v e o h in
       let told = tells_before plan is_view v.history g.more (subst (TellsViews plan is_view) g.is tells) in
-      calm_step is_view v (run_calm begins coords is_view _ v r told) (numbered plan (first_beginning plan) coords _ v r)
-      (beside plan (first_beginning plan) coords is_view _ v r told).holds.coords e o h
+      calm_step is_view v (run_calm b begins coords is_view _ v r told) (numbered plan b coords _ v r)
+      (beside plan b coords is_view _ v r told).holds.coords e o h

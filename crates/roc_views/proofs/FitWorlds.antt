@@ -41,7 +41,7 @@ use Rattle.roc_protocol.proofs.Named.{all_filter}
 use Rattle.roc_protocol.proofs.ServersHere as servers
 use Rattle.roc_protocol.proofs.SubmissionEnds.{IsAnySubmission, any_submission_is, unknown, miscounted, spent, busy, taken}
 use Rattle.roc_protocol.proofs.WorldsFit.{numbers_sent, begun_fits as their_begun_fits}
-use Rattle.roc_views.specs.World.{World, Beginning, first_beginning, begun_viewing, begun_world, first_world, mark_delivered, at_server, at_coord, at_coord_tick}
+use Rattle.roc_views.specs.World.{World, Beginning, begun_viewing, begun_world, mark_delivered, at_server, at_coord, at_coord_tick}
 use Rattle.roc_views.specs.Fits.{NamesNodes, IsSentHere, IsViewingHere, IsCoordHere, FitsWorld}
 use Rattle.roc_views.specs.Happens.{Outcome, IsSubmissionOf, IsReceived, Happens}
 use Rattle.roc_views.specs.Run.{Stepped, Transition, IsRunFrom, at_beginning, steps_on}
@@ -280,10 +280,6 @@ begun_fits plan b count some =
     none_viewing : (servers coords a n : ℕ) → AllByRecursion (IsViewingHere servers coords) (map (begun_viewing b) (range_with_len a n))
     none_viewing servers coords a zero = tt
     none_viewing servers coords a (suc n) = (record { reads = tt }, none_viewing servers coords (a + 1) n)
-
--- and the first world
-pub first : (plan : Plan) (count : ℕ) → 0 < plan.program.shards → FitsWorld plan (first_world plan count)
-first plan count some = begun_fits plan (first_beginning plan) count some
 
 pub run_fits : (plan : Plan) (b : Beginning) (coords : ℕ) → 0 < plan.program.shards → (steps : List Stepped) (w : World) → IsRunFrom plan b coords steps w → FitsWorld plan w
 run_fits plan b coords some _ _ at_beginning = begun_fits plan b coords some

@@ -29,10 +29,10 @@ use Rattle.roc_protocol.specs.declared.event.Seen.TheVariants as seen
 use Rattle.roc_protocol.specs.Fits.{IsNode}
 use Rattle.roc_protocol.proofs.Findings.{decided_there, handled}
 use Rattle.roc_protocol.proofs.SubmissionEnds.{IsAnySubmission, any_submission_is, unknown, miscounted, spent, busy, taken}
-use Rattle.roc_views.specs.World.{World, first_beginning, begun_world, mark_delivered, at_coord, at_coord_tick}
+use Rattle.roc_views.specs.World.{World, Beginning, begun_world, mark_delivered, at_coord, at_coord_tick}
 use Rattle.roc_views.specs.Fits.{IsSentHere, FitsWorld}
 use Rattle.roc_views.specs.Happens.{Outcome, undecided, IsSubmissionOf, served, coordinated, IsReceived, Happens}
-use Rattle.roc_views.specs.Run.{Stepped, IsRun, at_beginning, steps_on, IsEventOf, MayHappen}
+use Rattle.roc_views.specs.Run.{Stepped, IsRunFrom, at_beginning, steps_on, IsEventOf, MayHappenFrom}
 use Rattle.roc_views.proofs.FitWorlds.{kept, run_fits}
 
 -- what stands at a place of a list
@@ -117,26 +117,26 @@ module _ (exists : (known : List KnownList) (M : List TxnId) → (xs : List TxnI
 -- ---- runs
 
 module _ (outcome : (plan : Plan) (w : World) (e : Event) → FitsWorld plan w → IsEventOf plan w e → (o : Outcome) × Happens plan w e o × FitsWorld plan o.world)
-    (plan : Plan) (coords : ℕ) (events : List (Option Event)) (some : 0 < plan.program.shards) (may : MayHappen plan coords events) where
+    (plan : Plan) (b : Beginning) (coords : ℕ) (events : List (Option Event)) (some : 0 < plan.program.shards) (may : MayHappenFrom plan b coords events) where
   -- there is a run of all of them
   abbrev HasRun : Type 0
-  HasRun = (steps : List Stepped) × (w : World) × IsRun plan coords steps w × (map (λ s. s.event) steps ≡ events)
+  HasRun = (steps : List Stepped) × (w : World) × IsRunFrom plan b coords steps w × (map (λ s. s.event) steps ≡ events)
 
   -- one step more
   events_more : (steps : List Stepped) (front : List (Option Event)) (s : Stepped) → map (λ (s : Stepped). s.event) steps ≡ front
       → map (λ (s : Stepped). s.event) (steps ++ s ∷ []) ≡ front ++ s.event ∷ []
   events_more steps front s same = map-append (λ (s : Stepped). s.event) steps (s ∷ []) ∙ ap (λ es. es ++ s.event ∷ []) same
 
-  grown : (rest front : List (Option Event)) → events ≡ front ++ rest → (steps : List Stepped) (w : World) → IsRun plan coords steps w → map (λ (s : Stepped). s.event) steps ≡ front → HasRun
+  grown : (rest front : List (Option Event)) → events ≡ front ++ rest → (steps : List Stepped) (w : World) → IsRunFrom plan b coords steps w → map (λ (s : Stepped). s.event) steps ≡ front → HasRun
   grown [] front e steps w r same = (steps, w, r, same ∙ (sym (append-nil front) ∙ sym e))
   grown (None ∷ rest) front e steps w r same =
       let o : Outcome = undecided seen.Done w in
       grown rest (front ++ None ∷ []) (e ∙ sym (append_assoc front (None ∷ []) rest)) (steps ++ (record { event = None; outcome = o }) ∷ []) w
       (steps_on None o r refl) (events_more steps front (record { event = None; outcome = o }) same)
   grown (Some x ∷ rest) front e steps w r same =
-      let o = outcome plan w x (run_fits plan (first_beginning plan) coords some steps w r) (may.each front x rest steps w e r same) in
+      let o = outcome plan w x (run_fits plan b coords some steps w r) (may.each front x rest steps w e r same) in
       grown rest (front ++ Some x ∷ []) (e ∙ sym (append_assoc front (Some x ∷ []) rest)) (steps ++ (record { event = Some x; outcome = o.0 }) ∷ []) o.0.world (steps_on (Some x) o.0 r o.1)
       (events_more steps front (record { event = Some x; outcome = o.0 }) same)
 
   pub run_there : HasRun
-  run_there = grown events [] refl [] (begun_world plan (first_beginning plan) coords) at_beginning refl
+  run_there = grown events [] refl [] (begun_world plan b coords) at_beginning refl

@@ -12,8 +12,9 @@ use Rattle.roc_base.specs.declared.id.TxnId.{TxnId}
 use Rattle.roc_base.specs.TxnId.{is_txn}
 use Rattle.roc_base.specs.Equalities.{is_txn-true, is_txn-same}
 use Rattle.roc_base.proofs.Ids.{is_txn-eq, is_txn-ne}
+use Rattle.roc_rows.specs.Store.{Store}
 use Rattle.roc_program.specs.Program.{Workload}
-use Rattle.roc_whole.specs.Serial.{Call, run_of, serial_store, start_store}
+use Rattle.roc_whole.specs.Serial.{Call, run_of, serial_store}
 use Rattle.roc_audit.specs.declared.entry.Entry.{Entry}
 use Rattle.roc_audit.specs.declared.entry.Entry.TheVariants.{Submitted, Answered}
 use Rattle.roc_audit.specs.History.{WasAnswered}
@@ -127,13 +128,13 @@ module _ (passes : TxnId → Bool) where
       no_u)
 
 -- an answered view has a last look, and its reply is that of its whole run there
-abbrev pub IsReplyBehind : Workload → World → TxnId → List ℤ → Type 0
-IsReplyBehind program w v reply =
+abbrev pub IsReplyBehind : Workload → Store → World → TxnId → List ℤ → Type 0
+IsReplyBehind program start w v reply =
     (behind : ℕ) × IsLastLook w.looks v behind × (c : Call) × (submitted_call v w.history ≡ Some c)
-    × (reply ≡ (run_of program (serial_store program (start_store program) (submitted_calls w.history (take behind w.order))) c).reply)
+    × (reply ≡ (run_of program (serial_store program start (submitted_calls w.history (take behind w.order))) c).reply)
 
-module _ (program : Workload) (is_view : TxnId → Bool) (w : World) (h : AreInTime is_view w)
-    (replies : (v : TxnId) (reply : List ℤ) → is_view v ≡ true → WasAnswered w.history v reply → IsReplyBehind program w v reply) where
+module _ (program : Workload) (start : Store) (is_view : TxnId → Bool) (w : World) (h : AreInTime is_view w)
+    (replies : (v : TxnId) (reply : List ℤ) → is_view v ≡ true → WasAnswered w.history v reply → IsReplyBehind program start w v reply) where
   abbrev passes : TxnId → Bool
   passes t = was_answered w.history t
 
@@ -141,7 +142,7 @@ module _ (program : Workload) (is_view : TxnId → Bool) (w : World) (h : AreInT
   look_of : (v : TxnId) (reply : List ℤ) (e : is_view v ≡ true) (a : WasAnswered w.history v reply) → Has (record { id = v; behind = (replies v reply e a).0 }) (shown w)
   look_of v reply e a = let r = replies v reply e a in last_has passes w.looks v r.0 r.1 (answered_test w.history v reply a)
 
-  pub shown_are_looks : AreLooks program is_view w.history w.order (shown w)
+  pub shown_are_looks : AreLooks program start is_view w.history w.order (shown w)
   shown_are_looks =
       record {
         once = last_once passes w.looks;

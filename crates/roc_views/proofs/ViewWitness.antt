@@ -1,19 +1,18 @@
 -- What the world keeps for views gives the premises of the woven order
-use Rattle.std.proofs.Common.{◌≡◌, ◌∙◌, ℕ, ℤ, ◌<◌, Bool, true, not, List, [], ◌∷◌, Option, Some, map, take, refl, sym, ap, subst, arith, inl, inr}
+use Rattle.std.proofs.Common.{◌≡◌, ◌∙◌, ℕ, ℤ, ◌<◌, Bool, true, List, [], ◌∷◌, Option, Some, map, take, refl, sym, ap, subst, arith, inl, inr}
 use Rattle.std.specs.List.{cons_option}
 use Rattle.std.specs.Prelude.{slice_get}
 use Rattle.roc_sequence.specs.Lists.{Has}
 use Rattle.roc_sequence.specs.Places.{IsListed}
 use Rattle.roc_sequence.proofs.Listed.{has_listed}
-use Rattle.roc_sequence.proofs.Members.{same_there, has_filter, from_has_filter}
+use Rattle.roc_sequence.proofs.Members.{same_there}
 use Rattle.roc_base.specs.declared.id.TxnId.{TxnId}
 use Rattle.roc_base.specs.TxnId.{is_txn}
 use Rattle.roc_base.specs.Equalities.{is_txn-true, is_txn-same}
-use Rattle.roc_program.specs.Program.{Workload}
 use Rattle.roc_program.specs.WellFormed.{IsProgram}
 use Rattle.roc_rows.specs.Versions.{Counts}
 use Rattle.roc_whole.specs.Run.{whole_run}
-use Rattle.roc_whole.specs.Serial.{Call, serial_store, start_store}
+use Rattle.roc_whole.specs.Serial.{Call, serial_store}
 use Rattle.roc_whole.proofs.Reading.{view_leaves}
 use Rattle.roc_plan.specs.Groups.{Plan, procedure_of, is_view_of}
 use Rattle.roc_plan.specs.Accepted.{IsAccepted}
@@ -24,10 +23,10 @@ use Rattle.roc_law_log.specs.Log.{Log}
 use Rattle.roc_coord.specs.State.{CoordState}
 use Rattle.roc_coord.specs.Submit.{next_id}
 use Rattle.roc_audit.specs.declared.entry.Entry.{Entry}
-use Rattle.roc_audit.specs.declared.entry.Entry.TheVariants.{Submitted, Answered}
+use Rattle.roc_audit.specs.declared.entry.Entry.TheVariants.{Submitted}
 use Rattle.roc_audit.specs.History.{WasAnswered}
-use Rattle.roc_audit.specs.Witness.{submitted_call, submitted_calls, IsSerialWitness}
-use Rattle.roc_audit.specs.Woven.{entry_id, without_views, LeaveTheStore, AreLooks}
+use Rattle.roc_audit.specs.Witness.{submitted_call, submitted_calls}
+use Rattle.roc_audit.specs.Woven.{LeaveTheStore, AreLooks}
 use Rattle.roc_audit.proofs.Histories.{call_of-is, call_of-from}
 use Rattle.roc_protocol.specs.Beginnings as protocol
 use Rattle.roc_protocol.specs.declared.event.Event.{Event}
@@ -42,14 +41,6 @@ use Rattle.roc_views.proofs.WholeViews.{ViewParts, view_whole}
 use Rattle.roc_views.proofs.InTime.{AreInTime, IsOrderTold, listed_taken, in_time_next}
 use Rattle.roc_views.proofs.TimeSteps.{IsKeptInTime, adds_in_time}
 use Rattle.roc_views.proofs.Shown.{IsReplyBehind, shown_are_looks}
-
--- what an order that explains the transactions has to do with the history
-pub order_told : (program : Workload) (is_view : TxnId → Bool) (w : World) → IsSerialWitness program (without_views is_view w.history) w.order → IsOrderTold is_view w
-order_told program is_view w base =
-    record {
-      answered = λ t reply e h. base.answered t reply (has_filter (λ e. not (is_view (entry_id e))) (Answered t reply) w.history h (ap not e));
-      submitted = λ t h. let s = base.submitted t h in (s.0, s.1, (from_has_filter (λ e. not (is_view (entry_id e))) (Submitted t s.0 s.1) w.history s.2).0);
-    }
 
 -- what views called leaves the store as it is
 pub views_leave : (plan : Plan) (is_view : TxnId → Bool) (history : List Entry) → IsProgram plan.program → TellsViews plan is_view history → LeaveTheStore plan.program is_view history
@@ -86,10 +77,10 @@ module _ (plan : Plan) (calls asked : TxnId → Call) (S : Scheme) (start : prot
       }
 
   module _ (accepted : IsAccepted plan) (laws : ViewParts plan) (tells : TellsCalls calls w.history)
-      (stages : (k : ℕ) → (stage_behind S.behaviour start.store (one_by_one S.behaviour (take k w.order))).store ≡ serial_store plan.program (start_store plan.program) (map asked (take k w.order)))
+      (stages : (k : ℕ) → (stage_behind S.behaviour start.store (one_by_one S.behaviour (take k w.order))).store ≡ serial_store plan.program start.store (map asked (take k w.order)))
       (called : (t : TxnId) → IsListed is_txn w.order t → submitted_call t w.history ≡ Some (asked t)) where
     -- an answered view's reply is that of its whole run where it looked last
-    pub view_replies : (v : TxnId) (reply : List ℤ) → is_view_id plan calls v ≡ true → WasAnswered w.history v reply → IsReplyBehind plan.program w v reply
+    pub view_replies : (v : TxnId) (reply : List ℤ) → is_view_id plan calls v ≡ true → WasAnswered w.history v reply → IsReplyBehind plan.program start.store w v reply
     view_replies v reply viewed h =
         let a = m.answered v reply viewed h in
         let s = m.told v reply h in
@@ -97,7 +88,7 @@ module _ (plan : Plan) (calls asked : TxnId → Call) (S : Scheme) (start : prot
         let front = take a.behind w.order in
         let same : submitted_calls w.history front ≡ map asked front =
         calls_are w.history asked front (λ t k. called t (listed_taken a.behind w.order t (has_listed is_txn is_txn-true is_txn-same front t k))) in
-        let store = stages a.behind ∙ ap (serial_store plan.program (start_store plan.program)) (sym same) in
+        let store = stages a.behind ∙ ap (serial_store plan.program start.store) (sym same) in
         let call : Call = record { id = v; procedure = (calls v).procedure; arguments = (calls v).arguments } in (
           a.behind,
           a.last_look,
@@ -108,5 +99,5 @@ module _ (plan : Plan) (calls asked : TxnId → Call) (S : Scheme) (start : prot
               ∙ ap (λ store. (whole_run (procedure_of plan (proc_of plan calls v)) (args_of plan calls v) store).reply) store),
         )
 
-    pub views_fit : AreInTime (is_view_id plan calls) w → AreLooks plan.program (is_view_id plan calls) w.history w.order (shown w)
-    views_fit h = shown_are_looks plan.program (is_view_id plan calls) w h view_replies
+    pub views_fit : AreInTime (is_view_id plan calls) w → AreLooks plan.program start.store (is_view_id plan calls) w.history w.order (shown w)
+    views_fit h = shown_are_looks plan.program start.store (is_view_id plan calls) w h view_replies

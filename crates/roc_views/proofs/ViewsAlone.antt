@@ -9,18 +9,18 @@ use Rattle.roc_base.specs.TxnId.{is_txn}
 use Rattle.roc_depgraph.proofs.Listed.{has_listed}
 use Rattle.roc_plan.specs.Groups.{Plan, is_view_of}
 use Rattle.roc_program.specs.Program.{Workload}
+use Rattle.roc_rows.specs.Store.{Store}
 use Rattle.roc_whole.specs.Serial as whole
-use Rattle.roc_whole.specs.Serial.{start_store}
 use Rattle.roc_law_orders.specs.Runs.{stage_behind}
 use Rattle.roc_law_orders.specs.Orders.{one_by_one}
 use Rattle.roc_law_log.specs.Scheme.{Scheme, IsSoundScheme}
 use Rattle.roc_audit.specs.declared.entry.Entry.{Entry}
 use Rattle.roc_audit.specs.declared.entry.Entry.TheVariants.{Submitted, Answered}
-use Rattle.roc_audit.specs.Witness.{IsSerialWitness}
+use Rattle.roc_audit.specs.WitnessFrom.{IsSerialWitnessFrom}
 use Rattle.roc_audit.specs.Woven.{Look, entry_id, without_views, AreLooks}
 use Rattle.roc_protocol.specs.PlanAssumptions.{IsSchemeOf}
 use Rattle.roc_protocol.proofs.Transactions.{NoTransaction}
-use Rattle.roc_views.specs.World.{World, first_beginning}
+use Rattle.roc_views.specs.World.{World, Beginning}
 use Rattle.roc_views.specs.Run.{Stepped, IsRunFrom}
 use Rattle.roc_views.specs.Witness.{was_answered, last_looks, shown}
 use Rattle.roc_views.proofs.WovenOrder.{is_view, run_beside, submissions, called_in, LooksFit, IsCalled}
@@ -35,8 +35,8 @@ none_shown [] = refl
 none_shown (l ∷ ls) = none_shown ls
 
 -- and no look has to fit
-no_looks : (program : Workload) (viewed : TxnId → Bool) (order : List TxnId) → AreLooks program viewed [] order []
-no_looks program viewed order =
+no_looks : (program : Workload) (start : Store) (viewed : TxnId → Bool) (order : List TxnId) → AreLooks program start viewed [] order []
+no_looks program start viewed order =
     record {
       once = tt;
       rising = tt;
@@ -47,17 +47,17 @@ no_looks program viewed order =
       in_time = λ v u e f g h. absurd (omega arith);
     }
 
-module _ (plan : Plan) (coords : ℕ) (steps : List Stepped) (w : World) (run : IsRunFrom plan (first_beginning plan) coords steps w) (none : NoTransaction plan)
-    (base : IsSerialWitness plan.program (without_views (is_view plan coords steps w run) w.history) w.order) where
+module _ (plan : Plan) (b : Beginning) (coords : ℕ) (steps : List Stepped) (w : World) (run : IsRunFrom plan b coords steps w) (none : NoTransaction plan)
+    (base : IsSerialWitnessFrom plan.program b.of_transactions.store (without_views (is_view plan b coords steps w run) w.history) w.order) where
   abbrev viewed : TxnId → Bool
-  viewed = is_view plan coords steps w run
+  viewed = is_view plan b coords steps w run
 
   -- no transaction was submitted
-  none_submitted : (t : TxnId) (p : ℕ) (a : List ℤ) → ¬ Has (Submitted t p a) (run_beside plan coords steps w run).world.history
-  none_submitted t p a h = false≢true (sym (none p) ∙ (submissions plan coords steps w run).procedure t p a h)
+  none_submitted : (t : TxnId) (p : ℕ) (a : List ℤ) → ¬ Has (Submitted t p a) (run_beside plan b coords steps w run).world.history
+  none_submitted t p a h = false≢true (sym (none p) ∙ (submissions plan b coords steps w run).procedure t p a h)
 
-  none_told : (t : TxnId) (p : ℕ) (a : List ℤ) → ¬ Has (Submitted t p a) (without_views (is_view plan coords steps w run) w.history)
-  none_told t p a h = none_submitted t p a (subst (λ l. Has (Submitted t p a) l) (sym (run_beside plan coords steps w run).holds.beside.history) h)
+  none_told : (t : TxnId) (p : ℕ) (a : List ℤ) → ¬ Has (Submitted t p a) (without_views (is_view plan b coords steps w run) w.history)
+  none_told t p a h = none_submitted t p a (subst (λ l. Has (Submitted t p a) l) (sym (run_beside plan b coords steps w run).holds.beside.history) h)
 
   none_ordered : w.order ≡ []
   none_ordered = go w.order refl
@@ -70,7 +70,7 @@ module _ (plan : Plan) (coords : ℕ) (steps : List Stepped) (w : World) (run : 
   views_told : (e : Entry) → Has e w.history → viewed (entry_id e) ≡ true
   views_told e h = go (viewed (entry_id e)) refl
     where
-      untold : (e : Entry) → ¬ Has e (without_views (is_view plan coords steps w run) w.history)
+      untold : (e : Entry) → ¬ Has e (without_views (is_view plan b coords steps w run) w.history)
       untold (Submitted t p a) k = none_told t p a k
       untold (Answered t reply) k = nobody t (subst (λ l. IsListed is_txn l t) none_ordered (base.answered t reply k))
         where
@@ -89,7 +89,7 @@ module _ (plan : Plan) (coords : ℕ) (steps : List Stepped) (w : World) (run : 
       go [] e = inr e
       go (x ∷ xs) e = inl ((called_in w.history (entry_id x)).procedure, views_told x (subst (λ l. Has x l) (sym e) (inl refl)))
 
-  pub views_called : (proc : ℕ) (S : Scheme) → IsSchemeOf plan (next_call proc) S → IsSoundScheme S → IsCalled plan coords steps w run (next_call proc) S
+  pub views_called : (proc : ℕ) (S : Scheme) → IsSchemeOf plan (next_call proc) S → IsSoundScheme S → IsCalled plan b coords steps w run (next_call proc) S
   views_called proc S is sound =
       record {
         is = is;
@@ -105,16 +105,16 @@ module _ (plan : Plan) (coords : ℕ) (steps : List Stepped) (w : World) (run : 
     where
       Leaves : ℕ → List TxnId → Type 0
       Leaves k order =
-          (stage_behind S.behaviour (start_store plan.program) (one_by_one S.behaviour (take k order))).store
-          ≡ whole.serial_store plan.program (start_store plan.program) (map (next_call proc) (take k order))
+          (stage_behind S.behaviour b.of_transactions.store (one_by_one S.behaviour (take k order))).store
+          ≡ whole.serial_store plan.program b.of_transactions.store (map (next_call proc) (take k order))
 
       nothing : (k : ℕ) → Leaves k []
       nothing zero = refl
       nothing (suc k) = refl
 
-  pub nothing_fits : w.history ≡ [] → LooksFit plan coords steps w run
+  pub nothing_fits : w.history ≡ [] → LooksFit plan b coords steps w run
   nothing_fits untold =
       let empty : shown w ≡ [] = ap (λ h. last_looks (was_answered h) w.looks) untold ∙ none_shown w.looks in (
-        subst (λ looks. AreLooks plan.program viewed w.history w.order looks) (sym empty) (subst (λ h. AreLooks plan.program viewed h w.order []) (sym untold) (no_looks plan.program viewed w.order)),
+        subst (λ looks. AreLooks plan.program b.of_transactions.store viewed w.history w.order looks) (sym empty) (subst (λ h. AreLooks plan.program b.of_transactions.store viewed h w.order []) (sym untold) (no_looks plan.program b.of_transactions.store viewed w.order)),
         λ l h. absurd (subst (λ looks. Has l looks) empty h),
       )

@@ -1,5 +1,6 @@
 pub mod Rank
 pub mod World
+pub mod Beginnings
 pub mod Happens
 pub mod Run
 pub mod Beside

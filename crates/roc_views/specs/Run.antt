@@ -40,8 +40,12 @@ IsEventOf plan w (Submit number proc args) = (number < length w.coords) × (proc
 IsEventOf plan w (Deliver k) = (0 < k) × (k ≤ length w.sent)
 IsEventOf plan w (Tick node) = IsNodeOf w node
 
--- each event of the list may happen in the world that it meets, to which those before it lead from the first world
-pub record MayHappen (plan : Plan) (coords : ℕ) (events : List (Option Event)) : Type 0 where
+-- each event of the list may happen in the world that it meets, to which those before it lead from the beginning
+pub record MayHappenFrom (plan : Plan) (b : Beginning) (coords : ℕ) (events : List (Option Event)) : Type 0 where
   pub each :
       (front : List (Option Event)) (e : Event) (behind : List (Option Event)) (steps : List Stepped) (w : World) → events ≡ front ++ Some e ∷ behind
-      → IsRun plan coords steps w → map (λ s. s.event) steps ≡ front → IsEventOf plan w e
+      → IsRunFrom plan b coords steps w → map (λ s. s.event) steps ≡ front → IsEventOf plan w e
+
+-- or from the first world
+abbrev pub MayHappen : Plan → (coords : ℕ) → List (Option Event) → Type 0
+MayHappen plan coords events = MayHappenFrom plan (first_beginning plan) coords events

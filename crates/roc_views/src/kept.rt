@@ -28,11 +28,12 @@ ghost use Rattle.roc_views.specs.Run.{Stepped, IsRun};
 ghost use Rattle.roc_views.specs.Quiet.{AreDelivered};
 ghost use Rattle.roc_views.specs.Witness.{witness_of};
 
-use roc_law_plans::laws::accepted_plans_have_schemes;
-use roc_protocol::beginnings::{
-    cells_are_in_their_place as cells_are_in_their_place_beside,
-    cells_are_serial as cells_are_serial_beside, nothing_is_refused as nothing_is_refused_beside,
-    order_is_serial, quiet_is_answered, runs_begin_at_the_first_world,
+use crate::beginnings::{
+    cells_are_in_their_place as cells_are_in_their_place_from,
+    cells_are_serial as cells_are_serial_from, first_worlds_begin,
+    ids_are_told_once as ids_are_told_once_from, nothing_is_refused as nothing_is_refused_from,
+    quiet_transactions_are_answered as quiet_transactions_are_answered_from,
+    submissions_are_kept as submissions_are_kept_from,
 };
 
 /// A server takes each message that comes or finds it too late, and a coordinator ignores only stale ones.
@@ -43,15 +44,16 @@ pub fn nothing_is_refused()
     ensures coordinators { (plan : Plan) (coords : ℕ) (steps : List Stepped) (w : World) → IsAccepted plan → IsRun plan coords steps w
         → (k : ℕ) (o : Outcome) (why : Reason) → Happens plan w (event.Deliver k) o → o.seen ≡ seen.Ignored why → why ≡ reason.Stale }
 {
-    accepted_plans_have_schemes();
-    runs_begin_at_the_first_world();
-    nothing_is_refused_beside();
+    first_worlds_begin();
+    nothing_is_refused_from();
 }
 
 /// Of the submissions in the history no two have one id; and an id has at most one answer, which stands behind its submission.
 pub fn ids_are_told_once()
     ensures { (plan : Plan) (coords : ℕ) (steps : List Stepped) (w : World) → IsAccepted plan → IsRun plan coords steps w → IsToldOnce w.history }
-{}
+{
+    ids_are_told_once_from();
+}
 
 /// Each transaction or view that was submitted is unanswered at its coordinator or was answered, and none is both.
 pub fn submissions_are_kept()
@@ -60,7 +62,9 @@ pub fn submissions_are_kept()
         → (c : CoordState) × (slice_get w.coords t.coord ≡ Some c) × (Has t c.unanswered ⊎ ((reply : List ℤ) × WasAnswered w.history t reply)) }
     ensures gone { (plan : Plan) (coords : ℕ) (steps : List Stepped) (w : World) → IsAccepted plan → IsRun plan coords steps w
         → (t : TxnId) (reply : List ℤ) → WasAnswered w.history t reply → (n : ℕ) (c : CoordState) → slice_get w.coords n ≡ Some c → ¬ Has t c.unanswered }
-{}
+{
+    submissions_are_kept_from();
+}
 
 /// Where each submitted transaction is answered, the servers hold what the witness leaves: the server of a cell's place holds of it what it holds
 /// where the witness's transactions and views run whole, one after another. Views need not be answered.
@@ -70,10 +74,8 @@ pub fn cells_are_serial()
         → (x : Cell) (s : ServerState) → slice_get w.servers (shard_of plan x.place) ≡ Some s
         → read s.store x ≡ read (serial_store plan.program (start_store plan.program) (submitted_calls w.history (witness_of w))) x }
 {
-    accepted_plans_have_schemes();
-    runs_begin_at_the_first_world();
-    order_is_serial();
-    cells_are_serial_beside();
+    first_worlds_begin();
+    cells_are_serial_from();
 }
 
 /// Each shard has its server, which holds no cell of another shard: each is 0 there.
@@ -83,9 +85,8 @@ pub fn cells_are_in_their_place()
     ensures apart { (plan : Plan) (coords : ℕ) (steps : List Stepped) (w : World) → IsAccepted plan → IsRun plan coords steps w
         → (shard : Shard) (s : ServerState) → slice_get w.servers shard.0 ≡ Some s → (x : Cell) → shard_of plan x.place ≢ shard.0 → read s.store x ≡ pos 0 }
 {
-    accepted_plans_have_schemes();
-    runs_begin_at_the_first_world();
-    cells_are_in_their_place_beside();
+    first_worlds_begin();
+    cells_are_in_their_place_from();
 }
 
 /// A submitted transaction has its reply where every message of it, and of each from which a chain of startoks in the network leads to it, was
@@ -98,7 +99,6 @@ pub fn quiet_transactions_are_answered()
         → (t : TxnId) → AreDelivered (transactions.PrecedesIn w.sent) steps w t
         → (shard : Shard) (s : ServerState) → slice_get w.servers shard.0 ≡ Some s → (e : StartedGroup) → Has e s.started → e.id ≡ t → IsDecided s.lists.links t }
 {
-    accepted_plans_have_schemes();
-    runs_begin_at_the_first_world();
-    quiet_is_answered();
+    first_worlds_begin();
+    quiet_transactions_are_answered_from();
 }

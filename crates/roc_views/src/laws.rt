@@ -17,17 +17,10 @@ ghost use Rattle.roc_views.specs.Run.{Stepped, IsRunFrom};
 ghost use Rattle.roc_views.specs.Beside.{AreStepsBeside, IsBeside, TellsViews};
 ghost use Rattle.roc_views.specs.Witness.{shown, witness_of};
 
-use roc_audit::laws::woven_is_a_witness;
-use roc_group::laws::{
-    cells_are_at_the_place, cells_follow_from_what_is_given, runs_follow_from_cells,
-    views_read_alone,
+use crate::beginnings::{
+    first_worlds_begin, looks_fit as looks_fit_from,
+    views_read_a_prefix as views_read_a_prefix_from, witness_is_serial as witness_is_serial_from,
 };
-use roc_law_groups::laws::groups_in_turn_are_the_whole_run;
-use roc_law_log::laws::steady_cells_are_serial;
-use roc_law_orders::laws::runs_stay;
-use roc_law_plans::laws::{accepted_plans_have_schemes, views_have_schemes};
-use roc_plan::laws::views_are_apart;
-use roc_protocol::laws::machine_laws;
 
 /// Of transactions alone, each run is one of `roc_protocol`, in which coordinators do something aside.
 pub fn runs_are_beside()
@@ -43,20 +36,11 @@ pub fn looks_fit()
     ensures { (plan : Plan) (coords : ℕ) (steps : List Stepped) (w : World) → IsAccepted plan
         → IsRunFrom plan (first_beginning plan) coords steps w
         → (is_view : TxnId → Bool) × TellsViews plan is_view w.history × LeaveTheStore plan.program is_view w.history
-        × IsSerialWitness plan.program (without_views is_view w.history) w.order × AreLooks plan.program is_view w.history w.order (shown w)
+        × IsSerialWitness plan.program (without_views is_view w.history) w.order × AreLooks plan.program (start_store plan.program) is_view w.history w.order (shown w)
         × ((l : Look) → Has l (shown w) → l.behind ≤ length w.order) }
 {
-    machine_laws();
-    accepted_plans_have_schemes();
-    views_have_schemes();
-    runs_stay();
-    steady_cells_are_serial();
-    cells_follow_from_what_is_given();
-    cells_are_at_the_place();
-    runs_follow_from_cells();
-    views_read_alone();
-    views_are_apart();
-    groups_in_turn_are_the_whole_run();
+    first_worlds_begin();
+    looks_fit_from();
 }
 
 /// An answered view read what a prefix of the order leaves: its reply is that of its whole run behind the first so many transactions of the
@@ -68,7 +52,8 @@ pub fn views_read_a_prefix()
         → (behind : ℕ) × (behind ≤ length w.order)
         × (reply ≡ (run_of plan.program (serial_store plan.program (start_store plan.program) (submitted_calls w.history (take behind w.order))) (record { id = v; procedure = proc; arguments = args })).reply) }
 {
-    looks_fit();
+    first_worlds_begin();
+    views_read_a_prefix_from();
 }
 
 /// In every world of a run the order of the transactions, with each answered view put in where it looked last, is a serial order that
@@ -79,6 +64,6 @@ pub fn witness_is_serial()
         → IsRunFrom plan (first_beginning plan) coords steps w
         → IsSerialWitness plan.program w.history (witness_of w) }
 {
-    looks_fit();
-    woven_is_a_witness();
+    first_worlds_begin();
+    witness_is_serial_from();
 }

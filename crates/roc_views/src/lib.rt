@@ -8,8 +8,11 @@
 //! round began, is a serial order that explains the whole history ([`laws::witness_is_serial`]). What else is kept of transactions' laws, whatever
 //! views there are, stands in [`kept`], and that a view is answered once all its messages came, and those of what it waits for, in [`quiet`].
 //! Whatever may happen in a world that fits a plan (`specs/Fits.antt`) comes to one thing, which fits it too ([`worlds`]).
+//!
+//! All this is said of runs from any beginning ([`beginnings`]): what is said of runs from the first world are instances.
 #![tactic(auto)]
 
+pub mod beginnings;
 pub mod kept;
 pub mod laws;
 pub mod quiet;

@@ -9,9 +9,9 @@ ghost use Rattle.roc_views.specs.World.{World};
 ghost use Rattle.roc_views.specs.Run.{Stepped, IsRun};
 ghost use Rattle.roc_views.specs.Quiet.{IsQuiet, IsInLastRound};
 
-use crate::kept::quiet_transactions_are_answered;
-use roc_plan::laws::views_are_apart;
-use roc_protocol::beginnings::runs_begin_at_the_first_world;
+use crate::beginnings::{
+    first_worlds_begin, quiet_views_are_answered as quiet_views_are_answered_from,
+};
 
 /// A view is answered once delivered: a submitted view has its reply in a world in which every message of it was delivered at least once, and
 /// every message of each transaction that it waits for and of what precedes that one by startoks. It waits for a transaction that has a group
@@ -21,7 +21,6 @@ pub fn quiet_views_are_answered()
         → (t : TxnId) (proc : ℕ) (args : List ℤ) → Has (Submitted t proc args) w.history → is_view_of plan proc ≡ true
         → IsQuiet plan steps w t → ¬ IsInLastRound w t → (reply : List ℤ) × Has (Answered t reply) w.history }
 {
-    views_are_apart();
-    runs_begin_at_the_first_world();
-    quiet_transactions_are_answered();
+    first_worlds_begin();
+    quiet_views_are_answered_from();
 }

@@ -7,6 +7,10 @@ ghost use Rattle.roc_views.specs.Fits.{FitsWorld};
 ghost use Rattle.roc_views.specs.Happens.{Outcome, Happens};
 ghost use Rattle.roc_views.specs.Run.{Stepped, Transition, IsRun, IsEventOf, MayHappen};
 
+use crate::beginnings::{
+    events_have_runs as events_have_runs_from, run_is_one as run_is_one_from,
+    worlds_fit as worlds_fit_from,
+};
 use roc_component::laws::{order_exists, order_is_one};
 use roc_server::laws::{read_step_is_one, step_is_one as server_step_is_one};
 
@@ -23,8 +27,7 @@ pub fn run_is_one()
     ensures { (plan : Plan) (coords : ℕ) (steps others : List Stepped) (w v : World) → IsRun plan coords steps w → IsRun plan coords others v
         → map (λ s. s.event) steps ≡ map (λ s. s.event) others → (steps ≡ others) × (w ≡ v) }
 {
-    server_step_is_one();
-    read_step_is_one();
+    run_is_one_from();
 }
 
 /// The first world of a plan with some shard fits the plan, what comes of an event in a world that fits is one that does, and so each
@@ -33,7 +36,9 @@ pub fn worlds_fit()
     ensures first { (plan : Plan) (coords : ℕ) → 0 < plan.program.shards → FitsWorld plan (first_world plan coords) }
     ensures kept { (plan : Plan) (w : World) (e : Option Event) (o : Outcome) → FitsWorld plan w → Transition plan w e o → FitsWorld plan o.world }
     ensures runs { (plan : Plan) (coords : ℕ) (steps : List Stepped) (w : World) → 0 < plan.program.shards → IsRun plan coords steps w → FitsWorld plan w }
-{}
+{
+    worlds_fit_from();
+}
 
 /// Whatever may happen has an outcome, and it leads to a world that fits the plan too. And nothing else has.
 pub fn events_have_outcomes()
@@ -49,5 +54,5 @@ pub fn events_have_runs()
     ensures { (plan : Plan) (coords : ℕ) (events : List (Option Event)) → 0 < plan.program.shards → MayHappen plan coords events
         → (steps : List Stepped) × (w : World) × IsRun plan coords steps w × (map (λ s. s.event) steps ≡ events) }
 {
-    events_have_outcomes();
+    events_have_runs_from();
 }

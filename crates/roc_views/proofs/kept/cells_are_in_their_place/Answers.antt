@@ -1,18 +1,8 @@
-use Rattle.std.proofs.Common.{◌≡◌, Some, sym, subst}
-use Rattle.std.specs.Prelude.{slice_get}
-use Rattle.roc_server.specs.State.{ServerState}
-use Rattle.roc_protocol.specs.Beginnings.{first_beginning}
-use Rattle.roc_views.proofs.WovenOrder.{run_beside}
+use Rattle.roc_views.specs.World.{first_beginning}
 use Rattle.roc_views.proofs.kept.cells_are_in_their_place.Goals as goal
 
 pub returns-clause-servers : goal.returns-clause-servers
-returns-clause-servers c plan coords steps w run n few =
-    let x = run_beside plan coords steps w run in
-    subst (λ l. (s : ServerState) × (slice_get l n ≡ Some s)) x.holds.beside.servers (c.cells_are_in_their_place.ensures.servers plan (first_beginning plan) coords x.others x.world x.run n few)
+returns-clause-servers c plan coords steps w run = c.cells_are_in_their_place.ensures.servers plan (first_beginning plan) coords steps w run
 
 pub returns-clause-apart : goal.returns-clause-apart
-returns-clause-apart c plan coords steps w accepted run shard s there =
-    let x = run_beside plan coords steps w run in
-    c.cells_are_in_their_place.ensures.apart plan (first_beginning plan) coords x.others x.world (c.runs_begin_at_the_first_world.ensures.beginning plan)
-    (c.accepted_plans_have_schemes.ensures plan accepted) x.run
-    shard s (subst (λ l. slice_get l shard.0 ≡ Some s) (sym x.holds.beside.servers) there)
+returns-clause-apart c plan coords steps w accepted run = c.cells_are_in_their_place.ensures.apart plan (first_beginning plan) coords steps w accepted (c.first_worlds_begin.ensures plan) run

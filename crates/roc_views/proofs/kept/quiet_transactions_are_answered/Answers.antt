@@ -1,28 +1,8 @@
-use Rattle.std.proofs.Common.{◌≡◌, ◌∙◌, not, Some, sym, ap, subst}
-use Rattle.std.specs.Prelude.{slice_get}
-use Rattle.roc_sequence.specs.Lists.{Has}
-use Rattle.roc_sequence.proofs.Members.{has_filter, from_has_filter}
-use Rattle.roc_audit.specs.declared.entry.Entry.TheVariants.{Submitted, Answered}
-use Rattle.roc_audit.specs.Woven.{entry_id}
-use Rattle.roc_protocol.specs.Beginnings.{first_beginning}
-use Rattle.roc_views.proofs.QuietBeside.{quiet_beside}
-use Rattle.roc_views.proofs.WovenOrder.{is_view, tells_them, run_beside}
+use Rattle.roc_views.specs.World.{first_beginning}
 use Rattle.roc_views.proofs.kept.quiet_transactions_are_answered.Goals as goal
 
 pub returns-clause-answered : goal.returns-clause-answered
-returns-clause-answered c plan coords steps w accepted run t proc args submitted plain quiet =
-    let v = is_view plan coords steps w run in
-    let x = run_beside plan coords steps w run in
-    let there = has_filter (λ e. not (v (entry_id e))) (Submitted t proc args) w.history submitted (ap not (tells_them plan coords steps w run t proc args submitted ∙ plain)) in
-    let r = c.quiet_is_answered.ensures.answered plan (first_beginning plan) coords x.others x.world (c.runs_begin_at_the_first_world.ensures.beginning plan)
-    (c.accepted_plans_have_schemes.ensures plan accepted) x.run
-    t proc args (subst (Has (Submitted t proc args)) (sym x.holds.beside.history) there) (quiet_beside v w x.world x.holds.beside plan steps x.others t quiet) in
-    (r.0, (from_has_filter (λ e. not (v (entry_id e))) (Answered t r.0) w.history (subst (Has (Answered t r.0)) x.holds.beside.history r.1)).0)
+returns-clause-answered c plan coords steps w accepted run = c.quiet_transactions_are_answered.ensures.answered plan (first_beginning plan) coords steps w accepted (c.first_worlds_begin.ensures plan) run
 
 pub returns-clause-decided : goal.returns-clause-decided
-returns-clause-decided c plan coords steps w accepted run t quiet shard s there =
-    let v = is_view plan coords steps w run in
-    let x = run_beside plan coords steps w run in
-    c.quiet_is_answered.ensures.decided plan (first_beginning plan) coords x.others x.world (c.runs_begin_at_the_first_world.ensures.beginning plan)
-    (c.accepted_plans_have_schemes.ensures plan accepted) x.run
-    t (quiet_beside v w x.world x.holds.beside plan steps x.others t quiet) shard s (subst (λ l. slice_get l shard.0 ≡ Some s) (sym x.holds.beside.servers) there)
+returns-clause-decided c plan coords steps w accepted run = c.quiet_transactions_are_answered.ensures.decided plan (first_beginning plan) coords steps w accepted (c.first_worlds_begin.ensures plan) run

@@ -1,12 +1,8 @@
 use Rattle.roc_views.specs.World.{first_beginning}
-use Rattle.roc_views.proofs.AnsweringRuns.{told_in_runs}
-use Rattle.roc_views.proofs.WovenOrder.{is_view, tells_them}
 use Rattle.roc_views.proofs.kept.submissions_are_kept.Goals as goal
 
 pub returns-clause-submitted : goal.returns-clause-submitted
-returns-clause-submitted c plan coords steps w accepted run =
-    (told_in_runs plan (first_beginning plan) coords (is_view plan coords steps w run) steps w run (tells_them plan coords steps w run)).kept
+returns-clause-submitted c plan coords steps w accepted run = c.submissions_are_kept.ensures.submitted plan (first_beginning plan) coords steps w run
 
 pub returns-clause-gone : goal.returns-clause-gone
-returns-clause-gone c plan coords steps w accepted run t reply answered n s there has =
-    ((told_in_runs plan (first_beginning plan) coords (is_view plan coords steps w run) steps w run (tells_them plan coords steps w run)).unanswered n s there t has).2 reply answered
+returns-clause-gone c plan coords steps w accepted run = c.submissions_are_kept.ensures.gone plan (first_beginning plan) coords steps w run

@@ -1,91 +1,9 @@
-use Rattle.std.proofs.Common.{◌≡◌, ℕ, ◌<◌, true, [], sym, subst, length, inl, inr}
-use Rattle.roc_sequence.proofs.Holds.{all_at}
-use Rattle.roc_program.specs.LookUps.{no_procedure}
-use Rattle.roc_program.specs.WellFormed.{IsProcedure}
-use Rattle.roc_program.proofs.Views.{view_there}
-use Rattle.roc_base.specs.declared.id.TxnId.{TxnId}
-use Rattle.roc_whole.specs.Serial as whole
-use Rattle.roc_whole.specs.Serial.{start_store}
-use Rattle.roc_group.specs.GroupRun.{call}
-use Rattle.roc_plan.specs.Groups.{groups_of, is_view_of}
-use Rattle.roc_law_log.specs.Scheme.{Scheme, IsSoundScheme}
-use Rattle.roc_protocol.specs.PlanAssumptions.{HasSchemes}
-use Rattle.roc_protocol.specs.Inner.Given.{LogLaws, SerialLaws, StoreLaws}
-use Rattle.roc_law_log.proofs.Following.{AreFound}
-use Rattle.roc_audit.specs.Witness.{IsSerialWitness}
+use Rattle.roc_views.specs.World.{first_beginning}
 use Rattle.roc_audit.specs.Woven.{without_views}
-use Rattle.roc_protocol.proofs.Serial.{call_in}
-use Rattle.roc_protocol.proofs.Transactions.{transaction_or_none}
-use Rattle.roc_views.proofs.Readings.{ViewLaws, AreSteady}
-use Rattle.roc_views.proofs.WholeViews.{ViewParts}
-use Rattle.roc_views.proofs.WovenOrder.{is_view, tells_them, run_beside, leave, alone, LooksFit, IsCalled, transactions_called, looks_fit}
-use Rattle.roc_views.proofs.ViewsAlone.{next_call, view_or_none, views_called, nothing_fits}
+use Rattle.roc_protocol.proofs.Serial.{plain_witness}
 use Rattle.roc_views.proofs.laws.looks_fit.Goals as goal
 
 pub returns : goal.returns
-returns c plan coords steps w accepted run = (
-  is_view plan coords steps w run,
-  tells_them plan coords steps w run,
-  leave plan coords steps w run accepted,
-  base,
-  fit.0,
-  fit.1,
-)
-  where
-    schemes : HasSchemes plan
-    schemes = c.accepted_plans_have_schemes.ensures plan accepted
-
-    laws : (S : Scheme) → IsSoundScheme S → LogLaws S (start_store plan.program)
-    laws S sound = c.machine_laws.ensures.log S (start_store plan.program) sound
-
-    serials : (S : Scheme) → IsSoundScheme S → SerialLaws S (start_store plan.program)
-    serials S sound = c.machine_laws.ensures.serial S (start_store plan.program) sound
-
-    stores : StoreLaws
-    stores = c.machine_laws.ensures.stores
-
-    some_group : (p : ℕ) → is_view_of plan p ≡ true → 0 < length (groups_of plan p)
-    some_group p viewed =
-        subst (λ n. 0 < n) (sym (c.views_are_apart.ensures.count plan accepted p viewed))
-        (all_at (IsProcedure plan.program.tables) plan.program.procedures p no_procedure accepted.well_formed.procedures (view_there plan.program p viewed)).some_piece
-
-    found : (S : Scheme) → AreFound S (start_store plan.program)
-    found S = c.runs_stay.ensures.found S.behaviour (start_store plan.program)
-
-    steady : (S : Scheme) → IsSoundScheme S → AreSteady S (start_store plan.program)
-    steady S sound log between later i since until = c.steady_cells_are_serial.ensures.order S (start_store plan.program) log between later sound i since until
-
-    parts : ViewParts plan
-    parts =
-        record {
-          whole = λ proc args store order. c.groups_in_turn_are_the_whole_run.ensures plan proc args store order;
-          count = c.views_are_apart.ensures.count plan;
-          pieces = c.views_are_apart.ensures.pieces plan;
-          inputs = c.views_are_apart.ensures.inputs plan;
-          store = λ q s. c.views_read_alone.ensures.store plan q s;
-        }
-
-    view_laws : ViewLaws plan
-    view_laws =
-        record {
-          exists = view_there plan.program;
-          follow = λ p group args s t viewed.
-              c.cells_follow_from_what_is_given.ensures plan (call p group args []) s t accepted (view_there plan.program p viewed) (c.views_are_apart.ensures.deferrable plan accepted p viewed group);
-          placed = λ p group args s viewed. c.cells_are_at_the_place.ensures plan (call p group args []) s accepted (view_there plan.program p viewed);
-          same = c.runs_follow_from_cells.ensures.same plan;
-        }
-
-    base : IsSerialWitness plan.program (without_views (is_view plan coords steps w run) w.history) w.order
-    base = alone plan coords steps w run schemes laws serials stores
-
-    fits : (asked : TxnId → whole.Call) (S : Scheme) → IsCalled plan coords steps w run asked S → LooksFit plan coords steps w run
-    fits asked S called = looks_fit plan coords steps w run laws stores accepted asked S called (found S) (steady S called.sound) parts view_laws some_group
-
-    fit : LooksFit plan coords steps w run
-    fit = elim (transaction_or_none plan) [
-      | inl some ↦ fits (call_in some.0 (run_beside plan coords steps w run).world) (schemes.scheme (call_in some.0 (run_beside plan coords steps w run).world)) (transactions_called plan coords steps w run schemes some)
-      | inr none ↦ elim (view_or_none plan coords steps w run none base) [
-        | inl p ↦ (let s = c.views_have_schemes.ensures plan (next_call p.0) accepted (λ t. p.1) in fits (next_call p.0) s.0 (views_called plan coords steps w run none base p.0 s.0 s.1 s.2))
-        | inr untold ↦ nothing_fits plan coords steps w run none base untold
-      ]
-    ]
+returns c plan coords steps w accepted run =
+    let f = c.looks_fit.ensures plan (first_beginning plan) coords steps w accepted (c.first_worlds_begin.ensures plan) run in
+    (f.0, f.1, f.2, plain_witness plan.program (without_views f.0 w.history) w.order f.3, f.4, f.5)

@@ -1,5 +1,5 @@
-use Rattle.roc_views.proofs.WovenOrder.{prefix}
+use Rattle.roc_views.specs.World.{first_beginning}
 use Rattle.roc_views.proofs.laws.views_read_a_prefix.Goals as goal
 
 pub returns : goal.returns
-returns c plan coords steps w accepted run = let f = c.looks_fit.ensures plan coords steps w accepted run in prefix plan coords steps w run f.0 f.1 f.4 f.5
+returns c plan coords steps w accepted run = c.views_read_a_prefix.ensures plan (first_beginning plan) coords steps w accepted (c.first_worlds_begin.ensures plan) run

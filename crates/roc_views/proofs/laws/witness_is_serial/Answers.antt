@@ -1,6 +1,7 @@
-use Rattle.roc_views.specs.Witness.{shown}
+use Rattle.roc_views.specs.World.{first_beginning}
+use Rattle.roc_views.specs.Witness.{witness_of}
+use Rattle.roc_protocol.proofs.Serial.{plain_witness}
 use Rattle.roc_views.proofs.laws.witness_is_serial.Goals as goal
 
 pub returns : goal.returns
-returns c plan coords steps w accepted run =
-    let f = c.looks_fit.ensures plan coords steps w accepted run in c.woven_is_a_witness.ensures plan.program f.0 w.history w.order (shown w) f.2 f.3 f.4
+returns c plan coords steps w accepted run = plain_witness plan.program w.history (witness_of w) (c.witness_is_serial.ensures plan (first_beginning plan) coords steps w accepted (c.first_worlds_begin.ensures plan) run)

@@ -1,6 +1,5 @@
 use Rattle.roc_views.specs.World.{first_beginning}
-use Rattle.roc_views.proofs.OneRun.{one_run}
 use Rattle.roc_views.proofs.worlds.run_is_one.Goals as goal
 
 pub returns : goal.returns
-returns c plan coords steps others w v r q same = one_run plan (c.step_is_one.ensures plan) (c.read_step_is_one.ensures plan) (first_beginning plan) coords r q same
+returns c plan coords steps others w v r q same = c.run_is_one.ensures plan (first_beginning plan) coords steps others w v r q same

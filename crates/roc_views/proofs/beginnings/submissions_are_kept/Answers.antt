@@ -1,0 +1,11 @@
+use Rattle.roc_views.proofs.AnsweringRuns.{told_in_runs}
+use Rattle.roc_views.proofs.WovenOrder.{is_view, tells_them}
+use Rattle.roc_views.proofs.beginnings.submissions_are_kept.Goals as goal
+
+pub returns-clause-submitted : goal.returns-clause-submitted
+returns-clause-submitted c plan b coords steps w run =
+    (told_in_runs plan b coords (is_view plan b coords steps w run) steps w run (tells_them plan b coords steps w run)).kept
+
+pub returns-clause-gone : goal.returns-clause-gone
+returns-clause-gone c plan b coords steps w run t reply answered n s there has =
+    ((told_in_runs plan b coords (is_view plan b coords steps w run) steps w run (tells_them plan b coords steps w run)).unanswered n s there t has).2 reply answered
