@@ -11,17 +11,11 @@ ghost use Rattle.roc_whole.specs.Serial as whole;
 ghost use Rattle.roc_law_orders.specs.Runs.{stage_behind};
 ghost use Rattle.roc_law_orders.specs.Orders.{one_by_one};
 ghost use Rattle.roc_protocol.specs.PlanAssumptions.{HasSchemesFrom, IsWholeReplyFrom};
-ghost use Rattle.roc_protocol.specs.Beginnings.{Beginning, IsBeginning};
-ghost use Rattle.roc_audit.specs.WitnessFrom.{IsSerialWitnessFrom};
-ghost use Rattle.roc_protocol.specs.Run.{Stepped};
-ghost use Rattle.roc_protocol.specs.Beside.{IsRunBeside};
-ghost use Rattle.roc_protocol.specs.World.{World};
 ghost use Rattle.roc_law_plans.specs.Scheme.{scheme_of, AreOrders, AreCalls};
 
 use crate::laws::{schemes_are_of_their_plan, schemes_are_sound};
 use roc_law_groups::laws::groups_in_turn_are_the_whole_run;
 use roc_plan::laws::groups_can_run_in_turn;
-use roc_protocol::beginnings::order_is_serial as order_is_serial_over_schemes;
 
 /// Transactions one by one are whole procedures from any store on: each transaction's groups give, at their places, the reply of the serial
 /// run from there, and all leave the store that the serial run leaves.
@@ -45,14 +39,4 @@ pub fn accepted_plans_have_schemes_from_any_store()
     schemes_are_sound();
     schemes_are_of_their_plan();
     transactions_from_any_store_are_whole();
-}
-
-/// The headline over every run of every accepted plan from any beginning, whatever the network loses, repeats or reorders: the serial order
-/// explains the history, from the cells of the beginning on.
-pub fn order_is_serial()
-    ensures { (plan : Plan) (b : Beginning) (coords : ℕ) (steps : List Stepped) (w : World) → IsAccepted plan → IsBeginning plan b → IsRunBeside plan b coords steps w
-        → IsSerialWitnessFrom plan.program b.store w.history w.order }
-{
-    accepted_plans_have_schemes_from_any_store();
-    order_is_serial_over_schemes();
 }

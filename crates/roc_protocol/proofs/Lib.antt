@@ -2,13 +2,12 @@ mod Marks
 mod MarksKept
 pub mod Thinned
 pub mod KeptAside
-pub mod ViewSteps
 pub mod SubmissionEnds
 pub mod ReadsHere
 mod KeptGroups
 mod OneGroupMore
 mod Gone
-mod ForgottenHere
+pub mod ForgottenHere
 mod Followed
 mod Flattened
 pub mod Means
@@ -47,7 +46,7 @@ mod TakenRuns
 mod KeptRuns
 pub mod Witness
 pub mod WhatRan
-mod Idle
+pub mod Idle
 pub mod Serial
 mod KeptOrders
 mod Answered
@@ -82,7 +81,6 @@ mod Liveness
 mod Once
 pub mod Tells
 pub mod Counted
-pub mod SubmissionCounts
 mod Hears
 mod HeardLists
 mod Takes
@@ -93,15 +91,10 @@ mod Quieted
 mod Ordered
 mod WhatIsOver
 mod Forgotten
-mod OneRun
-pub mod PlainRuns
 pub mod PlainSteps
-pub mod NoReads
 pub mod Named
 pub mod ServersHere
 pub mod CoordsHere
 pub mod WorldsFit
 mod OrderParts
 pub mod Findings
-mod Outcomes
-mod RunsThere

@@ -76,10 +76,6 @@ pub record IsWholeReplyFrom (plan : Plan) (start : Store) (asked : TxnId → who
       ((stage_behind S.behaviour start (one_by_one S.behaviour order)).yielded (record { txn = t; group = g })).outs)
       → slice_index_or reply at (pos 0) ≡ value
 
--- from the plan's own start
-abbrev pub IsWholeReply : Plan → (TxnId → whole.Call) → Scheme → List TxnId → TxnId → List ℤ → Type 0
-IsWholeReply plan asked S order t reply = IsWholeReplyFrom plan (whole.start_store plan.program) asked S order t reply
-
 -- whatever transactions call, there is such a scheme, as the log machine asks for it, in which transactions one by one, from this store on, are whole
 -- procedures
 pub record HasSchemesFrom (plan : Plan) (start : Store) : Type 0 where
@@ -95,7 +91,3 @@ pub record HasSchemesFrom (plan : Plan) (start : Store) : Type 0 where
       → (order : List TxnId)
       → (stage_behind (scheme asked).behaviour start (one_by_one (scheme asked).behaviour order)).store
       ≡ whole.serial_store plan.program start (map asked order)
-
--- from the plan's own start
-abbrev pub HasSchemes : Plan → Type 0
-HasSchemes plan = HasSchemesFrom plan (whole.start_store plan.program)

@@ -1,10 +1,7 @@
 -- Runs of the world: docs/PROTOCOL.md, "World"
-use Rattle.std.specs.Prelude.{◌≡◌, ℕ, ◌<◌, ◌≤◌, true, List, [], ◌∷◌, ◌++◌, Option, Some, None, length, map}
-use Rattle.roc_base.specs.declared.node.Node.{Node}
-use Rattle.roc_base.specs.declared.node.Node.TheVariants.{Server, Coord}
-use Rattle.roc_plan.specs.Groups.{Plan, procedure_of, is_transaction}
+use Rattle.std.specs.Prelude.{◌≡◌, ℕ, List, [], ◌∷◌, ◌++◌, Option, Some, None}
+use Rattle.roc_plan.specs.Groups.{Plan}
 use Rattle.roc_protocol.specs.declared.event.Event.{Event}
-use Rattle.roc_protocol.specs.declared.event.Event.TheVariants.{Submit, Deliver, Tick}
 use Rattle.roc_protocol.specs.declared.event.Seen.TheVariants as seen
 use Rattle.roc_protocol.specs.World.{World, first_world}
 use Rattle.roc_protocol.specs.Beginnings.{Beginning, begun_world}
@@ -31,27 +28,3 @@ pub data IsRunFrom (plan : Plan) (b : Beginning) (coords : ℕ) : List Stepped �
   at_beginning : IsRunFrom plan b coords [] (begun_world plan b coords)
   steps_on : {steps : List Stepped} {w : World} (e : Option Event) (o : Outcome) → IsRunFrom plan b coords steps w → Transition plan w e o
       → IsRunFrom plan b coords (steps ++ (record { event = e; outcome = o }) ∷ []) o.world
-
--- the node is one of the world's
-abbrev pub IsNodeOf : World → Node → Type 0
-IsNodeOf w (Server shard) = shard.0 < length w.servers
-IsNodeOf w (Coord number) = number < length w.coords
-
--- the event may happen in w: the coordinator exists, and the procedure, which is no view, and the count of arguments fits; or the message was sent; or the
--- node is there
-abbrev pub IsEventOf : Plan → World → Event → Type 0
-IsEventOf plan w (Submit number proc args) = (number < length w.coords) × (is_transaction plan proc ≡ true) × (length args ≡ (procedure_of plan proc).arguments)
-IsEventOf plan w (Deliver k) = (0 < k) × (k ≤ length w.sent)
-IsEventOf plan w (Tick node) = IsNodeOf w node
-
--- each event of the list may happen in the world that it meets, to which those before it lead from the beginning
-pub record MayHappenFrom (plan : Plan) (b : Beginning) (coords : ℕ) (events : List (Option Event)) : Type 0 where
-  pub each :
-      (front : List (Option Event)) (e : Event) (behind : List (Option Event)) (steps : List Stepped) (w : World) → events ≡ front ++ Some e ∷ behind
-      → IsRunFrom plan b coords steps w → map (λ s. s.event) steps ≡ front → IsEventOf plan w e
-
--- or from the first world
-pub record MayHappen (plan : Plan) (coords : ℕ) (events : List (Option Event)) : Type 0 where
-  pub each :
-      (front : List (Option Event)) (e : Event) (behind : List (Option Event)) (steps : List Stepped) (w : World) → events ≡ front ++ Some e ∷ behind
-      → IsRun plan coords steps w → map (λ s. s.event) steps ≡ front → IsEventOf plan w e

@@ -1,6 +1,6 @@
 //! What holds in every world of every run that begins at a beginning (`specs/Beginnings.antt`): at any cells, next sequences and
-//! watermarks, with nothing sent, started or pending. What [`laws`](crate::laws) say of runs from the first world are instances.
-ghost use Rattle.std.specs.Prelude.{◌↔◌, ◌≡◌, ◌≢◌, ◌⊎◌, ℕ, ℤ, pos, ◌-◌, ◌<◌, ◌≤◌, ◌++◌, true, false, List, [], Option, Some, None, length, map, flat_map, slice_get, ◌+◌};
+//! watermarks, with nothing sent, started or pending, and in which coordinators do something aside.
+ghost use Rattle.std.specs.Prelude.{◌↔◌, ◌≡◌, ◌≢◌, ◌⊎◌, ℕ, ℤ, pos, ◌-◌, ◌<◌, ◌≤◌, ◌++◌, true, false, List, [], Option, Some, None, flat_map, slice_get, ◌+◌};
 ghost use Rattle.roc_sequence.specs.Lists.{Has};
 ghost use Rattle.roc_sequence.specs.Places.{IsListed, IsListedBefore};
 ghost use Rattle.roc_base.specs.declared.id.TxnId.{TxnId};
@@ -13,9 +13,6 @@ ghost use Rattle.roc_depgraph.specs.Deps.{entries_of, IsAncestor, IsDecided};
 ghost use Rattle.roc_component.specs.Components.{HaveSameMembers};
 ghost use Rattle.roc_coord.specs.declared.transaction.Transaction.{Transaction};
 ghost use Rattle.roc_coord.specs.State.{CoordState};
-ghost use Rattle.roc_coord.specs.Ids.{ids_of};
-ghost use Rattle.roc_coord.specs.Submit.{most_transactions, most_pending};
-ghost use Rattle.roc_protocol.specs.Unanswered.{submitted_at, unanswered_at};
 ghost use Rattle.roc_msg.specs.declared.msg.Envelope.{Envelope};
 ghost use Rattle.roc_msg.specs.declared.msg.Msg.TheVariants as msg;
 ghost use Rattle.roc_msg.specs.declared.reason.Reason.{Reason};
@@ -42,14 +39,12 @@ ghost use Rattle.roc_protocol.specs.Quiet.{IsQuiet};
 ghost use Rattle.roc_protocol.specs.World.{World, first_world};
 ghost use Rattle.roc_protocol.specs.Beginnings.{Beginning, IsBeginning, begun_world, first_beginning, left_by};
 ghost use Rattle.roc_audit.specs.WitnessFrom.{serial_reply_from, IsSerialWitnessFrom};
-ghost use Rattle.roc_protocol.specs.Fits.{FitsWorld};
-ghost use Rattle.roc_protocol.specs.Run.{Stepped, IsRun, IsRunFrom, MayHappenFrom};
+ghost use Rattle.roc_protocol.specs.Run.{Stepped, IsRun, IsRunFrom};
 ghost use Rattle.roc_protocol.specs.Beside.{Moves, IsRunBeside};
 ghost use Rattle.roc_protocol.specs.PlanAssumptions.{HasSchemesFrom};
 
-use crate::laws::{events_have_outcomes, machine_laws};
+use crate::laws::machine_laws;
 use roc_rows::laws::reads_after_writes;
-use roc_server::laws::step_is_one as server_step_is_one;
 
 /// The first world is that of a beginning, at the cells that the workload says, and runs are the runs from there: so what holds of runs from
 /// any beginning holds of them.
@@ -142,7 +137,6 @@ pub fn cells_are_in_their_place()
 
 /// A transaction of the run has a sequence number from the beginning's next one on. Each one below a coordinator's next one is that of a
 /// transaction that was submitted, and that is pending there or was answered, or else it was used before the run or aside; and none is both.
-/// Where nothing is done aside, each that was not used before the run is that of one that was submitted.
 pub fn submissions_are_kept()
     ensures late { (plan : Plan) (b : Beginning) (coords : ℕ) (steps : List Stepped) (w : World) → IsBeginning plan b → HasSchemesFrom plan b.store → IsRunBeside plan b coords steps w
         → (t : TxnId) → WasSubmitted w.history t → b.nexts t.coord ≤ t.seq }
@@ -151,8 +145,6 @@ pub fn submissions_are_kept()
         → (WasSubmitted w.history (record { coord = coord; seq = seq })
         × (((x : Transaction) × Has x c.pending × (x.id ≡ record { coord = coord; seq = seq })) ⊎ ((reply : List ℤ) × WasAnswered w.history (record { coord = coord; seq = seq }) reply)))
         ⊎ (¬ WasSubmitted w.history (record { coord = coord; seq = seq })) }
-    ensures used { (plan : Plan) (b : Beginning) (coords : ℕ) (steps : List Stepped) (w : World) → IsRunFrom plan b coords steps w
-        → (coord seq : ℕ) (c : CoordState) → slice_get w.coords coord ≡ Some c → b.nexts coord ≤ seq → seq < c.next → WasSubmitted w.history (record { coord = coord; seq = seq }) }
     ensures submitted { (plan : Plan) (b : Beginning) (coords : ℕ) (steps : List Stepped) (w : World) → IsBeginning plan b → HasSchemesFrom plan b.store → IsRunBeside plan b coords steps w
         → (t : TxnId) → WasSubmitted w.history t
         → (c : CoordState) × (slice_get w.coords t.coord ≡ Some c)
@@ -253,32 +245,6 @@ pub fn quiet_is_answered()
     machine_laws();
 }
 
-/// What is pending at a coordinator is what the history leaves unanswered of its submissions, in their order, and no more than may be. It has used
-/// the sequences that were used before the run began, one for each submission in the history, and those that it used aside: no more than it may.
-pub fn pending_is_told()
-    ensures kept { (plan : Plan) (b : Beginning) (coords : ℕ) (steps : List Stepped) (w : World) → IsBeginning plan b → IsRunBeside plan b coords steps w
-        → (coord : ℕ) (c : CoordState) → slice_get w.coords coord ≡ Some c
-        → (b.nexts coord + length (submitted_at coord w.history) ≤ c.next) × (ids_of c.pending ≡ unanswered_at coord w.history) }
-    ensures few { (plan : Plan) (b : Beginning) (coords : ℕ) (steps : List Stepped) (w : World) → IsBeginning plan b → IsRunBeside plan b coords steps w
-        → (coord : ℕ) (c : CoordState) → slice_get w.coords coord ≡ Some c → (c.next ≤ most_transactions) × (length c.pending ≤ most_pending) }
-{}
-
-/// Where nothing is done aside, a coordinator has used the sequences that were used before the run began, and one for each submission in the history; and those that are
-/// pending are those that the history leaves unanswered. So a submission is refused as spent and as busy exactly where these are so many.
-pub fn refusals_are_told()
-    ensures kept { (plan : Plan) (b : Beginning) (coords : ℕ) (steps : List Stepped) (w : World) → IsBeginning plan b → IsRunFrom plan b coords steps w
-        → (coord : ℕ) (c : CoordState) → slice_get w.coords coord ≡ Some c
-        → (c.next ≡ b.nexts coord + length (submitted_at coord w.history)) × (ids_of c.pending ≡ unanswered_at coord w.history) }
-    ensures few { (plan : Plan) (b : Beginning) (coords : ℕ) (steps : List Stepped) (w : World) → IsBeginning plan b → IsRunFrom plan b coords steps w
-        → (coord : ℕ) (c : CoordState) → slice_get w.coords coord ≡ Some c → (c.next ≤ most_transactions) × (length c.pending ≤ most_pending) }
-    ensures spent { (plan : Plan) (b : Beginning) (coords : ℕ) (steps : List Stepped) (w : World) → IsBeginning plan b → IsRunFrom plan b coords steps w
-        → (coord proc : ℕ) (args : List ℤ) (o : Outcome) → Happens plan w (event.Submit coord proc args) o
-        → (o.seen ≡ seen.Spent) ↔ (b.nexts coord + length (submitted_at coord w.history) ≡ most_transactions) }
-    ensures busy { (plan : Plan) (b : Beginning) (coords : ℕ) (steps : List Stepped) (w : World) → IsBeginning plan b → IsRunFrom plan b coords steps w
-        → (coord proc : ℕ) (args : List ℤ) (o : Outcome) → Happens plan w (event.Submit coord proc args) o
-        → (o.seen ≡ seen.Busy) ↔ ((b.nexts coord + length (submitted_at coord w.history) < most_transactions) × (length (unanswered_at coord w.history) ≡ most_pending)) }
-{}
-
 /// Two servers on which groups of a transaction started first took it in components of the same transactions. And of two transactions that
 /// have groups on a server and are decided there, one of which is an ancestor of the other by what is followed there, the one that was taken
 /// first is the earlier one in the serial order.
@@ -321,26 +287,4 @@ pub fn forgotten_is_answered()
         → (reply : List ℤ) × WasAnswered w.history (record { coord = t.coord; seq = seq }) reply) }
 {
     machine_laws();
-}
-
-/// Of a list of events there is one run without asides.
-pub fn run_is_one()
-    ensures { (plan : Plan) (b : Beginning) (coords : ℕ) (steps others : List Stepped) (w v : World) → IsRunFrom plan b coords steps w → IsRunFrom plan b coords others v
-        → map (λ s. s.event) steps ≡ map (λ s. s.event) others → (steps ≡ others) × (w ≡ v) }
-{
-    server_step_is_one();
-}
-
-/// The world of a beginning fits a plan with some shard, and so does each world of a run without asides.
-pub fn worlds_fit()
-    ensures first { (plan : Plan) (b : Beginning) (coords : ℕ) → 0 < plan.program.shards → FitsWorld plan (begun_world plan b coords) }
-    ensures runs { (plan : Plan) (b : Beginning) (coords : ℕ) (steps : List Stepped) (w : World) → 0 < plan.program.shards → IsRunFrom plan b coords steps w → FitsWorld plan w }
-{}
-
-/// A list of events each of which may happen in the world that it meets has a run, without asides.
-pub fn events_have_runs()
-    ensures { (plan : Plan) (b : Beginning) (coords : ℕ) (events : List (Option Event)) → 0 < plan.program.shards → MayHappenFrom plan b coords events
-        → (steps : List Stepped) × (w : World) × IsRunFrom plan b coords steps w × (map (λ s. s.event) steps ≡ events) }
-{
-    events_have_outcomes();
 }

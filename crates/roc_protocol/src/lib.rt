@@ -9,20 +9,16 @@
 //! runs to these. `specs/Fits.antt` has worlds that fit a plan, `specs/Final.antt` lists as startoks make them,
 //! `specs/Quiet.antt` transactions whose messages were all delivered, `specs/Kept.antt` orders that keep what ran,
 //! `specs/Forgotten.antt` what servers took and nobody has to wait for, and
-//! `specs/PlanAssumptions.antt` what the laws ask of a plan: schemes of the log machine (`HasSchemes`), which every accepted
+//! `specs/PlanAssumptions.antt` what the laws ask of a plan: schemes of the log machine (`HasSchemesFrom`), which every accepted
 //! plan has (`roc_law_plans`).
 //!
-//! The layers above may rely on [`laws`]. Of every run of a plan with schemes, whatever is lost, repeated or reordered:
-//! the serial order explains the history, and so does any order that keeps what ran and real time; what a start leaves out
-//! is earlier in it; lists are final; what a startok tells is what its server keeps of the group; servers agree; no server
-//! ignores a message, and a coordinator only stale ones; what is quiet is answered; who is answered is decided wherever it
-//! has a group; each submitted transaction is pending or answered; no id is submitted twice, and an id has at most one
-//! answer, behind its submission; and once each is answered, the cells are those that the serial order leaves, and stay.
-//! Of every plan: a submission is refused exactly as spent or busy, and so exactly where the history tells of too many
-//! submissions or too many without an answer (`specs/Unanswered.antt`); what comes of an event, or of a list of events, is
-//! one; and of every plan with a shard, whatever may happen in a world that fits has an outcome, so a list of such events
-//! has a run. What holds of all runs is stated in [`beginnings`] of runs that begin at any cells, next sequences and watermarks, and in which
-//! coordinators do something aside.
+//! The layers above may rely on [`beginnings`]. Of every run of a plan with schemes that begins at any cells, next sequences and watermarks, and in which
+//! coordinators do something aside, whatever is lost, repeated or reordered: the serial order explains the history, and so does any order that keeps
+//! what ran and real time; what a start leaves out is earlier in it; lists are final; what a startok tells is what its server keeps of the group; servers
+//! agree; no server ignores a message, and a coordinator only stale ones; what is quiet is answered; who is answered is decided wherever it has a group;
+//! each submitted transaction is pending or answered; no id is submitted twice, and an id has at most one answer, behind its submission; and once each
+//! is answered, the cells are those that the serial order leaves, and stay. The world that runs is that of `roc_views`, where each of these laws stands for
+//! readers: here they are the ground from which they are carried. [`laws`] has what they rest on.
 #![tactic(auto)]
 
 pub mod beginnings;

@@ -18,12 +18,12 @@ ghost use Rattle.roc_replay.specs.Readback.{IsExplained};
 
 use roc_rows::laws::{entries_are_not_zero, reads_after_writes};
 use roc_sched::laws::{lines_are_unique, lines_fit, texts_are_right_or_wrong};
-use roc_views::kept::{
-    cells_are_in_their_place, cells_are_serial, ids_are_told_once, nothing_is_refused,
-    quiet_transactions_are_answered, submissions_are_kept,
+use roc_views::beginnings::{
+    cells_are_in_their_place, cells_are_serial, first_worlds_begin, ids_are_told_once,
+    nothing_is_refused, quiet_transactions_are_answered, quiet_views_are_answered,
+    submissions_are_kept,
 };
 use roc_views::laws::witness_is_serial;
-use roc_views::quiet::quiet_views_are_answered;
 use roc_views::worlds::{events_have_outcomes, step_is_one, worlds_fit};
 
 /// The report of every run of an accepted plan explains itself: its one `order` line is a serial witness of the history
@@ -36,6 +36,7 @@ pub fn report_explains_itself()
     ensures explained { (plan : Plan) (coords : ℕ) (steps : List Stepped) (w : World) → IsAccepted plan → IsRun plan coords steps w → IsExplained plan.program (report steps w) }
     ensures answers { (plan : Plan) (coords : ℕ) (steps : List Stepped) (w : World) → IsAccepted plan → IsRun plan coords steps w → AnswersWhatIsQuiet plan steps w (report steps w) }
 {
+    first_worlds_begin();
     witness_is_serial();
     quiet_transactions_are_answered();
     quiet_views_are_answered();

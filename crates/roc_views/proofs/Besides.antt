@@ -21,10 +21,12 @@ use Rattle.roc_protocol.specs.Happens as theirs
 use Rattle.roc_protocol.specs.Beside as their_besides
 use Rattle.roc_views.specs.World.{World, sends, at_server, at_coord}
 use Rattle.roc_views.specs.Happens.{Outcome, undecided}
+use Rattle.roc_views.specs.Bare.{bare_step}
 use Rattle.roc_views.specs.Beside.{is_of_view, of_transactions, number_among, IsBeside}
 use Rattle.roc_views.proofs.Sent.{filter_append, envelopes, beside_sends}
 use Rattle.roc_views.proofs.TickSends.{of_transaction}
 use Rattle.roc_views.proofs.Coordinators.{IsCoordSound}
+use Rattle.roc_views.proofs.TakenAlike.{TakesAlike, none_taken}
 
 -- what stands at a place may be put there
 pub set_there : {A : Type 0} (xs : List A) (i : ℕ) (x : A) → slice_get xs i ≡ Some x → slice_set xs i x ≡ xs
@@ -62,7 +64,7 @@ module _ (plan : Plan) (is_view : TxnId → Bool) where
     pub coords : (n : ℕ) (s : CoordState) → slice_get w.coords n ≡ Some s → IsCoordSound is_view s
 
   -- what comes beside of a step: an event of the other world, or something aside there, or it stays
-  pub record Follows (w : World) (t : transactions.World) (o : Outcome) : Type 0 where
+  pub record Follows (w : World) (t : transactions.World) (e : Option Event) (o : Outcome) : Type 0 where
     pub event : Option Event
     pub outcome : theirs.Outcome
     pub moves : their_besides.Moves plan t event outcome
@@ -70,11 +72,14 @@ module _ (plan : Plan) (is_view : TxnId → Bool) where
     pub components : outcome.components ≡ o.components
     pub decided : outcome.decided ≡ o.decided
     pub ran : outcome.ran ≡ o.ran
+    -- and what a server took here it took there
+    pub taken : TakesAlike (bare_step (record { event = e; outcome = o })) (record { event = event; outcome = outcome })
 
   -- ---- the other world
 
-  pub stays : (w : World) (t : transactions.World) (what : _) (v : World) → Holds v t → Follows w t (undecided what v)
-  stays w t what v h = record { event = None; outcome = theirs.undecided seen.Done t; moves = inl refl; holds = h; components = refl; decided = refl; ran = refl }
+  pub stays : (w : World) (t : transactions.World) (e : Option Event) (what : _) (v : World) → Holds v t → Follows w t e (undecided what v)
+  stays w t e what v h =
+      record { event = None; outcome = theirs.undecided seen.Done t; moves = inl refl; holds = h; components = refl; decided = refl; ran = refl; taken = none_taken _ _ refl refl }
 
   module _ (w : World) (t : transactions.World) (b : IsBeside is_view w t) where
     -- a coordinator takes a step: what it sends and tells of transactions

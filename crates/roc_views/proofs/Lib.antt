@@ -4,6 +4,7 @@ pub mod TickSends
 pub mod Coordinators
 pub mod ServerSends
 pub mod CoordSteps
+pub mod TakenAlike
 pub mod Besides
 pub mod Steps
 pub mod Runs
@@ -54,3 +55,10 @@ pub mod ReadsFit
 pub mod ReadsFitRuns
 pub mod TakenHere
 pub mod NoRefusals
+pub mod Carried
+pub mod OneMore
+pub mod UsedSequences
+pub mod AnsweredBelow
+pub mod TakenDecided
+pub mod FetchedThere
+pub mod GoneSteps

@@ -71,7 +71,7 @@ module _ (program : Workload) (is_view : TxnId → Bool) (history : List Entry)
       call_of-is (without_views is_view history) t p a (λ q b k. one t q p b a (from q b k) (from p a h)) h
       ∙ sym (call_of-is history t p a (λ q b k. one t q p b a k (from p a h)) (from p a h))
 
-  same_calls : (order : List TxnId) → ((t : TxnId) → Has t order → WasSubmitted (without_views is_view history) t)
+  pub same_calls : (order : List TxnId) → ((t : TxnId) → Has t order → WasSubmitted (without_views is_view history) t)
       → submitted_calls (without_views is_view history) order ≡ submitted_calls history order
   same_calls [] h = refl
   same_calls (t ∷ ts) h = let first = same_call t (h t (inl refl)) in let rest = same_calls ts (λ u k. h u (inr k)) in λ i. cons_option (first i) (rest i)

@@ -1,5 +1,6 @@
 -- Each run of the world is, of transactions alone, a run of theirs
 use Rattle.std.proofs.Common.{◌≡◌, ℕ, ℤ, Bool, List, [], ◌∷◌, ◌++◌, Option, Some, None, map, refl, sym, subst, append-nil, arith}
+use Rattle.std.proofs.lemmas.List.{map-append}
 use Rattle.std.specs.Prelude.{slice_get, Result, Ok, Err}
 use Rattle.std.specs.List.{range_with_len}
 use Rattle.roc_sequence.specs.Places.{IsListed}
@@ -25,9 +26,11 @@ use Rattle.roc_protocol.specs.Run as their_runs
 use Rattle.roc_views.specs.World.{World, Beginning, begun_world, mark_delivered}
 use Rattle.roc_views.specs.Happens.{Outcome, Submits, IsReceived}
 use Rattle.roc_views.specs.Run.{Stepped, Transition, IsRunFrom, at_beginning, steps_on}
+use Rattle.roc_views.specs.Bare.{bare_step, bare_steps}
 use Rattle.roc_views.specs.Beside.{TellsViews, AreStepsBeside, none_stepped, one_more_stepped}
 use Rattle.roc_views.proofs.Coordinators.{IsCoordSound}
 use Rattle.roc_views.proofs.Besides.{Holds}
+use Rattle.roc_views.proofs.TakenAlike.{TakeAlike, alike_more}
 use Rattle.roc_views.proofs.Steps.{follows, tells_before}
 
 -- ---- a history grows at its end
@@ -72,6 +75,7 @@ module _ (plan : Plan) (b : Beginning) (coords : ℕ) (is_view : TxnId → Bool)
     pub run : their_besides.IsRunBeside plan b.of_transactions coords others world
     pub holds : Holds plan is_view w world
     pub stepped : AreStepsBeside steps others
+    pub taken : TakeAlike (bare_steps steps) others
 
   abbrev begun : IsRunBeside [] (begun_world plan b coords)
   begun =
@@ -85,6 +89,7 @@ module _ (plan : Plan) (b : Beginning) (coords : ℕ) (is_view : TxnId → Bool)
               subst (IsCoordSound is_view) (sym q.2) (record { pending = refl; views = λ v h. absurd h; once = tt; past = λ t h. absurd (nothing t h) });
         };
         stepped = none_stepped;
+        taken = tt;
       }
     where
       nothing : (t : TxnId) → IsListed is_txn [] t → ⊥
@@ -92,9 +97,9 @@ module _ (plan : Plan) (b : Beginning) (coords : ℕ) (is_view : TxnId → Bool)
 
   unfoldable pub beside : (steps : List Stepped) (w : World) → IsRunFrom plan b coords steps w → TellsViews plan is_view w.history → IsRunBeside steps w
   beside steps w at_beginning tells = begun
-  beside steps w (steps_on {w = v} e o r h) tells =
+  beside steps w (steps_on {steps = front} {w = v} e o r h) tells =
       let g = grows plan v e o h in
-      let before = beside _ v r (tells_before plan is_view v.history g.more (subst (TellsViews plan is_view) g.is tells)) in
+      let before = beside front v r (tells_before plan is_view v.history g.more (subst (TellsViews plan is_view) g.is tells)) in
       let f = follows plan is_view v before.world before.holds e o tells h in
       record {
         others = before.others ++ record { event = f.event; outcome = f.outcome } ∷ [];
@@ -102,4 +107,7 @@ module _ (plan : Plan) (b : Beginning) (coords : ℕ) (is_view : TxnId → Bool)
         run = their_besides.beside_goes_on f.event f.outcome before.run f.moves;
         holds = f.holds;
         stepped = one_more_stepped (record { event = e; outcome = o }) (record { event = f.event; outcome = f.outcome }) before.stepped f.components f.decided f.ran;
+        taken =
+            subst (λ l. TakeAlike l (before.others ++ record { event = f.event; outcome = f.outcome } ∷ [])) (sym (map-append bare_step front (record { event = e; outcome = o } ∷ [])))
+            (alike_more (bare_steps front) before.others (bare_step (record { event = e; outcome = o })) (record { event = f.event; outcome = f.outcome }) before.taken f.taken);
       }

@@ -46,6 +46,8 @@ use Rattle.roc_views.specs.Beside.{is_of_view, is_of_transaction, of_transaction
 use Rattle.roc_views.proofs.Sent.{filter_append, filter_all, filter_none, envelopes, all_kept, none_kept, beside_delivered, beside_read, found_beside, AreOfTransactions, AreOfViews}
 use Rattle.roc_views.proofs.TickSends.{of_transaction, kept_tick}
 use Rattle.roc_views.proofs.ServerSends as server_sends
+use Rattle.roc_protocol.proofs.Changed.{get-front}
+use Rattle.roc_views.proofs.TakenAlike.{none_taken, came_alike}
 use Rattle.roc_views.proofs.Coordinators.{IsCoordSound, is_sound, ids_more, sound_more}
 use Rattle.roc_views.proofs.CoordSteps.{are_reads, for_transactions, IsForViews, is_nothing, is_read, is_ended, for_views}
 use Rattle.roc_views.proofs.Besides.{set_there, kept_envelopes, Holds, Follows, stays, coord_beside, server_beside, server_still, coord_still, coords_set}
@@ -63,7 +65,7 @@ view_ids_more (u ∷ us) v = ap (λ l. u.id ∷ l) (view_ids_more us v)
 module _ (plan : Plan) (is_view : TxnId → Bool) where
   -- ---- something aside
 
-  module _ (w : World) (t : transactions.World) (h : Holds plan is_view w t) (n : ℕ) (s : CoordState) (there : slice_get w.coords n ≡ Some s) where
+  module _ (w : World) (t : transactions.World) (h : Holds plan is_view w t) (n : ℕ) (s : CoordState) (there : slice_get w.coords n ≡ Some s) (ev : Option Event) where
     abbrev own : IsCoordSound is_view s
     own = h.coords n s there
 
@@ -71,7 +73,7 @@ module _ (plan : Plan) (is_view : TxnId → Bool) where
     beside_there = subst (λ l. slice_get l n ≡ Some s) (sym h.beside.coords) there
 
     aside : (what : _) (after : CoordState) (outs some : List Outgoing) (told : List Entry) → Asides plan s after some → IsCoordSound is_view after
-        → of_transactions (envelopes (Coord n) outs) ≡ envelopes (Coord n) some → without_views is_view told ≡ [] → Follows plan is_view w t (undecided what (at_coord w n after outs told))
+        → of_transactions (envelopes (Coord n) outs) ≡ envelopes (Coord n) some → without_views is_view told ≡ [] → Follows plan is_view w t ev (undecided what (at_coord w n after outs told))
     aside what after outs some told does sound of none =
         record {
           event = None;
@@ -81,12 +83,13 @@ module _ (plan : Plan) (is_view : TxnId → Bool) where
           components = refl;
           decided = refl;
           ran = refl;
+          taken = none_taken _ _ refl refl;
         }
 
     -- an answer of a server to a view
-    view_message : (r : CoordStep) → IsForViews plan is_view s own r → Follows plan is_view w t (coordinated w n r)
+    view_message : (r : CoordStep) → IsForViews plan is_view s own r → Follows plan is_view w t ev (coordinated w n r)
     view_message r (is_nothing state outs reason given) =
-        stays plan is_view w t _ (at_coord w n r.state r.sends (theirs.answer_entries r.answer)) (record {
+        stays plan is_view w t ev _ (at_coord w n r.state r.sends (theirs.answer_entries r.answer)) (record {
           beside =
               subst (λ a. IsBeside is_view (at_coord w n r.state r.sends (theirs.answer_entries a)) t) (sym given)
               (subst (λ l. IsBeside is_view (at_coord w n r.state l []) t) (sym outs) (subst (λ c. IsBeside is_view (at_coord w n c [] []) t) (sym state) (coord_still plan is_view w t h.beside n s there)));
@@ -133,9 +136,9 @@ module _ (plan : Plan) (is_view : TxnId → Bool) where
           procedure false f g = absurd (cc)
 
       transaction : refusal_of plan s proc args ≡ None → is_view_of plan proc ≡ false
-          → o ≡ undecided (seen.Submitted (next_id s)) (at_coord w n (accepted plan s x).state (accepted plan s x).sends (entry.Submitted (next_id s) proc args ∷ [])) → Follows plan is_view w t o
+          → o ≡ undecided (seen.Submitted (next_id s)) (at_coord w n (accepted plan s x).state (accepted plan s x).sends (entry.Submitted (next_id s) proc args ∷ [])) → Follows plan is_view w t ev o
       transaction e plain is =
-          subst (Follows plan is_view w t) (sym is) (record {
+          subst (Follows plan is_view w t ev) (sym is) (record {
             event = Some (Submit n proc args);
             outcome = theirs.undecided (seen.Submitted (next_id s)) (transactions.at_coord t n (accepted plan s x).state (accepted plan s x).sends (entry.Submitted (next_id s) proc args ∷ []));
             moves = (s, beside_there, subst (λ z. theirs.IsSubmissionOf t n proc args z (theirs.undecided (seen.Submitted (next_id s)) (transactions.at_coord t n (accepted plan s x).state (accepted plan s x).sends (entry.Submitted (next_id s) proc args ∷ [])))) (sym same) refl);
@@ -148,6 +151,7 @@ module _ (plan : Plan) (is_view : TxnId → Bool) where
             components = refl;
             decided = refl;
             ran = refl;
+            taken = none_taken _ _ refl refl;
           })
         where
           none : is_view (next_id s) ≡ false
@@ -159,9 +163,9 @@ module _ (plan : Plan) (is_view : TxnId → Bool) where
               ∙ (ap (refused_or_accepted plan s proc args) e ∙ ap (λ b. if b then accepted_view plan s v else accepted plan s x) plain)
 
       view : refusal_of plan s proc args ≡ None → is_view_of plan proc ≡ true
-          → o ≡ undecided (seen.Submitted (next_id s)) (at_coord w n (accepted_view plan s v).state (accepted_view plan s v).sends (entry.Submitted (next_id s) proc args ∷ [])) → Follows plan is_view w t o
+          → o ≡ undecided (seen.Submitted (next_id s)) (at_coord w n (accepted_view plan s v).state (accepted_view plan s v).sends (entry.Submitted (next_id s) proc args ∷ [])) → Follows plan is_view w t ev o
       view e viewed is =
-          subst (Follows plan is_view w t) (sym is) (aside (seen.Submitted (next_id s)) (accepted_view plan s v).state (reads_of plan v) [] (entry.Submitted (next_id s) proc args ∷ [])
+          subst (Follows plan is_view w t ev) (sym is) (aside (seen.Submitted (next_id s)) (accepted_view plan s v).state (reads_of plan v) [] (entry.Submitted (next_id s) proc args ∷ [])
           (gives (record { number = refl; pending = refl; views = λ u k. subst (λ l. Has u l) (view_ids_more s.views v) k }) (free e).unspent refl refl)
           (sound_more is_view s own (accepted_view plan s v).state (next_id s) true some refl refl refl (sym (append-nil (ids_of s.pending))) all)
           (none_kept (Coord n) (reads_of plan v) (are_reads plan v)) (ap (λ b. cond (not b) (entry.Submitted (next_id s) proc args ∷ []) []) some))
@@ -172,17 +176,17 @@ module _ (plan : Plan) (is_view : TxnId → Bool) where
           all : (u : View) → Has u (s.views ++ v ∷ []) → is_view u.id ≡ true
           all u k = elim (has_more u v s.views k) [ inl j ↦ own.views u j | inr j ↦ ap (λ (u : View). is_view u.id) j ∙ some ]
 
-      pub submits : IsSubmissionOf w n proc args (after_submit plan s proc args) o → Follows plan is_view w t o
+      pub submits : IsSubmissionOf w n proc args (after_submit plan s proc args) o → Follows plan is_view w t ev o
       submits k = go (refusal_of plan s proc args) refl k
         where
-          kinds : refusal_of plan s proc args ≡ None → (b : Bool) → is_view_of plan proc ≡ b → IsSubmissionOf w n proc args (if b then accepted_view plan s v else accepted plan s x) o → Follows plan is_view w t o
+          kinds : refusal_of plan s proc args ≡ None → (b : Bool) → is_view_of plan proc ≡ b → IsSubmissionOf w n proc args (if b then accepted_view plan s v else accepted plan s x) o → Follows plan is_view w t ev o
           kinds e true f k = view e f k
           kinds e false f k = transaction e f k
 
-          go : (r : Option SubmitFault) → refusal_of plan s proc args ≡ r → IsSubmissionOf w n proc args (refused_or_accepted plan s proc args r) o → Follows plan is_view w t o
+          go : (r : Option SubmitFault) → refusal_of plan s proc args ≡ r → IsSubmissionOf w n proc args (refused_or_accepted plan s proc args r) o → Follows plan is_view w t ev o
           go None e k = kinds e (is_view_of plan proc) refl k
-          go (Some fault.Spent) e k = subst (Follows plan is_view w t) (sym k) (stays plan is_view w t seen.Spent w h)
-          go (Some fault.Busy) e k = subst (Follows plan is_view w t) (sym k) (stays plan is_view w t seen.Busy w h)
+          go (Some fault.Spent) e k = subst (Follows plan is_view w t ev) (sym k) (stays plan is_view w t ev seen.Spent w h)
+          go (Some fault.Busy) e k = subst (Follows plan is_view w t ev) (sym k) (stays plan is_view w t ev seen.Busy w h)
           go (Some fault.NoProc) e k = absurd k
           go (Some fault.Args) e k = absurd k
           go (Some fault.NoMemory) e k = absurd k
@@ -251,12 +255,33 @@ module _ (plan : Plan) (is_view : TxnId → Bool) where
       of_it : is_of_view m.msg ≡ false
       of_it = not-true (is_of_view m.msg) of
 
-      transaction_at_server : (n : ℕ) (o : Outcome) → m.to ≡ Server (record { 0 = n }) → IsServed plan (mark_delivered w (suc j)) m.msg n o → Follows plan is_view w t o
+      -- where it comes to a server, what comes of it there
+      pub record IsServedThere (o : Outcome) : Type 0 where
+        pub outcome : theirs.Outcome
+        pub found : slice_get t.sent (suc (number_among w.sent j) - 1) ≡ Some m
+        pub happens : theirs.Happens plan t (Deliver (suc (number_among w.sent j))) outcome
+        pub sent : outcome.world.sent ≡ of_transactions o.world.sent
+
+      pub served_there : (n : ℕ) (o : Outcome) → m.to ≡ Server (record { 0 = n }) → IsServed plan (mark_delivered w (suc j)) m.msg n o → IsServedThere o
+      served_there n o to g =
+          let r = g.step in
+          let q = g.reads in
+          let sent : AreOfTransactions r.sends = subst (λ (r : ServerStep). AreOfTransactions r.sends) (sym g.handles.is) (server_sends.message_of_transactions plan g.state g.handles.findings m.msg) in
+          record {
+            outcome = theirs.served other n r;
+            found = there;
+            happens = (m, omega arith, there, subst (λ (to : Node). theirs.IsReceived plan other m.msg to (theirs.served other n r)) (sym to) (g.state, r, subst (λ l. slice_get l n ≡ Some g.state) (sym both.servers) g.there, g.handles, refl));
+            sent =
+                (server_beside plan is_view (mark_delivered w (suc j)) other both n r q (sent_for_transactions n r q sent (reads_of_views g.viewing m.msg r q g.answers))).sent
+                ∙ ap (λ (o : Outcome). of_transactions o.world.sent) (sym g.is);
+          }
+
+      transaction_at_server : (n : ℕ) (o : Outcome) → m.to ≡ Server (record { 0 = n }) → IsServed plan (mark_delivered w (suc j)) m.msg n o → Follows plan is_view w t (Some (Deliver (suc j))) o
       transaction_at_server n o to g =
           let r = g.step in
           let q = g.reads in
           let sent : AreOfTransactions r.sends = subst (λ (r : ServerStep). AreOfTransactions r.sends) (sym g.handles.is) (server_sends.message_of_transactions plan g.state g.handles.findings m.msg) in
-          subst (Follows plan is_view w t) (sym g.is) (record {
+          subst (Follows plan is_view w t (Some (Deliver (suc j)))) (sym g.is) (record {
             event = Some (Deliver (suc (number_among w.sent j)));
             outcome = theirs.served other n r;
             moves = (m, omega arith, there, subst (λ (to : Node). theirs.IsReceived plan other m.msg to (theirs.served other n r)) (sym to) (g.state, r, subst (λ l. slice_get l n ≡ Some g.state) (sym both.servers) g.there, g.handles, refl));
@@ -264,13 +289,15 @@ module _ (plan : Plan) (is_view : TxnId → Bool) where
             components = refl;
             decided = refl;
             ran = refl;
+            taken = came_alike _ _ (suc j) (suc (number_among w.sent j)) m refl refl (get-front w.sent _ (suc j - 1) m (subst (λ k. slice_get w.sent k ≡ Some m) (sym (one_less j)) at))
+                (get-front t.sent _ (suc (number_among w.sent j) - 1) m there) refl;
           })
 
-      transaction_at_coord : (n : ℕ) (o : Outcome) → m.to ≡ Coord n → (s : CoordState) → slice_get w.coords n ≡ Some s → o ≡ coordinated (mark_delivered w (suc j)) n (after_message plan s m.msg) → Follows plan is_view w t o
+      transaction_at_coord : (n : ℕ) (o : Outcome) → m.to ≡ Coord n → (s : CoordState) → slice_get w.coords n ≡ Some s → o ≡ coordinated (mark_delivered w (suc j)) n (after_message plan s m.msg) → Follows plan is_view w t (Some (Deliver (suc j))) o
       transaction_at_coord n o to s found is =
           let r = after_message plan s m.msg in
           let g = for_transactions plan is_view s (h.coords n s found) m.msg of_it in
-          subst (Follows plan is_view w t) (sym is) (record {
+          subst (Follows plan is_view w t (Some (Deliver (suc j)))) (sym is) (record {
             event = Some (Deliver (suc (number_among w.sent j)));
             outcome = theirs.coordinated other n r;
             moves = (m, omega arith, there, subst (λ (to : Node). theirs.IsReceived plan other m.msg to (theirs.coordinated other n r)) (sym to) (s, subst (λ l. slice_get l n ≡ Some s) (sym both.coords) found, refl));
@@ -281,6 +308,7 @@ module _ (plan : Plan) (is_view : TxnId → Bool) where
             components = refl;
             decided = refl;
             ran = refl;
+            taken = none_taken _ _ refl refl;
           })
 
     -- a message of views comes in the one alone
@@ -291,12 +319,12 @@ module _ (plan : Plan) (is_view : TxnId → Bool) where
       of_view : is_of_view m.msg ≡ true
       of_view = not-false (is_of_view m.msg) of
 
-      view_at_server : (n : ℕ) (o : Outcome) → IsServed plan (mark_delivered w (suc j)) m.msg n o → Follows plan is_view w t o
+      view_at_server : (n : ℕ) (o : Outcome) → IsServed plan (mark_delivered w (suc j)) m.msg n o → Follows plan is_view w t (Some (Deliver (suc j))) o
       view_at_server n o g =
           let r = g.step in
           let q = g.reads in
           let i : IsIdle g.state r = subst (IsIdle g.state) (sym g.handles.is) (idle g.state g.handles.findings m.msg of_view) in
-          subst (Follows plan is_view w t) (sym g.is) (record {
+          subst (Follows plan is_view w t (Some (Deliver (suc j)))) (sym g.is) (record {
             event = None;
             outcome = theirs.undecided seen.Done t;
             moves = inl refl;
@@ -309,19 +337,20 @@ module _ (plan : Plan) (is_view : TxnId → Bool) where
             components = sym i.components;
             decided = sym i.decided;
             ran = sym (ap (map (theirs.ran_at n)) i.ran);
+            taken = none_taken _ _ i.components refl;
           })
 
-      view_at_coord : (n : ℕ) (o : Outcome) → (s : CoordState) → slice_get w.coords n ≡ Some s → o ≡ coordinated (mark_delivered w (suc j)) n (after_message plan s m.msg) → Follows plan is_view w t o
+      view_at_coord : (n : ℕ) (o : Outcome) → (s : CoordState) → slice_get w.coords n ≡ Some s → o ≡ coordinated (mark_delivered w (suc j)) n (after_message plan s m.msg) → Follows plan is_view w t (Some (Deliver (suc j))) o
       view_at_coord n o s found is =
-          subst (Follows plan is_view w t) (sym is) (as_of_before (view_message (mark_delivered w (suc j)) t still n s found (after_message plan s m.msg) (for_views plan is_view s (h.coords n s found) m.msg of_view)))
+          subst (Follows plan is_view w t (Some (Deliver (suc j)))) (sym is) (as_of_before (view_message (mark_delivered w (suc j)) t still n s found (Some (Deliver (suc j))) (after_message plan s m.msg) (for_views plan is_view s (h.coords n s found) m.msg of_view)))
         where
-          as_of_before : {o : Outcome} → Follows plan is_view (mark_delivered w (suc j)) t o → Follows plan is_view w t o
-          as_of_before f = record { event = f.event; outcome = f.outcome; moves = f.moves; holds = f.holds; components = f.components; decided = f.decided; ran = f.ran }
+          as_of_before : {o : Outcome} → Follows plan is_view (mark_delivered w (suc j)) t (Some (Deliver (suc j))) o → Follows plan is_view w t (Some (Deliver (suc j))) o
+          as_of_before f = record { event = f.event; outcome = f.outcome; moves = f.moves; holds = f.holds; components = f.components; decided = f.decided; ran = f.ran; taken = f.taken }
 
-    pub delivers : (o : Outcome) → IsReceived plan (mark_delivered w (suc j)) m.msg m.to o → Follows plan is_view w t o
+    pub delivers : (o : Outcome) → IsReceived plan (mark_delivered w (suc j)) m.msg m.to o → Follows plan is_view w t (Some (Deliver (suc j))) o
     delivers o g = go (is_of_transaction m) refl m.to refl g
       where
-        go : (b : Bool) → is_of_transaction m ≡ b → (to : Node) → m.to ≡ to → IsReceived plan (mark_delivered w (suc j)) m.msg to o → Follows plan is_view w t o
+        go : (b : Bool) → is_of_transaction m ≡ b → (to : Node) → m.to ≡ to → IsReceived plan (mark_delivered w (suc j)) m.msg to o → Follows plan is_view w t (Some (Deliver (suc j))) o
         go true of (Server shard) to k = transaction_at_server of shard.0 o to k
         go true of (Coord n) to k = transaction_at_coord of n o to k.0 k.1 k.2
         go false of (Server shard) to k = view_at_server of shard.0 o k
@@ -330,7 +359,7 @@ module _ (plan : Plan) (is_view : TxnId → Bool) where
   -- ---- a tick
 
   ticks_server : (w : World) (t : transactions.World) (h : Holds plan is_view w t) (n : ℕ) (s : ServerState) (v : Viewing) → slice_get w.servers n ≡ Some s
-      → Follows plan is_view w t (served w n (answered s (server.tick_sends s)) (record { viewing = v; sends = [] }))
+      → Follows plan is_view w t (Some (Tick (Server (record { 0 = n })))) (served w n (answered s (server.tick_sends s)) (record { viewing = v; sends = [] }))
   ticks_server w t h n s v there =
       let r = answered s (server.tick_sends s) in
       let q : ReadStep = record { viewing = v; sends = [] } in
@@ -342,9 +371,10 @@ module _ (plan : Plan) (is_view : TxnId → Bool) where
         components = refl;
         decided = refl;
         ran = refl;
+        taken = none_taken _ _ refl refl;
       }
 
-  ticks_coord : (w : World) (t : transactions.World) (h : Holds plan is_view w t) (n : ℕ) (s : CoordState) → slice_get w.coords n ≡ Some s → Follows plan is_view w t (undecided seen.Done (at_coord_tick w n (coord.tick_sends plan s)))
+  ticks_coord : (w : World) (t : transactions.World) (h : Holds plan is_view w t) (n : ℕ) (s : CoordState) → slice_get w.coords n ≡ Some s → Follows plan is_view w t (Some (Tick (Coord n))) (undecided seen.Done (at_coord_tick w n (coord.tick_sends plan s)))
   ticks_coord w t h n s there =
       let sent = kept_envelopes (Coord n) (coord.tick_sends plan s) ∙ ap (envelopes (Coord n)) (kept_tick plan is_view s (is_sound is_view s (h.coords n s there))) in
       let k = coord_beside plan is_view w t h.beside n s (coord.tick_sends plan s) (transaction_tick_sends plan s) [] [] sent refl in
@@ -366,20 +396,21 @@ module _ (plan : Plan) (is_view : TxnId → Bool) where
         components = refl;
         decided = refl;
         ran = refl;
+        taken = none_taken _ _ refl refl;
       }
 
   -- ---- any event
 
-  happens : (w : World) (t : transactions.World) (h : Holds plan is_view w t) (e : Event) (o : Outcome) → TellsViews plan is_view o.world.history → Happens plan w e o → Follows plan is_view w t o
-  happens w t h (Submit n proc args) o tells g = submits w t h n g.0 g.1 proc args o tells g.2
+  happens : (w : World) (t : transactions.World) (h : Holds plan is_view w t) (e : Event) (o : Outcome) → TellsViews plan is_view o.world.history → Happens plan w e o → Follows plan is_view w t (Some e) o
+  happens w t h (Submit n proc args) o tells g = submits w t h n g.0 g.1 (Some (Submit n proc args)) proc args o tells g.2
   happens w t h (Deliver zero) o tells g = absurd (let p = g.1 in omega arith)
   happens w t h (Deliver (suc j)) o tells g = delivers w t h j g.0 (subst (λ k. slice_get w.sent k ≡ Some g.0) (one_less j) g.2) o g.3
-  happens w t h (Tick (Server shard)) o tells g = subst (Follows plan is_view w t) (sym g.4) (ticks_server w t h shard.0 g.0 g.1 g.2)
-  happens w t h (Tick (Coord n)) o tells g = subst (Follows plan is_view w t) (sym g.2) (ticks_coord w t h n g.0 g.1)
+  happens w t h (Tick (Server shard)) o tells g = subst (Follows plan is_view w t (Some (Tick (Server shard)))) (sym g.4) (ticks_server w t h shard.0 g.0 g.1 g.2)
+  happens w t h (Tick (Coord n)) o tells g = subst (Follows plan is_view w t (Some (Tick (Coord n)))) (sym g.2) (ticks_coord w t h n g.0 g.1)
 
-  pub follows : (w : World) (t : transactions.World) (h : Holds plan is_view w t) (e : Option Event) (o : Outcome) → TellsViews plan is_view o.world.history → Transition plan w e o → Follows plan is_view w t o
+  pub follows : (w : World) (t : transactions.World) (h : Holds plan is_view w t) (e : Option Event) (o : Outcome) → TellsViews plan is_view o.world.history → Transition plan w e o → Follows plan is_view w t e o
   follows w t h (Some e) o tells g = happens w t h e o tells g
-  follows w t h None o tells g = subst (Follows plan is_view w t) (sym g) (stays plan is_view w t seen.Done w h)
+  follows w t h None o tells g = subst (Follows plan is_view w t None) (sym g) (stays plan is_view w t None seen.Done w h)
 
 -- ---- runs
 

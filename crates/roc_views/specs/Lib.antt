@@ -3,6 +3,7 @@ pub mod World
 pub mod Beginnings
 pub mod Happens
 pub mod Run
+pub mod Bare
 pub mod Beside
 pub mod Witness
 pub mod Fits

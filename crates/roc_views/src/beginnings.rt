@@ -1,5 +1,5 @@
 //! What holds in every world of every run with views that begins at a beginning (`specs/Beginnings.antt`): at any cells, versions, next sequences and
-//! watermarks, with nothing sent, started or open. What the other modules say of runs from the first world are instances.
+//! watermarks, with nothing sent, started or open. The first world is that of a beginning ([`first_worlds_begin`]).
 ghost use Rattle.std.specs.Prelude.{◌≡◌, ◌≢◌, ◌⊎◌, ◌≤◌, ◌<◌, ◌-◌, ℕ, ℤ, pos, Bool, true, false, List, Option, Some, length, map, take, slice_get};
 ghost use Rattle.roc_sequence.specs.Lists.{Has};
 ghost use Rattle.roc_base.specs.declared.id.TxnId.{TxnId};
@@ -121,8 +121,13 @@ pub fn ids_are_told_once()
     ensures { (plan : Plan) (b : Beginning) (coords : ℕ) (steps : List Stepped) (w : World) → IsRunFrom plan b coords steps w → IsToldOnce w.history }
 {}
 
-/// Each transaction or view that was submitted is unanswered at its coordinator or was answered, and none is both.
+/// Each transaction or view that was submitted is unanswered at its coordinator or was answered, and none is both. It has a sequence from the beginning's next one
+/// on, and each such one below a coordinator's next is that of a transaction or view that was submitted.
 pub fn submissions_are_kept()
+    ensures late { (plan : Plan) (b : Beginning) (coords : ℕ) (steps : List Stepped) (w : World) → IsViewBeginning plan b → IsRunFrom plan b coords steps w
+        → (t : TxnId) → WasSubmitted w.history t → b.of_transactions.nexts t.coord ≤ t.seq }
+    ensures used { (plan : Plan) (b : Beginning) (coords : ℕ) (steps : List Stepped) (w : World) → IsViewBeginning plan b → IsRunFrom plan b coords steps w
+        → (coord seq : ℕ) (c : CoordState) → slice_get w.coords coord ≡ Some c → b.of_transactions.nexts coord ≤ seq → seq < c.next → WasSubmitted w.history (record { coord = coord; seq = seq }) }
     ensures submitted { (plan : Plan) (b : Beginning) (coords : ℕ) (steps : List Stepped) (w : World) → IsRunFrom plan b coords steps w
         → (t : TxnId) → WasSubmitted w.history t
         → (c : CoordState) × (slice_get w.coords t.coord ≡ Some c) × (Has t c.unanswered ⊎ ((reply : List ℤ) × WasAnswered w.history t reply)) }

@@ -5,15 +5,13 @@
 //! what servers and coordinators keep for views, and with the looks: behind how many transactions of the order each round began.
 //!
 //! Of transactions alone each run is one of theirs ([`laws::runs_are_beside`]). And the order, with each answered view put in where its last
-//! round began, is a serial order that explains the whole history ([`laws::witness_is_serial`]). What else is kept of transactions' laws, whatever
-//! views there are, stands in [`kept`], and that a view is answered once all its messages came, and those of what it waits for, in [`quiet`].
-//! Whatever may happen in a world that fits a plan (`specs/Fits.antt`) comes to one thing, which fits it too ([`worlds`]).
-//!
-//! All this is said of runs from any beginning ([`beginnings`]): what is said of runs from the first world are instances.
+//! round began, is a serial order that explains the whole history ([`beginnings::witness_is_serial`]). All laws of runs are stated once, of runs from any
+//! beginning: [`beginnings`] has that one and what reports tell, [`beside`] what else is said of transactions, whatever views there are, and
+//! [`laws::witness_is_serial`] the first one of runs from the first world. Whatever may happen in a world that fits a plan (`specs/Fits.antt`) comes to one
+//! thing, which fits it too ([`worlds`]).
 #![tactic(auto)]
 
 pub mod beginnings;
-pub mod kept;
+pub mod beside;
 pub mod laws;
-pub mod quiet;
 pub mod worlds;

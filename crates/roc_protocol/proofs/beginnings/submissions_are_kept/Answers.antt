@@ -1,6 +1,5 @@
 use Rattle.roc_protocol.proofs.Liveness.{answered_gone}
 use Rattle.roc_protocol.proofs.Answered.{submitted_late, numbers_kept, submitted_kept}
-use Rattle.roc_protocol.proofs.PlainRuns.{run_plainly}
 use Rattle.roc_protocol.proofs.beginnings.submissions_are_kept.Goals as goal
 
 pub returns-clause-late : goal.returns-clause-late
@@ -10,9 +9,6 @@ returns-clause-late c plan b coords steps w begins schemes run =
 pub returns-clause-numbers : goal.returns-clause-numbers
 returns-clause-numbers c plan b coords steps w begins schemes run =
     numbers_kept plan b begins schemes (λ S sound. c.machine_laws.ensures.log S b.store sound) c.machine_laws.ensures.stores coords steps w run
-
-pub returns-clause-used : goal.returns-clause-used
-returns-clause-used c plan b coords steps w run coord seq s there late below = (run_plainly plan b coords steps w run).submitted coord s there seq late below
 
 pub returns-clause-submitted : goal.returns-clause-submitted
 returns-clause-submitted c plan b coords steps w begins schemes run =

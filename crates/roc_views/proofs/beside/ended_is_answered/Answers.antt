@@ -1,0 +1,26 @@
+use Rattle.std.proofs.Common.{refl, sym, subst}
+use Rattle.roc_views.proofs.AnsweredBelow.{some_group, answered_late, ended_coord}
+use Rattle.roc_views.proofs.AnsweringRuns.{told_in_runs}
+use Rattle.roc_views.proofs.CalmRuns.{run_calm}
+use Rattle.roc_views.proofs.ServerMarks.{IsAbove}
+use Rattle.roc_views.proofs.UsedSequences.{run_used}
+use Rattle.roc_views.proofs.WovenOrder.{is_view, tells_them}
+use Rattle.roc_views.proofs.beside.ended_is_answered.Goals as goal
+
+pub returns-clause-told : goal.returns-clause-told
+returns-clause-told c plan b coords steps w accepted begins run m has coord mark is seq late below =
+    let v = is_view plan b coords steps w run in
+    let tells = tells_them plan b coords steps w run in
+    let calm = run_calm plan accepted (some_group plan accepted (c.views_are_apart.ensures.count plan accepted)) b begins.of_transactions coords v steps w run tells in
+    let used = run_used plan b begins coords v steps w run tells in
+    let k = ended_coord plan b coords steps w accepted run m has coord mark is in
+    answered_late b.of_transactions.nexts w (told_in_runs plan b coords v steps w run tells) used (record { coord = coord; seq = seq }) k.0 k.1 late
+    (calm.told m has (record { coord = coord; seq = seq }) (subst (λ msg. IsAbove msg (record { coord = coord; seq = seq })) (sym is) (refl, below)))
+
+pub returns-clause-heard : goal.returns-clause-heard
+returns-clause-heard c plan b coords steps w accepted begins run n s there t k at late ended =
+    let v = is_view plan b coords steps w run in
+    let tells = tells_them plan b coords steps w run in
+    let calm = run_calm plan accepted (some_group plan accepted (c.views_are_apart.ensures.count plan accepted)) b begins.of_transactions coords v steps w run tells in
+    let used = run_used plan b begins coords v steps w run tells in
+    answered_late b.of_transactions.nexts w (told_in_runs plan b coords v steps w run tells) used t k at late (calm.heard n s there t ended)
