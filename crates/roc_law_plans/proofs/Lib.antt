@@ -2,5 +2,3 @@ pub mod Sound
 mod OfPlan
 mod Whole
 mod SmallestPlan
-mod Alone
-mod SmallestRun

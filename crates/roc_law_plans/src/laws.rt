@@ -1,15 +1,11 @@
 //! Laws of the schemes of accepted plans, each the contract of a function that does nothing.
-ghost use Rattle.std.specs.Prelude.{◌≡◌, ℕ, pos, true, List, [], ◌∷◌};
+ghost use Rattle.std.specs.Prelude.{◌≡◌, ℕ, true, List};
 ghost use Rattle.roc_base.specs.declared.id.TxnId.{TxnId};
 ghost use Rattle.roc_whole.specs.Serial as whole;
 ghost use Rattle.roc_plan.specs.Groups.{Plan, is_view_of};
 ghost use Rattle.roc_plan.specs.Accepted.{IsAccepted};
 ghost use Rattle.roc_law_log.specs.Scheme.{Scheme, IsSoundScheme};
-ghost use Rattle.roc_audit.specs.declared.entry.Entry.TheVariants as entry;
 ghost use Rattle.roc_protocol.specs.PlanAssumptions.{IsSchemeOf};
-ghost use Rattle.roc_protocol.specs.Quiet.{IsQuiet};
-ghost use Rattle.roc_protocol.specs.Run.{Stepped, IsRun};
-ghost use Rattle.roc_protocol.specs.World.{World};
 ghost use Rattle.roc_law_plans.specs.Scheme.{scheme_of, AreOrders, AreCalls};
 ghost use Rattle.roc_law_plans.specs.Smallest.{smallest};
 
@@ -59,10 +55,7 @@ pub fn views_have_schemes()
     views_read_alone();
 }
 
-/// What these laws ask for can be met: the small plan is accepted, and in a run of it a transaction is submitted, is quiet, stands in the
-/// order and has its reply.
-pub fn a_submission_is_answered()
-    ensures accepted { IsAccepted smallest }
-    ensures answered { (steps : List Stepped) × (w : World) × IsRun smallest 1 steps w
-        × (t : TxnId) × (w.history ≡ entry.Submitted t 0 [] ∷ entry.Answered t (pos 1 ∷ []) ∷ []) × (w.order ≡ t ∷ []) × IsQuiet smallest steps w t }
+/// There is an accepted plan: the small one.
+pub fn the_smallest_is_accepted()
+    ensures { IsAccepted smallest }
 {}

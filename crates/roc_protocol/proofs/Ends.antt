@@ -1,5 +1,5 @@
--- What is seen of a submission, by its coordinator's state; and of a message that comes to a server
-use Rattle.std.proofs.Common.{◌⊎◌, sym, ◌≡◌, ℕ, ℤ, ◌-◌, ◌<◌, ◌≤◌, List, Some, length, refl, ap, subst, ◌∙◌, inl, inr}
+-- What is seen of a message that comes to a server or to a coordinator
+use Rattle.std.proofs.Common.{◌⊎◌, sym, ◌≡◌, ℕ, ◌-◌, List, Some, refl, ap, subst, ◌∙◌, inl, inr}
 use Rattle.std.specs.Prelude.{slice_get}
 use Rattle.roc_sequence.proofs.Members.{has_at}
 use Rattle.roc_base.specs.declared.node.Shard.{Shard}
@@ -8,15 +8,12 @@ use Rattle.roc_base.specs.declared.node.Node.TheVariants.{Server, Coord}
 use Rattle.roc_msg.specs.declared.msg.Envelope.{Envelope}
 use Rattle.roc_plan.specs.Groups.{Plan}
 use Rattle.roc_law_log.specs.Scheme.{Scheme, IsSoundScheme}
-use Rattle.roc_coord.specs.State.{CoordState}
-use Rattle.roc_coord.specs.Submit.{Submission, most_transactions, most_pending}
-use Rattle.roc_protocol.specs.Aside.{after_transaction}
 use Rattle.roc_protocol.specs.declared.event.Event.TheVariants.{Deliver}
 use Rattle.roc_protocol.specs.declared.event.Seen.TheVariants as seen
 use Rattle.roc_protocol.specs.PlanAssumptions.{HasSchemesFrom}
 use Rattle.roc_protocol.specs.Beginnings.{Beginning, IsBeginning}
 use Rattle.roc_protocol.specs.World.{World, mark_delivered}
-use Rattle.roc_protocol.specs.Happens.{Outcome, IsSubmissionOf, IsReceived, Happens, server_seen, coord_seen}
+use Rattle.roc_protocol.specs.Happens.{Outcome, IsReceived, Happens, server_seen, coord_seen}
 use Rattle.roc_protocol.specs.Run.{Stepped}
 use Rattle.roc_protocol.specs.Beside.{IsRunBeside}
 use Rattle.roc_protocol.specs.Inner.Given.{LogLaws, StoreLaws}
@@ -34,28 +31,6 @@ use Rattle.roc_protocol.proofs.Idle.{run_idle, idle_takes}
 use Rattle.roc_protocol.proofs.Finals.{networked}
 use Rattle.roc_protocol.proofs.Serial as serial
 use Rattle.roc_protocol.proofs.Transactions.{transaction_or_none, HasTransaction}
-use Rattle.roc_protocol.proofs.SubmissionEnds as submission
-
--- ---- a submission
-
--- which of the three ends it has
-pub data Ends (c : CoordState) (o : Outcome) : Type 0 where
-  spent : most_transactions ≤ c.next → o.seen ≡ seen.Spent → Ends c o
-  busy : c.next < most_transactions → most_pending ≤ length c.unanswered → o.seen ≡ seen.Busy → Ends c o
-  taken : c.next < most_transactions → length c.unanswered < most_pending → o.seen ≡ seen.Submitted (record { coord = c.number; seq = c.next }) → Ends c o
-
-pub submission_ends : (plan : Plan) (w : World) (coord proc : ℕ) (args : List ℤ) (d c : CoordState) (o : Outcome) → slice_get w.coords coord ≡ Some d → slice_get w.coords coord ≡ Some c
-    → IsSubmissionOf w coord proc args (after_transaction plan d proc args) o → Ends c o
-submission_ends plan w coord proc args d c o e f s = let same : d ≡ c = cc in subst (λ (x : CoordState). Ends x o) same (go (after_transaction plan d proc args) (submission.submission_is plan d proc args) s)
-  where
-    go : (r : Submission) → submission.IsTransactionSubmission plan d proc args r → IsSubmissionOf w coord proc args r o → Ends d o
-    go r (submission.unknown e) h = absurd h
-    go r (submission.miscounted e) h = absurd h
-    go r (submission.spent known counted l) h = spent l (ap (λ (x : Outcome). x.seen) h)
-    go r (submission.busy known counted l m) h = busy l m (ap (λ (x : Outcome). x.seen) h)
-    go r (submission.taken known counted l m) h = taken l m (ap (λ (x : Outcome). x.seen) h)
-
--- ---- a delivery
 
 -- it was taken, or came too late
 abbrev IsSeenAs : Outcome → Type 0

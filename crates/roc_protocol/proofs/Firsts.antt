@@ -1,5 +1,5 @@
 -- Where runs begin
-use Rattle.std.proofs.Common.{◌≡◌, ◌≢◌, ◌≤◌, ℕ, zero, suc, ◌+◌, ◌==◌, Bool, true, false, cond, List, [], ◌∷◌, Option, Some, None, map, refl, sym, ap, subst, ◌∙◌, inl, inr, arith}
+use Rattle.std.proofs.Common.{◌≡◌, ◌≢◌, ◌≤◌, ℕ, zero, suc, ◌+◌, ◌==◌, Bool, true, false, cond, List, [], ◌∷◌, Some, map, refl, sym, ap, subst, ◌∙◌, inl, inr, arith}
 use Rattle.std.proofs.lemmas.Bool.{false≢true, eq-eqb, eqb-true}
 use Rattle.std.specs.Prelude.{slice_get, filter}
 use Rattle.std.specs.List.{range_with_len}
@@ -18,12 +18,7 @@ use Rattle.roc_law_log.specs.Steps.{no_steps}
 use Rattle.roc_coord.specs.State.{CoordState}
 use Rattle.roc_coord.specs.Submit.{most_transactions}
 use Rattle.roc_protocol.specs.PlanAssumptions.{IsSchemeOf}
-use Rattle.roc_protocol.specs.declared.event.Event.{Event}
-use Rattle.roc_protocol.specs.World.{World}
-use Rattle.roc_protocol.specs.Happens.{Outcome}
 use Rattle.roc_protocol.specs.Beginnings.{Beginning, IsBeginning, begun_server, begun_coord, begun_world, first_beginning}
-use Rattle.roc_protocol.specs.Run.{Stepped, Transition, IsRun, begun, goes_on, IsRunFrom, at_beginning, steps_on}
-use Rattle.roc_protocol.specs.Beside.{Moves, IsRunBeside, beside_begins, beside_goes_on}
 use Rattle.roc_protocol.proofs.Means.{ServerMeans, CoordMeans, WorldMeans}
 use Rattle.roc_protocol.specs.Inner.Given.{StoreLaws}
 use Rattle.roc_protocol.proofs.Submissions.{AreSubmissions}
@@ -133,29 +128,3 @@ begun_submissions plan start coords =
       numbered = λ t p a h. absurd h;
       one = λ t p q a b h k. absurd h;
     }
-
--- a run of the plan's is one from where the first world begins
-pub run_from : (plan : Plan) (coords : ℕ) (steps : List Stepped) (w : World) → IsRun plan coords steps w → IsRunFrom plan (first_beginning plan) coords steps w
-run_from plan coords steps w begun = at_beginning
-run_from plan coords steps w (goes_on {steps = front} {w = v} e o r h) = steps_on e o (run_from plan coords front v r) h
-
--- and the other way
-pub from_run : (plan : Plan) (coords : ℕ) (steps : List Stepped) (w : World) → IsRunFrom plan (first_beginning plan) coords steps w → IsRun plan coords steps w
-from_run plan coords steps w at_beginning = begun
-from_run plan coords steps w (steps_on {steps = front} {w = v} e o r h) = goes_on e o (from_run plan coords front v r) h
-
--- nothing has to be done aside
-pub moves : (plan : Plan) (w : World) (e : Option Event) (o : Outcome) → Transition plan w e o → Moves plan w e o
-moves plan w None o h = inl h
-moves plan w (Some e) o h = h
-
-pub beside_from : (plan : Plan) (start : Beginning) (coords : ℕ) (steps : List Stepped) (w : World) → IsRunFrom plan start coords steps w → IsRunBeside plan start coords steps w
-beside_from plan start coords steps w at_beginning = beside_begins
-beside_from plan start coords steps w (steps_on {steps = front} {w = v} e o r h) = beside_goes_on e o (beside_from plan start coords front v r) (moves plan v e o h)
-
-pub run_beside : (plan : Plan) (coords : ℕ) (steps : List Stepped) (w : World) → IsRun plan coords steps w → IsRunBeside plan (first_beginning plan) coords steps w
-run_beside plan coords steps w run = beside_from plan (first_beginning plan) coords steps w (run_from plan coords steps w run)
-
--- and no sequence was used before
-pub none_before : (plan : Plan) (coord q : ℕ) → (first_beginning plan).nexts coord ≤ q
-none_before plan coord q = let l : 0 ≤ q = omega arith in l

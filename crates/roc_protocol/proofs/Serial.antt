@@ -154,6 +154,3 @@ order_serial plan start begins schemes laws serials stores coords steps w run = 
 -- from a workload's own start it is a serial witness
 pub plain_witness : (program : Workload) (history : List Entry) (order : List TxnId) → IsSerialWitnessFrom program (start_store program) history order → IsSerialWitness program history order
 plain_witness program history order o = record { once = o.once; submitted = o.submitted; answered = o.answered; replies = o.replies; real_time = o.real_time }
-
-pub witness_from : (program : Workload) (history : List Entry) (order : List TxnId) → IsSerialWitness program history order → IsSerialWitnessFrom program (start_store program) history order
-witness_from program history order o = record { once = o.once; submitted = o.submitted; answered = o.answered; replies = o.replies; real_time = o.real_time }

@@ -41,12 +41,12 @@ use Rattle.roc_audit.proofs.Histories.{submitted_front, before_cases, answered_b
 use Rattle.roc_protocol.specs.declared.event.Event.{Event}
 use Rattle.roc_protocol.specs.declared.event.Event.TheVariants.{Submit, Deliver, Tick}
 use Rattle.roc_protocol.specs.PlanAssumptions.{IsSchemeOf}
-use Rattle.roc_protocol.specs.Beginnings.{Beginning, first_beginning}
+use Rattle.roc_protocol.specs.Beginnings.{Beginning}
 use Rattle.roc_protocol.specs.Aside.{after_transaction, transaction_tick_sends}
 use Rattle.roc_protocol.specs.World.{World, sent_by, mark_delivered, at_coord}
 use Rattle.roc_protocol.specs.declared.event.Seen.TheVariants as seen
 use Rattle.roc_protocol.specs.Happens.{RanAt, ran_at, served, undecided, Outcome, IsSubmissionOf, answer_entries, IsReceived, Ticks}
-use Rattle.roc_protocol.specs.Run.{Stepped, IsRun}
+use Rattle.roc_protocol.specs.Run.{Stepped}
 use Rattle.roc_protocol.specs.Beside.{Moves, IsRunBeside, beside_begins, beside_goes_on}
 use Rattle.roc_protocol.specs.Inner.Given.{LogLaws}
 use Rattle.roc_protocol.proofs.Means.{IsOther, run_of, entry_run, RanMeans, Began, Means, WorldMeans}
@@ -63,7 +63,7 @@ use Rattle.roc_protocol.proofs.SubmissionEnds as ends
 use Rattle.roc_protocol.proofs.KeptAside.{IsKeptAside, kept_aside, aside_onward}
 use Rattle.roc_protocol.proofs.AsideSteps.{aside_coordinated}
 use Rattle.roc_protocol.proofs.Submissions.{AreSubmissions, no_submission, submissions_kept, submissions_message, submissions_more, unused}
-use Rattle.roc_protocol.proofs.Firsts.{begun_submissions, run_beside}
+use Rattle.roc_protocol.proofs.Firsts.{begun_submissions}
 
 -- ---- what an accepted submission is
 
@@ -106,10 +106,6 @@ submissions_step plan w a (Some (Tick (Coord n))) o (s, there, e) = subst (λ (o
 pub submissions_from : (plan : Plan) (start : Beginning) (coords : ℕ) (steps : List Stepped) (w : World) → IsRunBeside plan start coords steps w → AreSubmissions plan w.history w.coords
 submissions_from plan start coords steps w beside_begins = begun_submissions plan start coords
 submissions_from plan start coords steps w (beside_goes_on {w = v} e o r h) = submissions_step plan v (submissions_from plan start coords _ v r) e o h
-
--- and in a run from the first world
-pub run_submissions : (plan : Plan) (coords : ℕ) (steps : List Stepped) (w : World) → IsRun plan coords steps w → AreSubmissions plan w.history w.coords
-run_submissions plan coords steps w run = submissions_from plan (first_beginning plan) coords steps w (run_beside plan coords steps w run)
 
 -- ---- all of it
 

@@ -1,15 +1,13 @@
 -- All nodes, what was sent, seen and decided, and how a node's step meets the world: docs/PROTOCOL.md, "World"
-use Rattle.std.specs.Prelude.{ℕ, ◌+◌, ◌==◌, not, List, [], ◌++◌, length, map, filter, slice_set}
+use Rattle.std.specs.Prelude.{ℕ, ◌+◌, ◌==◌, not, List, ◌++◌, length, map, filter, slice_set}
 use Rattle.std.specs.List.{range_with_len}
 use Rattle.roc_base.specs.declared.id.TxnId.{TxnId}
 use Rattle.roc_base.specs.declared.node.Node.{Node}
 use Rattle.roc_base.specs.declared.node.Node.TheVariants.{Server, Coord}
 use Rattle.roc_msg.specs.declared.msg.Envelope.{Envelope}
 use Rattle.roc_msg.specs.declared.outbox.Outgoing.{Outgoing}
-use Rattle.roc_plan.specs.Groups.{Plan}
 use Rattle.roc_server.specs.State.{ServerState, ServerStep}
-use Rattle.roc_server.specs.First.{first_server}
-use Rattle.roc_coord.specs.State.{first_coord, CoordState}
+use Rattle.roc_coord.specs.State.{CoordState}
 use Rattle.roc_audit.specs.declared.entry.Entry.{Entry}
 use Rattle.roc_audit.specs.Order.{noted}
 
@@ -24,17 +22,6 @@ pub record World : Type 0 where
   pub history : List Entry
   -- the transactions in the order of their first decision on any server
   pub order : List TxnId
-
-abbrev pub first_world : Plan → ℕ → World
-first_world plan coords =
-    record {
-      servers = map (λ n. first_server plan (record { 0 = n })) (range_with_len 0 plan.program.shards);
-      coords = map first_coord (range_with_len 0 coords);
-      sent = [];
-      undelivered = [];
-      history = [];
-      order = [];
-    }
 
 -- ---- the network
 

@@ -36,23 +36,19 @@ ghost use Rattle.roc_protocol.specs.Final.{lists_in, IsFinalIn};
 ghost use Rattle.roc_protocol.specs.Kept.{KeepsWhatRan};
 ghost use Rattle.roc_protocol.specs.Forgotten.{HasStartedOn, IsSettledIn, IsTakenAt, IsFirstTaken, IsLastTaken};
 ghost use Rattle.roc_protocol.specs.Quiet.{IsQuiet};
-ghost use Rattle.roc_protocol.specs.World.{World, first_world};
-ghost use Rattle.roc_protocol.specs.Beginnings.{Beginning, IsBeginning, begun_world, first_beginning, left_by};
+ghost use Rattle.roc_protocol.specs.World.{World};
+ghost use Rattle.roc_protocol.specs.Beginnings.{Beginning, IsBeginning, first_beginning, left_by};
 ghost use Rattle.roc_audit.specs.WitnessFrom.{serial_reply_from, IsSerialWitnessFrom};
-ghost use Rattle.roc_protocol.specs.Run.{Stepped, IsRun, IsRunFrom};
+ghost use Rattle.roc_protocol.specs.Run.{Stepped};
 ghost use Rattle.roc_protocol.specs.Beside.{Moves, IsRunBeside};
 ghost use Rattle.roc_protocol.specs.PlanAssumptions.{HasSchemesFrom};
 
 use crate::laws::machine_laws;
 use roc_rows::laws::reads_after_writes;
 
-/// The first world is that of a beginning, at the cells that the workload says, and runs are the runs from there: so what holds of runs from
-/// any beginning holds of them.
-pub fn runs_begin_at_the_first_world()
-    ensures beginning { (plan : Plan) → IsBeginning plan (first_beginning plan) }
-    ensures world { (plan : Plan) (coords : ℕ) → begun_world plan (first_beginning plan) coords ≡ first_world plan coords }
-    ensures runs { (plan : Plan) (coords : ℕ) (steps : List Stepped) (w : World) → IsRun plan coords steps w ↔ IsRunFrom plan (first_beginning plan) coords steps w }
-    ensures beside { (plan : Plan) (b : Beginning) (coords : ℕ) (steps : List Stepped) (w : World) → IsRunFrom plan b coords steps w → IsRunBeside plan b coords steps w }
+/// The first world of the world that runs is that of a beginning, at the cells that the workload says.
+pub fn first_worlds_begin()
+    ensures { (plan : Plan) → IsBeginning plan (first_beginning plan) }
 {
     machine_laws();
 }

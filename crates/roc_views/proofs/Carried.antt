@@ -65,9 +65,6 @@ module _ (is_view : TxnId → Bool) (w : World) (t : transactions.World) (o : Is
       plain true e = absurd (cc)
       plain false e = refl
 
-  pub submitted_there : (x : TxnId) (p : ℕ) (a : List ℤ) → is_view x ≡ false → Has (Submitted x p a) w.history → Has (Submitted x p a) t.history
-  submitted_there x p a e h = subst (Has (Submitted x p a)) (sym o.history) (has_filter (λ e. not (is_view (entry_id e))) (Submitted x p a) w.history h (ap not e))
-
   pub answered_here : (x : TxnId) (reply : List ℤ) → WasAnswered t.history x reply → WasAnswered w.history x reply
   answered_here x reply h = (from_has_filter (λ e. not (is_view (entry_id e))) (Answered x reply) w.history (subst (Has (Answered x reply)) o.history h)).0
 

@@ -62,3 +62,5 @@ pub mod AnsweredBelow
 pub mod TakenDecided
 pub mod FetchedThere
 pub mod GoneSteps
+pub mod Alone
+pub mod SmallestRun

@@ -49,8 +49,8 @@ use roc_law_plans::laws::views_have_schemes;
 use roc_plan::laws::views_are_apart;
 use roc_protocol::beginnings::{
     cells_are_in_their_place as cells_are_in_their_place_beside,
-    cells_are_serial as cells_are_serial_beside, nothing_is_refused as nothing_is_refused_beside,
-    order_is_serial, quiet_is_answered, runs_begin_at_the_first_world,
+    cells_are_serial as cells_are_serial_beside, first_worlds_begin as first_worlds_begin_beside,
+    nothing_is_refused as nothing_is_refused_beside, order_is_serial, quiet_is_answered,
 };
 use roc_protocol::laws::machine_laws;
 use roc_server::laws::{read_step_is_one, step_is_one as server_step_is_one};
@@ -59,7 +59,7 @@ use roc_server::laws::{read_step_is_one, step_is_one as server_step_is_one};
 pub fn first_worlds_begin()
     ensures { (plan : Plan) → IsViewBeginning plan (first_beginning plan) }
 {
-    runs_begin_at_the_first_world();
+    first_worlds_begin_beside();
 }
 
 /// The looks of answered views fit: there are ids that the submissions tell to be of views, and beside them the order is a serial witness of what

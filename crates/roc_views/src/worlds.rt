@@ -1,14 +1,20 @@
 //! What may happen in the world, and that it comes to one thing.
-ghost use Rattle.std.specs.Prelude.{◌≡◌, ℕ, ◌<◌, List, Option};
+ghost use Rattle.std.specs.Prelude.{◌≡◌, ℕ, pos, ◌<◌, List, [], ◌∷◌, Option};
+ghost use Rattle.roc_base.specs.declared.id.TxnId.{TxnId};
 ghost use Rattle.roc_plan.specs.Groups.{Plan};
+ghost use Rattle.roc_plan.specs.Accepted.{IsAccepted};
+ghost use Rattle.roc_audit.specs.declared.entry.Entry.TheVariants.{Submitted, Answered};
+ghost use Rattle.roc_law_plans.specs.Smallest.{smallest};
 ghost use Rattle.roc_protocol.specs.declared.event.Event.{Event};
 ghost use Rattle.roc_views.specs.World.{World, first_world};
 ghost use Rattle.roc_views.specs.Fits.{FitsWorld};
 ghost use Rattle.roc_views.specs.Happens.{Outcome, Happens};
 ghost use Rattle.roc_views.specs.Run.{Stepped, Transition, IsRun, IsEventOf};
+ghost use Rattle.roc_views.specs.Quiet.{IsQuiet};
 
 use crate::beginnings::worlds_fit as worlds_fit_from;
 use roc_component::laws::{order_exists, order_is_one};
+use roc_law_plans::laws::the_smallest_is_accepted;
 use roc_server::laws::{read_step_is_one, step_is_one as server_step_is_one};
 
 /// What comes of an event in a world is one: what is seen, what is newly decided, and the world after it.
@@ -36,4 +42,14 @@ pub fn events_have_outcomes()
 {
     order_exists();
     order_is_one();
+}
+
+/// What the laws of runs ask for can be met: the small plan is accepted, and in a run of it a transaction is submitted, is quiet, stands in the
+/// order and has its reply.
+pub fn a_submission_is_answered()
+    ensures accepted { IsAccepted smallest }
+    ensures answered { (steps : List Stepped) × (w : World) × IsRun smallest 1 steps w
+        × (t : TxnId) × (w.history ≡ Submitted t 0 [] ∷ Answered t (pos 1 ∷ []) ∷ []) × (w.order ≡ t ∷ []) × IsQuiet smallest steps w t }
+{
+    the_smallest_is_accepted();
 }

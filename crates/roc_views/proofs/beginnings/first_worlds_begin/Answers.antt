@@ -5,6 +5,6 @@ use Rattle.roc_views.proofs.beginnings.first_worlds_begin.Goals as goal
 pub returns : goal.returns
 returns c plan =
     record {
-      of_transactions = c.runs_begin_at_the_first_world.ensures.beginning plan;
+      of_transactions = c.first_worlds_begin.ensures plan;
       versions = λ n x. (let e = version-unwritten x in omega (arith, e));
     }

@@ -9,6 +9,7 @@ use Rattle.roc_sequence.proofs.Listed.{listed_one, in_one}
 use Rattle.roc_base.specs.declared.id.TxnId.{TxnId}
 use Rattle.roc_base.specs.TxnId.{is_txn, txn_lt}
 use Rattle.roc_base.specs.Equalities.{is_txn-true, is_txn-same}
+use Rattle.std.specs.List.Sorted.{IsStrictlySortedBy}
 use Rattle.roc_base.proofs.Ids.{txn_lt-itself, none_rise}
 use Rattle.roc_base.specs.Edge.{Dependency}
 use Rattle.roc_depgraph.specs.declared.known.KnownList.{KnownList}
@@ -126,6 +127,15 @@ module _ (id : TxnId) where
   of_alone : (c : List TxnId) → Has c ((id ∷ []) ∷ []) → c ≡ id ∷ []
   of_alone c (inl e) = e
   of_alone c (inr h) = absurd h
+
+  pub decided_alone : AreDecided lists (id ∷ [])
+  unfolding IsStrictlySortedBy
+  decided_alone =
+      record {
+        rising = (tt, tt);
+        sound = λ u h. subst (IsDecided lists) (sym (listed_one is_txn is_txn-true is_txn-same id u h)) it_is_decided;
+        complete = λ u d. subst (IsListed is_txn (id ∷ [])) (sym (known_one u d.own)) (in_one is_txn is_txn-true is_txn-same id);
+      }
 
   pub new_alone : AreNewTaken (IsDecided []) lists ((id ∷ []) ∷ [])
   new_alone =

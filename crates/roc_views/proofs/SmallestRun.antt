@@ -8,28 +8,36 @@ use Rattle.roc_msg.specs.declared.msg.Msg.{Msg}
 use Rattle.roc_msg.specs.declared.msg.Msg.TheVariants.{Start, StartOk, Commit, CommitOk}
 use Rattle.roc_await.specs.Waits.{none_waiting}
 use Rattle.roc_server.specs.declared.started.StartedGroup.{StartedGroup}
-use Rattle.roc_server.specs.First.{first_server}
+use Rattle.roc_server.specs.Reads.{first_viewing}
 use Rattle.roc_server.specs.declared.handled.Handled.TheVariants.{Done}
 use Rattle.roc_server.specs.State.{ServerState, ServerStep}
 use Rattle.roc_server.specs.Step.{Handles}
 use Rattle.roc_coord.specs.declared.transaction.Transaction.{Transaction}
-use Rattle.roc_coord.specs.State.{first_coord, CoordState}
+use Rattle.roc_coord.specs.State.{CoordState}
 use Rattle.roc_coord.specs.Starts.{shards_below}
 use Rattle.roc_audit.specs.declared.entry.Entry.TheVariants.{Submitted, Answered}
 use Rattle.roc_protocol.specs.declared.event.Event.TheVariants.{Submit, Deliver}
 use Rattle.roc_protocol.specs.declared.event.Seen.TheVariants as seen
-use Rattle.roc_protocol.specs.World.{World, first_world}
-use Rattle.roc_protocol.specs.Quiet.{IsQuiet}
-use Rattle.roc_protocol.specs.Happens.{ran_at, undecided, Happens}
-use Rattle.roc_protocol.specs.Run.{Stepped, IsRun, begun, goes_on}
+use Rattle.roc_protocol.specs.Beginnings as protocol
+use Rattle.roc_protocol.specs.Happens.{ran_at}
 use Rattle.roc_law_plans.specs.Smallest.{smallest}
-use Rattle.roc_law_plans.proofs.Alone.{decided_of_none, led_to_none, new_of_none, new_alone}
+use Rattle.roc_views.specs.World.{World, first_world}
+use Rattle.roc_views.specs.Happens.{undecided, Happens}
+use Rattle.roc_views.specs.Run.{Stepped, IsRun, at_beginning, steps_on}
+use Rattle.roc_views.specs.Quiet.{IsQuiet}
+use Rattle.roc_views.proofs.Alone.{decided_of_none, decided_alone, led_to_none, new_of_none, new_alone}
 
 abbrev shard : Shard
 shard = record { 0 = 0 }
 
 abbrev pub id : TxnId
 id = record { coord = 0; seq = 0 }
+
+abbrev server : ServerState
+server = protocol.begun_server (protocol.first_beginning smallest) 0
+
+abbrev coord : CoordState
+coord = protocol.begun_coord (protocol.first_beginning smallest) 0
 
 abbrev to_server : Msg → Envelope
 to_server msg = record { from = Coord 0; to = Server shard; msg = msg }
@@ -43,7 +51,7 @@ abbrev submitted_transaction : Transaction
 submitted_transaction = record { id = id; proc = 0; args = []; starts = (record { group = 0; shard = shard }) ∷ []; startoks = []; asked = []; commitoks = [] }
 
 abbrev submitted_coord : CoordState
-submitted_coord = record (first_coord 0) { next = 1; pending = submitted_transaction ∷ []; unanswered = id ∷ [] }
+submitted_coord = record coord { next = 1; pending = submitted_transaction ∷ []; unanswered = id ∷ [] }
 
 abbrev start : Envelope
 start = to_server (Start id 0 0 [] [])
@@ -52,7 +60,7 @@ abbrev submitted_world : World
 submitted_world = record (first_world smallest 1) { coords = submitted_coord ∷ []; sent = start ∷ []; undelivered = 1 ∷ []; history = Submitted id 0 [] ∷ [] }
 
 submits : Happens smallest (first_world smallest 1) (Submit 0 0 []) (undecided (seen.Submitted id) submitted_world)
-submits = (first_coord 0, refl, refl)
+submits = (coord, refl, refl)
 
 -- ---- its group starts
 
@@ -60,7 +68,7 @@ abbrev started_group : StartedGroup
 started_group = record { id = id; proc = 0; group = 0; args = []; inputs = []; cells = []; bound = []; outs = []; edges = []; facts = []; later = None }
 
 abbrev started_server : ServerState
-started_server = record (first_server smallest shard) { started = started_group ∷ [] }
+started_server = record server { started = started_group ∷ [] }
 
 abbrev startok : Envelope
 startok = to_coord (StartOk id 0 shard [] [] [] [])
@@ -71,7 +79,7 @@ started_world = record submitted_world { servers = started_server ∷ []; sent =
 abbrev started_step : ServerStep
 started_step = record { answer = Done; state = started_server; sends = record { to = Coord 0; msg = startok.msg } ∷ []; components = []; decided = []; ran = [] }
 
-start_handled : Handles smallest (first_server smallest shard) (Start id 0 0 [] []) started_step
+start_handled : Handles smallest server (Start id 0 0 [] []) started_step
 start_handled =
     record {
       findings = record { before = []; reached = []; components = [] };
@@ -80,7 +88,22 @@ start_handled =
     }
 
 starts : Happens smallest submitted_world (Deliver 1) (record { seen = seen.Done; components = []; decided = []; ran = []; world = started_world })
-starts = (start, omega arith, refl, (first_server smallest shard, started_step, refl, start_handled, refl))
+starts = (
+    start,
+    omega arith,
+    refl,
+    record {
+      state = server;
+      there = refl;
+      viewing = first_viewing;
+      keeps = refl;
+      step = started_step;
+      handles = start_handled;
+      reads = record { viewing = first_viewing; sends = [] };
+      answers = record { decided = []; found = decided_of_none; is = refl };
+      is = refl;
+    },
+)
 
 -- ---- its commit is asked for
 
@@ -124,7 +147,22 @@ commit_handled =
     }
 
 runs : Happens smallest asked_world (Deliver 3) (record { seen = seen.Done; components = (id ∷ []) ∷ []; decided = id ∷ []; ran = ran_at 0 started_group ∷ []; world = decided_world })
-runs = (commit, omega arith, refl, (started_server, decided_step, refl, commit_handled, refl))
+runs = (
+    commit,
+    omega arith,
+    refl,
+    record {
+      state = started_server;
+      there = refl;
+      viewing = first_viewing;
+      keeps = refl;
+      step = decided_step;
+      handles = commit_handled;
+      reads = record { viewing = first_viewing; sends = [] };
+      answers = record { decided = id ∷ []; found = decided_alone id; is = refl };
+      is = refl;
+    },
+)
 
 -- ---- and it is answered
 
@@ -136,11 +174,11 @@ answers = (commitok, omega arith, refl, (record submitted_coord { pending = aske
 
 pub run : (steps : List Stepped) × IsRun smallest 1 steps answered_world
 run =
-    let one = goes_on (Some (Submit 0 0 [])) _ begun submits in
-    let two = goes_on (Some (Deliver 1)) _ one starts in
-    let three = goes_on (Some (Deliver 2)) _ two commits in
-    let four = goes_on (Some (Deliver 3)) _ three runs in
-    (_, goes_on (Some (Deliver 4)) _ four answers)
+    let one = steps_on (Some (Submit 0 0 [])) _ at_beginning submits in
+    let two = steps_on (Some (Deliver 1)) _ one starts in
+    let three = steps_on (Some (Deliver 2)) _ two commits in
+    let four = steps_on (Some (Deliver 3)) _ three runs in
+    (_, steps_on (Some (Deliver 4)) _ four answers)
 
 -- each message was delivered
 pub quiet : IsQuiet smallest run.0 answered_world id
