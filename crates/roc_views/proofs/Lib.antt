@@ -64,3 +64,4 @@ pub mod FetchedThere
 pub mod GoneSteps
 pub mod Alone
 pub mod SmallestRun
+pub mod AnyWorld

@@ -63,7 +63,7 @@ pub record IsKeptInTime (is_view : TxnId → Bool) (w : World) : Type 0 where
 
 -- ---- orders and looks
 
-noted_grows : (order ts : List TxnId) → (rest : List TxnId) × (noted order ts ≡ order ++ rest)
+pub noted_grows : (order ts : List TxnId) → (rest : List TxnId) × (noted order ts ≡ order ++ rest)
 noted_grows order [] = ([], sym (append-nil order))
 noted_grows order (t ∷ ts) =
     let one : List TxnId = if is_listed is_txn order t then [] else t ∷ [] in

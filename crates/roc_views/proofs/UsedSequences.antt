@@ -65,13 +65,13 @@ pub record IsUsed (nexts : ℕ → ℕ) (w : World) : Type 0 where
 -- ---- a submission
 
 -- what comes of it at its coordinator
-data Comes (w : World) (n proc : ℕ) (args : List ℤ) (s : CoordState) (o : Outcome) : Type 0 where
+pub data Comes (w : World) (n proc : ℕ) (args : List ℤ) (s : CoordState) (o : Outcome) : Type 0 where
   comes_spent : most_transactions ≤ s.next → o.seen ≡ seen.Spent → o.world ≡ w → Comes w n proc args s o
   comes_busy : s.next < most_transactions → most_pending ≤ length s.unanswered → o.seen ≡ seen.Busy → o.world ≡ w → Comes w n proc args s o
   comes_taken : s.next < most_transactions → length s.unanswered < most_pending → o.seen ≡ seen.Submitted (next_id s) → (after : CoordState) (outs : List Outgoing)
       → after.next ≡ s.next + 1 → after.unanswered ≡ s.unanswered ++ next_id s ∷ [] → o.world ≡ at_coord w n after outs (Submitted (next_id s) proc args ∷ []) → Comes w n proc args s o
 
-comes : (plan : Plan) (w : World) (n proc : ℕ) (args : List ℤ) (s : CoordState) (o : Outcome) → IsSubmissionOf w n proc args (after_submit plan s proc args) o → Comes w n proc args s o
+pub comes : (plan : Plan) (w : World) (n proc : ℕ) (args : List ℤ) (s : CoordState) (o : Outcome) → IsSubmissionOf w n proc args (after_submit plan s proc args) o → Comes w n proc args s o
 comes plan w n proc args s o h = go (after_submit plan s proc args) (any_submission_is plan s proc args) h
   where
     kinds : s.next < most_transactions → length s.unanswered < most_pending → (b : Bool)

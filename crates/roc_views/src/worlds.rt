@@ -1,11 +1,16 @@
 //! What may happen in the world, and that it comes to one thing.
-ghost use Rattle.std.specs.Prelude.{◌≡◌, ℕ, pos, ◌<◌, List, [], ◌∷◌, Option};
+ghost use Rattle.std.specs.Prelude.{◌≡◌, ◌↔◌, ℕ, ℤ, pos, ◌<◌, ◌≤◌, List, [], ◌∷◌, Option, Some, length, slice_get};
 ghost use Rattle.roc_base.specs.declared.id.TxnId.{TxnId};
 ghost use Rattle.roc_plan.specs.Groups.{Plan};
 ghost use Rattle.roc_plan.specs.Accepted.{IsAccepted};
 ghost use Rattle.roc_audit.specs.declared.entry.Entry.TheVariants.{Submitted, Answered};
 ghost use Rattle.roc_law_plans.specs.Smallest.{smallest};
+ghost use Rattle.roc_law_log.specs.Invariants.{Continues};
+ghost use Rattle.roc_coord.specs.State.{CoordState};
+ghost use Rattle.roc_coord.specs.Submit.{most_transactions, most_pending};
 ghost use Rattle.roc_protocol.specs.declared.event.Event.{Event};
+ghost use Rattle.roc_protocol.specs.declared.event.Event.TheVariants as event;
+ghost use Rattle.roc_protocol.specs.declared.event.Seen.TheVariants as seen;
 ghost use Rattle.roc_views.specs.World.{World, first_world};
 ghost use Rattle.roc_views.specs.Fits.{FitsWorld};
 ghost use Rattle.roc_views.specs.Happens.{Outcome, Happens};
@@ -24,6 +29,23 @@ pub fn step_is_one()
     server_step_is_one();
     read_step_is_one();
 }
+
+/// The order only grows at its end.
+pub fn the_order_grows()
+    ensures { (plan : Plan) (w : World) (e : Option Event) (o : Outcome) → Transition plan w e o → Continues w.order o.world.order }
+{}
+
+/// A submission is refused only as spent or busy: spent exactly where the coordinator has used as many sequences as it may, and busy exactly
+/// where it has not and as many ids are unanswered as may be.
+pub fn submissions_are_taken()
+    ensures spent { (plan : Plan) (w : World) (coord proc : ℕ) (args : List ℤ) (c : CoordState) (o : Outcome) → slice_get w.coords coord ≡ Some c
+        → Happens plan w (event.Submit coord proc args) o → (o.seen ≡ seen.Spent) ↔ (most_transactions ≤ c.next) }
+    ensures busy { (plan : Plan) (w : World) (coord proc : ℕ) (args : List ℤ) (c : CoordState) (o : Outcome) → slice_get w.coords coord ≡ Some c
+        → Happens plan w (event.Submit coord proc args) o → (o.seen ≡ seen.Busy) ↔ ((c.next < most_transactions) × (most_pending ≤ length c.unanswered)) }
+    ensures taken { (plan : Plan) (w : World) (coord proc : ℕ) (args : List ℤ) (c : CoordState) (o : Outcome) → slice_get w.coords coord ≡ Some c
+        → Happens plan w (event.Submit coord proc args) o
+        → c.next < most_transactions → length c.unanswered < most_pending → o.seen ≡ seen.Submitted (record { coord = c.number; seq = c.next }) }
+{}
 
 /// The first world of a plan with some shard fits the plan, what comes of an event in a world that fits is one that does, and so each
 /// world of a run fits.
