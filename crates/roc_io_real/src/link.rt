@@ -1,6 +1,7 @@
 //! The machine's network.
 ghost use Rattle.std.specs.Prelude.{None};
 
+use crate::pace::{Pace, SHORTEST_MILLIS};
 use libc::net::{SO_RCVBUF, SOL_SOCKET, setsockopt};
 use roc_io::{Addr, Arrival, Bound, Link, Sent};
 use std::alloc::{AllocError, Global};
@@ -8,16 +9,10 @@ use std::io;
 use std::io::ErrorKind;
 use std::net::{Ipv4Addr, Net, SocketAddr, SocketAddrV4, UdpSocket};
 use std::os::fd::AsRawFd;
-use std::time::{Clock, Duration, Instant};
+use std::time::{Clock, Duration};
 
-/// How many milliseconds there are between two quiet receives, whether datagrams come or not.
-const QUIET_MILLIS: u64 = 20;
-
-/// How many milliseconds longer than wanted a receive may wait before the system is told anew.
-const GRAIN_MILLIS: u64 = 1;
-
-/// How often an interrupted receive is made again.
-const MOST_INTERRUPTS: u64 = 1_000_000;
+/// How often the system is asked for a datagram in one receive, at most: while its wait is not over, or where a call was interrupted.
+const MOST_CALLS: u64 = 1_000_000;
 
 /// How many bytes of a datagram are kept, one more than a message may have.
 const KEPT_BYTES: usize = 60_001;
@@ -26,8 +21,9 @@ const KEPT_BYTES: usize = 60_001;
 const BUFFER_BYTES: i32 = 4_194_304;
 
 /// One socket, which a bind makes. Before it, and after one that failed, each call fails but a bind. A bind or receive that fails is
-/// counted, and so is a send apart from these. A receive is quiet once 20 milliseconds have passed since the last quiet one, or since
-/// the bind, on a clock that does not go back: also where datagrams come without end, and not where a call was interrupted.
+/// counted, and so is a send apart from these. A receive is quiet where nothing comes for 20 to 320 milliseconds, on a clock that does not go
+/// back: the more the more often nothing came, and the less the more came. It is quiet at once where 512 datagrams came since the last quiet one, or
+/// the bind, and 100 milliseconds have passed, and where 640 have passed.
 #[derive(Drop)]
 pub struct RealLink<'a, N> {
     machine: &'a N,
@@ -93,7 +89,7 @@ impl<N: Net + Clock> Link for RealLink<'_, N> {
             Arrival::Datagram { .. } => {}
             Arrival::Quiet => {
                 into.clear();
-                begin_again(self.machine, &mut self.socket);
+                note_quiet(self.machine, &mut self.socket);
             }
             Arrival::NoMemory => into.clear(),
             Arrival::Failed => {
@@ -113,56 +109,49 @@ impl<N: Net + Clock> Link for RealLink<'_, N> {
     }
 }
 
-// The time between two quiet receives.
-fn quiet_time() -> Duration {
-    Duration::from_millis(QUIET_MILLIS)
-}
-
-// A socket with when it was bound, or last quiet, and how long its receives wait.
+// A socket with how long its receives wait.
 #[derive(Drop)]
 struct BoundSocket {
     socket: UdpSocket,
-    since: Option<Instant>,
-    wait: Duration,
+    pace: Pace,
 }
 
 impl BoundSocket {
     fn new<M: Clock>(machine: &M, socket: UdpSocket) -> BoundSocket {
         BoundSocket {
             socket,
-            since: Instant::now(machine).ok(),
-            wait: quiet_time(),
+            pace: Pace::new(machine),
         }
     }
 
-    // How long it is until a receive is quiet. Where the clock cannot be read, the system's wait decides.
-    fn left<M: Clock>(&self, machine: &M) -> Duration {
-        let Some(since) = self.since else {
-            return quiet_time();
-        };
-        match since.elapsed(machine) {
-            Ok(passed) => quiet_time().saturating_sub(passed),
-            Err(_) => quiet_time(),
-        }
-    }
-
-    // What comes within this time: nothing where the call was interrupted.
-    fn received_within(
+    // What comes before the wait is over.
+    fn received<M: Clock>(
         &mut self,
-        left: Duration,
+        machine: &M,
         buffer: &mut [u8],
         into: &mut Vec<u8>,
-    ) -> Option<Arrival> {
-        if self.wait < left
-            || self.wait.saturating_sub(left) > Duration::from_millis(GRAIN_MILLIS)
-        {
-            if self.socket.set_read_timeout(Some(left)).is_err() {
-                return Some(Arrival::Failed);
-            }
-            self.wait = left;
+    ) -> Arrival {
+        let begun = self.pace.passed(machine);
+        if self.pace.is_due(begun) {
+            return Arrival::Quiet;
         }
+        for _ in 0..MOST_CALLS {
+            match self.received_at_once(buffer, into) {
+                Some(Arrival::Quiet) if !self.pace.is_over(machine, begun) => {}
+                Some(answer) => return answer,
+                None => {}
+            }
+        }
+        Arrival::Quiet
+    }
+
+    // What comes within the system's wait: nothing where the call was interrupted.
+    fn received_at_once(&mut self, buffer: &mut [u8], into: &mut Vec<u8>) -> Option<Arrival> {
         match self.socket.recv_from(buffer) {
-            Ok((count, SocketAddr::V4(from))) => Some(arrival(buffer, count, from, into)),
+            Ok((count, SocketAddr::V4(from))) => {
+                self.pace.note_datagram();
+                Some(arrival(buffer, count, from, into))
+            }
             Ok((_, SocketAddr::V6(_))) => Some(Arrival::Failed),
             Err(error) => match error.kind() {
                 ErrorKind::WouldBlock | ErrorKind::TimedOut => Some(Arrival::Quiet),
@@ -188,17 +177,17 @@ fn arrival(buffer: &[u8], count: usize, from: SocketAddrV4, into: &mut Vec<u8>) 
     }
 }
 
-// The time until the next quiet receive begins.
-fn begin_again<M: Clock>(machine: &M, socket: &mut Option<BoundSocket>) {
+// What a quiet receive changes for the next ones.
+fn note_quiet<M: Clock>(machine: &M, socket: &mut Option<BoundSocket>) {
     if let Some(bound) = socket {
-        bound.since = Instant::now(machine).ok();
+        bound.pace.note_quiet(machine);
     }
 }
 
 // A socket at this address, whose receives end after a while.
 fn bound_socket<N: Net>(net: &N, addr: Addr) -> io::Result<UdpSocket> {
     let socket = UdpSocket::bind(net, machine_addr(addr))?;
-    socket.set_read_timeout(Some(quiet_time()))?;
+    socket.set_read_timeout(Some(Duration::from_millis(SHORTEST_MILLIS)))?;
     ask_for_room(&socket);
     Ok(socket)
 }
@@ -222,7 +211,7 @@ fn is_sent(socket: &Option<BoundSocket>, to: Addr, bytes: &[u8]) -> bool {
     }
 }
 
-// Receives one datagram, or waits for as long as is left until it is quiet. A call that was interrupted is made again.
+// Receives one datagram, or waits until it is quiet.
 fn received<M: Clock>(
     machine: &M,
     socket: &mut Option<BoundSocket>,
@@ -237,16 +226,7 @@ fn received<M: Clock>(
     if make_room(buffer, into).is_err() {
         return Arrival::NoMemory;
     }
-    for _ in 0..MOST_INTERRUPTS {
-        let left = bound.left(machine);
-        if left.is_zero() {
-            break;
-        }
-        if let Some(answer) = bound.received_within(left, buffer, into) {
-            return answer;
-        }
-    }
-    Arrival::Quiet
+    bound.received(machine, buffer, into)
 }
 
 // Room for a datagram, where the system writes it and where it goes to.

@@ -131,7 +131,7 @@ fn calls_before_a_bind_fail(rt: HostRuntime) {
     assert_eq!(rt; link.faults(), 1);
 }
 
-/// Sends the link a datagram before each receive until one is quiet: one that begins when three times the link's wait are over has to be.
+/// Sends the link a datagram before each receive until one is quiet: one that begins 640 milliseconds behind the bind has to be.
 fn send_until_quiet<N: Net + Clock + Abort>(
     rt: &N,
     link: &mut RealLink<N>,
@@ -144,7 +144,7 @@ fn send_until_quiet<N: Net + Clock + Abort>(
         let passed = since.elapsed(rt);
         match link.receive(bytes) {
             Arrival::Datagram { .. } => {
-                assert!(rt; matches!(passed, Ok(time) if time < Duration::from_millis(60)));
+                assert!(rt; matches!(passed, Ok(time) if time < Duration::from_millis(640)));
             }
             Arrival::Quiet => return,
             _ => panic!(rt; "no datagram"),
@@ -157,10 +157,49 @@ fn send_until_quiet<N: Net + Clock + Abort>(
 fn a_receive_is_quiet_though_datagrams_come(rt: HostRuntime) -> Result<(), Fail> {
     let mut link = RealLink::new(rt.alloc(), &rt);
     let mut bytes = Vec::new(rt.alloc());
+    let before = Instant::now(&rt)?;
     let here = bound_to_free(&rt, &mut link);
     let since = Instant::now(&rt)?;
     send_until_quiet(&rt, &mut link, here, &mut bytes, since);
+    assert!(rt; before.elapsed(&rt)? >= Duration::from_millis(100));
     assert_eq!(rt; sender(&rt, &mut link, &mut bytes), here);
     assert_eq!(rt; link.faults(), 0);
+    Ok(())
+}
+
+/// Receives silence, so many milliseconds of it at least, or less where the last one was 640 milliseconds ago. When it began is handed out.
+fn silence<N: Net + Clock + Abort>(
+    rt: &N,
+    link: &mut RealLink<N>,
+    bytes: &mut Vec<u8>,
+    last: Instant,
+    wait: u64,
+) -> Result<Instant, Fail> {
+    let begun = Instant::now(rt)?;
+    assert_eq!(rt; link.receive(bytes), Arrival::Quiet);
+    let is_long = begun.elapsed(rt)? >= Duration::from_millis(wait);
+    assert!(rt; is_long || last.elapsed(rt)? >= Duration::from_millis(640));
+    Ok(begun)
+}
+
+#[test]
+fn a_wait_grows_where_datagrams_came(rt: HostRuntime) -> Result<(), Fail> {
+    let mut link = RealLink::new(rt.alloc(), &rt);
+    let mut bytes = Vec::new(rt.alloc());
+    let mut last = Instant::now(&rt)?;
+    let here = bound_to_free(&rt, &mut link);
+    for (wait, is_sent) in [
+        (20, false),
+        (20, true),
+        (20, true),
+        (40, false),
+        (80, false),
+    ] {
+        last = silence(&rt, &mut link, &mut bytes, last, wait)?;
+        if is_sent {
+            assert_eq!(rt; link.send(here, b"a"), Sent::Ok);
+            assert_eq!(rt; sender(&rt, &mut link, &mut bytes), here);
+        }
+    }
     Ok(())
 }
