@@ -2,13 +2,14 @@
 ghost use Rattle.std.specs.Prelude.{◌≡◌, ◌<◌, ◌≤◌, ℕ, true, false, length, IfSome, IfNone};
 ghost use Rattle.roc_program.specs.Pieces.{pieces_in};
 ghost use Rattle.roc_conflict.specs.Classes.{is_immediate};
+ghost use Rattle.roc_conflict.specs.Columns.{AreAll};
 ghost use Rattle.roc_program.specs.declared.piece_id.PieceId.{PieceId};
 ghost use Rattle.roc_merge_groups.specs.Refusals.{AreApart, IsBlocked};
 ghost use Rattle.roc_merge.specs.Inner.Tables.{IsWayBy, IsClearBy};
 ghost use Rattle.roc_merge.specs.Inner.Firsts.{IsClear, IsFirstBetween, IsFirstFrom, IsFirstThree};
 
 use crate::tables::{contended_in, count_of, flow_in};
-use roc_conflict::Classes;
+use roc_conflict::{Classes, Columns};
 use roc_merge_accept::are_co_located;
 use roc_program::{PieceId, Workload, procedure_count};
 
@@ -20,16 +21,18 @@ pub(crate) struct Between {
     pub x: u16,
 }
 
-/// The first p, q and x of all procedures.
+/// The first p, q and x of all procedures, by the columns of all pieces.
 pub(crate) fn first_blocked(
     workload: &Workload,
     classes: &Classes,
+    columns: &Columns,
 ) -> Option<(PieceId, PieceId, PieceId)>
+    requires { AreAll workload.now columns.now }
     ensures found { IfSome result (λ r. ((a b : PieceId) → ¬ AreApart workload.now (is_immediate classes.now) a b) → IsBlocked workload.now (is_immediate classes.now) r.0 r.1 r.2) }
     ensures none { IfNone result ((proc a b c : ℕ) → IsClear workload.now (is_immediate classes.now) proc a b c) }
 {
     for proc in 0..procedure_count(workload) {
-        if let Some(between) = first_in(workload, classes, proc) {
+        if let Some(between) = first_in(workload, classes, columns, proc) {
             let p = PieceId {
                 proc,
                 piece: between.p,
@@ -49,12 +52,13 @@ pub(crate) fn first_blocked(
 }
 
 // The first of a procedure.
-fn first_in(workload: &Workload, classes: &Classes, proc: u16) -> Option<Between>
-    requires { proc < length workload.now.procedures }
+fn first_in(workload: &Workload, classes: &Classes, columns: &Columns, proc: u16) -> Option<Between>
+    requires procedure { proc < length workload.now.procedures }
+    requires columns { AreAll workload.now columns.now }
     ensures found { IfSome result (λ b. IsFirstThree workload.now (is_immediate classes.now) proc b.p b.q b.x) }
     ensures none { IfNone result ((a b c : ℕ) → IsClear workload.now (is_immediate classes.now) proc a b c) }
 {
-    let contended = contended_in(workload, classes, proc);
+    let contended = contended_in(workload, classes, columns, proc);
     let flow = flow_in(workload, proc);
     for p in 0..count_of(workload, proc) {
         if let Some((q, x)) = first_from(workload, proc, &contended, &flow, p) {

@@ -3,6 +3,7 @@ ghost use Rattle.std.specs.Prelude.{◌≡◌, ◌↔◌, ◌<◌, ◌≤◌, []
 ghost use Rattle.std.specs.List.{list_any, range_with_len};
 ghost use Rattle.roc_program.specs.Pieces.{pieces_in};
 ghost use Rattle.roc_conflict.specs.Classes.{is_immediate};
+ghost use Rattle.roc_conflict.specs.Columns.{AreAll};
 ghost use Rattle.roc_merge_groups.specs.Core.{InCore};
 ghost use Rattle.roc_merge_groups.specs.Grouping.{IsMergedIn, IsMerged};
 ghost use Rattle.roc_merge.specs.Inner.Tables.{holds, row_in, IsCoreBy};
@@ -10,22 +11,24 @@ ghost use Rattle.roc_merge.specs.Grouped.{group_from, grouped};
 
 use crate::tables::{contended_in, count_of, flow_in};
 use roc_base::NoMemory;
-use roc_conflict::Classes;
+use roc_conflict::{Classes, Columns};
 use roc_merge_groups::Groups;
 use roc_program::{Workload, procedure_count};
 use std::alloc::Global;
 
-/// The groups of all procedures.
+/// The groups of all procedures, by the columns of all pieces.
 pub(crate) fn merged(
     alloc: Global,
     workload: &Workload,
     classes: &Classes,
+    columns: &Columns,
 ) -> Result<Groups, NoMemory>
+    requires { AreAll workload.now columns.now }
     ensures { IfOk result (IsMerged workload.now (is_immediate classes.now)) }
 {
     let mut procedures = Vec::new(alloc);
     for proc in 0..procedure_count(workload) {
-        procedures.push(merged_in(alloc, workload, classes, proc)?)?;
+        procedures.push(merged_in(alloc, workload, classes, columns, proc)?)?;
     }
     Ok(Groups::from_lists(procedures))
 }
@@ -35,21 +38,24 @@ fn merged_in(
     alloc: Global,
     workload: &Workload,
     classes: &Classes,
+    columns: &Columns,
     proc: u16,
 ) -> Result<Vec<Vec<u16>>, NoMemory>
-    requires { proc < length workload.now.procedures }
+    requires procedure { proc < length workload.now.procedures }
+    requires columns { AreAll workload.now columns.now }
     ensures { IfOk result (λ groups. IsMergedIn workload.now (is_immediate classes.now) proc (map (λ g. g.items) groups.items)) }
 {
-    let core = core_of(workload, classes, proc);
+    let core = core_of(workload, classes, columns, proc);
     groups_by(alloc, &core, count_of(workload, proc))
 }
 
 // The pieces of a procedure that have to run as one.
-fn core_of(workload: &Workload, classes: &Classes, proc: u16) -> [bool; 16]
-    requires { proc < length workload.now.procedures }
+fn core_of(workload: &Workload, classes: &Classes, columns: &Columns, proc: u16) -> [bool; 16]
+    requires procedure { proc < length workload.now.procedures }
+    requires columns { AreAll workload.now columns.now }
     ensures { (x : ℕ) → IsTrue (holds result x) ↔ InCore workload.now (is_immediate classes.now) proc x }
 {
-    let contended = contended_in(workload, classes, proc);
+    let contended = contended_in(workload, classes, columns, proc);
     let flow = flow_in(workload, proc);
     let mut core = [false; 16];
     for piece in 0..count_of(workload, proc) {

@@ -10,7 +10,7 @@ use crate::Refusal;
 use crate::apart::first_apart;
 use crate::between::first_blocked;
 use crate::group::merged;
-use roc_conflict::Classes;
+use roc_conflict::{Classes, Columns};
 use roc_merge_groups::Groups;
 use roc_program::Workload;
 use std::alloc::Global;
@@ -23,11 +23,12 @@ pub fn merge(alloc: Global, workload: &Workload, classes: &Classes) -> Result<Gr
     ensures apart { (p q : PieceId) → IsErrOf result (Refusal.Apart p q) ↔ IsApart workload.now (is_immediate classes.now) p q }
     ensures blocked { (p q x : PieceId) → IsErrOf result (Refusal.Blocked p q x) ↔ IsBlocked workload.now (is_immediate classes.now) p q x }
 {
-    if let Some((p, q)) = first_apart(workload, classes) {
+    let columns = Columns::of_all(workload);
+    if let Some((p, q)) = first_apart(workload, classes, &columns) {
         return Err(Refusal::Apart { p, q });
     }
-    if let Some((p, q, x)) = first_blocked(workload, classes) {
+    if let Some((p, q, x)) = first_blocked(workload, classes, &columns) {
         return Err(Refusal::Blocked { p, q, x });
     }
-    Ok(merged(alloc, workload, classes)?)
+    Ok(merged(alloc, workload, classes, &columns)?)
 }

@@ -2,6 +2,7 @@
 ghost use Rattle.std.specs.Prelude.{◌≡◌, ◌↔◌, ◌<◌, ◌≤◌, ◌⊎◌, ℕ, length, IsTrue};
 ghost use Rattle.roc_program.specs.Pieces.{pieces_in};
 ghost use Rattle.roc_conflict.specs.Classes.{is_immediate};
+ghost use Rattle.roc_conflict.specs.Columns.{AreAll};
 ghost use Rattle.roc_merge_groups.specs.Flow.{feeds, Leads};
 ghost use Rattle.roc_merge.specs.Inner.Tables.{holds, AreContended, IsFlow};
 
@@ -19,15 +20,20 @@ pub(crate) fn count_of(workload: &Workload, proc: u16) -> u16
     piece_count(workload, proc)
 }
 
-/// Of each piece of a procedure whether it is contended; past the last one is none.
-pub(crate) fn contended_in(workload: &Workload, classes: &Classes, proc: u16) -> [bool; 16]
-    requires { proc < length workload.now.procedures }
+/// Of each piece of a procedure whether it is contended, by the columns of all pieces; past the last one is none.
+pub(crate) fn contended_in(
+    workload: &Workload,
+    classes: &Classes,
+    columns: &Columns,
+    proc: u16,
+) -> [bool; 16]
+    requires procedure { proc < length workload.now.procedures }
+    requires columns { AreAll workload.now columns.now }
     ensures { AreContended workload.now (is_immediate classes.now) proc result }
 {
-    let all = Columns::of_all(workload);
     let mut row = [false; 16];
     for piece in 0..count_of(workload, proc) {
-        row[usize::from(piece)] = all.contend(workload, classes, PieceId { proc, piece });
+        row[usize::from(piece)] = columns.contend(workload, classes, PieceId { proc, piece });
     }
     row
 }
