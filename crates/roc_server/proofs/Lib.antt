@@ -47,3 +47,4 @@ mod ReadTurns
 mod ReadsTaken
 mod CopiedCells
 mod ReadsOfPlan
+mod KeptFolds

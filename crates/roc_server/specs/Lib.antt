@@ -10,5 +10,6 @@ pub mod Fits
 pub mod Reads
 pub mod Step
 pub mod Waiting
+pub mod Restarts
 pub mod Codes
 pub mod Inner

@@ -144,7 +144,7 @@ fn is_made(ahead: &Option<Ahead>, msg: &Msg) -> bool
 }
 
 // What was made ahead, if anything was, is given up.
-fn let_go(kept: &mut ServerData, ahead: &mut Option<Ahead>)
+pub(crate) fn let_go(kept: &mut ServerData, ahead: &mut Option<Ahead>)
     requires { IsHeld kept.old ahead.old }
     ensures state { (shard : At) → state_of shard kept.new ≡ state_of shard (kept_before kept.old ahead.old) }
     ensures none { ahead.new ≡ None }

@@ -21,6 +21,9 @@
 //! which is one, too). ROCOCO (OSDI 2014, on read-only transactions) has a server wait for the conflicting transactions that it knows; here too
 //! no read is answered ahead of such a one. A server without reads that wait pays the counting alone.
 //!
+//! [`Server::restart`] gives up the reads that wait, and nothing else that is seen: the rest is what the server's records give (`IsKeptFold` and
+//! `StandsFor` of `specs/Restarts.antt`, with their [`laws`]).
+//!
 //! What a server keeps beside its state, so that a step costs what is undecided, is in an invariant of the type and in
 //! no clause. `specs/Inner/` is of this crate alone.
 #![tactic(auto)]

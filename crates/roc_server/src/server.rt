@@ -13,6 +13,7 @@ ghost use Rattle.roc_server.specs.Fits.{ServerFits};
 ghost use Rattle.roc_server.specs.Inner.Held.{kept_before};
 ghost use Rattle.roc_server.specs.Inner.Planned.{before};
 ghost use Rattle.roc_server.specs.Reads.{first_viewing, AnswersReads, ReadStep};
+ghost use Rattle.roc_server.specs.Restarts.{without_reads};
 ghost use Rattle.roc_server.specs.Start.{is_immediate, entries_for, users};
 ghost use Rattle.roc_server.specs.State.{ServerStep};
 ghost use Rattle.roc_server.specs.Step.{Handles, Shows, tick_sends};
@@ -22,12 +23,12 @@ ghost use Rattle.roc_server.specs.declared.server_data.ServerData.{ServerData};
 use crate::Handled;
 use crate::ahead::Ahead;
 use crate::first::first_rows;
-use crate::handling::{handle, ready};
+use crate::handling::{handle, let_go, ready};
 use crate::lent_groups::LentGroups;
 use crate::looks::{Starting, entries};
 use crate::planned::Change;
 use crate::server_data::ServerData;
-use crate::views::Views;
+use crate::views::{Views, drop_reads};
 use crate::waiting::{Waiting, all_waiting};
 use roc_await::OpenFetch;
 use roc_base::{Edges, NoMemory, Shard, Steps, TxnId};
@@ -166,6 +167,16 @@ impl Server {
             Ok(()) => Ok(()),
             Err(NoMemory) => Err(NodeFault::NoMemory),
         }
+    }
+
+    /// Gives up what a server does not keep over a stop: the reads of views that wait, and what was made ahead. Takes no memory.
+    pub fn restart(&mut self)
+        ensures state { self.new.state ≡ self.old.state }
+        ensures views { self.new.viewing ≡ without_reads self.old.viewing }
+        ensures none { self.new.ahead ≡ None }
+    {
+        let_go(&mut self.kept, &mut self.ahead);
+        drop_reads(&mut self.views);
     }
 
     /// Whether a transaction is decided here: its dependency list and those of all its ancestors are known, by the entries that are

@@ -2,6 +2,7 @@
 ghost use Rattle.std.specs.Prelude.{◌≡◌, ◌≤◌, ◌+◌, ◌∷◌, [], length, filter, OnOk};
 ghost use Rattle.roc_server.specs.Inner.Held.{reads_then, viewing_of, viewing_then, HasRoomToCount};
 ghost use Rattle.roc_server.specs.Reads.{is_taken, with_access, with_accesses};
+ghost use Rattle.roc_server.specs.Restarts.{without_reads};
 
 use crate::{Handled, KeptRead};
 use roc_base::NoMemory;
@@ -101,4 +102,11 @@ fn keep_reads(reads: &mut Vec<KeptRead>, stays: Option<Vec<KeptRead>>)
     if let Some(stays) = stays {
         *reads = stays;
     }
+}
+
+// No read is kept any more.
+pub(crate) fn drop_reads(views: &mut Views)
+    ensures { viewing_of views.new ≡ without_reads (viewing_of views.old) }
+{
+    views.reads.clear();
 }
