@@ -1,5 +1,5 @@
 -- What a table holds at each cell, once one cell has changed
-use Rattle.std.proofs.Common.{◌≡◌, ◌≤◌, ◌+◌, ℕ, arith, length, Bool, true, false, cond, if◌then◌else◌, List, [], ◌∷◌, Option, Some, Result, Ok, Err, OnErr, Vec, unwrap_or, refl, sym, ap, subst, ◌∙◌}
+use Rattle.std.proofs.Common.{◌≡◌, ◌≤◌, ◌+◌, ℕ, arith, length, Bool, true, false, cond, if◌then◌else◌, List, [], ◌∷◌, Option, Some, None, Result, Ok, Err, OnErr, Vec, unwrap_or, refl, sym, ap, subst, ◌∙◌}
 use Rattle.std.specs.declared.alloc.Global.{Global}
 use Rattle.std.specs.Map.{lookup}
 use Rattle.std.specs.Option.{option_map}
@@ -32,6 +32,17 @@ lookup_held test (e ∷ es) = go (test e.0) (lookup_held test es)
 -- what is found by the order of cells
 pub cell_refs_found : (c : Cell) (es : List (Cell × Vec GroupRef Global)) → cell_refs_at c (held es) ≡ found (lookup (λ k. is_eq (cell_cmp c k)) es)
 cell_refs_found c es = ap (λ o. unwrap_or o no_refs) (lookup_held (is_cell c) es) ∙ (λ i. found (lookup (λ k. sym (is_cell-by_cmp c k) i) es))
+
+-- where nothing is found by the order of cells, the cell has no entry
+pub none_held : (c : Cell) (es : List (Cell × Vec GroupRef Global)) → lookup (λ k. is_eq (cell_cmp c k)) es ≡ None → lookup (is_cell c) (held es) ≡ None
+none_held c es h = lookup_held (is_cell c) es ∙ (λ i. option_map cell_refs (lookup (λ k. sym (is_cell-by_cmp c k) i) es)) ∙ ap (option_map cell_refs) h
+
+-- nor where it was removed from a table
+pub removed_at : (cell : Cell) (es fs : List (Cell × Vec GroupRef Global))
+    → ((q : Cell) → lookup (λ k. is_eq (cell_cmp q k)) fs ≡ cond (is_eq (cell_cmp cell q)) None (lookup (λ k. is_eq (cell_cmp q k)) es))
+    → lookup (is_cell cell) (held fs) ≡ None
+removed_at cell es fs h =
+    none_held cell fs (h cell ∙ ap (λ t. cond t None (lookup (λ k. is_eq (cell_cmp cell k)) es)) (is_cell-by_cmp cell cell ∙ is_cell-same cell))
 
 -- what is held at a cell is this now, and no other has changed
 pub record IsSetAt (cell : Cell) (now : CellRefs) (old new : List (Cell × CellRefs)) : Type 0 where

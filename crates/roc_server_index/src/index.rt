@@ -1,5 +1,7 @@
 //! The index.
-ghost use Rattle.std.specs.Prelude.{◌≡◌, ◌≤◌, ◌<◌, ◌+◌, [], true, IsTrue, IsOk, OnOk, OnErr};
+ghost use Rattle.std.specs.Prelude.{◌≡◌, ◌≤◌, ◌<◌, ◌+◌, [], true, false, None, IsTrue, IsOk, OnOk, OnErr};
+ghost use Rattle.std.specs.Map.{lookup};
+ghost use Rattle.roc_rows.specs.Cells.{is_cell};
 ghost use Rattle.roc_server_index.specs.GroupRefs.{group_refs_at, spare_at, ends_with, with_group_ref, without, ChangesAt, HaveSameRefs, KeepsRoom, TakesRoomAt};
 ghost use Rattle.roc_server_index.specs.Inner.Held.{held, room_of};
 
@@ -86,9 +88,10 @@ impl Index {
         Ok(())
     }
 
-    /// Takes the references of a transaction out of a cell. Takes no memory.
+    /// Takes the references of a transaction out of a cell. A cell that has none behind it has no entry either. Takes no memory.
     pub fn take_out(&mut self, cell: Cell, id: TxnId)
-        ensures { ChangesAt cell (without id) self.old self.new }
+        ensures changes { ChangesAt cell (without id) self.old self.new }
+        ensures let_go { group_refs_at cell self.new ≡ [] → lookup (is_cell cell) self.new ≡ None }
     {
         if empties(&mut self.cells, cell, id) {
             let _group_refs = self.cells.remove(&cell);
@@ -96,10 +99,11 @@ impl Index {
     }
 }
 
-// Takes the references of a transaction out of a cell, and tells whether the cell was emptied by it.
+// Takes the references of a transaction out of a cell, and tells whether the cell has an entry without references then.
 fn empties(cells: &mut BTreeMap<Cell, Vec<GroupRef>>, cell: Cell, id: TxnId) -> bool
     ensures changes { ChangesAt cell (without id) (held cells.old.entries) (held cells.new.entries) }
     ensures none { IsTrue result → group_refs_at cell (held cells.new.entries) ≡ [] }
+    ensures some { result ≡ false → group_refs_at cell (held cells.new.entries) ≡ [] → lookup (is_cell cell) (held cells.new.entries) ≡ None }
 {
     match cells.get_mut(&cell) {
         Some(group_refs) => {

@@ -13,4 +13,4 @@ loop-access-preserved c =
     let k = c.loop-access.access-index in
     out_more c.args.id (λ d. list_any (λ (x : Access). is_cell x.cell d) (take k cells)) (λ d. is_cell a.cell d) _ c.args.index.now c.loop-access.index c.take_out.new.self
     (λ d. list_any_more (λ (x : Access). is_cell x.cell d) cells k a c.loop-access-test.true ∙ ap (λ (x : Access). list_any (λ (y : Access). is_cell y.cell d) (take k cells) || is_cell x.cell d) (sym c.access-item.is))
-    c.loop-access.invariant c.take_out.ensures
+    c.loop-access.invariant c.take_out.ensures.changes

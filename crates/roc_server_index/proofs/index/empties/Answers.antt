@@ -1,8 +1,10 @@
-use Rattle.std.proofs.Common.{rules, arith, ◌≡◌, ◌∙◌, [], Some, length, sym, ap, subst}
-use Rattle.std.proofs.lemmas.Bool.{eqb-true}
+use Rattle.std.proofs.Common.{rules, arith, ◌≡◌, ◌∙◌, [], Some, None, length, sym, ap, subst}
+use Rattle.std.specs.Map.{lookup}
+use Rattle.std.proofs.lemmas.Bool.{eqb-true, eqb-false}
+use Rattle.roc_rows.specs.Cells.{is_cell}
 use Rattle.roc_server_index.specs.GroupRefs.{cell_refs_at, group_refs_at, without, ChangesAt}
 use Rattle.roc_server_index.specs.Inner.Held.{held, cell_refs}
-use Rattle.roc_server_index.proofs.Changed.{found, refs_in, cell_refs_found, set_at, changes, stays, none_left}
+use Rattle.roc_server_index.proofs.Changed.{found, refs_in, cell_refs_found, none_held, set_at, changes, stays, none_left}
 use Rattle.roc_server_index.proofs.index.empties.Goals as goal
 
 pub returns-in-Some-clause-changes : goal.returns-in-Some-clause-changes
@@ -17,6 +19,17 @@ returns-in-Some-clause-none c e =
     let empty = eqb-true _ 0 (sym c.is_empty.ensures ∙ e) in
     let none : length c.take_out_all.new.group_refs.items ≡ 0 = omega (arith, c.take_out_all.new.group_refs.ok, empty) in
     ap refs_in (cell_refs_found c.args.cell _ ∙ ap found now.1) ∙ none_left c.take_out_all.new.group_refs.items none
+
+pub returns-in-Some-clause-some : goal.returns-in-Some-clause-some
+returns-in-Some-clause-some c e empty =
+    let now = (c.get_mut.follows.holds c.take_out_all.new.group_refs).3 (search rules) in
+    let none : c.take_out_all.new.group_refs.items ≡ [] = sym (ap refs_in (cell_refs_found c.args.cell _ ∙ ap found now.1)) ∙ empty in
+    let len = ap length none in
+    absurd (eqb-false _ 0 (sym c.is_empty.ensures ∙ e) (omega (arith, c.take_out_all.new.group_refs.ok, len)))
+
+pub returns-in-None-clause-some : goal.returns-in-None-clause-some
+returns-in-None-clause-some c e empty =
+    subst (λ m. lookup (is_cell c.args.cell) (held m.entries) ≡ None) (sym c.get_mut.follows.holds-at-none) (none_held c.args.cell c.args.cells.now.entries (sym c.in-None.ensures.value))
 
 pub returns-in-None-clause-changes : goal.returns-in-None-clause-changes
 returns-in-None-clause-changes c =
