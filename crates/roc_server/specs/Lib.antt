@@ -11,5 +11,6 @@ pub mod Reads
 pub mod Step
 pub mod Waiting
 pub mod Restarts
+pub mod Renewed
 pub mod Codes
 pub mod Inner

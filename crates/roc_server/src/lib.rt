@@ -22,7 +22,8 @@
 //! no read is answered ahead of such a one. A server without reads that wait pays the counting alone.
 //!
 //! [`Server::restart`] gives up the reads that wait, and nothing else that is seen: the rest is what the server's records give (`IsKeptFold` and
-//! `StandsFor` of `specs/Restarts.antt`, with their [`laws`]).
+//! `StandsFor` of `specs/Restarts.antt`, with their [`laws`]). [`Server::renew`] gives up all but the cells, their versions and the watermarks
+//! (`specs/Renewed.antt`): what is left is of any plan.
 //!
 //! What a server keeps beside its state, so that a step costs what is undecided, is in an invariant of the type and in
 //! no clause. `specs/Inner/` is of this crate alone.
@@ -56,6 +57,7 @@ mod ran;
 mod read_answers;
 mod read_refusals;
 mod readoks;
+mod renewing;
 mod runs;
 mod same_msg;
 mod server;

@@ -5,6 +5,7 @@ ghost use Rattle.roc_depgraph.specs.Deps.{IsDecided};
 ghost use Rattle.roc_msg.specs.Outbox.{HasSent, HoldsSame};
 ghost use Rattle.roc_server_lists.specs.Asking.{fetch_from};
 ghost use Rattle.roc_server_lists.specs.New.{AreDecided};
+ghost use Rattle.roc_plan.specs.Groups.{Plan as AnyPlan};
 ghost use Rattle.roc_rows.specs.Store.{entries};
 ghost use Rattle.roc_server.specs.Ahead.{HasRoom, ServingFits};
 ghost use Rattle.roc_server.specs.Below.{is_ended};
@@ -13,6 +14,7 @@ ghost use Rattle.roc_server.specs.Fits.{ServerFits};
 ghost use Rattle.roc_server.specs.Inner.Held.{kept_before};
 ghost use Rattle.roc_server.specs.Inner.Planned.{before};
 ghost use Rattle.roc_server.specs.Reads.{first_viewing, AnswersReads, ReadStep};
+ghost use Rattle.roc_server.specs.Renewed.{renewed, renewed_viewing};
 ghost use Rattle.roc_server.specs.Restarts.{without_reads};
 ghost use Rattle.roc_server.specs.Start.{is_immediate, entries_for, users};
 ghost use Rattle.roc_server.specs.State.{ServerStep};
@@ -27,6 +29,7 @@ use crate::handling::{handle, let_go, ready};
 use crate::lent_groups::LentGroups;
 use crate::looks::{Starting, entries};
 use crate::planned::Change;
+use crate::renewing::renew;
 use crate::server_data::ServerData;
 use crate::views::{Views, drop_reads};
 use crate::waiting::{Waiting, all_waiting};
@@ -176,6 +179,18 @@ impl Server {
         ensures none { self.new.ahead ≡ None }
     {
         let_go(&mut self.kept, &mut self.ahead);
+        drop_reads(&mut self.views);
+    }
+
+    /// Gives up all but the cells, how often each was written, and the watermarks: so the server can go on under any plan. Takes no memory.
+    pub fn renew(&mut self)
+        ensures state { self.new.state ≡ renewed self.old.state }
+        ensures views { self.new.viewing ≡ renewed_viewing self.old.viewing }
+        ensures none { self.new.ahead ≡ None }
+        ensures fits { (plan : AnyPlan) → ServingFits plan self.new }
+    {
+        let_go(&mut self.kept, &mut self.ahead);
+        renew(self.alloc, &mut self.kept);
         drop_reads(&mut self.views);
     }
 
