@@ -41,6 +41,7 @@ mod FoundSettled
 mod BehindSteps
 mod ReleasedRows
 mod HeldUp
+mod HeldByCell
 mod ReadSteps
 mod CountedWrites
 mod ReadTurns

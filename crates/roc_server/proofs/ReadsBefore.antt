@@ -41,7 +41,7 @@ pub record IsUntouched (k was : ServerData) : Type 0 where
   pub index : was.index ≡ k.index
   pub marks : was.marks ≡ k.marks
 
-untouched_by : (k : ServerData) (change : Change) → IsUntouched k (before k change)
+pub untouched_by : (k : ServerData) (change : Change) → IsUntouched k (before k change)
 untouched_by k Nothing = record { waits = refl; decided = refl; index = refl; marks = refl }
 untouched_by k (Asker asker) = record { waits = refl; decided = refl; index = refl; marks = refl }
 untouched_by k (Group e) = record { waits = refl; decided = refl; index = refl; marks = refl }
@@ -55,7 +55,7 @@ untouched k (Some made) = untouched_by k made.outcome.change
 
 -- ---- the groups differ in what they gave alone
 
-same_by : (k : ServerData) (change : Change) → IsPlanned k change → AreSameGroups (before k change).started.groups k.started.groups
+pub same_by : (k : ServerData) (change : Change) → IsPlanned k change → AreSameGroups (before k change).started.groups k.started.groups
 same_by k Nothing p = refl
 same_by k (Asker asker) p = refl
 same_by k (Group e) p = refl

@@ -1,15 +1,20 @@
 //! Which reads are free.
 ghost use Rattle.std.specs.Prelude.{◌≡◌, ◌&&◌, ◌||◌, not, [], filter, IfOk};
+ghost use Rattle.std.specs.List.{list_any};
 ghost use Rattle.std.specs.Option.{option_to_list};
 ghost use Rattle.roc_base.specs.TxnId.{is_txn};
 ghost use Rattle.roc_group.specs.Accesses.{do_write};
 ghost use Rattle.roc_group.specs.GroupRun.{group_uses};
 ghost use Rattle.roc_rows.specs.Store.{Store};
 ghost use Rattle.roc_sequence.specs.Places.{is_listed};
+ghost use Rattle.roc_server_index.specs.GroupRefs.{group_refs_at};
 ghost use Rattle.roc_server.specs.Fits.{AreReadsOf, IsReadOf};
 ghost use Rattle.roc_server.specs.Inner.Answering.{decided_then, entered, is_free_then, is_held_up, newly, started_with, writes_one};
+ghost use Rattle.roc_server.specs.Inner.Indexed.{holds_at};
+ghost use Rattle.roc_server.specs.Inner.Planned.{IsPlanned};
 ghost use Rattle.roc_server.specs.Reads.{read_call};
 
+use crate::groups::find_group;
 use crate::planned::Change;
 use crate::server_data::ServerData;
 use crate::{KeptRead, StartedGroup};
@@ -19,6 +24,7 @@ use roc_plan::laws::views_are_apart;
 use roc_plan::{Known, Plan};
 use roc_rows::Cell;
 use roc_sequence::Sequence;
+use roc_server_index::GroupRef;
 use std::alloc::Global;
 
 // Reads, parted into those that are free behind a change and those that stay.
@@ -36,7 +42,8 @@ pub(crate) fn part(
     change: &Change,
     reads: Vec<KeptRead>,
 ) -> Result<Parted, NoMemory>
-    requires { AreReadsOf plan.now reads.items }
+    requires fits { AreReadsOf plan.now reads.items }
+    requires planned { IsPlanned kept.now change.now }
     ensures free { IfOk result (λ parted. parted.free.items ≡ filter (is_free_then plan.now kept.now change.now) reads.items) }
     ensures stays { IfOk result (λ parted. parted.stays.items ≡ filter (λ q. not (is_free_then plan.now kept.now change.now q)) reads.items) }
 {
@@ -62,7 +69,8 @@ fn is_free(
     change: &Change,
     read: &KeptRead,
 ) -> Result<bool, NoMemory>
-    requires { IsReadOf plan.now read.now }
+    requires fits { IsReadOf plan.now read.now }
+    requires planned { IsPlanned kept.now change.now }
     ensures { IfOk result (λ free. free ≡ is_free_then plan.now kept.now change.now read.now) }
 {
     let known = given_to(alloc, &read.args)?;
@@ -100,6 +108,7 @@ pub(crate) fn cells_of(
 
 // Whether a group that is undecided behind a change writes one of these cells.
 fn is_held_up(kept: &ServerData, change: &Change, uses: &[Access]) -> bool
+    requires { IsPlanned kept.now change.now }
     ensures { result ≡ is_held_up (decided_then kept.now change.now) uses.now (started_with kept.now.started.groups (entered change.now)) }
 {
     if started_against(kept, newly_decided(change), uses) {
@@ -108,14 +117,35 @@ fn is_held_up(kept: &ServerData, change: &Change, uses: &[Access]) -> bool
     starts_against(kept, change, uses)
 }
 
-// Whether one that started writes one of these cells.
+// Whether one that started writes one of these cells: the index leads to those that were not decided before.
 fn started_against(kept: &ServerData, newly: &[TxnId], uses: &[Access]) -> bool
-    ensures { result ≡ is_held_up (λ t. is_listed is_txn kept.now.decided.ids t || is_listed is_txn newly.now t) uses.now kept.now.started.groups }
+    ensures { result ≡ list_any (λ a. list_any (holds_at kept.now.started.groups newly.now a.cell) (group_refs_at a.cell kept.now.index)) uses.now }
 {
-    let started = kept.started.as_slice();
-    started
+    uses.iter()
+        .any(|access| holds_cell(kept, newly, access.cell))
+}
+
+// Whether one of the groups that the index has at a cell holds reads of it up.
+fn holds_cell(kept: &ServerData, newly: &[TxnId], cell: Cell) -> bool
+    ensures { result ≡ list_any (holds_at kept.now.started.groups newly.now cell) (group_refs_at cell kept.now.index) }
+{
+    let group_refs = kept.index.at(cell);
+    group_refs
         .iter()
-        .any(|group| holds_up(kept, newly, group, uses))
+        .any(|group_ref| holds_at(kept, newly, *group_ref, cell))
+}
+
+// Whether the group of a reference is not newly decided and writes the cell.
+fn holds_at(kept: &ServerData, newly: &[TxnId], group_ref: GroupRef, cell: Cell) -> bool
+    ensures { result ≡ holds_at kept.now.started.groups newly.now cell group_ref }
+{
+    if is_among(newly, group_ref.id) {
+        return false;
+    }
+    match find_group(&kept.started, group_ref.id, group_ref.group) {
+        Some(group) => does_write(group.cells.as_slice(), cell),
+        None => false,
+    }
 }
 
 // Whether a group that starts writes one of these cells.

@@ -86,7 +86,8 @@ fn answer_free(
     reads: Vec<KeptRead>,
     sends: &mut Outbox,
 ) -> Result<Vec<KeptRead>, NoMemory>
-    requires { AreReadsOf plan.now reads.items }
+    requires fits { AreReadsOf plan.now reads.items }
+    requires planned { IsPlanned kept.now change.now }
     ensures stays { IfOk result (λ stays. stays.items ≡ filter (λ q. not (is_free_then plan.now kept.now change.now q)) reads.items) }
     ensures sent { OnOk result (HasSent sends.old sends.new
         (map (readok_over plan.now shard kept.now.rows.store (with_accesses versions.now.counts sends.old.ran)) (in_turn (filter (is_free_then plan.now kept.now change.now) reads.items)))) }

@@ -11,7 +11,7 @@ use Rattle.roc_base.specs.Equality.{same_tag}
 use Rattle.roc_rows.specs.declared.cell.Cell.{Cell}
 use Rattle.roc_rows.specs.Cells.{is_cell}
 use Rattle.roc_group.specs.declared.access.Access.{Access}
-use Rattle.roc_group.specs.Accesses.{do_conflict}
+use Rattle.roc_group.specs.Accesses.{do_conflict, do_write}
 use Rattle.roc_server_index.specs.declared.group_ref.GroupRef.{GroupRef}
 use Rattle.roc_server_index.specs.GroupRefs.{CellRefs, group_refs_at, spare_at, without}
 use Rattle.roc_plan.specs.Groups.{Plan, groups_of, is_immediate_of}
@@ -88,3 +88,14 @@ is_met plan started id immediate a s = is_looked_at plan id immediate s && confl
 -- the entry for the group of a reference
 abbrev pub edge_from : Shard → (immediate : Bool) → GroupRef → Dependency
 edge_from shard immediate s = record { from = s.id; imm = immediate; def = not immediate; at = shard }
+
+-- ---- what holds reads up
+
+-- the group that was found writes the cell
+abbrev pub writes_cell : Cell → Option StartedGroup → Bool
+writes_cell c None = false
+writes_cell c (Some e) = do_write e.cells c
+
+-- the group of a reference is not newly decided, and writes the cell
+abbrev pub holds_at : List StartedGroup → (newly : List TxnId) → Cell → GroupRef → Bool
+holds_at started newly c s = not (is_listed is_txn newly s.id) && writes_cell c (find_group s.id s.group started)

@@ -9,4 +9,4 @@ pub send_readoks-requires : goal.send_readoks-requires
 send_readoks-requires c =
     let plan = c.args.plan.now in
     let free = is_free_then plan c.args.kept.now c.args.change.now in
-    subst (AreReadsOf plan) (sym (c.as_slice.ensures.value ∙ c.in_ok-turn.ensures ∙ ap in_turn c.in_ok-free.ensures.free)) (turn_holds (IsReadOf plan) (filter free c.args.reads.items) (some_hold (IsReadOf plan) free c.args.reads.items c.requires))
+    subst (AreReadsOf plan) (sym (c.as_slice.ensures.value ∙ c.in_ok-turn.ensures ∙ ap in_turn c.in_ok-free.ensures.free)) (turn_holds (IsReadOf plan) (filter free c.args.reads.items) (some_hold (IsReadOf plan) free c.args.reads.items c.requires.fits))

@@ -20,8 +20,8 @@ returns-then-has_none-clause-step c =
     plans_reads c.args.plan.now c.args.shard c.args.kept.now c.args.planned.now.change (viewing_of c.args.views.now) c.args.msg.now c.args.planned.now.answer c.requires.planned c.args.sends.now c.args.sends.now None []
     (ap (reads_with c.args.msg.now c.args.planned.now.answer) (sym same) ∙ c.in_ok-read.ensures c.as_slice.result.now ∙ none.0) (sym same ∙ none.1) (sym (append-nil c.args.sends.now.messages), refl, refl) (sym c.is_taken.ensures ∙ c.if-not-is_taken.false)
 
-pub answer_free-requires : goal.answer_free-requires
-answer_free-requires c =
+pub answer_free-requires-clause-fits : goal.answer_free-requires-clause-fits
+answer_free-requires-clause-fits c =
     subst (AreReadsOf c.args.plan.now)
     (ap (reads_with c.args.msg.now c.args.planned.now.answer) (sym c.as_slice-2.ensures.value) ∙ c.in_ok-read.ensures c.as_slice-2.result.now ∙ sym c.in_ok-reads.ensures)
     (with_fits c.args.plan.now c.args.msg.now c.args.planned.now.answer c.args.views.now.reads.items c.requires.taken c.requires.fits)
