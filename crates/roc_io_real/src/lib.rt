@@ -29,4 +29,4 @@ pub use files::RealFiles;
 pub use gathered::Gathered;
 pub use link::RealLink;
 pub use streams::Stream;
-pub use words::words_given;
+pub use words::{Given, words_given};

@@ -3,13 +3,23 @@ use std::env::Env;
 use std::io::ErrorKind;
 use std::{env, io};
 
-/// The words behind the program's name, or none where memory is wanting. Words one of which is no text are refused as no words are, so these
-/// come as an empty list.
-pub fn words_given<R: Env + AllocGlobal>(runtime: &R) -> Option<Vec<String>> {
+/// The words behind the program's name.
+#[derive(Debug, Drop)]
+pub enum Given {
+    /// All of them, in their order.
+    Words(Vec<String>),
+    /// One of them is no text: its bytes are no UTF-8 (RFC 3629).
+    NoText,
+    /// Memory was wanting.
+    NoMemory,
+}
+
+/// The words with which the program was started, but for its own name.
+pub fn words_given<R: Env + AllocGlobal>(runtime: &R) -> Given {
     match texts_given(runtime) {
-        Ok(words) => Some(words),
-        Err(error) if error.kind() == ErrorKind::InvalidData => Some(Vec::new(runtime.alloc())),
-        Err(_) => None,
+        Ok(words) => Given::Words(words),
+        Err(error) if error.kind() == ErrorKind::InvalidData => Given::NoText,
+        Err(_) => Given::NoMemory,
     }
 }
 

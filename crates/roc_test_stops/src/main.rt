@@ -12,7 +12,7 @@ mod records;
 use crate::fault::Fault;
 use crate::records::keep_on;
 use roc_io::Sink;
-use roc_io_real::{RealDisk, Stream, words_given};
+use roc_io_real::{Given, RealDisk, Stream, words_given};
 use std::alloc::Global;
 use std::process::ExitCode;
 
@@ -27,7 +27,11 @@ fn main(rt: HostRuntime) -> ExitCode {
 }
 
 fn run(rt: &HostRuntime) -> Result<(), Fault> {
-    let words = words_given(rt).ok_or(Fault::Memory)?;
+    let words = match words_given(rt) {
+        Given::Words(words) => words,
+        Given::NoText => return Err(Fault::Words),
+        Given::NoMemory => return Err(Fault::Memory),
+    };
     let [file, count] = words.as_slice() else {
         return Err(Fault::Words);
     };

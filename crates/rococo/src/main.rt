@@ -4,7 +4,9 @@
 
 use roc_cli::run;
 use roc_io::{Sink, Written};
-use roc_io_real::{Gathered, RealFiles, RealLink, RealSpawner, Stream, finish_both, words_given};
+use roc_io_real::{
+    Gathered, Given, RealFiles, RealLink, RealSpawner, Stream, finish_both, words_given,
+};
 use std::process::ExitCode;
 
 // How many bytes are written together at most.
@@ -12,13 +14,17 @@ const ROOM: usize = 65_536;
 
 fn main(rt: HostRuntime) -> ExitCode {
     let status = match words_given(&rt) {
-        Some(words) => run_words(&rt, &words),
-        None => {
-            Stream::new(rt.stderr()).write(b"memory\n");
-            4
-        }
+        Given::Words(words) => run_words(&rt, &words),
+        Given::NoText => told(&rt, b"a word is no text\n", 2),
+        Given::NoMemory => told(&rt, b"memory\n", 4),
     };
     ExitCode::from(status)
+}
+
+// Says why there are no words to run, and hands on the status of that.
+fn told(rt: &HostRuntime, line: &[u8], status: u8) -> u8 {
+    Stream::new(rt.stderr()).write(line);
+    status
 }
 
 // What the machine gives is owned here, behind the last exit of `main`.
