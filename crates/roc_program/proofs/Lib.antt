@@ -5,6 +5,7 @@ pub mod Collisions
 pub mod Ranges
 pub mod Keyed
 pub mod Counted
+pub mod Texts
 pub mod PieceIds
 pub mod Conflicts
 pub mod Views

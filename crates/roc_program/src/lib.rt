@@ -6,7 +6,8 @@
 //! `roc_lang_resolve` to say.
 //!
 //! The layers above may rely on this: [`Expression::value`] is the value of `specs/Values.antt`, where `+ - *` wrap
-//! modulo 2^64; [`Expression::is_same`] tells exactly whether two expressions are one tree; pieces have the numbers of
+//! modulo 2^64; [`Expression::is_same`] tells exactly whether two expressions are one tree, and the `is_same` of the other parts
+//! whether two are of one text, in which only lines, spaces, comments and parentheses may differ; pieces have the numbers of
 //! `specs/Pieces.antt`; and [`conflict`] is exactly the static conflict of `specs/Conflict.antt`, in which pieces of
 //! views are never: a procedure is a view ([`is_view`]) if its text says so, and then it only reads. `specs/Names.antt`
 //! has what a piece uses and binds.
