@@ -9,13 +9,14 @@ ghost use Rattle.roc_sequence.specs.Rising.{IsRising};
 ghost use Rattle.roc_base.specs.Inner.Place.{entry_place, IsAt, IsGapFor};
 
 use crate::{Edge, NoMemory, TxnId, is_among};
+use roc_sequence::Shared;
 use std::alloc::{AllocError, Global};
 use std::marker::Model;
 
-/// A list of predecessors, rising strictly by id.
+/// A list of predecessors, rising strictly by id. Its copies share their entries until one of them is changed.
 #[derive(Debug, Drop)]
 pub struct Edges {
-    entries: Vec<Edge>,
+    entries: Shared<Edge>,
 }
 
 impl Model for Edges {
@@ -25,9 +26,9 @@ impl Model for Edges {
 
     ghost Value = { List Dependency };
 
-    ghost view = { λ e. e.entries.items };
+    ghost view = { λ e. e.entries };
 
-    ghost invariant = { λ e. IsEdgeList e.entries.items };
+    ghost invariant = { λ e. IsEdgeList e.entries };
 }
 
 impl Edges {
@@ -36,7 +37,7 @@ impl Edges {
         ensures { result ≡ [] }
     {
         Edges {
-            entries: Vec::new(alloc),
+            entries: Shared::new(alloc),
         }
     }
 
@@ -66,8 +67,9 @@ impl Edges {
     pub fn find(&self, id: TxnId) -> Option<Edge>
         ensures { result ≡ entry_at id self.now }
     {
-        match place(&self.entries, id) {
-            Ok(at) => Some(self.entries[at]),
+        let entries = self.entries.as_slice();
+        match place(entries, id) {
+            Ok(at) => Some(entries[at]),
             Err(_) => None,
         }
     }
@@ -81,31 +83,32 @@ impl Edges {
 
         ensures err { OnErr result (self.new ≡ self.old) }
     {
-        self.entries.reserve(added.len())?;
-        for edge in added {
-            put(&mut self.entries, *edge);
-        }
+        let mut entries = self.entries.take(added.len())?;
+        put_all(&mut entries, added);
+        self.entries = Shared::from_vec(entries);
         Ok(())
     }
 
-    /// Leaves out the entries of these ids, which should be few: each entry is compared with all of them. Takes no memory.
-    pub fn leave_out(&mut self, ids: &[TxnId])
-        ensures { self.new ≡ filter (λ d. not (is_listed is_txn ids.now d.from)) self.old }
+    /// The list without the entries of these ids, which should be few: each entry is compared with all of them.
+    pub fn without(&self, ids: &[TxnId]) -> Result<Edges, NoMemory>
+        ensures { IfOk result (λ list. list ≡ filter (λ d. not (is_listed is_txn ids.now d.from)) self.now) }
     {
-        leave_out(&mut self.entries, ids);
+        let mut list = self.clone()?;
+        let mut entries = list.entries.take(0)?;
+        leave_out(&mut entries, ids);
+        list.entries = Shared::from_vec(entries);
+        Ok(list)
     }
 }
 
-/// A copy is on the same allocator, and is the same list.
+/// A copy is on the same allocator, and is the same list. It takes no memory, unless there was too little of it as the list was made.
 impl Clone for Edges {
     ghost use Rattle.std.specs.Prelude.{◌≡◌};
 
     ghost is_clone = { λ from copy. copy ≡ from };
 
     fn clone(&self) -> Result<Edges, AllocError> {
-        // All at once: entries are of plain numbers, so none has to be copied by itself.
-        let mut entries = Vec::with_capacity(*self.entries.allocator(), self.entries.len())?;
-        entries.extend_from_slice(&self.entries)?;
+        let entries = self.entries.clone()?;
         Ok(Edges { entries })
     }
 }
@@ -124,7 +127,7 @@ impl PartialEq for Edges {
         ensures test { result ≡ is_edges self.now other.now }
         ensures equal { IsTrue result ↔ (self.now ≡ other.now) }
     {
-        self.entries == other.entries
+        self.as_slice() == other.as_slice()
     }
 }
 
@@ -160,6 +163,18 @@ fn entry_place(edges: &[Edge], id: TxnId) -> usize
         return len;
     }
     edges.partition_point(|edge| edge.from() < id)
+}
+
+// Adds edges to a rising list that has room for them.
+fn put_all(edges: &mut Vec<Edge>, added: &[Edge])
+    requires list { IsEdgeList edges.old.items }
+    requires room { vec_len edges.old + length added.now ≤ vec_capacity edges.old }
+    ensures list { IsEdgeList edges.new.items }
+    ensures items { edges.new.items ≡ united (edges.old.items ++ added.now) }
+{
+    for edge in added {
+        put(edges, *edge);
+    }
 }
 
 // Adds an edge to a rising list that has room for one more.

@@ -9,7 +9,8 @@
 //! The layers above may rely on this: `Edges::unite` is the union by id, tags joined and the least shard kept, whatever
 //! the order and the repetitions of what is added, and by [`laws`] a union is the only rising list that has at each id
 //! what the entries say together; `Edges::find` is exactly the look-up. Two values of `Edges` or of `Nums` are equal
-//! exactly if their lists are. What fails for want of memory leaves the value as it was.
+//! exactly if their lists are, and their copies share one list in memory until one of them is changed. What fails for
+//! want of memory leaves the value as it was.
 //!
 //! [`Steps`] counts steps, which only contracts see: at run time a count takes no bytes, and a step no code. A function
 //! that may be held to a bound takes a count and says by how much the count grows. The step's tick stands where nothing

@@ -2,13 +2,15 @@
 ghost use Rattle.std.specs.Prelude.{◌≡◌, ◌++◌, ◌∷◌, ◌↔◌, ◌==◌, [], length, IsTrue, IfOk, OnOk, OnErr};
 
 use crate::NoMemory;
+use roc_sequence::Shared;
 use std::alloc::{AllocError, Global};
 use std::marker::Model;
 
-/// A list of numbers, as arguments, bound values and outs of a transaction travel.
+/// A list of numbers, as arguments, bound values and outs of a transaction travel. Its copies share their numbers until one of them is
+/// changed.
 #[derive(Debug, Drop)]
 pub struct Nums {
-    items: Vec<i64>,
+    items: Shared<i64>,
 }
 
 impl Model for Nums {
@@ -16,7 +18,7 @@ impl Model for Nums {
 
     ghost Value = { List ℤ };
 
-    ghost view = { λ n. n.items.items };
+    ghost view = { λ n. n.items };
 }
 
 impl Nums {
@@ -25,7 +27,7 @@ impl Nums {
         ensures { result ≡ [] }
     {
         Nums {
-            items: Vec::new(alloc),
+            items: Shared::new(alloc),
         }
     }
 
@@ -33,23 +35,17 @@ impl Nums {
     pub fn from_slice(alloc: Global, items: &[i64]) -> Result<Nums, NoMemory>
         ensures { IfOk result (λ nums. nums ≡ items.now) }
     {
-        Ok(Nums {
-            items: Vec::from_slice(alloc, items)?,
-        })
+        let items = Vec::from_slice(alloc, items)?;
+        Ok(Nums::from_vec(items))
     }
 
-    /// The numbers of a vector, with the room that it has. Takes no memory.
+    /// The numbers of a vector. It takes a little memory, so that copies can share them; where there is none, a copy will take it.
     pub fn from_vec(items: Vec<i64>) -> Nums
         ensures { result ≡ items.items }
     {
-        Nums { items }
-    }
-
-    /// The numbers as a vector, with the room that they have. Takes no memory.
-    pub fn into_vec(self) -> Vec<i64>
-        ensures { result.items ≡ self }
-    {
-        self.items
+        Nums {
+            items: Shared::from_vec(items),
+        }
     }
 
     /// Adds a number at the end. `NoMemory` leaves the list as it was.
@@ -57,8 +53,7 @@ impl Nums {
         ensures ok { OnOk result (self.new ≡ self.old ++ number ∷ []) }
         ensures err { OnErr result (self.new ≡ self.old) }
     {
-        self.items.push(number)?;
-        Ok(())
+        self.extend_from_slice(&[number])
     }
 
     /// Adds the numbers of a slice at the end. `NoMemory` leaves the list as it was.
@@ -92,15 +87,14 @@ impl Nums {
     }
 }
 
-/// A copy is on the same allocator, and is the same list.
+/// A copy is on the same allocator, and is the same list. It takes no memory, unless there was too little of it as the list was made.
 impl Clone for Nums {
     ghost use Rattle.std.specs.Prelude.{◌≡◌};
 
     ghost is_clone = { λ from copy. copy ≡ from };
 
     fn clone(&self) -> Result<Nums, AllocError> {
-        let mut items = Vec::with_capacity(*self.items.allocator(), self.items.len())?;
-        items.extend_from_slice(&self.items)?;
+        let items = self.items.clone()?;
         Ok(Nums { items })
     }
 }
@@ -119,7 +113,7 @@ impl PartialEq for Nums {
         ensures test { result ≡ is_nums self.now other.now }
         ensures equal { IsTrue result ↔ (self.now ≡ other.now) }
     {
-        self.items == other.items
+        self.as_slice() == other.as_slice()
     }
 }
 

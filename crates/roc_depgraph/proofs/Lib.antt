@@ -8,5 +8,6 @@ pub mod RisingLists
 pub mod Searched
 pub mod RisingIds
 pub mod Entries
+pub mod LeftOut
 pub mod Marked
 pub mod Finding

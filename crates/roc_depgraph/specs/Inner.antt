@@ -1,3 +1,4 @@
 -- What stands here is of private parts alone
 pub mod Entries
 pub mod Chunks
+pub mod Left

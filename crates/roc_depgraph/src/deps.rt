@@ -1,17 +1,22 @@
 //! The known lists, and what follows from them.
-ghost use Rattle.std.specs.Prelude.{◌≡◌, [], None, not, true, map, IfOk, OnOk, OnErr, filter};
+ghost use Rattle.std.specs.Prelude.{◌≡◌, ◌<◌, [], None, not, map, IfOk, OnOk, OnErr, filter, length};
+ghost use Rattle.std.specs.List.{list_any};
 ghost use Rattle.std.specs.Option.{option_copied};
 ghost use Rattle.roc_base.specs.TxnId.{is_txn};
 ghost use Rattle.roc_sequence.specs.Places.{is_listed};
 ghost use Rattle.roc_depgraph.specs.Closure.{IsClosure, IsRisingListOf};
 ghost use Rattle.roc_depgraph.specs.Deps.{list_of, is_known, IsKnown, Precedes};
 ghost use Rattle.roc_depgraph.specs.Learnt.{Learns};
+ghost use Rattle.roc_depgraph.specs.Inner.Entries.{known_by};
+ghost use Rattle.roc_depgraph.specs.Inner.Left.{IsLeftAt};
 ghost use Rattle.roc_depgraph.specs.Reach.{ReachesOrIs};
+ghost use Rattle.roc_depgraph.specs.Relisted.{relisted, with_list};
 ghost use Rattle.roc_depgraph.specs.Visits.{Visits};
 
-use crate::{Closure, Learnt};
+use crate::{Closure, Learnt, Relisted};
 use indexmap::IndexMap;
-use roc_base::{Edge, Edges, NoMemory, TxnId};
+use roc_base::{Edge, Edges, NoMemory, TxnId, is_among};
+use roc_sequence::Sequence;
 use std::alloc::Global;
 use std::collections::BTreeSet;
 use std::marker::Model;
@@ -76,11 +81,41 @@ impl Deps {
         self.lists.shift_remove(&id);
     }
 
-    /// Leaves out of each list the entries of these ids, which should be few. A list stays known where no entry is left. Takes no memory.
-    pub fn leave_out(&mut self, ids: &[TxnId])
-        ensures { self.new ≡ map (λ k. record { of = k.of; edges = filter (λ d. not (is_listed is_txn ids.now d.from)) k.edges }) self.old }
+    /// The lists that have entries of these ids, which should be few, without these entries. A list stays known where no entry is left.
+    pub fn left_out(&self, ids: &[TxnId]) -> Result<Sequence<Relisted>, NoMemory>
+        ensures { IfOk result (λ rows. relisted rows self.now ≡ map (λ k. record { of = k.of; edges = filter (λ d. not (is_listed is_txn ids.now d.from)) k.edges }) self.now) }
     {
-        leave_out(&mut self.lists, ids);
+        let mut rows = Sequence::new(self.alloc);
+        for at in 0..self.lists.len() {
+            if let Some(edges) = self.left_at(at, ids)? {
+                rows.push(Relisted { at, edges })?;
+            }
+        }
+        Ok(rows)
+    }
+
+    // The list at a place without the entries of these ids, where it has one.
+    fn left_at(&self, at: usize, ids: &[TxnId]) -> Result<Option<Edges>, NoMemory>
+        requires { at < length self.now }
+        ensures { IfOk result (IsLeftAt ids.now self.now at) }
+    {
+        let Some((_id, edges)) = self.lists.get_index(at) else {
+            return Ok(None);
+        };
+        if !names_any(edges, ids) {
+            return Ok(None);
+        }
+        let left = edges.without(ids)?;
+        Ok(Some(left))
+    }
+
+    /// Puts lists into the places of others, one after another. Takes no memory.
+    pub fn relist(&mut self, rows: Sequence<Relisted>)
+        ensures { self.new ≡ relisted rows self.old }
+    {
+        for row in rows.into_vec() {
+            relist_one(&mut self.lists, row);
+        }
     }
 
     /// The transaction and its ancestors, where all their lists are known; else what is missing.
@@ -145,16 +180,22 @@ pub fn visit(
     Ok(())
 }
 
-// The entries of other ids stay, at each key.
-fn leave_out(lists: &mut IndexMap<TxnId, Edges>, ids: &[TxnId])
-    ensures { lists.new.entries ≡ map (λ e. (e.0, filter (λ d. not (is_listed is_txn ids.now d.from)) e.1)) lists.old.entries }
+// Whether a list has an entry of one of these ids.
+fn names_any(edges: &Edges, ids: &[TxnId]) -> bool
+    ensures { result ≡ list_any (λ d. is_listed is_txn ids.now d.from) edges.now }
 {
-    lists.retain(
-        |_id: &TxnId, edges: &mut Edges| -> bool
-            ensures { (result ≡ true) × (edges.new ≡ filter (λ d. not (is_listed is_txn ids.exit.now d.from)) edges.old) }
-        {
-            edges.leave_out(ids);
-            true
-        },
-    );
+    edges
+        .as_slice()
+        .iter()
+        .any(|edge| is_among(ids, edge.from()))
+}
+
+// Puts a list into the place of another.
+fn relist_one(lists: &mut IndexMap<TxnId, Edges>, row: Relisted)
+    ensures { known_by lists.new.entries ≡ with_list row.at row.edges (known_by lists.old.entries) }
+{
+    let Relisted { at, edges } = row;
+    if let Some(list) = lists.get_index_mut(at) {
+        *list = edges;
+    }
 }

@@ -3,7 +3,7 @@ use roc_base::{Edges, TxnId};
 use std::alloc::AllocError;
 
 /// A transaction with its list of predecessors.
-#[derive(Debug, Drop)]
+#[derive(Debug, Drop, PartialEq, Eq)]
 pub struct KnownList {
     pub of: TxnId,
     pub edges: Edges,

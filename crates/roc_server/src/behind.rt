@@ -14,7 +14,7 @@ use crate::left::{Left, left_of, over_among};
 use crate::marks::Marks;
 use crate::server_data::ServerData;
 use roc_base::{NoMemory, TxnId};
-use roc_depgraph::Deps;
+use roc_depgraph::{Deps, Relisted};
 use roc_sequence::Sequence;
 use roc_server_ancestors::NextRows;
 use std::alloc::Global;
@@ -34,12 +34,12 @@ pub(crate) struct More {
     pub rows: NextRows,
 }
 
-// What is followed then: lists that were made anew; or, where nothing is decided by it, those that are followed, less the entries of these,
-// which are left out in place.
+// What is followed then: lists that were made anew; or, where nothing is decided by it, those that are followed, with these in the places of
+// some.
 #[derive(Drop)]
 pub(crate) enum NextLinks {
     Anew(Deps),
-    Without(Vec<TxnId>),
+    With(Sequence<Relisted>),
 }
 
 // Of how many transactions rows are added.
@@ -120,6 +120,6 @@ fn follow(links: &mut Deps, next: NextLinks)
 {
     match next {
         NextLinks::Anew(made) => *links = made,
-        NextLinks::Without(ids) => links.leave_out(&ids),
+        NextLinks::With(rows) => links.relist(rows),
     }
 }

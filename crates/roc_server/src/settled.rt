@@ -248,9 +248,8 @@ fn settle_less(
     ensures { IfOk result (λ f. (id : Id) (mark : ℕ) → AreSettled kept.now id mark marks settled.items false → IsSettling kept.now id mark f) }
 {
     let rows = kept.ancestors.ready(&kept.links, &[])?;
-    let mut done = Vec::new(alloc);
-    done.extend_from_slice(&settled)?;
-    let links = NextLinks::Without(done);
+    let left = kept.links.left_out(&settled)?;
+    let links = NextLinks::With(left);
     Ok(Settling {
         marks,
         settled,

@@ -1,19 +1,19 @@
 -- What is followed behind a settled transaction, and what is kept beside it
-use Rattle.std.specs.Prelude.{◌≡◌, ◌≤◌, ◌++◌, ℕ, List, Some, None, length, map}
-use Rattle.roc_sequence.specs.Places.{is_listed, IsListed}
+use Rattle.std.specs.Prelude.{◌≡◌, ◌≤◌, ◌++◌, ℕ, List, Some, None, length}
+use Rattle.roc_sequence.specs.Places.{IsListed}
 use Rattle.roc_base.specs.declared.id.TxnId.{TxnId}
 use Rattle.roc_base.specs.declared.node.Shard.{Shard}
 use Rattle.roc_base.specs.TxnId.{is_txn}
 use Rattle.roc_depgraph.specs.declared.known.KnownList.{KnownList}
 use Rattle.roc_depgraph.specs.Closure.{IsRisingListOf}
+use Rattle.roc_depgraph.specs.Relisted.{relisted}
 use Rattle.roc_server_ancestors.specs.Least.{AreAllRight, AreRows, HeldRows}
 use Rattle.roc_server_lists.specs.Decided.{DecidedIds}
-use Rattle.roc_server_lists.specs.Links.{without_links}
 use Rattle.roc_server.specs.declared.behind.Behind.{Behind}
 use Rattle.roc_server.specs.declared.behind.Behind.TheVariants.{More as Adds, Left as Leaves}
 use Rattle.roc_server.specs.declared.behind.More.{More}
 use Rattle.roc_server.specs.declared.behind.NextLinks.{NextLinks}
-use Rattle.roc_server.specs.declared.behind.NextLinks.TheVariants.{Anew, Without}
+use Rattle.roc_server.specs.declared.behind.NextLinks.TheVariants.{Anew, With}
 use Rattle.roc_server.specs.declared.server_data.ServerData.{ServerData}
 use Rattle.roc_server.specs.Forgets.{forget}
 use Rattle.roc_server.specs.Inner.Left.{rows_behind, IsOver}
@@ -22,7 +22,7 @@ use Rattle.roc_server.specs.Inner.ServerData.{state_of, IsConsistent, IsRight}
 -- what is followed then, where this was
 abbrev pub followed_then : List KnownList → NextLinks → List KnownList
 followed_then known (Anew links) = links
-followed_then known (Without ids) = map (without_links (is_listed is_txn ids.items)) known
+followed_then known (With rows) = relisted rows known
 
 -- these are followed, right rows stay right, and these are right rows of what is newly decided
 pub record IsMore (known links : List KnownList) (m : More) : Type 0 where
