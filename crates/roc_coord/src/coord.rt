@@ -1,6 +1,6 @@
 //! A coordinator: submissions and the answers to its requests.
 ghost use Rattle.std.specs.Prelude.{◌≡◌, ◌<◌, ◌++◌, false, true, length, None, IfOk, OnOk, OnErr};
-ghost use Rattle.roc_msg.specs.Outbox.{HoldsSame, HasSent};
+ghost use Rattle.roc_msg.specs.Outbox.{HoldsSame, HasSent, KeepsRoom};
 ghost use Rattle.roc_plan.specs.Groups.{procedure_of, is_view_of};
 ghost use Rattle.roc_readonly.specs.Fits.{IsViewOf};
 ghost use Rattle.roc_readonly.specs.Round.{first_round, reads_of};
@@ -109,6 +109,7 @@ impl Coord {
         requires fits { CoordFits plan.now self.old }
         ensures step { IfOk result (λ answer. IsOutcome (after_message plan.now self.old msg.now) answer self.new outbox.old outbox.new) }
         ensures err { OnErr result ((self.new ≡ self.old) × HoldsSame outbox.old outbox.new) }
+        ensures room { OnOk result (KeepsRoom outbox.old outbox.new) }
         ensures fits { CoordFits plan.now self.new }
     {
         match self.take(plan, msg, outbox) {
@@ -228,6 +229,7 @@ impl Coord {
         requires fits { CoordFits plan.now self.old }
         ensures step { IfOk result (λ answer. IsOutcome (after_message plan.now self.old msg.now) answer self.new outbox.old outbox.new) }
         ensures err { OnErr result ((self.new ≡ self.old) × HoldsSame outbox.old outbox.new) }
+        ensures room { OnOk result (KeepsRoom outbox.old outbox.new) }
         ensures fits { CoordFits plan.now self.new }
     {
         match msg {

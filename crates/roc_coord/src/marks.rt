@@ -2,7 +2,7 @@
 ghost use Rattle.std.specs.Prelude.{◌≡◌, not, filter, map, OnOk, OnErr};
 ghost use Rattle.std.specs.List.{range_with_len};
 ghost use Rattle.roc_base.specs.TxnId.{is_txn};
-ghost use Rattle.roc_msg.specs.Outbox.{HoldsSame, HasSent};
+ghost use Rattle.roc_msg.specs.Outbox.{HoldsSame, HasSent, KeepsRoom};
 ghost use Rattle.roc_coord.specs.Marks.{least_seq};
 ghost use Rattle.roc_coord.specs.Inner.Rises.{ended_with, ended_by, rise_of, rise_sends};
 
@@ -97,6 +97,7 @@ pub(crate) fn send_rise(
 ) -> Result<(), NoMemory>
     ensures sent { OnOk result (HasSent outbox.old outbox.new (rise_sends plan.now rise)) }
     ensures err { OnErr result (HoldsSame outbox.old outbox.new) }
+    ensures room { OnOk result (KeepsRoom outbox.old outbox.new) }
 {
     if rise.old / MARK_STEP >= rise.new / MARK_STEP {
         return Ok(());

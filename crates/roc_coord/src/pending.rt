@@ -3,7 +3,7 @@ ghost use Rattle.std.specs.Prelude.{◌≡◌, List, not, filter, position, IfOk
 ghost use Rattle.std.specs.Option.{option_copied};
 ghost use Rattle.std.specs.List.{AllByRecursion};
 ghost use Rattle.roc_base.specs.TxnId.{is_txn, txn_lt};
-ghost use Rattle.roc_msg.specs.Outbox.{HoldsSame, HasSent};
+ghost use Rattle.roc_msg.specs.Outbox.{HoldsSame, HasSent, KeepsRoom};
 ghost use Rattle.roc_sequence.specs.Rising.{IsRising};
 ghost use Rattle.roc_readonly.specs.declared.view.View.{View};
 ghost use Rattle.roc_coord.specs.declared.ids.Ids.{Ids as GivenIds};
@@ -71,6 +71,7 @@ pub(crate) fn startok(
         → IsOutcome (after_startok plan.now (kept_state ids pending.old.items views) id (find_transaction id pending.old.items) ok shard)
         answer (kept_state ids pending.new.items views) outbox.old outbox.new) }
     ensures err { OnErr result ((pending.new.items ≡ pending.old.items) × HoldsSame outbox.old outbox.new) }
+    ensures room { OnOk result (KeepsRoom outbox.old outbox.new) }
     ensures kept { (ids : GivenIds) (views : List View) → AreKept ids pending.old.items views → AreKept ids pending.new.items views }
     ensures fits { AllByRecursion (IsTransactionOf plan.now) pending.new.items }
 {
@@ -101,6 +102,7 @@ pub(crate) fn commitok(
         → IsOutcome (after_commitok plan.now (kept_state ids.old pending.old.items views) id (find_transaction id pending.old.items) ok)
         answer (kept_state ids.new pending.new.items views) outbox.old outbox.new) }
     ensures err { OnErr result ((ids.new ≡ ids.old) × (pending.new.items ≡ pending.old.items) × HoldsSame outbox.old outbox.new) }
+    ensures room { OnOk result (KeepsRoom outbox.old outbox.new) }
     ensures kept { (views : List View) → AreKept ids.old pending.old.items views → AreKept ids.new pending.new.items views }
     ensures fits { AllByRecursion (IsTransactionOf plan.now) pending.new.items }
 {

@@ -1,7 +1,7 @@
 //! What an answer to one of a coordinator's requests does to its transaction.
 ghost use Rattle.std.specs.Prelude.{◌≡◌, ◌<◌, ◌++◌, length, take, IfOk, IfNone, OnOk, OnErr};
 ghost use Rattle.std.specs.Bool.{OnTrue};
-ghost use Rattle.roc_msg.specs.Outbox.{HoldsSame, HasSent};
+ghost use Rattle.roc_msg.specs.Outbox.{HoldsSame, HasSent, KeepsRoom};
 ghost use Rattle.roc_plan.specs.Groups.{groups_of};
 ghost use Rattle.roc_coord.specs.Fits.{IsTransactionOf};
 ghost use Rattle.roc_coord.specs.Starts.{bound_count, out_count, with_starts};
@@ -101,6 +101,7 @@ fn send_after_startok(
     ensures sent { OnOk result (HasSent outbox.old outbox.new (sends_after plan.now x.old)) }
     ensures more { OnErr result (HasMoreStarts x.old x.new) }
     ensures unsent { OnErr result (HoldsSame outbox.old outbox.new) }
+    ensures room { OnOk result (KeepsRoom outbox.old outbox.new) }
     ensures id { x.new.id ≡ x.old.id }
     ensures fits { IsTransactionOf plan.now x.new }
 {
@@ -130,6 +131,7 @@ pub(crate) fn take_startok(
     ensures kept { OnOk result (x.new ≡ with_commits plan.now (with_starts plan.now (with_startok x.old ok))) }
     ensures sent { OnOk result (HasSent outbox.old outbox.new (sends_after plan.now (with_startok x.old ok))) }
     ensures err { OnErr result ((x.new ≡ x.old) × HoldsSame outbox.old outbox.new) }
+    ensures room { OnOk result (KeepsRoom outbox.old outbox.new) }
     ensures id { x.new.id ≡ x.old.id }
     ensures fits { IsTransactionOf plan.now x.new }
 {
@@ -199,6 +201,7 @@ fn answer(
     ensures reply { IfOk result (λ reply. reply ≡ reply_of plan.now x.now) }
     ensures sent { OnOk result (HasSent outbox.old outbox.new (rise_sends plan.now rise)) }
     ensures err { OnErr result (HoldsSame outbox.old outbox.new) }
+    ensures room { OnOk result (KeepsRoom outbox.old outbox.new) }
 {
     let reply = reply_of(alloc, plan, x)?;
     send_rise(alloc, plan, rise, outbox)?;
@@ -220,6 +223,7 @@ pub(crate) fn take_commitok(
     ensures reply { IfOk result (λ reply. reply ≡ reply_now plan.now (with_commitok x.old ok)) }
     ensures sent { IfOk result (λ reply. HasSent outbox.old outbox.new (reply_sends plan.now rise reply)) }
     ensures err { OnErr result ((x.new ≡ x.old) × HoldsSame outbox.old outbox.new) }
+    ensures room { OnOk result (KeepsRoom outbox.old outbox.new) }
     ensures id { x.new.id ≡ x.old.id }
     ensures fits { IsTransactionOf plan.now x.new }
 {

@@ -3,7 +3,7 @@ ghost use Rattle.std.specs.Prelude.{◌≡◌, ℕ, List, not, filter, position,
 ghost use Rattle.std.specs.Option.{option_copied};
 ghost use Rattle.std.specs.List.{AllByRecursion};
 ghost use Rattle.roc_base.specs.TxnId.{is_txn, txn_lt};
-ghost use Rattle.roc_msg.specs.Outbox.{HoldsSame, HasSent};
+ghost use Rattle.roc_msg.specs.Outbox.{HoldsSame, HasSent, KeepsRoom};
 ghost use Rattle.roc_sequence.specs.Rising.{IsRising};
 ghost use Rattle.roc_readonly.specs.Fits.{IsViewOf};
 ghost use Rattle.roc_readonly.specs.Round.{round_of, with_readok};
@@ -68,6 +68,7 @@ fn send_after_readok(
     ensures reply { IfOk result (λ reply. reply ≡ round_reply (round_of plan.now v.old)) }
     ensures sent { OnOk result (HasSent outbox.old outbox.new (round_sends plan.now rise (round_of plan.now v.old) v.old)) }
     ensures err { OnErr result ((v.new ≡ v.old) × HoldsSame outbox.old outbox.new) }
+    ensures room { OnOk result (KeepsRoom outbox.old outbox.new) }
 {
     match v.round(alloc, plan)? {
         Round::Waits => Ok(None),
@@ -97,6 +98,7 @@ fn take_readok(
     ensures reply { IfOk result (λ reply. reply ≡ round_reply (round_of plan.now (with_readok v.old ok))) }
     ensures sent { OnOk result (HasSent outbox.old outbox.new (round_sends plan.now rise (round_of plan.now (with_readok v.old ok)) (with_readok v.old ok))) }
     ensures err { OnErr result ((v.new ≡ v.old) × HoldsSame outbox.old outbox.new) }
+    ensures room { OnOk result (KeepsRoom outbox.old outbox.new) }
     ensures id { v.new.id ≡ v.old.id }
     ensures fits { IsViewOf plan.now v.new }
 {
@@ -129,6 +131,7 @@ pub(crate) fn readok(
         → IsOutcome (after_readok plan.now (kept_state ids.old pending views.old.items) id (find_view id views.old.items) round ok shard)
         answer (kept_state ids.new pending views.new.items) outbox.old outbox.new) }
     ensures err { OnErr result ((ids.new ≡ ids.old) × (views.new.items ≡ views.old.items) × HoldsSame outbox.old outbox.new) }
+    ensures room { OnOk result (KeepsRoom outbox.old outbox.new) }
     ensures kept { (pending : List Transaction) → AreKept ids.old pending views.old.items → AreKept ids.new pending views.new.items }
     ensures fits { AllByRecursion (IsViewOf plan.now) views.new.items }
 {

@@ -1,5 +1,5 @@
 -- What an outbox holds, and what is added to it
-use Rattle.std.specs.Prelude.{◌≡◌, ◌++◌, ◌≤◌, ℕ, List, length}
+use Rattle.std.specs.Prelude.{◌≡◌, ◌++◌, ◌≤◌, ◌+◌, ℕ, List, length}
 use Rattle.roc_base.specs.declared.id.TxnId.{TxnId}
 use Rattle.roc_msg.specs.declared.outbox.Outgoing.{Outgoing}
 use Rattle.roc_msg.specs.declared.outbox.Ran.{Ran}
@@ -36,6 +36,10 @@ HasRun old new accesses = (new.messages ≡ old.messages) × (new.decided ≡ ol
 -- what another one holds stands behind, each in order
 abbrev pub HoldsAlso : (old new more : Collected) → Type 0
 HoldsAlso old new more = (new.messages ≡ old.messages ++ more.messages) × (new.decided ≡ old.decided ++ more.decided) × (new.ran ≡ old.ran ++ more.ran)
+
+-- what is sent and what more finds room are together no fewer: so room that was taken ahead for messages is lost to what is sent alone
+abbrev pub KeepsRoom : (old new : Collected) → Type 0
+KeepsRoom old new = length old.messages + old.room.messages ≤ length new.messages + new.room.messages
 
 -- there is room for all that another one holds
 abbrev pub HasRoomFor : (old more : Collected) → Type 0

@@ -1,6 +1,6 @@
 //! What a node gives in one event.
 ghost use Rattle.std.specs.Prelude.{◌≡◌, ◌∷◌, ◌+◌, ◌<◌, ◌≤◌, [], length, IsOk, OnOk, OnErr};
-ghost use Rattle.roc_msg.specs.Outbox.{HoldsSame, HoldsAlso, HasRoomFor, HasSent, HasDecided, HasRun};
+ghost use Rattle.roc_msg.specs.Outbox.{HoldsSame, HoldsAlso, KeepsRoom, HasRoomFor, HasSent, HasDecided, HasRun};
 
 use crate::Msg;
 use roc_base::{NoMemory, Node, TxnId};
@@ -151,6 +151,7 @@ impl Outbox {
         ensures ok { OnOk result (HoldsAlso self.old self.new more) }
         ensures err { OnErr result (HoldsSame self.old self.new) }
         ensures succeeds { HasRoomFor self.old more → IsOk result }
+        ensures room { OnOk result (KeepsRoom self.old self.new) }
     {
         let Outbox {
             mut messages,

@@ -1,6 +1,6 @@
 //! What a coordinator keeps of a view that has no reply yet, and what it does for it.
 ghost use Rattle.std.specs.Prelude.{◌≡◌, ◌<◌, ◌∷◌, IfOk, OnOk, OnErr, length};
-ghost use Rattle.roc_msg.specs.Outbox.{HoldsSame, HasSent};
+ghost use Rattle.roc_msg.specs.Outbox.{HoldsSame, HasSent, KeepsRoom};
 ghost use Rattle.roc_plan.specs.Groups.{groups_of};
 ghost use Rattle.roc_readonly.specs.Fits.{IsViewOf};
 ghost use Rattle.roc_readonly.specs.Round.{reads_of, reads_again, first_round, last_round, next_round, with_readok, is_fit_readok, readok_refusal, round_of};
@@ -158,6 +158,7 @@ impl View {
         ensures kept { OnOk result (self.new ≡ next_round self.old) }
         ensures sent { OnOk result (HasSent outbox.old outbox.new (reads_of plan.now (next_round self.old))) }
         ensures err { OnErr result ((self.new ≡ self.old) × HoldsSame outbox.old outbox.new) }
+        ensures room { OnOk result (KeepsRoom outbox.old outbox.new) }
     {
         let next = self.round + 1;
         let mut sends = Outbox::new(alloc);
