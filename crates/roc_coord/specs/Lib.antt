@@ -5,6 +5,7 @@ pub mod Fits
 pub mod Starts
 pub mod Commits
 pub mod Submit
+pub mod Renewed
 pub mod Step
 pub mod Tick
 pub mod Inner

@@ -1,13 +1,14 @@
 //! A coordinator: submissions and the answers to its requests.
 ghost use Rattle.std.specs.Prelude.{◌≡◌, ◌<◌, ◌++◌, false, true, length, None, IfOk, OnOk, OnErr};
 ghost use Rattle.roc_msg.specs.Outbox.{HoldsSame, HasSent, KeepsRoom};
-ghost use Rattle.roc_plan.specs.Groups.{procedure_of, is_view_of};
+ghost use Rattle.roc_plan.specs.Groups.{procedure_of, is_view_of, Plan as Accepted};
 ghost use Rattle.roc_readonly.specs.Fits.{IsViewOf};
 ghost use Rattle.roc_readonly.specs.Round.{first_round, reads_of};
 ghost use Rattle.roc_coord.specs.State.{first_coord};
 ghost use Rattle.roc_sequence.specs.Rising.{IsRising};
 ghost use Rattle.roc_base.specs.TxnId.{txn_lt};
 ghost use Rattle.roc_coord.specs.Fits.{IsTransactionOf, CoordFits};
+ghost use Rattle.roc_coord.specs.Renewed.{renewed_coord};
 ghost use Rattle.roc_coord.specs.Starts.{with_starts, starts_of};
 ghost use Rattle.roc_coord.specs.Submit.{after_submit, accepted, accepted_view, new_transaction, next_id, refusal_of, unstarted, IsSubmitted, UnlessNoMemory};
 ghost use Rattle.roc_coord.specs.Step.{after_message, IsOutcome};
@@ -141,6 +142,23 @@ impl Coord {
         ensures rising { IsRising txn_lt result.now }
     {
         self.ids.unanswered.as_slice()
+    }
+
+    /// The id that is given next. Takes no memory.
+    pub fn next_id(&self) -> TxnId
+        ensures { result ≡ next_id self.now }
+    {
+        next_id(&self.ids)
+    }
+
+    /// Keeps the number and the next sequence, and drops all else, so that any plan may be gone on with. Takes no memory.
+    pub fn renew(&mut self)
+        ensures state { self.new ≡ renewed_coord self.old }
+        ensures fits { (plan : Accepted) → CoordFits plan self.new }
+    {
+        self.ids.unanswered.clear();
+        self.pending.clear();
+        self.views.clear();
     }
 
     // Why a submission is refused, if it is.

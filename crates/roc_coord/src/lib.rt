@@ -11,8 +11,9 @@
 //! The layers above may rely on this: a refused submission and an ignored message change nothing and send nothing; a
 //! tick changes nothing; want of memory leaves the coordinator and the outbox as they were, but for their room, so that
 //! the same call may be made again; and what it holds stays of the plan that it is called with (`CoordFits`,
-//! `specs/Fits.antt`). [`Coord::unanswered`] lists the ids without a reply, of transactions and views, rising. `specs/Inner/` is of this
-//! crate alone.
+//! `specs/Fits.antt`). [`Coord::unanswered`] lists the ids without a reply, of transactions and views, rising; [`Coord::next_id`] is
+//! the id that is given next; and [`Coord::renew`] keeps that and drops all else (`specs/Renewed.antt`). While a coordinator handles a message,
+//! room that was taken ahead in the outbox is lost to messages alone (`KeepsRoom` of `roc_msg`). `specs/Inner/` is of this crate alone.
 #![tactic(auto)]
 
 mod again;
