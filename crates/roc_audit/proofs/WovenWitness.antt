@@ -20,8 +20,7 @@ use Rattle.roc_whole.proofs.SerialRuns.{serial_answers-append}
 use Rattle.roc_audit.specs.declared.entry.Entry.{Entry}
 use Rattle.roc_audit.specs.declared.entry.Entry.TheVariants.{Submitted, Answered}
 use Rattle.roc_audit.specs.History.{WasSubmitted, WasAnswered, IsAnsweredBefore}
-use Rattle.roc_audit.specs.Witness.{submitted_call, submitted_calls, reply_in}
-use Rattle.roc_audit.specs.WitnessFrom.{serial_reply_from, IsSerialWitnessFrom}
+use Rattle.roc_audit.specs.Witness.{submitted_call, submitted_calls, reply_in, serial_reply_from, IsSerialWitnessFrom}
 use Rattle.roc_audit.proofs.Histories.{call_of-id, calls_of-append, calls_of-listed, answered_by_before}
 use Rattle.roc_audit.proofs.Replies.{reply_in-none, reply_in-behind}
 use Rattle.roc_audit.specs.Woven.{Look, look_ids, woven, entry_id, without_views, LeaveTheStore, store_seen, AreLooks}

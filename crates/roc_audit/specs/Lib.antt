@@ -1,6 +1,5 @@
 pub mod History
 pub mod Order
 pub mod Witness
-pub mod WitnessFrom
 pub mod Woven
 pub mod Inner

@@ -4,7 +4,7 @@ ghost use Rattle.roc_base.specs.declared.id.TxnId.{TxnId};
 ghost use Rattle.roc_program.specs.Program.{Workload};
 ghost use Rattle.roc_rows.specs.Store.{Store};
 ghost use Rattle.roc_audit.specs.declared.entry.Entry.{Entry};
-ghost use Rattle.roc_audit.specs.WitnessFrom.{IsSerialWitnessFrom};
+ghost use Rattle.roc_audit.specs.Witness.{IsSerialWitnessFrom};
 ghost use Rattle.roc_audit.specs.Woven.{Look, woven, without_views, LeaveTheStore, AreLooks};
 
 /// A serial witness stays one with views put in: if an order explains what a history tells of the other transactions, and each view stands

@@ -15,7 +15,7 @@ use Rattle.roc_whole.specs.Serial.{Answer, start_store, serial_run}
 use Rattle.roc_audit.specs.declared.entry.Entry.{Entry}
 use Rattle.roc_audit.specs.declared.entry.Entry.TheVariants.{Submitted, Answered}
 use Rattle.roc_audit.specs.History.{WasAnswered}
-use Rattle.roc_audit.specs.Witness.{IsSerialWitness, reply_in, serial_reply, submitted_calls}
+use Rattle.roc_audit.specs.Witness.{submitted_calls, reply_in, serial_reply_from, IsSerialWitness}
 use Rattle.roc_audit.proofs.Histories.{calls_of-listed}
 use Rattle.roc_audit.proofs.Replies.{reply_in-none}
 use Rattle.roc_audit_witness.specs.Inner.Tests.{repeats_none, submits, stands_behind, answer_of, is_answer_right, is_reply}
@@ -36,7 +36,7 @@ module _ (program : Workload) (history : List Entry) (order : List TxnId) (repli
   answers = serial_run program (submitted_calls history order)
 
   abbrev AreReplies : Type 0
-  AreReplies = (t : TxnId) (reply : List ℤ) → WasAnswered history t reply → serial_reply program history order t ≡ Some reply
+  AreReplies = (t : TxnId) (reply : List ℤ) → WasAnswered history t reply → serial_reply_from program (start_store program) history order t ≡ Some reply
 
   reply_is : (t : TxnId) → reply_in t answers ≡ option_map (λ r. r.reply) (find (λ r. is_txn r.id t) replies)
   reply_is t = ap (reply_in t) (sym ran) ∙ reply_found t replies

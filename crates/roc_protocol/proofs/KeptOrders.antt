@@ -15,7 +15,7 @@ use Rattle.roc_law_log.specs.Kept.{KeepsRan}
 use Rattle.roc_server.specs.State.{ServerState}
 use Rattle.roc_audit.specs.History.{WasAnswered, IsAnsweredBefore}
 use Rattle.roc_protocol.specs.Aside.{after_transaction}
-use Rattle.roc_audit.specs.WitnessFrom.{serial_reply_from, IsSerialWitnessFrom}
+use Rattle.roc_audit.specs.Witness.{serial_reply_from, IsSerialWitnessFrom}
 use Rattle.roc_protocol.specs.declared.event.Event.{Event}
 use Rattle.roc_protocol.specs.declared.event.Event.TheVariants.{Submit, Deliver, Tick}
 use Rattle.roc_protocol.specs.PlanAssumptions.{HasSchemesFrom}

@@ -22,12 +22,11 @@ use Rattle.roc_server.specs.State.{ServerState}
 use Rattle.roc_coord.specs.Step.{after_message}
 use Rattle.roc_audit.specs.declared.entry.Entry.{Entry}
 use Rattle.roc_audit.specs.declared.entry.Entry.TheVariants.{Submitted}
-use Rattle.roc_audit.specs.Witness.{submitted_call, submitted_calls}
+use Rattle.roc_audit.specs.Witness.{submitted_call, submitted_calls, IsSerialWitnessFrom}
 use Rattle.roc_audit.proofs.Histories.{call_of-append, call_of-submitted}
 use Rattle.roc_protocol.specs.declared.event.Event.{Event}
 use Rattle.roc_protocol.specs.declared.event.Event.TheVariants.{Submit, Deliver, Tick}
 use Rattle.roc_protocol.specs.Beginnings.{Beginning}
-use Rattle.roc_audit.specs.WitnessFrom.{IsSerialWitnessFrom}
 use Rattle.roc_protocol.specs.World.{World, mark_delivered}
 use Rattle.roc_protocol.specs.Happens.{Outcome, IsReceived, answer_entries}
 use Rattle.roc_protocol.specs.Run.{Stepped}

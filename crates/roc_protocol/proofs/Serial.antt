@@ -7,15 +7,11 @@ use Rattle.roc_sequence.specs.Places.{IsListed}
 use Rattle.roc_base.specs.declared.id.TxnId.{TxnId}
 use Rattle.roc_plan.specs.Groups.{Plan, is_transaction}
 use Rattle.roc_whole.specs.Serial as whole
-use Rattle.roc_whole.specs.Serial.{start_store}
-use Rattle.roc_program.specs.Program.{Workload}
 use Rattle.roc_law_log.specs.Scheme.{Scheme, IsSoundScheme}
 use Rattle.roc_law_log.specs.Log.{Log}
-use Rattle.roc_audit.specs.declared.entry.Entry.{Entry}
 use Rattle.roc_audit.specs.declared.entry.Entry.TheVariants.{Submitted}
 use Rattle.roc_audit.specs.History.{WasSubmitted}
-use Rattle.roc_audit.specs.Witness.{submitted_call, IsSerialWitness}
-use Rattle.roc_audit.specs.WitnessFrom.{IsSerialWitnessFrom}
+use Rattle.roc_audit.specs.Witness.{submitted_call, IsSerialWitnessFrom}
 use Rattle.roc_audit.proofs.Histories.{call_of-is, call_of-id, call_of-from}
 use Rattle.roc_base.specs.Equalities.{is_txn-true}
 use Rattle.roc_base.specs.TxnId.{is_txn}
@@ -150,7 +146,3 @@ order_serial plan start begins schemes laws serials stores coords steps w run = 
   | inl some ↦ serial plan start begins schemes laws stores coords steps w run some serials
   | inr none ↦ idle_serial plan start w (run_idle plan none start begins coords steps w run)
 ]
-
--- from a workload's own start it is a serial witness
-pub plain_witness : (program : Workload) (history : List Entry) (order : List TxnId) → IsSerialWitnessFrom program (start_store program) history order → IsSerialWitness program history order
-plain_witness program history order o = record { once = o.once; submitted = o.submitted; answered = o.answered; replies = o.replies; real_time = o.real_time }

@@ -28,7 +28,7 @@ ghost use Rattle.roc_protocol.specs.Happens.{Outcome, Happens};
 ghost use Rattle.roc_plan.specs.Groups.{Plan, shard_of};
 ghost use Rattle.roc_audit.specs.declared.entry.Entry.TheVariants as entry;
 ghost use Rattle.roc_audit.specs.History.{WasSubmitted, WasAnswered, IsAnsweredBefore, IsToldOnce};
-ghost use Rattle.roc_audit.specs.Witness.{submitted_calls};
+ghost use Rattle.roc_audit.specs.Witness.{submitted_calls, serial_reply_from, IsSerialWitnessFrom};
 ghost use Rattle.roc_rows.specs.declared.cell.Cell.{Cell};
 ghost use Rattle.roc_rows.specs.Store.{read};
 ghost use Rattle.roc_whole.specs.Serial.{serial_store};
@@ -38,7 +38,6 @@ ghost use Rattle.roc_protocol.specs.Forgotten.{HasStartedOn, IsSettledIn, IsTake
 ghost use Rattle.roc_protocol.specs.Quiet.{IsQuiet};
 ghost use Rattle.roc_protocol.specs.World.{World};
 ghost use Rattle.roc_protocol.specs.Beginnings.{Beginning, IsBeginning, first_beginning, left_by};
-ghost use Rattle.roc_audit.specs.WitnessFrom.{serial_reply_from, IsSerialWitnessFrom};
 ghost use Rattle.roc_protocol.specs.Run.{Stepped};
 ghost use Rattle.roc_protocol.specs.Beside.{Moves, IsRunBeside};
 ghost use Rattle.roc_protocol.specs.PlanAssumptions.{HasSchemesFrom};

@@ -3,7 +3,7 @@
 //!
 //! `specs/World.antt` has the world: servers, coordinators, every message ever sent, the history and the serial order.
 //! `specs/Happens.antt` has what comes of an event: one event changes one node, by that node's own step.
-//! `specs/Run.antt` has steps, `specs/Beginnings.antt` where a run may begin, `specs/WitnessFrom.antt` of `roc_audit` orders that explain a history from there
+//! `specs/Run.antt` has steps, `specs/Beginnings.antt` where a run may begin, `specs/Witness.antt` of `roc_audit` orders that explain a history from there
 //! on. `specs/Aside.antt` has what a coordinator does aside of transactions, where it uses a sequence for a view, reads for one or answers it: of
 //! views this world has no more. `specs/Beside.antt` has runs in which coordinators do such things between events: a crate above projects its
 //! runs to these. `specs/Fits.antt` has worlds that fit a plan, `specs/Final.antt` lists as startoks make them,

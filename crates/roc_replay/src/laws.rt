@@ -21,10 +21,9 @@ use roc_sched::laws::{lines_are_unique, lines_fit, texts_are_right_or_wrong};
 use roc_views::beginnings::{
     cells_are_in_their_place, cells_are_serial, first_worlds_begin, ids_are_told_once,
     nothing_is_refused, quiet_transactions_are_answered, quiet_views_are_answered,
-    submissions_are_kept,
+    submissions_are_kept, witness_is_serial, worlds_fit,
 };
-use roc_views::laws::witness_is_serial;
-use roc_views::worlds::{events_have_outcomes, step_is_one, worlds_fit};
+use roc_views::worlds::{events_have_outcomes, step_is_one};
 
 /// The report of every run of an accepted plan explains itself: its one `order` line is a serial witness of the history
 /// that its own `submit` and `answer` lines show, of transactions and views, and it shows an answer for each submitted transaction of which, and of

@@ -16,7 +16,7 @@ use Rattle.roc_law_orders.specs.Orders.{one_by_one}
 use Rattle.roc_law_log.specs.Scheme.{Scheme, IsSoundScheme}
 use Rattle.roc_audit.specs.declared.entry.Entry.{Entry}
 use Rattle.roc_audit.specs.declared.entry.Entry.TheVariants.{Submitted, Answered}
-use Rattle.roc_audit.specs.WitnessFrom.{IsSerialWitnessFrom}
+use Rattle.roc_audit.specs.Witness.{IsSerialWitnessFrom}
 use Rattle.roc_audit.specs.Woven.{Look, entry_id, without_views, AreLooks}
 use Rattle.roc_protocol.specs.PlanAssumptions.{IsSchemeOf}
 use Rattle.roc_protocol.proofs.Transactions.{NoTransaction}

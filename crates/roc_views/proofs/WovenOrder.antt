@@ -15,8 +15,7 @@ use Rattle.roc_law_log.proofs.Following.{AreFound}
 use Rattle.roc_audit.specs.declared.entry.Entry.{Entry}
 use Rattle.roc_audit.specs.declared.entry.Entry.TheVariants.{Submitted}
 use Rattle.roc_audit.specs.History.{WasAnswered}
-use Rattle.roc_audit.specs.Witness.{submitted_call, submitted_calls}
-use Rattle.roc_audit.specs.WitnessFrom.{IsSerialWitnessFrom}
+use Rattle.roc_audit.specs.Witness.{submitted_call, submitted_calls, IsSerialWitnessFrom}
 use Rattle.roc_audit.specs.Woven.{Look, store_seen, entry_id, without_views, LeaveTheStore, AreLooks}
 use Rattle.roc_audit.proofs.Histories.{call_of-is}
 use Rattle.roc_protocol.specs.PlanAssumptions.{IsSchemeOf, HasSchemesFrom}

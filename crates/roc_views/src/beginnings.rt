@@ -19,8 +19,7 @@ ghost use Rattle.roc_server.specs.declared.started.StartedGroup.{StartedGroup};
 ghost use Rattle.roc_coord.specs.State.{CoordState};
 ghost use Rattle.roc_audit.specs.declared.entry.Entry.TheVariants.{Submitted, Answered};
 ghost use Rattle.roc_audit.specs.History.{WasSubmitted, WasAnswered, IsToldOnce};
-ghost use Rattle.roc_audit.specs.Witness.{submitted_calls};
-ghost use Rattle.roc_audit.specs.WitnessFrom.{IsSerialWitnessFrom};
+ghost use Rattle.roc_audit.specs.Witness.{submitted_calls, IsSerialWitnessFrom};
 ghost use Rattle.roc_audit.specs.Woven.{Look, without_views, LeaveTheStore, AreLooks};
 ghost use Rattle.roc_protocol.specs.declared.event.Event.{Event};
 ghost use Rattle.roc_protocol.specs.declared.event.Event.TheVariants as event;
@@ -30,7 +29,7 @@ ghost use Rattle.roc_views.specs.World.{World, Beginning, first_beginning, begun
 ghost use Rattle.roc_views.specs.Beginnings.{IsViewBeginning};
 ghost use Rattle.roc_views.specs.Fits.{FitsWorld};
 ghost use Rattle.roc_views.specs.Happens.{Outcome, Happens};
-ghost use Rattle.roc_views.specs.Run.{Stepped, IsRunFrom, MayHappenFrom};
+ghost use Rattle.roc_views.specs.Run.{Stepped, Transition, IsRunFrom, MayHappenFrom};
 ghost use Rattle.roc_views.specs.Beside.{TellsViews};
 ghost use Rattle.roc_views.specs.Quiet.{AreDelivered, IsQuiet, IsInLastRound};
 ghost use Rattle.roc_views.specs.Witness.{shown, witness_of};
@@ -89,7 +88,8 @@ pub fn views_read_a_prefix()
     ensures { (plan : Plan) (b : Beginning) (coords : ℕ) (steps : List Stepped) (w : World) → IsAccepted plan → IsViewBeginning plan b → IsRunFrom plan b coords steps w
         → (v : TxnId) (proc : ℕ) (args : List ℤ) → Has (Submitted v proc args) w.history → is_view_of plan proc ≡ true → (reply : List ℤ) → WasAnswered w.history v reply
         → (behind : ℕ) × (behind ≤ length w.order)
-        × (reply ≡ (run_of plan.program (serial_store plan.program b.of_transactions.store (submitted_calls w.history (take behind w.order))) (record { id = v; procedure = proc; arguments = args })).reply) }
+        × (reply ≡ (run_of plan.program (serial_store plan.program b.of_transactions.store (submitted_calls w.history (take behind w.order)))
+        (record { id = v; procedure = proc; arguments = args })).reply) }
 {
     looks_fit();
 }
@@ -192,9 +192,10 @@ pub fn run_is_one()
     read_step_is_one();
 }
 
-/// The world of a beginning fits a plan with some shard, and so does each world of a run.
+/// The world of a beginning fits a plan with some shard, what comes of an event in a world that fits is one that does, and so each world of a run fits.
 pub fn worlds_fit()
     ensures first { (plan : Plan) (b : Beginning) (coords : ℕ) → 0 < plan.program.shards → FitsWorld plan (begun_world plan b coords) }
+    ensures kept { (plan : Plan) (w : World) (e : Option Event) (o : Outcome) → FitsWorld plan w → Transition plan w e o → FitsWorld plan o.world }
     ensures runs { (plan : Plan) (b : Beginning) (coords : ℕ) (steps : List Stepped) (w : World) → 0 < plan.program.shards → IsRunFrom plan b coords steps w → FitsWorld plan w }
 {}
 

@@ -11,13 +11,12 @@ ghost use Rattle.roc_coord.specs.Submit.{most_transactions, most_pending};
 ghost use Rattle.roc_protocol.specs.declared.event.Event.{Event};
 ghost use Rattle.roc_protocol.specs.declared.event.Event.TheVariants as event;
 ghost use Rattle.roc_protocol.specs.declared.event.Seen.TheVariants as seen;
-ghost use Rattle.roc_views.specs.World.{World, first_world};
+ghost use Rattle.roc_views.specs.World.{World};
 ghost use Rattle.roc_views.specs.Fits.{FitsWorld};
 ghost use Rattle.roc_views.specs.Happens.{Outcome, Happens};
 ghost use Rattle.roc_views.specs.Run.{Stepped, Transition, IsRun, IsEventOf};
 ghost use Rattle.roc_views.specs.Quiet.{IsQuiet};
 
-use crate::beginnings::worlds_fit as worlds_fit_from;
 use roc_component::laws::{order_exists, order_is_one};
 use roc_law_plans::laws::the_smallest_is_accepted;
 use roc_server::laws::{read_step_is_one, step_is_one as server_step_is_one};
@@ -46,16 +45,6 @@ pub fn submissions_are_taken()
         → Happens plan w (event.Submit coord proc args) o
         → c.next < most_transactions → length c.unanswered < most_pending → o.seen ≡ seen.Submitted (record { coord = c.number; seq = c.next }) }
 {}
-
-/// The first world of a plan with some shard fits the plan, what comes of an event in a world that fits is one that does, and so each
-/// world of a run fits.
-pub fn worlds_fit()
-    ensures first { (plan : Plan) (coords : ℕ) → 0 < plan.program.shards → FitsWorld plan (first_world plan coords) }
-    ensures kept { (plan : Plan) (w : World) (e : Option Event) (o : Outcome) → FitsWorld plan w → Transition plan w e o → FitsWorld plan o.world }
-    ensures runs { (plan : Plan) (coords : ℕ) (steps : List Stepped) (w : World) → 0 < plan.program.shards → IsRun plan coords steps w → FitsWorld plan w }
-{
-    worlds_fit_from();
-}
 
 /// Whatever may happen has an outcome, and it leads to a world that fits the plan too. And nothing else has.
 pub fn events_have_outcomes()

@@ -22,7 +22,7 @@ use roc_msg::Envelope;
 use roc_plan::Plan;
 use roc_rows::Cell;
 use roc_sequence::Sequence;
-use roc_views::worlds::worlds_fit;
+use roc_views::beginnings::worlds_fit;
 use std::alloc::Global;
 use std::marker::Model;
 

@@ -21,7 +21,7 @@ placed plan ok (negsuc a) = below plan.program.shards (a % plan.program.shards) 
 pub returns-clause-explained : goal.returns-clause-explained
 returns-clause-explained c plan coords steps w accepted run =
     let answered = all_answered steps w in
-    explained plan coords steps w (c.witness_is_serial.ensures plan coords steps w accepted run) (c.quiet_transactions_are_answered.ensures.answered plan (first_beginning plan) coords steps w accepted (c.first_worlds_begin.ensures plan) run)
+    explained plan coords steps w (c.witness_is_serial.ensures plan (first_beginning plan) coords steps w accepted (c.first_worlds_begin.ensures plan) run) (c.quiet_transactions_are_answered.ensures.answered plan (first_beginning plan) coords steps w accepted (c.first_worlds_begin.ensures plan) run)
     (λ none.
     shown_cells plan w
     (c.cells_are_in_their_place.ensures.servers plan (first_beginning plan) coords steps w run)

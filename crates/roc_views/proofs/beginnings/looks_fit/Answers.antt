@@ -11,7 +11,7 @@ use Rattle.roc_law_log.specs.Scheme.{Scheme, IsSoundScheme}
 use Rattle.roc_protocol.specs.PlanAssumptions.{HasSchemesFrom}
 use Rattle.roc_protocol.specs.Inner.Given.{LogLaws, SerialLaws, StoreLaws}
 use Rattle.roc_law_log.proofs.Following.{AreFound}
-use Rattle.roc_audit.specs.WitnessFrom.{IsSerialWitnessFrom}
+use Rattle.roc_audit.specs.Witness.{IsSerialWitnessFrom}
 use Rattle.roc_audit.specs.Woven.{without_views}
 use Rattle.roc_protocol.proofs.Serial.{call_in}
 use Rattle.roc_protocol.proofs.Transactions.{transaction_or_none}

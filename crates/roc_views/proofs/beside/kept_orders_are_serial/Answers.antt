@@ -6,8 +6,7 @@ use Rattle.roc_base.specs.TxnId.{is_txn}
 use Rattle.roc_base.specs.Equalities.{is_txn-true, is_txn-same}
 use Rattle.roc_whole.specs.Serial.{serial_answers}
 use Rattle.roc_audit.specs.History.{WasSubmitted, IsAnsweredBefore}
-use Rattle.roc_audit.specs.Witness.{submitted_calls, reply_in}
-use Rattle.roc_audit.specs.WitnessFrom.{IsSerialWitnessFrom}
+use Rattle.roc_audit.specs.Witness.{submitted_calls, reply_in, IsSerialWitnessFrom}
 use Rattle.roc_views.specs.Bare.{bare, bare_steps}
 use Rattle.roc_views.proofs.Carried.{ran_alike, keeps_too, answered_there}
 use Rattle.roc_views.proofs.LooksLeave.{same_calls}

@@ -1,6 +1,7 @@
 use Rattle.std.proofs.Common.{◌<◌, ◌∙◌, map, ap, subst}
 use Rattle.std.specs.List.{range_with_len}
 use Rattle.roc_program.specs.Program.{Workload}
+use Rattle.roc_views.specs.World.{first_beginning}
 use Rattle.roc_world.proofs.FirstNodes.{first_idle, is_first}
 use Rattle.roc_world.proofs.WorldsFit.{first_fits}
 use Rattle.roc_world.proofs.world.World.new.Goals as goal
@@ -20,5 +21,5 @@ returns-clause-first c =
 
 pub returns-clause-fits : goal.returns-clause-fits
 returns-clause-fits c =
-    first_fits c.args.plan.now c.args.coords _ (c.worlds_fit.ensures.first c.args.plan.now c.args.coords (subst (λ (p : Workload). 0 < p.shards) c.workload.ensures.program c.shards.ensures.well_formed.some_shard))
+    first_fits c.args.plan.now c.args.coords _ (c.worlds_fit.ensures.first c.args.plan.now (first_beginning c.args.plan.now) c.args.coords (subst (λ (p : Workload). 0 < p.shards) c.workload.ensures.program c.shards.ensures.well_formed.some_shard))
     (returns-clause-first c)
