@@ -82,7 +82,7 @@ module _ (call : RunCall) where
       → ((summary : Summary) (h : IsReplayed plan bytes summary call.out.old call.out.new) → IsReadInOneWay plan.program h.lines)
       → ReplayEnds plan bytes asked.schedule call.out.old call.out.new result → Ends call result
   replay_ends plan bytes (Ok done) asked reads (summary, h) =
-      inl (record { plan = plan; bytes = bytes; asked = asked; lines = h.lines; taken = h.taken; explained = h.explained; read = reads summary h; run = h.run })
+      inl (record { plan = plan; bytes = bytes; asked = asked; lines = h.lines; taken = h.taken; explained = h.explained; read = reads summary h; run = h.run; answers = h.answers })
   replay_ends plan bytes (Err (At file line what)) asked reads (e, (w, g, h)) =
       line_known file.now asked.schedule line line what.now (schedule_text w) e refl g (bad_schedule plan bytes asked line w h)
   replay_ends plan bytes (Err Memory) asked reads h = with_lines plan bytes asked h

@@ -15,7 +15,7 @@ use Rattle.roc_generate.specs.ScheduleText.{generated_schedule}
 use Rattle.roc_generate.specs.SummaryText.{load_summary_text}
 use Rattle.roc_replay.specs.declared.ended.Summary.{Summary}
 use Rattle.roc_replay.specs.Readback.{IsExplained}
-use Rattle.roc_replay.specs.Ended.{IsReportOf, IsReplayed}
+use Rattle.roc_replay.specs.Ended.{IsReportOf, AnswersWhatIsQuiet, IsReplayed}
 use Rattle.roc_cli_words.specs.declared.value.Part.{Part}
 use Rattle.roc_cli_words.specs.declared.value.Part.TheVariants as part
 use Rattle.roc_cli_nodes.specs.Call.{RunCall}
@@ -35,8 +35,8 @@ pub record IsReplayOf (call : RunCall) (plan : Plan) (bytes : List ℕ) : Type 0
   pub size : length bytes ≤ most_bytes
 
 -- standard output took the text of lines that explain themselves: the one order that they show is a serial witness of the history that they show;
--- whoever reads that text as a report's lines reads these; and they are the report of the run of exactly the named schedule, under the plan of
--- exactly the named workload
+-- whoever reads that text as a report's lines reads these; they are the report of the run of exactly the named schedule, under the plan of
+-- exactly the named workload; and they show the answer of each submitted transaction or view that is quiet in that run
 pub record Replays (call : RunCall) : Type 0 where
   pub plan : Plan
   pub bytes : List ℕ
@@ -46,6 +46,7 @@ pub record Replays (call : RunCall) : Type 0 where
   pub explained : IsExplained plan.program lines
   pub read : IsReadInOneWay plan.program lines
   pub run : IsReportOf plan bytes lines
+  pub answers : AnswersWhatIsQuiet plan run.steps run.world lines
 
 -- ---- print
 
