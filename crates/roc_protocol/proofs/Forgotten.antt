@@ -1,5 +1,5 @@
 -- What is forgotten was answered, in every run
-use Rattle.std.proofs.Common.{◌≡◌, ◌<◌, ◌-◌, ℕ, ℤ, true, false, List, [], ◌++◌, Some, subst, ◌∙◌, inl, inr, arith}
+use Rattle.std.proofs.Common.{◌≡◌, ◌<◌, ◌-◌, ℕ, ℤ, true, false, List, [], ◌++◌, Some, None, sym, subst, ◌∙◌, inl, inr, arith}
 use Rattle.std.proofs.lemmas.Bool.{false≢true}
 use Rattle.std.specs.Prelude.{slice_get, ◌↔◌}
 use Rattle.roc_sequence.specs.Lists.{Has}
@@ -12,12 +12,13 @@ use Rattle.roc_base.specs.TxnId.{is_txn}
 use Rattle.roc_base.specs.Edge.{Dependency}
 use Rattle.roc_depgraph.specs.declared.known.KnownList.{KnownList}
 use Rattle.roc_depgraph.specs.Deps.{entries_of, IsDecided}
-use Rattle.roc_msg.specs.declared.msg.Msg.TheVariants.{Fetch, Settled}
+use Rattle.roc_msg.specs.declared.msg.Msg.{Msg}
+use Rattle.roc_msg.specs.declared.msg.Msg.TheVariants.{StartOk, Fetch, Settled}
 use Rattle.roc_msg.specs.declared.msg.Envelope.{Envelope}
 use Rattle.roc_plan.specs.Groups.{Plan}
 use Rattle.roc_law_log.specs.Scheme.{Scheme, IsSoundScheme}
 use Rattle.roc_server.specs.Forgets.{is_over}
-use Rattle.roc_server.specs.State.{is_here, ServerState}
+use Rattle.roc_server.specs.State.{is_here, find_group, ServerState}
 use Rattle.roc_audit.specs.History.{WasAnswered}
 use Rattle.roc_protocol.specs.declared.event.Event.TheVariants.{Deliver}
 use Rattle.roc_protocol.specs.PlanAssumptions.{HasSchemesFrom}
@@ -35,7 +36,8 @@ use Rattle.roc_protocol.proofs.Finals.{networked}
 use Rattle.roc_protocol.proofs.Earlier.{taken_ordered}
 use Rattle.roc_protocol.proofs.Answered.{IsUsedAside, other_aside}
 use Rattle.roc_protocol.proofs.FirstTaken.{last_step}
-use Rattle.roc_protocol.proofs.WhatIsOver.{decided_is_kept, over_is_gone, fetch_is_answered, done_is_settled, sent_settled}
+use Rattle.roc_protocol.proofs.Means.{Means}
+use Rattle.roc_protocol.proofs.WhatIsOver.{decided_is_kept, over_is_gone, vanished_over, fetch_is_answered, done_is_settled, sent_settled}
 use Rattle.roc_protocol.proofs.Idle.{run_idle, idle_mark}
 use Rattle.roc_protocol.proofs.Serial as serial
 use Rattle.roc_protocol.proofs.Transactions.{transaction_or_none, HasTransaction, NoTransaction}
@@ -82,6 +84,18 @@ module _ (plan : Plan) (start : Beginning) (begins : IsBeginning plan start) (sc
               (subst (λ (m : Envelope). IsReceived plan (mark_delivered w k) m.msg m.to o) same h) on)
           | inr none ↦ absurd (subst IsMark is (idle_mark plan start w (run_idle plan none start begins coords steps w run) m has))
         ]
+
+    pub vanished : (m : Envelope) → Has m w.sent → (t : TxnId) (g : ℕ) (bound outs : List ℤ) (edges : List Dependency) (facts : List KnownList) → m.msg ≡ StartOk t g shard bound outs edges facts
+        → find_group t g s.started ≡ None → (is_here t s.started ≡ false) × IsSettledIn w t × ((c : List TxnId) × IsFirstTaken steps shard t c × (is_over s.below c ≡ true))
+    vanished m has t g bound outs edges facts is none = elim (transaction_or_none plan) [
+      | inl some ↦
+          (let x = serial.logged plan start begins schemes laws stores coords steps w run some in
+          let S = serial.S plan start begins schemes laws stores coords steps w run some in
+          let asked = serial.asked plan start begins schemes laws stores coords steps w run some in
+          let told = subst (λ (msg : Msg). Means plan asked S start x.0 msg m.to) is (x.1.means.messages m has) in
+          vanished_over plan asked S start x.0 w x.1.means steps x.3 shard s there t g told.0.began (sym told.1) none)
+      | inr idle ↦ absurd (subst IsMark is (idle_mark plan start w (run_idle plan idle start begins coords steps w run) m has))
+    ]
 
     pub done : (k : KnownList) (d : Dependency) → Has k s.lists.known → Has d k.edges → ¬ Has d (entries_of s.lists.links k.of) → IsSettledIn w d.from
     done k d has h none = elim (transaction_or_none plan) [

@@ -25,7 +25,7 @@ use Rattle.roc_law_log.specs.Log.{Log, PrecedesTxn, PrecedesGroup}
 use Rattle.roc_law_log.specs.Settled.{IsSettled}
 use Rattle.roc_server.specs.Below.{is_ended, mark_of}
 use Rattle.roc_server.specs.Forgets.{is_over}
-use Rattle.roc_server.specs.State.{answered, ignored, is_here, ServerState, ServerStep}
+use Rattle.roc_server.specs.State.{answered, ignored, is_here, find_group, ServerState, ServerStep}
 use Rattle.roc_msg.specs.declared.reason.Reason.TheVariants.{NotHere}
 use Rattle.roc_server_lists.specs.Carried.{list_with}
 use Rattle.roc_server_lists.specs.Asking.{known_to}
@@ -37,7 +37,7 @@ use Rattle.roc_protocol.specs.Happens.{Outcome, IsReceived}
 use Rattle.roc_protocol.specs.Quiet.{PrecedesIn}
 use Rattle.roc_protocol.specs.Run.{Stepped}
 use Rattle.roc_protocol.specs.Forgotten.{IsSettledIn, IsFirstTaken, IsLastTaken}
-use Rattle.roc_protocol.proofs.Means.{IsOther, run_of, HasBegun, Means, ServerMeans, WorldMeans}
+use Rattle.roc_protocol.proofs.Means.{IsOther, run_of, place, Began, HasBegun, Means, ServerMeans, WorldMeans}
 use Rattle.roc_protocol.proofs.Followed.{entry_followed}
 use Rattle.roc_protocol.proofs.FirstTaken.{last_step}
 use Rattle.roc_protocol.proofs.KeptRuns.{KeptHere, AreKeptIn}
@@ -131,6 +131,17 @@ module _ (plan : Plan) (asked : TxnId → whole.Call) (S : Scheme) (start : Begi
           (not_from_false (is_here t s.started) (false_from_ne_true (is_here t s.started) (λ h. false≢true (sym (kept.none_over c (kept.first_kept c t f h)) ∙ e))))
           (every_has (is_ended s.below) c e t f.member),
     )
+
+    -- and a group that began here stands here no more only where that is so: then nothing of its transaction stands here, which is settled
+    pub vanished_over : (t : TxnId) (g : ℕ) → Began plan asked S start log (run_of t g) → place plan asked S start log (run_of t g) ≡ shard.0 → find_group t g s.started ≡ None
+        → (is_here t s.started ≡ false) × IsSettledIn w t × ((c : List TxnId) × IsFirstTaken steps shard t c × (is_over s.below c ≡ true))
+    vanished_over t g began on none = elim (mine.groups.finds (run_of t g) began on) [
+      | inl f ↦ absurd (let found : None ≡ Some f.0 = sym none ∙ f.1 in absurd (cc))
+      | inr gone ↦
+          (let begun : HasBegun plan asked S start log t shard.0 = record { group = g; began = began; on = on } in
+          let test = and_from (not (is_here t s.started)) (is_ended s.below t) (not_from_false (is_here t s.started) gone.nowhere) gone.ended in
+          (gone.nowhere, settled_in t (mine.forgot t begun gone).1, (gone_is_over t begun).0 test))
+    ]
 
     -- so it is as a fetch of it comes
     pub fetch_is_answered : (m : Envelope) (t : TxnId) (asker : Shard) (k : ℕ) (v : Outcome) (more : List Envelope) → Has m w.sent → m.to ≡ Server shard → m.msg ≡ Fetch t asker

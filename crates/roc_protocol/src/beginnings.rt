@@ -283,3 +283,15 @@ pub fn forgotten_is_answered()
 {
     machine_laws();
 }
+
+/// What began vanishes only as it is over: where a startok tells of a group that does not stand on its server, no group of its transaction stands there, the first component that
+/// the server took with it is over by the watermarks that it has heard, and all transactions of its component were answered.
+pub fn vanished_is_over()
+    ensures { (plan : Plan) (b : Beginning) (coords : ℕ) (steps : List Stepped) (w : World) → IsBeginning plan b → HasSchemesFrom plan b.store → IsRunBeside plan b coords steps w
+        → (shard : Shard) (s : ServerState) → slice_get w.servers shard.0 ≡ Some s
+        → (m : Envelope) → Has m w.sent → (t : TxnId) (g : ℕ) (bound outs : List ℤ) (edges : List Dependency) (facts : List KnownList)
+        → m.msg ≡ msg.StartOk t g shard bound outs edges facts → find_group t g s.started ≡ None
+        → (is_here t s.started ≡ false) × IsSettledIn w t × ((c : List TxnId) × IsFirstTaken steps shard t c × (is_over s.below c ≡ true)) }
+{
+    machine_laws();
+}

@@ -49,6 +49,7 @@ use roc_protocol::beginnings::{
     left_out_is_earlier as left_out_is_earlier_there, lists_are_final as lists_are_final_there,
     order_is_serial, order_keeps_what_ran as order_keeps_what_ran_there,
     servers_agree as servers_agree_there, told_is_kept as told_is_kept_there,
+    vanished_is_over as vanished_is_over_there,
 };
 use roc_protocol::laws::machine_laws;
 
@@ -232,6 +233,19 @@ pub fn forgotten_is_answered()
     accepted_plans_have_schemes_from_any_store();
     forgotten_is_answered_there();
     views_are_apart();
+}
+
+/// What began vanishes only as it is over: where a startok tells of a group that does not stand on its server, no group of its transaction stands there, the first component that
+/// the server took with it is over by the watermarks that it has heard, and all transactions of its component were answered.
+pub fn vanished_is_over()
+    ensures { (plan : Plan) (b : Beginning) (coords : ℕ) (steps : List Stepped) (w : World) → IsAccepted plan → IsViewBeginning plan b → IsRunFrom plan b coords steps w
+        → (shard : Shard) (s : ServerState) → slice_get w.servers shard.0 ≡ Some s
+        → (m : Envelope) → Has m w.sent → (t : TxnId) (g : ℕ) (bound outs : List ℤ) (edges : List Dependency) (facts : List KnownList)
+        → m.msg ≡ msg.StartOk t g shard bound outs edges facts → find_group t g s.started ≡ None
+        → (is_here t s.started ≡ false) × IsSettledIn (bare w) t × ((c : List TxnId) × IsFirstTaken (bare_steps steps) shard t c × (is_over s.below c ≡ true)) }
+{
+    accepted_plans_have_schemes_from_any_store();
+    vanished_is_over_there();
 }
 
 /// A message that comes too late sends nothing: neither what a server says to transactions, nor an answer to a read that it keeps.
