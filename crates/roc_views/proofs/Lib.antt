@@ -58,6 +58,8 @@ pub mod NoRefusals
 pub mod Carried
 pub mod OneMore
 pub mod UsedSequences
+pub mod SameNodes
+pub mod Unheard
 pub mod AnsweredBelow
 pub mod TakenDecided
 pub mod FetchedThere

@@ -107,7 +107,7 @@ pub fn ended_is_answered()
         → (seq : ℕ) → b.of_transactions.nexts coord ≤ seq → seq < mark → (reply : List ℤ) × WasAnswered w.history (record { coord = coord; seq = seq }) reply }
     ensures heard { (plan : Plan) (b : Beginning) (coords : ℕ) (steps : List Stepped) (w : World) → IsAccepted plan → IsViewBeginning plan b → IsRunFrom plan b coords steps w
         → (n : ℕ) (s : ServerState) → slice_get w.servers n ≡ Some s
-        → (t : TxnId) (c : CoordState) → slice_get w.coords t.coord ≡ Some c → b.of_transactions.nexts t.coord ≤ t.seq → is_ended s.below t ≡ true → (reply : List ℤ) × WasAnswered w.history t reply }
+        → (t : TxnId) → b.of_transactions.nexts t.coord ≤ t.seq → is_ended s.below t ≡ true → (reply : List ℤ) × WasAnswered w.history t reply }
 {
     views_are_apart();
 }
@@ -227,8 +227,7 @@ pub fn forgotten_is_answered()
         → (k : KnownList) (d : Dependency) → Has k s.lists.known → Has d k.edges → ¬ Has d (entries_of s.lists.links k.of) → IsSettledIn (bare w) d.from }
     ensures sent { (plan : Plan) (b : Beginning) (coords : ℕ) (steps : List Stepped) (w : World) → IsAccepted plan → IsViewBeginning plan b → IsRunFrom plan b coords steps w
         → (m : Envelope) (t : TxnId) (mark : ℕ) → Has m w.sent → m.msg ≡ msg.Settled t mark
-        → IsSettledIn (bare w) t × ((c : CoordState) (seq : ℕ) → slice_get w.coords t.coord ≡ Some c → b.of_transactions.nexts t.coord ≤ seq → seq < mark
-        → (reply : List ℤ) × WasAnswered w.history (record { coord = t.coord; seq = seq }) reply) }
+        → IsSettledIn (bare w) t × ((seq : ℕ) → b.of_transactions.nexts t.coord ≤ seq → seq < mark → (reply : List ℤ) × WasAnswered w.history (record { coord = t.coord; seq = seq }) reply) }
 {
     accepted_plans_have_schemes_from_any_store();
     forgotten_is_answered_there();

@@ -1,8 +1,10 @@
-use Rattle.std.proofs.Common.{refl, sym, subst}
+use Rattle.std.proofs.Common.{refl, sym, subst, inl, inr}
+use Rattle.std.proofs.lemmas.Option.{slice_get_cases}
 use Rattle.roc_views.proofs.AnsweredBelow.{some_group, answered_late, ended_coord}
 use Rattle.roc_views.proofs.AnsweringRuns.{told_in_runs}
 use Rattle.roc_views.proofs.CalmRuns.{run_calm}
 use Rattle.roc_views.proofs.ServerMarks.{IsAbove}
+use Rattle.roc_views.proofs.Unheard.{run_unheard}
 use Rattle.roc_views.proofs.UsedSequences.{run_used}
 use Rattle.roc_views.proofs.WovenOrder.{is_view, tells_them}
 use Rattle.roc_views.proofs.beside.ended_is_answered.Goals as goal
@@ -18,9 +20,12 @@ returns-clause-told c plan b coords steps w accepted begins run m has coord mark
     (calm.told m has (record { coord = coord; seq = seq }) (subst (λ msg. IsAbove msg (record { coord = coord; seq = seq })) (sym is) (refl, below)))
 
 pub returns-clause-heard : goal.returns-clause-heard
-returns-clause-heard c plan b coords steps w accepted begins run n s there t k at late ended =
+returns-clause-heard c plan b coords steps w accepted begins run n s there t late ended =
     let v = is_view plan b coords steps w run in
     let tells = tells_them plan b coords steps w run in
     let calm = run_calm plan accepted (some_group plan accepted (c.views_are_apart.ensures.count plan accepted)) b begins.of_transactions coords v steps w run tells in
     let used = run_used plan b begins coords v steps w run tells in
-    answered_late b.of_transactions.nexts w (told_in_runs plan b coords v steps w run tells) used t k at late (calm.heard n s there t ended)
+    elim (slice_get_cases w.coords t.coord).1 [
+      | inl at ↦ answered_late b.of_transactions.nexts w (told_in_runs plan b coords v steps w run tells) used t at.0 at.2 late (calm.heard n s there t ended)
+      | inr away ↦ absurd ((run_unheard t plan b begins.of_transactions coords late steps w run away.0).heard n s there ended)
+    ]

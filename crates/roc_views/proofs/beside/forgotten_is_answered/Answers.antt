@@ -1,5 +1,7 @@
-use Rattle.std.proofs.Common.{◌≡◌, ap, refl, Some, sym, subst}
+use Rattle.std.proofs.Common.{◌≡◌, ap, refl, Some, sym, subst, inl, inr}
+use Rattle.std.proofs.lemmas.Option.{slice_get_cases}
 use Rattle.std.specs.Prelude.{slice_get}
+use Rattle.roc_base.specs.declared.id.TxnId.{TxnId}
 use Rattle.roc_views.specs.Bare.{bare_steps}
 use Rattle.roc_views.specs.Beside.{is_of_view}
 use Rattle.roc_views.proofs.AnsweredBelow.{some_group, answered_late}
@@ -9,6 +11,7 @@ use Rattle.roc_views.proofs.Carried.{sent_there, settled_here}
 use Rattle.roc_views.proofs.FetchedThere.{fetched_there}
 use Rattle.roc_views.proofs.ServerMarks.{IsAbove}
 use Rattle.roc_views.proofs.TakenAlike.{alike_back, first_alike, last_alike}
+use Rattle.roc_views.proofs.Unheard.{run_unheard}
 use Rattle.roc_views.proofs.UsedSequences.{run_used}
 use Rattle.roc_views.proofs.WovenOrder.{is_view, tells_them, run_beside}
 use Rattle.roc_views.proofs.beside.forgotten_is_answered.Goals as goal
@@ -50,7 +53,11 @@ returns-clause-sent c plan b coords steps w accepted begins run m t mark has is 
     let calm = run_calm plan accepted (some_group plan accepted (c.views_are_apart.ensures.count plan accepted)) b begins.of_transactions coords v steps w run tells in
     let k = c.forgotten_is_answered.ensures.sent plan b.of_transactions coords x.others x.world begins.of_transactions (c.accepted_plans_have_schemes_from_any_store.ensures plan b.of_transactions.store accepted) x.run m t mark (sent_there v w x.world x.holds.beside m (ap is_of_view is) has) is in (
       settled_here v w x.world x.holds.beside t k.0,
-      λ y seq at late below. answered_late b.of_transactions.nexts w (told_in_runs plan b coords v steps w run tells) (run_used plan b begins coords v steps w run tells)
-          (record { coord = t.coord; seq = seq }) y at late
-          (calm.told m has (record { coord = t.coord; seq = seq }) (subst (λ msg. IsAbove msg (record { coord = t.coord; seq = seq })) (sym is) (refl, below))),
+      λ seq late below.
+          (let u : TxnId = record { coord = t.coord; seq = seq } in
+          let above = subst (λ msg. IsAbove msg u) (sym is) (refl, below) in
+          elim (slice_get_cases w.coords t.coord).1 [
+            | inl at ↦ answered_late b.of_transactions.nexts w (told_in_runs plan b coords v steps w run tells) (run_used plan b begins coords v steps w run tells) u at.0 at.2 late (calm.told m has u above)
+            | inr away ↦ absurd ((run_unheard u plan b begins.of_transactions coords late steps w run away.0).told m has above)
+          ]),
     )
