@@ -1,4 +1,5 @@
 pub mod Sound
 mod OfPlan
 mod Whole
-mod SmallestPlan
+mod Deferred
+mod SmallPlans

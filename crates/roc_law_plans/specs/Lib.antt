@@ -1,2 +1,2 @@
 pub mod Scheme
-pub mod Smallest
+pub mod SmallPlans

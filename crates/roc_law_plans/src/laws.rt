@@ -7,7 +7,7 @@ ghost use Rattle.roc_plan.specs.Accepted.{IsAccepted};
 ghost use Rattle.roc_law_log.specs.Scheme.{Scheme, IsSoundScheme};
 ghost use Rattle.roc_protocol.specs.PlanAssumptions.{IsSchemeOf};
 ghost use Rattle.roc_law_plans.specs.Scheme.{scheme_of, AreOrders, AreCalls};
-ghost use Rattle.roc_law_plans.specs.Smallest.{smallest};
+ghost use Rattle.roc_law_plans.specs.SmallPlans.{smallest, observed};
 
 use roc_group::laws::{
     cells_are_at_the_place, cells_follow_from_what_is_given, conflicts_are_static,
@@ -55,7 +55,8 @@ pub fn views_have_schemes()
     views_read_alone();
 }
 
-/// There is an accepted plan: the small one.
-pub fn the_smallest_is_accepted()
-    ensures { IsAccepted smallest }
+/// There are accepted plans: one that only replies, and one with a view.
+pub fn small_plans_are_accepted()
+    ensures smallest { IsAccepted smallest }
+    ensures observed { IsAccepted observed }
 {}

@@ -4,8 +4,8 @@
 //! `specs/Scheme.antt` has the scheme of a plan. [`laws`] say that it is sound and of the plan, and [`beginnings`] that transactions
 //! one by one are whole procedures, from any store on; so every accepted plan has schemes (`accepted_plans_have_schemes_from_any_store`), and what
 //! `roc_protocol` says of plans with schemes `roc_views` says of accepted ones.
-//! That what these laws ask for can be met is shown by a small plan (`specs/Smallest.antt`), of which `roc_views` has a run
-//! (`a_submission_is_answered`).
+//! That what these laws ask for can be met is shown by two small plans (`specs/SmallPlans.antt`), of which `roc_views` has runs
+//! (`a_submission_is_answered`, `a_view_is_answered`).
 #![tactic(auto)]
 
 pub mod beginnings;

@@ -74,6 +74,18 @@ new_of_none =
       };
     }
 
+-- nothing is newly taken where what is followed stays
+pub none_new : (links : List KnownList) → AreNewTaken (IsDecided links) links []
+none_new links =
+    record {
+      members = record { only = λ u h. absurd (omega arith); all = λ u n. absurd (n.1 n.0) };
+      taken = record {
+        order = record { once = tt; from = λ x h. h; all = λ x h. h; next = λ x h. absurd (omega arith) };
+        some = λ c h. absurd h;
+        mates = λ c h. absurd h;
+      };
+    }
+
 -- ---- one list is known, and has no entries
 
 module _ (id : TxnId) where

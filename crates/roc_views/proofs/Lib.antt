@@ -66,4 +66,6 @@ pub mod FetchedThere
 pub mod GoneSteps
 pub mod Alone
 pub mod SmallestRun
+pub mod ObservedTransaction
+pub mod ObservedRun
 pub mod AnyWorld

@@ -20,7 +20,7 @@ use Rattle.roc_protocol.specs.declared.event.Event.TheVariants.{Submit, Deliver}
 use Rattle.roc_protocol.specs.declared.event.Seen.TheVariants as seen
 use Rattle.roc_protocol.specs.Beginnings as protocol
 use Rattle.roc_protocol.specs.Happens.{ran_at}
-use Rattle.roc_law_plans.specs.Smallest.{smallest}
+use Rattle.roc_law_plans.specs.SmallPlans.{smallest}
 use Rattle.roc_views.specs.World.{World, first_world}
 use Rattle.roc_views.specs.Happens.{undecided, Happens}
 use Rattle.roc_views.specs.Run.{Stepped, IsRun, at_beginning, steps_on}
@@ -89,20 +89,20 @@ start_handled =
 
 starts : Happens smallest submitted_world (Deliver 1) (record { seen = seen.Done; components = []; decided = []; ran = []; world = started_world })
 starts = (
-    start,
-    omega arith,
-    refl,
-    record {
-      state = server;
-      there = refl;
-      viewing = first_viewing;
-      keeps = refl;
-      step = started_step;
-      handles = start_handled;
-      reads = record { viewing = first_viewing; sends = [] };
-      answers = record { decided = []; found = decided_of_none; is = refl };
-      is = refl;
-    },
+  start,
+  omega arith,
+  refl,
+  record {
+    state = server;
+    there = refl;
+    viewing = first_viewing;
+    keeps = refl;
+    step = started_step;
+    handles = start_handled;
+    reads = record { viewing = first_viewing; sends = [] };
+    answers = record { decided = []; found = decided_of_none; is = refl };
+    is = refl;
+  },
 )
 
 -- ---- its commit is asked for
@@ -148,20 +148,20 @@ commit_handled =
 
 runs : Happens smallest asked_world (Deliver 3) (record { seen = seen.Done; components = (id ∷ []) ∷ []; decided = id ∷ []; ran = ran_at 0 started_group ∷ []; world = decided_world })
 runs = (
-    commit,
-    omega arith,
-    refl,
-    record {
-      state = started_server;
-      there = refl;
-      viewing = first_viewing;
-      keeps = refl;
-      step = decided_step;
-      handles = commit_handled;
-      reads = record { viewing = first_viewing; sends = [] };
-      answers = record { decided = id ∷ []; found = decided_alone id; is = refl };
-      is = refl;
-    },
+  commit,
+  omega arith,
+  refl,
+  record {
+    state = started_server;
+    there = refl;
+    viewing = first_viewing;
+    keeps = refl;
+    step = decided_step;
+    handles = commit_handled;
+    reads = record { viewing = first_viewing; sends = [] };
+    answers = record { decided = id ∷ []; found = decided_alone id; is = refl };
+    is = refl;
+  },
 )
 
 -- ---- and it is answered

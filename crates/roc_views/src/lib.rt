@@ -6,9 +6,9 @@
 //!
 //! Of transactions alone each run is one of theirs ([`laws::runs_are_beside`]). And the order, with each answered view put in where its last
 //! round began, is a serial order that explains the whole history ([`beginnings::witness_is_serial`]). All laws of runs are stated once, of runs from any
-//! beginning: [`beginnings`] has that one and what reports tell, [`beside`] what else is said of transactions, whatever views there are, and
-//! [`laws::witness_is_serial`] the first one of runs from the first world. Whatever may happen in a world that fits a plan (`specs/Fits.antt`) comes to one
-//! thing, which fits it too ([`worlds`]).
+//! beginning, of which the first world's is one ([`beginnings::first_worlds_begin`]): [`beginnings`] has that one and what reports tell, [`beside`] what
+//! else is said of transactions, whatever views there are. Whatever may happen in a world that fits a plan (`specs/Fits.antt`) comes to one thing, which
+//! fits it too; and small runs show that what the laws ask for can be met ([`worlds`]).
 #![tactic(auto)]
 
 pub mod beginnings;

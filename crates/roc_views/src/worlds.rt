@@ -1,24 +1,31 @@
 //! What may happen in the world, and that it comes to one thing.
-ghost use Rattle.std.specs.Prelude.{◌≡◌, ◌↔◌, ℕ, ℤ, pos, ◌<◌, ◌≤◌, List, [], ◌∷◌, Option, Some, length, slice_get};
+ghost use Rattle.std.specs.Prelude.{◌≡◌, ◌↔◌, ◌++◌, ℕ, ℤ, pos, true, ◌<◌, ◌≤◌, List, [], ◌∷◌, Option, Some, length, slice_get};
 ghost use Rattle.roc_base.specs.declared.id.TxnId.{TxnId};
-ghost use Rattle.roc_plan.specs.Groups.{Plan};
+ghost use Rattle.roc_plan.specs.Groups.{Plan, is_view_of};
 ghost use Rattle.roc_plan.specs.Accepted.{IsAccepted};
 ghost use Rattle.roc_audit.specs.declared.entry.Entry.TheVariants.{Submitted, Answered};
-ghost use Rattle.roc_law_plans.specs.Smallest.{smallest};
+ghost use Rattle.roc_law_plans.specs.SmallPlans.{smallest, observed};
 ghost use Rattle.roc_law_log.specs.Invariants.{Continues};
+ghost use Rattle.roc_server.specs.Forgets.{is_over};
+ghost use Rattle.roc_server.specs.State.{ServerState};
 ghost use Rattle.roc_coord.specs.State.{CoordState};
 ghost use Rattle.roc_coord.specs.Submit.{most_transactions, most_pending};
 ghost use Rattle.roc_protocol.specs.declared.event.Event.{Event};
 ghost use Rattle.roc_protocol.specs.declared.event.Event.TheVariants as event;
 ghost use Rattle.roc_protocol.specs.declared.event.Seen.TheVariants as seen;
+ghost use Rattle.roc_protocol.specs.Forgotten.{IsSettledIn, IsLastTaken};
+ghost use Rattle.roc_views.specs.Bare.{bare, bare_steps};
 ghost use Rattle.roc_views.specs.World.{World};
 ghost use Rattle.roc_views.specs.Fits.{FitsWorld};
 ghost use Rattle.roc_views.specs.Happens.{Outcome, Happens};
 ghost use Rattle.roc_views.specs.Run.{Stepped, Transition, IsRun, IsEventOf};
-ghost use Rattle.roc_views.specs.Quiet.{IsQuiet};
+ghost use Rattle.roc_views.specs.Quiet.{IsQuiet, IsInLastRound};
+ghost use Rattle.roc_views.specs.Witness.{witness_of};
 
+use crate::beginnings::first_worlds_begin;
+use crate::beside::forgotten_is_answered;
 use roc_component::laws::{order_exists, order_is_one};
-use roc_law_plans::laws::the_smallest_is_accepted;
+use roc_law_plans::laws::small_plans_are_accepted;
 use roc_server::laws::{read_step_is_one, step_is_one as server_step_is_one};
 
 /// What comes of an event in a world is one: what is seen, what is newly decided, and the world after it.
@@ -62,5 +69,21 @@ pub fn a_submission_is_answered()
     ensures answered { (steps : List Stepped) × (w : World) × IsRun smallest 1 steps w
         × (t : TxnId) × (w.history ≡ Submitted t 0 [] ∷ Answered t (pos 1 ∷ []) ∷ []) × (w.order ≡ t ∷ []) × IsQuiet smallest steps w t }
 {
-    the_smallest_is_accepted();
+    small_plans_are_accepted();
+}
+
+/// And so can what they ask for of views, and of what is forgotten: in a run of a small plan with a view a transaction sets a cell, and the
+/// view, which is quiet and not in its last round, stands behind it and has for its reply what the cell holds then. The coordinator tells its
+/// watermark, by which the component that the server took is over and settled; and the transaction's start, which comes once more, is gone.
+pub fn a_view_is_answered()
+    ensures accepted { IsAccepted observed }
+    ensures answered { (steps : List Stepped) × (w : World) × IsRun observed 1 steps w × (t : TxnId) × (v : TxnId)
+        × (w.history ≡ Submitted t 0 [] ∷ Answered t [] ∷ Submitted v 1 [] ∷ Answered v (pos 1 ∷ []) ∷ []) × (witness_of w ≡ t ∷ v ∷ [])
+        × (is_view_of observed 1 ≡ true) × IsQuiet observed steps w v × (¬ IsInLastRound w v)
+        × (s : ServerState) × (slice_get w.servers 0 ≡ Some s) × IsLastTaken (bare_steps steps) (record { 0 = 0 }) t (t ∷ []) × (is_over s.below (t ∷ []) ≡ true) × IsSettledIn (bare w) t
+        × (front : List Stepped) × (o : Outcome) × (steps ≡ front ++ (record { event = Some (event.Deliver 1); outcome = o }) ∷ []) × (o.seen ≡ seen.Gone) }
+{
+    small_plans_are_accepted();
+    first_worlds_begin();
+    forgotten_is_answered();
 }
