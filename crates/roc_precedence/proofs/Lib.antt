@@ -3,6 +3,7 @@ pub mod Orders
 pub mod Runs
 pub mod Taught
 pub mod Found
+pub mod OnCycles
 pub mod OneCycle
 pub mod Back
 pub mod Best

@@ -1,5 +1,5 @@
 -- Pairs as lists of what comes before each transaction
-use Rattle.std.specs.Prelude.{◌≡◌, ◌↔◌, Bool, true, false, nat_le, List, None, length}
+use Rattle.std.specs.Prelude.{◌≡◌, ◌↔◌, Bool, true, false, nat_le, nat_lt, List, [], None, length, if◌then◌else◌}
 use Rattle.std.specs.List.{list_any}
 use Rattle.std.specs.List.Sorted.{IsSortedBy}
 use Rattle.std.specs.Ordering.{is_lt}
@@ -51,3 +51,7 @@ precedes_itself known t = precedes known t t
 -- a list has at most one member
 abbrev pub has_one_at_most : List TxnId → Bool
 has_one_at_most c = nat_le (length c) 1
+
+-- the members of a list that has several
+abbrev pub members_of_several : List TxnId → List TxnId
+members_of_several c = if nat_lt 1 (length c) then c else []
