@@ -1,14 +1,14 @@
 -- One record more of a journal.
-use Rattle.std.proofs.Common.{◌≡◌, ℕ, ◌+◌, ◌<◌, ◌≤◌, List, [], ◌∷◌, ◌++◌, length, take, drop, sym, ◌∙◌, ap, arith, append_assoc, length-append, length-drop, take-append-drop}
+use Rattle.std.proofs.Common.{◌≡◌, ℕ, ◌+◌, ◌<◌, ◌≤◌, List, [], ◌∷◌, ◌++◌, length, take, drop, refl, sym, ◌∙◌, ap, arith, append_assoc, length-append, length-drop, take-append-drop}
 use Rattle.std.specs.Prelude.{None}
 use Rattle.std.specs.Int.{w32, to_be_bytes, from_be_bytes}
 use Rattle.std.proofs.lemmas.List.{drop_at, length-take-le}
 use Rattle.roc_journal.specs.declared.reader.Reader.{Reader}
 use Rattle.roc_journal.specs.declared.record.Record.{Record}
 use Rattle.roc_journal.specs.Format.{datagram_of, record_bytes, IsRecordOf, IsJournal}
-use Rattle.roc_journal.specs.Faults.{BeginsRecord, IsFault, record_is_bad}
+use Rattle.roc_journal.specs.Faults.{BeginsRecord, IsBadRecord}
 use Rattle.roc_journal.specs.Inner.Pieces.{HasOpenGate, IsFound}
-use Rattle.roc_journal.specs.Reading.{IsReadTo}
+use Rattle.roc_journal.specs.Reading.{most_datagram, MayWantMemory, IsReadTo}
 use Rattle.roc_journal.proofs.Beginnings.{datagram_size, told_length, told_datagram, told_size, begins_with}
 use Rattle.roc_journal.proofs.Ends.{size_of_end, split_end, first_of}
 use Rattle.roc_journal.proofs.Records.{front, all_more, gate_moves, front_size, record_size}
@@ -46,31 +46,44 @@ module _ (bytes : List ℕ) (records : List Record) (reader : Reader) where
         omega (arith, open_at.gate, length-append (front reader.tag records) (1 ∷ take 4 behind), length-take-le 4 behind long) in
         ap (λ (l : List ℕ). drop (reader.gate + 5) l) all ∙ drop_at before (drop 4 behind) (reader.gate + 5) size
 
-    pub is_bad : ¬ BeginsRecord reader.tag behind → IsFault reader.tag bytes (reader.gate + 1)
-    is_bad none = record_is_bad (record {
-      records = records;
-      each = open_at.each;
-      rest = behind;
-      is = open_at.is;
-      none = none;
-      place = omega (arith, open_at.gate);
-    })
+    -- what stands behind these records is none
+    abbrev pub IsBadHere : Type 0
+    IsBadHere = (bad : IsBadRecord reader.tag bytes (reader.gate + 1)) × (bad.records ≡ records)
+
+    pub is_bad : ¬ BeginsRecord reader.tag behind → IsBadHere
+    is_bad none = (
+      record {
+        records = records;
+        each = open_at.each;
+        rest = behind;
+        is = open_at.is;
+        none = none;
+        place = omega (arith, open_at.gate);
+      },
+      refl,
+    )
 
     -- there is no place for a length and a gate
-    pub ends_early : length bytes < reader.gate + 5 → IsFault reader.tag bytes (reader.gate + 1)
+    pub ends_early : length bytes < reader.gate + 5 → IsBadHere
     ends_early early = is_bad (λ b. omega (arith, early, open_size, told_size reader.tag b.first b.is_of (b.gate ∷ b.behind) behind b.is))
 
     module _ (n : ℕ) (is_length : n ≡ from_be_bytes w32 (take 4 behind)) where
       length_is : (b : BeginsRecord reader.tag behind) → n ≡ length (datagram_of b.first)
       length_is b = is_length ∙ told_length reader.tag b.first b.is_of (b.gate ∷ b.behind) behind b.is
 
-      pub too_long : 60000 < n → IsFault reader.tag bytes (reader.gate + 1)
+      -- there is a datagram, for which memory may be wanted
+      pub may_want : n ≤ most_datagram → reader.gate + 5 + n < length bytes → MayWantMemory bytes reader
+      may_want few within =
+          let told = is_length ∙ ap (λ (l : List ℕ). from_be_bytes w32 (take 4 l)) (sym open_behind) in
+          (omega (arith, few, told), omega (arith, within, told))
+
+      pub too_long : 60000 < n → IsBadHere
       too_long long = is_bad (λ b. omega (arith, long, length_is b, datagram_size reader.tag b.first b.is_of))
 
-      pub too_short : length bytes ≤ reader.gate + 5 + n → IsFault reader.tag bytes (reader.gate + 1)
+      pub too_short : length bytes ≤ reader.gate + 5 + n → IsBadHere
       too_short short = is_bad (λ b. omega (arith, short, open_size, length_is b, told_size reader.tag b.first b.is_of (b.gate ∷ b.behind) behind b.is))
 
-      pub is_none : (datagram : List ℕ) → datagram ≡ take n (drop 4 behind) → IsFound reader.tag datagram None → IsFault reader.tag bytes (reader.gate + 1)
+      pub is_none : (datagram : List ℕ) → datagram ≡ take n (drop 4 behind) → IsFound reader.tag datagram None → IsBadHere
       is_none datagram e none =
           is_bad (λ b. none b.first b.is_of
           (e ∙ ap (λ k. take k (drop 4 behind)) (length_is b) ∙ told_datagram reader.tag b.first b.is_of (b.gate ∷ b.behind) behind b.is))

@@ -7,7 +7,7 @@ ghost use Rattle.roc_journal.specs.Format.{magic, IsJournal};
 ghost use Rattle.roc_journal.specs.Settled.{IsDurable, IsSynced};
 ghost use Rattle.roc_journal.specs.Answers.{read_failed};
 ghost use Rattle.roc_journal.specs.Inner.Pieces.{HasOpenGate};
-ghost use Rattle.roc_journal.specs.Reading.{IsReadTo, IsGateWithin, ReadsNext, OpensRight, Opens};
+ghost use Rattle.roc_journal.specs.Reading.{most_datagram, IsReadTo, IsGateWithin, MovesOn, ReadsNext, OpensRight, Opens};
 ghost use Rattle.roc_journal.specs.declared.record.Record.{Record as RecordValue};
 
 use crate::pieces::{byte_at, eight_at, four_at, number_at, read_at, record_in, synced_len, zeros};
@@ -50,7 +50,8 @@ impl Reader {
         }
     }
 
-    /// The next record, with the place of its length; `None` where the journal ends. At an error the reader stands where it stood.
+    /// The next record, with the place of its length; `None` where the journal ends. Behind a record the reader stands further on, and else
+    /// where it stood. A fault is that of the record behind those that were read; for a length that no datagram has no memory is wanted.
     pub fn next<D: Disk>(
         &mut self,
         alloc: Global,
@@ -62,6 +63,7 @@ impl Reader {
         ensures told { D.tells disk.new ≡ true → D.tells disk.old ≡ true }
         ensures stays { D.tells disk.new ≡ true → Stays D.Disk disk.old disk.new }
         ensures same { (self.new.tag ≡ self.old.tag) × (self.new.len ≡ self.old.len) × IsGateWithin self.new }
+        ensures moves { MovesOn self.old self.new result }
         ensures read { D.tells disk.new ≡ true → (name : List ℕ) → D.file disk.old ≡ Some name → (records : List RecordValue)
             → IsReadTo (D.content disk.old name) records self.old → ReadsNext (D.content disk.old name) records self.old self.new result }
     {
@@ -174,6 +176,7 @@ impl Reader {
         ensures told { D.tells disk.new ≡ true → D.tells disk.old ≡ true }
         ensures stays { D.tells disk.new ≡ true → Stays D.Disk disk.old disk.new }
         ensures same { (self.new.tag ≡ self.old.tag) × (self.new.len ≡ self.old.len) × IsGateWithin self.new }
+        ensures moves { MovesOn self.old self.new result }
         ensures read { D.tells disk.new ≡ true → (name : List ℕ) → D.file disk.old ≡ Some name → (records : List RecordValue) (behind : List ℕ)
             → HasOpenGate (D.content disk.old name) records self.old behind → ReadsNext (D.content disk.old name) records self.old self.new result }
     {
@@ -202,11 +205,13 @@ impl Reader {
         n: u32,
     ) -> Result<Option<(u64, Record)>, ReadFault>
         requires within { self.old.gate + 5 + n < self.old.len }
+        requires few { n ≤ most_datagram }
         requires len { D.tells disk.old ≡ true → (name : List ℕ) → D.file disk.old ≡ Some name → self.old.len ≡ length (D.content disk.old name) }
         ensures cause { HasCause (read_failed result) (D.faults disk.old) (D.faults disk.new) }
         ensures told { D.tells disk.new ≡ true → D.tells disk.old ≡ true }
         ensures stays { D.tells disk.new ≡ true → Stays D.Disk disk.old disk.new }
         ensures same { (self.new.tag ≡ self.old.tag) × (self.new.len ≡ self.old.len) × IsGateWithin self.new }
+        ensures moves { MovesOn self.old self.new result }
         ensures read { D.tells disk.new ≡ true → (name : List ℕ) → D.file disk.old ≡ Some name → (records : List RecordValue) (behind : List ℕ)
             → HasOpenGate (D.content disk.old name) records self.old behind → n ≡ from_be_bytes w32 (take 4 behind) → to_be_bytes w32 n ≡ take 4 behind
             → ReadsNext (D.content disk.old name) records self.old self.new result }
@@ -222,9 +227,11 @@ impl Reader {
 
     // The record that the datagram behind the length is.
     fn judge(&mut self, alloc: Global, datagram: &[u8]) -> Result<Option<(u64, Record)>, ReadFault>
-        requires { self.old.gate + 5 + length datagram.now < self.old.len }
+        requires within { self.old.gate + 5 + length datagram.now < self.old.len }
+        requires few { length datagram.now ≤ most_datagram }
         ensures no_disk { read_failed result ≡ false }
         ensures same { (self.new.tag ≡ self.old.tag) × (self.new.len ≡ self.old.len) × IsGateWithin self.new }
+        ensures moves { MovesOn self.old self.new result }
         ensures read { (bytes : List ℕ) (records : List RecordValue) (behind : List ℕ) → HasOpenGate bytes records self.old behind → self.old.len ≡ length bytes
             → length datagram.now ≡ from_be_bytes w32 (take 4 behind) → to_be_bytes w32 (length datagram.now) ≡ take 4 behind
             → datagram.now ≡ take (length datagram.now) (drop 4 behind) → ReadsNext bytes records self.old self.new result }

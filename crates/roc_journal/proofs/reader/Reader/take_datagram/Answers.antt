@@ -1,8 +1,12 @@
 use Rattle.std.proofs.Common.{◌≡◌, List, ℕ, ◌+◌, ◌≤◌, length, take, drop, ap, ◌∙◌, arith}
 use Rattle.std.specs.Int.{w32, to_be_bytes}
 use Rattle.std.proofs.lemmas.List.{take_at}
-use Rattle.roc_journal.proofs.Nexts.{open_size, open_further}
+use Rattle.roc_journal.proofs.Nexts.{may_want, open_size, open_further}
 use Rattle.roc_journal.proofs.reader.Reader.take_datagram.Goals as goal
+
+pub returns-in_default-clause-read : goal.returns-in_default-clause-read
+returns-in_default-clause-read g c = λ tells name file records behind open_at told spelled.
+    may_want _ records c.args.self.now behind open_at _ told c.requires.few (omega (arith, c.requires.within, c.requires.len tells name file))
 
 pub returns-clause-read : goal.returns-clause-read
 returns-clause-read g c = λ tells name file records behind open_at told spelled.
