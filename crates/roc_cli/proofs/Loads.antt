@@ -12,6 +12,8 @@ use Rattle.roc_sched.specs.declared.fault.What.TheVariants as what
 use Rattle.roc_sched.specs.declared.line.Act.{Act}
 use Rattle.roc_sched.specs.declared.line.Act.TheVariants as act
 use Rattle.roc_sched.specs.declared.line.Line.{Line}
+use Rattle.roc_sched.specs.declared.forms.Forms.{Forms}
+use Rattle.roc_sched.specs.Forms.{plain_forms}
 use Rattle.roc_sched.specs.Schedule.{IsSchedule, IsScheduleFault, item_of}
 use Rattle.roc_generate.specs.Load.{IsCallOrChoice, IsLoadOf}
 use Rattle.roc_replay.specs.declared.asked.BoundLine.{BoundLine}
@@ -47,6 +49,8 @@ module _ (program : Workload) where
   wants (act.Deliver message) h = absurd h
   wants (act.Any place) h = (wanted.Any place, refl, λ message e. absurd (cc))
   wants (act.Tick node) h = absurd h
+  wants (act.Stop shard during) h = absurd h
+  wants (act.Drain coord) h = absurd h
 
   never_unfit : (line : Line) (fault : What) → IsCallOrChoice program line.act → asked_by program line ≡ Err fault → ⊥
   never_unfit line fault h e =
@@ -61,17 +65,17 @@ module _ (program : Workload) where
       subst (λ (x : BoundLine). NamesNone x.wanted) same found.2
 
 module _
-    (one_list : (shards : ℕ) (text : List ℕ) (some others : List Line) → IsSchedule shards text some → IsSchedule shards text others → some ≡ others)
-    (one_of_both : (shards : ℕ) (text : List ℕ) (lines : List Line) (line : ℕ) (what : What) → IsSchedule shards text lines → IsScheduleFault shards text line what → ⊥)
+    (one_list : (forms : Forms) (shards : ℕ) (text : List ℕ) (some others : List Line) → IsSchedule forms shards text some → IsSchedule forms shards text others → some ≡ others)
+    (one_of_both : (forms : Forms) (shards : ℕ) (text : List ℕ) (lines : List Line) (line : ℕ) (what : What) → IsSchedule forms shards text lines → IsScheduleFault forms shards text line what → ⊥)
     (plan : Plan) (text : List ℕ) (lines : List Line) (load : IsLoadOf plan.program text lines) where
   pub load_is_right : (number : ℕ) (fault : What) (old new : Option (List ℕ)) → IsTextFault plan text number fault old new → ⊥
-  load_is_right number fault old new (no_schedule is same) = one_of_both plan.program.shards text lines number fault load.read is
+  load_is_right number fault old new (no_schedule is same) = one_of_both plain_forms plan.program.shards text lines number fault load.read is
   load_is_right number fault old new (unfit h same) =
-      let e : lines ≡ h.before ++ h.line ∷ h.behind = one_list plan.program.shards text lines _ load.read h.schedule in
+      let e : lines ≡ h.before ++ h.line ∷ h.behind = one_list plain_forms plan.program.shards text lines _ load.read h.schedule in
       never_unfit plan.program h.line fault (at_behind (λ line. IsCallOrChoice plan.program line.act) h.before h.line h.behind (subst (AllByRecursion (λ line. IsCallOrChoice plan.program line.act)) e load.fits)) h.is
   load_is_right number fault old new (unsent is h) =
       let fits : AllByRecursion (λ line. IsCallOrChoice plan.program line.act) h.of_schedule.lines =
-      subst (AllByRecursion (λ line. IsCallOrChoice plan.program line.act)) (one_list plan.program.shards text lines _ load.read h.of_schedule.schedule) load.fits in
+      subst (AllByRecursion (λ line. IsCallOrChoice plan.program line.act)) (one_list plain_forms plan.program.shards text lines _ load.read h.of_schedule.schedule) load.fits in
       at_behind (λ one. NamesNone one.wanted) h.before h.line h.behind
       (each_made (λ line. item_of (asked_by plan.program line)) (λ line. IsCallOrChoice plan.program line.act) (λ one. NamesNone one.wanted) (never_named plan.program) h.of_schedule.lines _ fits h.of_schedule.asks)
       h.message h.asks

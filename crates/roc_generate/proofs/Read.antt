@@ -10,6 +10,7 @@ use Rattle.roc_sched.specs.Lines.{lines_of}
 use Rattle.roc_sched.specs.Words.{words_of}
 use Rattle.roc_sched.specs.Numbers.{is_name}
 use Rattle.roc_sched.specs.Acts.{line_at}
+use Rattle.roc_sched.specs.Forms.{plain_forms}
 use Rattle.roc_sched.specs.Schedule.{item_of, numbered, IsSchedule}
 use Rattle.roc_generate.specs.Draws.{next_state, draw, state_after}
 use Rattle.roc_generate.specs.Drawn.{drawn_choices, drawn_call, drawn_calls, drawn_acts}
@@ -41,11 +42,11 @@ line_count (act ∷ acts) all =
 
 module _ (shards : ℕ) where
   abbrev item_at : ℕ × List ℕ → Option Line
-  item_at line = item_of (line_at shards line.0 (words_of line.1))
+  item_at line = item_of (line_at plain_forms shards line.0 (words_of line.1))
 
   first_item : (act : Act) (w : ActWords act) (number : ℕ) → item_at (number, spaced_words w.first w.others) ≡ Some (record { number = number; act = act })
   first_item act w number =
-      ap (λ words. item_of (line_at shards number words)) (words_read w.first w.others w.first_part w.other_parts) ∙ ap item_of (w.read shards number)
+      ap (λ words. item_of (line_at plain_forms shards number words)) (words_read w.first w.others w.first_part w.other_parts) ∙ ap item_of (w.read shards number)
 
   kept_line : (act : Act) (w : ActWords act) (number : ℕ) (lines : List (List ℕ)) → numbered number (spaced_words w.first w.others ∷ lines) ≡ (number, spaced_words w.first w.others) ∷ numbered (number + 1) lines
   kept_line act w number lines =
@@ -140,7 +141,7 @@ text_length (act ∷ acts) all =
     let sum = length-append (act_line act) (flat_map act_line acts) in
     omega (arith, one, others, sum)
 
-pub schedule_read : (seed shards txns : ℕ) → 0 < shards → shards ≤ 64 → txns ≤ 1000 → IsSchedule shards (generated_schedule seed shards txns) (generated_lines seed shards txns)
+pub schedule_read : (seed shards txns : ℕ) → 0 < shards → shards ≤ 64 → txns ≤ 1000 → IsSchedule plain_forms shards (generated_schedule seed shards txns) (generated_lines seed shards txns)
 unfolding generated_schedule generated_lines
 schedule_read seed shards txns some few most =
     let all = acts_drawn seed shards txns some few in

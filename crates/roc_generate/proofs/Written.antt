@@ -14,11 +14,12 @@ use Rattle.roc_sequence.proofs.Holds.{all_pass}
 use Rattle.roc_lang.specs.Tokens.{IsDecimal}
 use Rattle.roc_lang_print.proofs.Numerals.{written_is_decimal, written_value}
 use Rattle.roc_sched.specs.declared.line.Act.{Act}
-use Rattle.roc_sched.specs.declared.line.Act.TheVariants.{Submit, Deliver, Any, Tick}
+use Rattle.roc_sched.specs.declared.line.Act.TheVariants.{Submit, Deliver, Any, Tick, Stop, Drain}
 use Rattle.roc_sched.specs.declared.fault.What.TheVariants as what
 use Rattle.roc_sched.specs.Each.{each}
 use Rattle.roc_sched.specs.Words.{is_skipped}
 use Rattle.roc_sched.specs.Numbers.{is_decimal, number_up_to, integer_of, is_name}
+use Rattle.roc_sched.specs.Forms.{plain_forms}
 use Rattle.roc_sched.specs.Acts.{act_of, or_word, or_node, numbered_line, line_at}
 use Rattle.roc_generate.specs.ScheduleText.{act_line}
 use Rattle.roc_generate.proofs.Parts.{AllAbove, IsPlainWord, some_bytes, spaced_words}
@@ -98,6 +99,8 @@ IsSmallAct (Submit coord name args) = IsSmallCall coord name args
 IsSmallAct (Deliver message) = ⊥
 IsSmallAct (Any place) = place < 2 ^ 32
 IsSmallAct (Tick node) = ⊥
+IsSmallAct (Stop shard during) = ⊥
+IsSmallAct (Drain coord) = ⊥
 
 -- the words of an act's line, which are read as it
 pub record ActWords (act : Act) : Type 0 where
@@ -107,14 +110,14 @@ pub record ActWords (act : Act) : Type 0 where
   pub first_part : IsPlainWord first
   pub other_parts : AllByRecursion IsPlainWord others
   pub kept : is_skipped (spaced_words first others) ≡ false
-  pub read : (shards number : ℕ) → line_at shards number (first ∷ others) ≡ Ok (record { number = number; act = act })
+  pub read : (shards number : ℕ) → line_at plain_forms shards number (first ∷ others) ≡ Ok (record { number = number; act = act })
   pub short : length (act_line act) ≤ 220
 
-any_read : (place : ℕ) → place < 2 ^ 32 → act_of (codes "any" ∷ fmt.decimal place ∷ []) ≡ Some (Any place)
+any_read : (place : ℕ) → place < 2 ^ 32 → act_of plain_forms (codes "any" ∷ fmt.decimal place ∷ []) ≡ Some (Any place)
 unfolding act_of
 any_read place small = ap (option_map Any) (number_read 4294967295 place (omega arith) (omega arith))
 
-submit_read : (coord : ℕ) (name : List ℕ) (args : List ℤ) → coord < 16 → is_name name ≡ true → AllByRecursion IsPlainNumber args → act_of (codes "submit" ∷ fmt.decimal coord ∷ name ∷ map fmt.signed_decimal args) ≡ Some (Submit coord name args)
+submit_read : (coord : ℕ) (name : List ℕ) (args : List ℤ) → coord < 16 → is_name name ≡ true → AllByRecursion IsPlainNumber args → act_of plain_forms (codes "submit" ∷ fmt.decimal coord ∷ name ∷ map fmt.signed_decimal args) ≡ Some (Submit coord name args)
 unfolding act_of
 submit_read coord name args few named all = rw (named, number_read 9223372036854775807 coord (omega arith) (omega arith), integers_read args all) refl
 
@@ -173,7 +176,7 @@ act_words (Submit coord name args) h = record {
   first_part = record { some = refl; above = (omega arith, (omega arith, (omega arith, (omega arith, (omega arith, (omega arith, tt)))))) };
   other_parts = (number_part coord (let few = h.coord in omega arith), (h.part, integer_parts args h.args));
   kept = refl;
-  read = λ shards number. ap (λ o. numbered_line number (or_node shards (or_word o))) (submit_read coord name args h.coord h.name h.args)
+  read = λ shards number. ap (λ o. numbered_line number (or_node plain_forms shards (or_word o))) (submit_read coord name args h.coord h.name h.args)
       ∙ ap (λ b. numbered_line number (cond b (Ok (Submit coord name args)) (Err what.Node))) (lt-ltb coord 16 h.coord);
   short = submit_short coord name args h;
 }
@@ -184,8 +187,10 @@ act_words (Any place) h = record {
   first_part = record { some = refl; above = (omega arith, (omega arith, (omega arith, tt))) };
   other_parts = (number_part place (omega arith), tt);
   kept = refl;
-  read = λ shards number. ap (λ o. numbered_line number (or_node shards (or_word o))) (any_read place h);
+  read = λ shards number. ap (λ o. numbered_line number (or_node plain_forms shards (or_word o))) (any_read place h);
   short = any_short place h;
 }
 act_words (Deliver message) h = absurd h
 act_words (Tick node) h = absurd h
+act_words (Stop shard during) h = absurd h
+act_words (Drain coord) h = absurd h

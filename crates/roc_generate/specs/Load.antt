@@ -7,8 +7,9 @@ use Rattle.roc_lang_print.specs.Canonical.{canonical}
 use Rattle.roc_program.specs.Program.{Workload}
 use Rattle.roc_program.specs.LookUps.{no_procedure, procedure_named}
 use Rattle.roc_sched.specs.declared.line.Act.{Act}
-use Rattle.roc_sched.specs.declared.line.Act.TheVariants.{Submit, Deliver, Any, Tick}
+use Rattle.roc_sched.specs.declared.line.Act.TheVariants.{Submit, Deliver, Any, Tick, Stop, Drain}
 use Rattle.roc_sched.specs.declared.line.Line.{Line}
+use Rattle.roc_sched.specs.Forms.{plain_forms}
 use Rattle.roc_sched.specs.Schedule.{IsSchedule}
 
 -- the bytes are a workload text, and the canonical one of its tree
@@ -25,8 +26,10 @@ IsCallOrChoice program (Submit coord name args) =
 IsCallOrChoice program (Deliver message) = ⊥
 IsCallOrChoice program (Any place) = Unit {0}
 IsCallOrChoice program (Tick node) = ⊥
+IsCallOrChoice program (Stop shard during) = ⊥
+IsCallOrChoice program (Drain coord) = ⊥
 
 -- the bytes are a schedule of these lines for the program's shards, each of which is such a call or a choice
 pub record IsLoadOf (program : Workload) (schedule : List ℕ) (lines : List Line) : Type 0 where
-  pub read : IsSchedule program.shards schedule lines
+  pub read : IsSchedule plain_forms program.shards schedule lines
   pub fits : AllByRecursion (λ line. IsCallOrChoice program line.act) lines

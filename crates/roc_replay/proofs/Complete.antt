@@ -6,6 +6,7 @@ use Rattle.roc_replay.specs.declared.asked.BoundLine.{BoundLine}
 use Rattle.roc_replay.specs.declared.ended.Ended.{Ended}
 use Rattle.roc_replay.specs.declared.ended.Ended.TheVariants.{Done, Text, SinkFault, NoMemory}
 use Rattle.roc_sched.specs.declared.fault.What.{What}
+use Rattle.roc_sched.specs.Forms.{plain_forms}
 use Rattle.roc_sched.specs.Schedule.{IsScheduleFault}
 use Rattle.roc_replay.specs.BoundLine.{IsScheduleOf, IsUnfit}
 use Rattle.roc_replay.specs.Ended.{IsUnsent, IsTextFault, no_schedule, unfit, unsent, IsWhole, is_sink_fault}
@@ -29,7 +30,7 @@ module _ (plan : Plan) (schedule : List ℕ) (lines : List BoundLine) (of : IsSc
 
   -- nor is the text to blame for anything else
   pub faultless :
-      ((text : List ℕ) (line : ℕ) (fault : What) → IsScheduleFault plan.program.shards text line fault ⊎ IsUnfit plan.program text line fault → IsScheduleOf plan.program text lines → ⊥)
+      ((text : List ℕ) (line : ℕ) (fault : What) → IsScheduleFault plain_forms plan.program.shards text line fault ⊎ IsUnfit plan.program text line fault → IsScheduleOf plan.program text lines → ⊥)
       → (number : ℕ) (fault : What) (old new : Option (List ℕ)) → IsTextFault plan schedule number fault old new → ⊥
   faultless right number fault old new (no_schedule wrong same) = right schedule number fault (inl wrong) of
   faultless right number fault old new (unfit wrong same) = right schedule number fault (inr wrong) of

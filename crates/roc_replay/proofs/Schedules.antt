@@ -18,6 +18,8 @@ use Rattle.roc_sched.specs.declared.line.Act.{Act}
 use Rattle.roc_sched.specs.declared.line.Act.TheVariants as act
 use Rattle.roc_sched.specs.declared.line.Line.{Line}
 use Rattle.roc_sched.specs.Each.{◌>>=◌, each}
+use Rattle.roc_sched.specs.declared.forms.Forms.{Forms}
+use Rattle.roc_sched.specs.Forms.{plain_forms}
 use Rattle.roc_sched.specs.Schedule.{IsSchedule, IsScheduleFault, item_of}
 use Rattle.roc_sched.specs.Fits.{IsActFor}
 use Rattle.roc_replay.specs.declared.asked.BoundLine.{BoundLine}
@@ -61,22 +63,24 @@ module _ (program : Workload) where
           subst (WantedFits program) one (there, (position-Some (λ procedure. bytes_eq procedure.name name) program.procedures proc no_procedure found).0, eqb-true (length args) (arguments_of program proc) count)
       go false count same = absurd (cc)
 
-  act_fits : (a : Act) (w : Wanted) → IsActFor program.shards a → wanted_by program a ≡ Ok w → WantedFits program w
+  act_fits : (a : Act) (w : Wanted) → IsActFor plain_forms program.shards a → wanted_by program a ≡ Ok w → WantedFits program w
   act_fits (act.Submit coord name args) w fits h = submission_fits coord args name (procedure_named program name) _ fits.0 refl h w refl
   act_fits (act.Deliver message) w fits h = let one : wanted.Event (event.Deliver message) ≡ w = cc in subst (WantedFits program) one fits
   act_fits (act.Any place) w fits h = let one : wanted.Any place ≡ w = cc in subst (WantedFits program) one fits
+  act_fits (act.Stop shard during) w fits h = absurd (cc)
+  act_fits (act.Drain coord) w fits h = absurd (cc)
   act_fits (act.Tick node) w fits h = let one : wanted.Event (event.Tick node) ≡ w = cc in subst (WantedFits program) one fits
 
-  line_fits : (line : Line) (one : BoundLine) → IsActFor program.shards line.act → item_of (asked_by program line) ≡ Some one → WantedFits program one.wanted
+  line_fits : (line : Line) (one : BoundLine) → IsActFor plain_forms program.shards line.act → item_of (asked_by program line) ≡ Some one → WantedFits program one.wanted
   line_fits line one fits h = go (wanted_by program line.act) refl h
     where
       go : (r : Result Wanted What) → wanted_by program line.act ≡ r → item_of (numbered line.number r) ≡ Some one → WantedFits program one.wanted
       go (Err fault) k h = absurd (none-some one h)
       go (Ok w) k h = let same : record { number = line.number; wanted = w } ≡ one = same_Some _ one h in subst (λ (x : BoundLine). WantedFits program x.wanted) same (act_fits line.act w fits k)
 
-  pub asked_fit : (lines : List Line) (asked : List BoundLine) → AllByRecursion (λ line. IsActFor program.shards line.act) lines → each (λ line. item_of (asked_by program line)) lines ≡ Some asked
+  pub asked_fit : (lines : List Line) (asked : List BoundLine) → AllByRecursion (λ line. IsActFor plain_forms program.shards line.act) lines → each (λ line. item_of (asked_by program line)) lines ≡ Some asked
       → AllByRecursion (λ one. WantedFits program one.wanted) asked
-  asked_fit lines asked fits e = each_made (λ line. item_of (asked_by program line)) (λ line. IsActFor program.shards line.act) (λ one. WantedFits program one.wanted) line_fits lines asked fits e
+  asked_fit lines asked fits e = each_made (λ line. item_of (asked_by program line)) (λ line. IsActFor plain_forms program.shards line.act) (λ one. WantedFits program one.wanted) line_fits lines asked fits e
 
   -- the line that does not fit, behind those that do
   pub first_unfit : (lines : List Line) (i : ℕ) (line : Line) (fault : TextFault) → i < length lines → line ≡ get_or lines i line → DoFit program (take i lines)
@@ -94,18 +98,18 @@ module _ (program : Workload) where
 
   -- ---- a text
 
-  module _ (unique : (shards : ℕ) (text : List ℕ) (some others : List Line) → IsSchedule shards text some → IsSchedule shards text others → some ≡ others) where
+  module _ (unique : (forms : Forms) (shards : ℕ) (text : List ℕ) (some others : List Line) → IsSchedule forms shards text some → IsSchedule forms shards text others → some ≡ others) where
     -- a text is a schedule of one list of what is asked
     pub one_schedule : (text : List ℕ) (some others : List BoundLine) → IsScheduleOf program text some → IsScheduleOf program text others → some ≡ others
     one_schedule text some others p q =
-        same_Some some others (sym p.asks ∙ ap (λ (ls : List Line). each (λ line. item_of (asked_by program line)) ls) (unique program.shards text p.lines q.lines p.schedule q.schedule) ∙ q.asks)
+        same_Some some others (sym p.asks ∙ ap (λ (ls : List Line). each (λ line. item_of (asked_by program line)) ls) (unique plain_forms program.shards text p.lines q.lines p.schedule q.schedule) ∙ q.asks)
 
     -- and is not to blame then
-    pub not_blamed : ((shards : ℕ) (text : List ℕ) (lines : List Line) (line : ℕ) (fault : What) → IsSchedule shards text lines → IsScheduleFault shards text line fault → ⊥)
-        → (text : List ℕ) (asked : List BoundLine) (line : ℕ) (fault : What) → IsScheduleOf program text asked → IsScheduleFault program.shards text line fault ⊎ IsUnfit program text line fault → ⊥
-    not_blamed apart text asked line fault of (inl wrong) = apart program.shards text of.lines line fault of.schedule wrong
+    pub not_blamed : ((forms : Forms) (shards : ℕ) (text : List ℕ) (lines : List Line) (line : ℕ) (fault : What) → IsSchedule forms shards text lines → IsScheduleFault forms shards text line fault → ⊥)
+        → (text : List ℕ) (asked : List BoundLine) (line : ℕ) (fault : What) → IsScheduleOf program text asked → IsScheduleFault plain_forms program.shards text line fault ⊎ IsUnfit program text line fault → ⊥
+    not_blamed apart text asked line fault of (inl wrong) = apart plain_forms program.shards text of.lines line fault of.schedule wrong
     not_blamed apart text asked line fault of (inr u) =
         none-some asked
         (sym (each_none (λ line. item_of (asked_by program line)) u.before u.line u.behind (ap item_of u.is))
-        ∙ ap (λ (ls : List Line). each (λ line. item_of (asked_by program line)) ls) (unique program.shards text (u.before ++ u.line ∷ u.behind) of.lines u.schedule of.schedule)
+        ∙ ap (λ (ls : List Line). each (λ line. item_of (asked_by program line)) ls) (unique plain_forms program.shards text (u.before ++ u.line ∷ u.behind) of.lines u.schedule of.schedule)
         ∙ of.asks)

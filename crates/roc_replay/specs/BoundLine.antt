@@ -14,6 +14,7 @@ use Rattle.roc_sched.specs.declared.line.Act.{Act}
 use Rattle.roc_sched.specs.declared.line.Act.TheVariants as act
 use Rattle.roc_sched.specs.declared.line.Line.{Line}
 use Rattle.roc_sched.specs.Each.{each}
+use Rattle.roc_sched.specs.Forms.{plain_forms}
 use Rattle.roc_sched.specs.Schedule.{IsSchedule, item_of, fault_of}
 use Rattle.roc_replay.specs.declared.asked.BoundLine.{BoundLine}
 use Rattle.roc_replay.specs.declared.asked.Wanted.{Wanted}
@@ -34,12 +35,14 @@ abbrev pub submission_of : Workload → (coord : ℕ) (args : List ℤ) → (pro
 submission_of program coord args None = Err what.Procedure
 submission_of program coord args (Some proc) = if length args == arguments_of program proc then Ok (wanted.Event (event.Submit coord proc args)) else Err what.Arguments
 
--- what an act asks for, or why it does not fit the program
+-- what an act asks for, or why it does not fit the program; no schedule here has one of the last two
 abbrev pub wanted_by : Workload → Act → Result Wanted What
 wanted_by program (act.Submit coord name args) = submission_of program coord args (procedure_named program name)
 wanted_by program (act.Deliver message) = Ok (wanted.Event (event.Deliver message))
 wanted_by program (act.Any place) = Ok (wanted.Any place)
 wanted_by program (act.Tick node) = Ok (wanted.Event (event.Tick node))
+wanted_by program (act.Stop shard during) = Err what.Word
+wanted_by program (act.Drain coord) = Err what.Word
 
 abbrev pub numbered : ℕ → Result Wanted What → Result BoundLine What
 numbered number (Ok wanted) = Ok (record { number = number; wanted = wanted })
@@ -51,7 +54,7 @@ asked_by program line = numbered line.number (wanted_by program line.act)
 -- the bytes are a schedule whose lines ask for these, and fit the program
 pub record IsScheduleOf (program : Workload) (text : List ℕ) (asked : List BoundLine) : Type 0 where
   pub lines : List Line
-  pub schedule : IsSchedule program.shards text lines
+  pub schedule : IsSchedule plain_forms program.shards text lines
   pub asks : each (λ line. item_of (asked_by program line)) lines ≡ Some asked
 
 -- the bytes are a schedule, and its first line that does not fit the program has this number and fault
@@ -59,7 +62,7 @@ pub record IsUnfit (program : Workload) (text : List ℕ) (number : ℕ) (fault 
   pub before : List Line
   pub line : Line
   pub behind : List Line
-  pub schedule : IsSchedule program.shards text (before ++ line ∷ behind)
+  pub schedule : IsSchedule plain_forms program.shards text (before ++ line ∷ behind)
   pub fit : AllByRecursion (λ l. fault_of (asked_by program l) ≡ None) before
   pub numbered : line.number ≡ number
   pub is : asked_by program line ≡ Err fault

@@ -11,6 +11,7 @@ use Rattle.roc_views.specs.Run.{Stepped}
 use Rattle.roc_protocol.specs.declared.event.Event.TheVariants as event
 use Rattle.roc_sched.specs.declared.fault.What.{What}
 use Rattle.roc_sched.specs.declared.fault.What.TheVariants as what
+use Rattle.roc_sched.specs.Forms.{plain_forms}
 use Rattle.roc_sched.specs.Schedule.{IsScheduleFault}
 use Rattle.roc_report.specs.Line.{Line, Submit, Answer, End}
 use Rattle.roc_report.specs.ReportLine.{IsReportLine}
@@ -103,7 +104,7 @@ pub record IsUnsent (plan : Plan) (schedule : List ℕ) (number : ℕ) (old new 
 -- what is wrong with the text, and what the sink took: the bytes are no schedule, or a line does not fit the program, and the sink took
 -- nothing; or a line asks for a message that was not sent yet
 pub data IsTextFault (plan : Plan) (schedule : List ℕ) (number : ℕ) (fault : What) (old new : Option (List ℕ)) : Type 0 where
-  no_schedule : IsScheduleFault plan.program.shards schedule number fault → new ≡ old → IsTextFault plan schedule number fault old new
+  no_schedule : IsScheduleFault plain_forms plan.program.shards schedule number fault → new ≡ old → IsTextFault plan schedule number fault old new
   unfit : IsUnfit plan.program schedule number fault → new ≡ old → IsTextFault plan schedule number fault old new
   unsent : fault ≡ what.Message → IsUnsent plan schedule number old new → IsTextFault plan schedule number fault old new
 

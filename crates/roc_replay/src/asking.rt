@@ -11,7 +11,7 @@ use crate::{BoundLine, Wanted};
 use roc_base::Nums;
 use roc_plan::Plan;
 use roc_sched::laws::lines_fit;
-use roc_sched::{Act, Line, TextFault, What, parse_schedule};
+use roc_sched::{Act, Forms, Line, TextFault, What, parse_schedule};
 use roc_sequence::Sequence;
 use roc_world::Event;
 use std::alloc::Global;
@@ -56,6 +56,10 @@ fn wanted_by(plan: &Plan, line: u32, act: &Act) -> Result<Wanted, TextFault>
         Act::Deliver(message) => Ok(Wanted::Event(Event::Deliver(*message))),
         Act::Any(place) => Ok(Wanted::Any(*place)),
         Act::Tick(node) => Ok(Wanted::Event(Event::Tick(*node))),
+        Act::Stop { .. } | Act::Drain(_) => Err(TextFault::At {
+            line,
+            what: What::Word,
+        }),
     }
 }
 
@@ -98,7 +102,7 @@ pub fn parse_asked(
     ensures fault { IfErr result (IsBlamed plan.now.program text.now) }
 {
     lines_fit();
-    let lines = match parse_schedule(alloc, text, plan.workload().shards()) {
+    let lines = match parse_schedule(alloc, text, plan.workload().shards(), Forms::plain()) {
         Ok(lines) => lines,
         Err(fault) => return Err(fault),
     };

@@ -1,4 +1,5 @@
 pub mod Each
+pub mod Forms
 pub mod Lines
 pub mod Words
 pub mod Numbers

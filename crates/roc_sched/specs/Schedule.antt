@@ -4,6 +4,7 @@ use Rattle.std.specs.Prelude.{◌≡◌, ℕ, ◌+◌, ◌<◌, ◌≤◌, nat_l
 use Rattle.std.specs.List.{enumerate_from}
 use Rattle.roc_sched.specs.declared.fault.What.{What}
 use Rattle.roc_sched.specs.declared.fault.What.TheVariants.{Limit}
+use Rattle.roc_sched.specs.declared.forms.Forms.{Forms}
 use Rattle.roc_sched.specs.declared.line.Line.{Line}
 use Rattle.roc_sched.specs.declared.line.Request.{Request}
 use Rattle.roc_sched.specs.Each.{each}
@@ -65,13 +66,13 @@ pub data IsFirstWrongLine {B : Type 0} (read : Reader B) (text : List ℕ) : (li
 
 -- ---- schedules and request files
 
--- the bytes are a schedule of these lines, for so many shards
-abbrev pub IsSchedule : (shards : ℕ) → (text : List ℕ) → List Line → Type 0
-IsSchedule shards text lines = IsTextOfItems (line_at shards) text lines
+-- the bytes are a schedule of these lines, of these forms and for so many shards
+abbrev pub IsSchedule : Forms → (shards : ℕ) → (text : List ℕ) → List Line → Type 0
+IsSchedule forms shards text lines = IsTextOfItems (line_at forms shards) text lines
 
 -- the first fault of bytes that are no schedule
-abbrev pub IsScheduleFault : (shards : ℕ) → (text : List ℕ) → (line : ℕ) → What → Type 0
-IsScheduleFault shards text line what = IsFirstWrongLine (line_at shards) text line what
+abbrev pub IsScheduleFault : Forms → (shards : ℕ) → (text : List ℕ) → (line : ℕ) → What → Type 0
+IsScheduleFault forms shards text line what = IsFirstWrongLine (line_at forms shards) text line what
 
 -- the bytes are a request file of these requests
 abbrev pub AreRequests : (text : List ℕ) → List Request → Type 0

@@ -2,20 +2,21 @@
 
 ghost use Rattle.std.specs.Prelude.{ℕ, option_map};
 ghost use Rattle.roc_base.specs.declared.node.Node.TheVariants.{Coord};
+ghost use Rattle.roc_sched.specs.declared.forms.Forms.{Forms as FormsValue};
 ghost use Rattle.roc_sched.specs.Each.{each};
+ghost use Rattle.roc_sched.specs.Forms.{coordinators};
 ghost use Rattle.roc_sched.specs.Numbers.{integer_of, node_number};
-ghost use Rattle.roc_sched.specs.Acts.{submission_of, delivery_of, choice_of, server_of, node_of, tick_of, act_of, or_word, or_node, request_at};
+ghost use Rattle.roc_sched.specs.Acts.{submission_of, delivery_of, choice_of, server_of, node_of, tick_of, further_act, act_of, or_word, or_node, request_at};
 ghost use Rattle.roc_sched.specs.Inner.Reading.{Gives, views, or_no_node};
 
+use crate::Forms;
 use crate::fault::{LineFault, What};
 use crate::line::{Act, Request};
 use crate::name::ProcedureName;
 use crate::number::{choice_number, integer_of, is_name, is_word, message_of, node_number};
+use crate::stops::{drain_of, stop_of};
 use roc_base::{Node, Nums, Shard};
 use std::alloc::Global;
-
-/// How many coordinators there are.
-const COORDINATORS: u64 = 16;
 
 fn args_of(alloc: Global, words: &[&[u8]]) -> Result<Nums, LineFault>
     ensures { Gives result (or_word (each integer_of (views words.now))) }
@@ -31,8 +32,8 @@ fn args_of(alloc: Global, words: &[&[u8]]) -> Result<Nums, LineFault>
 }
 
 /// `C NAME A1 A2 ..`
-fn submission_of(alloc: Global, words: &[&[u8]]) -> Result<Act, LineFault>
-    ensures { (shards : ℕ) → Gives result (or_node shards (or_word (submission_of (views words.now)))) }
+fn submission_of(alloc: Global, words: &[&[u8]], forms: Forms) -> Result<Act, LineFault>
+    ensures { (shards : ℕ) → Gives result (or_node forms shards (or_word (submission_of (views words.now)))) }
 {
     match words {
         [coord, name, args @ ..] => {
@@ -43,7 +44,7 @@ fn submission_of(alloc: Global, words: &[&[u8]]) -> Result<Act, LineFault>
                 return Err(LineFault::Is(What::Word));
             };
             let numbers = args_of(alloc, args)?;
-            if coord >= COORDINATORS {
+            if coord >= u64::from(forms.coordinators()) {
                 return Err(LineFault::Is(What::Node));
             }
             let name = ProcedureName::copied(alloc, name)?;
@@ -59,7 +60,7 @@ fn submission_of(alloc: Global, words: &[&[u8]]) -> Result<Act, LineFault>
 
 /// `K`
 fn delivery_of(words: &[&[u8]]) -> Result<Act, LineFault>
-    ensures { (shards : ℕ) → Gives result (or_node shards (or_word (delivery_of (views words.now)))) }
+    ensures { (forms : FormsValue) (shards : ℕ) → Gives result (or_node forms shards (or_word (delivery_of (views words.now)))) }
 {
     match words {
         [message] => match message_of(message) {
@@ -72,7 +73,7 @@ fn delivery_of(words: &[&[u8]]) -> Result<Act, LineFault>
 
 /// `J`
 fn choice_of(words: &[&[u8]]) -> Result<Act, LineFault>
-    ensures { (shards : ℕ) → Gives result (or_node shards (or_word (choice_of (views words.now)))) }
+    ensures { (forms : FormsValue) (shards : ℕ) → Gives result (or_node forms shards (or_word (choice_of (views words.now)))) }
 {
     match words {
         [place] => match choice_number(place) {
@@ -83,9 +84,9 @@ fn choice_of(words: &[&[u8]]) -> Result<Act, LineFault>
     }
 }
 
-/// The server of a shard.
+/// The server of a shard, whatever the coordinators are.
 fn server_of(number: &[u8], shards: u8) -> Result<Node, LineFault>
-    ensures { Gives result (or_no_node shards (or_word (option_map server_of (node_number number.now)))) }
+    ensures { (coords : ℕ) → Gives result (or_no_node coords shards (or_word (option_map server_of (node_number number.now)))) }
 {
     match node_number(number) {
         Some(number) => {
@@ -100,12 +101,12 @@ fn server_of(number: &[u8], shards: u8) -> Result<Node, LineFault>
 }
 
 /// A coordinator, whatever the shards are.
-fn coordinator_of(number: &[u8]) -> Result<Node, LineFault>
-    ensures { (shards : ℕ) → Gives result (or_no_node shards (or_word (option_map Coord (node_number number.now)))) }
+fn coordinator_of(number: &[u8], coords: u16) -> Result<Node, LineFault>
+    ensures { (shards : ℕ) → Gives result (or_no_node coords shards (or_word (option_map Coord (node_number number.now)))) }
 {
     match node_number(number) {
         Some(number) => {
-            if number < COORDINATORS {
+            if number < u64::from(coords) {
                 Ok(Node::Coord(number as u16))
             } else {
                 Err(LineFault::Is(What::Node))
@@ -117,15 +118,15 @@ fn coordinator_of(number: &[u8]) -> Result<Node, LineFault>
 
 /// `sN` or `cN`, where there is such a node.
 #[tactic(auto, unfolding(crate::specs::Acts::node_of))]
-fn node_of(word: &[u8], shards: u8) -> Result<Node, LineFault>
-    ensures { Gives result (or_no_node shards (or_word (node_of word.now))) }
+fn node_of(word: &[u8], shards: u8, coords: u16) -> Result<Node, LineFault>
+    ensures { Gives result (or_no_node coords shards (or_word (node_of word.now))) }
 {
     match word.split_first() {
         Some((letter, number)) => {
             if *letter == b's' {
                 server_of(number, shards)
             } else if *letter == b'c' {
-                coordinator_of(number)
+                coordinator_of(number, coords)
             } else {
                 Err(LineFault::Is(What::Word))
             }
@@ -135,11 +136,11 @@ fn node_of(word: &[u8], shards: u8) -> Result<Node, LineFault>
 }
 
 /// `sN` or `cN`
-fn tick_of(words: &[&[u8]], shards: u8) -> Result<Act, LineFault>
-    ensures { Gives result (or_node shards (or_word (tick_of (views words.now)))) }
+fn tick_of(words: &[&[u8]], shards: u8, forms: Forms) -> Result<Act, LineFault>
+    ensures { Gives result (or_node forms shards (or_word (tick_of (views words.now)))) }
 {
     match words {
-        [word] => match node_of(word, shards) {
+        [word] => match node_of(word, shards, forms.coordinators()) {
             Ok(node) => Ok(Act::Tick(node)),
             Err(fault) => Err(fault),
         },
@@ -147,23 +148,45 @@ fn tick_of(words: &[&[u8]], shards: u8) -> Result<Act, LineFault>
     }
 }
 
-/// `submit C NAME A1 A2 ..`, `deliver K`, `any J`, `tick sN` or `tick cN`
+/// `stop sN ..` or `drain cN`, where such lines are taken.
+fn further_act(word: &[u8], words: &[&[u8]], shards: u8, forms: Forms) -> Result<Act, LineFault>
+    ensures { Gives result (or_node forms shards (or_word (further_act forms word.now (views words.now)))) }
+{
+    if is_word(word, "stop") {
+        if forms.stops {
+            stop_of(words, shards)
+        } else {
+            Err(LineFault::Is(What::Word))
+        }
+    } else if is_word(word, "drain") {
+        drain_of(words, forms)
+    } else {
+        Err(LineFault::Is(What::Word))
+    }
+}
+
+/// `submit C NAME A1 A2 ..`, `deliver K`, `any J`, `tick sN`, `tick cN`, or a line of a further form.
 #[tactic(auto, unfolding(crate::specs::Acts::act_of))]
-pub(crate) fn act_of(alloc: Global, words: &[&[u8]], shards: u8) -> Result<Act, LineFault>
-    ensures { Gives result (or_node shards (or_word (act_of (views words.now)))) }
+pub(crate) fn act_of(
+    alloc: Global,
+    words: &[&[u8]],
+    shards: u8,
+    forms: Forms,
+) -> Result<Act, LineFault>
+    ensures { Gives result (or_node forms shards (or_word (act_of forms (views words.now)))) }
 {
     match words.split_first() {
         Some((word, words)) => {
             if is_word(word, "submit") {
-                submission_of(alloc, words)
+                submission_of(alloc, words, forms)
             } else if is_word(word, "deliver") {
                 delivery_of(words)
             } else if is_word(word, "any") {
                 choice_of(words)
             } else if is_word(word, "tick") {
-                tick_of(words, shards)
+                tick_of(words, shards, forms)
             } else {
-                Err(LineFault::Is(What::Word))
+                further_act(word, words, shards, forms)
             }
         }
         None => Err(LineFault::Is(What::Word)),

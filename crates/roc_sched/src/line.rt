@@ -1,7 +1,7 @@
 //! The lines of a schedule, and those of a request file.
 
 use crate::ProcedureName;
-use roc_base::{Node, Nums};
+use roc_base::{Node, Nums, Shard};
 
 /// What a line of a schedule asks for.
 #[derive(Drop)]
@@ -19,6 +19,14 @@ pub enum Act {
     Any(u32),
     /// A node's tick.
     Tick(Node),
+    /// The server of a shard stops and starts again, behind the delivery of a message where one is named. With it stands
+    /// how many of the messages that come of it are sent, or nothing where the server has no record of it.
+    Stop {
+        shard: Shard,
+        during: Option<(u64, Option<u32>)>,
+    },
+    /// A coordinator takes no more submissions.
+    Drain(u16),
 }
 
 /// A line of a schedule that is not skipped. Its number counts from 1, skipped lines too.

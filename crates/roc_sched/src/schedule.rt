@@ -9,6 +9,7 @@ ghost use Rattle.roc_sched.specs.Schedule.{most_bytes, most_lines, IsSchedule, I
 ghost use Rattle.roc_sched.specs.Answer.{AreItemsOf, IsFaultBy};
 ghost use Rattle.roc_sched.specs.Inner.Reading.{GivesAt, IsTooLong, views, line_words, line_item, line_items, text_items};
 
+use crate::Forms;
 use crate::act::{act_of, request_at};
 use crate::fault::{TextFault, What};
 use crate::line::{Line, Request};
@@ -36,13 +37,19 @@ fn words_at(alloc: Global, number: u32, bytes: &[u8]) -> Result<Option<Vec<&[u8]
 }
 
 /// The line of these bytes and this number, unless it is skipped.
-fn line_at(alloc: Global, shards: u8, number: u32, bytes: &[u8]) -> Result<Option<Line>, TextFault>
-    ensures { GivesAt (λ line. line) result (line_item (line_at shards) number bytes.now) }
+fn line_at(
+    alloc: Global,
+    shards: u8,
+    forms: Forms,
+    number: u32,
+    bytes: &[u8],
+) -> Result<Option<Line>, TextFault>
+    ensures { GivesAt (λ line. line) result (line_item (line_at forms shards) number bytes.now) }
 {
     let Some(words) = words_at(alloc, number, bytes)? else {
         return Ok(None);
     };
-    match act_of(alloc, &words, shards) {
+    match act_of(alloc, &words, shards, forms) {
         Ok(act) => Ok(Some(Line { number, act })),
         Err(fault) => Err(fault.at(number)),
     }
@@ -62,13 +69,18 @@ fn request_of(alloc: Global, number: u32, bytes: &[u8]) -> Result<Option<Request
 }
 
 /// The lines of these bytes that are not skipped.
-fn all_lines(alloc: Global, shards: u8, lines: &[&[u8]]) -> Result<Vec<Line>, TextFault>
+fn all_lines(
+    alloc: Global,
+    shards: u8,
+    forms: Forms,
+    lines: &[&[u8]],
+) -> Result<Vec<Line>, TextFault>
     requires { length lines.now ≤ most_lines + 1 }
-    ensures { GivesAt (λ read. read.items) result (line_items (line_at shards) 1 (views lines.now)) }
+    ensures { GivesAt (λ read. read.items) result (line_items (line_at forms shards) 1 (views lines.now)) }
 {
     let mut read = Vec::new(alloc);
     for (index, bytes) in lines.iter().enumerate() {
-        if let Some(line) = line_at(alloc, shards, index as u32 + 1, bytes)? {
+        if let Some(line) = line_at(alloc, shards, forms, index as u32 + 1, bytes)? {
             read.push(line)?;
         }
     }
@@ -105,11 +117,11 @@ fn lines_within(alloc: Global, text: &[u8]) -> Result<Vec<&[u8]>, TextFault>
     Ok(lines_of(alloc, text)?)
 }
 
-fn schedule_of(alloc: Global, text: &[u8], shards: u8) -> Result<Vec<Line>, TextFault>
-    ensures { GivesAt (λ read. read.items) result (text_items (line_at shards) text.now) }
+fn schedule_of(alloc: Global, text: &[u8], shards: u8, forms: Forms) -> Result<Vec<Line>, TextFault>
+    ensures { GivesAt (λ read. read.items) result (text_items (line_at forms shards) text.now) }
 {
     match lines_within(alloc, text) {
-        Ok(lines) => all_lines(alloc, shards, &lines),
+        Ok(lines) => all_lines(alloc, shards, forms, &lines),
         Err(fault) => Err(fault),
     }
 }
@@ -123,20 +135,25 @@ fn requests_of(alloc: Global, text: &[u8]) -> Result<Vec<Request>, TextFault>
     }
 }
 
-/// The lines of a schedule for so many shards: `docs/FORMATS.md` says what that is. Lines that are
+/// The lines of a schedule for so many shards, of the forms that are taken: `docs/FORMATS.md` says what that is. Lines that are
 /// skipped are left out, and count for the numbers of the others. What a name is a call of is judged
 /// under a plan.
 ///
 /// Of other bytes the first fault is named. `NoMemory` leaves nothing behind.
-pub fn parse_schedule(alloc: Global, text: &[u8], shards: u8) -> Result<Vec<Line>, TextFault>
+pub fn parse_schedule(
+    alloc: Global,
+    text: &[u8],
+    shards: u8,
+    forms: Forms,
+) -> Result<Vec<Line>, TextFault>
     // What is taken is a schedule of these lines.
-    ensures found { IfOk result (λ lines. IsSchedule shards text.now lines.items) }
+    ensures found { IfOk result (λ lines. IsSchedule forms shards text.now lines.items) }
     // A schedule is taken, unless memory runs out.
-    ensures only { (lines : List Line) → IsSchedule shards text.now lines → AreItemsOf (λ read. read.items) lines result }
+    ensures only { (lines : List Line) → IsSchedule forms shards text.now lines → AreItemsOf (λ read. read.items) lines result }
     // A fault is the first one of the text.
-    ensures fault { IfErr result (IsFaultBy (IsScheduleFault shards text.now)) }
+    ensures fault { IfErr result (IsFaultBy (IsScheduleFault forms shards text.now)) }
 {
-    schedule_of(alloc, text, shards)
+    schedule_of(alloc, text, shards, forms)
 }
 
 /// The requests of a request file: `docs/FORMATS.md` says what that is. Lines that are skipped are

@@ -1,6 +1,6 @@
 //! Schedules and request files: their lines, told back, and the first faults of other texts.
-use roc_base::Nums;
-use roc_sched::{Act, ProcedureName, parse_requests, parse_schedule};
+use roc_base::{Node, Nums};
+use roc_sched::{Act, Forms, ProcedureName, parse_requests, parse_schedule};
 use std::alloc::{AllocError, Global};
 use std::process::Abort;
 use std::test::Fail;
@@ -8,7 +8,7 @@ use std::test::Fail;
 // How many shards there are.
 const SHARDS: u8 = 2;
 
-const SCHEDULES: [(&[u8], &str); 39] = [
+const SCHEDULES: [(&[u8], &str); 41] = [
     (b"", ""),
     (
         b"submit 15 pay 0 -1 9223372036854775807\r\n\n# one\n  deliver   1  \n   \nany 0\ntick s1\ntick c15",
@@ -56,7 +56,41 @@ const SCHEDULES: [(&[u8], &str); 39] = [
     (b"deliver 1\r\r\n", "line 1: word"),
     (b" # no comment", "line 1: word"),
     (b"halt", "line 1: word"),
+    (b"stop s0", "line 1: word"),
+    (b"drain c0", "line 1: word"),
     (b"deliver 1\n\ntick s2\nhalt", "line 3: node"),
+];
+
+// The same where servers may be stopped and the first two coordinators drained.
+const FURTHER: [(&[u8], &str); 25] = [
+    (
+        b"stop s0\nstop  s1 1 none\nstop s1 4294967295 0\nstop s0 2 4294967295\ndrain c1",
+        "1 stop s0;2 stop s1 1 none;3 stop s1 4294967295 0;4 stop s0 2 4294967295;5 drain c1;",
+    ),
+    (b"submit 1 f\ntick c1", "1 submit 1 f;2 tick c1;"),
+    (b"submit 2 f", "line 1: node"),
+    (b"tick c2", "line 1: node"),
+    (b"stop s2", "line 1: node"),
+    (b"stop s9223372036854775807 1 0", "line 1: node"),
+    (b"stop s2 1", "line 1: word"),
+    (b"stop", "line 1: word"),
+    (b"stop c0", "line 1: word"),
+    (b"stop 0", "line 1: word"),
+    (b"stop s00", "line 1: word"),
+    (b"stop s0 0 none", "line 1: word"),
+    (b"stop s0 4294967296 none", "line 1: word"),
+    (b"stop s0 1 all", "line 1: word"),
+    (b"stop s0 1 -1", "line 1: word"),
+    (b"stop s0 1 00", "line 1: word"),
+    (b"stop s0 1 4294967296", "line 1: word"),
+    (b"stop s0 1 none 2", "line 1: word"),
+    (b"stop s0 none", "line 1: word"),
+    (b"drain", "line 1: word"),
+    (b"drain s0", "line 1: word"),
+    (b"drain 0", "line 1: word"),
+    (b"drain c2", "line 1: node"),
+    (b"drain c9223372036854775808", "line 1: word"),
+    (b"drain c0 c1", "line 1: word"),
 ];
 
 const REQUESTS: [(&[u8], &str); 6] = [
@@ -94,13 +128,27 @@ fn push_act(alloc: Global, text: &mut String, act: &Act) -> Result<(), AllocErro
         Act::Deliver(number) => write!(text, "deliver {number}"),
         Act::Any(place) => write!(text, "any {place}"),
         Act::Tick(node) => write!(text, "tick {node}"),
+        Act::Stop { shard, during } => {
+            let node = Node::Server(*shard);
+            write!(text, "stop {node}")?;
+            push_during(text, *during)
+        }
+        Act::Drain(coord) => write!(text, "drain c{coord}"),
+    }
+}
+
+fn push_during(text: &mut String, during: Option<(u64, Option<u32>)>) -> Result<(), AllocError> {
+    match during {
+        None => Ok(()),
+        Some((message, None)) => write!(text, " {message} none"),
+        Some((message, Some(many))) => write!(text, " {message} {many}"),
     }
 }
 
 // What is read of a schedule: each line with its number, or the first fault.
-fn schedule_told(alloc: Global, text: &[u8]) -> Result<String, AllocError> {
+fn schedule_told(alloc: Global, text: &[u8], forms: Forms) -> Result<String, AllocError> {
     let mut told = String::new(alloc);
-    match parse_schedule(alloc, text, SHARDS) {
+    match parse_schedule(alloc, text, SHARDS, forms) {
         Ok(lines) => {
             for line in &lines {
                 write!(&mut told, "{} ", line.number)?;
@@ -128,9 +176,14 @@ fn requests_told(alloc: Global, text: &[u8]) -> Result<String, AllocError> {
     Ok(told)
 }
 
-fn are_schedules(rt: &impl Abort, alloc: Global, cases: &[(&[u8], &str)]) -> Result<(), Fail> {
+fn are_schedules(
+    rt: &impl Abort,
+    alloc: Global,
+    cases: &[(&[u8], &str)],
+    forms: Forms,
+) -> Result<(), Fail> {
     for (text, wanted) in cases {
-        let told = schedule_told(alloc, text)?;
+        let told = schedule_told(alloc, text, forms)?;
         assert_eq!(rt; told.as_str(), *wanted);
     }
     Ok(())
@@ -147,8 +200,17 @@ fn are_requests(rt: &impl Abort, alloc: Global, cases: &[(&[u8], &str)]) -> Resu
 #[test]
 fn lines_and_first_faults(rt: HostRuntime) -> Result<(), Fail> {
     let alloc = rt.alloc();
-    are_schedules(&rt, alloc, &SCHEDULES)?;
+    are_schedules(&rt, alloc, &SCHEDULES, Forms::plain())?;
     are_requests(&rt, alloc, &REQUESTS)
+}
+
+#[test]
+fn further_forms(rt: HostRuntime) -> Result<(), Fail> {
+    let forms = Forms {
+        stops: true,
+        coords: Some(2),
+    };
+    are_schedules(&rt, rt.alloc(), &FURTHER, forms)
 }
 
 // So many line feeds, and a text behind them.
@@ -179,5 +241,5 @@ fn limits_of_texts(rt: HostRuntime) -> Result<(), Fail> {
         (a_byte_more.as_slice(), "line 1: limit"),
     ];
     are_requests(&rt, alloc, &cases)?;
-    are_schedules(&rt, alloc, &cases[1..])
+    are_schedules(&rt, alloc, &cases[1..], Forms::plain())
 }

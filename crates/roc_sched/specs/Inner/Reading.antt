@@ -14,7 +14,7 @@ use Rattle.roc_sched.specs.declared.fault.What.TheVariants.{Limit}
 use Rattle.roc_sched.specs.declared.fault.What.TheVariants as what
 use Rattle.roc_sched.specs.Lines.{is_empty, parts_of, lines_of}
 use Rattle.roc_sched.specs.Words.{words_of, is_skipped}
-use Rattle.roc_sched.specs.Acts.{is_there}
+use Rattle.roc_sched.specs.Acts.{is_among}
 use Rattle.roc_sched.specs.Schedule.{most_bytes, most_lines, Reader}
 
 -- what a function on words returned is what reading them gives, unless memory ran out
@@ -78,9 +78,9 @@ begins_number (d ∷ ds) = is_empty ds || not (d == 48)
 -- ---- nodes
 
 -- what a word names, where it is there
-abbrev pub or_no_node : (shards : ℕ) → Result Node What → Result Node What
-or_no_node shards (Ok node) = if is_there shards node then Ok node else Err what.Node
-or_no_node shards (Err fault) = Err fault
+abbrev pub or_no_node : (coords shards : ℕ) → Result Node What → Result Node What
+or_no_node coords shards (Ok node) = if is_among coords shards node then Ok node else Err what.Node
+or_no_node coords shards (Err fault) = Err fault
 
 -- ---- lines
 

@@ -3,4 +3,4 @@ use Rattle.roc_sched.proofs.Texts.{faults_are_one}
 use Rattle.roc_sched.proofs.laws.first_faults_are_unique.Goals as goal
 
 pub returns : goal.returns
-returns c = record { schedules = λ shards. faults_are_one (line_at shards); requests = faults_are_one request_at }
+returns c = record { schedules = λ forms shards. faults_are_one (line_at forms shards); requests = faults_are_one request_at }

@@ -4,8 +4,8 @@ use Rattle.roc_sched.proofs.laws.texts_are_right_or_wrong.Goals as goal
 
 pub returns : goal.returns
 returns c = record {
-  schedules = λ shards. one_of_both (line_at shards);
-  one_of_both = λ shards. not_both (line_at shards);
+  schedules = λ forms shards. one_of_both (line_at forms shards);
+  one_of_both = λ forms shards. not_both (line_at forms shards);
   requests = one_of_both request_at;
   one_of_each = not_both request_at;
 }

@@ -5,4 +5,4 @@ use Rattle.roc_sched.proofs.Items.{with_items}
 use Rattle.roc_sched.proofs.schedule.all_lines.Given as goal
 
 abbrev pub invariant-loop-index : goal.invariant-loop-index
-invariant-loop-index l = with_items l.read.items (line_items (line_at l.shards) (l.index + 1) (views (drop l.index l.lines))) ≡ line_items (line_at l.shards) 1 (views l.lines)
+invariant-loop-index l = with_items l.read.items (line_items (line_at l.forms l.shards) (l.index + 1) (views (drop l.index l.lines))) ≡ line_items (line_at l.forms l.shards) 1 (views l.lines)
